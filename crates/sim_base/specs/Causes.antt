@@ -1,0 +1,12 @@
+-- A count of faults, before a call and after it. It stands still at its last value.
+use Rattle.std.specs.Prelude.{◌≡◌, ℕ, ◌+◌, ◌-◌, ◌^◌, ◌≤◌, min, Result, OnOk, OnErr}
+
+-- the count rose, or stands at its last value
+abbrev pub Rose : ℕ → ℕ → Type 0
+Rose before after = min (before + 1) (2 ^ 64 - 1) ≤ after
+
+-- the count never falls, rises at a fault alone, and a fault is answered only where it rose
+pub record HasCause {T E : Type 0} (before after : ℕ) (result : Result T E) : Type 0 where
+  pub later : before ≤ after
+  pub quiet : OnOk result (after ≡ before)
+  pub rose : OnErr result (Rose before after)

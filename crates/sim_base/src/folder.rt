@@ -1,0 +1,121 @@
+ghost use Rattle.std.specs.Prelude.{◌≡◌, ◌↔◌, List, ℕ, Option, Some, IfSome, option_map, Contains};
+ghost use Rattle.sim_base.specs.Folder.{HasReadCause, Reads, file_at};
+
+use crate::items::is_listed;
+use crate::{Items, Text};
+use std::alloc::Global;
+use thiserror::Error;
+
+/// Why a file wasn't read. A length is in bytes.
+#[derive(Clone, Copy, Debug, Drop, Error, PartialEq, Eq)]
+pub enum ReadFault {
+    #[error("the read failed")]
+    Failed,
+    #[error("there is no such file")]
+    Missing,
+    #[error("the file has {length} bytes")]
+    TooBig { length: u64 },
+    #[error("no memory is left")]
+    Memory,
+}
+
+/// A map from paths to bytes, which a read leaves as it is.
+pub trait Folder {
+    /// The bytes at each path, where it tells them.
+    ghost files: { Self → Option (List ℕ → Option (List ℕ)) };
+
+    /// How often it has failed.
+    ghost faults: { Self → ℕ };
+
+    /// Reads the whole file at a path, of at most `limit` bytes.
+    fn read(&mut self, alloc: Global, path: &str, limit: u64) -> Result<Vec<u8>, ReadFault>
+        ensures reads { IfSome (files self.old) (λ at. Reads (at path.now) limit result) }
+        ensures kept { files self.new ≡ files self.old }
+        ensures cause { HasReadCause (faults self.old) (faults self.new) result };
+}
+
+/// A file in memory.
+#[derive(Debug, Drop)]
+pub struct MemFile {
+    pub path: Text,
+    pub bytes: Items<u8>,
+}
+
+/// A folder in memory. The reads whose numbers, counted from 0, are in `failing` fail, and no others.
+#[derive(Debug, Drop)]
+pub struct MemFolder {
+    pub files: Items<MemFile>,
+    pub failing: Items<u64>,
+    pub reads: u64,
+    pub faults: u64,
+}
+
+impl MemFolder {
+    /// A folder of these files, before its first read.
+    pub fn new(files: Vec<MemFile>, failing: Vec<u64>) -> MemFolder
+        ensures files { result.files ≡ files.items }
+        ensures failing { result.failing ≡ failing.items }
+        ensures quiet { (result.reads ≡ 0) × (result.faults ≡ 0) }
+    {
+        MemFolder {
+            files: Items::from_vec(files),
+            failing: Items::from_vec(failing),
+            reads: 0,
+            faults: 0,
+        }
+    }
+}
+
+fn find<'a>(files: &'a [MemFile], path: &str) -> Option<&'a MemFile>
+    ensures { file_at files.now path.now ≡ option_map (λ file. file.now.bytes) result }
+{
+    for file in files {
+        if file.path.as_str() == path {
+            return Some(file);
+        }
+    }
+    None
+}
+
+impl Folder for MemFolder {
+    ghost use Rattle.std.specs.Prelude.{◌+◌, ◌-◌, ◌^◌, min, Err};
+    ghost use Rattle.sim_base.specs.declared.folder.ReadFault.TheVariants.{Failed};
+
+    ghost files = { λ f. Some (file_at f.files) };
+
+    ghost faults = { λ f. f.faults };
+
+    fn read(&mut self, alloc: Global, path: &str, limit: u64) -> Result<Vec<u8>, ReadFault>
+        ensures reads { Reads (file_at self.old.files path.now) limit result }
+        ensures kept { self.new.files ≡ self.old.files }
+        ensures failing { self.new.failing ≡ self.old.failing }
+        ensures counted { self.new.reads ≡ min (self.old.reads + 1) (2 ^ 64 - 1) }
+        ensures exact { (result ≡ Err Failed) ↔ Contains self.old.failing self.old.reads }
+        ensures cause { HasReadCause self.old.faults self.new.faults result }
+    {
+        let is_failing = is_listed(self.failing.as_slice(), self.reads);
+        self.reads = self.reads.saturating_add(1);
+        if is_failing {
+            self.faults = self.faults.saturating_add(1);
+            return Err(ReadFault::Failed);
+        }
+        read_from(alloc, self.files.as_slice(), path, limit)
+    }
+}
+
+fn read_from(alloc: Global, files: &[MemFile], path: &str, limit: u64) -> Result<Vec<u8>, ReadFault>
+    ensures reads { Reads (file_at files.now path.now) limit result }
+    ensures succeeds { result ≡ Err ReadFault.Failed → ⊥ }
+{
+    let Some(file) = find(files, path) else {
+        return Err(ReadFault::Missing);
+    };
+    let length = file.bytes.len() as u64;
+    if length > limit {
+        return Err(ReadFault::TooBig { length });
+    }
+    match file.bytes.as_slice().to_vec(alloc) {
+        Ok(bytes) => Ok(bytes),
+        Err(_) => Err(ReadFault::Memory),
+    }
+}
