@@ -1,0 +1,150 @@
+ghost use Rattle.std.specs.Prelude.{◌≡◌, IfOk, take};
+
+use crate::PortType;
+use sim_base::{Items, Text};
+use std::alloc::{AllocError, Global};
+
+/// What a variable is for (FMI 3.0, 2.4.7.4).
+#[derive(Clone, Copy, Debug, PartialEq, Eq)]
+pub enum Causality {
+    Parameter,
+    CalculatedParameter,
+    StructuralParameter,
+    Input,
+    Output,
+    Local,
+    Independent,
+    /// Any other; such a variable is foreign.
+    Other,
+}
+
+/// A variable of an FMU. A foreign variable, which is never set, read, bound or traced, has no `kind`.
+#[derive(Debug, Drop)]
+pub struct Variable {
+    pub name: Text,
+    pub aliases: Items<Text>,
+    /// The value reference, which calls name the variable by.
+    pub reference: u32,
+    pub kind: Option<PortType>,
+    pub causality: Causality,
+    pub start: Option<i128>,
+    /// canHandleMultipleSetPerTimeInstant
+    pub can_be_set_again: bool,
+}
+
+/// The value references that an output depends on.
+#[derive(Debug, Drop)]
+pub struct Dependency {
+    pub output: u32,
+    pub on: Items<u32>,
+}
+
+/// What a description says of an FMU, at a resolution.
+#[derive(Debug, Drop)]
+pub struct Shape {
+    /// modelIdentifier
+    pub identifier: Text,
+    /// instantiationToken
+    pub token: Text,
+    /// counts in a second
+    pub resolution: u64,
+    /// hasEventMode
+    pub has_event_mode: bool,
+    /// mightReturnEarlyFromDoStep
+    pub might_return_early: bool,
+    /// canHandleVariableCommunicationStepSize
+    pub has_variable_steps: bool,
+    /// canGetAndSetFMUState
+    pub can_save_state: bool,
+    /// canSerializeFMUState
+    pub can_serialize_state: bool,
+    /// in the order of the description
+    pub variables: Items<Variable>,
+    /// what each output depends on
+    pub dependencies: Items<Dependency>,
+    /// what each output depends on in Initialization Mode
+    pub initial_dependencies: Items<Dependency>,
+}
+
+impl Variable {
+    /// Another variable that is the same.
+    pub fn copy(&self, alloc: Global) -> Result<Variable, AllocError>
+        ensures { IfOk result (λ v. v ≡ self.now) }
+    {
+        Ok(Variable {
+            name: self.name.copy(alloc)?,
+            aliases: copy_texts(alloc, self.aliases.as_slice())?,
+            reference: self.reference,
+            kind: self.kind,
+            causality: self.causality,
+            start: self.start,
+            can_be_set_again: self.can_be_set_again,
+        })
+    }
+}
+
+impl Dependency {
+    /// Another dependency that is the same.
+    pub fn copy(&self, alloc: Global) -> Result<Dependency, AllocError>
+        ensures { IfOk result (λ d. d ≡ self.now) }
+    {
+        Ok(Dependency {
+            output: self.output,
+            on: Items::from_vec(self.on.as_slice().to_vec(alloc)?),
+        })
+    }
+}
+
+impl Shape {
+    /// Another shape that is the same.
+    pub fn copy(&self, alloc: Global) -> Result<Shape, AllocError>
+        ensures { IfOk result (λ s. s ≡ self.now) }
+    {
+        Ok(Shape {
+            identifier: self.identifier.copy(alloc)?,
+            token: self.token.copy(alloc)?,
+            resolution: self.resolution,
+            has_event_mode: self.has_event_mode,
+            might_return_early: self.might_return_early,
+            has_variable_steps: self.has_variable_steps,
+            can_save_state: self.can_save_state,
+            can_serialize_state: self.can_serialize_state,
+            variables: copy_variables(alloc, self.variables.as_slice())?,
+            dependencies: copy_dependencies(alloc, self.dependencies.as_slice())?,
+            initial_dependencies: copy_dependencies(alloc, self.initial_dependencies.as_slice())?,
+        })
+    }
+}
+
+fn copy_texts(alloc: Global, texts: &[Text]) -> Result<Items<Text>, AllocError>
+    ensures { IfOk result (λ copies. copies ≡ texts.now) }
+{
+    let mut copies = Vec::new(alloc);
+    for text in texts {
+        copies.push(text.copy(alloc)?)?;
+    }
+    Ok(Items::from_vec(copies))
+}
+
+fn copy_variables(alloc: Global, variables: &[Variable]) -> Result<Items<Variable>, AllocError>
+    ensures { IfOk result (λ copies. copies ≡ variables.now) }
+{
+    let mut copies = Vec::new(alloc);
+    for variable in variables {
+        copies.push(variable.copy(alloc)?)?;
+    }
+    Ok(Items::from_vec(copies))
+}
+
+fn copy_dependencies(
+    alloc: Global,
+    dependencies: &[Dependency],
+) -> Result<Items<Dependency>, AllocError>
+    ensures { IfOk result (λ copies. copies ≡ dependencies.now) }
+{
+    let mut copies = Vec::new(alloc);
+    for dependency in dependencies {
+        copies.push(dependency.copy(alloc)?)?;
+    }
+    Ok(Items::from_vec(copies))
+}
