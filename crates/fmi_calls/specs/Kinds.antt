@@ -1,0 +1,50 @@
+-- The kinds of calls and replies.
+use Rattle.fmi_calls.specs.declared.call.Call.{Call}
+use Rattle.fmi_calls.specs.declared.call.Call.TheVariants as C
+use Rattle.fmi_calls.specs.declared.call.Kind.{Kind}
+use Rattle.fmi_calls.specs.declared.call.Kind.TheVariants as K
+use Rattle.fmi_calls.specs.declared.call.Content.{Content}
+use Rattle.fmi_calls.specs.declared.call.Content.TheVariants as A
+use Rattle.fmi_calls.specs.declared.call.Reply.{Reply}
+use Rattle.fmi_calls.specs.declared.call.Reply.TheVariants.{Done, Refused}
+use Rattle.fmi_calls.specs.declared.call.BadStatus.{BadStatus}
+use Rattle.fmi_calls.specs.declared.call.BadStatus.TheVariants as B
+use Rattle.fmi_calls.specs.declared.call.Status.{Status}
+use Rattle.fmi_calls.specs.declared.call.Status.TheVariants as S
+use Rattle.std.specs.Prelude.{Bool, true, false, if◌then◌else◌}
+
+-- the kind of a call
+abbrev pub kind_of : Call → Kind
+kind_of (C.Instantiate event_mode early_return) = K.Instantiate
+kind_of (C.EnterInitialization start stop) = K.EnterInitialization
+kind_of C.ExitInitialization = K.ExitInitialization
+kind_of (C.DoStep at size) = K.DoStep
+kind_of (C.Get kind reference) = K.Get
+kind_of C.Terminate = K.Terminate
+kind_of C.FreeInstance = K.FreeInstance
+
+-- the kind of what a reply carries
+abbrev pub kind_of_content : Content → Kind
+kind_of_content A.Instantiate = K.Instantiate
+kind_of_content A.EnterInitialization = K.EnterInitialization
+kind_of_content A.ExitInitialization = K.ExitInitialization
+kind_of_content (A.DoStep event_needed terminate early end) = K.DoStep
+kind_of_content (A.Get word) = K.Get
+kind_of_content A.Terminate = K.Terminate
+kind_of_content A.FreeInstance = K.FreeInstance
+
+-- the kind of a reply
+abbrev pub kind_of_reply : Reply → Kind
+kind_of_reply (Done is_warning content) = kind_of_content content
+kind_of_reply (Refused kind status) = kind
+
+-- a bad status among all
+abbrev pub status_of_bad : BadStatus → Status
+status_of_bad B.Discard = S.Discard
+status_of_bad B.Error = S.Error
+status_of_bad B.Fatal = S.Fatal
+
+-- the status of a reply
+abbrev pub status_of : Reply → Status
+status_of (Done is_warning content) = if is_warning then S.Warning else S.Ok
+status_of (Refused kind status) = status_of_bad status

@@ -1,0 +1,4 @@
+pub mod Kinds
+pub mod Worth
+pub mod Permission
+pub mod Next

@@ -1,0 +1,170 @@
+ghost use Rattle.std.specs.Prelude.{◌≡◌};
+ghost use Rattle.fmi_calls.specs.Kinds.{kind_of, kind_of_content, kind_of_reply, status_of, status_of_bad};
+
+use value_types::PortType;
+
+/// A call of an FMU (FMI 3.0, 4.2). Points and sizes are counts over the resolution.
+#[derive(Clone, Copy, Debug, PartialEq, Eq)]
+pub enum Call {
+    /// whether event mode is used and whether early return is allowed
+    Instantiate {
+        event_mode: bool,
+        early_return: bool,
+    },
+    EnterInitialization {
+        start: u64,
+        stop: u64,
+    },
+    ExitInitialization,
+    DoStep {
+        at: u64,
+        size: u64,
+    },
+    Get {
+        kind: PortType,
+        reference: u32,
+    },
+    Terminate,
+    FreeInstance,
+}
+
+/// The kind of a call, and of its reply.
+#[derive(Clone, Copy, Debug, PartialEq, Eq)]
+pub enum Kind {
+    Instantiate,
+    EnterInitialization,
+    ExitInitialization,
+    DoStep,
+    Get,
+    Terminate,
+    FreeInstance,
+}
+
+/// The status that a function returns (FMI 3.0, 2.2.3).
+#[derive(Clone, Copy, Debug, PartialEq, Eq)]
+pub enum Status {
+    Ok,
+    Warning,
+    Discard,
+    Error,
+    Fatal,
+}
+
+/// A status that isn't good.
+#[derive(Clone, Copy, Debug, PartialEq, Eq)]
+pub enum BadStatus {
+    Discard,
+    Error,
+    Fatal,
+}
+
+/// What a reply with the status OK or Warning carries, by its kind.
+#[derive(Clone, Copy, Debug, PartialEq, Eq)]
+pub enum Content {
+    Instantiate,
+    EnterInitialization,
+    ExitInitialization,
+    /// `end` is the point that was reached.
+    DoStep {
+        event_needed: bool,
+        terminate: bool,
+        early: bool,
+        end: u64,
+    },
+    /// the word of the value
+    Get {
+        word: u64,
+    },
+    Terminate,
+    FreeInstance,
+}
+
+/// A reply. It holds what its layout on the link has and nothing else: a refusal carries nothing but its status.
+#[derive(Clone, Copy, Debug, PartialEq, Eq)]
+pub enum Reply {
+    Done { is_warning: bool, content: Content },
+    Refused { kind: Kind, status: BadStatus },
+}
+
+/// What a reply is worth: good, a refusal, or one that the call may not get.
+#[derive(Clone, Copy, Debug, PartialEq, Eq)]
+pub enum Grade {
+    Good,
+    Refused,
+    Misreply,
+}
+
+impl Call {
+    /// The call's kind.
+    pub fn kind(&self) -> Kind
+        ensures { result ≡ kind_of self.now }
+    {
+        match self {
+            Call::Instantiate { .. } => Kind::Instantiate,
+            Call::EnterInitialization { .. } => Kind::EnterInitialization,
+            Call::ExitInitialization => Kind::ExitInitialization,
+            Call::DoStep { .. } => Kind::DoStep,
+            Call::Get { .. } => Kind::Get,
+            Call::Terminate => Kind::Terminate,
+            Call::FreeInstance => Kind::FreeInstance,
+        }
+    }
+}
+
+impl Content {
+    /// The kind of the calls that this answers.
+    pub fn kind(&self) -> Kind
+        ensures { result ≡ kind_of_content self.now }
+    {
+        match self {
+            Content::Instantiate => Kind::Instantiate,
+            Content::EnterInitialization => Kind::EnterInitialization,
+            Content::ExitInitialization => Kind::ExitInitialization,
+            Content::DoStep { .. } => Kind::DoStep,
+            Content::Get { .. } => Kind::Get,
+            Content::Terminate => Kind::Terminate,
+            Content::FreeInstance => Kind::FreeInstance,
+        }
+    }
+}
+
+impl Reply {
+    /// The kind of the calls that this answers.
+    pub fn kind(&self) -> Kind
+        ensures { result ≡ kind_of_reply self.now }
+    {
+        match self {
+            Reply::Done { content, .. } => content.kind(),
+            Reply::Refused { kind, .. } => *kind,
+        }
+    }
+
+    /// The reply's status.
+    pub fn status(&self) -> Status
+        ensures { result ≡ status_of self.now }
+    {
+        match self {
+            Reply::Done { is_warning, .. } => {
+                if *is_warning {
+                    Status::Warning
+                } else {
+                    Status::Ok
+                }
+            }
+            Reply::Refused { status, .. } => Status::from_bad(*status),
+        }
+    }
+}
+
+impl Status {
+    /// A bad status among all.
+    pub fn from_bad(status: BadStatus) -> Status
+        ensures { result ≡ status_of_bad status }
+    {
+        match status {
+            BadStatus::Discard => Status::Discard,
+            BadStatus::Error => Status::Error,
+            BadStatus::Fatal => Status::Fatal,
+        }
+    }
+}
