@@ -156,6 +156,20 @@ impl Reply {
     }
 }
 
+impl Reply {
+    ghost use Rattle.fmi_calls.specs.Next.{bad_status_of};
+
+    /// The status of a refusal; anything else counts as Error does.
+    pub fn bad_status(&self) -> BadStatus
+        ensures { result ≡ bad_status_of self.now }
+    {
+        match self {
+            Reply::Refused { status, .. } => *status,
+            Reply::Done { .. } => BadStatus::Error,
+        }
+    }
+}
+
 impl Status {
     /// A bad status among all.
     pub fn from_bad(status: BadStatus) -> Status

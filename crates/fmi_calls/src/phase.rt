@@ -1,6 +1,6 @@
 ghost use Rattle.std.specs.Prelude.{◌≡◌, ◌↔◌, IsTrue, option_copied, option_map};
 ghost use Rattle.fmi_calls.specs.Permission.{Permitted, can_be_freed, can_be_read, IsSizeFor};
-ghost use Rattle.fmi_calls.specs.Next.{next_of, entered, state_after_bad, bad_status_of, end_of};
+ghost use Rattle.fmi_calls.specs.Next.{next_of, entered, state_after_bad, end_of};
 ghost use Rattle.value_types.specs.Shape.{IsOutput, variable_at};
 
 use crate::{BadStatus, Call, Content, Grade, Reply, grade};
@@ -30,6 +30,22 @@ pub struct Phase {
     pub first_size: Option<u64>,
     /// how many exchanges there were; it stays at its last value
     pub exchanges: u64,
+}
+
+impl State {
+    /// Whether the instance may be freed.
+    pub fn can_be_freed(self) -> bool
+        ensures { result ≡ can_be_freed self }
+    {
+        match self {
+            State::Instantiated
+            | State::Initialization
+            | State::Step
+            | State::Terminated
+            | State::Dead => true,
+            State::Fresh | State::Lost | State::Gone => false,
+        }
+    }
 }
 
 impl Phase {
@@ -79,19 +95,6 @@ fn can_be_read(state: State, has_event_mode: bool) -> bool
     }
 }
 
-fn can_be_freed(state: State) -> bool
-    ensures { result ≡ can_be_freed state }
-{
-    match state {
-        State::Instantiated
-        | State::Initialization
-        | State::Step
-        | State::Terminated
-        | State::Dead => true,
-        State::Fresh | State::Lost | State::Gone => false,
-    }
-}
-
 /// Whether the phase permits a call.
 pub fn permitted(shape: &Shape, phase: &Phase, call: &Call) -> bool
     ensures { IsTrue result ↔ Permitted shape.now phase.now call.now }
@@ -123,7 +126,7 @@ pub fn permitted(shape: &Shape, phase: &Phase, call: &Call) -> bool
             can_be_read(phase.state, shape.has_event_mode) && is_output(shape, kind, reference)
         }
         Call::Terminate => phase.state == State::Step,
-        Call::FreeInstance => can_be_freed(phase.state),
+        Call::FreeInstance => phase.state.can_be_freed(),
     }
 }
 
@@ -140,20 +143,11 @@ pub fn next_phase(shape: &Shape, phase: &mut Phase, call: &Call, reply: Option<&
     match grade(shape, phase, call, reply) {
         Grade::Good => enter(phase, call, reply),
         Grade::Refused => {
-            phase.state = state_after_bad(phase.state, call, bad_status(reply));
+            phase.state = state_after_bad(phase.state, call, reply.bad_status());
         }
         Grade::Misreply => {
             phase.state = state_after_bad(phase.state, call, BadStatus::Error);
         }
-    }
-}
-
-fn bad_status(reply: &Reply) -> BadStatus
-    ensures { result ≡ bad_status_of reply.now }
-{
-    match reply {
-        Reply::Refused { status, .. } => *status,
-        Reply::Done { .. } => BadStatus::Error,
     }
 }
 

@@ -1,0 +1,10 @@
+pub mod Talk
+pub mod Machine
+pub mod View
+pub mod Start
+pub mod Answer
+pub mod Close
+pub mod Mode
+pub mod Book
+pub mod Props
+pub mod Running

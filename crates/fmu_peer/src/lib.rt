@@ -1,0 +1,18 @@
+//! The other side of an FMU: peers that answer calls, spawners that start them, and an FMU in typed states.
+#![tactic(auto)]
+
+mod ended;
+mod fmu;
+mod mode;
+mod peer;
+mod spawner;
+mod talk_book;
+mod talk_room;
+
+pub use ended::{Ended, Why};
+pub use fmu::{Fmu, Running};
+pub use mode::{Fresh, Initializing, Instantiated, Mode, Stepping};
+pub use peer::{Exchange, Peer, PeerFault};
+pub use spawner::{Spawner, StartFault};
+pub use talk_book::TalkBook;
+pub use talk_room::TalkRoom;

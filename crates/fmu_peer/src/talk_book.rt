@@ -1,0 +1,96 @@
+ghost use Rattle.std.specs.Prelude.{◌≡◌, ◌+◌, ◌<◌, ◌≤◌, ◌++◌, [], ◌∷◌, IsTrue, ◌||◌, length, Ok, Err, Some, None, IfOk, IfSome, OnOk, option_map, if◌then◌else◌};
+ghost use Rattle.std.specs.Result.{result_ok};
+ghost use Rattle.sim_base.specs.Causes.{HasCause};
+ghost use Rattle.fmi_calls.specs.Permission.{Permitted};
+ghost use Rattle.fmi_calls.specs.Next.{fresh, next_of};
+ghost use Rattle.fmu_peer.specs.Talk.{Legal, phase_after};
+ghost use Rattle.fmu_peer.specs.Props.{legal-prop};
+ghost use Rattle.fmu_peer.specs.Book.{has_room, is_lost, fills_next};
+
+use crate::{Exchange, PeerFault, TalkRoom};
+use fmi_calls::{Call, Phase, Reply, next_phase};
+use value_types::Shape;
+
+/// An instance's shape and phase, its count of faults, and where it is kept the talk that led to the phase.
+#[derive(Debug, Drop)]
+pub struct TalkBook {
+    pub shape: Shape,
+    pub phase: Phase,
+    pub talk: Option<TalkRoom>,
+    pub faults: u64,
+    ghost legal: { IfSome talk (λ t. Legal shape t.exchanges.items × (phase ≡ phase_after shape t.exchanges.items)) } by { legal-prop shape phase talk },
+    ghost has_room: { IsTrue (is_lost phase.state || has_room talk) },
+}
+
+impl TalkBook {
+    /// A book before the first call.
+    pub fn new(shape: Shape, talk: Option<TalkRoom>) -> TalkBook
+        requires { IfSome talk (λ t. (t.exchanges.items ≡ []) × (0 < t.room)) }
+        ensures shape { result.shape ≡ shape }
+        ensures phase { result.phase ≡ fresh }
+        ensures talk { result.talk ≡ talk }
+        ensures faults { result.faults ≡ 0 }
+    {
+        TalkBook {
+            shape,
+            phase: Phase::fresh(),
+            talk,
+            faults: 0,
+        }
+    }
+
+    /// Keeps an exchange: this answer, or `Failed` where the exchange fills the talk's room. It answers what it kept.
+    pub fn keep(
+        &mut self,
+        call: &Call,
+        answer: Result<Reply, PeerFault>,
+    ) -> Result<Reply, PeerFault>
+        requires { Permitted self.old.shape self.old.phase call.now }
+        ensures kept { result ≡ (if fills_next self.old.talk then Err PeerFault.Failed else answer) }
+        ensures shape { self.new.shape ≡ self.old.shape }
+        ensures phase { self.new.phase ≡ next_of self.old.shape self.old.phase call.now (result_ok result) }
+        ensures talk { option_map (λ t. t.exchanges.items) self.new.talk
+            ≡ option_map (λ t. t.exchanges.items ++ record { call = call.now; result = result } ∷ []) self.old.talk }
+        ensures room { option_map (λ t. t.room) self.new.talk ≡ option_map (λ t. t.room) self.old.talk }
+        ensures cause { HasCause self.old.faults self.new.faults result }
+    {
+        let result = if fills_next(&self.talk) {
+            Err(PeerFault::Failed)
+        } else {
+            answer
+        };
+        let call = *call;
+        match result {
+            Ok(reply) => {
+                next_phase(&self.shape, &mut self.phase, &call, Some(&reply));
+                keep_in(&mut self.talk, Exchange { call, result });
+                Ok(reply)
+            }
+            Err(fault) => {
+                next_phase(&self.shape, &mut self.phase, &call, None);
+                self.faults = self.faults.saturating_add(1);
+                keep_in(&mut self.talk, Exchange { call, result });
+                Err(fault)
+            }
+        }
+    }
+}
+
+fn fills_next(talk: &Option<TalkRoom>) -> bool
+    ensures { result ≡ fills_next talk.now }
+{
+    match talk {
+        Some(talk) => talk.room <= 1 || talk.room - 1 <= talk.exchanges.len(),
+        None => false,
+    }
+}
+
+fn keep_in(talk: &mut Option<TalkRoom>, exchange: Exchange)
+    requires { IsTrue (has_room talk.old) }
+    ensures exchanges { option_map (λ t. t.exchanges.items) talk.new ≡ option_map (λ t. t.exchanges.items ++ exchange ∷ []) talk.old }
+    ensures room { option_map (λ t. t.room) talk.new ≡ option_map (λ t. t.room) talk.old }
+{
+    if let Some(talk) = talk {
+        talk.push(exchange);
+    }
+}
