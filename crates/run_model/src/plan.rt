@@ -1,0 +1,15 @@
+/// What a run is asked for. Resolution is counts in a second; start, step and stop are counts.
+#[derive(Clone, Copy, Debug, PartialEq, Eq)]
+pub struct Plan {
+    pub resolution: u64,
+    pub start: u64,
+    pub step: u64,
+    pub stop: u64,
+}
+
+/// How a run ends: at the stop, or where an FMU asked for the end.
+#[derive(Clone, Copy, Debug, PartialEq, Eq)]
+pub enum EndKind {
+    Stop,
+    Asked,
+}
