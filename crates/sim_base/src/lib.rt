@@ -1,16 +1,22 @@
 //! What every crate of the simulator stands on: limits, numbers of components and ports, lists and texts that contracts compare, and the outside as traits with forms in memory.
 #![tactic(auto)]
 
+mod escaping;
 mod folder;
 mod items;
 mod limits;
 mod numbers;
+mod path;
 mod sink;
+#[cfg(test)]
+mod tests;
 mod text;
 
+pub use escaping::{EscapedByte, escape, escaped_byte};
 pub use folder::{Folder, MemFile, MemFolder, ReadFault};
 pub use items::Items;
 pub use limits::{MOST_COUNTS, MOST_FILE_BYTES, MOST_NAME_BYTES};
 pub use numbers::{CompId, PortId};
+pub use path::join_path;
 pub use sink::{MemSink, Sink, SinkFault};
 pub use text::Text;

@@ -1,2 +1,4 @@
 pub mod Values
 pub mod Shape
+pub mod Reading
+pub mod Joint

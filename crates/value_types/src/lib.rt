@@ -1,8 +1,12 @@
 //! Types of variables, their values and words, and what a description says of an FMU.
 #![tactic(auto)]
 
+mod joint;
+mod reading;
 mod shape;
 mod values;
 
+pub use joint::{Class, Joint, class_of, connectable};
+pub use reading::read_value;
 pub use shape::{Causality, Dependency, Shape, Variable};
-pub use values::{PortType, fits, from_word, to_word};
+pub use values::{PortType, fits, from_word, greatest, least, to_word};
