@@ -1,6 +1,8 @@
 -- Which call FMI 3.0 permits an FMU in its phase (4.2.1: the state machine of Co-Simulation and its table of functions).
 use Rattle.std.specs.Prelude.{◌≡◌, ℕ, ◌+◌, ◌<◌, ◌≤◌, Bool, true, false, not, ◌||◌, ◌==◌, IsTrue, unwrap_or}
 use Rattle.value_types.specs.Shape.{IsOutput}
+use Rattle.value_types.specs.declared.values.PortType.{PortType}
+use Rattle.value_types.specs.declared.values.PortType.TheVariants.{Clock}
 use Rattle.value_types.specs.declared.shape.Shape.{Shape}
 use Rattle.fmi_calls.specs.declared.call.Call.{Call}
 use Rattle.fmi_calls.specs.declared.call.Call.TheVariants as C
@@ -30,6 +32,15 @@ can_be_read Dead has_event_mode = false
 can_be_read Lost has_event_mode = false
 can_be_read Gone has_event_mode = false
 
+-- Get reads values of every type but Clock
+abbrev pub is_value_type : PortType → Bool
+is_value_type Clock = false
+is_value_type _ = true
+
+-- the reference is that of an output of this type, which Get reads
+abbrev pub IsReadable : Shape → PortType → ℕ → Type 0
+IsReadable shape kind reference = IsTrue (is_value_type kind) × IsOutput shape kind reference
+
 -- without variable steps each step has the size of the first
 abbrev pub IsSizeFor : Shape → Phase → ℕ → Type 0
 IsSizeFor shape phase size = IsTrue (shape.has_variable_steps || unwrap_or phase.first_size size == size)
@@ -43,6 +54,6 @@ Permitted shape phase C.ExitInitialization = (phase.state ≡ Initialization) ×
 Permitted shape phase (C.DoStep at size) =
     (phase.state ≡ Step) × (at ≡ phase.point) × (0 < size) × (at + size ≤ phase.stop) × IsSizeFor shape phase size
 Permitted shape phase (C.Get kind reference) =
-    IsTrue (can_be_read phase.state shape.has_event_mode) × IsOutput shape kind reference
+    IsTrue (can_be_read phase.state shape.has_event_mode) × IsReadable shape kind reference
 Permitted shape phase C.Terminate = phase.state ≡ Step
 Permitted shape phase C.FreeInstance = IsTrue (can_be_freed phase.state)

@@ -1,5 +1,5 @@
 ghost use Rattle.std.specs.Prelude.{◌≡◌, ◌↔◌, IsTrue, option_copied, option_map};
-ghost use Rattle.fmi_calls.specs.Permission.{Permitted, can_be_freed, can_be_read, IsSizeFor};
+ghost use Rattle.fmi_calls.specs.Permission.{Permitted, can_be_freed, can_be_read, IsReadable};
 ghost use Rattle.fmi_calls.specs.Next.{next_of, entered, state_after_bad, end_of};
 ghost use Rattle.value_types.specs.Shape.{IsOutput, variable_at};
 
@@ -71,6 +71,12 @@ fn find_variable(variables: &[Variable], reference: u32) -> Option<&Variable>
     variables.iter().find(|v| v.reference == reference)
 }
 
+fn is_readable(shape: &Shape, kind: PortType, reference: u32) -> bool
+    ensures { IsTrue result ↔ IsReadable shape.now kind reference }
+{
+    kind != PortType::Clock && is_output(shape, kind, reference)
+}
+
 fn is_output(shape: &Shape, kind: PortType, reference: u32) -> bool
     ensures { IsTrue result ↔ IsOutput shape.now kind reference }
 {
@@ -123,7 +129,7 @@ pub fn permitted(shape: &Shape, phase: &Phase, call: &Call) -> bool
                 && (shape.has_variable_steps || phase.first_size.unwrap_or(size) == size)
         }
         Call::Get { kind, reference } => {
-            can_be_read(phase.state, shape.has_event_mode) && is_output(shape, kind, reference)
+            can_be_read(phase.state, shape.has_event_mode) && is_readable(shape, kind, reference)
         }
         Call::Terminate => phase.state == State::Step,
         Call::FreeInstance => phase.state.can_be_freed(),

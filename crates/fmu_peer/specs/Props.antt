@@ -48,7 +48,7 @@ Permitted-prop shape p (C.Instantiate event_mode early_return) = hlevel (le_prop
 Permitted-prop shape p (C.EnterInitialization start stop) = hlevel (le_prop, state_set, bool_set, nat_set)
 Permitted-prop shape p C.ExitInitialization = hlevel (le_prop, state_set, bool_set, nat_set)
 Permitted-prop shape p (C.DoStep at size) = hlevel (le_prop, state_set, bool_set, nat_set)
-Permitted-prop shape p (C.Get kind reference) = ×_prop (hlevel (bool_set)) (is_output-prop (variable_at shape.variables reference) kind)
+Permitted-prop shape p (C.Get kind reference) = ×_prop (hlevel (bool_set)) (×_prop (hlevel (bool_set)) (is_output-prop (variable_at shape.variables reference) kind))
 Permitted-prop shape p C.Terminate = hlevel (le_prop, state_set, bool_set, nat_set)
 Permitted-prop shape p C.FreeInstance = hlevel (le_prop, state_set, bool_set, nat_set)
 

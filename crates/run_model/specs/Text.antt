@@ -4,7 +4,7 @@ use Rattle.std.specs.Option.{option_map_or}
 use Rattle.std.specs.Fmt.{signed_decimal}
 use Rattle.sim_base.specs.Escape.{escaped}
 use Rattle.value_types.specs.declared.values.PortType.{PortType}
-use Rattle.value_types.specs.declared.values.PortType.TheVariants.{Int32}
+use Rattle.value_types.specs.declared.values.PortType.TheVariants.{Int8, UInt8, Int16, UInt16, Int32, UInt32, Int64, UInt64, Boolean, Enumeration, Clock}
 use Rattle.run_model.specs.declared.system.Component.{Component}
 use Rattle.run_model.specs.declared.system.Port.{Port}
 use Rattle.run_model.specs.declared.system.System.{System}
@@ -20,7 +20,17 @@ pub record Instant : Type 0 where
 
 -- the name of a type in FMI 3.0
 abbrev pub type_name : PortType → List ℕ
+type_name Int8 = codes "Int8"
+type_name UInt8 = codes "UInt8"
+type_name Int16 = codes "Int16"
+type_name UInt16 = codes "UInt16"
 type_name Int32 = codes "Int32"
+type_name UInt32 = codes "UInt32"
+type_name Int64 = codes "Int64"
+type_name UInt64 = codes "UInt64"
+type_name Boolean = codes "Boolean"
+type_name Enumeration = codes "Enumeration"
+type_name Clock = codes "Clock"
 
 -- a component's full name
 abbrev pub component_name : List Component → ℕ → List ℕ

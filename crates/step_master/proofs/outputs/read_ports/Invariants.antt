@@ -1,0 +1,13 @@
+use Rattle.std.proofs.Common.{◌≡◌, take, map, length}
+use Rattle.fmu_peer.specs.Machine.{State, Machine}
+use Rattle.run_model.specs.Trace.{shown}
+use Rattle.step_master.specs.Follow.{Stays, Tells}
+use Rattle.step_master.proofs.outputs.read_ports.Given as goal
+
+abbrev pub invariant-loop-i : goal.invariant-loop-i
+invariant-loop-i g l =
+    let view = g.L.Peer.view in
+    record {
+      stays : Stays (view l.fn.fmu.peer) (view l.fmu.peer);
+      values : (m : Machine) (s : State) → Tells (view l.fn.fmu.peer) m s → take l.i l.values ≡ map (shown m s) (take l.i l.ports);
+    }
