@@ -1,5 +1,7 @@
 -- What calls of a run leave.
 use Rattle.std.specs.Prelude.{◌≡◌, ℕ, ℤ, ◌<◌, ◌≤◌, true, false, All, List, [], ◌∷◌, ◌++◌, map, Option, Some, None, IfSome}
+use Rattle.std.specs.Prelude.{FitsSigned}
+use Rattle.std.specs.Int.{w128}
 use Rattle.sim_base.specs.Causes.{Rose}
 use Rattle.value_types.specs.declared.shape.Shape.{Shape}
 use Rattle.fmi_calls.specs.declared.call.Call.{Call}
@@ -72,3 +74,7 @@ GoodGets shape ports m s = All (λ (port : Port). GoodCall shape (C.Get port.kin
 -- where a machine is told, these are the values that its state shows
 abbrev pub ShowsValues : View → List Port → List (Option ℤ) → Type 0
 ShowsValues v ports values = (m : Machine) (s : State) → Tells v m s → values ≡ map (shown m s) ports
+
+-- a value of at most 128 bits, or none
+abbrev pub IsWide : Option ℤ → Type 0
+IsWide value = IfSome value (FitsSigned w128)

@@ -1,2 +1,4 @@
 pub mod Alone
 pub mod Follow
+pub mod Progress
+pub mod End

@@ -3,3 +3,6 @@
 
 mod bound;
 mod outputs;
+mod run_end;
+
+pub use run_end::RunEnd;

@@ -6,7 +6,7 @@ ghost use Rattle.fmu_peer.specs.Machine.{State as MachineState};
 ghost use Rattle.fmi_calls.specs.declared.phase.State.TheVariants as P;
 ghost use Rattle.run_model.specs.Trace.{shown, value_in};
 ghost use Rattle.step_master.specs.Alone.{IsOwnPort};
-ghost use Rattle.step_master.specs.Follow.{Stays, Broke, GoodGets, GoodCall, ShowsValues, Tells};
+ghost use Rattle.step_master.specs.Follow.{Stays, Broke, GoodGets, GoodCall, ShowsValues, Tells, IsWide};
 
 use fmi_calls::{Content, Reply};
 use fmu_peer::{Fmu, Peer, Stepping, Why};
@@ -25,6 +25,7 @@ pub(crate) fn read_ports<L: Peer>(
     requires places { length values.old ≡ length ports.now }
     ensures stays { OnOk result (Stays (L.view fmu.old.peer) (L.view fmu.new.peer)) }
     ensures values { OnOk result (ShowsValues (L.view fmu.old.peer) ports.now values.new) }
+    ensures wide { OnOk result (All IsWide values.new) }
     ensures err { IfErr result (λ why. Broke (L.view fmu.old.peer) why (L.view fmu.new.peer) (GoodGets (L.view fmu.old.peer).fixed.shape ports.now)) }
 {
     for (i, port) in ports.iter().enumerate() {
@@ -42,6 +43,7 @@ fn read_port<L: Peer>(fmu: &mut Fmu<L, Stepping>, port: &Port) -> Result<Option<
     requires output { IsReadable (L.view fmu.old.peer).fixed.shape port.now.kind port.now.reference }
     ensures stays { OnOk result (Stays (L.view fmu.old.peer) (L.view fmu.new.peer)) }
     ensures value { IfOk result (λ value. (m : Machine) (s : MachineState) → Tells (L.view fmu.old.peer) m s → value ≡ shown m s port.now) }
+    ensures wide { IfOk result IsWide }
     ensures err { IfErr result (λ why. Broke (L.view fmu.old.peer) why (L.view fmu.new.peer) (GoodCall (L.view fmu.old.peer).fixed.shape (C.Get port.now.kind port.now.reference))) }
 {
     match fmu.get(port.kind, port.reference) {
@@ -51,7 +53,8 @@ fn read_port<L: Peer>(fmu: &mut Fmu<L, Stepping>, port: &Port) -> Result<Option<
 }
 
 fn value_in(kind: PortType, reply: &Reply) -> Option<i128>
-    ensures { result ≡ value_in kind reply.now }
+    ensures value { result ≡ value_in kind reply.now }
+    ensures wide { IsWide result }
 {
     match reply {
         Reply::Done {

@@ -1,7 +1,8 @@
 use Rattle.std.proofs.Common.{◌≡◌, take, map, length}
 use Rattle.fmu_peer.specs.Machine.{State, Machine}
 use Rattle.run_model.specs.Trace.{shown}
-use Rattle.step_master.specs.Follow.{Stays, Tells}
+use Rattle.std.specs.Prelude.{All}
+use Rattle.step_master.specs.Follow.{Stays, Tells, IsWide}
 use Rattle.step_master.proofs.outputs.read_ports.Given as goal
 
 abbrev pub invariant-loop-i : goal.invariant-loop-i
@@ -10,4 +11,5 @@ invariant-loop-i g l =
     record {
       stays : Stays (view l.fn.fmu.peer) (view l.fmu.peer);
       values : (m : Machine) (s : State) → Tells (view l.fn.fmu.peer) m s → take l.i l.values ≡ map (shown m s) (take l.i l.ports);
+      wide : All IsWide (take l.i l.values);
     }
