@@ -1,6 +1,7 @@
 ghost use Rattle.std.specs.Prelude.{◌≡◌, IfOk, take};
 
 use crate::PortType;
+use clock_fraction::Fraction;
 use sim_base::{Items, Text};
 use std::alloc::{AllocError, Global};
 
@@ -18,6 +19,33 @@ pub enum Causality {
     Other,
 }
 
+/// When a Clock ticks (FMI 3.0, Clocks: intervalVariability).
+#[derive(Clone, Copy, Debug, PartialEq, Eq)]
+pub enum IntervalVariability {
+    /// at an interval that the description gives
+    Constant,
+    /// at an interval that is set in Initialization Mode
+    Fixed,
+    Tunable,
+    Changing,
+    /// after an interval that the FMU gives in Event Mode, once
+    Countdown,
+    /// in an event, with no time of its own
+    Triggered,
+}
+
+/// When a variable of type Clock ticks, as far as the description says it. Interval and shift are in seconds.
+#[derive(Clone, Copy, Debug, PartialEq, Eq)]
+pub struct ClockTiming {
+    /// The value reference of the Clock.
+    pub reference: u32,
+    pub variability: IntervalVariability,
+    /// supportsFraction
+    pub supports_fraction: bool,
+    pub interval: Option<Fraction>,
+    pub shift: Option<Fraction>,
+}
+
 /// A variable of an FMU. A foreign variable, which is never set, read, bound or traced, has no `kind`.
 #[derive(Debug, Drop)]
 pub struct Variable {
@@ -27,6 +55,8 @@ pub struct Variable {
     pub reference: u32,
     pub kind: Option<PortType>,
     pub causality: Causality,
+    /// The value references of the Clocks at whose ticks alone it has a value; with none it always has one.
+    pub clocks: Items<u32>,
     pub start: Option<i128>,
     /// canHandleMultipleSetPerTimeInstant
     pub can_be_set_again: bool,
@@ -60,6 +90,8 @@ pub struct Shape {
     pub can_serialize_state: bool,
     /// in the order of the description
     pub variables: Items<Variable>,
+    /// of each variable of type Clock, in the order of the description
+    pub clocks: Items<ClockTiming>,
     /// what each output depends on
     pub dependencies: Items<Dependency>,
     /// what each output depends on in Initialization Mode
@@ -77,6 +109,7 @@ impl Variable {
             reference: self.reference,
             kind: self.kind,
             causality: self.causality,
+            clocks: Items::from_vec(self.clocks.as_slice().to_vec(alloc)?),
             start: self.start,
             can_be_set_again: self.can_be_set_again,
         })
@@ -110,6 +143,7 @@ impl Shape {
             can_save_state: self.can_save_state,
             can_serialize_state: self.can_serialize_state,
             variables: copy_variables(alloc, self.variables.as_slice())?,
+            clocks: Items::from_vec(self.clocks.as_slice().to_vec(alloc)?),
             dependencies: copy_dependencies(alloc, self.dependencies.as_slice())?,
             initial_dependencies: copy_dependencies(alloc, self.initial_dependencies.as_slice())?,
         })
