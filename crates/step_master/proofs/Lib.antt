@@ -1,3 +1,5 @@
 pub mod Calls
 pub mod Values
 pub mod Exists
+pub mod Onward
+pub mod Exits

@@ -47,6 +47,14 @@ abbrev pub end_at : EndKind → ℕ → RunEnd
 end_at K.Stop t = Stop
 end_at K.Asked t = Asked t
 
+-- the end by the first answer that isn't good
+abbrev pub bad_end : Why → RunEnd
+bad_end why = Bad (record { 0 = 0 }) why
+
+abbrev pub end_of_break : Break → RunEnd
+end_of_break (B.Answer why) = bad_end why
+end_of_break B.Write = WriteFault
+
 -- the end line was put, or the put failed
 abbrev pub PutsEnd : EndKind → ℕ → RunEnd → Option (List ℕ) → Option (List ℕ) → ℕ → ℕ → Type 0
 PutsEnd kind t end before after c d =
