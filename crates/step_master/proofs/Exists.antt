@@ -133,7 +133,7 @@ module _ (system : System) (plan : Plan) (m : Machine) (shape : Shape) (alone : 
         ∙ sym (seen_first m state port (value s.before p) s.n s.states port.component.0 h.first h.states (own_port p port there).component);
   }
 
-  good_at : (states : List State) (state : State) (c : ℕ) (call : Shape → Call) → AnswersWell (run_of system plan m) states c call → states ≡ state ∷ [] → c ≡ 0 →
+  pub good_at : (states : List State) (state : State) (c : ℕ) (call : Shape → Call) → AnswersWell (run_of system plan m) states c call → states ≡ state ∷ [] → c ≡ 0 →
       GoodCall shape (call shape) m state
   good_at states state c call well e f =
       subst (λ k. AnswersWell (run_of system plan m) states k call) f well (record { name = alone.name; shape = shape }) m state

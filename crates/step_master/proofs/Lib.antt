@@ -3,3 +3,4 @@ pub mod Values
 pub mod Exists
 pub mod Onward
 pub mod Exits
+pub mod Closing
