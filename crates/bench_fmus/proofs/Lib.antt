@@ -1,0 +1,4 @@
+pub mod WrapLemmas
+pub mod ValueLemmas
+pub mod PeerLemmas
+pub mod CounterLemmas
