@@ -2,3 +2,4 @@ pub mod WrapLemmas
 pub mod ValueLemmas
 pub mod PeerLemmas
 pub mod CounterLemmas
+pub mod ScriptLemmas

@@ -3,6 +3,9 @@ use Rattle.std.proofs.Common.{◌≡◌, ℕ, suc, ◌+◌, ◌-◌, ◌*◌, �
 use Rattle.std.proofs.lemmas.Int.{ints, int_rem_euclid_is}
 use Rattle.std.proofs.Math.Nat.{add-mul, mul-le-mul_left, div-add-mod', mod-lt}
 use Rattle.std.specs.Int.{int_rem_euclid}
+use Rattle.value_types.specs.Values.{least_of, greatest_of}
+use Rattle.value_types.specs.declared.values.PortType.{PortType}
+use Rattle.value_types.specs.declared.values.PortType.TheVariants.{Int8, UInt8, Int16, UInt16, Int32, UInt32, Int64, UInt64, Boolean, Enumeration, Clock}
 use Rattle.bench_fmus.specs.Wrapping.{wrapped_between, wrapped_int64}
 use borrow.Author.Differences.{up, down}
 
@@ -87,3 +90,17 @@ wrapped_int64_by a b part b_again sum sum_again first second b_is sum_is =
     let p : part ≡ wrapped_int64 b = first ∙ ap (λ (x : ℤ). wrapped_int64 x) b_is in
     second ∙ ap (λ (x : ℤ). wrapped_int64 x) (sum_is ∙ ap (λ (x : ℤ). a +ℤ x) p)
     ∙ wrapped_sum (negsuc (2 ^ 63 - 1)) (pos (2 ^ 63 - 1)) a b (2 ^ 64) size
+
+-- the range of a type lies in that of 64 bits
+pub within_words : (kind : PortType) → (negsuc (2 ^ 63 - 1) ≤ℤ least_of kind) × (least_of kind ≤ℤ greatest_of kind) × (greatest_of kind ≤ℤ pos (2 ^ 64 - 1))
+within_words Int8 = (omega (arith, ints), omega (arith, ints), omega (arith, ints))
+within_words UInt8 = (omega (arith, ints), omega (arith, ints), omega (arith, ints))
+within_words Int16 = (omega (arith, ints), omega (arith, ints), omega (arith, ints))
+within_words UInt16 = (omega (arith, ints), omega (arith, ints), omega (arith, ints))
+within_words Int32 = (omega (arith, ints), omega (arith, ints), omega (arith, ints))
+within_words UInt32 = (omega (arith, ints), omega (arith, ints), omega (arith, ints))
+within_words Int64 = (omega (arith, ints), omega (arith, ints), omega (arith, ints))
+within_words UInt64 = (omega (arith, ints), omega (arith, ints), omega (arith, ints))
+within_words Boolean = (omega (arith, ints), omega (arith, ints), omega (arith, ints))
+within_words Enumeration = (omega (arith, ints), omega (arith, ints), omega (arith, ints))
+within_words Clock = (omega (arith, ints), omega (arith, ints), omega (arith, ints))

@@ -5,3 +5,5 @@ pub mod NumbersTold
 pub mod Told
 pub mod CounterLaw
 pub mod CounterView
+pub mod Answers
+pub mod ScriptView

@@ -6,6 +6,8 @@ mod counter;
 mod numbers;
 mod origin;
 mod retired;
+mod script;
+mod scripts;
 mod start_plan;
 mod wrap;
 
@@ -14,4 +16,6 @@ pub use counter::Counter;
 pub use numbers::Numbers;
 pub use origin::Origin;
 pub use retired::Retired;
+pub use script::Script;
+pub use scripts::Scripts;
 pub use start_plan::StartPlan;

@@ -1,22 +1,12 @@
 ghost use Rattle.std.specs.Prelude.{◌≡◌, ◌-◌, ◌^◌, pos, negsuc, ◌+ℤ◌, ◌≤ℤ◌};
-ghost use Rattle.value_types.specs.Values.{word_of, least_of, greatest_of};
+ghost use Rattle.value_types.specs.Values.{word_of};
 ghost use Rattle.bench_fmus.specs.Wrapping.{wrapped_between, wrapped, wrapped_int64};
 
-use value_types::{PortType, to_word};
+use value_types::{PortType, greatest, least, to_word};
 
 const LEAST_INT64: i128 = i64::MIN as i128;
 
 const GREATEST_INT64: i128 = i64::MAX as i128;
-
-// The least and the greatest value of a type.
-fn range_of(kind: PortType) -> (i128, i128)
-    ensures least { result.0 ≡ least_of kind }
-    ensures greatest { result.1 ≡ greatest_of kind }
-{
-    match kind {
-        PortType::Int32 => (i128::from(i32::MIN), i128::from(i32::MAX)),
-    }
-}
 
 fn wrap_between(least: i128, greatest: i128, value: i128) -> i128
     requires low { negsuc (2 ^ 63 - 1) ≤ℤ least }
@@ -32,11 +22,11 @@ fn wrap_between(least: i128, greatest: i128, value: i128) -> i128
 }
 
 /// The word of a number wrapped into a type.
+#[tactic(auto, using(crate::proofs::WrapLemmas::within_words))]
 pub(crate) fn wrapped_word(kind: PortType, value: i128) -> u64
     ensures { result ≡ word_of (wrapped kind value) }
 {
-    let (least, greatest) = range_of(kind);
-    to_word(kind, wrap_between(least, greatest, value))
+    to_word(kind, wrap_between(least(kind), greatest(kind), value))
 }
 
 /// A sum wrapped into Int64.
