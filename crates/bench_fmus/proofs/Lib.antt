@@ -1,0 +1,5 @@
+pub mod WrapLemmas
+pub mod ValueLemmas
+pub mod PeerLemmas
+pub mod CounterLemmas
+pub mod ScriptLemmas

@@ -1,0 +1,30 @@
+-- A script's room doesn't fill before its list ends.
+use Rattle.std.proofs.Common.{◌≡◌, ℕ, ◌+◌, ◌<◌, ◌≤◌, List, [], ◌∷◌, Option, Some, None, Ok, Err, Bool, true, false, if◌then◌else◌, length, nat_le, nat_lt, IsTrue, slice_get, unwrap_or, refl, sym, ap, ◌∙◌, arith}
+use Rattle.std.proofs.lemmas.Option.{slice_get_past}
+use Rattle.std.proofs.lemmas.Bool.Decides.{nat_tests}
+use Rattle.fmu_peer.specs.declared.peer.PeerFault.TheVariants.{Failed}
+use Rattle.fmu_peer.specs.declared.talk_room.TalkRoom.{TalkRoom}
+use Rattle.fmu_peer.specs.Book.{fills_next}
+use Rattle.bench_fmus.specs.Answers.{Answer, answer_at, calls_in, outlasts}
+
+-- past the end a script fails
+past_end : (answers : List Answer) (place : ℕ) → length answers ≤ place → answer_at answers place ≡ Err Failed
+past_end answers place past = ap (λ (o : Option Answer). unwrap_or o (Err Failed)) (slice_get_past answers place past)
+
+kept_in : (b : Bool) (room : ℕ) (answers : List Answer) (place : ℕ) → nat_le room (place + 1) ≡ b → length answers < room →
+    (if b then Err Failed else answer_at answers place) ≡ answer_at answers place
+kept_in true room answers place fills more =
+    let full : room ≤ place + 1 = grind (arith, nat_tests) in
+    sym (past_end answers place (omega arith))
+kept_in false room answers place fills more = refl
+
+-- what a book keeps of a script's answer is that answer
+pub kept_answer : (talk : Option TalkRoom) (answers : List Answer) (answer result : Answer) → IsTrue (outlasts talk answers) →
+    answer ≡ answer_at answers (calls_in talk) → result ≡ (if fills_next talk then Err Failed else answer) →
+    result ≡ answer_at answers (calls_in talk)
+kept_answer None answers answer result more answer_is result_is = absurd (cc)
+kept_answer (Some t) answers answer result more answer_is result_is =
+    let fewer : length answers < t.room = grind (arith, nat_tests) in
+    let place = length t.exchanges.items in
+    result_is ∙ ap (λ (a : Answer). if nat_le t.room (place + 1) then Err Failed else a) answer_is
+    ∙ kept_in (nat_le t.room (place + 1)) t.room answers place refl fewer

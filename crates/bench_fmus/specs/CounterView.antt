@@ -1,0 +1,32 @@
+-- What a counter tells.
+use Rattle.std.specs.Prelude.{ℕ, ◌≤◌, List, length, map, Some, None}
+use Rattle.std.proofs.lemmas.List.{length-map}
+use Rattle.fmi_calls.specs.declared.call.Call.{Call}
+use Rattle.fmi_calls.specs.declared.call.Reply.{Reply}
+use Rattle.fmu_peer.specs.Machine.{State}
+use Rattle.fmu_peer.specs.View.{View}
+use Rattle.bench_fmus.specs.declared.counter.Counter.{Counter}
+use Rattle.bench_fmus.specs.BuiltIn.{listed}
+use Rattle.bench_fmus.specs.NumbersTold.{told}
+use Rattle.bench_fmus.specs.Counting.{counter_machine}
+use Rattle.bench_fmus.specs.Told.{talk_in, origin_in}
+
+-- the state of the machine, whose slot is always empty
+abbrev pub counter_state : Counter → State
+counter_state c = record { numbers = listed (told c.numbers); values = c.values.items; slot = None }
+
+abbrev pub counter_view : Counter → View
+counter_view c = record {
+  fixed = record { shape = c.book.shape; origin = Some (origin_in c.origin); machine = Some (counter_machine c.book.shape) };
+  phase = c.book.phase;
+  talk = talk_in c.book.talk;
+  state = Some (counter_state c);
+  faults = c.book.faults;
+}
+
+-- what the machine answers
+abbrev pub counter_reply : Counter → Call → Reply
+counter_reply c call = (counter_machine c.book.shape).look (counter_state c) call
+
+pub fewer_views : (counters : List Counter) (n : ℕ) → length counters ≤ n → length (map counter_view counters) ≤ n
+fewer_views counters n fewer = rw length-map fewer

@@ -1,0 +1,9 @@
+pub mod Wrapping
+pub mod BuiltIn
+pub mod Counting
+pub mod NumbersTold
+pub mod Told
+pub mod CounterLaw
+pub mod CounterView
+pub mod Answers
+pub mod ScriptView

@@ -1,0 +1,17 @@
+-- Numbers wrapped into a range, as two's complement leaves them.
+use Rattle.std.specs.Prelude.{◌-◌, ◌^◌, ℤ, pos, negsuc, ◌+ℤ◌, ◌-ℤ◌}
+use Rattle.std.specs.Int.{int_rem_euclid}
+use Rattle.value_types.specs.Values.{least_of, greatest_of}
+use Rattle.value_types.specs.declared.values.PortType.{PortType}
+
+-- the number of a range that differs from a number by a multiple of the range's size
+abbrev pub wrapped_between : ℤ → ℤ → ℤ → ℤ
+wrapped_between least greatest z = least +ℤ int_rem_euclid (z -ℤ least) (greatest -ℤ least +ℤ pos 1)
+
+-- a number wrapped into a type
+abbrev pub wrapped : PortType → ℤ → ℤ
+wrapped kind z = wrapped_between (least_of kind) (greatest_of kind) z
+
+-- a number wrapped into Int64
+abbrev pub wrapped_int64 : ℤ → ℤ
+wrapped_int64 z = wrapped_between (negsuc (2 ^ 63 - 1)) (pos (2 ^ 63 - 1)) z

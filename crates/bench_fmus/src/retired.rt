@@ -1,0 +1,48 @@
+ghost use Rattle.std.specs.Prelude.{◌≡◌, ◌+◌, ◌<◌, ◌≤◌, ◌++◌, [], ◌∷◌, length, vec_capacity, OnOk, OnErr};
+
+use std::alloc::{AllocError, Global};
+
+/// The peers that a spawner took back, with room for all that it started.
+#[derive(Debug, Drop)]
+pub struct Retired<L> {
+    pub peers: Vec<L>,
+    pub started: usize,
+    ghost reserved: { started ≤ vec_capacity peers },
+    ghost fewer: { length peers.items ≤ started },
+}
+
+impl<L> Retired<L> {
+    /// None, before the first start.
+    pub fn new(alloc: Global) -> Retired<L>
+        ensures peers { result.peers.items ≡ [] }
+        ensures started { result.started ≡ 0 }
+    {
+        Retired {
+            peers: Vec::new(alloc),
+            started: 0,
+        }
+    }
+
+    /// Counts a start, and makes the room to take its peer back.
+    pub fn reserve(&mut self) -> Result<(), AllocError>
+        ensures ok { OnOk result (self.new.started ≡ self.old.started + 1) }
+        ensures err { OnErr result (self.new.started ≡ self.old.started) }
+        ensures peers { self.new.peers.items ≡ self.old.peers.items }
+    {
+        let Some(started) = self.started.checked_add(1) else {
+            return Err(AllocError);
+        };
+        self.peers.reserve(started - self.peers.len())?;
+        self.started = started;
+        Ok(())
+    }
+
+    /// Takes a peer back.
+    pub fn push(&mut self, peer: L)
+        requires { length self.old.peers.items < self.old.started }
+        ensures peers { self.new.peers.items ≡ self.old.peers.items ++ peer ∷ [] }
+        ensures started { self.new.started ≡ self.old.started }
+    {
+        self.peers.push_reserved(peer);
+    }
+}

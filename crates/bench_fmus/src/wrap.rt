@@ -1,0 +1,38 @@
+ghost use Rattle.std.specs.Prelude.{◌≡◌, ◌-◌, ◌^◌, pos, negsuc, ◌+ℤ◌, ◌≤ℤ◌};
+ghost use Rattle.value_types.specs.Values.{word_of};
+ghost use Rattle.bench_fmus.specs.Wrapping.{wrapped_between, wrapped, wrapped_int64};
+
+use value_types::{PortType, greatest, least, to_word};
+
+const LEAST_INT64: i128 = i64::MIN as i128;
+
+const GREATEST_INT64: i128 = i64::MAX as i128;
+
+fn wrap_between(least: i128, greatest: i128, value: i128) -> i128
+    requires low { negsuc (2 ^ 63 - 1) ≤ℤ least }
+    requires order { least ≤ℤ greatest }
+    requires high { greatest ≤ℤ pos (2 ^ 64 - 1) }
+    ensures value { result ≡ wrapped_between least greatest value }
+    ensures low { least ≤ℤ result }
+    ensures high { result ≤ℤ greatest }
+{
+    let count = greatest - least + 1;
+    let rest = value.rem_euclid(count);
+    least + (rest - least).rem_euclid(count)
+}
+
+/// The word of a number wrapped into a type.
+#[tactic(auto, using(crate::proofs::WrapLemmas::within_words))]
+pub(crate) fn wrapped_word(kind: PortType, value: i128) -> u64
+    ensures { result ≡ word_of (wrapped kind value) }
+{
+    to_word(kind, wrap_between(least(kind), greatest(kind), value))
+}
+
+/// A sum wrapped into Int64.
+pub(crate) fn wrapping_sum(a: i64, b: i128) -> i64
+    ensures { result ≡ wrapped_int64 (a +ℤ b) }
+{
+    let b = wrap_between(LEAST_INT64, GREATEST_INT64, b);
+    wrap_between(LEAST_INT64, GREATEST_INT64, i128::from(a) + b) as i64
+}
