@@ -6,7 +6,6 @@ mod instant;
 mod outputs;
 mod room;
 mod run;
-
 mod run_end;
 mod steps;
 

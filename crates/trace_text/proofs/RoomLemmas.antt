@@ -1,9 +1,5 @@
 -- Each text of a trace of a system fits into the system's room.
-<<<<<<< HEAD
-use Rattle.std.proofs.Common.{◌≡◌, ℕ, suc, ◌+◌, ◌*◌, ◌^◌, ◌<◌, ◌≤◌, ℤ, pos, negsuc, FitsSigned, List, [], ◌∷◌, length, All, sum_by, Option, Some, None, IfSome, decimal, length-append, arith}
-=======
 use Rattle.std.proofs.Common.{◌≡◌, ℕ, suc, ◌+◌, ◌*◌, ◌^◌, ◌<◌, ◌≤◌, ℤ, pos, negsuc, FitsSigned, List, [], ◌∷◌, length, sum_by, Option, Some, None, decimal, length-append, arith}
->>>>>>> b4072f80f2aaf842900b597cd37e8c84c483f074
 use Rattle.std.specs.Fmt.{signed_decimal}
 use Rattle.std.specs.Int.{w128}
 use Rattle.std.proofs.lemmas.Fmt.{length-decimal-le, length-decimal-le_wide}

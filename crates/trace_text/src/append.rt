@@ -32,19 +32,11 @@ pub(crate) fn append_value(value: i128, out: &mut [u8], at: usize) -> usize
     append(Buffer::new().format(value).as_bytes(), out, at)
 }
 
-<<<<<<< HEAD
-pub(crate) fn append_name(name: &str, out: &mut [u8], at: usize) -> usize
-=======
 pub(crate) fn append_name(name: &str, out: &mut [u8], mut at: usize) -> usize
->>>>>>> b4072f80f2aaf842900b597cd37e8c84c483f074
     requires { at + length (escaped name.now) ≤ length out.old }
     ensures end { result ≡ at + length (escaped name.now) }
     ensures text { take result out.new ≡ take at out.old ++ escaped name.now }
 {
-<<<<<<< HEAD
-    let mut at = at;
-=======
->>>>>>> b4072f80f2aaf842900b597cd37e8c84c483f074
     for byte in name.as_bytes() {
         at = append(escaped_byte(*byte).as_slice(), out, at);
     }

@@ -16,13 +16,8 @@ pub fn put_header(system: &System, resolution: u64, start: u64, stop: u64, out: 
     let components = system.components.as_slice();
     let ports = system.ports.as_slice();
     let mut at = put_first_line(resolution, start, stop, out);
-<<<<<<< HEAD
-    for (k, port) in ports.iter().enumerate() {
-        at = append_port_line(components, k, port, out, at);
-=======
     for (number, port) in ports.iter().enumerate() {
         at = append_port_line(components, number, port, out, at);
->>>>>>> b4072f80f2aaf842900b597cd37e8c84c483f074
     }
     at
 }
@@ -43,30 +38,17 @@ fn put_first_line(resolution: u64, start: u64, stop: u64, out: &mut [u8]) -> usi
 
 fn append_port_line(
     components: &[Component],
-<<<<<<< HEAD
-    k: usize,
-=======
     number: usize,
->>>>>>> b4072f80f2aaf842900b597cd37e8c84c483f074
     port: &Port,
     out: &mut [u8],
     at: usize,
 ) -> usize
-<<<<<<< HEAD
-    requires { at + length (port_line components.now k port.now) ≤ length out.old }
-    ensures end { result ≡ at + length (port_line components.now k port.now) }
-    ensures text { take result out.new ≡ take at out.old ++ port_line components.now k port.now }
-{
-    let at = append(b"port ", out, at);
-    let at = append_number(k as u64, out, at);
-=======
     requires { at + length (port_line components.now number port.now) ≤ length out.old }
     ensures end { result ≡ at + length (port_line components.now number port.now) }
     ensures text { take result out.new ≡ take at out.old ++ port_line components.now number port.now }
 {
     let at = append(b"port ", out, at);
     let at = append_number(number as u64, out, at);
->>>>>>> b4072f80f2aaf842900b597cd37e8c84c483f074
     let at = append(b" ", out, at);
     let at = append(type_name(port.kind).as_bytes(), out, at);
     let at = append(b" ", out, at);

@@ -19,15 +19,9 @@ pub fn put_instant(
     ensures text { take result out.new ≡ instant_text t n values.now }
 {
     let mut at = put_instant_line(t, n, out);
-<<<<<<< HEAD
-    for (k, value) in values.iter().enumerate() {
-        if let Some(value) = value {
-            at = append_value_line(k, *value, out, at);
-=======
     for (number, value) in values.iter().enumerate() {
         if let Some(value) = value {
             at = append_value_line(number, *value, out, at);
->>>>>>> b4072f80f2aaf842900b597cd37e8c84c483f074
         }
     }
     at
@@ -45,21 +39,12 @@ fn put_instant_line(t: u64, n: u64, out: &mut [u8]) -> usize
     append(b"\n", out, at)
 }
 
-<<<<<<< HEAD
-fn append_value_line(k: usize, value: i128, out: &mut [u8], at: usize) -> usize
-    requires { at + length (value_line k value) ≤ length out.old }
-    ensures end { result ≡ at + length (value_line k value) }
-    ensures text { take result out.new ≡ take at out.old ++ value_line k value }
-{
-    let at = append_number(k as u64, out, at);
-=======
 fn append_value_line(number: usize, value: i128, out: &mut [u8], at: usize) -> usize
     requires { at + length (value_line number value) ≤ length out.old }
     ensures end { result ≡ at + length (value_line number value) }
     ensures text { take result out.new ≡ take at out.old ++ value_line number value }
 {
     let at = append_number(number as u64, out, at);
->>>>>>> b4072f80f2aaf842900b597cd37e8c84c483f074
     let at = append(b" ", out, at);
     let at = append_value(value, out, at);
     append(b"\n", out, at)

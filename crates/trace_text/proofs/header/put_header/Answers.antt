@@ -7,19 +7,6 @@ pub append_port_line-at-requires : goal.append_port_line-at-requires
 append_port_line-at-requires c =
     let components = c.as_slice-components.result.now in
     let ports = c.as_slice-ports.result.now in
-<<<<<<< HEAD
-    let k = c.loop-k.k in
-    let port = c.index-ports-k.result in
-    room_next (port_line components k port) (port_lines_from components (k + 1) (drop (k + 1) ports)) _ _ _
-    (next_port components ports k port _ _ _ c.loop-k.invariant c.loop-k-test.true c.index-ports-k.is) (omega arith)
-
-pub loop-k-preserved : goal.loop-k-preserved
-loop-k-preserved c =
-    let components = c.as_slice-components.result.now in
-    let k = c.loop-k.k in
-    let port = c.index-ports-k.result in
-    let next = next_port components c.as_slice-ports.result.now k port _ _ _ c.loop-k.invariant c.loop-k-test.true c.index-ports-k.is in
-=======
     let k = c.loop-number.number in
     let port = c.index-ports-number.result in
     room_next (port_line components k port) (port_lines_from components (k + 1) (drop (k + 1) ports)) _ _ _
@@ -31,6 +18,5 @@ loop-number-preserved c =
     let k = c.loop-number.number in
     let port = c.index-ports-number.result in
     let next = next_port components c.as_slice-ports.result.now k port _ _ _ c.loop-number.invariant c.loop-number-test.true c.index-ports-number.is in
->>>>>>> b4072f80f2aaf842900b597cd37e8c84c483f074
     let put = c.append_port_line-at.ensures in
     stands_more (port_line components k port) _ _ _ _ _ _ next put.end put.text
