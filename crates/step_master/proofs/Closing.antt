@@ -24,11 +24,12 @@ use Rattle.fmu_peer.specs.declared.peer.PeerFault.{PeerFault}
 use Rattle.fmu_peer.specs.declared.peer.Exchange.{Exchange}
 use Rattle.fmu_peer.specs.declared.ended.Why.{Why}
 use Rattle.fmu_peer.specs.Answer.{Answered, Failed, IsLink}
-use Rattle.fmu_peer.specs.Close.{Closes, Frees, TerminatesAndFrees, is_good_answer, is_good_grade}
+use Rattle.fmu_peer.specs.Close.{Closes, Frees, TerminatesAndFrees, is_good_answer}
 use Rattle.fmu_peer.specs.Mode.{instantiate_of}
 use Rattle.fmu_peer.specs.Machine.{State, Machine, after}
 use Rattle.fmu_peer.specs.Talk as T
-use Rattle.fmu_peer.specs.View.{View, Fixed, Asked, AllGood, talked}
+use Rattle.fmu_peer.specs.View.{View, Fixed, AllGood, talked}
+use Rattle.fmu_peer.specs.View.{Asked as AskedOf}
 use Rattle.run_model.specs.declared.system.Component.{Component}
 use Rattle.run_model.specs.declared.system.System.{System}
 use Rattle.run_model.specs.declared.plan.Plan.{Plan}
@@ -61,23 +62,28 @@ good_front shape (Some es) p call result e h =
 shape_same : (u w : View) → w.fixed ≡ u.fixed → w.fixed.shape ≡ u.fixed.shape
 shape_same u w e = ap (λ (f : Fixed). f.shape) e
 
-front_by : (u w : View) (call : Call) (result : Result Reply PeerFault) → Asked u call result w → AllGood u → IfSome w.talk (HasGoodFront w.fixed.shape)
+front_by : (u w : View) (call : Call) (result : Result Reply PeerFault) → AskedOf u call result w → AllGood u → IfSome w.talk (HasGoodFront w.fixed.shape)
 front_by u w call result a good =
     subst (λ (s : Shape). IfSome w.talk (HasGoodFront s)) (sym (shape_same u w a.fixed)) (good_front u.fixed.shape u.talk w.talk call result a.talk good)
 
-grade_is_good : (shape : Shape) (call : Call) (reply : Reply) (g : Grade) → grade_of shape call reply ≡ g → is_good_grade g ≡ true → g ≡ G.Good
-grade_is_good shape call reply G.Good e h = refl
-grade_is_good shape call reply G.Refused e h = absurd (cc)
-grade_is_good shape call reply G.Misreply e h = absurd (cc)
+abbrev good_grade : Grade → Bool
+good_grade G.Good = true
+good_grade G.Refused = false
+good_grade G.Misreply = false
+
+grade_is_good : (g h : Grade) → h ≡ g → good_grade h ≡ true → h ≡ G.Good
+grade_is_good G.Good h e t = e
+grade_is_good G.Refused h e t = let k : good_grade G.Refused ≡ true = subst (λ x. good_grade x ≡ true) e t in absurd (cc)
+grade_is_good G.Misreply h e t = let k : good_grade G.Misreply ≡ true = subst (λ x. good_grade x ≡ true) e t in absurd (cc)
 
 -- good answers stay so behind a good one
-good_on : (u w : View) (call : Call) (result : Result Reply PeerFault) → Asked u call result w → is_good_answer u.fixed.shape call result ≡ true → AllGood u → AllGood w
+good_on : (u w : View) (call : Call) (result : Result Reply PeerFault) → AskedOf u call result w → is_good_answer u.fixed.shape call result ≡ true → AllGood u → AllGood w
 good_on u w call (Ok reply) a h good =
-    answered_good u w call reply a (grade_is_good u.fixed.shape call reply (grade_of u.fixed.shape call reply) refl h) good
+    answered_good u w call reply a (grade_is_good (grade_of u.fixed.shape call reply) (grade_of u.fixed.shape call reply) refl h) good
 good_on u w call (Err fault) a h good = absurd (cc)
 
-graded_badly : (shape : Shape) (call : Call) (reply : Reply) → is_good_grade (grade_of shape call reply) ≡ false → grade_of shape call reply ≡ G.Good → ⊥
-graded_badly shape call reply bad good = let b : is_good_grade G.Good ≡ false = subst (λ g. is_good_grade g ≡ false) good bad in cc
+graded_badly : (shape : Shape) (call : Call) (reply : Reply) → good_grade (grade_of shape call reply) ≡ false → grade_of shape call reply ≡ G.Good → ⊥
+graded_badly shape call reply bad good = let b : good_grade G.Good ≡ false = subst (λ g. good_grade g ≡ false) good bad in cc
 
 answered_badly : (shape : Shape) (call : Call) (result : Result Reply PeerFault) → is_good_answer shape call result ≡ false → T.IsGood shape (record { call = call; result = result }) → ⊥
 answered_badly shape call (Ok reply) bad good = graded_badly shape call reply bad good
@@ -105,9 +111,9 @@ freed shape (Some es) p q r t e f =
     subst (λ (x : Option (List Exchange)). IfSome x (T.Closed shape)) (sym whole)
     (inr (inr (inr (record { front = es ++ first ∷ []; last = last; is = refl; frees = refl; terminated = λ at. (es, first, refl, refl) }))))
 
-terminated : (u mid : View) (result : Result Reply PeerFault) → Asked u C.Terminate result mid → is_good_answer u.fixed.shape C.Terminate result ≡ true → mid.phase.state ≡ P.Terminated
+terminated : (u mid : View) (result : Result Reply PeerFault) → AskedOf u C.Terminate result mid → is_good_answer u.fixed.shape C.Terminate result ≡ true → mid.phase.state ≡ P.Terminated
 terminated u mid (Ok reply) a h =
-    let good : grade_of u.fixed.shape C.Terminate reply ≡ G.Good = grade_is_good u.fixed.shape C.Terminate reply (grade_of u.fixed.shape C.Terminate reply) refl h in
+    let good : grade_of u.fixed.shape C.Terminate reply ≡ G.Good = grade_is_good (grade_of u.fixed.shape C.Terminate reply) (grade_of u.fixed.shape C.Terminate reply) refl h in
     ap (λ (q : Phase). q.state) (a.phase ∙ ap (λ (g : Grade). graded (counted u.phase) C.Terminate reply g) good)
 terminated u mid (Err fault) a h = absurd (cc)
 
@@ -120,7 +126,7 @@ ended_badly old u w c runs bad same = record {
       (not_all_good u.fixed.shape u.talk c.mid.talk C.Terminate c.result c.terminates.talk bad) k) g;
 }
 
-ended_well : (old u w : View) (c : TerminatesAndFrees u w) → RunsWell old u → is_good_answer u.fixed.shape C.Terminate c.result ≡ true → (r : Result Reply PeerFault) → Asked c.mid C.FreeInstance r w → ClosesPeer old w
+ended_well : (old u w : View) (c : TerminatesAndFrees u w) → RunsWell old u → is_good_answer u.fixed.shape C.Terminate c.result ≡ true → (r : Result Reply PeerFault) → AskedOf c.mid C.FreeInstance r w → ClosesPeer old w
 ended_well old u w c runs good r frees =
     let low : u.faults ≤ c.mid.faults = c.terminates.cause.later in
     let high : c.mid.faults ≤ w.faults = frees.cause.later in
@@ -134,8 +140,8 @@ ended_well old u w c runs good r frees =
 ended_by : (old u w : View) (c : TerminatesAndFrees u w) → RunsWell old u → (b : Bool) → is_good_answer u.fixed.shape C.Terminate c.result ≡ b → MatchBool b (Frees c.mid w) (w ≡ c.mid) → ClosesPeer old w
 ended_by old u w c runs false e same = ended_badly old u w c runs e same
 ended_by old u w c runs true e frees =
-    let asked : (r : Result Reply PeerFault) × Asked c.mid C.FreeInstance r w =
-    subst (λ (s : PhaseState). MatchBool (can_be_freed s) ((r : Result Reply PeerFault) × Asked c.mid C.FreeInstance r w) (w ≡ c.mid)) (terminated u c.mid c.result c.terminates e) frees in
+    let asked : (r : Result Reply PeerFault) × AskedOf c.mid C.FreeInstance r w =
+    subst (λ (s : PhaseState). MatchBool (can_be_freed s) ((r : Result Reply PeerFault) × AskedOf c.mid C.FreeInstance r w) (w ≡ c.mid)) (terminated u c.mid c.result c.terminates e) frees in
     ended_well old u w c runs e asked.0 asked.1
 
 closes : (old u w : View) → RunsWell old u → Closes u.phase.state u w → ClosesPeer old w
@@ -179,9 +185,9 @@ writes_whole system plan (Bad component why) o a b head h =
     inr (h.0, h.1 ∙ ap (λ x. added x (instants_text h.0)) head ∙ added_added o (header_text system plan.resolution plan.start plan.stop) (instants_text h.0))
 writes_whole system plan WriteFault o a b head h = tt
 
-pub header_alone : (system : System) (plan : Plan) (why : Why) (o a : Option (List ℕ)) → a ≡ added o (header_text system plan.resolution plan.start plan.stop) → WritesWhole system plan (bad_end why) o a
-header_alone system plan why o a head =
-    inr ([], head ∙ ap (added o) (sym (append-nil (header_text system plan.resolution plan.start plan.stop))))
+-- nothing is put behind the header
+pub writes_none : (plan : Plan) (why : Why) (o a : Option (List ℕ)) → a ≡ o → Writes plan (bad_end why) o a
+writes_none plan why o a e = ([], e ∙ sym (added_nil o))
 
 pub completes_whole : (system : System) (plan : Plan) (m : Machine) (e : RunEnd) (o a b : Option (List ℕ)) → a ≡ added o (header_text system plan.resolution plan.start plan.stop) →
     Completes (run_of system plan m) e a b → CompletesWhole (run_of system plan m) e o b

@@ -1,8 +1,12 @@
-ghost use Rattle.std.specs.Prelude.{◌≡◌, ◌≤◌, IfOk, IfErr, false};
+ghost use Rattle.std.specs.Prelude.{◌≡◌, ◌≤◌, IfOk, IfErr, OnOk, OnErr, false, length};
+ghost use Rattle.sim_base.specs.Causes.{HasCause};
+ghost use Rattle.sim_base.specs.Told.{added, AddsPart};
 ghost use Rattle.fmi_calls.specs.Next.{fresh};
 ghost use Rattle.fmi_calls.specs.declared.phase.State.TheVariants as P;
 ghost use Rattle.fmu_peer.specs.Machine.{Machine};
 ghost use Rattle.run_model.specs.Behaved.{WellBehaved};
+ghost use Rattle.run_model.specs.Text.{header_text};
+ghost use Rattle.trace_text.specs.Room.{HoldsEach};
 ghost use Rattle.step_master.specs.Alone.{IsPlan, IsAlone};
 ghost use Rattle.step_master.specs.Room.{HasRoom};
 ghost use Rattle.step_master.specs.Follow.{Tells, IsAt, Broke};
@@ -15,7 +19,7 @@ use crate::steps::steps;
 use crate::{Room, RunEnd};
 use fmu_peer::{Ended, Fmu, Instantiated, Peer, Running, Stepping};
 use run_model::{Plan, System};
-use sim_base::{CompId, Sink};
+use sim_base::{CompId, Sink, SinkFault};
 use trace_text::put_header;
 
 /// A peer after its run, and how the run ended. It can't be let go.
@@ -68,19 +72,50 @@ fn run_instance<L: Peer, O: Sink>(
     ensures trace { (m : Machine) → IsInstantiatedAs (run_of system.now plan.now m) m (L.view fmu.peer) → WellBehaved (run_of system.now plan.now m) →
         CompletesWhole (run_of system.now plan.now m) result.end (O.content out.old) (O.content out.new) }
 {
-    let length = put_header(
-        system,
-        plan.resolution,
-        plan.start,
-        plan.stop,
-        &mut room.text,
-    );
-    if out.put(&room.text[..length]).is_err() {
-        return Finished {
+    match put_head(system, plan, &mut room.text, out) {
+        Ok(()) => run_headed(fmu, system, plan, room, out),
+        Err(_) => Finished {
             peer: fmu.close(true),
             end: RunEnd::WriteFault,
-        };
+        },
     }
+}
+
+// Puts the header.
+fn put_head<O: Sink>(
+    system: &System,
+    plan: &Plan,
+    text: &mut [u8],
+    out: &mut O,
+) -> Result<(), SinkFault>
+    requires { HoldsEach system.now (length text.old) }
+    ensures ok { OnOk result (O.content out.new ≡ added (O.content out.old) (header_text system.now plan.now.resolution plan.now.start plan.now.stop)) }
+    ensures err { OnErr result (AddsPart (O.content out.old) (O.content out.new) (header_text system.now plan.now.resolution plan.now.start plan.now.stop)) }
+    ensures cause { HasCause (O.faults out.old) (O.faults out.new) result }
+{
+    let length = put_header(system, plan.resolution, plan.start, plan.stop, text);
+    out.put(&text[..length])
+}
+
+// Behind the header: Initialization Mode, and the points.
+fn run_headed<L: Peer, O: Sink>(
+    fmu: Fmu<L, Instantiated>,
+    system: &System,
+    plan: &Plan,
+    room: &mut Room,
+    out: &mut O,
+) -> Finished<L>
+    requires state { (L.view fmu.peer).phase.state ≡ P.Instantiated }
+    requires alone { IsAlone (L.view fmu.peer).fixed.shape system.now }
+    requires plan { IsPlan plan.now }
+    requires room { HasRoom system.now room.old }
+    ensures fixed { (L.view result.peer).fixed ≡ (L.view fmu.peer).fixed }
+    ensures peer { EndsPeer (L.view fmu.peer) result.end (L.view result.peer) }
+    ensures told { TellsWrite result.end (O.faults out.old) (O.faults out.new) }
+    ensures writes { Writes plan.now result.end (O.content out.old) (O.content out.new) }
+    ensures trace { (m : Machine) → IsInstantiatedAs (run_of system.now plan.now m) m (L.view fmu.peer) → WellBehaved (run_of system.now plan.now m) →
+        Completes (run_of system.now plan.now m) result.end (O.content out.old) (O.content out.new) }
+{
     match initialize(fmu, plan) {
         Ok(fmu) => run_stepping(fmu, system, plan, room, out),
         Err(ended) => give_up(ended),
@@ -88,10 +123,7 @@ fn run_instance<L: Peer, O: Sink>(
 }
 
 // Through Initialization Mode into Step Mode.
-fn initialize<L: Peer>(
-    fmu: Fmu<L, Instantiated>,
-    plan: &Plan,
-) -> Result<Fmu<L, Stepping>, Ended<L>>
+fn initialize<L: Peer>(fmu: Fmu<L, Instantiated>, plan: &Plan) -> Result<Fmu<L, Stepping>, Ended<L>>
     requires state { (L.view fmu.peer).phase.state ≡ P.Instantiated }
     requires no_event { (L.view fmu.peer).fixed.shape.has_event_mode ≡ false }
     requires plan { plan.now.start ≤ plan.now.stop }

@@ -95,20 +95,20 @@ points-preserved g c =
     let before : c.points.t < c.args.plan.now.stop = let within : c.points.t ≤ c.args.plan.now.stop = c.points.invariant.within in omega arith in
     record {
       well = well_after c.args.system.now c.args.plan.now (g.L.Peer.view c.args.fmu.now.peer) (g.L.Peer.view c.points.fmu.peer) c.requires.alone c.requires.plan c.points.t (g.O.Sink.content c.args.out.now) (g.O.Sink.content c.points.out)
-    c.points.invariant.so_far c.points.invariant.well c.points.invariant.at c.points.invariant.begun c.points.invariant.within
-    (g.L.Peer.view c.show_instant.new.fmu.peer) (g.O.Sink.content c.show_instant.new.out) c.in_default.ensures.ok
-    (g.L.Peer.view c.do_step.new.self.peer) c.next_bound-bound.result c.in-Ok.reply before c.next_bound-bound.ensures c.in-Ok.ensures.ok;
+          c.points.invariant.so_far c.points.invariant.well c.points.invariant.at c.points.invariant.begun c.points.invariant.within
+          (g.L.Peer.view c.show_instant.new.fmu.peer) (g.O.Sink.content c.show_instant.new.out) c.in_default.ensures.ok
+          (g.L.Peer.view c.do_step.new.self.peer) c.next_bound-bound.result c.in-Ok.reply before c.next_bound-bound.ensures c.in-Ok.ensures.ok;
       at = place_after c.args.system.now c.args.plan.now (g.L.Peer.view c.args.fmu.now.peer) (g.L.Peer.view c.points.fmu.peer) c.requires.alone c.requires.plan c.points.t (g.O.Sink.content c.args.out.now) (g.O.Sink.content c.points.out)
-    c.points.invariant.so_far c.points.invariant.well c.points.invariant.at c.points.invariant.begun c.points.invariant.within
-    (g.L.Peer.view c.show_instant.new.fmu.peer) (g.O.Sink.content c.show_instant.new.out) c.in_default.ensures.ok
-    (g.L.Peer.view c.do_step.new.self.peer) c.next_bound-bound.result c.in-Ok.reply before c.next_bound-bound.ensures c.in-Ok.ensures.ok;
+          c.points.invariant.so_far c.points.invariant.well c.points.invariant.at c.points.invariant.begun c.points.invariant.within
+          (g.L.Peer.view c.show_instant.new.fmu.peer) (g.O.Sink.content c.show_instant.new.out) c.in_default.ensures.ok
+          (g.L.Peer.view c.do_step.new.self.peer) c.next_bound-bound.result c.in-Ok.reply before c.next_bound-bound.ensures c.in-Ok.ensures.ok;
       begun = (let later : c.points.t < c.next_bound-bound.result = c.next_bound-bound.ensures.later in let begun : c.args.plan.now.start ≤ c.points.t = c.points.invariant.begun in omega arith);
       within = c.next_bound-bound.ensures.least c.args.plan.now.stop before (inr refl);
       places = search rules;
       room = search rules;
       quiet = search rules;
       so_far = so_far_after c.args.system.now c.args.plan.now (g.L.Peer.view c.args.fmu.now.peer) (g.L.Peer.view c.points.fmu.peer) c.requires.alone c.requires.plan c.points.t (g.O.Sink.content c.args.out.now) (g.O.Sink.content c.points.out)
-    c.points.invariant.so_far c.points.invariant.well c.points.invariant.at c.points.invariant.begun c.points.invariant.within
-    (g.L.Peer.view c.show_instant.new.fmu.peer) (g.O.Sink.content c.show_instant.new.out) c.in_default.ensures.ok
-    (g.L.Peer.view c.do_step.new.self.peer) c.next_bound-bound.result c.in-Ok.reply before c.next_bound-bound.ensures c.in-Ok.ensures.ok (sym c.is_terminating.ensures ∙ c.if-is_terminating.false);
+          c.points.invariant.so_far c.points.invariant.well c.points.invariant.at c.points.invariant.begun c.points.invariant.within
+          (g.L.Peer.view c.show_instant.new.fmu.peer) (g.O.Sink.content c.show_instant.new.out) c.in_default.ensures.ok
+          (g.L.Peer.view c.do_step.new.self.peer) c.next_bound-bound.result c.in-Ok.reply before c.next_bound-bound.ensures c.in-Ok.ensures.ok (sym c.is_terminating.ensures ∙ c.if-is_terminating.false);
     }
