@@ -10,7 +10,7 @@ use Rattle.value_types.specs.declared.shape.Shape.{Shape}
 -- canHandleMultipleSetPerTimeInstant is true where it is left out
 abbrev pub int32_variable : List ℕ → ℕ → Causality → Option ℤ → Variable
 int32_variable name reference causality start =
-    record { name = name; aliases = []; reference = reference; kind = Some Int32; causality = causality; start = start; can_be_set_again = true }
+    record { name = name; aliases = []; reference = reference; kind = Some Int32; causality = causality; clocks = []; start = start; can_be_set_again = true }
 
 -- an output that depends on nothing
 abbrev pub independent_output : ℕ → Dependency
@@ -28,6 +28,7 @@ counter_shape resolution start = record {
   can_save_state = true;
   can_serialize_state = false;
   variables = int32_variable (codes "inc") 1 Parameter (Some start) ∷ int32_variable (codes "y") 2 Output None ∷ [];
+  clocks = [];
   dependencies = independent_output 2 ∷ [];
   initial_dependencies = independent_output 2 ∷ [];
 }

@@ -21,6 +21,7 @@ pub fn make_shape(alloc: Global, resolution: u64, start: i128) -> Result<Shape, 
         can_save_state: true,
         can_serialize_state: false,
         variables: Items::from_vec(vec![in alloc; inc, y]?),
+        clocks: Items::from_vec(Vec::new(alloc)),
         dependencies: Items::from_vec(vec![in alloc; independent(alloc, 2)]?),
         initial_dependencies: Items::from_vec(vec![in alloc; independent(alloc, 2)]?),
     })
@@ -41,6 +42,7 @@ fn variable(
         reference,
         kind: Some(PortType::Int32),
         causality,
+        clocks: Items::from_vec(Vec::new(alloc)),
         start,
         can_be_set_again: true,
     })

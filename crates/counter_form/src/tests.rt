@@ -88,7 +88,9 @@ fn the_shape_is_the_counters(rt: HostRuntime) -> Result<(), Fail> {
         assert_eq!(rt; variable.causality, *causality);
         assert_eq!(rt; variable.start, *start);
         assert!(rt; variable.can_be_set_again && variable.aliases.len() == 0);
+        assert_eq!(rt; variable.clocks.len(), 0);
     }
+    assert_eq!(rt; shape.clocks.len(), 0);
     for list in [&shape.dependencies, &shape.initial_dependencies] {
         assert_eq!(rt; list.len(), 1);
         for dependency in list.as_slice() {
