@@ -1,5 +1,5 @@
 -- The digits of a text as they are read: without the zeros at their end, and cut off far above the limits.
-use Rattle.std.proofs.Common.{◌≡◌, ◌≢◌, ℕ, ◌+◌, ◌-◌, ◌*◌, ◌%◌, ◌^◌, ◌<◌, ◌≤◌, min, List, ◌++◌, length, take, ap, ◌∙◌, arith}
+use Rattle.std.proofs.Common.{◌≡◌, ◌≢◌, ℕ, ◌+◌, ◌-◌, ◌*◌, ◌%◌, ◌^◌, ◌<◌, min, List, ◌++◌, length, take, ap, ◌∙◌, arith}
 use Rattle.std.specs.Str.Parse.{digits_value, digits_value_after}
 use Rattle.clock_fraction.proofs.DigitLemmas.{min-digits_value_after}
 use Rattle.clock_fraction.proofs.CutLemmas.{IsRead}

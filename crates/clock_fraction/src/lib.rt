@@ -5,6 +5,8 @@ mod decimal;
 mod digits;
 mod fraction;
 mod shortest;
+#[cfg(test)]
+mod tests;
 mod ticks;
 
 pub use decimal::from_decimal;

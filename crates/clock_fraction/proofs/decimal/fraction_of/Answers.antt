@@ -1,4 +1,4 @@
-use Rattle.std.proofs.Common.{◌≡◌, ℕ, ◌^◌, length, ap, arith}
+use Rattle.std.proofs.Common.{arith}
 use Rattle.clock_fraction.proofs.DigitLemmas.{AllDigits-take}
 use Rattle.clock_fraction.proofs.CutLemmas.{cut_lasts, minus_found, minus_to_read, plus_found, plus_to_read}
 use Rattle.clock_fraction.proofs.ReadLemmas.{is_read}

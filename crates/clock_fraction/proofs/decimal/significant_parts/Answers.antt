@@ -1,4 +1,4 @@
-use Rattle.std.proofs.Common.{◌≡◌, ◌<◌, ℕ, ap, arith}
+use Rattle.std.proofs.Common.{◌<◌, arith}
 use Rattle.clock_fraction.proofs.DigitLemmas.{zeros_of_both, zeros_of_places, last-of_front, last-nonzero}
 use Rattle.clock_fraction.proofs.decimal.significant_parts.Goals as goal
 

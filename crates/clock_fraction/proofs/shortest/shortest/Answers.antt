@@ -1,4 +1,4 @@
-use Rattle.std.proofs.Common.{◌≡◌, ◌≢◌, ◌*◌, ◌%◌, ◌^◌, ◌-◌, Some, None, ap, sym, ◌∙◌, refl, arith}
+use Rattle.std.proofs.Common.{◌*◌, ◌^◌, ◌-◌, Some, ap, ◌∙◌, arith}
 use Rattle.clock_fraction.proofs.ShortestLemmas.{zero_only, shortest_parts, shortest_is, shortest_only, bounded}
 use Rattle.clock_fraction.proofs.shortest.shortest.Goals as goal
 use Rattle.clock_fraction.proofs.shortest.shortest.Goals.{then-number-gt-MOST_COUNTER-via-then-number-gt-MOST_COUNTER, then-number-gt-MOST_COUNTER-via-else-number-gt-MOST_COUNTER+then-raise-gt-MOST_PLACES, then-number-gt-MOST_COUNTER-via-else-number-gt-MOST_COUNTER+else-raise-gt-MOST_PLACES+then-places-gt-MOST_PLACES}
