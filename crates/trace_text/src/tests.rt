@@ -122,6 +122,7 @@ fn empty_shape(alloc: Global) -> Result<Shape, AllocError> {
         can_save_state: false,
         can_serialize_state: false,
         variables: Items::from_vec(Vec::new(alloc)),
+        clocks: Items::from_vec(Vec::new(alloc)),
         dependencies: Items::from_vec(Vec::new(alloc)),
         initial_dependencies: Items::from_vec(Vec::new(alloc)),
     })
