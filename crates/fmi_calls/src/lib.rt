@@ -3,6 +3,8 @@
 
 mod call;
 mod phase;
+#[cfg(test)]
+mod tests;
 mod worth;
 
 pub use call::{BadStatus, Call, Content, Grade, Kind, Reply, Status};

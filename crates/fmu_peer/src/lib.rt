@@ -8,6 +8,8 @@ mod peer;
 mod spawner;
 mod talk_book;
 mod talk_room;
+#[cfg(test)]
+mod tests;
 
 pub use ended::{Ended, Why};
 pub use fmu::{Fmu, Running};

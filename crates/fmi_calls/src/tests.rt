@@ -1,0 +1,460 @@
+use crate::{
+    BadStatus, Call, Content, Grade, Kind, Phase, Reply, State, Status, grade, next_phase,
+    permitted, valid,
+};
+use sim_base::{Items, Text};
+use std::alloc::{AllocError, Global};
+use std::process::Abort;
+use std::test::Fail;
+use value_types::{Causality, PortType, Shape, Variable};
+
+const INSTANTIATE: Call = Call::Instantiate {
+    event_mode: false,
+    early_return: true,
+};
+
+const ENTER: Call = Call::EnterInitialization {
+    start: 10,
+    stop: 100,
+};
+
+const EXIT: Call = Call::ExitInitialization;
+
+const STEP: Call = Call::DoStep { at: 10, size: 30 };
+
+const GET: Call = Call::Get {
+    kind: PortType::Int32,
+    reference: 2,
+};
+
+const TERMINATE: Call = Call::Terminate;
+
+const FREE: Call = Call::FreeInstance;
+
+// Steps behind the first: one like it, from where it ended or ended early, a shorter one, and one past the stop.
+const SECOND: Call = Call::DoStep { at: 40, size: 30 };
+
+const BEHIND_EARLY: Call = Call::DoStep { at: 25, size: 30 };
+
+const SHORTER: Call = Call::DoStep { at: 40, size: 20 };
+
+const LONG: Call = Call::DoStep { at: 10, size: 91 };
+
+// Others that no phase permits: another flag, a stop before the start, no size, an input, another type.
+const NEVER: [Call; 5] = [
+    Call::Instantiate {
+        event_mode: true,
+        early_return: true,
+    },
+    Call::EnterInitialization {
+        start: 11,
+        stop: 10,
+    },
+    Call::DoStep { at: 10, size: 0 },
+    Call::Get {
+        kind: PortType::Int32,
+        reference: 1,
+    },
+    Call::Get {
+        kind: PortType::Int64,
+        reference: 2,
+    },
+];
+
+const PROBES: [Call; 11] = [
+    INSTANTIATE,
+    ENTER,
+    EXIT,
+    STEP,
+    GET,
+    TERMINATE,
+    FREE,
+    SECOND,
+    BEHIND_EARLY,
+    SHORTER,
+    LONG,
+];
+
+macro_rules! done {
+    ($content:expr) => {
+        Some(Reply::Done {
+            is_warning: false,
+            content: $content,
+        })
+    };
+}
+
+macro_rules! ended {
+    ($early:expr, $end:expr) => {
+        done!(Content::DoStep {
+            event_needed: false,
+            terminate: false,
+            early: $early,
+            end: $end,
+        })
+    };
+}
+
+macro_rules! refused {
+    ($kind:expr, $status:expr) => {
+        Some(Reply::Refused {
+            kind: $kind,
+            status: $status,
+        })
+    };
+}
+
+const STARTED: (Call, Option<Reply>) = (INSTANTIATE, done!(Content::Instantiate));
+
+const ENTERED: (Call, Option<Reply>) = (ENTER, done!(Content::EnterInitialization));
+
+const EXITED: (Call, Option<Reply>) = (EXIT, done!(Content::ExitInitialization));
+
+const STEPPED: (Call, Option<Reply>) = (STEP, ended!(false, 40));
+
+const TERMINATED: (Call, Option<Reply>) = (TERMINATE, done!(Content::Terminate));
+
+// Calls with their replies, or none at a fault, then state and point, and what is permitted.
+type Row = (
+    &'static [(Call, Option<Reply>)],
+    State,
+    u64,
+    &'static [Call],
+);
+
+const PATHS: [Row; 19] = [
+    (&[], State::Fresh, 0, &[INSTANTIATE]),
+    (&[STARTED], State::Instantiated, 0, &[ENTER, FREE]),
+    (
+        &[(INSTANTIATE, refused!(Kind::Instantiate, BadStatus::Error))],
+        State::Gone,
+        0,
+        &[],
+    ),
+    (
+        &[(INSTANTIATE, refused!(Kind::Instantiate, BadStatus::Fatal))],
+        State::Lost,
+        0,
+        &[],
+    ),
+    (
+        &[STARTED, ENTERED],
+        State::Initialization,
+        10,
+        &[EXIT, GET, FREE],
+    ),
+    (
+        &[
+            STARTED,
+            (ENTER, refused!(Kind::EnterInitialization, BadStatus::Error)),
+        ],
+        State::Dead,
+        0,
+        &[FREE],
+    ),
+    (
+        &[STARTED, ENTERED, (GET, done!(Content::Get { word: 7 }))],
+        State::Initialization,
+        10,
+        &[EXIT, GET, FREE],
+    ),
+    (
+        &[
+            STARTED,
+            ENTERED,
+            (GET, refused!(Kind::Get, BadStatus::Discard)),
+        ],
+        State::Initialization,
+        10,
+        &[EXIT, GET, FREE],
+    ),
+    (
+        &[STARTED, ENTERED, EXITED],
+        State::Step,
+        10,
+        &[STEP, GET, TERMINATE, FREE],
+    ),
+    (
+        &[STARTED, ENTERED, EXITED, STEPPED],
+        State::Step,
+        40,
+        &[SECOND, GET, TERMINATE, FREE],
+    ),
+    (
+        &[STARTED, ENTERED, EXITED, (STEP, ended!(true, 25))],
+        State::Step,
+        25,
+        &[BEHIND_EARLY, GET, TERMINATE, FREE],
+    ),
+    (
+        &[
+            STARTED,
+            ENTERED,
+            EXITED,
+            (STEP, refused!(Kind::DoStep, BadStatus::Discard)),
+        ],
+        State::Step,
+        10,
+        &[STEP, GET, TERMINATE, FREE],
+    ),
+    (
+        &[
+            STARTED,
+            ENTERED,
+            EXITED,
+            (STEP, refused!(Kind::DoStep, BadStatus::Fatal)),
+        ],
+        State::Lost,
+        10,
+        &[],
+    ),
+    (
+        &[STARTED, ENTERED, EXITED, (STEP, None)],
+        State::Lost,
+        10,
+        &[],
+    ),
+    (
+        &[STARTED, ENTERED, EXITED, (STEP, ended!(false, 41))],
+        State::Dead,
+        10,
+        &[FREE],
+    ),
+    (
+        &[STARTED, ENTERED, EXITED, STEPPED, TERMINATED],
+        State::Terminated,
+        40,
+        &[FREE],
+    ),
+    (
+        &[
+            STARTED,
+            ENTERED,
+            EXITED,
+            STEPPED,
+            TERMINATED,
+            (FREE, done!(Content::FreeInstance)),
+        ],
+        State::Gone,
+        40,
+        &[],
+    ),
+    (
+        &[
+            STARTED,
+            ENTERED,
+            (FREE, refused!(Kind::FreeInstance, BadStatus::Error)),
+        ],
+        State::Gone,
+        10,
+        &[],
+    ),
+    (
+        &[STARTED, (FREE, done!(Content::Terminate))],
+        State::Gone,
+        0,
+        &[],
+    ),
+];
+
+// Whether a step from 10 to 40 may end early, its early flag and end, and what that is worth.
+const STEP_ENDS: [(bool, bool, u64, Grade); 8] = [
+    (true, false, 40, Grade::Good),
+    (true, true, 39, Grade::Good),
+    (true, true, 11, Grade::Good),
+    (true, true, 40, Grade::Misreply),
+    (true, false, 39, Grade::Misreply),
+    (true, true, 10, Grade::Misreply),
+    (true, false, 41, Grade::Misreply),
+    (false, true, 39, Grade::Misreply),
+];
+
+const WORDS: [(PortType, u64, Grade); 7] = [
+    (PortType::Int8, 127, Grade::Good),
+    (PortType::Int8, 128, Grade::Misreply),
+    (PortType::Int8, 18_446_744_073_709_551_488, Grade::Good),
+    (PortType::UInt8, 256, Grade::Misreply),
+    (PortType::UInt64, 18_446_744_073_709_551_615, Grade::Good),
+    (PortType::Boolean, 1, Grade::Good),
+    (PortType::Boolean, 2, Grade::Misreply),
+];
+
+const STATUSES: [(BadStatus, Status); 3] = [
+    (BadStatus::Discard, Status::Discard),
+    (BadStatus::Error, Status::Error),
+    (BadStatus::Fatal, Status::Fatal),
+];
+
+const KINDS: [(Call, Content, Kind); 7] = [
+    (INSTANTIATE, Content::Instantiate, Kind::Instantiate),
+    (
+        ENTER,
+        Content::EnterInitialization,
+        Kind::EnterInitialization,
+    ),
+    (EXIT, Content::ExitInitialization, Kind::ExitInitialization),
+    (
+        STEP,
+        Content::DoStep {
+            event_needed: true,
+            terminate: false,
+            early: false,
+            end: 40,
+        },
+        Kind::DoStep,
+    ),
+    (GET, Content::Get { word: 0 }, Kind::Get),
+    (TERMINATE, Content::Terminate, Kind::Terminate),
+    (FREE, Content::FreeInstance, Kind::FreeInstance),
+];
+
+fn variable(alloc: Global, reference: u32, causality: Causality) -> Result<Variable, AllocError> {
+    Ok(Variable {
+        name: Text::from_str(alloc, "v")?,
+        aliases: Items::from_vec(Vec::new(alloc)),
+        reference,
+        kind: Some(PortType::Int32),
+        causality,
+        clocks: Items::from_vec(Vec::new(alloc)),
+        start: None,
+        can_be_set_again: true,
+    })
+}
+
+// An FMU without event mode and without variable steps.
+fn shape_of(alloc: Global, might_return_early: bool) -> Result<Shape, AllocError> {
+    let variables = vec![in alloc;
+        variable(alloc, 1, Causality::Input)?,
+        variable(alloc, 2, Causality::Output)?,
+    ]?;
+    Ok(Shape {
+        identifier: Text::from_str(alloc, "model")?,
+        token: Text::from_str(alloc, "{1}")?,
+        resolution: 1000,
+        has_event_mode: false,
+        might_return_early,
+        has_variable_steps: false,
+        can_save_state: false,
+        can_serialize_state: false,
+        variables: Items::from_vec(variables),
+        clocks: Items::from_vec(Vec::new(alloc)),
+        dependencies: Items::from_vec(Vec::new(alloc)),
+        initial_dependencies: Items::from_vec(Vec::new(alloc)),
+    })
+}
+
+fn follow(rt: &impl Abort, shape: &Shape, path: &[(Call, Option<Reply>)]) -> Phase {
+    let mut phase = Phase::fresh();
+    for (call, reply) in path {
+        assert!(rt; permitted(shape, &phase, call), "{call:?} in {phase:?}");
+        next_phase(shape, &mut phase, call, reply.as_ref());
+    }
+    phase
+}
+
+#[test]
+fn phases_are_those_of_the_state_machine(rt: HostRuntime) -> Result<(), Fail> {
+    let shape = shape_of(rt.alloc(), true)?;
+    for (path, state, point, permits) in &PATHS {
+        let phase = follow(&rt, &shape, path);
+        assert_eq!(rt; phase.state, *state, "behind {path:?}");
+        assert_eq!(rt; phase.point, *point, "behind {path:?}");
+        assert_eq!(rt; phase.exchanges, path.len() as u64);
+        assert_eq!(rt; state.can_be_freed(), permits.contains(&FREE));
+        for call in &PROBES {
+            assert_eq!(rt;
+                permitted(&shape, &phase, call),
+                permits.contains(call),
+                "{call:?} in {state:?} at {point}"
+            );
+        }
+        for call in &NEVER {
+            assert!(rt; !permitted(&shape, &phase, call), "{call:?}");
+        }
+    }
+    Ok(())
+}
+
+#[test]
+fn a_step_ends_within_its_bounds(rt: HostRuntime) -> Result<(), Fail> {
+    for (allowed, early, end, expected) in STEP_ENDS {
+        let shape = shape_of(rt.alloc(), allowed)?;
+        let content = Content::DoStep {
+            event_needed: false,
+            terminate: false,
+            early,
+            end,
+        };
+        let reply = Reply::Done {
+            is_warning: true,
+            content,
+        };
+        let worth = grade(&shape, &Phase::fresh(), &STEP, &reply);
+        assert_eq!(rt; worth, expected, "early {early} at {end}");
+        let is_valid = valid(&shape, &Phase::fresh(), &STEP, &content);
+        assert_eq!(rt; is_valid, expected == Grade::Good);
+    }
+    Ok(())
+}
+
+#[test]
+fn a_word_is_in_the_range_of_its_type(rt: HostRuntime) -> Result<(), Fail> {
+    let shape = shape_of(rt.alloc(), false)?;
+    for (kind, word, expected) in WORDS {
+        let call = Call::Get { kind, reference: 2 };
+        let reply = Reply::Done {
+            is_warning: false,
+            content: Content::Get { word },
+        };
+        let worth = grade(&shape, &Phase::fresh(), &call, &reply);
+        assert_eq!(rt; worth, expected, "{word} of {kind:?}");
+    }
+    Ok(())
+}
+
+#[test]
+fn a_reply_is_of_the_kind_of_its_call(rt: HostRuntime) -> Result<(), Fail> {
+    let shape = shape_of(rt.alloc(), true)?;
+    let phase = Phase::fresh();
+    for (call, content, kind) in KINDS {
+        assert_eq!(rt; (call.kind(), content.kind()), (kind, kind));
+        for is_warning in [false, true] {
+            let reply = Reply::Done {
+                is_warning,
+                content,
+            };
+            let status = if is_warning {
+                Status::Warning
+            } else {
+                Status::Ok
+            };
+            assert_eq!(rt; (reply.kind(), reply.status()), (kind, status));
+            for (other, _, other_kind) in KINDS {
+                let is_good = grade(&shape, &phase, &other, &reply) == Grade::Good;
+                assert_eq!(rt; is_good, kind == other_kind, "{reply:?} to {other:?}");
+            }
+        }
+    }
+    Ok(())
+}
+
+#[test]
+fn a_refusal_is_of_the_kind_of_its_call(rt: HostRuntime) -> Result<(), Fail> {
+    let shape = shape_of(rt.alloc(), true)?;
+    for (bad, status) in STATUSES {
+        assert_eq!(rt; Status::from_bad(bad), status);
+        for (_, _, kind) in KINDS {
+            let reply = Reply::Refused { kind, status: bad };
+            assert_eq!(rt; (reply.kind(), reply.status()), (kind, status));
+            assert_eq!(rt; reply.bad_status(), bad);
+            let expected = if kind == Kind::DoStep {
+                Grade::Refused
+            } else {
+                Grade::Misreply
+            };
+            let worth = grade(&shape, &Phase::fresh(), &STEP, &reply);
+            assert_eq!(rt; worth, expected, "{reply:?}");
+        }
+    }
+    Ok(())
+}
