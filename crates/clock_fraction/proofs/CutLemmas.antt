@@ -8,25 +8,25 @@ use Rattle.clock_fraction.proofs.ShortestLemmas.{bounded, zero_only}
 
 -- ---- zeros at the end of a number
 
-zeros_raise : (number front zeros up j : ℕ) → number ≡ front * 10 ^ zeros → number * 10 ^ (up + j) ≡ front * 10 ^ (zeros + up + j)
-zeros_raise number front zeros up j is_number =
-    let sum : zeros + up + j ≡ zeros + (up + j) = omega arith in
-    let tens : 10 ^ (zeros + up + j) ≡ 10 ^ zeros * 10 ^ (up + j) = ap (λ i. 10 ^ i) sum ∙ pow-add 10 zeros (up + j) in
+zeros_raise : (number front tail up j : ℕ) → number ≡ front * 10 ^ tail → number * 10 ^ (up + j) ≡ front * 10 ^ (tail + up + j)
+zeros_raise number front tail up j is_number =
+    let sum : tail + up + j ≡ tail + (up + j) = omega arith in
+    let tens : 10 ^ (tail + up + j) ≡ 10 ^ tail * 10 ^ (up + j) = ap (λ i. 10 ^ i) sum ∙ pow-add 10 tail (up + j) in
     ap (λ x. x * 10 ^ (up + j)) is_number ∙ sym (ap (λ x. front * x) tens ∙ omega arith)
 
-shortest_to_front : (number front zeros up down k : ℕ) (fraction : Fraction) → number ≡ front * 10 ^ zeros → IsShortest number up down k fraction → IsShortest front (zeros + up) down k fraction
-shortest_to_front number front zeros up down k fraction is_number is = record {
-  value = is.value ∙ zeros_raise number front zeros up k is_number;
-  least = λ n j same. is.least n j (same ∙ sym (zeros_raise number front zeros up j is_number));
+shortest_to_front : (number front tail up down k : ℕ) (fraction : Fraction) → number ≡ front * 10 ^ tail → IsShortest number up down k fraction → IsShortest front (tail + up) down k fraction
+shortest_to_front number front tail up down k fraction is_number is = record {
+  value = is.value ∙ zeros_raise number front tail up k is_number;
+  least = λ n j same. is.least n j (same ∙ sym (zeros_raise number front tail up j is_number));
   resolution = is.resolution;
   few_places = is.few_places;
   small = is.small;
 }
 
-shortest_from_front : (number front zeros up down k : ℕ) (fraction : Fraction) → number ≡ front * 10 ^ zeros → IsShortest front (zeros + up) down k fraction → IsShortest number up down k fraction
-shortest_from_front number front zeros up down k fraction is_number is = record {
-  value = is.value ∙ sym (zeros_raise number front zeros up k is_number);
-  least = λ n j same. is.least n j (same ∙ zeros_raise number front zeros up j is_number);
+shortest_from_front : (number front tail up down k : ℕ) (fraction : Fraction) → number ≡ front * 10 ^ tail → IsShortest front (tail + up) down k fraction → IsShortest number up down k fraction
+shortest_from_front number front tail up down k fraction is_number is = record {
+  value = is.value ∙ sym (zeros_raise number front tail up k is_number);
+  least = λ n j same. is.least n j (same ∙ zeros_raise number front tail up j is_number);
   resolution = is.resolution;
   few_places = is.few_places;
   small = is.small;
@@ -34,7 +34,7 @@ shortest_from_front number front zeros up down k fraction is_number is = record 
 
 -- ---- numbers past the limits
 
--- no digit but the last zeros is `0`
+-- the number is 0, or its last digit is not `0`
 abbrev pub HasNoZeros : ℕ → Type 0
 HasNoZeros number = number ≢ 0 → number % 10 ≢ 0
 
@@ -72,7 +72,7 @@ turned number up down number' up' down' agree =
     elim agree [ inl same ↦ inl (sym same.0, sym same.1, sym same.2) | inr past ↦ inr (past.1, past.0) ]
 
 same_shortest : (number up down number' up' down' k : ℕ) (fraction : Fraction) → HasNoZeros number → (number ≡ 0 → number' ≡ 0) → Agree number up down number' up' down' → IsShortest number up down k fraction → IsShortest number' up' down' k fraction
-same_shortest number up down number' up' down' k fraction lasts zeros agree is =
+same_shortest number up down number' up' down' k fraction lasts nothing_too agree is =
     elim (cases_lt 0 number) [
       | inl some ↦ elim agree [
         | inl same ↦
@@ -86,16 +86,16 @@ same_shortest number up down number' up' down' k fraction lasts zeros agree is =
           let nothing : number ≡ 0 = omega arith in
           let P : ℕ → Type 0 = λ x. IsShortest x up down k fraction in
           let Q : ℕ → Type 0 = λ x. IsShortest x up' down' k fraction in
-          subst Q (sym (zeros nothing)) (zero_anywhere up down up' down' k fraction (subst P nothing is))
+          subst Q (sym (nothing_too nothing)) (zero_anywhere up down up' down' k fraction (subst P nothing is))
     ]
 
 -- ---- the number of a text as it is read
 
 -- a number with zeros at its end, its places and its power, and the front and the power as they are read
-pub record IsRead (number front zeros places power front' power' : ℕ) : Type 0 where
-  pub number_is : number ≡ front * 10 ^ zeros
+pub record IsRead (number front tail places power front' power' : ℕ) : Type 0 where
+  pub number_is : number ≡ front * 10 ^ tail
   pub lasts : HasNoZeros front
-  pub few_zeros : zeros < 2 ^ 65
+  pub few_zeros : tail < 2 ^ 65
   pub few_places : places < 2 ^ 64
   pub front_is : front' ≡ min front (2 ^ 100)
   pub power_is : power' ≡ min power (2 ^ 100)
@@ -110,8 +110,8 @@ cut_lasts front front' lasts is some =
           λ none. lasts (omega arith) (ap (λ x. x % 10) (sym same) ∙ none)
     ]
 
-agree_minus : (number front zeros places power front' power' : ℕ) → IsRead number front zeros places power front' power' → Agree front (zeros + 0) (places + power) front' zeros (places + power')
-agree_minus number front zeros places power front' power' read =
+agree_minus : (number front tail places power front' power' : ℕ) → IsRead number front tail places power front' power' → Agree front (tail + 0) (places + power) front' tail (places + power')
+agree_minus number front tail places power front' power' read =
     let front_is = read.front_is in
     let power_is = read.power_is in
     let few_zeros = read.few_zeros in
@@ -123,8 +123,8 @@ agree_minus number front zeros places power front' power' read =
       ]
     ]
 
-agree_plus : (number front zeros places power front' power' : ℕ) → IsRead number front zeros places power front' power' → Agree front (zeros + power) (places + 0) front' (zeros + power') places
-agree_plus number front zeros places power front' power' read =
+agree_plus : (number front tail places power front' power' : ℕ) → IsRead number front tail places power front' power' → Agree front (tail + power) (places + 0) front' (tail + power') places
+agree_plus number front tail places power front' power' read =
     let front_is = read.front_is in
     let power_is = read.power_is in
     let few_places = read.few_places in
@@ -143,30 +143,30 @@ zero_cut : (front front' : ℕ) → front' ≡ min front (2 ^ 100) → front' �
 zero_cut front front' is nothing = omega arith
 
 -- with a negative exponent
-minus_from_read : (number front zeros places power front' power' k : ℕ) (fraction : Fraction) → IsRead number front zeros places power front' power' → IsShortest front' zeros (places + power') k fraction → IsShortest number 0 (places + power) k fraction
-minus_from_read number front zeros places power front' power' k fraction read is =
-    shortest_from_front number front zeros 0 (places + power) k fraction read.number_is (same_shortest front' zeros (places + power') front (zeros + 0) (places + power) k fraction (cut_lasts front front' read.lasts read.front_is) (zero_cut front front' read.front_is) (turned _ _ _ _ _ _ (agree_minus number front zeros places power front' power' read)) is)
+minus_from_read : (number front tail places power front' power' k : ℕ) (fraction : Fraction) → IsRead number front tail places power front' power' → IsShortest front' tail (places + power') k fraction → IsShortest number 0 (places + power) k fraction
+minus_from_read number front tail places power front' power' k fraction read is =
+    shortest_from_front number front tail 0 (places + power) k fraction read.number_is (same_shortest front' tail (places + power') front (tail + 0) (places + power) k fraction (cut_lasts front front' read.lasts read.front_is) (zero_cut front front' read.front_is) (turned _ _ _ _ _ _ (agree_minus number front tail places power front' power' read)) is)
 
-pub minus_to_read : (number front zeros places power front' power' k : ℕ) (fraction : Fraction) → IsRead number front zeros places power front' power' → IsShortest number 0 (places + power) k fraction → IsShortest front' zeros (places + power') k fraction
-minus_to_read number front zeros places power front' power' k fraction read is =
-    same_shortest front (zeros + 0) (places + power) front' zeros (places + power') k fraction read.lasts (cut_zero front front' read.front_is) (agree_minus number front zeros places power front' power' read) (shortest_to_front number front zeros 0 (places + power) k fraction read.number_is is)
+pub minus_to_read : (number front tail places power front' power' k : ℕ) (fraction : Fraction) → IsRead number front tail places power front' power' → IsShortest number 0 (places + power) k fraction → IsShortest front' tail (places + power') k fraction
+minus_to_read number front tail places power front' power' k fraction read is =
+    same_shortest front (tail + 0) (places + power) front' tail (places + power') k fraction read.lasts (cut_zero front front' read.front_is) (agree_minus number front tail places power front' power' read) (shortest_to_front number front tail 0 (places + power) k fraction read.number_is is)
 
 -- with a positive one
-plus_from_read : (number front zeros places power front' power' k : ℕ) (fraction : Fraction) → IsRead number front zeros places power front' power' → IsShortest front' (zeros + power') places k fraction → IsShortest number power (places + 0) k fraction
-plus_from_read number front zeros places power front' power' k fraction read is =
-    shortest_from_front number front zeros power (places + 0) k fraction read.number_is (same_shortest front' (zeros + power') places front (zeros + power) (places + 0) k fraction (cut_lasts front front' read.lasts read.front_is) (zero_cut front front' read.front_is) (turned _ _ _ _ _ _ (agree_plus number front zeros places power front' power' read)) is)
+plus_from_read : (number front tail places power front' power' k : ℕ) (fraction : Fraction) → IsRead number front tail places power front' power' → IsShortest front' (tail + power') places k fraction → IsShortest number power (places + 0) k fraction
+plus_from_read number front tail places power front' power' k fraction read is =
+    shortest_from_front number front tail power (places + 0) k fraction read.number_is (same_shortest front' (tail + power') places front (tail + power) (places + 0) k fraction (cut_lasts front front' read.lasts read.front_is) (zero_cut front front' read.front_is) (turned _ _ _ _ _ _ (agree_plus number front tail places power front' power' read)) is)
 
-pub plus_to_read : (number front zeros places power front' power' k : ℕ) (fraction : Fraction) → IsRead number front zeros places power front' power' → IsShortest number power (places + 0) k fraction → IsShortest front' (zeros + power') places k fraction
-plus_to_read number front zeros places power front' power' k fraction read is =
-    same_shortest front (zeros + power) (places + 0) front' (zeros + power') places k fraction read.lasts (cut_zero front front' read.front_is) (agree_plus number front zeros places power front' power' read) (shortest_to_front number front zeros power (places + 0) k fraction read.number_is is)
+pub plus_to_read : (number front tail places power front' power' k : ℕ) (fraction : Fraction) → IsRead number front tail places power front' power' → IsShortest number power (places + 0) k fraction → IsShortest front' (tail + power') places k fraction
+plus_to_read number front tail places power front' power' k fraction read is =
+    same_shortest front (tail + power) (places + 0) front' (tail + power') places k fraction read.lasts (cut_zero front front' read.front_is) (agree_plus number front tail places power front' power' read) (shortest_to_front number front tail power (places + 0) k fraction read.number_is is)
 
 -- what is found of them is the fraction of the text
-pub minus_found : (number front zeros places power front' power' : ℕ) → IsRead number front zeros places power front' power' → (found : Option Fraction) → IfSome found (λ fraction. (k : ℕ) × IsShortest front' zeros (places + power') k fraction) → IfSome found (λ fraction. (k : ℕ) × IsShortest number 0 (places + power) k fraction)
-minus_found number front zeros places power front' power' read None is = tt
-minus_found number front zeros places power front' power' read (Some fraction) (k, is) =
-    (k, minus_from_read number front zeros places power front' power' k fraction read is)
+pub minus_found : (number front tail places power front' power' : ℕ) → IsRead number front tail places power front' power' → (found : Option Fraction) → IfSome found (λ fraction. (k : ℕ) × IsShortest front' tail (places + power') k fraction) → IfSome found (λ fraction. (k : ℕ) × IsShortest number 0 (places + power) k fraction)
+minus_found number front tail places power front' power' read None is = tt
+minus_found number front tail places power front' power' read (Some fraction) (k, is) =
+    (k, minus_from_read number front tail places power front' power' k fraction read is)
 
-pub plus_found : (number front zeros places power front' power' : ℕ) → IsRead number front zeros places power front' power' → (found : Option Fraction) → IfSome found (λ fraction. (k : ℕ) × IsShortest front' (zeros + power') places k fraction) → IfSome found (λ fraction. (k : ℕ) × IsShortest number power (places + 0) k fraction)
-plus_found number front zeros places power front' power' read None is = tt
-plus_found number front zeros places power front' power' read (Some fraction) (k, is) =
-    (k, plus_from_read number front zeros places power front' power' k fraction read is)
+pub plus_found : (number front tail places power front' power' : ℕ) → IsRead number front tail places power front' power' → (found : Option Fraction) → IfSome found (λ fraction. (k : ℕ) × IsShortest front' (tail + power') places k fraction) → IfSome found (λ fraction. (k : ℕ) × IsShortest number power (places + 0) k fraction)
+plus_found number front tail places power front' power' read None is = tt
+plus_found number front tail places power front' power' read (Some fraction) (k, is) =
+    (k, plus_from_read number front tail places power front' power' k fraction read is)

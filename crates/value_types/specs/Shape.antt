@@ -1,7 +1,6 @@
 -- What a description says of an FMU (FMI 3.0, 2.4), as its calls need it.
 use Rattle.std.specs.Prelude.{◌≡◌, ℕ, ◌==◌, List, Option, Some, IsSomeAnd, find}
 use Rattle.value_types.specs.declared.values.PortType.{PortType}
-use Rattle.value_types.specs.declared.shape.Causality.{Causality}
 use Rattle.value_types.specs.declared.shape.Causality.TheVariants.{Output}
 use Rattle.value_types.specs.declared.shape.Variable.{Variable}
 use Rattle.value_types.specs.declared.shape.Shape.{Shape}

@@ -4,6 +4,8 @@
 mod joint;
 mod reading;
 mod shape;
+#[cfg(test)]
+mod tests;
 mod values;
 
 pub use clock_fraction::Fraction;

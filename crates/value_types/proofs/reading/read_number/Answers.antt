@@ -1,4 +1,4 @@
-use Rattle.std.proofs.Common.{◌≡◌, ℤ, Some, None}
+use Rattle.std.proofs.Common.{◌≡◌, Some}
 use Rattle.value_types.proofs.ValueLemmas.{FitsSigned-from_Fits}
 use Rattle.value_types.proofs.reading.read_number.Goals as goal
 
