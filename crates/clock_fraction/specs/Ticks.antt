@@ -1,5 +1,5 @@
 -- When a periodic clock ticks (FMI 3.0, Clocks: constant and fixed intervals).
-use Rattle.std.specs.Prelude.{◌≡◌, ℕ, ◌+◌, ◌*◌, ◌<◌, ◌≤◌}
+use Rattle.std.specs.Prelude.{◌≡◌, ℕ, ◌+◌, ◌*◌}
 use Rattle.clock_fraction.specs.declared.fraction.Fraction.{Fraction}
 
 -- in seconds: `(t - start) / per_second` is the shift and some number of intervals

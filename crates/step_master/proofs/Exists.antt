@@ -73,20 +73,24 @@ bound_by : (plan : Plan) (t : ℕ) (b : Bool) → nat_lt (next_grid plan t) plan
 unfolding next_grid
 bound_by plan t true e p begun before =
     let below : plan.start + ((t - plan.start) / plan.step + 1) * plan.step < plan.stop = grind (arith, nat_tests) in
-    let above : 0 < plan.step = p.step_above in
-    (plan.start + ((t - plan.start) / plan.step + 1) * plan.step, record {
-      later = omega arith;
-      mark = inl ((t - plan.start) / plan.step + 1, refl);
-      least = λ point later mark. grid_below plan t point p begun later (omega arith) mark;
-    })
+    let above : 0 < plan.step = p.step_above in (
+      plan.start + ((t - plan.start) / plan.step + 1) * plan.step,
+      record {
+        later = omega arith;
+        mark = inl ((t - plan.start) / plan.step + 1, refl);
+        least = λ point later mark. grid_below plan t point p begun later (omega arith) mark;
+      },
+    )
 bound_by plan t false e p begun before =
     let above : plan.stop ≤ plan.start + ((t - plan.start) / plan.step + 1) * plan.step = grind (arith, nat_tests) in
-    let positive : 0 < plan.step = p.step_above in
-    (plan.stop, record {
-      later = before;
-      mark = inr refl;
-      least = λ point later mark. stop_below plan t point p begun later above mark;
-    })
+    let positive : 0 < plan.step = p.step_above in (
+      plan.stop,
+      record {
+        later = before;
+        mark = inr refl;
+        least = λ point later mark. stop_below plan t point p begun later above mark;
+      },
+    )
 
 -- there is a bound before the stop
 pub bound_exists : (plan : Plan) (t : ℕ) → IsPlan plan → plan.start ≤ t → t < plan.stop → (b : ℕ) × IsBound plan t b
@@ -133,7 +137,7 @@ module _ (system : System) (plan : Plan) (m : Machine) (shape : Shape) (alone : 
         ∙ sym (seen_first m state port (value s.before p) s.n s.states port.component.0 h.first h.states (own_port p port there).component);
   }
 
-  good_at : (states : List State) (state : State) (c : ℕ) (call : Shape → Call) → AnswersWell (run_of system plan m) states c call → states ≡ state ∷ [] → c ≡ 0 →
+  pub good_at : (states : List State) (state : State) (c : ℕ) (call : Shape → Call) → AnswersWell (run_of system plan m) states c call → states ≡ state ∷ [] → c ≡ 0 →
       GoodCall shape (call shape) m state
   good_at states state c call well e f =
       subst (λ k. AnswersWell (run_of system plan m) states k call) f well (record { name = alone.name; shape = shape }) m state

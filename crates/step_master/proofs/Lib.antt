@@ -1,3 +1,6 @@
 pub mod Calls
 pub mod Values
 pub mod Exists
+pub mod Onward
+pub mod Exits
+pub mod Closing

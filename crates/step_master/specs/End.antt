@@ -1,5 +1,5 @@
 -- How a run ends, and what it has put then.
-use Rattle.std.specs.Prelude.{◌≡◌, ◌⊎◌, ◌≤◌, ℕ, ℤ, List, [], ◌∷◌, ◌++◌, take, Option, IfSome}
+use Rattle.std.specs.Prelude.{◌≡◌, ◌⊎◌, ◌≤◌, ℕ, ℤ, Bool, true, false, List, [], ◌∷◌, ◌++◌, take, Option, IfSome}
 use Rattle.sim_base.specs.Causes.{Rose}
 use Rattle.sim_base.specs.Told.{added, AddsPart}
 use Rattle.value_types.specs.declared.shape.Shape.{Shape}
@@ -42,10 +42,25 @@ abbrev pub BreaksInstant : View → Break → View → List Port → ℕ → Opt
 BreaksInstant old (B.Answer why) new ports t before after c d = Broke old why new (GoodGets old.fixed.shape ports) × (after ≡ before) × (d ≡ c)
 BreaksInstant old B.Write new ports t before after c d = CutsInstant old new ports t before after × Rose c d
 
+-- the run came to its end
+abbrev pub is_finished : RunEnd → Bool
+is_finished Stop = true
+is_finished (Asked point) = true
+is_finished (Bad component why) = false
+is_finished WriteFault = false
+
 -- the end of this kind at the point
 abbrev pub end_at : EndKind → ℕ → RunEnd
 end_at K.Stop t = Stop
 end_at K.Asked t = Asked t
+
+-- the end by the first answer that isn't good
+abbrev pub bad_end : Why → RunEnd
+bad_end why = Bad (record { 0 = 0 }) why
+
+abbrev pub end_of_break : Break → RunEnd
+end_of_break (B.Answer why) = bad_end why
+end_of_break B.Write = WriteFault
 
 -- the end line was put, or the put failed
 abbrev pub PutsEnd : EndKind → ℕ → RunEnd → Option (List ℕ) → Option (List ℕ) → ℕ → ℕ → Type 0

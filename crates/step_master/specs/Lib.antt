@@ -2,3 +2,6 @@ pub mod Alone
 pub mod Follow
 pub mod Progress
 pub mod End
+pub mod Whole
+pub mod Room
+pub mod Initial

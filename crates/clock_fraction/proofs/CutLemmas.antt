@@ -1,0 +1,172 @@
+-- A number and a power that are cut off far above the limits of a fraction: nothing is lost.
+use Rattle.std.proofs.Common.{◌≡◌, ◌≢◌, ℕ, ◌+◌, ◌-◌, ◌*◌, ◌%◌, ◌^◌, ◌<◌, ◌≤◌, ◌⊎◌, min, inl, inr, Option, Some, None, IfSome, sym, ap, ◌∙◌, subst, arith}
+use Rattle.std.proofs.lemmas.Nat.{pow-add}
+use Rattle.std.proofs.lemmas.Bool.{cases_lt}
+use Rattle.clock_fraction.specs.declared.fraction.Fraction.{Fraction}
+use Rattle.clock_fraction.specs.Decimal.{IsShortest}
+use Rattle.clock_fraction.proofs.ShortestLemmas.{bounded, zero_only}
+
+-- ---- zeros at the end of a number
+
+zeros_raise : (number front zeros up j : ℕ) → number ≡ front * 10 ^ zeros → number * 10 ^ (up + j) ≡ front * 10 ^ (zeros + up + j)
+zeros_raise number front zeros up j is_number =
+    let sum : zeros + up + j ≡ zeros + (up + j) = omega arith in
+    let tens : 10 ^ (zeros + up + j) ≡ 10 ^ zeros * 10 ^ (up + j) = ap (λ i. 10 ^ i) sum ∙ pow-add 10 zeros (up + j) in
+    ap (λ x. x * 10 ^ (up + j)) is_number ∙ sym (ap (λ x. front * x) tens ∙ omega arith)
+
+shortest_to_front : (number front zeros up down k : ℕ) (fraction : Fraction) → number ≡ front * 10 ^ zeros → IsShortest number up down k fraction → IsShortest front (zeros + up) down k fraction
+shortest_to_front number front zeros up down k fraction is_number is = record {
+  value = is.value ∙ zeros_raise number front zeros up k is_number;
+  least = λ n j same. is.least n j (same ∙ sym (zeros_raise number front zeros up j is_number));
+  resolution = is.resolution;
+  few_places = is.few_places;
+  small = is.small;
+}
+
+shortest_from_front : (number front zeros up down k : ℕ) (fraction : Fraction) → number ≡ front * 10 ^ zeros → IsShortest front (zeros + up) down k fraction → IsShortest number up down k fraction
+shortest_from_front number front zeros up down k fraction is_number is = record {
+  value = is.value ∙ sym (zeros_raise number front zeros up k is_number);
+  least = λ n j same. is.least n j (same ∙ zeros_raise number front zeros up j is_number);
+  resolution = is.resolution;
+  few_places = is.few_places;
+  small = is.small;
+}
+
+-- ---- numbers past the limits
+
+-- no digit but the last zeros is `0`
+abbrev pub HasNoZeros : ℕ → Type 0
+HasNoZeros number = number ≢ 0 → number % 10 ≢ 0
+
+abbrev IsPast : ℕ → ℕ → ℕ → Type 0
+IsPast number up down = (10 ^ 18 < number) ⊎ (18 < up - down) ⊎ (18 < down - up)
+
+past_none : (number up down k : ℕ) (fraction : Fraction) → number % 10 ≢ 0 → IsPast number up down → IsShortest number up down k fraction → ⊥
+past_none number up down k fraction lasts past is =
+    let within = bounded number up down k fraction lasts is in
+    let digits = within.digits in
+    let raise = within.raise in
+    let places = within.places in
+    elim past [ inl p ↦ omega arith | inr p ↦ elim p [ inl q ↦ omega arith | inr q ↦ omega arith ] ]
+
+-- the powers of nothing don't matter
+zero_anywhere : (up down up' down' k : ℕ) (fraction : Fraction) → IsShortest 0 up down k fraction → IsShortest 0 up' down' k fraction
+zero_anywhere up down up' down' k fraction is =
+    let no_places : k ≤ 0 = is.least 0 0 (omega arith) in
+    let nothing : 0 ≡ fraction.counter = ap (λ (f : Fraction). f.counter) (zero_only up down k fraction is) in
+    record {
+      value = ap (λ x. x * 10 ^ down') (sym nothing) ∙ omega arith;
+      least = λ n j _. omega arith;
+      resolution = is.resolution;
+      few_places = is.few_places;
+      small = is.small;
+    }
+
+-- two numbers with powers are one, or both are past the limits
+abbrev Agree : ℕ → ℕ → ℕ → ℕ → ℕ → ℕ → Type 0
+Agree number up down number' up' down' =
+    ((number ≡ number') × (up ≡ up') × (down ≡ down')) ⊎ (IsPast number up down × IsPast number' up' down')
+
+turned : (number up down number' up' down' : ℕ) → Agree number up down number' up' down' → Agree number' up' down' number up down
+turned number up down number' up' down' agree =
+    elim agree [ inl same ↦ inl (sym same.0, sym same.1, sym same.2) | inr past ↦ inr (past.1, past.0) ]
+
+same_shortest : (number up down number' up' down' k : ℕ) (fraction : Fraction) → HasNoZeros number → (number ≡ 0 → number' ≡ 0) → Agree number up down number' up' down' → IsShortest number up down k fraction → IsShortest number' up' down' k fraction
+same_shortest number up down number' up' down' k fraction lasts zeros agree is =
+    elim (cases_lt 0 number) [
+      | inl some ↦ elim agree [
+        | inl same ↦
+            let P : ℕ → Type 0 = λ x. IsShortest x up down k fraction in
+            let Q : ℕ → Type 0 = λ x. IsShortest number' x down k fraction in
+            let R : ℕ → Type 0 = λ x. IsShortest number' up' x k fraction in
+            subst R same.2 (subst Q same.1 (subst P same.0 is))
+        | inr past ↦ absurd (past_none number up down k fraction (lasts (omega arith)) past.0 is)
+      ]
+      | inr none ↦
+          let nothing : number ≡ 0 = omega arith in
+          let P : ℕ → Type 0 = λ x. IsShortest x up down k fraction in
+          let Q : ℕ → Type 0 = λ x. IsShortest x up' down' k fraction in
+          subst Q (sym (zeros nothing)) (zero_anywhere up down up' down' k fraction (subst P nothing is))
+    ]
+
+-- ---- the number of a text as it is read
+
+-- a number with zeros at its end, its places and its power, and the front and the power as they are read
+pub record IsRead (number front zeros places power front' power' : ℕ) : Type 0 where
+  pub number_is : number ≡ front * 10 ^ zeros
+  pub lasts : HasNoZeros front
+  pub few_zeros : zeros < 2 ^ 65
+  pub few_places : places < 2 ^ 64
+  pub front_is : front' ≡ min front (2 ^ 100)
+  pub power_is : power' ≡ min power (2 ^ 100)
+
+-- a front that is cut off doesn't end in a zero either
+pub cut_lasts : (front front' : ℕ) → HasNoZeros front → front' ≡ min front (2 ^ 100) → HasNoZeros front'
+cut_lasts front front' lasts is some =
+    elim (cases_lt (2 ^ 100) front) [
+      | inl above ↦ λ none. absurd (omega (arith, (let cut : front' ≡ 2 ^ 100 = omega arith in ap (λ x. x % 10) cut)))
+      | inr within ↦
+          let same : front' ≡ front = omega arith in
+          λ none. lasts (omega arith) (ap (λ x. x % 10) (sym same) ∙ none)
+    ]
+
+agree_minus : (number front zeros places power front' power' : ℕ) → IsRead number front zeros places power front' power' → Agree front (zeros + 0) (places + power) front' zeros (places + power')
+agree_minus number front zeros places power front' power' read =
+    let front_is = read.front_is in
+    let power_is = read.power_is in
+    let few_zeros = read.few_zeros in
+    elim (cases_lt (2 ^ 100) front) [
+      | inl above ↦ inr (inl (omega arith), inl (omega arith))
+      | inr within ↦ elim (cases_lt (2 ^ 100) power) [
+        | inl far ↦ inr (inr (inr (omega arith)), inr (inr (omega arith)))
+        | inr near ↦ inl (omega arith, omega arith, omega arith)
+      ]
+    ]
+
+agree_plus : (number front zeros places power front' power' : ℕ) → IsRead number front zeros places power front' power' → Agree front (zeros + power) (places + 0) front' (zeros + power') places
+agree_plus number front zeros places power front' power' read =
+    let front_is = read.front_is in
+    let power_is = read.power_is in
+    let few_places = read.few_places in
+    elim (cases_lt (2 ^ 100) front) [
+      | inl above ↦ inr (inl (omega arith), inl (omega arith))
+      | inr within ↦ elim (cases_lt (2 ^ 100) power) [
+        | inl far ↦ inr (inr (inl (omega arith)), inr (inl (omega arith)))
+        | inr near ↦ inl (omega arith, omega arith, omega arith)
+      ]
+    ]
+
+cut_zero : (front front' : ℕ) → front' ≡ min front (2 ^ 100) → front ≡ 0 → front' ≡ 0
+cut_zero front front' is nothing = omega arith
+
+zero_cut : (front front' : ℕ) → front' ≡ min front (2 ^ 100) → front' ≡ 0 → front ≡ 0
+zero_cut front front' is nothing = omega arith
+
+-- with a negative exponent
+minus_from_read : (number front zeros places power front' power' k : ℕ) (fraction : Fraction) → IsRead number front zeros places power front' power' → IsShortest front' zeros (places + power') k fraction → IsShortest number 0 (places + power) k fraction
+minus_from_read number front zeros places power front' power' k fraction read is =
+    shortest_from_front number front zeros 0 (places + power) k fraction read.number_is (same_shortest front' zeros (places + power') front (zeros + 0) (places + power) k fraction (cut_lasts front front' read.lasts read.front_is) (zero_cut front front' read.front_is) (turned _ _ _ _ _ _ (agree_minus number front zeros places power front' power' read)) is)
+
+pub minus_to_read : (number front zeros places power front' power' k : ℕ) (fraction : Fraction) → IsRead number front zeros places power front' power' → IsShortest number 0 (places + power) k fraction → IsShortest front' zeros (places + power') k fraction
+minus_to_read number front zeros places power front' power' k fraction read is =
+    same_shortest front (zeros + 0) (places + power) front' zeros (places + power') k fraction read.lasts (cut_zero front front' read.front_is) (agree_minus number front zeros places power front' power' read) (shortest_to_front number front zeros 0 (places + power) k fraction read.number_is is)
+
+-- with a positive one
+plus_from_read : (number front zeros places power front' power' k : ℕ) (fraction : Fraction) → IsRead number front zeros places power front' power' → IsShortest front' (zeros + power') places k fraction → IsShortest number power (places + 0) k fraction
+plus_from_read number front zeros places power front' power' k fraction read is =
+    shortest_from_front number front zeros power (places + 0) k fraction read.number_is (same_shortest front' (zeros + power') places front (zeros + power) (places + 0) k fraction (cut_lasts front front' read.lasts read.front_is) (zero_cut front front' read.front_is) (turned _ _ _ _ _ _ (agree_plus number front zeros places power front' power' read)) is)
+
+pub plus_to_read : (number front zeros places power front' power' k : ℕ) (fraction : Fraction) → IsRead number front zeros places power front' power' → IsShortest number power (places + 0) k fraction → IsShortest front' (zeros + power') places k fraction
+plus_to_read number front zeros places power front' power' k fraction read is =
+    same_shortest front (zeros + power) (places + 0) front' (zeros + power') places k fraction read.lasts (cut_zero front front' read.front_is) (agree_plus number front zeros places power front' power' read) (shortest_to_front number front zeros power (places + 0) k fraction read.number_is is)
+
+-- what is found of them is the fraction of the text
+pub minus_found : (number front zeros places power front' power' : ℕ) → IsRead number front zeros places power front' power' → (found : Option Fraction) → IfSome found (λ fraction. (k : ℕ) × IsShortest front' zeros (places + power') k fraction) → IfSome found (λ fraction. (k : ℕ) × IsShortest number 0 (places + power) k fraction)
+minus_found number front zeros places power front' power' read None is = tt
+minus_found number front zeros places power front' power' read (Some fraction) (k, is) =
+    (k, minus_from_read number front zeros places power front' power' k fraction read is)
+
+pub plus_found : (number front zeros places power front' power' : ℕ) → IsRead number front zeros places power front' power' → (found : Option Fraction) → IfSome found (λ fraction. (k : ℕ) × IsShortest front' (zeros + power') places k fraction) → IfSome found (λ fraction. (k : ℕ) × IsShortest number power (places + 0) k fraction)
+plus_found number front zeros places power front' power' read None is = tt
+plus_found number front zeros places power front' power' read (Some fraction) (k, is) =
+    (k, plus_from_read number front zeros places power front' power' k fraction read is)

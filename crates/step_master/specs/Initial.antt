@@ -1,0 +1,33 @@
+-- Into Step Mode through Initialization Mode.
+use Rattle.std.specs.Prelude.{◌≡◌, ℕ, List, [], ◌∷◌}
+use Rattle.value_types.specs.declared.shape.Shape.{Shape}
+use Rattle.fmi_calls.specs.declared.call.Call.{Call}
+use Rattle.fmi_calls.specs.declared.call.Call.TheVariants as C
+use Rattle.fmu_peer.specs.Machine.{State, Machine, after}
+use Rattle.fmu_peer.specs.View.{View}
+use Rattle.run_model.specs.declared.plan.Plan.{Plan}
+use Rattle.run_model.specs.Trace.{Run, instantiated}
+use Rattle.step_master.specs.Follow.{Tells, GoesWell, IsAt, GoodCall}
+
+abbrev pub enter_of : Plan → Call
+enter_of plan = C.EnterInitialization plan.start plan.stop
+
+-- the machine's state behind the two calls
+abbrev pub led_in : Plan → Machine → State → State
+led_in plan m s = after m (after m s (enter_of plan)) C.ExitInitialization
+
+-- both calls were answered well
+pub record LeadsIn (plan : Plan) (old new : View) : Type 0 where
+  pub well : GoesWell old new
+  pub at : IsAt new plan.start plan.stop
+  pub told : (m : Machine) (s : State) → Tells old m s → Tells new m (led_in plan m s)
+
+-- the machine answers both calls well
+abbrev pub GoodLead : Plan → Shape → Machine → State → Type 0
+GoodLead plan shape m s = GoodCall shape (enter_of plan) m s × GoodCall shape C.ExitInitialization m (after m s (enter_of plan))
+
+-- the peer's machine was instantiated
+pub record IsInstantiatedAs (r : Run) (m : Machine) (v : View) : Type 0 where
+  pub state : State
+  pub is : instantiated r ≡ state ∷ []
+  pub told : Tells v m state

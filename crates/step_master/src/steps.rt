@@ -1,0 +1,90 @@
+ghost use Rattle.std.specs.Prelude.{◌≡◌, ◌+◌, ◌<◌, ◌≤◌, length};
+ghost use Rattle.fmu_peer.specs.Machine.{Machine};
+ghost use Rattle.trace_text.specs.Room.{HoldsEach};
+ghost use Rattle.run_model.specs.Behaved.{WellBehaved};
+ghost use Rattle.run_model.specs.Trace.{is_terminating};
+ghost use Rattle.step_master.specs.Alone.{IsPlan, IsAlone};
+ghost use Rattle.step_master.specs.Follow.{IsAt};
+ghost use Rattle.step_master.specs.Progress.{BeginsAt, run_of};
+ghost use Rattle.step_master.specs.End.{Writes, Completes, TellsWrite, LeavesPeer, end_of_break, bad_end};
+
+use crate::RunEnd;
+use crate::bound::next_bound;
+use crate::instant::{finish, show_instant};
+use crate::run_end::Break;
+use fmi_calls::{Content, Reply};
+use fmu_peer::{Fmu, Peer, Stepping, Why};
+use run_model::{EndKind, Plan, System};
+use sim_base::{CompId, Sink};
+
+/// Shows each instant, and steps from one point to the next, from the start to the end of the run.
+pub(crate) fn steps<L: Peer, O: Sink>(
+    fmu: &mut Fmu<L, Stepping>,
+    system: &System,
+    plan: &Plan,
+    values: &mut [Option<i128>],
+    text: &mut [u8],
+    out: &mut O,
+) -> RunEnd
+    requires alone { IsAlone (L.view fmu.old.peer).fixed.shape system.now }
+    requires plan { IsPlan plan.now }
+    requires at { IsAt (L.view fmu.old.peer) plan.now.start plan.now.stop }
+    requires places { length values.old ≡ length system.now.ports }
+    requires room { HoldsEach system.now (length text.old) }
+    ensures fixed { (L.view fmu.new.peer).fixed ≡ (L.view fmu.old.peer).fixed }
+    ensures peer { LeavesPeer (L.view fmu.old.peer) result (L.view fmu.new.peer) }
+    ensures told { TellsWrite result (O.faults out.old) (O.faults out.new) }
+    ensures writes { Writes plan.now result (O.content out.old) (O.content out.new) }
+    ensures trace { (m : Machine) → BeginsAt (run_of system.now plan.now m) m (L.view fmu.old.peer) → WellBehaved (run_of system.now plan.now m) →
+        Completes (run_of system.now plan.now m) result (O.content out.old) (O.content out.new) }
+{
+    let mut t = plan.start;
+    'points: loop {
+        if let Err(broken) = show_instant(fmu, system, t, values, text, out) {
+            return broken_off(broken);
+        }
+        if t == plan.stop {
+            return finish(system, EndKind::Stop, t, text, out);
+        }
+        let bound = next_bound(plan, t);
+        match fmu.do_step(t, bound - t) {
+            Err(why) => return bad_answer(why),
+            Ok(reply) => {
+                t = bound;
+                if is_terminating(&reply) {
+                    return finish(system, EndKind::Asked, t, text, out);
+                }
+            }
+        }
+    }
+}
+
+fn broken_off(broken: Break) -> RunEnd
+    ensures { result ≡ end_of_break broken }
+{
+    match broken {
+        Break::Answer(why) => bad_answer(why),
+        Break::Write => RunEnd::WriteFault,
+    }
+}
+
+fn bad_answer(why: Why) -> RunEnd
+    ensures { result ≡ bad_end why }
+{
+    RunEnd::Bad {
+        component: CompId(0),
+        why,
+    }
+}
+
+fn is_terminating(reply: &Reply) -> bool
+    ensures { result ≡ is_terminating reply.now }
+{
+    match reply {
+        Reply::Done {
+            content: Content::DoStep { terminate, .. },
+            ..
+        } => *terminate,
+        _ => false,
+    }
+}

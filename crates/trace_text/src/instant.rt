@@ -1,0 +1,51 @@
+ghost use Rattle.std.specs.Prelude.{◌≡◌, ◌+◌, ◌≤◌, ◌++◌, length, take};
+ghost use Rattle.run_model.specs.Text.{instant_text, value_line};
+ghost use Rattle.trace_text.specs.Lines.{instant_line};
+
+use crate::append::{append, append_number, append_value};
+use run_model::System;
+
+/// Puts the n-th instant at the point `t` to the front of `out`, and answers the length of its text. The values are
+/// those of the system's ports, in order.
+pub fn put_instant(
+    _system: &System,
+    t: u64,
+    n: u64,
+    values: &[Option<i128>],
+    out: &mut [u8],
+) -> usize
+    requires { length (instant_text t n values.now) ≤ length out.old }
+    ensures length { result ≡ length (instant_text t n values.now) }
+    ensures text { take result out.new ≡ instant_text t n values.now }
+{
+    let mut at = put_instant_line(t, n, out);
+    for (number, value) in values.iter().enumerate() {
+        if let Some(value) = value {
+            at = append_value_line(number, *value, out, at);
+        }
+    }
+    at
+}
+
+fn put_instant_line(t: u64, n: u64, out: &mut [u8]) -> usize
+    requires { length (instant_line t n) ≤ length out.old }
+    ensures length { result ≡ length (instant_line t n) }
+    ensures text { take result out.new ≡ instant_line t n }
+{
+    let at = append(b"at ", out, 0);
+    let at = append_number(t, out, at);
+    let at = append(b" ", out, at);
+    let at = append_number(n, out, at);
+    append(b"\n", out, at)
+}
+
+fn append_value_line(number: usize, value: i128, out: &mut [u8], at: usize) -> usize
+    requires { at + length (value_line number value) ≤ length out.old }
+    ensures end { result ≡ at + length (value_line number value) }
+    ensures text { take result out.new ≡ take at out.old ++ value_line number value }
+{
+    let at = append_number(number as u64, out, at);
+    let at = append(b" ", out, at);
+    let at = append_value(value, out, at);
+    append(b"\n", out, at)
+}

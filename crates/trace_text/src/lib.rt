@@ -1,0 +1,15 @@
+//! The text of a trace, put into a buffer.
+#![tactic(auto)]
+
+mod append;
+mod ending;
+mod header;
+mod instant;
+mod room;
+#[cfg(test)]
+mod tests;
+
+pub use ending::put_end;
+pub use header::put_header;
+pub use instant::put_instant;
+pub use room::room_for;

@@ -1,0 +1,129 @@
+ghost use Rattle.std.specs.Prelude.{◌≡◌, ◌+◌, IfOk, OnOk, length, vec_len};
+ghost use Rattle.trace_text.specs.Room.{AreValues};
+
+use crate::{put_end, put_header, put_instant, room_for};
+use run_model::{Component, EndKind, Port, System};
+use sim_base::{CompId, Items, Text};
+use std::alloc::{AllocError, Global};
+use std::test::Fail;
+use value_types::{PortType, Shape};
+
+// A port by its name and type, with its value in the instant.
+type Row = (&'static str, PortType, Option<i128>);
+
+struct Case {
+    component: &'static str,
+    ports: &'static [Row],
+    header: &'static str,
+    instant: &'static str,
+    kind: EndKind,
+    end: &'static str,
+}
+
+const CASES: [Case; 3] = [
+    Case {
+        component: "c",
+        ports: &[("y", PortType::Int32, Some(2))],
+        header: "trace 1 1000 0 20\nport 0 Int32 c y\n",
+        instant: "at 10 0\n0 2\n",
+        kind: EndKind::Stop,
+        end: "end stop 20\n",
+    },
+    Case {
+        component: "left wheel",
+        ports: &[
+            ("50%\u{7f}", PortType::Boolean, None),
+            ("speed", PortType::Int64, Some(-7)),
+        ],
+        header: "trace 1 1000 0 20\nport 0 Boolean left%20wheel 50%25%7F\nport 1 Int64 left%20wheel speed\n",
+        instant: "at 10 0\n1 -7\n",
+        kind: EndKind::Asked,
+        end: "end asked 20\n",
+    },
+    Case {
+        component: "empty",
+        ports: &[],
+        header: "trace 1 1000 0 20\n",
+        instant: "at 10 0\n",
+        kind: EndKind::Stop,
+        end: "end stop 20\n",
+    },
+];
+
+#[test]
+fn texts_are_those_of_the_format(rt: HostRuntime) -> Result<(), Fail> {
+    for case in &CASES {
+        let system = system_of(rt.alloc(), case.component, case.ports)?;
+        let values = values_of(rt.alloc(), case.ports)?;
+        let room = room_for(&system).expect(&rt, "a small system has room");
+        let mut out = vec![in rt.alloc(); 0u8; room]?;
+        let length = put_header(&system, 1000, 0, 20, &mut out);
+        assert_eq!(rt; &out[..length], case.header.as_bytes());
+        let length = put_instant(&system, 10, 0, &values, &mut out);
+        assert_eq!(rt; &out[..length], case.instant.as_bytes());
+        let length = put_end(case.kind, 20, &mut out);
+        assert_eq!(rt; &out[..length], case.end.as_bytes());
+    }
+    Ok(())
+}
+
+fn system_of(alloc: Global, component: &str, rows: &[Row]) -> Result<System, AllocError>
+    ensures { IfOk result (λ system. length system.ports ≡ length rows.now) }
+{
+    let mut components = Vec::new(alloc);
+    components.push(Component {
+        name: Text::from_str(alloc, component)?,
+        shape: empty_shape(alloc)?,
+    })?;
+    let mut ports = Vec::new(alloc);
+    for (name, kind, _) in rows {
+        ports.push(Port {
+            component: CompId(0),
+            name: Text::from_str(alloc, name)?,
+            kind: *kind,
+            reference: 1,
+        })?;
+    }
+    Ok(System {
+        components: Items::from_vec(components),
+        ports: Items::from_vec(ports),
+    })
+}
+
+fn values_of(alloc: Global, rows: &[Row]) -> Result<Vec<Option<i128>>, AllocError>
+    ensures fit { IfOk result (λ values. AreValues values.items) }
+    ensures each { IfOk result (λ values. vec_len values ≡ length rows.now) }
+{
+    let mut values = Vec::new(alloc);
+    for (_, _, value) in rows {
+        push_value(&mut values, *value)?;
+    }
+    Ok(values)
+}
+
+// A value that is passed is known to be in the range of an `i128`.
+fn push_value(values: &mut Vec<Option<i128>>, value: Option<i128>) -> Result<(), AllocError>
+    requires { AreValues values.old.items }
+    ensures fit { AreValues values.new.items }
+    ensures more { OnOk result (vec_len values.new ≡ vec_len values.old + 1) }
+{
+    values.push(value)?;
+    Ok(())
+}
+
+fn empty_shape(alloc: Global) -> Result<Shape, AllocError> {
+    Ok(Shape {
+        identifier: Text::from_str(alloc, "model")?,
+        token: Text::from_str(alloc, "{1}")?,
+        resolution: 1000,
+        has_event_mode: false,
+        might_return_early: false,
+        has_variable_steps: false,
+        can_save_state: false,
+        can_serialize_state: false,
+        variables: Items::from_vec(Vec::new(alloc)),
+        clocks: Items::from_vec(Vec::new(alloc)),
+        dependencies: Items::from_vec(Vec::new(alloc)),
+        initial_dependencies: Items::from_vec(Vec::new(alloc)),
+    })
+}
