@@ -20,8 +20,7 @@ pub struct Counter {
 }
 
 impl Counter {
-    ghost use Rattle.std.specs.Prelude.{pos, ◌≤ℤ◌, IsTrue, map};
-    ghost use Rattle.fmu_peer.specs.Start.{IsStarted};
+    ghost use Rattle.std.specs.Prelude.{map};
     ghost use Rattle.bench_fmus.specs.BuiltIn.{value_of, at_first, start_of};
     ghost use Rattle.bench_fmus.specs.NumbersTold.{told};
     ghost use Rattle.bench_fmus.specs.Counting.{counter_content, counted_on, is_long, shown};
@@ -127,6 +126,7 @@ impl Counter {
     }
 }
 
+// The stop shows that the sum fits.
 fn step_end(_stop: u64, at: u64, size: u64) -> u64
     requires { at + size ≤ _stop }
     ensures { result ≡ at + size }

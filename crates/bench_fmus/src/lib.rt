@@ -9,6 +9,8 @@ mod retired;
 mod script;
 mod scripts;
 mod start_plan;
+#[cfg(test)]
+mod tests;
 mod wrap;
 
 pub use bench::Bench;

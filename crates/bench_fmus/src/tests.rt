@@ -1,0 +1,265 @@
+ghost use Rattle.std.specs.Prelude.{◌+◌, ◌<◌, ◌^◌};
+
+use crate::{Bench, Scripts};
+use fmi_calls::{Call, Content, Reply, permitted};
+use fmu_peer::{Exchange, Peer, PeerFault, Spawner, StartFault};
+use sim_base::{Items, Text};
+use std::alloc::{AllocError, Global};
+use std::process::Abort;
+use std::test::Fail;
+use value_types::{Causality, PortType, Shape, Variable};
+
+// The type of y, the parameter inc, and the words of y in Initialization Mode and after each of three steps.
+const COUNTS: [(PortType, i128, [u64; 4]); 6] = [
+    (PortType::Int32, 2, [0, 2, 4, 6]),
+    (
+        PortType::Int32,
+        -3,
+        [
+            0,
+            18_446_744_073_709_551_613,
+            18_446_744_073_709_551_610,
+            18_446_744_073_709_551_607,
+        ],
+    ),
+    (
+        PortType::Int32,
+        2_147_483_647,
+        [0, 2_147_483_647, 18_446_744_073_709_551_614, 2_147_483_645],
+    ),
+    (PortType::UInt8, 300, [0, 44, 88, 132]),
+    (PortType::Boolean, 1, [0, 1, 0, 1]),
+    (
+        PortType::Int64,
+        9_223_372_036_854_775_807,
+        [
+            0,
+            9_223_372_036_854_775_807,
+            18_446_744_073_709_551_614,
+            9_223_372_036_854_775_805,
+        ],
+    ),
+];
+
+// The parameter long, the size of a step, and whether it asks to end the simulation.
+const LONGS: [(Option<i128>, u64, bool); 5] = [
+    (Some(10), 9, false),
+    (Some(10), 10, true),
+    (Some(10), 11, true),
+    (Some(0), 10, false),
+    (None, 10, false),
+];
+
+const INSTANTIATE: Call = Call::Instantiate {
+    event_mode: false,
+    early_return: false,
+};
+
+const INITIALIZE: Call = Call::EnterInitialization { start: 0, stop: 60 };
+
+const BEGIN: [(Call, Content); 2] = [
+    (INSTANTIATE, Content::Instantiate),
+    (INITIALIZE, Content::EnterInitialization),
+];
+
+const END: [(Call, Content); 2] = [
+    (Call::Terminate, Content::Terminate),
+    (Call::FreeInstance, Content::FreeInstance),
+];
+
+fn variable(
+    alloc: Global,
+    reference: u32,
+    kind: PortType,
+    causality: Causality,
+    start: Option<i128>,
+) -> Result<Variable, AllocError> {
+    Ok(Variable {
+        name: Text::from_str(alloc, "v")?,
+        aliases: Items::from_vec(Vec::new(alloc)),
+        reference,
+        kind: Some(kind),
+        causality,
+        clocks: Items::from_vec(Vec::new(alloc)),
+        start,
+        can_be_set_again: true,
+    })
+}
+
+fn shape(alloc: Global, identifier: &str, variables: Vec<Variable>) -> Result<Shape, AllocError> {
+    Ok(Shape {
+        identifier: Text::from_str(alloc, identifier)?,
+        token: Text::from_str(alloc, "t")?,
+        resolution: 1000,
+        has_event_mode: false,
+        might_return_early: false,
+        has_variable_steps: true,
+        can_save_state: false,
+        can_serialize_state: false,
+        variables: Items::from_vec(variables),
+        clocks: Items::from_vec(Vec::new(alloc)),
+        dependencies: Items::from_vec(Vec::new(alloc)),
+        initial_dependencies: Items::from_vec(Vec::new(alloc)),
+    })
+}
+
+fn counter_shape(
+    alloc: Global,
+    kind: PortType,
+    inc: i128,
+    long: Option<i128>,
+) -> Result<Shape, AllocError> {
+    let variables = vec![in alloc;
+        variable(alloc, 1, PortType::Int64, Causality::Parameter, Some(inc))?,
+        variable(alloc, 2, kind, Causality::Output, None)?,
+        variable(alloc, 3, PortType::Int64, Causality::Parameter, long)?,
+    ]?;
+    shape(alloc, "counter", variables)
+}
+
+fn start<S: Spawner>(
+    rt: &impl Abort,
+    alloc: Global,
+    spawner: &mut S,
+    shape: &Shape,
+) -> Result<S::Link, StartFault> {
+    assert!(rt; shape.token.as_str().len() <= 1 << 24);
+    spawner.start(alloc, "host", "c", "fmus/c", shape)
+}
+
+fn ask<L: Peer>(rt: &impl Abort, peer: &mut L, call: Call) -> Result<Reply, PeerFault> {
+    assert!(rt; permitted(peer.shape(), peer.phase(), &call), "at {call:?}");
+    peer.call(&call)
+}
+
+fn run<L: Peer>(rt: &impl Abort, peer: &mut L, steps: &[(Call, Content)]) {
+    for (call, content) in steps {
+        let want = Ok(Reply::Done {
+            is_warning: false,
+            content: *content,
+        });
+        assert_eq!(rt; ask(rt, peer, *call), want, "at {call:?}");
+    }
+}
+
+fn step(at: u64, size: u64, terminate: bool) -> (Call, Content)
+    requires { at + size < 2 ^ 64 }
+{
+    let content = Content::DoStep {
+        event_needed: false,
+        terminate,
+        early: false,
+        end: at + size,
+    };
+    (Call::DoStep { at, size }, content)
+}
+
+fn count<L: Peer>(rt: &impl Abort, peer: &mut L, kind: PortType, words: &[u64; 4]) {
+    let get = Call::Get { kind, reference: 2 };
+    let [first, second, third, fourth] = *words;
+    let steps = [
+        (get, Content::Get { word: first }),
+        (Call::ExitInitialization, Content::ExitInitialization),
+        step(0, 20, false),
+        (get, Content::Get { word: second }),
+        step(20, 20, false),
+        (get, Content::Get { word: third }),
+        step(40, 20, false),
+        (get, Content::Get { word: fourth }),
+    ];
+    run(rt, peer, &steps);
+}
+
+#[test]
+fn a_counter_counts(rt: HostRuntime) -> Result<(), Fail> {
+    let alloc = rt.alloc();
+    for (kind, inc, words) in COUNTS {
+        let shape = counter_shape(alloc, kind, inc, None)?;
+        let mut bench = Bench::new(alloc, None, Vec::new(alloc));
+        let mut counter = start(&rt, alloc, &mut bench, &shape)?;
+        run(&rt, &mut counter, &BEGIN);
+        count(&rt, &mut counter, kind, &words);
+        run(&rt, &mut counter, &END);
+        assert!(rt; counter.talk().is_none());
+    }
+    Ok(())
+}
+
+#[test]
+fn a_long_step_asks_to_end(rt: HostRuntime) -> Result<(), Fail> {
+    let alloc = rt.alloc();
+    for (long, size, terminate) in LONGS {
+        let shape = counter_shape(alloc, PortType::Int32, 1, long)?;
+        let mut bench = Bench::new(alloc, None, Vec::new(alloc));
+        let mut counter = start(&rt, alloc, &mut bench, &shape)?;
+        run(&rt, &mut counter, &BEGIN);
+        let exit = (Call::ExitInitialization, Content::ExitInitialization);
+        assert!(rt; size < 60);
+        run(&rt, &mut counter, &[exit, step(0, size, terminate)]);
+    }
+    Ok(())
+}
+
+fn length_of(talk: Option<&[Exchange]>) -> usize {
+    match talk {
+        Some(talk) => talk.len(),
+        None => 0,
+    }
+}
+
+fn fails<S: Spawner>(
+    rt: &impl Abort,
+    alloc: Global,
+    spawner: &mut S,
+    shape: &Shape,
+    want: StartFault,
+)
+where
+    S::Link: Drop,
+{
+    match start(rt, alloc, spawner, shape) {
+        Ok(_) => assert!(rt; false, "it started"),
+        Err(fault) => assert_eq!(rt; fault, want),
+    }
+}
+
+#[test]
+fn a_full_room_fails_and_starts_fail_by_their_list(rt: HostRuntime) -> Result<(), Fail> {
+    let alloc = rt.alloc();
+    let shape = counter_shape(alloc, PortType::Int32, 1, None)?;
+    let other = self::shape(alloc, "gauge", Vec::new(alloc))?;
+    let mut bench = Bench::new(alloc, Some(2), vec![in alloc; 1, 9]?);
+    let mut counter = start(&rt, alloc, &mut bench, &shape)?;
+    fails(&rt, alloc, &mut bench, &shape, StartFault::Failed);
+    fails(&rt, alloc, &mut bench, &other, StartFault::Unknown);
+    assert_eq!(rt; ask(&rt, &mut counter, INSTANTIATE).is_ok(), true);
+    assert_eq!(rt; ask(&rt, &mut counter, INITIALIZE), Err(PeerFault::Failed));
+    assert!(rt; bench.retired().len() < bench.retired.started);
+    assert_eq!(rt; length_of(counter.talk()), 2);
+    bench.retire(counter);
+    assert_eq!(rt; bench.retired().len(), 1);
+    Ok(())
+}
+
+#[test]
+fn a_script_gives_its_answers_and_then_fails(rt: HostRuntime) -> Result<(), Fail> {
+    let alloc = rt.alloc();
+    let shape = self::shape(alloc, "gauge", Vec::new(alloc))?;
+    let warned = Ok(Reply::Done {
+        is_warning: true,
+        content: Content::Instantiate,
+    });
+    let answers = vec![in alloc; warned]?;
+    let lists = vec![in alloc; Items::from_vec(Vec::new(alloc)), Items::from_vec(answers)]?;
+    let mut scripts = Scripts::new(alloc, lists, vec![in alloc; 0]?);
+    fails(&rt, alloc, &mut scripts, &shape, StartFault::Failed);
+    let mut script = start(&rt, alloc, &mut scripts, &shape)?;
+    fails(&rt, alloc, &mut scripts, &shape, StartFault::Failed);
+    assert_eq!(rt; ask(&rt, &mut script, INSTANTIATE), warned);
+    assert_eq!(rt; ask(&rt, &mut script, INITIALIZE), Err(PeerFault::Failed));
+    assert!(rt; scripts.retired().len() < scripts.retired.started);
+    assert_eq!(rt; length_of(script.talk()), 2);
+    scripts.retire(script);
+    assert_eq!(rt; scripts.retired().len(), 1);
+    Ok(())
+}
