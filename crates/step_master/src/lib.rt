@@ -12,3 +12,6 @@ mod steps;
 pub use room::Room;
 pub use run::{Finished, run_alone};
 pub use run_end::RunEnd;
+
+#[cfg(test)]
+mod tests;
