@@ -1,0 +1,40 @@
+use Rattle.std.proofs.Common.{◌≡◌, IfSome, subst, sym, ap, ◌∙◌, codes}
+use Rattle.std.specs.Prelude.{option_map}
+use Rattle.fmu_peer.specs.Machine.{Machine}
+use Rattle.fmu_peer.specs.View.{Fixed, Origin}
+use Rattle.run_model.specs.declared.system.System.{System}
+use Rattle.run_model.specs.Behaved.{WellBehaved}
+use Rattle.step_master.specs.Progress.{run_of}
+use Rattle.step_master.specs.Whole.{WritesWhole, CompletesWhole}
+use Rattle.ssprun.proofs.Peer.{tells_end}
+use Rattle.ssprun.proofs.run.run_peer.Goals as goal
+
+pub returns : goal.returns
+returns g c before e = record {
+  v = g.S.Link.Peer.view c.run_alone-peer.result.peer;
+  peer = record {
+    started = c.retire.ensures.started ∙ e;
+    retired = c.retire.ensures.retired;
+    starts = c.retire.ensures.faults;
+    shape = ap (λ (f : Fixed). f.shape) c.run_alone-peer.ensures.fixed ∙ c.requires.peer.shape_is;
+    origin = subst
+        (λ (f : Fixed). IfSome f.origin (λ (o : Origin). o ≡ record { host = codes "builtin"; name = codes "fmu"; directory = c.args.options.now.directory.now }))
+        (sym c.run_alone-peer.ensures.fixed) c.requires.peer.origin;
+    legal = c.phase.ensures.legal;
+  };
+  tells = tells_end c.run_alone-peer.result.end (g.S.Link.Peer.view c.args.peer) (g.S.Link.Peer.view c.run_alone-peer.result.peer)
+      c.requires.peer.talk c.requires.peer.faults c.run_alone-peer.ensures.peer;
+  outs = c.run_alone-peer.ensures.told;
+  writes = subst
+      (λ (s : System). WritesWhole s c.args.options.now.plan c.run_alone-peer.result.end (g.O.Sink.content c.args.out.now) (g.O.Sink.content c.run_alone-peer.new.out))
+      c.requires.prepared.system c.run_alone-peer.ensures.writes;
+  trace = λ m t w. subst
+      (λ (s : System). CompletesWhole (run_of s c.args.options.now.plan m) c.run_alone-peer.result.end (g.O.Sink.content c.args.out.now) (g.O.Sink.content c.run_alone-peer.new.out))
+      c.requires.prepared.system
+      (c.run_alone-peer.ensures.trace m
+      (record {
+        machine = sym (ap (λ (f : Fixed). f.machine) c.run_alone-peer.ensures.fixed) ∙ t;
+        state = c.requires.peer.state ∙ ap (option_map (λ (m : Machine). m.first)) (sym (ap (λ (f : Fixed). f.machine) c.run_alone-peer.ensures.fixed) ∙ t);
+      })
+      (subst (λ (s : System). WellBehaved (run_of s c.args.options.now.plan m)) (sym c.requires.prepared.system) w));
+}

@@ -1,0 +1,150 @@
+-- What holds of each outcome of running one FMU.
+use Rattle.std.specs.Prelude.{◌≡◌, ◌⊎◌, ℕ, ℤ, ◌+◌, ◌<◌, ◌≤◌, ◌^◌, Bool, false, List, [], ◌∷◌, ◌++◌, length, Option, Some, None, IfSome, option_map, codes}
+use Rattle.sim_base.specs.Causes.{Rose}
+use Rattle.sim_base.specs.Escape.{escaped}
+use Rattle.fmi_calls.specs.declared.phase.State.TheVariants as P
+use Rattle.fmu_peer.specs.Answer.{IsLink, IsFirstBad}
+use Rattle.fmu_peer.specs.Machine.{Machine}
+use Rattle.fmu_peer.specs.Talk as T
+use Rattle.fmu_peer.specs.View.{View, AllGood, IsLegal}
+use Rattle.run_model.specs.Behaved.{WellBehaved}
+use Rattle.step_master.specs.Progress.{run_of}
+use Rattle.step_master.specs.Follow.{IsRunCall, call_of}
+use Rattle.step_master.specs.End.{TellsWrite}
+use Rattle.step_master.specs.Whole.{HasGoodFront, WritesWhole, CompletesWhole}
+use Rattle.step_master.specs.declared.run_end.RunEnd.{RunEnd}
+use Rattle.step_master.specs.declared.run_end.RunEnd.TheVariants.{Stop, Asked, Bad, WriteFault}
+use Rattle.counter_form.specs.Form.{IsForm}
+use Rattle.counter_form.specs.Counter.{counter_shape}
+use Rattle.command_line.specs.Line.{Line, IsLine}
+use Rattle.ssprun.specs.declared.outcome.Outcome.{Outcome}
+use Rattle.ssprun.specs.declared.outcome.Outcome.TheVariants.{Words, ReadFailed, Missing, TooBig, OtherForm, StartFailed, Unknown, Memory, Ran}
+use Rattle.ssprun.specs.System.{counter_system, description_path}
+use Rattle.ssprun.specs.Line.{read_line, missing_line, big_line, refused_line}
+
+-- what the spawner and the output tell, with their counts of faults
+pub record Stage : Type 0 where
+  pub started : ℕ
+  pub retired : Option (List View)
+  pub knows : List ℕ → Bool
+  pub starts : ℕ
+  pub out : Option (List ℕ)
+  pub outs : ℕ
+
+abbrev pub stage : ℕ → Option (List View) → (List ℕ → Bool) → ℕ → Option (List ℕ) → ℕ → Stage
+stage started retired knows starts out outs =
+    record { started = started; retired = retired; knows = knows; starts = starts; out = out; outs = outs }
+
+-- what a folder tells, with its counts of faults before and after
+pub record Shelf : Type 0 where
+  pub files : Option (List ℕ → Option (List ℕ))
+  pub before : ℕ
+  pub after : ℕ
+
+abbrev pub shelf : Option (List ℕ → Option (List ℕ)) → ℕ → ℕ → Shelf
+shelf files before after = record { files = files; before = before; after = after }
+
+-- no peer was started, and nothing was put
+pub record Idle (old new : Stage) : Type 0 where
+  pub started : new.started ≡ old.started
+  pub retired : new.retired ≡ old.retired
+  pub out : new.out ≡ old.out
+  pub outs : new.outs ≡ old.outs
+
+-- no start failed
+abbrev pub Calm : Stage → Stage → Type 0
+Calm old new = Idle old new × (new.starts ≡ old.starts)
+
+-- one peer was started and taken back: of the counter's shape, with what the command says, and with a talk that is legal
+pub record RunsPeer (line : Line) (start : ℤ) (old new : Stage) (v : View) : Type 0 where
+  pub started : new.started ≡ old.started + 1
+  pub retired : new.retired ≡ option_map (λ views. views ++ v ∷ []) old.retired
+  pub starts : new.starts ≡ old.starts
+  pub shape : v.fixed.shape ≡ counter_shape line.plan.resolution start
+  pub origin : IfSome v.fixed.origin (λ o. o ≡ record { host = codes "builtin"; name = codes "fmu"; directory = line.directory })
+  pub legal : IsLegal v
+
+-- the peer's talk and count at the end of its run
+abbrev pub TellsEnd : RunEnd → View → Type 0
+TellsEnd Stop v = IfSome v.talk (HasGoodFront v.fixed.shape) × (AllGood v → IfSome v.talk (T.Closed v.fixed.shape))
+TellsEnd (Asked point) v = IfSome v.talk (HasGoodFront v.fixed.shape) × (AllGood v → IfSome v.talk (T.Closed v.fixed.shape))
+TellsEnd (Bad component why) v = IfSome v.talk (IsFirstBad v.fixed.shape why) × IsRunCall (call_of why) × (IsLink why → Rose 0 v.faults)
+TellsEnd WriteFault v = AllGood v × (v.faults ≡ 0) × ((v.phase.state ≡ P.Instantiated) ⊎ (v.phase.state ≡ P.Step))
+
+-- a run from its start to its end
+pub record HasRun (line : Line) (start : ℤ) (end : RunEnd) (old new : Stage) : Type 0 where
+  pub v : View
+  pub peer : RunsPeer line start old new v
+  pub tells : TellsEnd end v
+  pub outs : TellsWrite end old.outs new.outs
+  pub writes : WritesWhole (counter_system line.plan.resolution start) line.plan end old.out new.out
+  pub trace : (m : Machine) → v.fixed.machine ≡ Some m → WellBehaved (run_of (counter_system line.plan.resolution start) line.plan m) →
+      CompletesWhole (run_of (counter_system line.plan.resolution start) line.plan m) end old.out new.out
+
+-- what holds of an outcome once the description is read
+abbrev pub StartFacts : Outcome → Line → ℤ → Stage → Stage → Type 0
+StartFacts Words line start old new = ⊥
+StartFacts (ReadFailed text) line start old new = ⊥
+StartFacts (Missing text) line start old new = ⊥
+StartFacts (TooBig text) line start old new = ⊥
+StartFacts (OtherForm text) line start old new = ⊥
+StartFacts StartFailed line start old new = Idle old new × Rose old.starts new.starts
+StartFacts Unknown line start old new = Calm old new × (old.knows (codes "counter") ≡ false)
+StartFacts Memory line start old new = Calm old new
+StartFacts (Ran end) line start old new = HasRun line start end old new
+
+-- the description's name on a line
+abbrev pub file_of : Line → List ℕ
+file_of line = escaped (description_path line.directory)
+
+-- what the folder tells of the file
+abbrev pub AtPath : Line → Shelf → (Option (List ℕ) → Type 0) → Type 0
+AtPath line folder P = IfSome folder.files (λ at. P (at (description_path line.directory)))
+
+-- the file is too long
+abbrev pub IsTooBig : Option (List ℕ) → Type 0
+IsTooBig file = (bytes : List ℕ) × (file ≡ Some bytes) × (2 ^ 24 < length bytes)
+
+-- the file is within the limit, and is no description of the form
+abbrev pub IsOther : Option (List ℕ) → Type 0
+IsOther file = (bytes : List ℕ) × (file ≡ Some bytes) × (length bytes ≤ 2 ^ 24) × ((start : ℤ) → IsForm bytes start → ⊥)
+
+-- the file is within the limit, and is a description with this start value
+abbrev pub IsCounter : ℤ → Option (List ℕ) → Type 0
+IsCounter start file = (bytes : List ℕ) × (file ≡ Some bytes) × (length bytes ≤ 2 ^ 24) × IsForm bytes start
+
+-- what holds of an outcome of the command that a line asks for
+abbrev pub LineFacts : Outcome → Line → Shelf → Stage → Stage → Type 0
+LineFacts Words line folder old new = ⊥
+LineFacts (ReadFailed text) line folder old new = Calm old new × (text ≡ read_line (file_of line)) × Rose folder.before folder.after
+LineFacts (Missing text) line folder old new =
+    Calm old new × (text ≡ missing_line (file_of line)) × AtPath line folder (λ file. file ≡ None) × (folder.after ≡ folder.before)
+LineFacts (TooBig text) line folder old new =
+    Calm old new × (text ≡ big_line (file_of line)) × AtPath line folder IsTooBig × (folder.after ≡ folder.before)
+LineFacts (OtherForm text) line folder old new =
+    Calm old new × (text ≡ refused_line (file_of line)) × AtPath line folder IsOther × (folder.after ≡ folder.before)
+LineFacts StartFailed line folder old new =
+    (start : ℤ) × AtPath line folder (IsCounter start) × StartFacts StartFailed line start old new × (folder.after ≡ folder.before)
+LineFacts Unknown line folder old new =
+    (start : ℤ) × AtPath line folder (IsCounter start) × StartFacts Unknown line start old new × (folder.after ≡ folder.before)
+LineFacts Memory line folder old new = Calm old new × (folder.after ≡ folder.before)
+LineFacts (Ran end) line folder old new =
+    (start : ℤ) × AtPath line folder (IsCounter start) × HasRun line start end old new × (folder.after ≡ folder.before)
+
+-- the command that the words are, and what holds of its outcome
+pub record RunsLine (outcome : Outcome) (words : List (List ℕ)) (folder : Shelf) (old new : Stage) : Type 0 where
+  pub line : Line
+  pub is : IsLine words line
+  pub only : (other : Line) → IsLine words other → line ≡ other
+  pub facts : LineFacts outcome line folder old new
+
+-- the words are no command
+pub record RefusesWords (outcome : Outcome) (words : List (List ℕ)) (folder : Shelf) (old new : Stage) : Type 0 where
+  pub outcome_is : outcome ≡ Words
+  pub none : (line : Line) → IsLine words line → ⊥
+  pub calm : Calm old new
+  pub unread : folder.after ≡ folder.before
+
+-- what holds of an outcome of the program
+abbrev pub Facts : Outcome → List (List ℕ) → Shelf → Stage → Stage → Type 0
+Facts outcome words folder old new = RunsLine outcome words folder old new ⊎ RefusesWords outcome words folder old new

@@ -1,0 +1,6 @@
+pub mod System
+pub mod Frame
+pub mod Line
+pub mod Facts
+pub mod Lines
+pub mod Prepared
