@@ -1,5 +1,5 @@
 -- What holds of each outcome of running one FMU.
-use Rattle.std.specs.Prelude.{◌≡◌, ◌⊎◌, ℕ, ℤ, ◌+◌, ◌<◌, ◌≤◌, ◌^◌, Bool, false, List, [], ◌∷◌, ◌++◌, length, Option, Some, None, IfSome, option_map, codes}
+use Rattle.std.specs.Prelude.{true, ◌≡◌, ◌⊎◌, ℕ, ℤ, ◌+◌, ◌<◌, ◌≤◌, ◌^◌, Bool, false, List, [], ◌∷◌, ◌++◌, length, Option, Some, None, IfSome, option_map, codes}
 use Rattle.sim_base.specs.Causes.{Rose}
 use Rattle.sim_base.specs.Escape.{escaped}
 use Rattle.fmi_calls.specs.declared.phase.State.TheVariants as P
@@ -74,6 +74,7 @@ TellsEnd WriteFault v = AllGood v × (v.faults ≡ 0) × ((v.phase.state ≡ P.I
 -- a run from its start to its end
 pub record HasRun (line : Line) (start : ℤ) (end : RunEnd) (old new : Stage) : Type 0 where
   pub v : View
+  pub known : old.knows (codes "counter") ≡ true
   pub peer : RunsPeer line start old new v
   pub tells : TellsEnd end v
   pub outs : TellsWrite end old.outs new.outs
@@ -109,9 +110,10 @@ IsTooBig file = (bytes : List ℕ) × (file ≡ Some bytes) × (2 ^ 24 < length 
 abbrev pub IsOther : Option (List ℕ) → Type 0
 IsOther file = (bytes : List ℕ) × (file ≡ Some bytes) × (length bytes ≤ 2 ^ 24) × ((start : ℤ) → IsForm bytes start → ⊥)
 
--- the file is within the limit, and is a description with this start value
+-- the file is within the limit, and is a description with this start value alone
 abbrev pub IsCounter : ℤ → Option (List ℕ) → Type 0
-IsCounter start file = (bytes : List ℕ) × (file ≡ Some bytes) × (length bytes ≤ 2 ^ 24) × IsForm bytes start
+IsCounter start file =
+    (bytes : List ℕ) × (file ≡ Some bytes) × (length bytes ≤ 2 ^ 24) × IsForm bytes start × ((other : ℤ) → IsForm bytes other → start ≡ other)
 
 -- what holds of an outcome of the command that a line asks for
 abbrev pub LineFacts : Outcome → Line → Shelf → Stage → Stage → Type 0
@@ -138,9 +140,20 @@ pub record RunsLine (outcome : Outcome) (words : List (List ℕ)) (folder : Shel
   pub only : (other : Line) → IsLine words other → line ≡ other
   pub facts : LineFacts outcome line folder old new
 
+abbrev pub IsWords : Outcome → Type 0
+IsWords Words = Unit {0}
+IsWords (ReadFailed text) = ⊥
+IsWords (Missing text) = ⊥
+IsWords (TooBig text) = ⊥
+IsWords (OtherForm text) = ⊥
+IsWords StartFailed = ⊥
+IsWords Unknown = ⊥
+IsWords Memory = ⊥
+IsWords (Ran end) = ⊥
+
 -- the words are no command
 pub record RefusesWords (outcome : Outcome) (words : List (List ℕ)) (folder : Shelf) (old new : Stage) : Type 0 where
-  pub outcome_is : outcome ≡ Words
+  pub outcome_is : IsWords outcome
   pub none : (line : Line) → IsLine words line → ⊥
   pub calm : Calm old new
   pub unread : folder.after ≡ folder.before

@@ -4,3 +4,4 @@ pub mod Line
 pub mod Facts
 pub mod Lines
 pub mod Prepared
+pub mod Rows

@@ -1,11 +1,13 @@
-ghost use Rattle.std.specs.Prelude.{◌≡◌, ◌+◌, ◌<◌, IfOk, IfSome, length, ℤ, ℕ, codes, string_bytes};
+ghost use Rattle.std.specs.Prelude.{◌≡◌, ◌+◌, ◌<◌, true, List, IfOk, IfSome, length, ℤ, ℕ, codes, string_bytes};
 ghost use Rattle.command_line.specs.Line.{IsWithin, line_of, texts};
 ghost use Rattle.fmu_peer.specs.Start.{IsStarted};
 ghost use Rattle.counter_form.specs.Counter.{counter_shape};
 ghost use Rattle.ssprun.specs.System.{counter_system, description_path};
 ghost use Rattle.ssprun.specs.Facts.{Facts, LineFacts, StartFacts, shelf, stage};
-ghost use Rattle.ssprun.specs.Line.{Puts, outcome_line, outcome_status};
-ghost use Rattle.ssprun.specs.declared.outcome.Outcome.{Outcome};
+ghost use Rattle.ssprun.specs.Rows.{EndRow, FileRow, FormRow, LinkRow, MemoryRow, MisreplyRow, PeerRow, RefusalRow, TraceRow, WordsRow, WriteRow, command};
+ghost use Rattle.run_model.specs.declared.plan.EndKind.{EndKind};
+ghost use Rattle.run_model.specs.Text.{Instant};
+ghost use Rattle.run_model.specs.Trace.{IsTrace, Run};
 ghost use Rattle.ssprun.specs.Lines.{NamesFile};
 ghost use Rattle.ssprun.specs.Prepared.{IsPrepared};
 
@@ -15,7 +17,7 @@ use crate::report::report;
 use command_line::{Options, read_words};
 use counter_form::{make_shape, read_form};
 use fmu_peer::{Peer, Spawner, StartFault};
-use run_model::{Component, Port, System};
+use run_model::{Component, Port, System, one_trace};
 use sim_base::{CompId, Folder, Items, MOST_FILE_BYTES, ReadFault, Sink, Text};
 use std::alloc::{AllocError, Global};
 use std::thread::Threads;
@@ -36,12 +38,53 @@ pub fn run_words<R: Threads + Sync, F: Folder, S: Spawner, O: Sink, E: Sink>(
     out: &mut O,
     err: &mut E,
 ) -> u8
-    ensures outcome { (outcome : Outcome)
-        × Facts outcome (texts words.now) (shelf (F.files folder.old) (F.faults folder.old) (F.faults folder.new))
+    ensures done { EndRow (command (texts words.now) (shelf (F.files folder.old) (F.faults folder.old) (F.faults folder.new))
         (stage (S.started spawner.old) (S.retired spawner.old) (S.knows spawner.old) (S.faults spawner.old) (O.content out.old) (O.faults out.old))
         (stage (S.started spawner.new) (S.retired spawner.new) (S.knows spawner.new) (S.faults spawner.new) (O.content out.new) (O.faults out.new))
-        × Puts (outcome_line outcome) (outcome_status outcome) result (E.content err.old) (E.content err.new) (E.faults err.old) (E.faults err.new) }
+        result (E.content err.old) (E.content err.new) (E.faults err.old) (E.faults err.new)) }
+    ensures words { WordsRow (command (texts words.now) (shelf (F.files folder.old) (F.faults folder.old) (F.faults folder.new))
+        (stage (S.started spawner.old) (S.retired spawner.old) (S.knows spawner.old) (S.faults spawner.old) (O.content out.old) (O.faults out.old))
+        (stage (S.started spawner.new) (S.retired spawner.new) (S.knows spawner.new) (S.faults spawner.new) (O.content out.new) (O.faults out.new))
+        result (E.content err.old) (E.content err.new) (E.faults err.old) (E.faults err.new)) }
+    ensures file { FileRow (command (texts words.now) (shelf (F.files folder.old) (F.faults folder.old) (F.faults folder.new))
+        (stage (S.started spawner.old) (S.retired spawner.old) (S.knows spawner.old) (S.faults spawner.old) (O.content out.old) (O.faults out.old))
+        (stage (S.started spawner.new) (S.retired spawner.new) (S.knows spawner.new) (S.faults spawner.new) (O.content out.new) (O.faults out.new))
+        result (E.content err.old) (E.content err.new) (E.faults err.old) (E.faults err.new)) }
+    ensures form { FormRow (command (texts words.now) (shelf (F.files folder.old) (F.faults folder.old) (F.faults folder.new))
+        (stage (S.started spawner.old) (S.retired spawner.old) (S.knows spawner.old) (S.faults spawner.old) (O.content out.old) (O.faults out.old))
+        (stage (S.started spawner.new) (S.retired spawner.new) (S.knows spawner.new) (S.faults spawner.new) (O.content out.new) (O.faults out.new))
+        result (E.content err.old) (E.content err.new) (E.faults err.old) (E.faults err.new)) }
+    ensures link { LinkRow (command (texts words.now) (shelf (F.files folder.old) (F.faults folder.old) (F.faults folder.new))
+        (stage (S.started spawner.old) (S.retired spawner.old) (S.knows spawner.old) (S.faults spawner.old) (O.content out.old) (O.faults out.old))
+        (stage (S.started spawner.new) (S.retired spawner.new) (S.knows spawner.new) (S.faults spawner.new) (O.content out.new) (O.faults out.new))
+        result (E.content err.old) (E.content err.new) (E.faults err.old) (E.faults err.new)) }
+    ensures refusal { RefusalRow (command (texts words.now) (shelf (F.files folder.old) (F.faults folder.old) (F.faults folder.new))
+        (stage (S.started spawner.old) (S.retired spawner.old) (S.knows spawner.old) (S.faults spawner.old) (O.content out.old) (O.faults out.old))
+        (stage (S.started spawner.new) (S.retired spawner.new) (S.knows spawner.new) (S.faults spawner.new) (O.content out.new) (O.faults out.new))
+        result (E.content err.old) (E.content err.new) (E.faults err.old) (E.faults err.new)) }
+    ensures misreply { MisreplyRow (command (texts words.now) (shelf (F.files folder.old) (F.faults folder.old) (F.faults folder.new))
+        (stage (S.started spawner.old) (S.retired spawner.old) (S.knows spawner.old) (S.faults spawner.old) (O.content out.old) (O.faults out.old))
+        (stage (S.started spawner.new) (S.retired spawner.new) (S.knows spawner.new) (S.faults spawner.new) (O.content out.new) (O.faults out.new))
+        result (E.content err.old) (E.content err.new) (E.faults err.old) (E.faults err.new)) }
+    ensures write { WriteRow (command (texts words.now) (shelf (F.files folder.old) (F.faults folder.old) (F.faults folder.new))
+        (stage (S.started spawner.old) (S.retired spawner.old) (S.knows spawner.old) (S.faults spawner.old) (O.content out.old) (O.faults out.old))
+        (stage (S.started spawner.new) (S.retired spawner.new) (S.knows spawner.new) (S.faults spawner.new) (O.content out.new) (O.faults out.new))
+        result (E.content err.old) (E.content err.new) (E.faults err.old) (E.faults err.new)) }
+    ensures memory { MemoryRow (command (texts words.now) (shelf (F.files folder.old) (F.faults folder.old) (F.faults folder.new))
+        (stage (S.started spawner.old) (S.retired spawner.old) (S.knows spawner.old) (S.faults spawner.old) (O.content out.old) (O.faults out.old))
+        (stage (S.started spawner.new) (S.retired spawner.new) (S.knows spawner.new) (S.faults spawner.new) (O.content out.new) (O.faults out.new))
+        result (E.content err.old) (E.content err.new) (E.faults err.old) (E.faults err.new)) }
+    ensures peer { PeerRow (command (texts words.now) (shelf (F.files folder.old) (F.faults folder.old) (F.faults folder.new))
+        (stage (S.started spawner.old) (S.retired spawner.old) (S.knows spawner.old) (S.faults spawner.old) (O.content out.old) (O.faults out.old))
+        (stage (S.started spawner.new) (S.retired spawner.new) (S.knows spawner.new) (S.faults spawner.new) (O.content out.new) (O.faults out.new))
+        result (E.content err.old) (E.content err.new) (E.faults err.old) (E.faults err.new)) }
+    ensures trace { TraceRow (command (texts words.now) (shelf (F.files folder.old) (F.faults folder.old) (F.faults folder.new))
+        (stage (S.started spawner.old) (S.retired spawner.old) (S.knows spawner.old) (S.faults spawner.old) (O.content out.old) (O.faults out.old))
+        (stage (S.started spawner.new) (S.retired spawner.new) (S.knows spawner.new) (S.faults spawner.new) (O.content out.new) (O.faults out.new))
+        result (E.content err.old) (E.content err.new) (E.faults err.old) (E.faults err.new)) }
+    ensures one { (r : Run) (is js : List Instant) (k l : EndKind) (p q : ℕ) → IsTrace r is k p → IsTrace r js l q → (is ≡ js) × (k ≡ l) × (p ≡ q) }
 {
+    one_trace();
     let outcome = run(alloc, words, folder, spawner, out);
     report(&outcome, err)
 }
@@ -191,6 +234,7 @@ fn run_peer<S: Spawner, O: Sink>(
     requires within { IsWithin (line_of options.now) }
     requires prepared { IsPrepared options.now.plan.resolution _start prepared.old }
     requires peer { IsStarted (codes "builtin") (codes "fmu") options.now.directory.now (counter_shape options.now.plan.resolution _start) (S.Link.view peer) }
+    requires known { S.knows spawner.old (codes "counter") ≡ true }
     requires fewer { IfSome (S.retired spawner.old) (λ views. length views < S.started spawner.old) }
     ensures { (before : ℕ) → S.started spawner.old ≡ before + 1 → StartFacts result (line_of options.now) _start
         (stage before (S.retired spawner.old) (S.knows spawner.old) (S.faults spawner.old) (O.content out.old) (O.faults out.old))

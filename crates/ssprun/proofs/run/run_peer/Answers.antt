@@ -12,6 +12,7 @@ use Rattle.ssprun.proofs.run.run_peer.Goals as goal
 pub returns : goal.returns
 returns g c before e = record {
   v = g.S.Link.Peer.view c.run_alone-peer.result.peer;
+  known = c.requires.known;
   peer = record {
     started = c.retire.ensures.started ∙ e;
     retired = c.retire.ensures.retired;

@@ -1,0 +1,166 @@
+-- When each status comes, and what stands then.
+use Rattle.std.specs.Prelude.{◌≡◌, ◌⊎◌, ℕ, ℤ, ◌<◌, true, false, List, Option, Some, None, IfSome, IsSomeAnd, codes}
+use Rattle.sim_base.specs.Causes.{Rose}
+use Rattle.sim_base.specs.Told.{added, AddsPart}
+use Rattle.fmi_calls.specs.declared.call.Call.{Call}
+use Rattle.fmi_calls.specs.declared.call.Reply.{Reply}
+use Rattle.fmi_calls.specs.declared.call.BadStatus.{BadStatus}
+use Rattle.fmu_peer.specs.declared.peer.PeerFault.{PeerFault}
+use Rattle.fmu_peer.specs.declared.ended.Why.{Why}
+use Rattle.fmu_peer.specs.declared.ended.Why.TheVariants.{Refused, Misreply, Link}
+use Rattle.fmu_peer.specs.Machine.{Machine}
+use Rattle.fmu_peer.specs.Talk as T
+use Rattle.fmu_peer.specs.View.{View, AllGood}
+use Rattle.run_model.specs.declared.plan.EndKind.{EndKind}
+use Rattle.run_model.specs.Text.{Instant, trace_text}
+use Rattle.run_model.specs.Trace.{Run, IsTrace}
+use Rattle.run_model.specs.Behaved.{WellBehaved}
+use Rattle.step_master.specs.Progress.{run_of}
+use Rattle.step_master.specs.End.{is_finished}
+use Rattle.step_master.specs.declared.run_end.RunEnd.{RunEnd}
+use Rattle.step_master.specs.declared.run_end.RunEnd.TheVariants.{Bad}
+use Rattle.sim_base.specs.declared.numbers.CompId.{CompId}
+use Rattle.command_line.specs.Line.{Line, IsLine}
+use Rattle.ssprun.specs.System.{counter_system, description_path}
+use Rattle.ssprun.specs.Line.{read_line, missing_line, big_line, refused_line, why_line}
+use Rattle.ssprun.specs.Facts.{Stage, Shelf, Idle, Calm, RunsPeer, HasRun, file_of, AtPath, IsTooBig, IsOther, IsCounter}
+
+-- a call of the program: its words, what is told before and after it, its status, and what err tells with its counts of faults
+pub record Command : Type 0 where
+  pub words : List (List ℕ)
+  pub folder : Shelf
+  pub old : Stage
+  pub new : Stage
+  pub status : ℕ
+  pub before : Option (List ℕ)
+  pub after : Option (List ℕ)
+  pub errs : ℕ
+  pub errs_after : ℕ
+
+abbrev pub command : List (List ℕ) → Shelf → Stage → Stage → ℕ → Option (List ℕ) → Option (List ℕ) → ℕ → ℕ → Command
+command words folder old new status before after errs errs_after = record {
+  words = words;
+  folder = folder;
+  old = old;
+  new = new;
+  status = status;
+  before = before;
+  after = after;
+  errs = errs;
+  errs_after = errs_after;
+}
+
+-- err holds this text more, and no put on it failed
+abbrev pub Says : Command → List ℕ → Type 0
+Says d text = (d.after ≡ added d.before text) × (d.errs_after ≡ d.errs)
+
+-- the line couldn't be put
+abbrev pub IsMute : Command → Type 0
+IsMute d = (d.status ≡ 10) × Rose d.errs d.errs_after
+
+-- this status with this line, unless the line couldn't be put
+abbrev pub Answers : Command → ℕ → List ℕ → Type 0
+Answers d status text = ((d.status ≡ status) × Says d text) ⊎ IsMute d
+
+-- want of memory, or this status with this line
+abbrev pub AnswersOr11 : Command → ℕ → List ℕ → Type 0
+AnswersOr11 d status text = (d.status ≡ 11) ⊎ Answers d status text
+
+-- no read failed, and the folder tells this of the file
+pub record Finds (d : Command) (line : Line) (P : Option (List ℕ) → Type 0) : Type 0 where
+  pub quiet : Rose d.folder.before d.folder.after → ⊥
+  pub told : IsSomeAnd d.folder.files (λ at. P (at (description_path line.directory)))
+
+-- 2: exactly where the words are no command
+pub record WordsRow (d : Command) : Type 0 where
+  pub when : d.status ≡ 2 → ((line : Line) → IsLine d.words line → ⊥) × Calm d.old d.new × Says d (codes "words\n")
+  pub exact : ((line : Line) → IsLine d.words line → ⊥) → Answers d 2 (codes "words\n")
+
+abbrev pub ReadFails : Command → Line → Type 0
+ReadFails d line = Says d (read_line (file_of line)) × Rose d.folder.before d.folder.after
+
+abbrev pub LacksFile : Command → Line → Type 0
+LacksFile d line = Says d (missing_line (file_of line)) × AtPath line d.folder (λ file. file ≡ None)
+
+abbrev pub FindsTooMuch : Command → Line → Type 0
+FindsTooMuch d line = Says d (big_line (file_of line)) × AtPath line d.folder IsTooBig
+
+-- 3: `read` only where the folder's count rose, `missing` and `big` exactly where the file is so
+pub record FileRow (d : Command) : Type 0 where
+  pub when : d.status ≡ 3 → (line : Line) × IsLine d.words line × Calm d.old d.new × (ReadFails d line ⊎ (LacksFile d line ⊎ FindsTooMuch d line))
+  pub missing : (line : Line) → IsLine d.words line → Finds d line (λ file. file ≡ None) → AnswersOr11 d 3 (missing_line (file_of line))
+  pub big : (line : Line) → IsLine d.words line → Finds d line IsTooBig → AnswersOr11 d 3 (big_line (file_of line))
+
+-- 4: exactly where the file is of another form
+pub record FormRow (d : Command) : Type 0 where
+  pub when : d.status ≡ 4 → (line : Line) × IsLine d.words line × Calm d.old d.new × AtPath line d.folder IsOther × Says d (refused_line (file_of line))
+  pub exact : (line : Line) → IsLine d.words line → Finds d line IsOther → AnswersOr11 d 4 (refused_line (file_of line))
+
+-- the run that ended by the first answer that isn't good, with its line
+abbrev pub EndsBy : Command → Line → ℤ → Why → Type 0
+EndsBy d line start why = Says d (why_line why) × (component : CompId) × HasRun line start (Bad component why) d.old d.new
+
+abbrev pub StartFails : Command → Type 0
+StartFails d = Says d (codes "link fmu start\n") × Idle d.old d.new × Rose d.old.starts d.new.starts
+
+abbrev pub IsUnknown : Command → Type 0
+IsUnknown d = Says d (codes "unknown fmu\n") × Calm d.old d.new × (d.old.knows (codes "counter") ≡ false)
+
+abbrev pub LosesLink : Command → Line → ℤ → Type 0
+LosesLink d line start = (call : Call) × (fault : PeerFault) × EndsBy d line start (Link call fault)
+
+-- 5: `link` only where the spawner's count or the peer's rose, `unknown` exactly where the spawner doesn't know the identifier
+pub record LinkRow (d : Command) : Type 0 where
+  pub when : d.status ≡ 5 → (line : Line) × IsLine d.words line × (start : ℤ) × AtPath line d.folder (IsCounter start) × (StartFails d ⊎ (IsUnknown d ⊎ LosesLink d line start))
+  pub unknown : (line : Line) (start : ℤ) → IsLine d.words line → Finds d line (IsCounter start) → d.old.knows (codes "counter") ≡ false →
+      (Rose d.old.starts d.new.starts → ⊥) → AnswersOr11 d 5 (codes "unknown fmu\n")
+
+-- 6: only by a refusal
+pub record RefusalRow (d : Command) : Type 0 where
+  pub when : d.status ≡ 6 → (line : Line) × IsLine d.words line × (start : ℤ) × AtPath line d.folder (IsCounter start)
+      × (call : Call) × (status : BadStatus) × EndsBy d line start (Refused call status)
+
+-- 7: only by a misreply
+pub record MisreplyRow (d : Command) : Type 0 where
+  pub when : d.status ≡ 7 → (line : Line) × IsLine d.words line × (start : ℤ) × AtPath line d.folder (IsCounter start)
+      × (call : Call) × (reply : Reply) × EndsBy d line start (Misreply call reply)
+
+-- 10: only where a sink's count rose, and always where one is higher than before
+pub record WriteRow (d : Command) : Type 0 where
+  pub when : d.status ≡ 10 → Rose d.old.outs d.new.outs ⊎ Rose d.errs d.errs_after
+  pub higher : (d.old.outs < d.new.outs) ⊎ (d.errs < d.errs_after) → d.status ≡ 10
+
+-- 11: nothing was started or written
+pub record MemoryRow (d : Command) : Type 0 where
+  pub when : d.status ≡ 11 → (line : Line) × IsLine d.words line × Calm d.old d.new × Says d (codes "memory\n")
+
+-- 0: the run came to its end, and err holds what it held
+pub record EndRow (d : Command) : Type 0 where
+  pub when : d.status ≡ 0 → (line : Line) × IsLine d.words line × (start : ℤ) × AtPath line d.folder (IsCounter start)
+      × (end : RunEnd) × (is_finished end ≡ true) × HasRun line start end d.old d.new × (d.after ≡ d.before) × (d.errs_after ≡ d.errs)
+
+-- out holds the text of the one trace and the status is 0, or a put on it failed, it holds a front of the text, and the status is 10
+abbrev pub WritesTrace : Command → Run → Type 0
+WritesTrace d r = (is : List Instant) × (kind : EndKind) × (point : ℕ) × IsTrace r is kind point
+    × (((d.status ≡ 0) × (d.new.out ≡ added d.old.out (trace_text r.system r.plan is kind point)))
+    ⊎ ((d.status ≡ 10) × Rose d.old.outs d.new.outs × AddsPart d.old.out d.new.out (trace_text r.system r.plan is kind point)))
+
+-- the peer that was started, and the trace where it tells a machine that answers well and no call of it failed
+abbrev pub Traces : Command → Line → ℤ → Type 0
+Traces d line start = (v : View) × RunsPeer line start d.old d.new v
+    × ((m : Machine) → v.fixed.machine ≡ Some m → WellBehaved (run_of (counter_system line.plan.resolution start) line.plan m) → v.faults ≡ 0 →
+    WritesTrace d (run_of (counter_system line.plan.resolution start) line.plan m))
+
+-- the trace: where the file is a description, the identifier is known, and no read, start or put on err failed, or for want of memory nothing
+pub record TraceRow (d : Command) : Type 0 where
+  pub when : (line : Line) (start : ℤ) → IsLine d.words line → Finds d line (IsCounter start) → d.old.knows (codes "counter") ≡ true →
+      (Rose d.old.starts d.new.starts → ⊥) → (Rose d.errs d.errs_after → ⊥) → ((d.status ≡ 11) × Calm d.old d.new) ⊎ Traces d line start
+
+-- one peer was started and taken back, with a talk that is legal, and closed where each reply is good and no put on out failed
+abbrev pub UsesPeer : Command → Type 0
+UsesPeer d = (line : Line) × IsLine d.words line × (start : ℤ) × (v : View) × RunsPeer line start d.old d.new v
+    × (AllGood v → (Rose d.old.outs d.new.outs → ⊥) → IfSome v.talk (T.Closed v.fixed.shape))
+
+-- each peer that was started was taken back once
+abbrev pub PeerRow : Command → Type 0
+PeerRow d = Idle d.old d.new ⊎ UsesPeer d
