@@ -1,3 +1,5 @@
+ghost use Rattle.std.specs.Prelude.{None, false};
+
 use crate::run::run_words;
 use bench_fmus::{Bench, Counter, Scripts};
 use fmi_calls::{BadStatus, Content, Kind, Reply};
@@ -53,7 +55,7 @@ const WORKED: Case = Case {
 
 const REFUSED: Case = Case { out: "", ..WORKED };
 
-const CASES: [Case; 22] = [
+static CASES: [Case; 22] = [
     WORKED,
     Case {
         words: "one|d|--resolution|1000|--step|10|--stop|0",
@@ -262,7 +264,7 @@ const HEAD: &str = "trace 1 1000 0 20\nport 0 Int32 fmu y\n";
 
 const FIRST: &str = "trace 1 1000 0 20\nport 0 Int32 fmu y\nat 0 0\n0 0\n";
 
-const SCRIPTS: [ScriptCase; 8] = [
+static SCRIPTS: [ScriptCase; 8] = [
     ScriptCase {
         answers: &[STARTED, ENTERED, EXITED, READ, NOT_STEPPED, FREED],
         status: 6,
@@ -412,12 +414,17 @@ fn a_command_gives_its_trace_or_its_line(rt: HostRuntime) -> Result<(), Fail> {
         let mut bench = make_bench(&rt, rt.alloc(), case)?;
         assert_case(&rt, rt.alloc(), case, &mut bench)?;
     }
-    let unknown = Case {
+    Ok(())
+}
+
+#[test]
+fn an_unknown_model_gives_its_line(rt: HostRuntime) -> Result<(), Fail> {
+    let case = Case {
         status: 5,
         err: "unknown fmu\n",
         ..REFUSED
     };
-    assert_case(&rt, rt.alloc(), &unknown, &mut Stranger)?;
+    assert_case(&rt, rt.alloc(), &case, &mut Stranger)?;
     Ok(())
 }
 
