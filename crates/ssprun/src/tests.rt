@@ -252,9 +252,10 @@ const BEYOND: Answer = Ok(Reply::Done {
     },
 });
 
-// The answers of a peer, and what the worked command is to give.
+// The answers of a peer, how many calls it gets, and what the worked command is to give.
 struct ScriptCase {
     answers: &'static [Answer],
+    calls: usize,
     status: u8,
     out: &'static str,
     err: &'static str,
@@ -266,43 +267,50 @@ const FIRST: &str = "trace 1 1000 0 20\nport 0 Int32 fmu y\nat 0 0\n0 0\n";
 
 static SCRIPTS: [ScriptCase; 8] = [
     ScriptCase {
-        answers: &[STARTED, ENTERED, EXITED, READ, NOT_STEPPED, FREED],
+        answers: &[STARTED, ENTERED, EXITED, READ, NOT_STEPPED],
+        calls: 5,
         status: 6,
         out: FIRST,
         err: "fmu fmu DoStep Error\n",
     },
     ScriptCase {
         answers: &[NOT_STARTED],
+        calls: 1,
         status: 6,
         out: "",
         err: "fmu fmu Instantiate Discard\n",
     },
     ScriptCase {
-        answers: &[STARTED, ENTERED, EXITED, READ, EARLY, FREED],
+        answers: &[STARTED, ENTERED, EXITED, READ, EARLY],
+        calls: 5,
         status: 7,
         out: FIRST,
         err: "misreply fmu DoStep 060004000000000000000000000000000000000000000000\n",
     },
     ScriptCase {
-        answers: &[STARTED, ENTERED, EXITED, READ, BEYOND, FREED],
+        answers: &[STARTED, ENTERED, EXITED, READ, BEYOND],
+        calls: 5,
         status: 7,
         out: FIRST,
         err: "misreply fmu DoStep 06010700000000000123456789abcdef0000000000000000\n",
     },
     ScriptCase {
-        answers: &[STARTED, ENTERED, EXITED, MISREAD, FREED],
+        answers: &[STARTED, ENTERED, EXITED, MISREAD],
+        calls: 4,
         status: 7,
         out: HEAD,
         err: "misreply fmu Get 080000000000000000000000800000000000000000000000\n",
     },
     ScriptCase {
         answers: &[STARTED, OTHER_KIND],
+        calls: 2,
         status: 7,
         out: HEAD,
         err: "misreply fmu EnterInitialization 120400000000000000000000000000000000000000000000\n",
     },
     ScriptCase {
         answers: &[],
+        calls: 1,
         status: 5,
         out: "",
         err: "link fmu Instantiate\n",
@@ -310,6 +318,7 @@ static SCRIPTS: [ScriptCase; 8] = [
     // The peer asks for the end.
     ScriptCase {
         answers: &[STARTED, ENTERED, EXITED, READ, ASKED, TERMINATED, FREED],
+        calls: 7,
         status: 0,
         out: "trace 1 1000 0 20\nport 0 Int32 fmu y\nat 0 0\n0 0\nend asked 10\n",
         err: "",
@@ -428,6 +437,17 @@ fn an_unknown_model_gives_its_line(rt: HostRuntime) -> Result<(), Fail> {
     Ok(())
 }
 
+// The calls of the peers that were taken back.
+fn count_calls(scripts: &Scripts) -> usize {
+    let mut count = 0usize;
+    for script in scripts.retired() {
+        if let Some(talk) = script.talk() {
+            count = count.saturating_add(talk.len());
+        }
+    }
+    count
+}
+
 #[test]
 fn a_bad_answer_gives_its_line(rt: HostRuntime) -> Result<(), Fail> {
     let alloc = rt.alloc();
@@ -441,6 +461,7 @@ fn a_bad_answer_gives_its_line(rt: HostRuntime) -> Result<(), Fail> {
             ..WORKED
         };
         assert_case(&rt, alloc, &case, &mut scripts)?;
+        assert_eq!(rt; count_calls(&scripts), row.calls, "at {}", row.err);
     }
     Ok(())
 }
