@@ -6,6 +6,8 @@ mod lines;
 mod outcome;
 mod report;
 mod run;
+#[cfg(test)]
+mod tests;
 
 use adapters::{HostFolder, WriterSink};
 use bench_fmus::Bench;

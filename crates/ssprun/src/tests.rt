@@ -1,0 +1,467 @@
+ghost use Rattle.std.specs.Prelude.{None, false};
+
+use crate::run::run_words;
+use bench_fmus::{Bench, Counter, Scripts};
+use fmi_calls::{BadStatus, Content, Kind, Reply};
+use fmu_peer::{PeerFault, Spawner, StartFault};
+use sim_base::{Items, MemFile, MemFolder, MemSink, Text};
+use std::alloc::{AllocError, Global};
+use std::process::Abort;
+use std::test::Fail;
+use std::thread::Threads;
+use value_types::Shape;
+
+const WORDS: &str = "one|d|--resolution|1000|--step|10|--stop|20";
+
+const DESCRIPTION: &str =
+    r#"<fmiModelDescription fmiVersion="3.0" modelName="counter" instantiationToken="{c}"><CoSimulation modelIdentifier="counter" canGetAndSetFMUState="true" canHandleVariableCommunicationStepSize="true"/><ModelVariables><Int32 name="inc" valueReference="1" causality="parameter" variability="fixed" start="2"/><Int32 name="y" valueReference="2" causality="output" variability="discrete"/></ModelVariables><ModelStructure><Output valueReference="2" dependencies=""/></ModelStructure></fmiModelDescription>"#;
+
+// What stands at `d/modelDescription.xml`.
+#[derive(Clone, Copy)]
+enum File {
+    None,
+    Empty,
+    // the counter's description with this start value
+    Counter(&'static str),
+}
+
+// A command with what is to fail, by numbers from 0, and what it is to give.
+#[derive(Clone, Copy)]
+struct Case {
+    words: &'static str,
+    file: File,
+    room: Option<usize>,
+    reads: &'static [u64],
+    starts: &'static [u64],
+    outs: &'static [u64],
+    errs: &'static [u64],
+    status: u8,
+    out: &'static str,
+    err: &'static str,
+}
+
+const WORKED: Case = Case {
+    words: WORDS,
+    file: File::Counter("2"),
+    room: None,
+    reads: &[],
+    starts: &[],
+    outs: &[],
+    errs: &[],
+    status: 0,
+    out: "trace 1 1000 0 20\nport 0 Int32 fmu y\nat 0 0\n0 0\nat 10 0\n0 2\nat 20 0\n0 4\nend stop 20\n",
+    err: "",
+};
+
+const REFUSED: Case = Case { out: "", ..WORKED };
+
+static CASES: [Case; 22] = [
+    WORKED,
+    Case {
+        words: "one|d|--resolution|1000|--step|10|--stop|0",
+        out: "trace 1 1000 0 0\nport 0 Int32 fmu y\nat 0 0\n0 0\nend stop 0\n",
+        ..WORKED
+    },
+    // The last step is shorter.
+    Case {
+        words: "one|d|--resolution|7|--step|15|--stop|20",
+        out: "trace 1 7 0 20\nport 0 Int32 fmu y\nat 0 0\n0 0\nat 15 0\n0 2\nat 20 0\n0 4\nend stop 20\n",
+        ..WORKED
+    },
+    Case {
+        file: File::Counter("5"),
+        out: "trace 1 1000 0 20\nport 0 Int32 fmu y\nat 0 0\n0 0\nat 10 0\n0 5\nat 20 0\n0 10\nend stop 20\n",
+        ..WORKED
+    },
+    Case {
+        file: File::Counter("-3"),
+        out: "trace 1 1000 0 20\nport 0 Int32 fmu y\nat 0 0\n0 0\nat 10 0\n0 -3\nat 20 0\n0 -6\nend stop 20\n",
+        ..WORKED
+    },
+    // The second sum wraps.
+    Case {
+        file: File::Counter("2147483647"),
+        out: "trace 1 1000 0 20\nport 0 Int32 fmu y\nat 0 0\n0 0\nat 10 0\n0 2147483647\nat 20 0\n0 -2\nend stop 20\n",
+        ..WORKED
+    },
+    // The room holds the ten calls and more.
+    Case {
+        room: Some(11),
+        ..WORKED
+    },
+    // Terminate fails, which changes nothing.
+    Case {
+        room: Some(9),
+        ..WORKED
+    },
+    // The first step fails.
+    Case {
+        room: Some(5),
+        status: 5,
+        out: "trace 1 1000 0 20\nport 0 Int32 fmu y\nat 0 0\n0 0\n",
+        err: "link fmu DoStep\n",
+        ..WORKED
+    },
+    Case {
+        words: "one|d",
+        status: 2,
+        err: "words\n",
+        ..REFUSED
+    },
+    Case {
+        file: File::None,
+        status: 3,
+        err: "missing d/modelDescription.xml\n",
+        ..REFUSED
+    },
+    Case {
+        words: "one|a b%|--resolution|1000|--step|10|--stop|20",
+        status: 3,
+        err: "missing a%20b%25/modelDescription.xml\n",
+        ..REFUSED
+    },
+    Case {
+        reads: &[0],
+        status: 3,
+        err: "read d/modelDescription.xml\n",
+        ..REFUSED
+    },
+    Case {
+        file: File::Empty,
+        status: 4,
+        err: "refused 29 d/modelDescription.xml /fmiModelDescription[1]\n",
+        ..REFUSED
+    },
+    Case {
+        file: File::Counter("2147483648"),
+        status: 4,
+        err: "refused 29 d/modelDescription.xml /fmiModelDescription[1]\n",
+        ..REFUSED
+    },
+    Case {
+        starts: &[0],
+        status: 5,
+        err: "link fmu start\n",
+        ..REFUSED
+    },
+    // The puts of out are the head, three instants and the end.
+    Case {
+        outs: &[0],
+        status: 10,
+        err: "write\n",
+        ..REFUSED
+    },
+    Case {
+        outs: &[2],
+        status: 10,
+        out: "trace 1 1000 0 20\nport 0 Int32 fmu y\nat 0 0\n0 0\n",
+        err: "write\n",
+        ..REFUSED
+    },
+    Case {
+        outs: &[4],
+        status: 10,
+        out: "trace 1 1000 0 20\nport 0 Int32 fmu y\nat 0 0\n0 0\nat 10 0\n0 2\nat 20 0\n0 4\n",
+        err: "write\n",
+        ..REFUSED
+    },
+    Case {
+        words: "one|d",
+        errs: &[0],
+        status: 10,
+        ..REFUSED
+    },
+    Case {
+        outs: &[0],
+        errs: &[0],
+        status: 10,
+        ..REFUSED
+    },
+    // Without a line nothing is put on err.
+    Case {
+        errs: &[0],
+        ..WORKED
+    },
+];
+
+macro_rules! done {
+    ($content:expr) => {
+        Ok(Reply::Done {
+            is_warning: false,
+            content: $content,
+        })
+    };
+}
+
+type Answer = Result<Reply, PeerFault>;
+
+const STARTED: Answer = done!(Content::Instantiate);
+
+const ENTERED: Answer = done!(Content::EnterInitialization);
+
+const EXITED: Answer = done!(Content::ExitInitialization);
+
+const READ: Answer = done!(Content::Get { word: 0 });
+
+// The greatest Int32 and one more.
+const MISREAD: Answer = done!(Content::Get {
+    word: 2_147_483_648
+});
+
+const FREED: Answer = done!(Content::FreeInstance);
+
+const TERMINATED: Answer = done!(Content::Terminate);
+
+const ASKED: Answer = done!(Content::DoStep {
+    event_needed: false,
+    terminate: true,
+    early: false,
+    end: 10,
+});
+
+const NOT_STEPPED: Answer = Ok(Reply::Refused {
+    kind: Kind::DoStep,
+    status: BadStatus::Error,
+});
+
+const NOT_STARTED: Answer = Ok(Reply::Refused {
+    kind: Kind::Instantiate,
+    status: BadStatus::Discard,
+});
+
+const OTHER_KIND: Answer = Ok(Reply::Refused {
+    kind: Kind::FreeInstance,
+    status: BadStatus::Fatal,
+});
+
+const EARLY: Answer = done!(Content::DoStep {
+    event_needed: false,
+    terminate: false,
+    early: true,
+    end: 0,
+});
+
+// An end whose bytes all differ, with each flag.
+const BEYOND: Answer = Ok(Reply::Done {
+    is_warning: true,
+    content: Content::DoStep {
+        event_needed: true,
+        terminate: true,
+        early: true,
+        end: 0x0123_4567_89ab_cdef,
+    },
+});
+
+// The answers of a peer, how many calls it gets, and what the worked command is to give.
+struct ScriptCase {
+    answers: &'static [Answer],
+    calls: usize,
+    status: u8,
+    out: &'static str,
+    err: &'static str,
+}
+
+const HEAD: &str = "trace 1 1000 0 20\nport 0 Int32 fmu y\n";
+
+const FIRST: &str = "trace 1 1000 0 20\nport 0 Int32 fmu y\nat 0 0\n0 0\n";
+
+static SCRIPTS: [ScriptCase; 8] = [
+    ScriptCase {
+        answers: &[STARTED, ENTERED, EXITED, READ, NOT_STEPPED],
+        calls: 5,
+        status: 6,
+        out: FIRST,
+        err: "fmu fmu DoStep Error\n",
+    },
+    ScriptCase {
+        answers: &[NOT_STARTED],
+        calls: 1,
+        status: 6,
+        out: "",
+        err: "fmu fmu Instantiate Discard\n",
+    },
+    ScriptCase {
+        answers: &[STARTED, ENTERED, EXITED, READ, EARLY],
+        calls: 5,
+        status: 7,
+        out: FIRST,
+        err: "misreply fmu DoStep 060004000000000000000000000000000000000000000000\n",
+    },
+    ScriptCase {
+        answers: &[STARTED, ENTERED, EXITED, READ, BEYOND],
+        calls: 5,
+        status: 7,
+        out: FIRST,
+        err: "misreply fmu DoStep 06010700000000000123456789abcdef0000000000000000\n",
+    },
+    ScriptCase {
+        answers: &[STARTED, ENTERED, EXITED, MISREAD],
+        calls: 4,
+        status: 7,
+        out: HEAD,
+        err: "misreply fmu Get 080000000000000000000000800000000000000000000000\n",
+    },
+    ScriptCase {
+        answers: &[STARTED, OTHER_KIND],
+        calls: 2,
+        status: 7,
+        out: HEAD,
+        err: "misreply fmu EnterInitialization 120400000000000000000000000000000000000000000000\n",
+    },
+    ScriptCase {
+        answers: &[],
+        calls: 1,
+        status: 5,
+        out: "",
+        err: "link fmu Instantiate\n",
+    },
+    // The peer asks for the end.
+    ScriptCase {
+        answers: &[STARTED, ENTERED, EXITED, READ, ASKED, TERMINATED, FREED],
+        calls: 7,
+        status: 0,
+        out: "trace 1 1000 0 20\nport 0 Int32 fmu y\nat 0 0\n0 0\nend asked 10\n",
+        err: "",
+    },
+];
+
+// A spawner that knows no model.
+#[derive(Drop)]
+struct Stranger;
+
+impl Spawner for Stranger {
+    type Link = Counter;
+
+    ghost started = { λ s. 0 };
+
+    ghost retired = { λ s. None };
+
+    ghost knows = { λ s identifier. false };
+
+    ghost faults = { λ s. 0 };
+
+    ghost fewer = { λ s. tt };
+
+    fn start(
+        &mut self,
+        _alloc: Global,
+        _host: &str,
+        _name: &str,
+        _directory: &str,
+        _shape: &Shape,
+    ) -> Result<Counter, StartFault> {
+        Err(StartFault::Unknown)
+    }
+
+    fn retire(&mut self, _link: Counter) {}
+}
+
+fn split_words(alloc: Global, line: &str) -> Result<Vec<String>, AllocError> {
+    let mut words = Vec::new(alloc);
+    for word in line.split('|') {
+        words.push(String::from_str(alloc, word)?)?;
+    }
+    Ok(words)
+}
+
+fn file_bytes(alloc: Global, start: &str) -> Result<Vec<u8>, AllocError> {
+    match DESCRIPTION.split_once("start=\"2\"") {
+        Some((front, back)) => {
+            let text = format!(in alloc; "{front}start=\"{start}\"{back}")?;
+            text.as_bytes().to_vec(alloc)
+        }
+        None => Ok(Vec::new(alloc)),
+    }
+}
+
+fn make_folder(alloc: Global, file: &File, reads: &[u64]) -> Result<MemFolder, AllocError> {
+    let mut files = Vec::new(alloc);
+    let bytes = match file {
+        File::None => None,
+        File::Empty => Some(Vec::new(alloc)),
+        File::Counter(start) => Some(file_bytes(alloc, start)?),
+    };
+    if let Some(bytes) = bytes {
+        files.push(MemFile {
+            path: Text::from_str(alloc, "d/modelDescription.xml")?,
+            bytes: Items::from_vec(bytes),
+        })?;
+    }
+    Ok(MemFolder::new(files, reads.to_vec(alloc)?))
+}
+
+fn make_bench(rt: &impl Abort, alloc: Global, case: &Case) -> Result<Bench, AllocError> {
+    let failing = case.starts.to_vec(alloc)?;
+    let Some(room) = case.room else {
+        return Ok(Bench::new(alloc, None, failing));
+    };
+    assert!(rt; room > 0);
+    Ok(Bench::new(alloc, Some(room), failing))
+}
+
+// Runs a command with a spawner, and compares all that it gives.
+fn assert_case<R: Abort + Threads + Sync, S: Spawner>(
+    rt: &R,
+    alloc: Global,
+    case: &Case,
+    spawner: &mut S,
+) -> Result<(), AllocError> {
+    let words = split_words(alloc, case.words)?;
+    let mut folder = make_folder(alloc, &case.file, case.reads)?;
+    let mut out = MemSink::with_room(alloc, 200, case.outs.to_vec(alloc)?)?;
+    let mut err = MemSink::with_room(alloc, 200, case.errs.to_vec(alloc)?)?;
+    let status = run_words(rt, alloc, &words, &mut folder, spawner, &mut out, &mut err);
+    assert_eq!(rt; out.bytes.as_slice(), case.out.as_bytes());
+    assert_eq!(rt; err.bytes.as_slice(), case.err.as_bytes());
+    assert_eq!(rt; status, case.status);
+    Ok(())
+}
+
+#[test]
+fn a_command_gives_its_trace_or_its_line(rt: HostRuntime) -> Result<(), Fail> {
+    for case in &CASES {
+        let mut bench = make_bench(&rt, rt.alloc(), case)?;
+        assert_case(&rt, rt.alloc(), case, &mut bench)?;
+    }
+    Ok(())
+}
+
+#[test]
+fn an_unknown_model_gives_its_line(rt: HostRuntime) -> Result<(), Fail> {
+    let case = Case {
+        status: 5,
+        err: "unknown fmu\n",
+        ..REFUSED
+    };
+    assert_case(&rt, rt.alloc(), &case, &mut Stranger)?;
+    Ok(())
+}
+
+// The calls of the peers that were taken back.
+fn count_calls(scripts: &Scripts) -> usize {
+    let mut count = 0usize;
+    for script in scripts.retired() {
+        if let Some(talk) = script.talk() {
+            count = count.saturating_add(talk.len());
+        }
+    }
+    count
+}
+
+#[test]
+fn a_bad_answer_gives_its_line(rt: HostRuntime) -> Result<(), Fail> {
+    let alloc = rt.alloc();
+    for row in &SCRIPTS {
+        let answers = Items::from_vec(row.answers.to_vec(alloc)?);
+        let mut scripts = Scripts::new(alloc, vec![in alloc; answers]?, Vec::new(alloc));
+        let case = Case {
+            status: row.status,
+            out: row.out,
+            err: row.err,
+            ..WORKED
+        };
+        assert_case(&rt, alloc, &case, &mut scripts)?;
+        assert_eq!(rt; count_calls(&scripts), row.calls, "at {}", row.err);
+    }
+    Ok(())
+}
