@@ -1,3 +1,10 @@
 pub mod Numbers
-pub mod Eight
-pub mod Lines
+pub mod Walks
+pub mod Items
+pub mod Commands
+pub mod Spelled
+pub mod Levels
+pub mod Tops
+pub mod Tables
+pub mod Folds
+pub mod Program

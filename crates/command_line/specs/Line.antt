@@ -1,48 +1,146 @@
--- The command line that runs one FMU: `one DIR --resolution R --step H --stop T`.
-use Rattle.std.specs.Prelude.{◌≡◌, ◌≢◌, ℕ, ◌^◌, ◌≤◌, List, [], ◌∷◌, map, codes, decimal, String, string_bytes}
+-- The command lines of the program: `one DIR --resolution R --step H --stop T [--start S]`.
+use Rattle.std.specs.Prelude.{◌≡◌, ℕ, ◌^◌, ◌≤◌, Bool, true, false, List, [], ◌∷◌, map, find, Option, Some, None, if◌then◌else◌, codes, decimal, String, string_bytes}
+use Rattle.std.specs.Str.{bytes_eq}
 use Rattle.std.specs.declared.alloc.Global.{Global}
 use Rattle.run_model.specs.declared.plan.Plan.{Plan}
+use Rattle.command_line.specs.Words.{Word, Item, IsSpelled, has_each_once, is_among, positionals_of, value_of}
 use Rattle.command_line.specs.declared.words.Options.{Options}
 
--- what a line asks for
+-- ---- the table of the commands
+
+-- an option whose value is a count: its limits, and the count where it isn't given, unless it has to be
+pub record OptionRow : Type 0 where
+  pub name : Word
+  pub least : ℕ
+  pub most : ℕ
+  pub default : Option ℕ
+
+-- a command: its name, the names of its positionals in order, and its options
+pub record CommandRow : Type 0 where
+  pub name : Word
+  pub positionals : List Word
+  pub options : List OptionRow
+
+-- counts go up to 2^62
+abbrev pub count_row : Word → ℕ → Option ℕ → OptionRow
+count_row name least default = record { name = name; least = least; most = 2 ^ 62; default = default }
+
+abbrev pub resolution_row : OptionRow
+resolution_row = count_row (codes "resolution") 1 None
+
+abbrev pub step_row : OptionRow
+step_row = count_row (codes "step") 1 None
+
+abbrev pub stop_row : OptionRow
+stop_row = count_row (codes "stop") 0 None
+
+abbrev pub start_row : OptionRow
+start_row = count_row (codes "start") 0 (Some 0)
+
+-- the run of one FMU
+abbrev pub one_row : CommandRow
+one_row = record {
+  name = codes "one";
+  positionals = codes "DIR" ∷ [];
+  options = resolution_row ∷ step_row ∷ stop_row ∷ start_row ∷ [];
+}
+
+abbrev pub commands : List CommandRow
+commands = one_row ∷ []
+
+-- ---- lines of a table
+
+abbrev pub option_names : CommandRow → List Word
+option_names row = map (λ o. o.name) row.options
+
+-- the command with a name
+abbrev pub command_named : List CommandRow → Word → Option CommandRow
+command_named rows name = find (λ row. bytes_eq row.name name) rows
+
+-- there are no more positionals than the command names
+abbrev pub has_room : List Word → List Word → Bool
+has_room names [] = true
+has_room [] (v ∷ vs) = false
+has_room (name ∷ names) (v ∷ vs) = has_room names vs
+
+-- the positional with a name, by its place
+abbrev pub positional_named : Word → List Word → List Word → Option Word
+positional_named name names [] = None
+positional_named name [] (v ∷ vs) = None
+positional_named name (n ∷ names) (v ∷ vs) = if bytes_eq n name then Some v else positional_named name names vs
+
+-- what a line gives for each name of its command
+abbrev pub Lookup : Type 0
+Lookup = Word → Option Word
+
+-- what items give for the name of an option or of a positional
+abbrev pub given : CommandRow → List Item → Lookup
+given row items name = if is_among name (option_names row) then value_of name items
+    else positional_named name row.positionals (positionals_of items)
+
+-- the words are a command's name and items: options of the command, each at most once, and no more positionals than it has
+pub record IsLineOf (rows : List CommandRow) (words : List Word) (name : Word) (get : Lookup) : Type 0 where
+  pub rest : List Word
+  pub begins : words ≡ name ∷ rest
+  pub row : CommandRow
+  pub found : command_named rows name ≡ Some row
+  pub items : List Item
+  pub spelled : IsSpelled items rest
+  pub once : has_each_once (option_names row) [] items ≡ true
+  pub room : has_room row.positionals (positionals_of items) ≡ true
+  pub gives : get ≡ given row items
+
+-- the word is this count, in decimal digits without a sign or a leading zero, and within the option's limits
+pub record IsCount (o : OptionRow) (word : Word) (n : ℕ) : Type 0 where
+  pub digits : word ≡ decimal n
+  pub at_least : o.least ≤ n
+  pub at_most : n ≤ o.most
+
+-- an option's count: that of its value, or where it isn't given the one that stands in its place
+abbrev pub Counts : OptionRow → Option Word → ℕ → Type 0
+Counts o (Some word) n = IsCount o word n
+Counts o None n = o.default ≡ Some n
+
+-- ---- what a line asks for
+
 pub record Line : Type 0 where
   pub directory : List ℕ
   pub plan : Plan
 
--- the eight words of a line, without the program's name; a number has neither a sign nor a leading zero
-abbrev pub words_of : Line → List (List ℕ)
-words_of line =
-    codes "one" ∷ line.directory ∷ codes "--resolution" ∷ decimal line.plan.resolution ∷ codes "--step" ∷ decimal line.plan.step
-    ∷ codes "--stop" ∷ decimal line.plan.stop ∷ []
+-- the options give each count of the plan, which doesn't stop before it starts
+pub record GivesPlan (get : Lookup) (plan : Plan) : Type 0 where
+  pub resolution : Counts resolution_row (get resolution_row.name) plan.resolution
+  pub step : Counts step_row (get step_row.name) plan.step
+  pub stop : Counts stop_row (get stop_row.name) plan.stop
+  pub start : Counts start_row (get start_row.name) plan.start
+  pub ordered : plan.start ≤ plan.stop
 
--- the name of a directory isn't empty, and doesn't begin with `-`, as that of an option does
-abbrev pub IsDirectory : List ℕ → Type 0
-IsDirectory [] = ⊥
-IsDirectory (first ∷ others) = first ≢ 45
+-- a line of `one` gives the directory and the plan
+abbrev pub AsksOne : Lookup → Line → Type 0
+AsksOne get line = (get (codes "DIR") ≡ Some line.directory) × GivesPlan get line.plan
 
--- a run starts at 0, and its resolution and step aren't 0
-pub record IsPlanWithin (plan : Plan) : Type 0 where
-  pub resolution : (1 ≤ plan.resolution) × (plan.resolution ≤ 2 ^ 62)
-  pub start : plan.start ≡ 0
-  pub step : (1 ≤ plan.step) × (plan.step ≤ 2 ^ 62)
-  pub stop : plan.stop ≤ 2 ^ 62
+-- what a line of each command asks for
+abbrev pub Asks : Word → Lookup → Line → Type 0
+Asks name get line = (name ≡ one_row.name) × AsksOne get line
 
-abbrev pub IsWithin : Line → Type 0
-IsWithin line = IsDirectory line.directory × IsPlanWithin line.plan
+-- the words are a line that asks for this
+pub record IsLine (words : List Word) (line : Line) : Type 0 where
+  pub name : Word
+  pub get : Lookup
+  pub is : IsLineOf commands words name get
+  pub asks : Asks name get line
 
--- the words are those of this line, which keeps the limits
-abbrev pub IsLine : List (List ℕ) → Line → Type 0
-IsLine words line = (words ≡ words_of line) × IsWithin line
+-- the limits of each line's plan
+pub record IsWithin (line : Line) : Type 0 where
+  pub resolution : (1 ≤ line.plan.resolution) × (line.plan.resolution ≤ 2 ^ 62)
+  pub step : (1 ≤ line.plan.step) × (line.plan.step ≤ 2 ^ 62)
+  pub stop : line.plan.stop ≤ 2 ^ 62
+  pub start : line.plan.start ≤ line.plan.stop
 
--- three numbers spell a plan that keeps the limits
-pub record SpellsPlan (resolution step stop : List ℕ) (plan : Plan) : Type 0 where
-  pub resolution_is : resolution ≡ decimal plan.resolution
-  pub step_is : step ≡ decimal plan.step
-  pub stop_is : stop ≡ decimal plan.stop
-  pub within : IsPlanWithin plan
+-- ---- words and options of the program
 
 -- the bytes of each word
-abbrev pub texts : List (String Global) → List (List ℕ)
+abbrev pub texts : List (String Global) → List Word
 texts words = map (string_bytes {Z = Global}) words
 
 -- the line that options tell

@@ -1,8 +1,14 @@
 //! The command line of the program: the words that it takes, and the options that they denote.
 #![tactic(auto)]
 
+mod clap_command;
+mod counts;
+mod fault;
+mod form;
+mod lines;
 mod words;
 
+pub use fault::WordsFault;
 pub use words::{Options, read_words};
 
 #[cfg(test)]

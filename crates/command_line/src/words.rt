@@ -1,10 +1,19 @@
-ghost use Rattle.std.specs.Prelude.{◌≡◌, ℕ, ◌<◌, ◌≤◌, ◌^◌, IfSome, IfNone, IsSomeAnd, decimal};
+ghost use Rattle.std.specs.Prelude.{◌≡◌, IfOk, IfErr, IfSome, IsSomeAnd};
+ghost use Rattle.clap.specs.Words.{app_of, first_of, found_of, rows_of, subcommand_rows_of};
+ghost use Rattle.command_line.specs.App.{app_of_rows};
+ghost use Rattle.command_line.specs.Line.{Asks, AsksOne, GivesPlan, IsLine, IsLineOf, IsWithin, Line, Lookup, commands, line_of, texts};
+ghost use Rattle.command_line.specs.Table.{GivesLine, SubAsks};
+ghost use Rattle.command_line.specs.Words.{Word};
+ghost use Rattle.command_line.specs.declared.fault.WordsFault.TheVariants.{NoLine};
 ghost use Rattle.run_model.specs.declared.plan.Plan.{Plan};
-ghost use Rattle.command_line.specs.Line.{Line, IsLine, SpellsPlan, IsDirectory, line_of, texts};
 
-use itoa::Buffer;
+use crate::clap_command::{top_command, with_subcommand};
+use crate::counts::{option_count, value_of};
+use crate::fault::WordsFault;
+use crate::lines::read_line;
+use clap::{ArgMatches, Command};
 use run_model::Plan;
-use sim_base::MOST_COUNTS;
+use std::alloc::{AllocError, Global};
 
 /// What a command line asks for: to run the FMU in a directory by a plan.
 #[derive(Clone, Copy, Debug)]
@@ -14,97 +23,94 @@ pub struct Options<'a> {
 }
 
 /// Reads the words of a command line, without the program's name.
-pub fn read_words(words: &[String]) -> Option<Options<'_>>
-    ensures ok { IfSome result (λ o. IsLine (texts words.now) (line_of o)) }
-    ensures none { IfNone result ((line : Line) → IsLine (texts words.now) line → ⊥) }
-    ensures only { (line : Line) → IsLine (texts words.now) line → IsSomeAnd result (λ o. line_of o ≡ line) }
+///
+/// `NoLine` comes only where the words are no line. `Memory` may come for any words.
+pub fn read_words(alloc: Global, words: &[String]) -> Result<Options<'_>, WordsFault>
+    ensures ok { IfOk result (λ o. IsLine (texts words.now) (line_of o)) }
+    ensures none { IfErr result (λ e. e ≡ NoLine → (line : Line) → IsLine (texts words.now) line → ⊥) }
+    ensures only { (line : Line) → IsLine (texts words.now) line → IfOk result (λ o. line_of o ≡ line) }
+    ensures within { IfOk result (λ o. IsWithin (line_of o)) }
 {
-    let [
-        command,
-        directory,
-        resolution_name,
-        resolution,
-        step_name,
-        step,
-        stop_name,
-        stop,
-    ] = words
-    else {
-        return None;
-    };
-    if command.as_str() != "one"
-        || resolution_name.as_str() != "--resolution"
-        || step_name.as_str() != "--step"
-        || stop_name.as_str() != "--stop"
-    {
-        return None;
+    match find_line(alloc, words) {
+        Ok(matches) => match read_matches(&matches) {
+            Some(options) => Ok(options),
+            None => Err(WordsFault::NoLine),
+        },
+        Err(fault) => Err(fault),
     }
-    read_values(
-        directory.as_str(),
-        resolution.as_str(),
-        step.as_str(),
-        stop.as_str(),
+}
+
+// The matches of the words, where they are a line of the program's commands.
+fn find_line<'a>(alloc: Global, words: &'a [String]) -> Result<ArgMatches<'a>, WordsFault>
+    ensures ok { IfOk result (GivesLine commands (texts words.entry.now)) }
+    ensures none { IfErr result (λ e. e ≡ NoLine → (name : Word) (get : Lookup) → IsLineOf commands (texts words.entry.now) name get → ⊥) }
+{
+    match make_command(alloc) {
+        Ok(command) => read_line(command, words),
+        Err(_) => Err(WordsFault::Memory),
+    }
+}
+
+// The table of the commands, with the names of their positionals and options.
+fn make_command<'a>(alloc: Global) -> Result<Command<'a>, AllocError>
+    ensures { IfOk result (λ c. app_of c ≡ app_of_rows commands) }
+{
+    let command = top_command(alloc);
+    with_subcommand(
+        alloc,
+        command,
+        "one",
+        &["DIR"],
+        &["resolution", "step", "stop", "start"],
     )
 }
 
-fn read_values<'a>(
-    directory: &'a str,
-    resolution: &str,
-    step: &str,
-    stop: &str,
-) -> Option<Options<'a>>
-    ensures ok { IfSome result (λ o. (o.directory.now ≡ directory.now) × IsDirectory directory.now × SpellsPlan resolution.now step.now stop.now o.plan) }
-    ensures none { IfNone result ((plan : Plan) → IsDirectory directory.now → SpellsPlan resolution.now step.now stop.now plan → ⊥) }
-    ensures only { (plan : Plan) → SpellsPlan resolution.now step.now stop.now plan → IfSome result (λ o. o.plan ≡ plan) }
+// The options of the command that was matched.
+fn read_matches<'a>(matches: &ArgMatches<'a>) -> Option<Options<'a>>
+    ensures ok { IfSome result (λ o. SubAsks (subcommand_rows_of matches.now) (line_of o)) }
+    ensures only { (line : Line) → SubAsks (subcommand_rows_of matches.now) line → IsSomeAnd result (λ o. line_of o ≡ line) }
+    ensures within { IfSome result (λ o. IsWithin (line_of o)) }
 {
-    let plan = read_plan(resolution, step, stop)?;
-    let directory = read_directory(directory)?;
+    match matches.subcommand() {
+        Some((name, inner)) => read_command(name, inner),
+        None => None,
+    }
+}
+
+// The options of a command, by its name.
+fn read_command<'a>(name: &str, matches: &ArgMatches<'a>) -> Option<Options<'a>>
+    ensures ok { IfSome result (λ o. Asks name.now (λ n. first_of n (rows_of (found_of matches.now))) (line_of o)) }
+    ensures only { (line : Line) → Asks name.now (λ n. first_of n (rows_of (found_of matches.now))) line → IsSomeAnd result (λ o. line_of o ≡ line) }
+    ensures within { IfSome result (λ o. IsWithin (line_of o)) }
+{
+    match name {
+        "one" => read_one(matches),
+        _ => None,
+    }
+}
+
+fn read_one<'a>(matches: &ArgMatches<'a>) -> Option<Options<'a>>
+    ensures ok { IfSome result (λ o. AsksOne (λ n. first_of n (rows_of (found_of matches.now))) (line_of o)) }
+    ensures only { (line : Line) → AsksOne (λ n. first_of n (rows_of (found_of matches.now))) line → IsSomeAnd result (λ o. line_of o ≡ line) }
+    ensures within { IfSome result (λ o. IsWithin (line_of o)) }
+{
+    let directory = value_of(matches, "DIR")?;
+    let plan = read_plan(matches)?;
     Some(Options { directory, plan })
 }
 
-fn read_directory(word: &str) -> Option<&str>
-    ensures ok { IfSome result (λ directory. (directory.now ≡ word.now) × IsDirectory word.now) }
-    ensures none { IfNone result (IsDirectory word.now → ⊥) }
+fn read_plan(matches: &ArgMatches<'_>) -> Option<Plan>
+    ensures ok { IfSome result (GivesPlan (λ n. first_of n (rows_of (found_of matches.now)))) }
+    ensures only { (plan : Plan) → GivesPlan (λ n. first_of n (rows_of (found_of matches.now))) plan → result ≡ Some plan }
 {
-    match word.as_bytes() {
-        [] | [b'-', ..] => None,
-        [_, ..] => Some(word),
-    }
-}
-
-fn read_plan(resolution: &str, step: &str, stop: &str) -> Option<Plan>
-    ensures ok { IfSome result (SpellsPlan resolution.now step.now stop.now) }
-    ensures only { (plan : Plan) → SpellsPlan resolution.now step.now stop.now plan → result ≡ Some plan }
-{
-    Some(Plan {
-        resolution: read_count(resolution, 1)?,
-        start: 0,
-        step: read_count(step, 1)?,
-        stop: read_count(stop, 0)?,
-    })
-}
-
-/// A count from the least one on.
-fn read_count(word: &str, least: u64) -> Option<u64>
-    ensures ok { IfSome result (λ n. (word.now ≡ decimal n) × (least ≤ n) × (n ≤ 2 ^ 62)) }
-    ensures only { (n : ℕ) → word.now ≡ decimal n → least ≤ n → n ≤ 2 ^ 62 → result ≡ Some n }
-{
-    let count = read_number(word)?;
-    if least <= count && count <= MOST_COUNTS {
-        Some(count)
-    } else {
-        None
-    }
-}
-
-/// A number without a sign or a leading zero: the digits that it is printed as.
-fn read_number(word: &str) -> Option<u64>
-    ensures ok { IfSome result (λ n. word.now ≡ decimal n) }
-    ensures only { (n : ℕ) → word.now ≡ decimal n → n < 2 ^ 64 → result ≡ Some n }
-{
-    let number = word.parse::<u64>().ok()?;
-    if Buffer::new().format(number) == word {
-        Some(number)
+    let plan = Plan {
+        resolution: option_count(matches, "resolution", 1, None)?,
+        start: option_count(matches, "start", 0, Some(0))?,
+        step: option_count(matches, "step", 1, None)?,
+        stop: option_count(matches, "stop", 0, None)?,
+    };
+    if plan.start <= plan.stop {
+        Some(plan)
     } else {
         None
     }

@@ -1,28 +1,28 @@
-use Rattle.std.proofs.Common.{◌≡◌, ap, arith, rules, codes, string_bytes, Option, Some, None, IfNone}
-use Rattle.std.proofs.lemmas.Option.{IfSome_then}
-use Rattle.command_line.specs.Line.{texts}
-use Rattle.command_line.proofs.Eight.{eight_items}
-use Rattle.command_line.proofs.Lines.{HasNames, line_by_values, no_line_by_values}
+use Rattle.std.proofs.Common.{sym, subst, List}
+use Rattle.std.specs.Prelude.{Option}
+use Rattle.clap.specs.Walk.{Row}
+use Rattle.command_line.specs.App.{app_of_rows}
+use Rattle.command_line.specs.Line.{Asks, IsLine, Line, Lookup, commands}
+use Rattle.command_line.specs.Table.{GivesLine, SubAsks}
+use Rattle.command_line.specs.Words.{Word}
+use Rattle.clap.specs.declared.parser.matches.ArgMatches.{ArgMatches}
+use Rattle.clap.specs.Words.{subcommand_rows_of}
+use Rattle.command_line.proofs.Program.{program_table}
+use Rattle.command_line.proofs.Tables.{unique_line}
 use Rattle.command_line.proofs.words.read_words.Goals as goal
 
--- the tests have found the words that don't vary
-names : (c : goal.After-read_values) → HasNames (texts c.args.words.now) c.as_str-2.result.now c.as_str-3.result.now c.as_str-4.result.now c.as_str-5.result.now
-names c =
-    let all = ap texts (eight_items c.args.words.now _ _ _ _ _ _ _ _ (omega arith)
-    c.command-item.is c.directory-item.is c.resolution_name-item.is c.resolution-item.is c.step_name-item.is c.step-item.is c.stop_name-item.is c.stop-item.is) in
-    let command : string_bytes c.command-item.result ≡ codes "one" = search rules in
-    let resolution : string_bytes c.resolution_name-item.result ≡ codes "--resolution" = search rules in
-    let step : string_bytes c.step_name-item.result ≡ codes "--step" = search rules in
-    let stop : string_bytes c.stop_name-item.result ≡ codes "--stop" = search rules in
-    cc
+-- what a line asks for is what the matches ask for
+asks_by_matches : (words : List Word) (m : ArgMatches) (line : Line) → GivesLine commands words m → IsLine words line → SubAsks (subcommand_rows_of m) line
+asks_by_matches words m line gives is_line =
+    let one = unique_line (app_of_rows commands) commands program_table words _ _ _ _ is_line.is gives.line in
+    subst (λ (s : Option (Word × List Row)). SubAsks s line) (sym gives.sub)
+    (subst (λ (g : Lookup). Asks gives.name g line) one.1 (subst (λ (n : Word). Asks n is_line.get line) one.0 is_line.asks))
 
--- what follows where there is no value
-none_then : {X P Q : Type 0} (o : Option X) → IfNone o P → (P → Q) → IfNone o Q
-none_then None p then = then p
-none_then (Some x) p then = tt
+pub returns-in-Some-clause-only : goal.returns-in-Some-clause-only
+returns-in-Some-clause-only c = λ line is_line. c.in-Some.ensures.only line (asks_by_matches _ c.in-Ok.matches line c.in-Ok.ensures.ok is_line)
 
-pub returns-clause-ok : goal.returns-clause-ok
-returns-clause-ok c = IfSome_then c.read_values.result c.read_values.ensures.ok (λ o read. line_by_values _ _ _ _ _ o (names c) read.0 read.1 read.2)
+pub returns-in-Ok-clause-none : goal.returns-in-Ok-clause-none
+returns-in-Ok-clause-none c = λ _ line is_line. c.in-None.ensures.only line (asks_by_matches _ c.in-Ok.matches line c.in-Ok.ensures.ok is_line)
 
 pub returns-clause-none : goal.returns-clause-none
-returns-clause-none c = none_then c.read_values.result c.read_values.ensures.none (λ none. no_line_by_values _ _ _ _ _ (names c) none)
+returns-clause-none c = λ no_line line is_line. c.in-Err.ensures.none no_line is_line.name is_line.get is_line.is

@@ -1,0 +1,38 @@
+-- What clap reads of the program's commands has their table.
+use Rattle.std.proofs.Common.{◌≡◌, true, refl, List, [], ◌∷◌, ℕ, zero, suc}
+use Rattle.clap.specs.Faults.{is_simple_and_free}
+use Rattle.clap.specs.Simple.{Shape, built}
+use Rattle.command_line.specs.App.{app_of_rows}
+use Rattle.command_line.specs.Line.{commands, one_row}
+use Rattle.command_line.specs.Table.{IsPart, IsTable}
+
+pub simple : is_simple_and_free (app_of_rows commands) ≡ true
+simple = refl
+
+abbrev nth : List Shape → ℕ → Shape
+nth [] k = (built (app_of_rows commands)).top
+nth (s ∷ ss) zero = s
+nth (s ∷ ss) (suc k) = nth ss k
+
+one_part : IsPart (nth (built (app_of_rows commands)).subs 0) one_row
+one_part = record {
+  named = refl;
+  no_alias = refl;
+  command = refl;
+  options = refl;
+  places = (_, refl, refl, refl);
+  bare = refl;
+  again = refl;
+  help = refl;
+  subcommand = refl;
+  negates = refl;
+  proper = refl;
+  plain = refl;
+}
+
+pub program_table : IsTable (app_of_rows commands) commands
+program_table = record {
+  whole_words = refl;
+  top = record { rules = refl; no_help = refl; answer = refl };
+  parts = (one_part, tt);
+}
