@@ -1,9 +1,8 @@
 -- What clap makes of items, in the words of a command line.
-use Rattle.std.proofs.Common.{◌≡◌, ◌∙◌, ◌&&◌, ◌||◌, ◌<◌, ◌≤◌, ◌+◌, not, Bool, true, false, ℕ, List, [], ◌∷◌, ◌++◌, Option, Some, None, refl, sym, ap, ap₂, true≢false, cond, is_some, zero, suc, arith, append_assoc}
+use Rattle.std.proofs.Common.{◌≡◌, ◌∙◌, ◌&&◌, ◌||◌, ◌<◌, ◌≤◌, ◌+◌, not, Bool, true, false, ℕ, List, [], ◌∷◌, ◌++◌, Option, Some, None, refl, sym, ap, ap₂, true≢false, cond, is_some, arith, append_assoc}
 use Rattle.std.specs.Prelude.{option_and_then, slice_get, find}
 use Rattle.std.specs.Option.{option_map_or}
 use Rattle.std.specs.Str.{bytes_eq}
-use Rattle.std.proofs.lemmas.Slice.Eq.{bytes_eq-Decides}
 use Rattle.clap.specs.Lexer.{usize_max}
 use Rattle.clap.specs.Faults.{use_fault}
 use Rattle.clap.specs.Kinds.{or_else}
@@ -218,31 +217,3 @@ module _ (c : List Rule) (names : List Word) (command : IsCommand c names) where
               → option_and_then (λ (r : Row). slice_get r.values 0) (cond b (Some (new_row a v)) (find (λ r. bytes_eq r.id n) (new_rows p items))) ≡ cond b (Some v) (value_of n items)
           by_test true ih = refl
           by_test false ih = ih
-
-  -- a positional's row has its value
-  pub positional_value : (items : List Item) (p : ℕ) (before : List Word) (k : ℕ) (d : Rule) → arg_by_index c (p + k) ≡ Some d
-      → has_each_once names before items ≡ true → fits c p (positionals_of items) ≡ true → first_of d.id (new_rows p items) ≡ slice_get (positionals_of items) k
-  positional_value [] p before k d at once places = refl
-  positional_value (option m v ∷ items) p before k d at once places = go (arg_by_long c m) refl (positional_value items p (m ∷ before) k d at (both _ _ (both (is_among m names) _ once).1).1 places)
-    where
-      go : (o : Option Rule) → arg_by_long c m ≡ o → first_of d.id (new_rows p items) ≡ slice_get (positionals_of items) k
-          → first_of d.id (new_rows p (option m v ∷ items)) ≡ slice_get (positionals_of items) k
-      go None found ih = absurd (true≢false (sym (both (is_among m names) _ once).0 ∙ sym (command.names_are m) ∙ ap is_some found))
-      go (Some a) found ih =
-          let other : bytes_eq a.id d.id ≡ false = differs a.id d.id (λ e. apart m a (p + k) d found at (sym e ∙ command.by_name m a found)) in rw (found, other) ih
-  positional_value (positional v ∷ items) p before zero d at once places =
-      let here : arg_by_index c p ≡ Some d = ap (arg_by_index c) (omega arith) ∙ at in
-      let same : bytes_eq d.id d.id ≡ true = (bytes_eq-Decides d.id d.id).1 refl in rw (here, same) refl
-  positional_value (positional v ∷ items) p before (suc k) d at once places =
-      let there : arg_by_index c ((p + 1) + k) ≡ Some d = ap (arg_by_index c) (omega arith) ∙ at in
-      go (arg_by_index c p) refl (positional_value items (p + 1) before k d there once)
-    where
-      go : (o : Option Rule) → arg_by_index c p ≡ o → (fits c (p + 1) (positionals_of items) ≡ true → first_of d.id (new_rows (p + 1) items) ≡ slice_get (positionals_of items) k)
-          → first_of d.id (new_rows p (positional v ∷ items)) ≡ slice_get (v ∷ positionals_of items) (suc k)
-      go None here ih = absurd (true≢false (sym (rw here at places)))
-      go (Some a) here ih =
-          let other : bytes_eq a.id d.id ≡ false = differs a.id d.id (λ e.
-          let same : a ≡ d = some_is a d (sym (command.usual_index p a here).by_id ∙ ap (arg_by_id c) e ∙ (command.usual_index (p + suc k) d at).by_id) in
-          let place : Some p ≡ Some (p + suc k) = sym (command.index p a here) ∙ ap (λ (r : Rule). r.index) same ∙ command.index (p + suc k) d at in
-          let equal : p ≡ p + suc k = cc in absurd (omega arith)) in
-          rw (here, other) (ih (rw here at places))

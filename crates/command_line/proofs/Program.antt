@@ -1,13 +1,9 @@
 -- What clap reads of the program's commands has their table.
-use Rattle.std.proofs.Common.{◌≡◌, true, refl, List, [], ◌∷◌, ℕ, zero, suc}
-use Rattle.clap.specs.Faults.{is_simple_and_free}
+use Rattle.std.proofs.Common.{refl, List, [], ◌∷◌, ℕ, zero, suc}
 use Rattle.clap.specs.Simple.{Shape, built}
 use Rattle.command_line.specs.App.{app_of_rows}
 use Rattle.command_line.specs.Line.{commands, one_row}
 use Rattle.command_line.specs.Table.{IsPart, IsTable}
-
-pub simple : is_simple_and_free (app_of_rows commands) ≡ true
-simple = refl
 
 abbrev nth : List Shape → ℕ → Shape
 nth [] k = (built (app_of_rows commands)).top

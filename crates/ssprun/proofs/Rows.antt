@@ -30,7 +30,7 @@ use Rattle.ssprun.specs.declared.outcome.Outcome.{Outcome}
 use Rattle.ssprun.specs.declared.outcome.Outcome.TheVariants.{Words, ReadFailed, Missing, TooBig, OtherForm, StartFailed, Unknown, Memory, Ran}
 use Rattle.ssprun.specs.System.{description_path}
 use Rattle.ssprun.specs.Line.{Puts, outcome_line, outcome_status, missing_line, big_line, refused_line}
-use Rattle.ssprun.specs.Facts.{Calm, HasRun, LineFacts, Facts, file_of, AtPath, IsTooBig, IsOther, IsCounter}
+use Rattle.ssprun.specs.Facts.{Calm, HasRun, LineFacts, ReadsNoLine, Facts, file_of, AtPath, IsTooBig, IsOther, IsCounter}
 use Rattle.step_master.specs.End.{is_finished}
 use Rattle.ssprun.specs.Rows.{Command, Says, Answers, AnswersOr11, Finds, WordsRow, ReadFails, LacksFile, FindsTooMuch, FileRow, FormRow, EndsBy, StartFails, IsUnknown, LosesLink, LinkRow, RefusalRow, MisreplyRow, WriteRow, MemoryRow, EndRow, Traces, TraceRow, PeerRow}
 
@@ -65,7 +65,18 @@ answers text w d (inr p) = inr (p.0, p.2)
 -- what holds of the line that the words are
 pub of_line : (o : Outcome) (d : Command) → HasFacts o d → (line : Line) → IsLine d.words line → OfLine o d line
 of_line o d (inl r) line is = subst (λ (l : Line). LineFacts o l d.folder d.old d.new) (r.only line is) r.facts
-of_line o d (inr w) line is = absurd (w.none line is)
+of_line o d (inr w) line is = of_no_line o w
+  where
+    of_no_line : (o : Outcome) → ReadsNoLine o d.words d.folder d.old d.new → OfLine o d line
+    of_no_line Words w = absurd (w.why line is)
+    of_no_line (ReadFailed t) w = absurd w.why
+    of_no_line (Missing t) w = absurd w.why
+    of_no_line (TooBig t) w = absurd w.why
+    of_no_line (OtherForm t) w = absurd w.why
+    of_no_line StartFailed w = absurd w.why
+    of_no_line Unknown w = absurd w.why
+    of_no_line Memory w = (w.calm, w.unread)
+    of_no_line (Ran end) w = absurd w.why
 
 -- what is told of the file holds together
 pub both : (line : Line) (d : Command) (P Q : Option (List ℕ) → Type 0) → IsSomeAnd d.folder.files (λ at. P (at (description_path line.directory))) →
@@ -94,7 +105,7 @@ form_other file a b start x y form none = none start (subst (λ (c : List ℕ). 
 
 words_case : (o : Outcome) (d : Command) → HasFacts o d → outcome_status o ≡ 2 → Says d (outcome_line o) → ((line : Line) → IsLine d.words line → ⊥) × Calm d.old d.new × Says d (codes "words\n")
 words_case Words d (inl r) e says = absurd r.facts
-words_case Words d (inr w) e says = (w.none, w.calm, says)
+words_case Words d (inr w) e says = (w.why, w.calm, says)
 words_case (ReadFailed t) d f e says = different 3 2 refl e
 words_case (Missing t) d f e says = different 3 2 refl e
 words_case (TooBig t) d f e says = different 3 2 refl e
@@ -112,11 +123,11 @@ words_case (Ran WriteFault) d f e says = different 10 2 refl e
 file_case : (o : Outcome) (d : Command) → HasFacts o d → outcome_status o ≡ 3 → Says d (outcome_line o) → (line : Line) × IsLine d.words line × Calm d.old d.new × (ReadFails d line ⊎ (LacksFile d line ⊎ FindsTooMuch d line))
 file_case Words d f e says = different 2 3 refl e
 file_case (ReadFailed t) d (inl r) e says = (r.line, r.is, r.facts.0, inl (subst (λ (x : List ℕ). Says d x) r.facts.1 says, r.facts.2))
-file_case (ReadFailed t) d (inr w) e says = absurd w.outcome_is
+file_case (ReadFailed t) d (inr w) e says = absurd w.why
 file_case (Missing t) d (inl r) e says = (r.line, r.is, r.facts.0, inr (inl (subst (λ (x : List ℕ). Says d x) r.facts.1 says, r.facts.2)))
-file_case (Missing t) d (inr w) e says = absurd w.outcome_is
+file_case (Missing t) d (inr w) e says = absurd w.why
 file_case (TooBig t) d (inl r) e says = (r.line, r.is, r.facts.0, inr (inr (subst (λ (x : List ℕ). Says d x) r.facts.1 says, r.facts.2)))
-file_case (TooBig t) d (inr w) e says = absurd w.outcome_is
+file_case (TooBig t) d (inr w) e says = absurd w.why
 file_case (OtherForm t) d f e says = different 4 3 refl e
 file_case StartFailed d f e says = different 5 3 refl e
 file_case Unknown d f e says = different 5 3 refl e
@@ -134,7 +145,7 @@ form_case (ReadFailed t) d f e says = different 3 4 refl e
 form_case (Missing t) d f e says = different 3 4 refl e
 form_case (TooBig t) d f e says = different 3 4 refl e
 form_case (OtherForm t) d (inl r) e says = (r.line, r.is, r.facts.0, r.facts.2, subst (λ (x : List ℕ). Says d x) r.facts.1 says)
-form_case (OtherForm t) d (inr w) e says = absurd w.outcome_is
+form_case (OtherForm t) d (inr w) e says = absurd w.why
 form_case StartFailed d f e says = different 5 4 refl e
 form_case Unknown d f e says = different 5 4 refl e
 form_case Memory d f e says = different 11 4 refl e
@@ -152,16 +163,16 @@ link_case (Missing t) d f e says = different 3 5 refl e
 link_case (TooBig t) d f e says = different 3 5 refl e
 link_case (OtherForm t) d f e says = different 4 5 refl e
 link_case StartFailed d (inl r) e says = (r.line, r.is, r.facts.0, r.facts.1, inl (says, r.facts.2.0, r.facts.2.1))
-link_case StartFailed d (inr w) e says = absurd w.outcome_is
+link_case StartFailed d (inr w) e says = absurd w.why
 link_case Unknown d (inl r) e says = (r.line, r.is, r.facts.0, r.facts.1, inr (inl (says, r.facts.2.0, r.facts.2.1)))
-link_case Unknown d (inr w) e says = absurd w.outcome_is
+link_case Unknown d (inr w) e says = absurd w.why
 link_case Memory d f e says = different 11 5 refl e
 link_case (Ran Stop) d f e says = different 0 5 refl e
 link_case (Ran (Asked p)) d f e says = different 0 5 refl e
 link_case (Ran (Bad c (Refused call status))) d f e says = different 6 5 refl e
 link_case (Ran (Bad c (Misreply call reply))) d f e says = different 7 5 refl e
 link_case (Ran (Bad c (Link call fault))) d (inl r) e says = (r.line, r.is, r.facts.0, r.facts.1, inr (inr (call, fault, (says, c, r.facts.2))))
-link_case (Ran (Bad c (Link call fault))) d (inr w) e says = absurd w.outcome_is
+link_case (Ran (Bad c (Link call fault))) d (inr w) e says = absurd w.why
 link_case (Ran WriteFault) d f e says = different 10 5 refl e
 
 refusal_case : (o : Outcome) (d : Command) → HasFacts o d → outcome_status o ≡ 6 → Says d (outcome_line o) → (line : Line) × IsLine d.words line × (start : ℤ) × AtPath line d.folder (IsCounter start) × (call : Call) × (status : BadStatus) × EndsBy d line start (Refused call status)
@@ -176,7 +187,7 @@ refusal_case Memory d f e says = different 11 6 refl e
 refusal_case (Ran Stop) d f e says = different 0 6 refl e
 refusal_case (Ran (Asked p)) d f e says = different 0 6 refl e
 refusal_case (Ran (Bad c (Refused call status))) d (inl r) e says = (r.line, r.is, r.facts.0, r.facts.1, call, status, (says, c, r.facts.2))
-refusal_case (Ran (Bad c (Refused call status))) d (inr w) e says = absurd w.outcome_is
+refusal_case (Ran (Bad c (Refused call status))) d (inr w) e says = absurd w.why
 refusal_case (Ran (Bad c (Misreply call reply))) d f e says = different 7 6 refl e
 refusal_case (Ran (Bad c (Link call fault))) d f e says = different 5 6 refl e
 refusal_case (Ran WriteFault) d f e says = different 10 6 refl e
@@ -194,11 +205,11 @@ misreply_case (Ran Stop) d f e says = different 0 7 refl e
 misreply_case (Ran (Asked p)) d f e says = different 0 7 refl e
 misreply_case (Ran (Bad c (Refused call status))) d f e says = different 6 7 refl e
 misreply_case (Ran (Bad c (Misreply call reply))) d (inl r) e says = (r.line, r.is, r.facts.0, r.facts.1, call, reply, (says, c, r.facts.2))
-misreply_case (Ran (Bad c (Misreply call reply))) d (inr w) e says = absurd w.outcome_is
+misreply_case (Ran (Bad c (Misreply call reply))) d (inr w) e says = absurd w.why
 misreply_case (Ran (Bad c (Link call fault))) d f e says = different 5 7 refl e
 misreply_case (Ran WriteFault) d f e says = different 10 7 refl e
 
-memory_case : (o : Outcome) (d : Command) → HasFacts o d → outcome_status o ≡ 11 → Says d (outcome_line o) → (line : Line) × IsLine d.words line × Calm d.old d.new × Says d (codes "memory\n")
+memory_case : (o : Outcome) (d : Command) → HasFacts o d → outcome_status o ≡ 11 → Says d (outcome_line o) → Calm d.old d.new × (d.folder.after ≡ d.folder.before) × Says d (codes "memory\n")
 memory_case Words d f e says = different 2 11 refl e
 memory_case (ReadFailed t) d f e says = different 3 11 refl e
 memory_case (Missing t) d f e says = different 3 11 refl e
@@ -206,8 +217,8 @@ memory_case (TooBig t) d f e says = different 3 11 refl e
 memory_case (OtherForm t) d f e says = different 4 11 refl e
 memory_case StartFailed d f e says = different 5 11 refl e
 memory_case Unknown d f e says = different 5 11 refl e
-memory_case Memory d (inl r) e says = (r.line, r.is, r.facts.0, says)
-memory_case Memory d (inr w) e says = absurd w.outcome_is
+memory_case Memory d (inl r) e says = (r.facts.0, r.facts.1, says)
+memory_case Memory d (inr w) e says = (w.calm, w.unread, says)
 memory_case (Ran Stop) d f e says = different 0 11 refl e
 memory_case (Ran (Asked p)) d f e says = different 0 11 refl e
 memory_case (Ran (Bad c (Refused call status))) d f e says = different 6 11 refl e
@@ -229,9 +240,9 @@ end_case StartFailed d f e says = different 5 0 refl e
 end_case Unknown d f e says = different 5 0 refl e
 end_case Memory d f e says = different 11 0 refl e
 end_case (Ran Stop) d (inl r) e says = (r.line, r.is, r.facts.0, r.facts.1, Stop, refl, r.facts.2, silent d.before d.after says.0, says.1)
-end_case (Ran Stop) d (inr w) e says = absurd w.outcome_is
+end_case (Ran Stop) d (inr w) e says = absurd w.why
 end_case (Ran (Asked p)) d (inl r) e says = (r.line, r.is, r.facts.0, r.facts.1, Asked p, refl, r.facts.2, silent d.before d.after says.0, says.1)
-end_case (Ran (Asked p)) d (inr w) e says = absurd w.outcome_is
+end_case (Ran (Asked p)) d (inr w) e says = absurd w.why
 end_case (Ran (Bad c (Refused call status))) d f e says = different 6 0 refl e
 end_case (Ran (Bad c (Misreply call reply))) d f e says = different 7 0 refl e
 end_case (Ran (Bad c (Link call fault))) d f e says = different 5 0 refl e
@@ -242,27 +253,27 @@ outs_case : (o : Outcome) (d : Command) → HasFacts o d → (d.new.outs ≡ d.o
 outs_case Words d (inl r) = absurd r.facts
 outs_case Words d (inr w) = inl w.calm.0.outs
 outs_case (ReadFailed t) d (inl r) = inl r.facts.0.0.outs
-outs_case (ReadFailed t) d (inr w) = absurd w.outcome_is
+outs_case (ReadFailed t) d (inr w) = absurd w.why
 outs_case (Missing t) d (inl r) = inl r.facts.0.0.outs
-outs_case (Missing t) d (inr w) = absurd w.outcome_is
+outs_case (Missing t) d (inr w) = absurd w.why
 outs_case (TooBig t) d (inl r) = inl r.facts.0.0.outs
-outs_case (TooBig t) d (inr w) = absurd w.outcome_is
+outs_case (TooBig t) d (inr w) = absurd w.why
 outs_case (OtherForm t) d (inl r) = inl r.facts.0.0.outs
-outs_case (OtherForm t) d (inr w) = absurd w.outcome_is
+outs_case (OtherForm t) d (inr w) = absurd w.why
 outs_case StartFailed d (inl r) = inl r.facts.2.0.outs
-outs_case StartFailed d (inr w) = absurd w.outcome_is
+outs_case StartFailed d (inr w) = absurd w.why
 outs_case Unknown d (inl r) = inl r.facts.2.0.0.outs
-outs_case Unknown d (inr w) = absurd w.outcome_is
+outs_case Unknown d (inr w) = absurd w.why
 outs_case Memory d (inl r) = inl r.facts.0.0.outs
-outs_case Memory d (inr w) = absurd w.outcome_is
+outs_case Memory d (inr w) = inl w.calm.0.outs
 outs_case (Ran Stop) d (inl r) = inl r.facts.2.outs
-outs_case (Ran Stop) d (inr w) = absurd w.outcome_is
+outs_case (Ran Stop) d (inr w) = absurd w.why
 outs_case (Ran (Asked q)) d (inl r) = inl r.facts.2.outs
-outs_case (Ran (Asked q)) d (inr w) = absurd w.outcome_is
+outs_case (Ran (Asked q)) d (inr w) = absurd w.why
 outs_case (Ran (Bad c why)) d (inl r) = inl r.facts.2.outs
-outs_case (Ran (Bad c why)) d (inr w) = absurd w.outcome_is
+outs_case (Ran (Bad c why)) d (inr w) = absurd w.why
 outs_case (Ran WriteFault) d (inl r) = inr (refl, r.facts.2.outs)
-outs_case (Ran WriteFault) d (inr w) = absurd w.outcome_is
+outs_case (Ran WriteFault) d (inr w) = absurd w.why
 
 write_case : (o : Outcome) (d : Command) → HasFacts o d → outcome_status o ≡ 10 → Rose d.old.outs d.new.outs
 write_case Words d f e = different 2 10 refl e
@@ -279,7 +290,7 @@ write_case (Ran (Bad c (Refused call status))) d f e = different 6 10 refl e
 write_case (Ran (Bad c (Misreply call reply))) d f e = different 7 10 refl e
 write_case (Ran (Bad c (Link call fault))) d f e = different 5 10 refl e
 write_case (Ran WriteFault) d (inl r) e = r.facts.2.outs
-write_case (Ran WriteFault) d (inr w) e = absurd w.outcome_is
+write_case (Ran WriteFault) d (inr w) e = absurd w.why
 
 not_higher : (a b : ℕ) → b ≡ a → a < b → ⊥
 not_higher a b e higher = grind (arith, common_steps)
@@ -299,24 +310,24 @@ write_when : (o : Outcome) (d : Command) → HasFacts o d → HasPut o d → d.s
 write_when o d f (inl p) is = inl (write_case o d f (sym p.0 ∙ is))
 write_when o d f (inr p) is = inr p.2
 
-words_exact : (o : Outcome) (d : Command) → HasFacts o d → HasPut o d → ((line : Line) → IsLine d.words line → ⊥) → Answers d 2 (codes "words\n")
-words_exact o d (inl r) p none = absurd (none r.line r.is)
-words_exact Words d (inr w) p none = answers (codes "words\n") 2 d p
-words_exact (ReadFailed t) d (inr w) p none = absurd w.outcome_is
-words_exact (Missing t) d (inr w) p none = absurd w.outcome_is
-words_exact (TooBig t) d (inr w) p none = absurd w.outcome_is
-words_exact (OtherForm t) d (inr w) p none = absurd w.outcome_is
-words_exact StartFailed d (inr w) p none = absurd w.outcome_is
-words_exact Unknown d (inr w) p none = absurd w.outcome_is
-words_exact Memory d (inr w) p none = absurd w.outcome_is
-words_exact (Ran Stop) d (inr w) p none = absurd w.outcome_is
-words_exact (Ran (Asked q)) d (inr w) p none = absurd w.outcome_is
-words_exact (Ran (Bad c why)) d (inr w) p none = absurd w.outcome_is
-words_exact (Ran WriteFault) d (inr w) p none = absurd w.outcome_is
-
 memory_or : (n : ℕ) (text : List ℕ) (d : Command) → PutsLine (codes "memory\n") 11 d → AnswersOr11 d n text
 memory_or n text d (inl p) = inl p.0
 memory_or n text d (inr p) = inr (inr (p.0, p.2))
+
+words_exact : (o : Outcome) (d : Command) → HasFacts o d → HasPut o d → ((line : Line) → IsLine d.words line → ⊥) → AnswersOr11 d 2 (codes "words\n")
+words_exact o d (inl r) p none = absurd (none r.line r.is)
+words_exact Words d (inr w) p none = inr (answers (codes "words\n") 2 d p)
+words_exact (ReadFailed t) d (inr w) p none = absurd w.why
+words_exact (Missing t) d (inr w) p none = absurd w.why
+words_exact (TooBig t) d (inr w) p none = absurd w.why
+words_exact (OtherForm t) d (inr w) p none = absurd w.why
+words_exact StartFailed d (inr w) p none = absurd w.why
+words_exact Unknown d (inr w) p none = absurd w.why
+words_exact Memory d (inr w) p none = memory_or _ _ d p
+words_exact (Ran Stop) d (inr w) p none = absurd w.why
+words_exact (Ran (Asked q)) d (inr w) p none = absurd w.why
+words_exact (Ran (Bad c why)) d (inr w) p none = absurd w.why
+words_exact (Ran WriteFault) d (inr w) p none = absurd w.why
 
 missing_exact : (o : Outcome) (d : Command) (line : Line) → OfLine o d line → Finds d line (λ file. file ≡ None) → HasPut o d → AnswersOr11 d 3 (missing_line (file_of line))
 missing_exact Words d line g f p = absurd g
@@ -486,21 +497,21 @@ peer_case : (o : Outcome) (d : Command) → HasFacts o d → PeerRow d
 peer_case Words d (inl r) = absurd r.facts
 peer_case Words d (inr w) = inl w.calm.0
 peer_case (ReadFailed t) d (inl r) = inl r.facts.0.0
-peer_case (ReadFailed t) d (inr w) = absurd w.outcome_is
+peer_case (ReadFailed t) d (inr w) = absurd w.why
 peer_case (Missing t) d (inl r) = inl r.facts.0.0
-peer_case (Missing t) d (inr w) = absurd w.outcome_is
+peer_case (Missing t) d (inr w) = absurd w.why
 peer_case (TooBig t) d (inl r) = inl r.facts.0.0
-peer_case (TooBig t) d (inr w) = absurd w.outcome_is
+peer_case (TooBig t) d (inr w) = absurd w.why
 peer_case (OtherForm t) d (inl r) = inl r.facts.0.0
-peer_case (OtherForm t) d (inr w) = absurd w.outcome_is
+peer_case (OtherForm t) d (inr w) = absurd w.why
 peer_case StartFailed d (inl r) = inl r.facts.2.0
-peer_case StartFailed d (inr w) = absurd w.outcome_is
+peer_case StartFailed d (inr w) = absurd w.why
 peer_case Unknown d (inl r) = inl r.facts.2.0.0
-peer_case Unknown d (inr w) = absurd w.outcome_is
+peer_case Unknown d (inr w) = absurd w.why
 peer_case Memory d (inl r) = inl r.facts.0.0
-peer_case Memory d (inr w) = absurd w.outcome_is
+peer_case Memory d (inr w) = inl w.calm.0
 peer_case (Ran end) d (inl r) = used end d r.line r.is r.facts
-peer_case (Ran end) d (inr w) = absurd w.outcome_is
+peer_case (Ran end) d (inr w) = absurd w.why
 
 pub words_row : (o : Outcome) (d : Command) → HasFacts o d → HasPut o d → WordsRow d
 words_row o d f p = record {

@@ -140,24 +140,24 @@ pub record RunsLine (outcome : Outcome) (words : List (List ℕ)) (folder : Shel
   pub only : (other : Line) → IsLine words other → line ≡ other
   pub facts : LineFacts outcome line folder old new
 
-abbrev pub IsWords : Outcome → Type 0
-IsWords Words = Unit {0}
-IsWords (ReadFailed text) = ⊥
-IsWords (Missing text) = ⊥
-IsWords (TooBig text) = ⊥
-IsWords (OtherForm text) = ⊥
-IsWords StartFailed = ⊥
-IsWords Unknown = ⊥
-IsWords Memory = ⊥
-IsWords (Ran end) = ⊥
+-- why no line is read: the words are none, or memory is wanting to read them
+abbrev pub LacksLine : Outcome → List (List ℕ) → Type 0
+LacksLine Words words = (line : Line) → IsLine words line → ⊥
+LacksLine (ReadFailed text) words = ⊥
+LacksLine (Missing text) words = ⊥
+LacksLine (TooBig text) words = ⊥
+LacksLine (OtherForm text) words = ⊥
+LacksLine StartFailed words = ⊥
+LacksLine Unknown words = ⊥
+LacksLine Memory words = Unit {0}
+LacksLine (Ran end) words = ⊥
 
--- the words are no command
-pub record RefusesWords (outcome : Outcome) (words : List (List ℕ)) (folder : Shelf) (old new : Stage) : Type 0 where
-  pub outcome_is : IsWords outcome
-  pub none : (line : Line) → IsLine words line → ⊥
+-- no line is read, and no file
+pub record ReadsNoLine (outcome : Outcome) (words : List (List ℕ)) (folder : Shelf) (old new : Stage) : Type 0 where
+  pub why : LacksLine outcome words
   pub calm : Calm old new
   pub unread : folder.after ≡ folder.before
 
 -- what holds of an outcome of the program
 abbrev pub Facts : Outcome → List (List ℕ) → Shelf → Stage → Stage → Type 0
-Facts outcome words folder old new = RunsLine outcome words folder old new ⊎ RefusesWords outcome words folder old new
+Facts outcome words folder old new = RunsLine outcome words folder old new ⊎ ReadsNoLine outcome words folder old new

@@ -71,10 +71,10 @@ pub record Finds (d : Command) (line : Line) (P : Option (List ℕ) → Type 0) 
   pub quiet : Rose d.folder.before d.folder.after → ⊥
   pub told : IsSomeAnd d.folder.files (λ at. P (at (description_path line.directory)))
 
--- 2: exactly where the words are no command
+-- 2: exactly where the words are no line
 pub record WordsRow (d : Command) : Type 0 where
   pub when : d.status ≡ 2 → ((line : Line) → IsLine d.words line → ⊥) × Calm d.old d.new × Says d (codes "words\n")
-  pub exact : ((line : Line) → IsLine d.words line → ⊥) → Answers d 2 (codes "words\n")
+  pub exact : ((line : Line) → IsLine d.words line → ⊥) → AnswersOr11 d 2 (codes "words\n")
 
 abbrev pub ReadFails : Command → Line → Type 0
 ReadFails d line = Says d (read_line (file_of line)) × Rose d.folder.before d.folder.after
@@ -130,9 +130,9 @@ pub record WriteRow (d : Command) : Type 0 where
   pub when : d.status ≡ 10 → Rose d.old.outs d.new.outs ⊎ Rose d.errs d.errs_after
   pub higher : (d.old.outs < d.new.outs) ⊎ (d.errs < d.errs_after) → d.status ≡ 10
 
--- 11: nothing was started or written
+-- 11: nothing was started or written, and no read failed
 pub record MemoryRow (d : Command) : Type 0 where
-  pub when : d.status ≡ 11 → (line : Line) × IsLine d.words line × Calm d.old d.new × Says d (codes "memory\n")
+  pub when : d.status ≡ 11 → Calm d.old d.new × (d.folder.after ≡ d.folder.before) × Says d (codes "memory\n")
 
 -- 0: the run came to its end, and err holds what it held
 pub record EndRow (d : Command) : Type 0 where

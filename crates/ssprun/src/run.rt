@@ -14,7 +14,7 @@ ghost use Rattle.ssprun.specs.Prepared.{IsPrepared};
 use crate::lines::FileLines;
 use crate::outcome::Outcome;
 use crate::report::report;
-use command_line::{Options, read_words};
+use command_line::{Options, WordsFault, read_words};
 use counter_form::{make_shape, read_form};
 use fmu_peer::{Peer, Spawner, StartFault};
 use run_model::{Component, Port, System, one_trace};
@@ -26,9 +26,9 @@ use value_types::{PortType, Shape};
 
 /// Does what the words of a command line say, and answers the program's status.
 ///
-/// `one DIR --resolution R --step H --stop T` reads the description in a directory, runs the FMU from its first call
-/// to its closing, and puts its trace on `out`. R, H and T are counts: R of them are one second. At each status but 0
-/// one line is put on `err`.
+/// `one DIR --resolution R --step H --stop T [--start S]` reads the description in a directory, runs the FMU from its
+/// first call to its closing, and puts its trace on `out`. R, H, T and S are counts: R of them are one second, and the
+/// run goes from S, which is 0 where it isn't given, to T by steps of H. At each status but 0 one line is put on `err`.
 pub fn run_words<R: Threads + Sync, F: Folder, S: Spawner, O: Sink, E: Sink>(
     _rt: &R,
     alloc: Global,
@@ -101,9 +101,10 @@ fn run<F: Folder, S: Spawner, O: Sink>(
         (stage (S.started spawner.old) (S.retired spawner.old) (S.knows spawner.old) (S.faults spawner.old) (O.content out.old) (O.faults out.old))
         (stage (S.started spawner.new) (S.retired spawner.new) (S.knows spawner.new) (S.faults spawner.new) (O.content out.new) (O.faults out.new)) }
 {
-    match read_words(words) {
-        Some(options) => run_options(alloc, &options, folder, spawner, out),
-        None => Outcome::Words,
+    match read_words(alloc, words) {
+        Ok(options) => run_options(alloc, &options, folder, spawner, out),
+        Err(WordsFault::NoLine) => Outcome::Words,
+        Err(WordsFault::Memory) => Outcome::Memory,
     }
 }
 

@@ -55,7 +55,7 @@ const WORKED: Case = Case {
 
 const REFUSED: Case = Case { out: "", ..WORKED };
 
-static CASES: [Case; 22] = [
+static CASES: [Case; 24] = [
     WORKED,
     Case {
         words: "one|d|--resolution|1000|--step|10|--stop|0",
@@ -66,6 +66,12 @@ static CASES: [Case; 22] = [
     Case {
         words: "one|d|--resolution|7|--step|15|--stop|20",
         out: "trace 1 7 0 20\nport 0 Int32 fmu y\nat 0 0\n0 0\nat 15 0\n0 2\nat 20 0\n0 4\nend stop 20\n",
+        ..WORKED
+    },
+    // The points are counted from the start.
+    Case {
+        words: "one|d|--start=5|--resolution|1000|--step|10|--stop|20",
+        out: "trace 1 1000 5 20\nport 0 Int32 fmu y\nat 5 0\n0 0\nat 15 0\n0 2\nat 20 0\n0 4\nend stop 20\n",
         ..WORKED
     },
     Case {
@@ -104,6 +110,12 @@ static CASES: [Case; 22] = [
     },
     Case {
         words: "one|d",
+        status: 2,
+        err: "words\n",
+        ..REFUSED
+    },
+    Case {
+        words: "one|d|--resolution|1000|--step|10|--stop|20|--start|21",
         status: 2,
         err: "words\n",
         ..REFUSED
