@@ -1,6 +1,6 @@
 use crate::{Fraction, from_decimal, next_tick_after, ticks_at, to_counts};
 
-const DECIMALS: [(&str, Option<(u64, u64)>); 40] = [
+const DECIMALS: [(&str, Option<(u64, u64)>); 45] = [
     (".5", Some((5, 10))),
     ("1.", Some((1, 1))),
     ("0.010", Some((1, 100))),
@@ -8,6 +8,7 @@ const DECIMALS: [(&str, Option<(u64, u64)>); 40] = [
     ("1e-2", Some((1, 100))),
     ("1E-02", Some((1, 100))),
     ("+2E+1", Some((20, 1))),
+    ("+.5", Some((5, 10))),
     ("1.5e1", Some((15, 1))),
     ("10e-1", Some((1, 1))),
     ("00.10", Some((1, 10))),
@@ -30,10 +31,14 @@ const DECIMALS: [(&str, Option<(u64, u64)>); 40] = [
     ("1e-19", None),
     ("1000000000000000001", None),
     ("1234567890123456789", None),
+    ("0.1234567890123456789", None),
     ("-1", None),
+    ("-0", None),
     ("", None),
     (".", None),
     ("+", None),
+    ("-", None),
+    ("+e1", None),
     ("e5", None),
     (".e1", None),
     ("1e", None),

@@ -91,6 +91,7 @@ impl Folder for MemFolder {
         ensures failing { self.new.failing ≡ self.old.failing }
         ensures counted { self.new.reads ≡ min (self.old.reads + 1) (2 ^ 64 - 1) }
         ensures exact { (result ≡ Err Failed) ↔ Contains self.old.failing self.old.reads }
+        ensures faulted { result ≡ Err Failed → self.new.faults ≡ min (self.old.faults + 1) (2 ^ 64 - 1) }
         ensures cause { HasReadCause self.old.faults self.new.faults result }
     {
         let is_failing = is_listed(self.failing.as_slice(), self.reads);

@@ -79,6 +79,7 @@ impl Sink for MemSink {
         ensures counted { self.new.puts ≡ min (self.old.puts + 1) (2 ^ 64 - 1) }
         ensures exact { IsErr result
             ↔ (Contains self.old.failing self.old.puts ⊎ (self.old.room < length self.old.bytes.items + length bytes.now)) }
+        ensures faulted { OnErr result (self.new.faults ≡ min (self.old.faults + 1) (2 ^ 64 - 1)) }
         ensures cause { HasCause self.old.faults self.new.faults result }
     {
         let fails = self.fails_to_put(bytes.len());
