@@ -1,0 +1,4 @@
+pub mod Names
+pub mod Steps
+pub mod SharedBytes
+pub mod Told

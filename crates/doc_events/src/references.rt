@@ -1,0 +1,147 @@
+//! References.
+ghost use Rattle.std.specs.Prelude.{◌≡◌, ◌+◌, ◌*◌, ◌∷◌, [], ◌++◌, IfOk};
+ghost use Rattle.doc_grammar.specs.Characters.{class, is_char};
+ghost use Rattle.doc_grammar.specs.Grammar.{strict};
+ghost use Rattle.doc_grammar.specs.Grammar as g;
+ghost use Rattle.doc_grammar.specs.Machine as m;
+ghost use Rattle.doc_events.specs.View.{state_of, hole_of, tail_of, base_of, Goes};
+
+use crate::markup::exactly;
+use crate::state::{Base, Hole, Place, State, Stop, Tail};
+use doc_grammar::Why;
+use std::alloc::AllocError;
+
+/// What goes on behind a reference.
+fn filled(hole: Hole, code: char) -> Result<State, AllocError>
+    ensures { IfOk result (λ s. state_of s ≡ m.filled (hole_of hole) code) }
+{
+    match hole {
+        Hole::InText(name, mut names) => {
+            names.push(name)?;
+            Ok(State::At(Place::Within(names)))
+        }
+        Hole::InValue(place, tag, name, quote, mut text) => {
+            text.push(code)?;
+            Ok(State::Value(place, tag, name, quote, text, false))
+        }
+    }
+}
+
+/// In a reference that only these characters can end.
+pub(crate) fn forced(hole: Hole, code: char, next: char, tail: Tail, b: char) -> Result<State, Stop>
+    ensures { Goes (m.step_forced (hole_of hole) code next (tail_of tail) b) result }
+{
+    if b != next {
+        return Err(Stop::Dead(Why::Plain));
+    }
+    match tail {
+        Tail::Nothing => Ok(filled(hole, code)?),
+        Tail::Semicolon => Ok(State::Forced(hole, code, ';', Tail::Nothing)),
+        Tail::T => Ok(State::Forced(hole, code, 't', Tail::Semicolon)),
+        Tail::Ot => Ok(State::Forced(hole, code, 'o', Tail::T)),
+        Tail::S => Ok(State::Forced(hole, code, 's', Tail::Semicolon)),
+    }
+}
+
+/// Behind `&`.
+pub(crate) fn amped(hole: Hole, b: char) -> Result<State, Stop>
+    ensures { Goes (m.step_amped (hole_of hole) b) result }
+{
+    match b {
+        'l' => Ok(State::Forced(hole, '<', 't', Tail::Semicolon)),
+        'g' => Ok(State::Forced(hole, '>', 't', Tail::Semicolon)),
+        'q' => Ok(State::Forced(hole, '"', 'u', Tail::Ot)),
+        '#' => Ok(State::Hashed(hole)),
+        'a' => Ok(State::AmpedA(hole)),
+        _ => Err(Stop::Dead(Why::Plain)),
+    }
+}
+
+/// Behind `&a`.
+pub(crate) fn amped_a(hole: Hole, b: char) -> Result<State, Stop>
+    ensures { Goes (m.step_amped_a (hole_of hole) b) result }
+{
+    match b {
+        'm' => Ok(State::Forced(hole, '&', 'p', Tail::Semicolon)),
+        'p' => Ok(State::Forced(hole, '\'', 'o', Tail::S)),
+        _ => Err(Stop::Dead(Why::Plain)),
+    }
+}
+
+fn is_numeral(base: Base, c: char) -> bool
+    ensures { result ≡ g.is_numeral (base_of base) c }
+{
+    match base {
+        Base::Ten => matches!(c, '0'..='9'),
+        Base::Sixteen => matches!(c, '0'..='9' | 'a'..='f' | 'A'..='F'),
+    }
+}
+
+/// A number with one digit more.
+fn with_digit(base: Base, number: u32, c: char) -> u64
+    ensures { result ≡ g.with_digit (base_of base) number c }
+{
+    let code = u64::from(u32::from(c));
+    let digit = if code <= 57 {
+        code.saturating_sub(48)
+    } else if code <= 70 {
+        code.saturating_sub(55)
+    } else {
+        code.saturating_sub(87)
+    };
+    match base {
+        Base::Ten => 10 * u64::from(number) + digit,
+        Base::Sixteen => 16 * u64::from(number) + digit,
+    }
+}
+
+/// The greatest code of a character.
+const GREATEST: u64 = 1_114_111;
+
+/// One digit more, where some further digits can make a character.
+pub(crate) fn digit(hole: Hole, base: Base, number: u32, b: char) -> Result<State, Stop>
+    ensures { Goes (m.step_digit (hole_of hole) (base_of base) number b) result }
+{
+    if !is_numeral(base, b) {
+        return Err(Stop::Dead(Why::Plain));
+    }
+    let more = with_digit(base, number, b);
+    if more <= GREATEST {
+        Ok(State::Number(hole, base, more as u32))
+    } else {
+        Err(Stop::Dead(Why::Plain))
+    }
+}
+
+/// Behind `&#`.
+pub(crate) fn hashed(hole: Hole, b: char) -> Result<State, Stop>
+    ensures { Goes (m.step_hashed (hole_of hole) b) result }
+{
+    if b == 'x' {
+        Ok(State::Hexed(hole))
+    } else {
+        digit(hole, Base::Ten, 0, b)
+    }
+}
+
+fn is_legal(number: u32) -> bool
+    ensures { result ≡ is_char number }
+{
+    matches!(number, 9 | 10 | 13 | 32..=55295 | 57344..=65533 | 65536..=1_114_111)
+}
+
+/// In the digits of a reference.
+pub(crate) fn number(hole: Hole, base: Base, number: u32, b: char) -> Result<State, Stop>
+    ensures { Goes (m.step_number (hole_of hole) (base_of base) number b) result }
+{
+    if b != ';' {
+        return digit(hole, base, number, b);
+    }
+    if !is_legal(number) {
+        return Err(Stop::Dead(Why::Plain));
+    }
+    match char::from_u32(number) {
+        Some(code) => Ok(filled(hole, code)?),
+        None => Err(Stop::Dead(Why::Plain)),
+    }
+}

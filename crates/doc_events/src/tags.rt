@@ -1,0 +1,380 @@
+//! Tags.
+ghost use Rattle.std.specs.Prelude.{◌≡◌, ◌+◌, ◌∷◌, [], ◌++◌, drop, IfOk, IfErr, OnOk, length};
+ghost use Rattle.doc_events.specs.declared.state.Stop.TheVariants.{Memory};
+ghost use Rattle.doc_grammar.specs.Characters.{class, is_blank};
+ghost use Rattle.doc_grammar.specs.Grammar.{strict};
+ghost use Rattle.doc_grammar.specs.Grammar as g;
+ghost use Rattle.doc_grammar.specs.Machine as m;
+ghost use Rattle.doc_events.specs.View.{state_of, place_of, names_of, quote_of, events_of, Goes, Moves};
+ghost use Rattle.std.specs.Str.{encode_utf8_all};
+
+use crate::attributes::{Attributes, text_of};
+use crate::markup::{bad, one};
+use crate::state::{Event, Hole, Place, Quote, State, Stop, Tag};
+use doc_grammar::{Class, Why, class_of};
+use std::alloc::{AllocError, Global};
+
+/// How many bytes two texts begin with alike.
+#[tactic(auto, using(crate::proofs::SharedBytes::shared_short, crate::proofs::SharedBytes::shared_whole, crate::proofs::SharedBytes::shared_apart, crate::proofs::SharedBytes::shared_more))]
+fn shared(a: &[u8], b: &[u8]) -> usize
+    ensures { result ≡ m.shared a.now b.now }
+{
+    for i in 0..a.len() {
+        if i >= b.len() {
+            return i;
+        }
+        if a[i] != b[i] {
+            return i;
+        }
+    }
+    a.len()
+}
+
+/// Where only another character goes on.
+pub(crate) fn partly(alloc: Global, expected: char, b: char) -> Result<Why, AllocError>
+    ensures { IfOk result (λ w. w ≡ m.partly expected b) }
+{
+    let expected = text_of(alloc, &[expected])?;
+    let found = text_of(alloc, &[b])?;
+    Ok(Why::Partly(shared(expected.as_bytes(), found.as_bytes())))
+}
+
+/// How deep an element may stand.
+const DEPTH: usize = 64;
+
+/// Whether an element may begin here.
+fn may_open(place: &Place) -> bool
+    ensures { result ≡ m.may_open strict (place_of place.now) }
+{
+    match place {
+        Place::Before => true,
+        Place::Within(names) => !names.is_empty() && names.len() < DEPTH,
+    }
+}
+
+/// Why no element may begin here.
+fn why_open(place: &Place) -> Why
+    ensures { result ≡ m.why_open (place_of place.now) }
+{
+    match place {
+        Place::Within(names) if !names.is_empty() => Why::Deep,
+        _ => Why::Plain,
+    }
+}
+
+/// Why a character that may stand nowhere ends all documents behind `<`.
+fn bad_opened(place: &Place, b: char) -> Why
+    ensures { result ≡ m.bad_opened strict (place_of place.now) b }
+{
+    if b < '\u{80}' {
+        Why::Plain
+    } else if may_open(place) {
+        Why::Partly(2)
+    } else {
+        why_open(place)
+    }
+}
+
+/// Behind `<`.
+pub(crate) fn opened(alloc: Global, place: Place, b: char) -> Result<State, Stop>
+    ensures { Goes (m.step_opened strict (place_of place) (class b) b) result }
+{
+    match (place, class_of(b)) {
+        (place, Class::Bang) => Ok(State::Banged(place)),
+        (place, Class::Question) => Ok(State::Asked(place)),
+        (place, Class::Letter) => {
+            if may_open(&place) {
+                Ok(State::Naming(place, one(alloc, b)?))
+            } else {
+                Err(Stop::Dead(why_open(&place)))
+            }
+        }
+        (place, Class::Bad) => Err(Stop::Dead(bad_opened(&place, b))),
+        (Place::Within(mut names), Class::Slash) => match names.pop() {
+            None => Err(Stop::Dead(Why::Plain)),
+            Some(name) => Ok(State::Finishing(names, name, 0)),
+        },
+        _ => Err(Stop::Dead(Why::Plain)),
+    }
+}
+
+/// The names of the elements that are open around a tag.
+fn stack(alloc: Global, place: Place) -> Vec<Vec<char>>
+    ensures { names_of result.items ≡ m.stack (place_of place) }
+{
+    match place {
+        Place::Before => Vec::new(alloc),
+        Place::Within(names) => names,
+    }
+}
+
+/// A copy of a name.
+fn copy(alloc: Global, name: &[char]) -> Result<Vec<char>, AllocError>
+    ensures { IfOk result (λ v. v.items ≡ name.now) }
+{
+    name.iter().copied().collect(alloc)
+}
+
+/// Behind a name or a value in a tag.
+pub(crate) fn in_tag(
+    alloc: Global,
+    place: Place,
+    tag: Tag,
+    b: char,
+    out: &mut Vec<Event>,
+) -> Result<State, Stop>
+    ensures { Moves (m.step_tag (place_of place) tag.name.items tag.attrs (class b)) result out.old.items out.new.items }
+{
+    match class_of(b) {
+        Class::Blank => Ok(State::Tagged(place, tag)),
+        Class::Slash => Ok(State::Slashed(place, tag)),
+        Class::Greater => {
+            let mut names = stack(alloc, place);
+            names.push(copy(alloc, tag.name.as_slice())?)?;
+            out.push(Event::Begin(tag))?;
+            Ok(State::At(Place::Within(names)))
+        }
+        _ => Err(Stop::Dead(Why::Plain)),
+    }
+}
+
+/// In the name of an element.
+pub(crate) fn naming(
+    alloc: Global,
+    place: Place,
+    mut name: Vec<char>,
+    b: char,
+    out: &mut Vec<Event>,
+) -> Result<State, Stop>
+    ensures { Moves (m.step_naming (place_of place) name.items (class b) b) result out.old.items out.new.items }
+{
+    match class_of(b) {
+        Class::Letter | Class::Digit | Class::Dash => {
+            name.push(b)?;
+            Ok(State::Naming(place, name))
+        }
+        Class::Bad => Err(Stop::Dead(bad(b))),
+        _ => in_tag(
+            alloc,
+            place,
+            Tag {
+                name,
+                attrs: Attributes::new(alloc),
+            },
+            b,
+            out,
+        ),
+    }
+}
+
+/// Behind white space in a tag.
+pub(crate) fn tagged(
+    alloc: Global,
+    place: Place,
+    tag: Tag,
+    b: char,
+    out: &mut Vec<Event>,
+) -> Result<State, Stop>
+    ensures { Moves (m.step_tagged (place_of place) tag.name.items tag.attrs (class b) b) result out.old.items out.new.items }
+{
+    match class_of(b) {
+        Class::Letter => Ok(State::Attr(place, tag, one(alloc, b)?)),
+        Class::Bad => Err(Stop::Dead(bad(b))),
+        _ => in_tag(alloc, place, tag, b, out),
+    }
+}
+
+/// In the name of an attribute.
+pub(crate) fn attr(
+    alloc: Global,
+    place: Place,
+    tag: Tag,
+    mut name: Vec<char>,
+    b: char,
+) -> Result<State, Stop>
+    ensures { Goes (m.step_attr strict (place_of place) tag.name.items tag.attrs name.items (class b) b) result }
+{
+    match class_of(b) {
+        Class::Letter | Class::Digit | Class::Dash => {
+            name.push(b)?;
+            Ok(State::Attr(place, tag, name))
+        }
+        Class::Blank => {
+            if tag.attrs.has(alloc, name.as_slice())? {
+                Err(Stop::Dead(Why::Twice(text_of(alloc, name.as_slice())?.len())))
+            } else {
+                Ok(State::Equals(place, tag, name))
+            }
+        }
+        Class::Equal => {
+            if tag.attrs.has(alloc, name.as_slice())? {
+                Err(Stop::Dead(Why::Twice(text_of(alloc, name.as_slice())?.len())))
+            } else {
+                Ok(State::Valued(place, tag, name))
+            }
+        }
+        Class::Bad => Err(Stop::Dead(bad(b))),
+        _ => Err(Stop::Dead(Why::Plain)),
+    }
+}
+
+/// Behind an attribute's name.
+pub(crate) fn equals(place: Place, tag: Tag, name: Vec<char>, b: char) -> Result<State, Stop>
+    ensures { Goes (m.step_equals (place_of place) tag.name.items tag.attrs name.items (class b)) result }
+{
+    match class_of(b) {
+        Class::Blank => Ok(State::Equals(place, tag, name)),
+        Class::Equal => Ok(State::Valued(place, tag, name)),
+        _ => Err(Stop::Dead(Why::Plain)),
+    }
+}
+
+/// Behind an attribute's `=`.
+pub(crate) fn valued(
+    alloc: Global,
+    place: Place,
+    tag: Tag,
+    name: Vec<char>,
+    b: char,
+) -> Result<State, Stop>
+    ensures { Goes (m.step_valued (place_of place) tag.name.items tag.attrs name.items (class b)) result }
+{
+    match class_of(b) {
+        Class::Blank => Ok(State::Valued(place, tag, name)),
+        Class::DoubleQuote => Ok(State::Value(
+            place,
+            tag,
+            name,
+            Quote::Double,
+            Vec::new(alloc),
+            false,
+        )),
+        Class::SingleQuote => Ok(State::Value(
+            place,
+            tag,
+            name,
+            Quote::Single,
+            Vec::new(alloc),
+            false,
+        )),
+        _ => Err(Stop::Dead(Why::Plain)),
+    }
+}
+
+/// The tag with one more attribute.
+fn add(alloc: Global, tag: Tag, name: Vec<char>, value: Vec<char>) -> Result<Tag, Stop>
+    ensures ok { IfOk result (λ t. (t.name.items ≡ tag.name.items) × (t.attrs ≡ tag.attrs ++ (name.items, value.items) ∷ [])) }
+    ensures err { IfErr result (λ e. e ≡ Memory) }
+{
+    let Tag {
+        name: tag_name,
+        attrs,
+    } = tag;
+    Ok(Tag {
+        name: tag_name,
+        attrs: attrs.with(alloc, name, value)?,
+    })
+}
+
+/// Adds what a raw character of a value means.
+fn push_raw(text: &mut Vec<char>, behind_return: bool, b: char) -> Result<(), Stop>
+    ensures ok { OnOk result (text.new.items ≡ text.old.items ++ g.raw_value behind_return b) }
+    ensures err { IfErr result (λ e. e ≡ Memory) }
+{
+    if behind_return && b == '\n' {
+        return Ok(());
+    }
+    let plain = match b {
+        ' ' | '\t' | '\n' | '\r' => ' ',
+        _ => b,
+    };
+    text.push(plain)?;
+    Ok(())
+}
+
+/// In an attribute's value.
+pub(crate) fn value(
+    alloc: Global,
+    place: Place,
+    tag: Tag,
+    name: Vec<char>,
+    quote: Quote,
+    mut text: Vec<char>,
+    behind_return: bool,
+    b: char,
+) -> Result<State, Stop>
+    ensures { Goes (m.step_value (place_of place) tag.name.items tag.attrs name.items (quote_of quote) text.items behind_return (class b) b) result }
+{
+    match (quote, class_of(b)) {
+        (Quote::Double, Class::DoubleQuote) => {
+            Ok(State::Closed(place, add(alloc, tag, name, text)?))
+        }
+        (Quote::Single, Class::SingleQuote) => {
+            Ok(State::Closed(place, add(alloc, tag, name, text)?))
+        }
+        (_, Class::Less) => Err(Stop::Dead(Why::Plain)),
+        (_, Class::Bad) => Err(Stop::Dead(bad(b))),
+        (_, Class::Ampersand) => Ok(State::Amped(Hole::InValue(place, tag, name, quote, text))),
+        _ => {
+            push_raw(&mut text, behind_return, b)?;
+            Ok(State::Value(place, tag, name, quote, text, b == '\r'))
+        }
+    }
+}
+
+/// Behind `/` in a tag.
+pub(crate) fn slashed(
+    alloc: Global,
+    place: Place,
+    tag: Tag,
+    b: char,
+    out: &mut Vec<Event>,
+) -> Result<State, Stop>
+    ensures { Moves (m.step strict (m.slashed (place_of place) tag.name.items tag.attrs) (class b) b) result out.old.items out.new.items }
+{
+    match class_of(b) {
+        Class::Greater => {
+            out.push(Event::Begin(tag))?;
+            out.push(Event::Close)?;
+            Ok(State::At(Place::Within(stack(alloc, place))))
+        }
+        _ => Err(Stop::Dead(Why::Plain)),
+    }
+}
+
+/// Behind an end tag's name.
+pub(crate) fn finished(names: Vec<Vec<char>>, b: char, out: &mut Vec<Event>) -> Result<State, Stop>
+    ensures { Moves (m.step_finished (names_of names.items) (class b)) result out.old.items out.new.items }
+{
+    match class_of(b) {
+        Class::Blank => Ok(State::Finished(names)),
+        Class::Greater => {
+            out.push(Event::Close)?;
+            Ok(State::At(Place::Within(names)))
+        }
+        _ => Err(Stop::Dead(Why::Plain)),
+    }
+}
+
+/// In an end tag's name, of which `done` characters were read.
+pub(crate) fn finishing(
+    alloc: Global,
+    names: Vec<Vec<char>>,
+    name: Vec<char>,
+    done: usize,
+    b: char,
+    out: &mut Vec<Event>,
+) -> Result<State, Stop>
+    ensures { Moves (m.step_finishing (names_of names.items) (drop done name.items) (class b) b) result out.old.items out.new.items }
+{
+    match name.get(done) {
+        None => finished(names, b, out),
+        Some(expected) => {
+            if *expected == b {
+                Ok(State::Finishing(names, name, done + 1))
+            } else {
+                Err(Stop::Dead(partly(alloc, *expected, b)?))
+            }
+        }
+    }
+}

@@ -1,0 +1,424 @@
+-- The documents: a tree that keeps every choice of spelling, its text, which trees are right, and what each means.
+-- The numbers in parentheses are the productions of XML 1.0, those with a point its sections.
+use Rattle.std.specs.Prelude.{◌≡◌, ℕ, suc, ◌+◌, ◌-◌, ◌*◌, ◌≤◌, Bool, true, false, if◌then◌else◌, ◌==◌, ◌||◌, ◌&&◌, not, nat_le, nat_lt, List, [], ◌∷◌, ◌++◌, length, map, Option, Some, None, ◌⊎◌}
+use Rattle.std.specs.Str.{bytes_eq}
+use Rattle.doc_grammar.specs.Characters.{class, is_char, is_blank, blanks, legal, is_text, IsSpace, IsName}
+use Rattle.doc_grammar.specs.declared.characters.Class.{Class}
+use Rattle.doc_grammar.specs.declared.characters.Class.TheVariants.{Less, Ampersand, DoubleQuote, SingleQuote, Bad}
+
+-- ---- words
+
+pub data Quote : Type 0 where
+  with_double with_single : Quote
+
+abbrev pub quote_char : Quote → ℕ
+quote_char with_double = 34
+quote_char with_single = 39
+
+-- a letter of ASCII in its small form
+abbrev pub fold_case : ℕ → ℕ
+fold_case c = if nat_le 65 c && nat_le c 90 then c + 32 else c
+
+-- `xml`, in any case (17)
+abbrev pub is_xml : List ℕ → Bool
+is_xml name = bytes_eq (map fold_case name) (120 ∷ 109 ∷ 108 ∷ [])
+
+abbrev pub starts : List ℕ → List ℕ → Bool
+starts text [] = true
+starts [] (e ∷ front) = false
+starts (c ∷ text) (e ∷ front) = (c == e) && starts text front
+
+-- characters among which the ending does not stand
+abbrev pub IsFree : List ℕ → List ℕ → Type 0
+IsFree ending [] = Unit {0}
+IsFree ending (c ∷ text) =
+    (legal (class c) ≡ true) × (starts (c ∷ text) ending ≡ false) × IsFree ending text
+
+-- ---- the declaration (23)
+
+-- a part of the declaration
+pub data Part : Type 0 where
+  version encoding standalone : Part
+
+abbrev pub word : Part → List ℕ
+word version = 118 ∷ 101 ∷ 114 ∷ 115 ∷ 105 ∷ 111 ∷ 110 ∷ []
+word encoding = 101 ∷ 110 ∷ 99 ∷ 111 ∷ 100 ∷ 105 ∷ 110 ∷ 103 ∷ []
+word standalone = 115 ∷ 116 ∷ 97 ∷ 110 ∷ 100 ∷ 97 ∷ 108 ∷ 111 ∷ 110 ∷ 101 ∷ []
+
+-- the case of an encoding does not count
+abbrev pub folded : Part → ℕ → ℕ
+folded version c = c
+folded encoding c = fold_case c
+folded standalone c = c
+
+-- what a part may say: `1.0` (26), `utf-8` (81), `yes` or `no` (32)
+abbrev pub IsSaid : Part → List ℕ → Type 0
+IsSaid version text = text ≡ 49 ∷ 46 ∷ 48 ∷ []
+IsSaid encoding text = text ≡ 117 ∷ 116 ∷ 102 ∷ 45 ∷ 56 ∷ []
+IsSaid standalone text = (text ≡ 121 ∷ 101 ∷ 115 ∷ []) ⊎ (text ≡ 110 ∷ 111 ∷ [])
+
+-- a part: white space, of which there is some, its word, `=` with white space around (25), and its value
+pub record Setting : Type 0 where
+  pub first : ℕ
+  pub before : List ℕ
+  pub left : List ℕ
+  pub right : List ℕ
+  pub quote : Quote
+  pub value : List ℕ
+
+-- from behind its word on, and then the rest
+abbrev pub print_said : Setting → List ℕ → List ℕ
+print_said s rest = s.left ++ 61 ∷ (s.right ++ quote_char s.quote ∷ (s.value ++ quote_char s.quote ∷ rest))
+
+abbrev pub print_setting : Part → Setting → List ℕ → List ℕ
+print_setting part s rest = s.first ∷ (s.before ++ (word part ++ print_said s rest))
+
+pub record IsSetting (part : Part) (s : Setting) : Type 0 where
+  pub first : blanks (class s.first) ≡ true
+  pub before : IsSpace s.before
+  pub left : IsSpace s.left
+  pub right : IsSpace s.right
+  pub value : IsSaid part (map (folded part) s.value)
+
+abbrev pub print_maybe : Part → Option Setting → List ℕ → List ℕ
+print_maybe part None rest = rest
+print_maybe part (Some s) rest = print_setting part s rest
+
+abbrev pub IsMaybe : Part → Option Setting → Type 0
+IsMaybe part None = Unit {0}
+IsMaybe part (Some s) = IsSetting part s
+
+pub record Declaration : Type 0 where
+  pub version : Setting
+  pub encoding : Option Setting
+  pub standalone : Option Setting
+  pub gap : List ℕ
+
+abbrev pub print_declaration : Declaration → List ℕ → List ℕ
+print_declaration d rest =
+    60 ∷ 63 ∷ 120 ∷ 109 ∷ 108 ∷ print_setting version d.version (print_maybe encoding d.encoding (print_maybe standalone d.standalone (d.gap ++ 63 ∷ 62 ∷ rest)))
+
+pub record IsDeclaration (d : Declaration) : Type 0 where
+  pub version : IsSetting version d.version
+  pub encoding : IsMaybe encoding d.encoding
+  pub standalone : IsMaybe standalone d.standalone
+  pub gap : IsSpace d.gap
+
+-- ---- references (67)
+
+pub data Entity : Type 0 where
+  lt gt amp apos quot : Entity
+
+-- behind the ampersand (68)
+abbrev pub entity_text : Entity → List ℕ
+entity_text lt = 108 ∷ 116 ∷ 59 ∷ []
+entity_text gt = 103 ∷ 116 ∷ 59 ∷ []
+entity_text amp = 97 ∷ 109 ∷ 112 ∷ 59 ∷ []
+entity_text apos = 97 ∷ 112 ∷ 111 ∷ 115 ∷ 59 ∷ []
+entity_text quot = 113 ∷ 117 ∷ 111 ∷ 116 ∷ 59 ∷ []
+
+abbrev pub entity_code : Entity → ℕ
+entity_code lt = 60
+entity_code gt = 62
+entity_code amp = 38
+entity_code apos = 39
+entity_code quot = 34
+
+pub data Base : Type 0 where
+  ten sixteen : Base
+
+abbrev pub radix : Base → ℕ
+radix ten = 10
+radix sixteen = 16
+
+abbrev pub is_numeral : Base → ℕ → Bool
+is_numeral ten c = nat_le 48 c && nat_le c 57
+is_numeral sixteen c = (nat_le 48 c && nat_le c 57) || (nat_le 97 c && nat_le c 102) || (nat_le 65 c && nat_le c 70)
+
+-- the number of a digit
+abbrev pub digit : ℕ → ℕ
+digit c = if nat_le c 57 then c - 48 else if nat_le c 70 then c - 55 else c - 87
+
+-- a number with one digit more
+abbrev pub with_digit : Base → ℕ → ℕ → ℕ
+with_digit base n c = radix base * n + digit c
+
+abbrev pub with_digits : Base → ℕ → List ℕ → ℕ
+with_digits base n [] = n
+with_digits base n (c ∷ digits) = with_digits base (with_digit base n c) digits
+
+abbrev pub AllNumerals : Base → List ℕ → Type 0
+AllNumerals base [] = Unit {0}
+AllNumerals base (c ∷ digits) = (is_numeral base c ≡ true) × AllNumerals base digits
+
+-- an entity, or a number by its digits (66)
+pub data Reference : Type 0 where
+  named : Entity → Reference
+  numbered : Base → ℕ → List ℕ → Reference
+
+abbrev pub base_mark : Base → List ℕ
+base_mark ten = []
+base_mark sixteen = 120 ∷ []
+
+-- behind the ampersand, and then the rest
+abbrev pub print_reference : Reference → List ℕ → List ℕ
+print_reference (named e) rest = entity_text e ++ rest
+print_reference (numbered base c digits) rest = 35 ∷ (base_mark base ++ c ∷ (digits ++ 59 ∷ rest))
+
+-- the character that it names
+abbrev pub code_of : Reference → ℕ
+code_of (named e) = entity_code e
+code_of (numbered base c digits) = with_digits base 0 (c ∷ digits)
+
+abbrev pub IsReference : Reference → Type 0
+IsReference (named e) = Unit {0}
+IsReference (numbered base c digits) =
+    AllNumerals base (c ∷ digits) × (is_char (with_digits base 0 (c ∷ digits)) ≡ true)
+
+-- ---- attributes (41)
+
+-- what may stand raw between these quotes (10)
+abbrev pub is_valued : Quote → Class → Bool
+is_valued with_double DoubleQuote = false
+is_valued with_single SingleQuote = false
+is_valued q Less = false
+is_valued q Ampersand = false
+is_valued q Bad = false
+is_valued q k = true
+
+-- a value's piece
+pub data Piece : Type 0 where
+  raw : ℕ → Piece
+  ref : Reference → Piece
+
+abbrev pub print_value : List Piece → List ℕ → List ℕ
+print_value [] rest = rest
+print_value (raw c ∷ ps) rest = c ∷ print_value ps rest
+print_value (ref r ∷ ps) rest = 38 ∷ print_reference r (print_value ps rest)
+
+abbrev pub IsValue : Quote → List Piece → Type 0
+IsValue q [] = Unit {0}
+IsValue q (raw c ∷ ps) = (is_valued q (class c) ≡ true) × IsValue q ps
+IsValue q (ref r ∷ ps) = IsReference r × IsValue q ps
+
+-- raw white space becomes a space (3.3.3); a line feed right behind a carriage return belongs to it (2.11)
+abbrev pub raw_value : Bool → ℕ → List ℕ
+raw_value behind_return c = if behind_return && (c == 10) then [] else (if is_blank c then 32 else c) ∷ []
+
+-- what the pieces mean, where the one before them is a raw carriage return or is none
+abbrev pub value_of : Bool → List Piece → List ℕ
+value_of behind_return [] = []
+value_of behind_return (raw c ∷ ps) = raw_value behind_return c ++ value_of (c == 13) ps
+value_of behind_return (ref r ∷ ps) = code_of r ∷ value_of false ps
+
+-- an attribute, with the white space around its parts; at least one character of it stands before the name
+pub record Attr : Type 0 where
+  pub first : ℕ
+  pub before : List ℕ
+  pub name : List ℕ
+  pub left : List ℕ
+  pub right : List ℕ
+  pub quote : Quote
+  pub value : List Piece
+
+-- the attribute from its name on, and then the rest
+abbrev pub print_named : Attr → List ℕ → List ℕ
+print_named a rest =
+    a.name ++ (a.left ++ 61 ∷ (a.right ++ quote_char a.quote ∷ print_value a.value (quote_char a.quote ∷ rest)))
+
+abbrev pub print_attr : Attr → List ℕ → List ℕ
+print_attr a rest = a.first ∷ (a.before ++ print_named a rest)
+
+abbrev pub print_attrs : List Attr → List ℕ → List ℕ
+print_attrs [] rest = rest
+print_attrs (a ∷ xs) rest = print_attr a (print_attrs xs rest)
+
+-- a name and its value
+abbrev pub Pair : Type 0
+Pair = List ℕ × List ℕ
+
+abbrev pub attr_of : Attr → Pair
+attr_of a = (a.name, value_of false a.value)
+
+abbrev pub has : List Pair → List ℕ → Bool
+has [] name = false
+has (p ∷ ps) name = bytes_eq p.0 name || has ps name
+
+-- The two limits. A document keeps both; where a fault is told, one of them is lifted.
+pub record Limits : Type 0 where
+  pub deep : Bool
+  pub twice : Bool
+
+abbrev pub strict : Limits
+strict = record { deep = false; twice = false }
+
+-- elements may stand as deep as they like
+abbrev pub deeper : Limits
+deeper = record { deep = true; twice = false }
+
+-- names may come again
+abbrev pub repeated : Limits
+repeated = record { deep = false; twice = true }
+
+-- whether an element may stand inside so many open ones
+abbrev pub may_stand : Limits → ℕ → Bool
+may_stand l depth = l.deep || nat_lt depth 64
+
+-- whether a tag that has these attributes may not have this name
+abbrev pub clashes : Limits → List Pair → List ℕ → Bool
+clashes l seen name = not l.twice && has seen name
+
+-- an attribute in a tag that has these already
+pub record IsAttr (l : Limits) (seen : List Pair) (a : Attr) : Type 0 where
+  pub first : blanks (class a.first) ≡ true
+  pub before : IsSpace a.before
+  pub name : IsName a.name
+  pub left : IsSpace a.left
+  pub right : IsSpace a.right
+  pub value : IsValue a.quote a.value
+  pub once : clashes l seen a.name ≡ false
+
+abbrev pub IsAttrs : Limits → List Pair → List Attr → Type 0
+IsAttrs l seen [] = Unit {0}
+IsAttrs l seen (a ∷ xs) = IsAttr l seen a × IsAttrs l (seen ++ attr_of a ∷ []) xs
+
+-- ---- elements
+
+-- a tag from its name to the end of its white space (40, 44)
+pub record Tag : Type 0 where
+  pub name : List ℕ
+  pub attrs : List Attr
+  pub gap : List ℕ
+
+abbrev pub print_tag : Tag → List ℕ → List ℕ
+print_tag t rest = t.name ++ print_attrs t.attrs (t.gap ++ rest)
+
+pub record IsTag (l : Limits) (t : Tag) : Type 0 where
+  pub name : IsName t.name
+  pub attrs : IsAttrs l [] t.attrs
+  pub gap : IsSpace t.gap
+
+-- the text of a comment (15): behind a dash stands another character, before the end too
+abbrev pub no_dash_first : List ℕ → Bool
+no_dash_first [] = false
+no_dash_first (c ∷ text) = not (c == 45)
+
+abbrev pub IsComment : List ℕ → Type 0
+IsComment [] = Unit {0}
+IsComment (c ∷ text) = (legal (class c) ≡ true) × (c ≡ 45 → no_dash_first text ≡ true) × IsComment text
+
+-- the target of a processing instruction (17)
+pub record IsTarget (target : List ℕ) : Type 0 where
+  pub name : IsName target
+  pub other : is_xml target ≡ false
+
+-- what stands behind the target (16): nothing, or white space and any text up to the ending
+abbrev pub IsInstruction : List ℕ → Type 0
+IsInstruction [] = Unit {0}
+IsInstruction (c ∷ text) = (blanks (class c) ≡ true) × IsFree (63 ∷ 62 ∷ []) text
+
+-- the text of a CDATA section (20)
+abbrev pub IsSection : List ℕ → Type 0
+IsSection = IsFree (93 ∷ 93 ∷ 62 ∷ [])
+
+-- What stands one after another (43): each form, and what follows it.
+pub data Content : Type 0 where
+  done : Content
+  char : ℕ → Content → Content
+  reference : Reference → Content → Content
+  comment : List ℕ → Content → Content
+  instruction : List ℕ → List ℕ → Content → Content
+  section : List ℕ → Content → Content
+  empty : Tag → Content → Content
+  element : Tag → Content → List ℕ → Content → Content
+
+-- comments (15), processing instructions (16), sections (18), empty elements (44), elements (39, 40, 42)
+abbrev pub print : Content → List ℕ → List ℕ
+print done rest = rest
+print (char b c) rest = b ∷ print c rest
+print (reference r c) rest = 38 ∷ print_reference r (print c rest)
+print (comment t c) rest = 60 ∷ 33 ∷ 45 ∷ 45 ∷ (t ++ 45 ∷ 45 ∷ 62 ∷ print c rest)
+print (instruction target t c) rest = 60 ∷ 63 ∷ (target ++ (t ++ 63 ∷ 62 ∷ print c rest))
+print (section t c) rest =
+    60 ∷ 33 ∷ 91 ∷ 67 ∷ 68 ∷ 65 ∷ 84 ∷ 65 ∷ 91 ∷ (t ++ 93 ∷ 93 ∷ 62 ∷ print c rest)
+print (empty t c) rest = 60 ∷ print_tag t (47 ∷ 62 ∷ print c rest)
+print (element t kids gap c) rest =
+    60 ∷ print_tag t (62 ∷ print kids (60 ∷ 47 ∷ (t.name ++ (gap ++ 62 ∷ print c rest))))
+
+-- inside so many open elements
+abbrev pub IsContent : Limits → ℕ → Content → Type 0
+IsContent l depth done = Unit {0}
+IsContent l depth (char b c) = (is_text (class b) ≡ true) × IsContent l depth c
+IsContent l depth (reference r c) = IsReference r × IsContent l depth c
+IsContent l depth (comment t c) = IsComment t × IsContent l depth c
+IsContent l depth (instruction target t c) = IsTarget target × IsInstruction t × IsContent l depth c
+IsContent l depth (section t c) = IsSection t × IsContent l depth c
+IsContent l depth (empty t c) = (may_stand l depth ≡ true) × IsTag l t × IsContent l depth c
+IsContent l depth (element t kids gap c) =
+    (may_stand l depth ≡ true) × IsTag l t × IsContent l (suc depth) kids × IsSpace gap × IsContent l depth c
+
+-- behind the root (27)
+abbrev pub IsMisc : Content → Type 0
+IsMisc done = Unit {0}
+IsMisc (char b c) = (blanks (class b) ≡ true) × IsMisc c
+IsMisc (comment t c) = IsComment t × IsMisc c
+IsMisc (instruction target t c) = IsTarget target × IsInstruction t × IsMisc c
+IsMisc (reference r c) = ⊥
+IsMisc (section t c) = ⊥
+IsMisc (empty t c) = ⊥
+IsMisc (element t kids gap c) = ⊥
+
+-- one element, and before it and behind it what may stand there (1, 22)
+abbrev pub IsWhole : Limits → Content → Type 0
+IsWhole l done = ⊥
+IsWhole l (char b c) = (blanks (class b) ≡ true) × IsWhole l c
+IsWhole l (comment t c) = IsComment t × IsWhole l c
+IsWhole l (instruction target t c) = IsTarget target × IsInstruction t × IsWhole l c
+IsWhole l (reference r c) = ⊥
+IsWhole l (section t c) = ⊥
+IsWhole l (empty t c) = IsTag l t × IsMisc c
+IsWhole l (element t kids gap c) = IsTag l t × IsContent l 1 kids × IsSpace gap × IsMisc c
+
+-- ---- documents
+
+-- an element begins or ends, in document order
+pub data Event : Type 0 where
+  begin : List ℕ → List Pair → Event
+  close : Event
+
+abbrev pub tag_event : Tag → Event
+tag_event t = begin t.name (map attr_of t.attrs)
+
+abbrev pub events : Content → List Event → List Event
+events done more = more
+events (char b c) more = events c more
+events (reference r c) more = events c more
+events (comment t c) more = events c more
+events (instruction target t c) more = events c more
+events (section t c) more = events c more
+events (empty t c) more = tag_event t ∷ close ∷ events c more
+events (element t kids gap c) more = tag_event t ∷ events kids (close ∷ events c more)
+
+-- a text without a declaration
+abbrev pub Body : Limits → List ℕ → List Event → Type 0
+Body l text tree = (c : Content) × IsWhole l c × (text ≡ print c []) × (tree ≡ events c [])
+
+-- a text without a byte order mark
+abbrev pub Unmarked : Limits → List ℕ → List Event → Type 0
+Unmarked l text tree =
+    Body l text tree
+    ⊎ ((d : Declaration) × (rest : List ℕ) × IsDeclaration d × (text ≡ print_declaration d rest) × Body l rest tree)
+
+-- a document's text, perhaps behind a byte order mark, and what it says
+abbrev pub Document : Limits → List ℕ → List Event → Type 0
+Document l text tree = Unmarked l text tree ⊎ ((rest : List ℕ) × (text ≡ 65279 ∷ rest) × Unmarked l rest tree)
+
+-- some document begins so
+abbrev pub Begins : Limits → List ℕ → Type 0
+Begins l p = (rest : List ℕ) × (tree : List Event) × Document l (p ++ rest) tree
+
+-- p is the longest front of the text that some document begins with
+pub record IsLongest (l : Limits) (text p : List ℕ) : Type 0 where
+  pub front : (rest : List ℕ) × (text ≡ p ++ rest)
+  pub begins : Begins l p
+  pub longest : (q rest : List ℕ) → text ≡ q ++ rest → Begins l q → length q ≤ length p

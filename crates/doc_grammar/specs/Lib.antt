@@ -1,0 +1,6 @@
+pub mod Characters
+pub mod Grammar
+pub mod Machine
+pub mod Faults
+pub mod Nodes
+pub mod Laws

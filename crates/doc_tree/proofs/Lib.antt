@@ -1,0 +1,4 @@
+pub mod ChildLemmas
+pub mod KeptLemmas
+pub mod BuildLemmas
+pub mod Told

@@ -1,0 +1,14 @@
+//! The element tree of a document of the simulator, an XML 1.0 subset, or the one rule that the bytes break and its place.
+#![tactic(auto)]
+
+mod builder;
+mod element;
+mod refusal;
+#[cfg(test)]
+mod tests;
+mod tree;
+
+pub use builder::read_tree;
+pub use doc_events::{DocError, Rule};
+pub use refusal::Refusal;
+pub use tree::Tree;
