@@ -1,7 +1,7 @@
 -- What the built-in machines have in common: the numbers of a state, and the values of their variables.
-use Rattle.std.specs.Prelude.{ℕ, ℤ, pos, int_lt, Bool, List, [], ◌∷◌, slice_index_or, map, None, unwrap_or}
+use Rattle.std.specs.Prelude.{ℕ, ℤ, pos, int_lt, Bool, List, [], ◌∷◌, slice_index_or, map, Option, None, unwrap_or}
 use Rattle.value_types.specs.declared.shape.Variable.{Variable}
-use Rattle.fmu_peer.specs.Machine.{State, value_at}
+use Rattle.fmu_peer.specs.Machine.{State, Saved, value_at}
 
 -- the point that was reached, an input's last value, a count, a flag, and the mark of Initialization Mode
 pub record Numbers : Type 0 where
@@ -14,6 +14,10 @@ pub record Numbers : Type 0 where
 -- the numbers as a state has them
 abbrev pub listed : Numbers → List ℤ
 listed n = n.point ∷ n.held ∷ n.count ∷ n.fired ∷ n.mark ∷ []
+
+-- the state of these numbers and values, with this slot
+abbrev pub state_of : Numbers → List ℤ → Option Saved → State
+state_of n values slot = record { numbers = listed n; values = values; slot = slot }
 
 -- the numbers that a state has; one that is missing is 0
 abbrev pub numbers_in : List ℤ → Numbers
@@ -43,4 +47,4 @@ value_of variables values reference = unwrap_or (value_at variables values refer
 
 -- the first state
 abbrev pub first_state : List Variable → State
-first_state variables = record { numbers = listed at_first; values = map start_of variables; slot = None }
+first_state variables = state_of at_first (map start_of variables) None

@@ -9,7 +9,8 @@ use Rattle.value_types.specs.declared.shape.Causality.TheVariants.{Output}
 use Rattle.fmi_calls.specs.declared.call.Call.TheVariants as C
 use Rattle.fmi_calls.specs.declared.call.Content.TheVariants as A
 use Rattle.fmi_calls.specs.declared.call.Reply.TheVariants.{Done}
-use Rattle.fmu_peer.specs.Machine.{IsLawful, AgreeFor, value_at, is_input, declared_of}
+use Rattle.fmi_calls.specs.Permission.{is_input}
+use Rattle.fmu_peer.specs.Machine.{IsLawful, AgreeFor, value_at, declared_of}
 use Rattle.value_types.specs.Values.{word_of}
 use Rattle.bench_fmus.specs.Wrapping.{wrapped}
 use Rattle.bench_fmus.specs.BuiltIn.{numbers_in}
@@ -52,5 +53,9 @@ counter_lawful shape (C.Instantiate event_mode early_return) output s xs ys aske
 counter_lawful shape (C.EnterInitialization start stop) output s xs ys asked found mode agree = absurd (cc)
 counter_lawful shape C.ExitInitialization output s xs ys asked found mode agree = absurd (cc)
 counter_lawful shape (C.DoStep at size) output s xs ys asked found mode agree = absurd (cc)
+counter_lawful shape (C.Set kind reference value) output s xs ys asked found mode agree = absurd (cc)
+counter_lawful shape C.Save output s xs ys asked found mode agree = absurd (cc)
+counter_lawful shape C.Restore output s xs ys asked found mode agree = absurd (cc)
+counter_lawful shape C.Free output s xs ys asked found mode agree = absurd (cc)
 counter_lawful shape C.Terminate output s xs ys asked found mode agree = absurd (cc)
 counter_lawful shape C.FreeInstance output s xs ys asked found mode agree = absurd (cc)

@@ -1,19 +1,19 @@
 -- What a counter tells.
-use Rattle.std.specs.Prelude.{ℕ, ◌≤◌, List, length, map, Some, None}
+use Rattle.std.specs.Prelude.{ℕ, ◌≤◌, List, length, map, Some}
 use Rattle.std.proofs.lemmas.List.{length-map}
 use Rattle.fmi_calls.specs.declared.call.Call.{Call}
 use Rattle.fmi_calls.specs.declared.call.Reply.{Reply}
 use Rattle.fmu_peer.specs.Machine.{State}
 use Rattle.fmu_peer.specs.View.{View}
 use Rattle.bench_fmus.specs.declared.counter.Counter.{Counter}
-use Rattle.bench_fmus.specs.BuiltIn.{listed}
-use Rattle.bench_fmus.specs.NumbersTold.{told}
+use Rattle.bench_fmus.specs.BuiltIn.{state_of}
+use Rattle.bench_fmus.specs.NumbersTold.{told, slot_in}
 use Rattle.bench_fmus.specs.Counting.{counter_machine}
 use Rattle.bench_fmus.specs.Told.{talk_in, origin_in}
 
--- the state of the machine, whose slot is always empty
+-- the state of the machine
 abbrev pub counter_state : Counter → State
-counter_state c = record { numbers = listed (told c.numbers); values = c.values.items; slot = None }
+counter_state c = state_of (told c.numbers) c.values.items (slot_in c.saved)
 
 abbrev pub counter_view : Counter → View
 counter_view c = record {

@@ -54,7 +54,7 @@ impl Bench {
         ensures talk { IfOk result (λ c. option_map (λ t. t.room) c.book.talk ≡ self.now.room) }
     {
         let talk = make_talk(alloc, self.room)?;
-        let book = TalkBook::new(shape.copy(alloc)?, talk);
+        let book = TalkBook::new(alloc, shape.copy(alloc)?, talk)?;
         let origin = Origin::from_texts(alloc, host, name, directory)?;
         let counter = Counter::new(alloc, book, origin)?;
         Ok(counter)

@@ -1,9 +1,9 @@
-ghost use Rattle.std.specs.Prelude.{◌≡◌, ◌+◌, ◌≤◌, IfOk, option_map};
+ghost use Rattle.std.specs.Prelude.{◌≡◌, ◌+◌, ◌≤◌, IfOk, length, option_map};
 ghost use Rattle.fmi_calls.specs.Permission.{Permitted};
 
-use crate::numbers::{first_values, value_of};
+use crate::numbers::{first_values, value_of, write_value};
 use crate::wrap::{wrapped_word, wrapping_sum};
-use crate::{Numbers, Origin};
+use crate::{Numbers, Origin, SavedState};
 use fmi_calls::{Call, Content, Phase, Reply};
 use fmu_peer::{Exchange, Peer, PeerFault, TalkBook};
 use std::alloc::{AllocError, Global};
@@ -17,14 +17,18 @@ pub struct Counter {
     pub numbers: Numbers,
     /// a value for each variable of the shape, in its order
     pub values: Vec<i128>,
+    pub saved: SavedState,
+    ghost valued: { length values.items ≡ length book.shape.variables },
+    ghost reserved: { length saved.values.items ≡ length book.shape.variables },
 }
 
 impl Counter {
-    ghost use Rattle.std.specs.Prelude.{map};
+    ghost use Rattle.std.specs.Prelude.{map, None};
+    ghost use Rattle.fmu_peer.specs.Machine.{after};
     ghost use Rattle.bench_fmus.specs.BuiltIn.{value_of, at_first, start_of};
-    ghost use Rattle.bench_fmus.specs.NumbersTold.{told};
-    ghost use Rattle.bench_fmus.specs.Counting.{counter_content, counted_on, is_long, shown};
-    ghost use Rattle.bench_fmus.specs.CounterView.{counter_view};
+    ghost use Rattle.bench_fmus.specs.NumbersTold.{told, slot_in};
+    ghost use Rattle.bench_fmus.specs.Counting.{counter_content, counter_machine, counted_on, is_long, shown};
+    ghost use Rattle.bench_fmus.specs.CounterView.{counter_state, counter_view};
 
     /// A counter before its first call.
     pub fn new(alloc: Global, book: TalkBook, origin: Origin) -> Result<Counter, AllocError>
@@ -32,13 +36,16 @@ impl Counter {
         ensures origin { IfOk result (λ c. c.origin ≡ origin) }
         ensures numbers { IfOk result (λ c. told c.numbers ≡ at_first) }
         ensures values { IfOk result (λ c. c.values.items ≡ map start_of book.shape.variables) }
+        ensures slot { IfOk result (λ c. slot_in c.saved ≡ None) }
     {
         let values = first_values(alloc, book.shape.variables.as_slice())?;
+        let saved = SavedState::none(alloc, book.shape.variables.len())?;
         Ok(Counter {
             book,
             origin,
             numbers: Numbers::at_first(),
             values,
+            saved,
         })
     }
 
@@ -96,6 +103,10 @@ impl Counter {
             Call::Get { kind, reference } => Content::Get {
                 word: wrapped_word(kind, self.shown(kind, reference)),
             },
+            Call::Set { .. } => Content::Set,
+            Call::Save => Content::Save,
+            Call::Restore => Content::Restore,
+            Call::Free => Content::Free,
             Call::Terminate => Content::Terminate,
             Call::FreeInstance => Content::FreeInstance,
         }
@@ -120,8 +131,43 @@ impl Counter {
                 count: wrapping_sum(self.numbers.count, self.value(1)),
                 ..self.numbers
             },
-            Call::Instantiate { .. } | Call::Get { .. } | Call::Terminate | Call::FreeInstance =>
-                self.numbers,
+            Call::Instantiate { .. }
+            | Call::Get { .. }
+            | Call::Set { .. }
+            | Call::Save
+            | Call::Restore
+            | Call::Free
+            | Call::Terminate
+            | Call::FreeInstance => self.numbers,
+        }
+    }
+
+    fn change(&mut self, call: &Call)
+        requires { Permitted self.old.book.shape self.old.book.phase call.now }
+        ensures state { counter_state self.new ≡ after (counter_machine self.old.book.shape) (counter_state self.old) call.now }
+        ensures book { self.new.book ≡ self.old.book }
+        ensures origin { self.new.origin ≡ self.old.origin }
+    {
+        match *call {
+            Call::Get { .. } => {}
+            Call::Set {
+                reference,
+                value,
+                ..
+            } => {
+                let book = &self.book;
+                let variables = book.shape.variables.as_slice();
+                write_value(variables, &mut self.values, reference, value);
+            }
+            Call::Save => self.saved.save(self.numbers, self.values.as_slice()),
+            Call::Restore => self.saved.restore(&mut self.numbers, &mut self.values),
+            Call::Free => self.saved.free(),
+            Call::Instantiate { .. }
+            | Call::EnterInitialization { .. }
+            | Call::ExitInitialization
+            | Call::DoStep { .. }
+            | Call::Terminate
+            | Call::FreeInstance => self.numbers = self.next_numbers(call),
         }
     }
 }
@@ -160,7 +206,7 @@ impl Peer for Counter {
         ensures room { option_map (λ t. t.room) self.new.book.talk ≡ option_map (λ t. t.room) self.old.book.talk }
     {
         let content = self.content(call);
-        self.numbers = self.next_numbers(call);
+        self.change(call);
         self.book.keep(
             call,
             Ok(Reply::Done {

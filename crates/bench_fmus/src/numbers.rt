@@ -1,4 +1,5 @@
-ghost use Rattle.std.specs.Prelude.{◌≡◌, ◌==◌, IfOk, map, pos, position, slice_get, unwrap_or};
+ghost use Rattle.std.specs.Prelude.{◌≡◌, ◌==◌, ◌<◌, if◌then◌else◌, set, IfOk, length, map, pos, position, slice_get, unwrap_or};
+ghost use Rattle.fmu_peer.specs.Machine.{written};
 ghost use Rattle.bench_fmus.specs.BuiltIn.{start_of, value_of};
 
 use std::alloc::{AllocError, Global};
@@ -66,5 +67,26 @@ pub(crate) fn value_of(variables: &[Variable], values: &[i128], reference: u32) 
     match place_of(variables, reference) {
         Some(place) => number_at(values, place),
         None => 0,
+    }
+}
+
+/// Writes the value under a reference.
+pub(crate) fn write_value(variables: &[Variable], values: &mut [i128], reference: u32, value: i128)
+    requires { length values.old ≡ length variables.now }
+    ensures values { values.new ≡ written (map (λ v. v.reference) variables.now) values.old reference value }
+    ensures room { length values.new ≡ length values.old }
+{
+    for (place, variable) in variables.iter().enumerate() {
+        let is_written = variable.reference == reference;
+        write_where(is_written, values, place, value);
+    }
+}
+
+fn write_where(is_written: bool, values: &mut [i128], place: usize, value: i128)
+    requires { place < length values.old }
+    ensures { values.new ≡ (if is_written then set values.old place value else values.old) }
+{
+    if is_written {
+        values[place] = value;
     }
 }

@@ -54,13 +54,13 @@ fn make_book(
     answers: &[Result<Reply, PeerFault>],
 ) -> Result<TalkBook, AllocError>
     ensures shape { IfOk result (λ b. b.shape ≡ shape.now) }
-    ensures phase { IfOk result (λ b. b.phase ≡ fresh) }
+    ensures phase { IfOk result (λ b. b.phase ≡ fresh shape.now) }
     ensures talk { IfOk result (λ b. talk_in b.talk ≡ Some []) }
     ensures room { IfOk result (λ b. option_map (λ t. t.room) b.talk ≡ Some (length answers.now + 1)) }
     ensures faults { IfOk result (λ b. b.faults ≡ 0) }
 {
     let talk = TalkRoom::with_room(alloc, answers.len() + 1)?;
-    Ok(TalkBook::new(shape.copy(alloc)?, Some(talk)))
+    TalkBook::new(alloc, shape.copy(alloc)?, Some(talk))
 }
 
 fn make_script(

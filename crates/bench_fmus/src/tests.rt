@@ -67,6 +67,69 @@ const END: [(Call, Content); 2] = [
     (Call::FreeInstance, Content::FreeInstance),
 ];
 
+const GET: Call = Call::Get {
+    kind: PortType::Int32,
+    reference: 2,
+};
+
+const SET_INC: Call = Call::Set {
+    kind: PortType::Int64,
+    reference: 1,
+    value: 5,
+};
+
+macro_rules! stepped {
+    ($at:expr, $end:expr) => {
+        (
+            Call::DoStep {
+                at: $at,
+                size: 20,
+            },
+            Content::DoStep {
+                event_needed: false,
+                terminate: false,
+                early: false,
+                end: $end,
+            },
+        )
+    };
+}
+
+// Runs of a counter by 2 up to its closing: the increment is set, or the state is saved and comes back twice.
+const RUNS: [&[(Call, Content)]; 2] = [
+    &[
+        (INSTANTIATE, Content::Instantiate),
+        (SET_INC, Content::Set),
+        (INITIALIZE, Content::EnterInitialization),
+        (Call::ExitInitialization, Content::ExitInitialization),
+        stepped!(0, 20),
+        (GET, Content::Get { word: 5 }),
+        stepped!(20, 40),
+        (GET, Content::Get { word: 10 }),
+    ],
+    &[
+        (INSTANTIATE, Content::Instantiate),
+        (INITIALIZE, Content::EnterInitialization),
+        (Call::ExitInitialization, Content::ExitInitialization),
+        stepped!(0, 20),
+        (Call::Save, Content::Save),
+        stepped!(20, 40),
+        (GET, Content::Get { word: 4 }),
+        (Call::Restore, Content::Restore),
+        (GET, Content::Get { word: 2 }),
+        stepped!(20, 40),
+        (GET, Content::Get { word: 4 }),
+        (Call::Restore, Content::Restore),
+        (GET, Content::Get { word: 2 }),
+        (Call::Free, Content::Free),
+        stepped!(20, 40),
+        stepped!(40, 60),
+        (GET, Content::Get { word: 6 }),
+        (Call::Save, Content::Save),
+        (Call::Free, Content::Free),
+    ],
+];
+
 fn variable(
     alloc: Global,
     reference: u32,
@@ -94,7 +157,7 @@ fn shape(alloc: Global, identifier: &str, variables: Vec<Variable>) -> Result<Sh
         has_event_mode: false,
         might_return_early: false,
         has_variable_steps: true,
-        can_save_state: false,
+        can_save_state: true,
         can_serialize_state: false,
         variables: Items::from_vec(variables),
         clocks: Items::from_vec(Vec::new(alloc)),
@@ -181,6 +244,19 @@ fn a_counter_counts(rt: HostRuntime) -> Result<(), Fail> {
         count(&rt, &mut counter, kind, &words);
         run(&rt, &mut counter, &END);
         assert!(rt; counter.talk().is_none());
+    }
+    Ok(())
+}
+
+#[test]
+fn a_value_is_written_and_a_state_comes_back(rt: HostRuntime) -> Result<(), Fail> {
+    let alloc = rt.alloc();
+    for steps in RUNS {
+        let shape = counter_shape(alloc, PortType::Int32, 2, None)?;
+        let mut bench = Bench::new(alloc, None, Vec::new(alloc));
+        let mut counter = start(&rt, alloc, &mut bench, &shape)?;
+        run(&rt, &mut counter, steps);
+        run(&rt, &mut counter, &END);
     }
     Ok(())
 }

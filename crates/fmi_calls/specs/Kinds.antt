@@ -20,6 +20,10 @@ kind_of (C.EnterInitialization start stop) = K.EnterInitialization
 kind_of C.ExitInitialization = K.ExitInitialization
 kind_of (C.DoStep at size) = K.DoStep
 kind_of (C.Get kind reference) = K.Get
+kind_of (C.Set kind reference value) = K.Set
+kind_of C.Save = K.Save
+kind_of C.Restore = K.Restore
+kind_of C.Free = K.Free
 kind_of C.Terminate = K.Terminate
 kind_of C.FreeInstance = K.FreeInstance
 
@@ -30,6 +34,10 @@ kind_of_content A.EnterInitialization = K.EnterInitialization
 kind_of_content A.ExitInitialization = K.ExitInitialization
 kind_of_content (A.DoStep event_needed terminate early end) = K.DoStep
 kind_of_content (A.Get word) = K.Get
+kind_of_content A.Set = K.Set
+kind_of_content A.Save = K.Save
+kind_of_content A.Restore = K.Restore
+kind_of_content A.Free = K.Free
 kind_of_content A.Terminate = K.Terminate
 kind_of_content A.FreeInstance = K.FreeInstance
 

@@ -1,5 +1,6 @@
--- The phase after a call with its reply, or with a fault in the reply's place (FMI 3.0, 4.2.1; 2.2.3 for Discard, Error and Fatal).
-use Rattle.std.specs.Prelude.{ℕ, ◌+◌, ◌-◌, ◌^◌, min, Option, Some, None, unwrap_or}
+-- The phase after a call with its reply, or with a fault in the reply's place (FMI 3.0, 4.2.1; 2.2.3 for Discard, Error and Fatal; 2.2.6: FMU state).
+use Rattle.std.specs.Prelude.{◌≡◌, ℕ, ◌+◌, ◌-◌, ◌^◌, Bool, true, false, min, List, length, replicate, set, Option, Some, None, unwrap_or}
+use Rattle.std.specs.Option.{option_map_or}
 use Rattle.value_types.specs.declared.shape.Shape.{Shape}
 use Rattle.fmi_calls.specs.declared.call.Call.{Call}
 use Rattle.fmi_calls.specs.declared.call.Call.TheVariants as C
@@ -12,13 +13,48 @@ use Rattle.fmi_calls.specs.declared.call.BadStatus.TheVariants.{Discard, Error, 
 use Rattle.fmi_calls.specs.declared.call.Grade.{Grade}
 use Rattle.fmi_calls.specs.declared.call.Grade.TheVariants.{Good, Refused, Misreply}
 use Rattle.fmi_calls.specs.declared.phase.Phase.{Phase}
+use Rattle.fmi_calls.specs.declared.phase.Slot.{Slot}
 use Rattle.fmi_calls.specs.declared.phase.State.{State}
 use Rattle.fmi_calls.specs.declared.phase.State.TheVariants.{Fresh, Instantiated, Initialization, Step, Terminated, Dead, Lost, Gone}
 use Rattle.fmi_calls.specs.Worth.{grade_of}
+use Rattle.fmi_calls.specs.Permission.{place_of}
+
+-- no variable is marked
+abbrev pub unmarked : Shape → List Bool
+unmarked shape = replicate (length shape.variables) false
 
 -- the phase before any call
-abbrev pub fresh : Phase
-fresh = record { state = Fresh; point = 0; stop = 0; first_size = None; exchanges = 0 }
+abbrev pub fresh : Shape → Phase
+fresh shape = record {
+  state = Fresh;
+  point = 0;
+  stop = 0;
+  first_size = None;
+  marks = unmarked shape;
+  slot = record { is_full = false; point = 0; marks = unmarked shape };
+  exchanges = 0;
+  restores = 0;
+}
+
+-- the phase has a mark for each variable, and room to save the marks
+pub record HasMarks (shape : Shape) (phase : Phase) : Type 0 where
+  pub marks : length phase.marks ≡ length shape.variables
+  pub saved : length phase.slot.marks ≡ length shape.variables
+
+-- the marks once a variable is marked
+abbrev pub marked : Shape → List Bool → ℕ → List Bool
+marked shape marks reference = option_map_or (λ place. set marks place true) (place_of shape reference) marks
+
+-- the marks once a variable is set: only in Step Mode is that kept in mind
+abbrev pub marks_after_set : State → Shape → List Bool → ℕ → List Bool
+marks_after_set Step shape marks reference = marked shape marks reference
+marks_after_set Instantiated shape marks reference = marks
+marks_after_set Initialization shape marks reference = marks
+marks_after_set Fresh shape marks reference = marks
+marks_after_set Terminated shape marks reference = marks
+marks_after_set Dead shape marks reference = marks
+marks_after_set Lost shape marks reference = marks
+marks_after_set Gone shape marks reference = marks
 
 -- where a step ended
 abbrev pub end_of : Reply → ℕ → ℕ
@@ -26,15 +62,23 @@ end_of (R.Done is_warning (A.DoStep event_needed terminate early end)) point = e
 end_of (R.Done is_warning content) point = point
 end_of (R.Refused kind status) point = point
 
--- where a good reply leads
-abbrev pub entered : Phase → Call → Reply → Phase
-entered phase (C.Instantiate event_mode early_return) reply = record phase { state = Instantiated }
-entered phase (C.EnterInitialization start stop) reply = record phase { state = Initialization; point = start; stop = stop }
-entered phase C.ExitInitialization reply = record phase { state = Step }
-entered phase (C.DoStep at size) reply = record phase { point = end_of reply phase.point; first_size = Some (unwrap_or phase.first_size size) }
-entered phase (C.Get kind reference) reply = phase
-entered phase C.Terminate reply = record phase { state = Terminated }
-entered phase C.FreeInstance reply = record phase { state = Gone }
+-- where a good reply leads: Save fills the slot with the point and the marks, Restore brings them back and keeps the slot, Free empties it
+abbrev pub entered : Shape → Phase → Call → Reply → Phase
+entered shape phase (C.Instantiate event_mode early_return) reply = record phase { state = Instantiated }
+entered shape phase (C.EnterInitialization start stop) reply = record phase { state = Initialization; point = start; stop = stop }
+entered shape phase C.ExitInitialization reply = record phase { state = Step }
+entered shape phase (C.DoStep at size) reply = record phase {
+  point = end_of reply phase.point;
+  first_size = Some (unwrap_or phase.first_size size);
+  marks = unmarked shape;
+}
+entered shape phase (C.Get kind reference) reply = phase
+entered shape phase (C.Set kind reference value) reply = record phase { marks = marks_after_set phase.state shape phase.marks reference }
+entered shape phase C.Save reply = record phase { slot = record { is_full = true; point = phase.point; marks = phase.marks } }
+entered shape phase C.Restore reply = record phase { point = phase.slot.point; marks = phase.slot.marks }
+entered shape phase C.Free reply = record phase { slot = record { is_full = false; point = phase.slot.point; marks = phase.slot.marks } }
+entered shape phase C.Terminate reply = record phase { state = Terminated }
+entered shape phase C.FreeInstance reply = record phase { state = Gone }
 
 -- after a bad status: Error leads to Dead and Fatal to Lost, and Discard leaves the state
 abbrev after_bad : State → BadStatus → State
@@ -56,6 +100,10 @@ state_after_bad state (C.EnterInitialization start stop) status = after_bad stat
 state_after_bad state C.ExitInitialization status = after_bad state status
 state_after_bad state (C.DoStep at size) status = after_bad state status
 state_after_bad state (C.Get kind reference) status = after_bad state status
+state_after_bad state (C.Set kind reference value) status = after_bad state status
+state_after_bad state C.Save status = after_bad state status
+state_after_bad state C.Restore status = after_bad state status
+state_after_bad state C.Free status = after_bad state status
 state_after_bad state C.Terminate status = after_bad state status
 
 -- what a refusal says; anything else is no refusal, and counts as Error does
@@ -63,17 +111,35 @@ abbrev pub bad_status_of : Reply → BadStatus
 bad_status_of (R.Refused kind status) = status
 bad_status_of (R.Done is_warning content) = Error
 
--- one exchange more; the count stays at its last value
-abbrev pub counted : Phase → Phase
-counted phase = record phase { exchanges = min (phase.exchanges + 1) (2 ^ 64 - 1) }
+-- one more of a count that stays at its last value
+abbrev pub one_more : ℕ → ℕ
+one_more count = min (count + 1) (2 ^ 64 - 1)
+
+-- the number of Restore calls, this one among them
+abbrev pub restores_after : ℕ → Call → ℕ
+restores_after restores C.Restore = one_more restores
+restores_after restores (C.Instantiate event_mode early_return) = restores
+restores_after restores (C.EnterInitialization start stop) = restores
+restores_after restores C.ExitInitialization = restores
+restores_after restores (C.DoStep at size) = restores
+restores_after restores (C.Get kind reference) = restores
+restores_after restores (C.Set kind reference value) = restores
+restores_after restores C.Save = restores
+restores_after restores C.Free = restores
+restores_after restores C.Terminate = restores
+restores_after restores C.FreeInstance = restores
+
+-- the call is counted
+abbrev pub counted : Phase → Call → Phase
+counted phase call = record phase { exchanges = one_more phase.exchanges; restores = restores_after phase.restores call }
 
 -- the phase after a reply of this worth: a misreply is dealt with as Error is
-abbrev pub graded : Phase → Call → Reply → Grade → Phase
-graded phase call reply Good = entered phase call reply
-graded phase call reply Refused = record phase { state = state_after_bad phase.state call (bad_status_of reply) }
-graded phase call reply Misreply = record phase { state = state_after_bad phase.state call Error }
+abbrev pub graded : Shape → Phase → Call → Reply → Grade → Phase
+graded shape phase call reply Good = entered shape phase call reply
+graded shape phase call reply Refused = record phase { state = state_after_bad phase.state call (bad_status_of reply) }
+graded shape phase call reply Misreply = record phase { state = state_after_bad phase.state call Error }
 
 -- the phase after a call; none stands for a fault in the reply's place
 abbrev pub next_of : Shape → Phase → Call → Option Reply → Phase
-next_of shape phase call None = record (counted phase) { state = Lost }
-next_of shape phase call (Some reply) = graded (counted phase) call reply (grade_of shape call reply)
+next_of shape phase call None = record (counted phase call) { state = Lost }
+next_of shape phase call (Some reply) = graded shape (counted phase call) call reply (grade_of shape call reply)

@@ -3,7 +3,7 @@ ghost use Rattle.fmi_calls.specs.Kinds.{kind_of, kind_of_content, kind_of_reply,
 
 use value_types::PortType;
 
-/// A call of an FMU (FMI 3.0, 4.2). Points and sizes are counts over the resolution.
+/// A call of an FMU (FMI 3.0, 4.2). Points and sizes are counts over the resolution, a reference is a value reference.
 #[derive(Clone, Copy, Debug, PartialEq, Eq)]
 pub enum Call {
     /// whether event mode is used and whether early return is allowed
@@ -24,6 +24,17 @@ pub enum Call {
         kind: PortType,
         reference: u32,
     },
+    Set {
+        kind: PortType,
+        reference: u32,
+        value: i128,
+    },
+    /// fmi3GetFMUState: the state is kept in the instance's slot.
+    Save,
+    /// fmi3SetFMUState: the state is that of the slot again, which keeps it.
+    Restore,
+    /// fmi3FreeFMUState: the slot is emptied.
+    Free,
     Terminate,
     FreeInstance,
 }
@@ -36,6 +47,10 @@ pub enum Kind {
     ExitInitialization,
     DoStep,
     Get,
+    Set,
+    Save,
+    Restore,
+    Free,
     Terminate,
     FreeInstance,
 }
@@ -75,6 +90,10 @@ pub enum Content {
     Get {
         word: u64,
     },
+    Set,
+    Save,
+    Restore,
+    Free,
     Terminate,
     FreeInstance,
 }
@@ -105,6 +124,10 @@ impl Call {
             Call::ExitInitialization => Kind::ExitInitialization,
             Call::DoStep { .. } => Kind::DoStep,
             Call::Get { .. } => Kind::Get,
+            Call::Set { .. } => Kind::Set,
+            Call::Save => Kind::Save,
+            Call::Restore => Kind::Restore,
+            Call::Free => Kind::Free,
             Call::Terminate => Kind::Terminate,
             Call::FreeInstance => Kind::FreeInstance,
         }
@@ -122,6 +145,10 @@ impl Content {
             Content::ExitInitialization => Kind::ExitInitialization,
             Content::DoStep { .. } => Kind::DoStep,
             Content::Get { .. } => Kind::Get,
+            Content::Set => Kind::Set,
+            Content::Save => Kind::Save,
+            Content::Restore => Kind::Restore,
+            Content::Free => Kind::Free,
             Content::Terminate => Kind::Terminate,
             Content::FreeInstance => Kind::FreeInstance,
         }

@@ -2,11 +2,17 @@
 #![tactic(auto)]
 
 mod call;
+mod marks;
+mod next;
+mod permission;
 mod phase;
 #[cfg(test)]
 mod tests;
 mod worth;
 
 pub use call::{BadStatus, Call, Content, Grade, Kind, Reply, Status};
-pub use phase::{Phase, State, next_phase, permitted};
+pub use marks::Marks;
+pub use next::next_phase;
+pub use permission::permitted;
+pub use phase::{Phase, Slot, State};
 pub use worth::{grade, valid};

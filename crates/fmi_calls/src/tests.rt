@@ -27,6 +27,25 @@ const GET: Call = Call::Get {
     reference: 2,
 };
 
+// An input and a parameter.
+const SET: Call = Call::Set {
+    kind: PortType::Int32,
+    reference: 1,
+    value: -2,
+};
+
+const SET_PARAMETER: Call = Call::Set {
+    kind: PortType::Int32,
+    reference: 3,
+    value: 7,
+};
+
+const SAVE: Call = Call::Save;
+
+const RESTORE: Call = Call::Restore;
+
+const EMPTY: Call = Call::Free;
+
 const TERMINATE: Call = Call::Terminate;
 
 const FREE: Call = Call::FreeInstance;
@@ -40,8 +59,9 @@ const SHORTER: Call = Call::DoStep { at: 40, size: 20 };
 
 const LONG: Call = Call::DoStep { at: 10, size: 91 };
 
-// Others that no phase permits: another flag, a stop before the start, no size, an input, another type.
-const NEVER: [Call; 5] = [
+// Others that no phase permits: another flag, a stop before the start, no size, an input that is read, another type, a
+// value out of range, an output that is set.
+const NEVER: [Call; 7] = [
     Call::Instantiate {
         event_mode: true,
         early_return: true,
@@ -59,14 +79,29 @@ const NEVER: [Call; 5] = [
         kind: PortType::Int64,
         reference: 2,
     },
+    Call::Set {
+        kind: PortType::Int32,
+        reference: 1,
+        value: 2_147_483_648,
+    },
+    Call::Set {
+        kind: PortType::Int32,
+        reference: 2,
+        value: 0,
+    },
 ];
 
-const PROBES: [Call; 11] = [
+const PROBES: [Call; 16] = [
     INSTANTIATE,
     ENTER,
     EXIT,
     STEP,
     GET,
+    SET,
+    SET_PARAMETER,
+    SAVE,
+    RESTORE,
+    EMPTY,
     TERMINATE,
     FREE,
     SECOND,
@@ -112,6 +147,16 @@ const EXITED: (Call, Option<Reply>) = (EXIT, done!(Content::ExitInitialization))
 
 const STEPPED: (Call, Option<Reply>) = (STEP, ended!(false, 40));
 
+const ENDED_EARLY: (Call, Option<Reply>) = (STEP, ended!(true, 25));
+
+const GIVEN: (Call, Option<Reply>) = (SET, done!(Content::Set));
+
+const SAVED: (Call, Option<Reply>) = (SAVE, done!(Content::Save));
+
+const RESTORED: (Call, Option<Reply>) = (RESTORE, done!(Content::Restore));
+
+const EMPTIED: (Call, Option<Reply>) = (EMPTY, done!(Content::Free));
+
 const TERMINATED: (Call, Option<Reply>) = (TERMINATE, done!(Content::Terminate));
 
 // Calls with their replies, or none at a fault, then state and point, and what is permitted.
@@ -122,9 +167,14 @@ type Row = (
     &'static [Call],
 );
 
-const PATHS: [Row; 19] = [
+const PATHS: [Row; 28] = [
     (&[], State::Fresh, 0, &[INSTANTIATE]),
-    (&[STARTED], State::Instantiated, 0, &[ENTER, FREE]),
+    (
+        &[STARTED],
+        State::Instantiated,
+        0,
+        &[ENTER, SET_PARAMETER, FREE],
+    ),
     (
         &[(INSTANTIATE, refused!(Kind::Instantiate, BadStatus::Error))],
         State::Gone,
@@ -141,7 +191,7 @@ const PATHS: [Row; 19] = [
         &[STARTED, ENTERED],
         State::Initialization,
         10,
-        &[EXIT, GET, FREE],
+        &[EXIT, GET, SET, FREE],
     ),
     (
         &[
@@ -156,7 +206,7 @@ const PATHS: [Row; 19] = [
         &[STARTED, ENTERED, (GET, done!(Content::Get { word: 7 }))],
         State::Initialization,
         10,
-        &[EXIT, GET, FREE],
+        &[EXIT, GET, SET, FREE],
     ),
     (
         &[
@@ -166,25 +216,25 @@ const PATHS: [Row; 19] = [
         ],
         State::Initialization,
         10,
-        &[EXIT, GET, FREE],
+        &[EXIT, GET, SET, FREE],
     ),
     (
         &[STARTED, ENTERED, EXITED],
         State::Step,
         10,
-        &[STEP, GET, TERMINATE, FREE],
+        &[STEP, GET, SET, SAVE, TERMINATE, FREE],
     ),
     (
         &[STARTED, ENTERED, EXITED, STEPPED],
         State::Step,
         40,
-        &[SECOND, GET, TERMINATE, FREE],
+        &[SECOND, GET, SET, SAVE, TERMINATE, FREE],
     ),
     (
         &[STARTED, ENTERED, EXITED, (STEP, ended!(true, 25))],
         State::Step,
         25,
-        &[BEHIND_EARLY, GET, TERMINATE, FREE],
+        &[BEHIND_EARLY, GET, SET, SAVE, TERMINATE, FREE],
     ),
     (
         &[
@@ -195,7 +245,7 @@ const PATHS: [Row; 19] = [
         ],
         State::Step,
         10,
-        &[STEP, GET, TERMINATE, FREE],
+        &[STEP, GET, SET, SAVE, TERMINATE, FREE],
     ),
     (
         &[
@@ -255,6 +305,77 @@ const PATHS: [Row; 19] = [
         0,
         &[],
     ),
+    (
+        &[
+            STARTED,
+            (SET_PARAMETER, done!(Content::Set)),
+            ENTERED,
+            GIVEN,
+        ],
+        State::Initialization,
+        10,
+        &[EXIT, GET, SET, FREE],
+    ),
+    (
+        &[STARTED, ENTERED, EXITED, GIVEN],
+        State::Step,
+        10,
+        &[STEP, SAVE, TERMINATE, FREE],
+    ),
+    (
+        &[STARTED, ENTERED, EXITED, GIVEN, STEPPED],
+        State::Step,
+        40,
+        &[SECOND, GET, SET, SAVE, TERMINATE, FREE],
+    ),
+    (
+        &[STARTED, ENTERED, EXITED, SAVED],
+        State::Step,
+        10,
+        &[STEP, GET, SET, RESTORE, EMPTY],
+    ),
+    (
+        &[STARTED, ENTERED, EXITED, SAVED, ENDED_EARLY],
+        State::Step,
+        25,
+        &[GET, SET, RESTORE, EMPTY],
+    ),
+    (
+        &[STARTED, ENTERED, EXITED, GIVEN, SAVED, STEPPED, RESTORED],
+        State::Step,
+        10,
+        &[STEP, RESTORE, EMPTY],
+    ),
+    (
+        &[STARTED, ENTERED, EXITED, SAVED, STEPPED, EMPTIED],
+        State::Step,
+        40,
+        &[SECOND, GET, SET, SAVE, TERMINATE, FREE],
+    ),
+    (
+        &[
+            STARTED,
+            ENTERED,
+            EXITED,
+            SAVED,
+            (EMPTY, refused!(Kind::Free, BadStatus::Discard)),
+        ],
+        State::Step,
+        10,
+        &[STEP, GET, SET, RESTORE, EMPTY],
+    ),
+    (
+        &[
+            STARTED,
+            ENTERED,
+            EXITED,
+            SAVED,
+            (STEP, done!(Content::Get { word: 0 })),
+        ],
+        State::Dead,
+        10,
+        &[FREE],
+    ),
 ];
 
 // Whether a step from 10 to 40 may end early, its early flag and end, and what that is worth.
@@ -285,7 +406,7 @@ const STATUSES: [(BadStatus, Status); 3] = [
     (BadStatus::Fatal, Status::Fatal),
 ];
 
-const KINDS: [(Call, Content, Kind); 7] = [
+const KINDS: [(Call, Content, Kind); 11] = [
     (INSTANTIATE, Content::Instantiate, Kind::Instantiate),
     (
         ENTER,
@@ -304,6 +425,10 @@ const KINDS: [(Call, Content, Kind); 7] = [
         Kind::DoStep,
     ),
     (GET, Content::Get { word: 0 }, Kind::Get),
+    (SET, Content::Set, Kind::Set),
+    (SAVE, Content::Save, Kind::Save),
+    (RESTORE, Content::Restore, Kind::Restore),
+    (EMPTY, Content::Free, Kind::Free),
     (TERMINATE, Content::Terminate, Kind::Terminate),
     (FREE, Content::FreeInstance, Kind::FreeInstance),
 ];
@@ -326,6 +451,7 @@ fn shape_of(alloc: Global, might_return_early: bool) -> Result<Shape, AllocError
     let variables = vec![in alloc;
         variable(alloc, 1, Causality::Input)?,
         variable(alloc, 2, Causality::Output)?,
+        variable(alloc, 3, Causality::Parameter)?,
     ]?;
     Ok(Shape {
         identifier: Text::from_str(alloc, "model")?,
@@ -334,7 +460,7 @@ fn shape_of(alloc: Global, might_return_early: bool) -> Result<Shape, AllocError
         has_event_mode: false,
         might_return_early,
         has_variable_steps: false,
-        can_save_state: false,
+        can_save_state: true,
         can_serialize_state: false,
         variables: Items::from_vec(variables),
         clocks: Items::from_vec(Vec::new(alloc)),
@@ -343,24 +469,32 @@ fn shape_of(alloc: Global, might_return_early: bool) -> Result<Shape, AllocError
     })
 }
 
-fn follow(rt: &impl Abort, shape: &Shape, path: &[(Call, Option<Reply>)]) -> Phase {
-    let mut phase = Phase::fresh();
+fn follow(
+    rt: &impl Abort,
+    alloc: Global,
+    shape: &Shape,
+    path: &[(Call, Option<Reply>)],
+) -> Result<Phase, AllocError> {
+    let mut phase = Phase::fresh(alloc, shape)?;
     for (call, reply) in path {
         assert!(rt; permitted(shape, &phase, call), "{call:?} in {phase:?}");
         next_phase(shape, &mut phase, call, reply.as_ref());
     }
-    phase
+    Ok(phase)
 }
 
 #[test]
 fn phases_are_those_of_the_state_machine(rt: HostRuntime) -> Result<(), Fail> {
     let shape = shape_of(rt.alloc(), true)?;
     for (path, state, point, permits) in &PATHS {
-        let phase = follow(&rt, &shape, path);
+        let phase = follow(&rt, rt.alloc(), &shape, path)?;
         assert_eq!(rt; phase.state, *state, "behind {path:?}");
         assert_eq!(rt; phase.point, *point, "behind {path:?}");
-        assert_eq!(rt; phase.exchanges, path.len() as u64);
-        assert_eq!(rt; state.can_be_freed(), permits.contains(&FREE));
+        assert_eq!(rt; phase.exchanges(), path.len() as u64);
+        let restores = path.iter().filter(|(call, _)| *call == RESTORE).count();
+        assert_eq!(rt; phase.restores(), restores as u64);
+        let can_be_freed = state.can_be_freed(phase.slot.is_full);
+        assert_eq!(rt; can_be_freed, permits.contains(&FREE));
         for call in &PROBES {
             assert_eq!(rt;
                 permitted(&shape, &phase, call),
@@ -379,6 +513,7 @@ fn phases_are_those_of_the_state_machine(rt: HostRuntime) -> Result<(), Fail> {
 fn a_step_ends_within_its_bounds(rt: HostRuntime) -> Result<(), Fail> {
     for (allowed, early, end, expected) in STEP_ENDS {
         let shape = shape_of(rt.alloc(), allowed)?;
+        let phase = Phase::fresh(rt.alloc(), &shape)?;
         let content = Content::DoStep {
             event_needed: false,
             terminate: false,
@@ -389,9 +524,9 @@ fn a_step_ends_within_its_bounds(rt: HostRuntime) -> Result<(), Fail> {
             is_warning: true,
             content,
         };
-        let worth = grade(&shape, &Phase::fresh(), &STEP, &reply);
+        let worth = grade(&shape, &phase, &STEP, &reply);
         assert_eq!(rt; worth, expected, "early {early} at {end}");
-        let is_valid = valid(&shape, &Phase::fresh(), &STEP, &content);
+        let is_valid = valid(&shape, &phase, &STEP, &content);
         assert_eq!(rt; is_valid, expected == Grade::Good);
     }
     Ok(())
@@ -400,13 +535,14 @@ fn a_step_ends_within_its_bounds(rt: HostRuntime) -> Result<(), Fail> {
 #[test]
 fn a_word_is_in_the_range_of_its_type(rt: HostRuntime) -> Result<(), Fail> {
     let shape = shape_of(rt.alloc(), false)?;
+    let phase = Phase::fresh(rt.alloc(), &shape)?;
     for (kind, word, expected) in WORDS {
         let call = Call::Get { kind, reference: 2 };
         let reply = Reply::Done {
             is_warning: false,
             content: Content::Get { word },
         };
-        let worth = grade(&shape, &Phase::fresh(), &call, &reply);
+        let worth = grade(&shape, &phase, &call, &reply);
         assert_eq!(rt; worth, expected, "{word} of {kind:?}");
     }
     Ok(())
@@ -415,7 +551,7 @@ fn a_word_is_in_the_range_of_its_type(rt: HostRuntime) -> Result<(), Fail> {
 #[test]
 fn a_reply_is_of_the_kind_of_its_call(rt: HostRuntime) -> Result<(), Fail> {
     let shape = shape_of(rt.alloc(), true)?;
-    let phase = Phase::fresh();
+    let phase = Phase::fresh(rt.alloc(), &shape)?;
     for (call, content, kind) in KINDS {
         assert_eq!(rt; (call.kind(), content.kind()), (kind, kind));
         for is_warning in [false, true] {
@@ -441,6 +577,7 @@ fn a_reply_is_of_the_kind_of_its_call(rt: HostRuntime) -> Result<(), Fail> {
 #[test]
 fn a_refusal_is_of_the_kind_of_its_call(rt: HostRuntime) -> Result<(), Fail> {
     let shape = shape_of(rt.alloc(), true)?;
+    let phase = Phase::fresh(rt.alloc(), &shape)?;
     for (bad, status) in STATUSES {
         assert_eq!(rt; Status::from_bad(bad), status);
         for (_, _, kind) in KINDS {
@@ -452,7 +589,7 @@ fn a_refusal_is_of_the_kind_of_its_call(rt: HostRuntime) -> Result<(), Fail> {
             } else {
                 Grade::Misreply
             };
-            let worth = grade(&shape, &Phase::fresh(), &STEP, &reply);
+            let worth = grade(&shape, &phase, &STEP, &reply);
             assert_eq!(rt; worth, expected, "{reply:?}");
         }
     }

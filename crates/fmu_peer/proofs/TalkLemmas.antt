@@ -1,6 +1,6 @@
 -- How a talk goes on: it stays legal, and it stays good up to the first answer that isn't.
-use Rattle.std.proofs.Common.{◌≡◌, List, [], ◌∷◌, ◌++◌, Option, Some, None, IfSome, Result, Ok, Err, refl, sym, ap, ◌∙◌, subst}
-use Rattle.std.specs.Prelude.{All, option_map}
+use Rattle.std.proofs.Common.{◌≡◌, List, [], ◌∷◌, ◌++◌, Option, Some, None, IfSome, Result, Ok, refl, sym, ap, ◌∙◌, subst}
+use Rattle.std.specs.Prelude.{option_map}
 use Rattle.std.proofs.lemmas.List.Elements.{All-push}
 use Rattle.value_types.specs.declared.shape.Shape.{Shape}
 use Rattle.fmi_calls.specs.declared.call.Call.{Call}
@@ -37,8 +37,8 @@ leads_on : (shape : Shape) (p q : Phase) (es fs : List Exchange) (e : Exchange) 
     LeadsTo shape p es → Permitted shape p e.call → q ≡ next_by shape p e → fs ≡ es ++ e ∷ [] → LeadsTo shape q fs
 leads_on shape p q es fs e h may next is =
     let there : LeadsTo shape q (es ++ e ∷ []) = (
-      LegalFrom-append shape fresh es e h.0 (subst (λ (r : Phase). Permitted shape r e.call) h.1 may),
-      next ∙ ap (λ (r : Phase). next_by shape r e) h.1 ∙ sym (phase_from-append shape fresh es e),
+      LegalFrom-append shape (fresh shape) es e h.0 (subst (λ (r : Phase). Permitted shape r e.call) h.1 may),
+      next ∙ ap (λ (r : Phase). next_by shape r e) h.1 ∙ sym (phase_from-append shape (fresh shape) es e),
     ) in
     subst (LeadsTo shape q) (sym is) there
 

@@ -1,5 +1,5 @@
 -- The room of a talk.
-use Rattle.std.specs.Prelude.{◌≡◌, ℕ, ◌+◌, Bool, true, false, ◌||◌, nat_lt, nat_le, List, length, Option, Some, None}
+use Rattle.std.specs.Prelude.{◌+◌, Bool, true, false, nat_lt, nat_le, length, Option, Some, None}
 use Rattle.fmi_calls.specs.declared.phase.State.{State}
 use Rattle.fmi_calls.specs.declared.phase.State.TheVariants.{Fresh, Instantiated, Initialization, Step, Terminated, Dead, Lost, Gone}
 use Rattle.fmu_peer.specs.declared.talk_room.TalkRoom.{TalkRoom}

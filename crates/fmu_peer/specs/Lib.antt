@@ -1,4 +1,5 @@
 pub mod Talk
+pub mod Lean
 pub mod Machine
 pub mod View
 pub mod Start

@@ -3,14 +3,14 @@ use Rattle.std.specs.Prelude.{◌≡◌, ℕ, ℤ, Bool, true, false, not, ◌&&
 use Rattle.std.specs.Option.{option_map_or}
 use Rattle.std.specs.List.{list_any}
 use Rattle.value_types.specs.Shape.{variable_at}
-use Rattle.value_types.specs.declared.shape.Causality.{Causality}
-use Rattle.value_types.specs.declared.shape.Causality.TheVariants.{Parameter, CalculatedParameter, StructuralParameter, Input, Output, Local, Independent, Other}
+use Rattle.value_types.specs.declared.shape.Causality.TheVariants.{Output}
 use Rattle.value_types.specs.declared.shape.Variable.{Variable}
 use Rattle.value_types.specs.declared.shape.Dependency.{Dependency}
 use Rattle.value_types.specs.declared.shape.Shape.{Shape}
 use Rattle.fmi_calls.specs.declared.call.Call.{Call}
 use Rattle.fmi_calls.specs.declared.call.Call.TheVariants as C
 use Rattle.fmi_calls.specs.declared.call.Reply.{Reply}
+use Rattle.fmi_calls.specs.Permission.{is_input}
 
 -- what Save keeps
 pub record Saved : Type 0 where
@@ -23,8 +23,9 @@ pub record State : Type 0 where
   pub values : List ℤ
   pub slot : Option Saved
 
--- the first state; whether a state is in Initialization Mode; the reply to a call; and the numbers after a call that changes them
+-- the references of its values; the first state; whether a state is in Initialization Mode; the reply to a call; and the numbers after a call that changes them
 pub record Machine : Type 0 where
+  pub references : List ℕ
   pub first : State
   pub initializing : List ℤ → Bool
   pub look : State → Call → Reply
@@ -33,9 +34,28 @@ pub record Machine : Type 0 where
 abbrev pub changed : Machine → State → Call → State
 changed m s call = record s { numbers = m.change s call }
 
--- the state after a call: reading changes nothing
+-- the values once the one under a reference is written
+abbrev pub written : List ℕ → List ℤ → ℕ → ℤ → List ℤ
+written (r ∷ rs) (x ∷ xs) reference value = (if r == reference then value else x) ∷ written rs xs reference value
+written [] xs reference value = xs
+written (r ∷ rs) [] reference value = []
+
+-- what a state keeps
+abbrev pub kept : State → Saved
+kept s = record { numbers = s.numbers; values = s.values }
+
+-- the state once what was saved is back; the slot keeps it
+abbrev pub put_back : Option Saved → State → State
+put_back None s = s
+put_back (Some saved) s = record s { numbers = saved.numbers; values = saved.values }
+
+-- the state after a call: reading changes nothing, Set writes a value, Save fills the slot, Restore puts it back, and Free empties it
 abbrev pub after : Machine → State → Call → State
 after m s (C.Get kind reference) = s
+after m s (C.Set kind reference value) = record s { values = written m.references s.values reference value }
+after m s C.Save = record s { slot = Some (kept s) }
+after m s C.Restore = put_back s.slot s
+after m s C.Free = record s { slot = None }
 after m s (C.Instantiate event_mode early_return) = changed m s (C.Instantiate event_mode early_return)
 after m s (C.EnterInitialization start stop) = changed m s (C.EnterInitialization start stop)
 after m s C.ExitInitialization = changed m s C.ExitInitialization
@@ -48,16 +68,6 @@ abbrev pub value_at : List Variable → List ℤ → ℕ → Option ℤ
 value_at [] values reference = None
 value_at (v ∷ vs) [] reference = None
 value_at (v ∷ vs) (x ∷ xs) reference = if v.reference == reference then Some x else value_at vs xs reference
-
-abbrev pub is_input : Causality → Bool
-is_input Input = true
-is_input Parameter = false
-is_input CalculatedParameter = false
-is_input StructuralParameter = false
-is_input Output = false
-is_input Local = false
-is_input Independent = false
-is_input Other = false
 
 -- the references that an output declares to depend on, in Initialization Mode by a list of its own
 abbrev pub declared_of : Shape → Bool → ℕ → List ℕ
@@ -82,6 +92,10 @@ output_of (C.Instantiate event_mode early_return) = None
 output_of (C.EnterInitialization start stop) = None
 output_of C.ExitInitialization = None
 output_of (C.DoStep at size) = None
+output_of (C.Set kind reference value) = None
+output_of C.Save = None
+output_of C.Restore = None
+output_of C.Free = None
 output_of C.Terminate = None
 output_of C.FreeInstance = None
 

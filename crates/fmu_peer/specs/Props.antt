@@ -1,7 +1,11 @@
 -- A talk is legal in one way, so that a value can keep the fact.
-use Rattle.std.specs.Prelude.{◌≡◌, ℕ, Bool, List, [], ◌∷◌, Option, Some, None, IfSome, IsSomeAnd}
-use Rattle.std.specs.Coded.{Coded, Coded-set, coded_bool, coded_ℕ, coded_option, ×_prop, Unit-prop, le_prop}
-use Rattle.value_types.specs.Shape.{IsOutput, variable_at}
+use Rattle.std.specs.Prelude.{◌≡◌, ℕ, ℤ, ◌≤ℤ◌, Bool, T, List, [], ◌∷◌, Option, Some, None, IfSome, IsSomeAnd, IsTrue}
+use Rattle.std.specs.Coded.{Coded-set, coded_bool, coded_ℕ, coded_option, ×_prop, Unit-prop, le_prop}
+use Rattle.std.proofs.Common.{ap}
+use Rattle.std.proofs.Math.Dec.{T_prop}
+use Rattle.std.specs.Int.Signed.{le_z}
+use Rattle.value_types.specs.Shape.{variable_at}
+use Rattle.value_types.specs.Values.{Fits, least_of, greatest_of}
 use Rattle.value_types.specs.declared.shape.Shape.{Shape}
 use Rattle.value_types.specs.declared.shape.Variable.{Variable}
 use Rattle.value_types.specs.declared.shape.Causality.{Causality}
@@ -13,7 +17,7 @@ use Rattle.fmi_calls.specs.declared.call.Call.{Call}
 use Rattle.fmi_calls.specs.declared.call.Call.TheVariants as C
 use Rattle.fmi_calls.specs.declared.phase.Phase.{Phase}
 use Rattle.fmi_calls.specs.declared.phase.State.{State}
-use Rattle.fmi_calls.specs.Permission.{Permitted}
+use Rattle.fmi_calls.specs.Permission.{Permitted, IsWritable, can_be_set}
 use Rattle.fmi_calls.specs.Next.{fresh}
 use Rattle.fmi_calls.specs.contracts.phase.State as state
 use Rattle.fmi_calls.specs.contracts.phase.Phase as phase
@@ -43,12 +47,33 @@ is_output-prop : (o : Option Variable) (kind : PortType) → IsProp (IsSomeAnd o
 is_output-prop None kind = λ a b. absurd a
 is_output-prop (Some v) kind = hlevel (kind_set, causality_set)
 
+int_le-prop : (a b : ℤ) → IsProp (a ≤ℤ b)
+int_le-prop a b x y = ap (λ (t : T (le_z a b)). record { le = t }) (T_prop (le_z a b) x.le y.le)
+
+is_written-prop : (o : Option Variable) (kind : PortType) → IsProp (IsSomeAnd o (λ (v : Variable). v.kind ≡ Some kind))
+is_written-prop None kind = λ a b. absurd a
+is_written-prop (Some v) kind = hlevel (kind_set)
+
+fits-prop : (kind : PortType) (value : ℤ) → IsProp (Fits kind value)
+fits-prop kind value = ×_prop (int_le-prop (least_of kind) value) (int_le-prop value (greatest_of kind))
+
+is_writable-prop : (shape : Shape) (kind : PortType) (reference : ℕ) → IsProp (IsWritable shape kind reference)
+is_writable-prop shape kind reference = ×_prop (hlevel (bool_set)) (is_written-prop (variable_at shape.variables reference) kind)
+
+set-prop : (may : Bool) (shape : Shape) (kind : PortType) (reference : ℕ) (value : ℤ) →
+    IsProp (IsTrue may × IsWritable shape kind reference × Fits kind value)
+set-prop may shape kind reference value = hlevel (bool_set, is_writable-prop shape kind reference, fits-prop kind value)
+
 pub Permitted-prop : (shape : Shape) (p : Phase) (c : Call) → IsProp (Permitted shape p c)
 Permitted-prop shape p (C.Instantiate event_mode early_return) = hlevel (le_prop, state_set, bool_set, nat_set)
 Permitted-prop shape p (C.EnterInitialization start stop) = hlevel (le_prop, state_set, bool_set, nat_set)
 Permitted-prop shape p C.ExitInitialization = hlevel (le_prop, state_set, bool_set, nat_set)
 Permitted-prop shape p (C.DoStep at size) = hlevel (le_prop, state_set, bool_set, nat_set)
 Permitted-prop shape p (C.Get kind reference) = ×_prop (hlevel (bool_set)) (×_prop (hlevel (bool_set)) (is_output-prop (variable_at shape.variables reference) kind))
+Permitted-prop shape p (C.Set kind reference value) = set-prop (can_be_set p.state shape p.marks reference) shape kind reference value
+Permitted-prop shape p C.Save = hlevel (le_prop, state_set, bool_set, nat_set)
+Permitted-prop shape p C.Restore = hlevel (le_prop, state_set, bool_set, nat_set)
+Permitted-prop shape p C.Free = hlevel (le_prop, state_set, bool_set, nat_set)
 Permitted-prop shape p C.Terminate = hlevel (le_prop, state_set, bool_set, nat_set)
 Permitted-prop shape p C.FreeInstance = hlevel (le_prop, state_set, bool_set, nat_set)
 
@@ -58,4 +83,4 @@ LegalFrom-prop shape p (e ∷ es) = ×_prop (Permitted-prop shape p e.call) (Leg
 
 pub legal-prop : (shape : Shape) (phase : Phase) (o : Option TalkRoom) → IsProp (IfSome o (λ (t : TalkRoom). Legal shape t.exchanges.items × (phase ≡ phase_after shape t.exchanges.items)))
 legal-prop shape phase None = Unit-prop
-legal-prop shape phase (Some t) = ×_prop (LegalFrom-prop shape fresh t.exchanges.items) (phase_set phase (phase_after shape t.exchanges.items))
+legal-prop shape phase (Some t) = ×_prop (LegalFrom-prop shape (fresh shape) t.exchanges.items) (phase_set phase (phase_after shape t.exchanges.items))

@@ -1,5 +1,7 @@
-ghost use Rattle.std.specs.Prelude.{◌≡◌};
+ghost use Rattle.std.specs.Prelude.{◌≡◌, IsTrue};
+ghost use Rattle.fmu_peer.specs.Close.{IsClosed, can_be_closed};
 
+use crate::closing::close_peer;
 use crate::{Peer, PeerFault};
 use fmi_calls::{BadStatus, Call, Phase, Reply};
 
@@ -26,5 +28,15 @@ impl<L: Peer> Ended<L> {
         ensures { result.now ≡ (L.view self.now.peer).phase }
     {
         self.peer.phase()
+    }
+
+    /// Ends the instance by the calls that it still may be sent, or silently by none, and gives the peer back.
+    pub fn close(self, silent: bool) -> L
+        requires { IsTrue (can_be_closed (L.view self.peer).phase silent) }
+        ensures { IsClosed silent (L.view self.peer) (L.view result) }
+    {
+        let Ended { mut peer, why: _ } = self;
+        close_peer(&mut peer, silent);
+        peer
     }
 }

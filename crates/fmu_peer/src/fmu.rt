@@ -1,13 +1,14 @@
-ghost use Rattle.std.specs.Prelude.{◌≡◌, ◌≤◌, MatchBool, IfOk, IfErr, IsTrue};
+ghost use Rattle.std.specs.Prelude.{◌≡◌, IfOk, IfErr, OnOk, IsTrue};
 ghost use Rattle.fmi_calls.specs.declared.call.Reply.{Reply};
 ghost use Rattle.fmi_calls.specs.Permission.{Permitted};
-ghost use Rattle.fmi_calls.specs.Worth.{grade_of};
+ghost use Rattle.fmi_calls.specs.declared.phase.State.TheVariants as P;
 ghost use Rattle.fmu_peer.specs.Mode.{agrees, instantiate_of};
 ghost use Rattle.fmu_peer.specs.Answer.{Answered, Failed};
-ghost use Rattle.fmu_peer.specs.Close.{Closes, Frees, is_good_answer};
+ghost use Rattle.fmu_peer.specs.Close.{IsClosed, can_be_closed};
 
-use crate::{Ended, Fresh, Initializing, Instantiated, Mode, Peer, PeerFault, Stepping, Why};
-use fmi_calls::{Call, Grade, Reply, State, grade};
+use crate::closing::close_peer;
+use crate::{Ended, Fresh, Initializing, Instantiated, Mode, Peer, Saved, Stepping, Why};
+use fmi_calls::{Call, Grade, Reply, grade};
 use std::marker::PhantomData;
 use value_types::PortType;
 
@@ -45,7 +46,7 @@ pub enum Running<L: Peer> {
 impl<L: Peer> Fmu<L, Fresh> {
     /// An FMU before its first call.
     pub fn new(peer: L) -> Fmu<L, Fresh>
-        requires { (L.view peer).phase.state ≡ State.Fresh }
+        requires { (L.view peer).phase.state ≡ P.Fresh }
         ensures { result.peer ≡ peer }
     {
         Fmu {
@@ -56,7 +57,7 @@ impl<L: Peer> Fmu<L, Fresh> {
 
     /// Makes the instance, by the flags of its shape.
     pub fn instantiate(self) -> Result<Fmu<L, Instantiated>, Ended<L>>
-        requires { (L.view self.peer).phase.state ≡ State.Fresh }
+        requires { (L.view self.peer).phase.state ≡ P.Fresh }
         ensures ok { IfOk result (λ fmu. (reply : Reply) × Answered (L.view self.peer) (instantiate_of (L.view self.peer).fixed.shape) reply (L.view fmu.peer)) }
         ensures err { IfErr result (λ ended. Failed (L.view self.peer) (instantiate_of (L.view self.peer).fixed.shape) ended.why (L.view ended.peer)) }
     {
@@ -127,6 +128,44 @@ impl<L: Peer> Fmu<L, Stepping> {
     {
         ask(&mut self.peer, Call::DoStep { at, size })
     }
+
+    /// Saves the state in the instance's slot. What it gives is spent by `free` or by `abandon`.
+    pub fn save(&mut self) -> Result<Saved, Why>
+        requires { Permitted (L.view self.old.peer).fixed.shape (L.view self.old.peer).phase Call.Save }
+        ensures ok { OnOk result ((reply : Reply) × Answered (L.view self.old.peer) Call.Save reply (L.view self.new.peer)) }
+        ensures err { IfErr result (λ why. Failed (L.view self.old.peer) Call.Save why (L.view self.new.peer)) }
+    {
+        match ask(&mut self.peer, Call::Save) {
+            Ok(_) => Ok(Saved { kept: () }),
+            Err(why) => Err(why),
+        }
+    }
+
+    /// Goes back to the state that was saved, which stays saved.
+    pub fn restore(&mut self, _saved: &Saved) -> Result<Reply, Why>
+        requires { Permitted (L.view self.old.peer).fixed.shape (L.view self.old.peer).phase Call.Restore }
+        ensures ok { IfOk result (λ reply. Answered (L.view self.old.peer) Call.Restore reply (L.view self.new.peer)) }
+        ensures err { IfErr result (λ why. Failed (L.view self.old.peer) Call.Restore why (L.view self.new.peer)) }
+    {
+        ask(&mut self.peer, Call::Restore)
+    }
+
+    /// Frees the state that was saved.
+    pub fn free(&mut self, saved: Saved) -> Result<Reply, Why>
+        requires { Permitted (L.view self.old.peer).fixed.shape (L.view self.old.peer).phase Call.Free }
+        ensures ok { IfOk result (λ reply. Answered (L.view self.old.peer) Call.Free reply (L.view self.new.peer)) }
+        ensures err { IfErr result (λ why. Failed (L.view self.old.peer) Call.Free why (L.view self.new.peer)) }
+    {
+        let Saved { kept: () } = saved;
+        ask(&mut self.peer, Call::Free)
+    }
+
+    /// Gives up the state that was saved without a call. The phase, its full slot too, stays as it is.
+    pub fn abandon(&mut self, saved: Saved)
+        ensures { self.new ≡ self.old }
+    {
+        let Saved { kept: _ } = saved;
+    }
 }
 
 impl<L: Peer, M: Mode> Fmu<L, M> {
@@ -139,45 +178,29 @@ impl<L: Peer, M: Mode> Fmu<L, M> {
         ask(&mut self.peer, Call::Get { kind, reference })
     }
 
+    /// Writes a value: a parameter before Initialization Mode, later an input.
+    pub fn set(&mut self, kind: PortType, reference: u32, value: i128) -> Result<Reply, Why>
+        requires { Permitted (L.view self.old.peer).fixed.shape (L.view self.old.peer).phase (Call.Set kind reference value) }
+        ensures ok { IfOk result (λ reply. Answered (L.view self.old.peer) (Call.Set kind reference value) reply (L.view self.new.peer)) }
+        ensures err { IfErr result (λ why. Failed (L.view self.old.peer) (Call.Set kind reference value) why (L.view self.new.peer)) }
+    {
+        ask(
+            &mut self.peer,
+            Call::Set {
+                kind,
+                reference,
+                value,
+            },
+        )
+    }
+
     /// Ends the instance by the calls that it still may be sent, or silently by none, and gives the peer back.
-    /// Behind an answer that isn't good nothing is sent.
     pub fn close(self, silent: bool) -> L
-        ensures { MatchBool silent (L.view result ≡ L.view self.peer) (Closes (L.view self.peer).phase.state (L.view self.peer) (L.view result)) }
+        requires { IsTrue (can_be_closed (L.view self.peer).phase silent) }
+        ensures { IsClosed silent (L.view self.peer) (L.view result) }
     {
         let Fmu { mut peer, mode: _ } = self;
-        if !silent {
-            close_peer(&mut peer);
-        }
+        close_peer(&mut peer, silent);
         peer
-    }
-}
-
-fn close_peer<L: Peer>(peer: &mut L)
-    ensures { Closes (L.view peer.old).phase.state (L.view peer.old) (L.view peer.new) }
-{
-    if peer.phase().state == State::Step {
-        let answer = peer.call(&Call::Terminate);
-        if is_good(peer, &Call::Terminate, &answer) {
-            free_peer(peer);
-        }
-    } else {
-        free_peer(peer);
-    }
-}
-
-fn is_good<L: Peer>(peer: &L, call: &Call, answer: &Result<Reply, PeerFault>) -> bool
-    ensures { result ≡ is_good_answer (L.view peer.now).fixed.shape call.now answer.now }
-{
-    match answer {
-        Ok(reply) => grade(peer.shape(), peer.phase(), call, reply) == Grade::Good,
-        Err(_) => false,
-    }
-}
-
-fn free_peer<L: Peer>(peer: &mut L)
-    ensures { Frees (L.view peer.old) (L.view peer.new) }
-{
-    if peer.phase().state.can_be_freed() {
-        let _ = peer.call(&Call::FreeInstance);
     }
 }

@@ -1,10 +1,12 @@
 //! The other side of an FMU: peers that answer calls, spawners that start them, and an FMU in typed states.
 #![tactic(auto)]
 
+mod closing;
 mod ended;
 mod fmu;
 mod mode;
 mod peer;
+mod saved;
 mod spawner;
 mod talk_book;
 mod talk_room;
@@ -15,6 +17,7 @@ pub use ended::{Ended, Why};
 pub use fmu::{Fmu, Running};
 pub use mode::{Fresh, Initializing, Instantiated, Mode, Stepping};
 pub use peer::{Exchange, Peer, PeerFault};
+pub use saved::Saved;
 pub use spawner::{Spawner, StartFault};
 pub use talk_book::TalkBook;
 pub use talk_room::TalkRoom;

@@ -9,6 +9,7 @@ ghost use Rattle.fmu_peer.specs.Book.{has_room, is_lost, fills_next};
 
 use crate::{Exchange, PeerFault, TalkRoom};
 use fmi_calls::{Call, Phase, Reply, next_phase};
+use std::alloc::{AllocError, Global};
 use value_types::Shape;
 
 /// An instance's shape and phase, its count of faults, and where it is kept the talk that led to the phase.
@@ -19,24 +20,27 @@ pub struct TalkBook {
     pub talk: Option<TalkRoom>,
     pub faults: u64,
     ghost legal: { IfSome talk (λ t. Legal shape t.exchanges.items × (phase ≡ phase_after shape t.exchanges.items)) } by { legal-prop shape phase talk },
+    ghost marks: { length phase.marks ≡ length shape.variables },
+    ghost saved: { length phase.slot.marks ≡ length shape.variables },
     ghost has_room: { IsTrue (is_lost phase.state || has_room talk) },
 }
 
 impl TalkBook {
     /// A book before the first call.
-    pub fn new(shape: Shape, talk: Option<TalkRoom>) -> TalkBook
+    pub fn new(alloc: Global, shape: Shape, talk: Option<TalkRoom>) -> Result<TalkBook, AllocError>
         requires { IfSome talk (λ t. (t.exchanges.items ≡ []) × (0 < t.room)) }
-        ensures shape { result.shape ≡ shape }
-        ensures phase { result.phase ≡ fresh }
-        ensures talk { result.talk ≡ talk }
-        ensures faults { result.faults ≡ 0 }
+        ensures shape { IfOk result (λ b. b.shape ≡ shape) }
+        ensures phase { IfOk result (λ b. b.phase ≡ fresh shape) }
+        ensures talk { IfOk result (λ b. b.talk ≡ talk) }
+        ensures faults { IfOk result (λ b. b.faults ≡ 0) }
     {
-        TalkBook {
+        let phase = Phase::fresh(alloc, &shape)?;
+        Ok(TalkBook {
             shape,
-            phase: Phase::fresh(),
+            phase,
             talk,
             faults: 0,
-        }
+        })
     }
 
     /// Keeps an exchange: this answer, or `Failed` where the exchange fills the talk's room. It answers what it kept.

@@ -1,7 +1,12 @@
 ghost use Rattle.std.specs.Prelude.{◌≡◌, ◌↔◌, None, IfOk, IsTrue};
 ghost use Rattle.fmi_calls.specs.Permission.{Permitted};
+ghost use Rattle.fmu_peer.specs.Mode.{is_over};
+ghost use Rattle.fmu_peer.specs.Close.{can_be_closed};
 
-use crate::{Ended, Exchange, Fmu, Peer, PeerFault, Running, Stepping, TalkBook, TalkRoom, Why};
+use crate::{
+    Ended, Exchange, Fmu, Initializing, Instantiated, Mode, Peer, PeerFault, Running, Saved,
+    Stepping, TalkBook, TalkRoom, Why,
+};
 use fmi_calls::{BadStatus, Call, Content, Kind, Phase, Reply, State, permitted};
 use sim_base::{Items, Text};
 use std::alloc::{AllocError, Global};
@@ -51,31 +56,31 @@ const START: Call = Call::Instantiate {
     early_return: true,
 };
 
+const ENTER: Call = Call::EnterInitialization { start: 0, stop: 20 };
+
 const GET: Call = Call::Get {
     kind: PortType::Int32,
     reference: 2,
 };
 
+// A parameter and an input.
+const SET_PARAMETER: Call = Call::Set {
+    kind: PortType::Int32,
+    reference: 3,
+    value: -5,
+};
+
+const SET: Call = Call::Set {
+    kind: PortType::Int32,
+    reference: 1,
+    value: 4,
+};
+
 const STEP: Call = Call::DoStep { at: 0, size: 10 };
-
-const WORD: Reply = Reply::Done {
-    is_warning: false,
-    content: Content::Get { word: 7 },
-};
-
-const STEP_END: Reply = Reply::Done {
-    is_warning: true,
-    content: Content::DoStep {
-        event_needed: false,
-        terminate: false,
-        early: true,
-        end: 4,
-    },
-};
 
 const WRONG: Reply = Reply::Done {
     is_warning: false,
-    content: Content::Terminate,
+    content: Content::ExitInitialization,
 };
 
 macro_rules! good {
@@ -102,149 +107,325 @@ macro_rules! refused {
     };
 }
 
+macro_rules! wrong {
+    ($call:expr) => {
+        Exchange {
+            call: $call,
+            result: Ok(WRONG),
+        }
+    };
+}
+
+macro_rules! failed {
+    ($call:expr) => {
+        Exchange {
+            call: $call,
+            result: Err(PeerFault::Failed),
+        }
+    };
+}
+
+macro_rules! why_refused {
+    ($call:expr, $status:expr) => {
+        Some(Why::Refused {
+            call: $call,
+            status: $status,
+        })
+    };
+}
+
 const STARTED: Exchange = good!(START, Content::Instantiate);
 
-const ENTERED: Exchange = good!(
-    Call::EnterInitialization { start: 0, stop: 20 },
-    Content::EnterInitialization,
-);
+const GIVEN_PARAMETER: Exchange = good!(SET_PARAMETER, Content::Set);
+
+const ENTERED: Exchange = good!(ENTER, Content::EnterInitialization);
 
 const EXITED: Exchange = good!(Call::ExitInitialization, Content::ExitInitialization);
 
 const READ: Exchange = good!(GET, Content::Get { word: 7 });
 
+const GIVEN: Exchange = good!(SET, Content::Set);
+
 const STEPPED: Exchange = Exchange {
     call: STEP,
-    result: Ok(STEP_END),
+    result: Ok(Reply::Done {
+        is_warning: true,
+        content: Content::DoStep {
+            event_needed: false,
+            terminate: false,
+            early: true,
+            end: 4,
+        },
+    }),
 };
+
+const SAVED: Exchange = good!(Call::Save, Content::Save);
+
+const RESTORED: Exchange = good!(Call::Restore, Content::Restore);
+
+const EMPTIED: Exchange = good!(Call::Free, Content::Free);
 
 const TERMINATED: Exchange = good!(Call::Terminate, Content::Terminate);
 
 const FREED: Exchange = good!(Call::FreeInstance, Content::FreeInstance);
 
-const NOT_READ: Exchange = refused!(GET, Kind::Get, BadStatus::Error);
-
-const MISREAD: Exchange = Exchange {
-    call: GET,
-    result: Ok(WRONG),
-};
-
-const LOST_READ: Exchange = refused!(GET, Kind::Get, BadStatus::Fatal);
-
-const FILLED: Exchange = Exchange {
-    call: STEP,
-    result: Err(PeerFault::Failed),
-};
-
-const NOT_TERMINATED: Exchange = refused!(Call::Terminate, Kind::Terminate, BadStatus::Error);
-
-// A run up to one read and one step, where it is permitted: what the peer answers, the talk's room, how the run is
-// closed, what read and step give, the talk, and how many faults there were.
+// A run: the whole talk, whose calls but the closing ones are asked in order, up to the first bad answer; how it is
+// closed, the state before that, why it ended, and how many faults there were.
 struct Case {
-    script: &'static [Exchange],
-    room: usize,
-    silent: bool,
-    read: Result<Reply, Why>,
-    step: Option<Result<Reply, Why>>,
     talk: &'static [Exchange],
+    silent: bool,
+    state: State,
+    why: Option<Why>,
     faults: u64,
+}
+
+macro_rules! case {
+    ($state:expr, $why:expr, $talk:expr $(,)?) => {
+        Case {
+            talk: $talk,
+            silent: false,
+            state: $state,
+            why: $why,
+            faults: 0,
+        }
+    };
+}
+
+macro_rules! silent {
+    ($state:expr, $why:expr, $talk:expr $(,)?) => {
+        Case {
+            talk: $talk,
+            silent: true,
+            state: $state,
+            why: $why,
+            faults: 0,
+        }
+    };
 }
 
 const ALL_GOOD: &[Exchange] = &[STARTED, ENTERED, EXITED, READ, STEPPED, TERMINATED, FREED];
 
-const CASES: [Case; 7] = [
+const CASES: [Case; 23] = [
+    // Where there is no instance nothing is sent.
+    case!(State::Fresh, None, &[]),
+    case!(
+        State::Gone,
+        why_refused!(START, BadStatus::Error),
+        &[refused!(START, Kind::Instantiate, BadStatus::Error)],
+    ),
+    case!(
+        State::Lost,
+        why_refused!(START, BadStatus::Fatal),
+        &[refused!(START, Kind::Instantiate, BadStatus::Fatal)],
+    ),
+    // Only from Step Mode the instance is terminated.
+    case!(State::Instantiated, None, &[STARTED, FREED]),
+    case!(
+        State::Initialization,
+        None,
+        &[STARTED, GIVEN_PARAMETER, ENTERED, GIVEN, READ, FREED],
+    ),
+    case!(State::Step, None, ALL_GOOD),
+    silent!(
+        State::Step,
+        None,
+        &[STARTED, ENTERED, EXITED, READ, STEPPED]
+    ),
+    // Behind a Terminate whose answer is bad the instance is freed, but where it is lost.
+    case!(
+        State::Step,
+        None,
+        &[
+            STARTED,
+            ENTERED,
+            EXITED,
+            refused!(Call::Terminate, Kind::Terminate, BadStatus::Discard),
+            FREED,
+        ],
+    ),
+    case!(
+        State::Step,
+        None,
+        &[
+            STARTED,
+            ENTERED,
+            EXITED,
+            refused!(Call::Terminate, Kind::Terminate, BadStatus::Error),
+            FREED,
+        ],
+    ),
+    case!(
+        State::Step,
+        None,
+        &[STARTED, ENTERED, EXITED, wrong!(Call::Terminate), FREED],
+    ),
+    case!(
+        State::Step,
+        None,
+        &[
+            STARTED,
+            ENTERED,
+            EXITED,
+            refused!(Call::Terminate, Kind::Terminate, BadStatus::Fatal),
+        ],
+    ),
     Case {
-        script: ALL_GOOD,
-        room: 8,
+        talk: &[STARTED, ENTERED, EXITED, failed!(Call::Terminate)],
         silent: false,
-        read: Ok(WORD),
-        step: Some(Ok(STEP_END)),
-        talk: ALL_GOOD,
-        faults: 0,
-    },
-    Case {
-        script: ALL_GOOD,
-        room: 8,
-        silent: true,
-        read: Ok(WORD),
-        step: Some(Ok(STEP_END)),
-        talk: &[STARTED, ENTERED, EXITED, READ, STEPPED],
-        faults: 0,
-    },
-    // The step fills the room, and leaves nothing to send.
-    Case {
-        script: ALL_GOOD,
-        room: 5,
-        silent: false,
-        read: Ok(WORD),
-        step: Some(Err(Why::Link {
-            call: STEP,
-            fault: PeerFault::Failed,
-        })),
-        talk: &[STARTED, ENTERED, EXITED, READ, FILLED],
+        state: State::Step,
+        why: None,
         faults: 1,
     },
-    // Behind a Terminate whose answer is bad nothing is sent.
-    Case {
-        script: &[STARTED, ENTERED, EXITED, READ, STEPPED, NOT_TERMINATED],
-        room: 8,
-        silent: false,
-        read: Ok(WORD),
-        step: Some(Ok(STEP_END)),
-        talk: &[STARTED, ENTERED, EXITED, READ, STEPPED, NOT_TERMINATED],
-        faults: 0,
-    },
-    // An instance in error is freed without Terminate.
-    Case {
-        script: &[STARTED, ENTERED, EXITED, NOT_READ, FREED],
-        room: 8,
-        silent: false,
-        read: Err(Why::Refused {
-            call: GET,
-            status: BadStatus::Error,
-        }),
-        step: None,
-        talk: &[STARTED, ENTERED, EXITED, NOT_READ, FREED],
-        faults: 0,
-    },
-    Case {
-        script: &[STARTED, ENTERED, EXITED, MISREAD, FREED],
-        room: 8,
-        silent: false,
-        read: Err(Why::Misreply {
+    // A dead instance is freed alone, a lost one is sent nothing.
+    case!(
+        State::Dead,
+        why_refused!(ENTER, BadStatus::Error),
+        &[
+            STARTED,
+            refused!(ENTER, Kind::EnterInitialization, BadStatus::Error),
+            FREED,
+        ],
+    ),
+    case!(
+        State::Dead,
+        why_refused!(GET, BadStatus::Error),
+        &[
+            STARTED,
+            ENTERED,
+            EXITED,
+            refused!(GET, Kind::Get, BadStatus::Error),
+            FREED,
+        ],
+    ),
+    case!(
+        State::Dead,
+        Some(Why::Misreply {
             call: GET,
             reply: WRONG,
         }),
-        step: None,
-        talk: &[STARTED, ENTERED, EXITED, MISREAD, FREED],
-        faults: 0,
-    },
-    // Behind Fatal nothing is sent.
+        &[STARTED, ENTERED, EXITED, wrong!(GET), FREED],
+    ),
+    case!(
+        State::Lost,
+        why_refused!(GET, BadStatus::Fatal),
+        &[
+            STARTED,
+            ENTERED,
+            EXITED,
+            refused!(GET, Kind::Get, BadStatus::Fatal),
+        ],
+    ),
+    // Behind Discard the instance stands where it stood.
+    case!(
+        State::Step,
+        why_refused!(SET, BadStatus::Discard),
+        &[
+            STARTED,
+            ENTERED,
+            EXITED,
+            refused!(SET, Kind::Set, BadStatus::Discard),
+            TERMINATED,
+            FREED,
+        ],
+    ),
+    // A saved state comes back twice, and is freed.
+    case!(
+        State::Step,
+        None,
+        &[
+            STARTED, ENTERED, EXITED, GIVEN, SAVED, STEPPED, RESTORED, STEPPED, RESTORED, EMPTIED,
+            STEPPED, TERMINATED, FREED,
+        ],
+    ),
+    case!(
+        State::Step,
+        why_refused!(Call::Save, BadStatus::Discard),
+        &[
+            STARTED,
+            ENTERED,
+            EXITED,
+            refused!(Call::Save, Kind::Save, BadStatus::Discard),
+            TERMINATED,
+            FREED,
+        ],
+    ),
+    // With a saved state only an instance that is dead or lost can be closed by calls.
+    silent!(
+        State::Step,
+        why_refused!(Call::Free, BadStatus::Discard),
+        &[
+            STARTED,
+            ENTERED,
+            EXITED,
+            SAVED,
+            refused!(Call::Free, Kind::Free, BadStatus::Discard),
+        ],
+    ),
+    silent!(
+        State::Step,
+        None,
+        &[STARTED, ENTERED, EXITED, SAVED, STEPPED]
+    ),
+    case!(
+        State::Dead,
+        why_refused!(Call::Restore, BadStatus::Error),
+        &[
+            STARTED,
+            ENTERED,
+            EXITED,
+            SAVED,
+            refused!(Call::Restore, Kind::Restore, BadStatus::Error),
+            FREED,
+        ],
+    ),
     Case {
-        script: &[STARTED, ENTERED, EXITED, LOST_READ],
-        room: 8,
+        talk: &[STARTED, ENTERED, EXITED, SAVED, failed!(STEP)],
         silent: false,
-        read: Err(Why::Refused {
-            call: GET,
-            status: BadStatus::Fatal,
+        state: State::Lost,
+        why: Some(Why::Link {
+            call: STEP,
+            fault: PeerFault::Failed,
         }),
-        step: None,
-        talk: &[STARTED, ENTERED, EXITED, LOST_READ],
-        faults: 0,
+        faults: 1,
     },
 ];
 
-fn make_shape(alloc: Global) -> Result<Shape, AllocError> {
-    let output = Variable {
-        name: Text::from_str(alloc, "y")?,
+// The answers are all good, but the step fills the room, and leaves nothing to send.
+const FULL: Case = Case {
+    talk: &[STARTED, ENTERED, EXITED, READ, failed!(STEP)],
+    silent: false,
+    state: State::Lost,
+    why: Some(Why::Link {
+        call: STEP,
+        fault: PeerFault::Failed,
+    }),
+    faults: 1,
+};
+
+fn make_variable(
+    alloc: Global,
+    name: &str,
+    reference: u32,
+    causality: Causality,
+) -> Result<Variable, AllocError> {
+    Ok(Variable {
+        name: Text::from_str(alloc, name)?,
         aliases: Items::from_vec(Vec::new(alloc)),
-        reference: 2,
+        reference,
         kind: Some(PortType::Int32),
-        causality: Causality::Output,
+        causality,
         clocks: Items::from_vec(Vec::new(alloc)),
         start: None,
         can_be_set_again: true,
-    };
+    })
+}
+
+fn make_shape(alloc: Global) -> Result<Shape, AllocError> {
+    let variables = vec![in alloc;
+        make_variable(alloc, "u", 1, Causality::Input)?,
+        make_variable(alloc, "y", 2, Causality::Output)?,
+        make_variable(alloc, "p", 3, Causality::Parameter)?,
+    ]?;
     Ok(Shape {
         identifier: Text::from_str(alloc, "model")?,
         token: Text::from_str(alloc, "{1}")?,
@@ -252,30 +433,21 @@ fn make_shape(alloc: Global) -> Result<Shape, AllocError> {
         has_event_mode: false,
         might_return_early: true,
         has_variable_steps: false,
-        can_save_state: false,
+        can_save_state: true,
         can_serialize_state: false,
-        variables: Items::from_vec(vec![in alloc; output]?),
+        variables: Items::from_vec(variables),
         clocks: Items::from_vec(Vec::new(alloc)),
         dependencies: Items::from_vec(Vec::new(alloc)),
         initial_dependencies: Items::from_vec(Vec::new(alloc)),
     })
 }
 
-fn make_peer(
-    rt: &impl Abort,
-    alloc: Global,
-    script: &'static [Exchange],
-    room: usize,
-) -> Result<Scripted, AllocError>
-    ensures { IfOk result (λ peer. peer.book.phase.state ≡ State.Fresh) }
+fn make_book(rt: &impl Abort, alloc: Global, room: usize) -> Result<TalkBook, AllocError>
+    ensures { IfOk result (λ book. book.phase.state ≡ State.Fresh) }
 {
     assert!(rt; room > 0);
     let talk = TalkRoom::with_room(alloc, room)?;
-    Ok(Scripted {
-        book: TalkBook::new(make_shape(alloc)?, Some(talk)),
-        script,
-        given: 0,
-    })
+    TalkBook::new(alloc, make_shape(alloc)?, Some(talk))
 }
 
 fn is_permitted(peer: &Scripted, call: &Call) -> bool
@@ -290,95 +462,280 @@ fn assert_permitted(rt: &impl Abort, peer: &Scripted, call: &Call)
     assert!(rt; is_permitted(peer, call), "{call:?}");
 }
 
-fn not_ended<T>(rt: &impl Abort, answer: Result<T, Ended<Scripted>>) -> T {
-    match answer {
-        Ok(value) => value,
-        Err(ended) => {
-            let Ended { peer: _, why } = ended;
-            panic!(rt; "{why:?}")
+fn is_over(state: State) -> bool
+    ensures { result ≡ is_over state }
+{
+    match state {
+        State::Dead | State::Lost => true,
+        State::Fresh
+        | State::Instantiated
+        | State::Initialization
+        | State::Step
+        | State::Terminated
+        | State::Gone => false,
+    }
+}
+
+fn can_be_closed(peer: &Scripted, silent: bool) -> bool
+    ensures { result ≡ can_be_closed peer.now.book.phase silent }
+{
+    let phase = &peer.book.phase;
+    silent || (!phase.slot.is_full || is_over(phase.state))
+}
+
+// The peer stands where the case says, and can be closed.
+fn assert_stands(rt: &impl Abort, peer: &Scripted, why: Option<Why>, case: &Case)
+    ensures { IsTrue (can_be_closed peer.now.book.phase case.now.silent) }
+{
+    assert_eq!(rt; peer.book.phase.state, case.state);
+    assert_eq!(rt; why, case.why);
+    assert!(rt; can_be_closed(peer, case.silent));
+}
+
+fn close<M: Mode>(
+    rt: &impl Abort,
+    fmu: Fmu<Scripted, M>,
+    why: Option<Why>,
+    case: &Case,
+) -> Scripted {
+    assert_stands(rt, &fmu.peer, why, case);
+    fmu.close(case.silent)
+}
+
+fn close_ended(rt: &impl Abort, ended: Ended<Scripted>, case: &Case) -> Scripted {
+    assert_eq!(rt; ended.phase().state, case.state);
+    assert_stands(rt, &ended.peer, Some(ended.why), case);
+    ended.close(case.silent)
+}
+
+fn call_at(case: &Case, place: usize) -> Option<Call> {
+    match case.talk.get(place) {
+        Some(exchange) => Some(exchange.call),
+        None => None,
+    }
+}
+
+// The answer to a read or to a write, or none to any other call.
+fn ask_value<M: Mode>(
+    rt: &impl Abort,
+    fmu: &mut Fmu<Scripted, M>,
+    call: Call,
+) -> Option<Result<Reply, Why>> {
+    match call {
+        Call::Get { kind, reference } => {
+            assert_permitted(rt, &fmu.peer, &Call::Get { kind, reference });
+            Some(fmu.get(kind, reference))
+        }
+        Call::Set {
+            kind,
+            reference,
+            value,
+        } => {
+            assert_permitted(
+                rt,
+                &fmu.peer,
+                &Call::Set {
+                    kind,
+                    reference,
+                    value,
+                },
+            );
+            Some(fmu.set(kind, reference, value))
+        }
+        _ => None,
+    }
+}
+
+// The same for the calls of Step Mode too, but Save and Free.
+fn ask_stepping(
+    rt: &impl Abort,
+    fmu: &mut Fmu<Scripted, Stepping>,
+    saved: Option<&Saved>,
+    call: Call,
+) -> Option<Result<Reply, Why>> {
+    match (call, saved) {
+        (Call::DoStep { at, size }, _) => {
+            assert_permitted(rt, &fmu.peer, &Call::DoStep { at, size });
+            Some(fmu.do_step(at, size))
+        }
+        (Call::Restore, Some(saved)) => {
+            assert_permitted(rt, &fmu.peer, &Call::Restore);
+            Some(fmu.restore(saved))
+        }
+        (_, _) => ask_value(rt, fmu, call),
+    }
+}
+
+// Asks from a place on, up to the first bad answer or another call. It gives that call's place.
+fn ask_values<M: Mode>(
+    rt: &impl Abort,
+    fmu: &mut Fmu<Scripted, M>,
+    case: &Case,
+    from: usize,
+) -> (usize, Option<Why>) {
+    for place in from..case.talk.len() {
+        let exchange = &case.talk[place];
+        match ask_value(rt, fmu, exchange.call) {
+            Some(Ok(reply)) => assert_eq!(rt; Ok(reply), exchange.result),
+            Some(Err(why)) => return (place, Some(why)),
+            None => return (place, None),
+        }
+    }
+    (case.talk.len(), None)
+}
+
+fn ask_all_stepping(
+    rt: &impl Abort,
+    fmu: &mut Fmu<Scripted, Stepping>,
+    saved: Option<&Saved>,
+    case: &Case,
+    from: usize,
+) -> (usize, Option<Why>) {
+    for place in from..case.talk.len() {
+        let exchange = &case.talk[place];
+        match ask_stepping(rt, fmu, saved, exchange.call) {
+            Some(Ok(reply)) => assert_eq!(rt; Ok(reply), exchange.result),
+            Some(Err(why)) => return (place, Some(why)),
+            None => return (place, None),
+        }
+    }
+    (case.talk.len(), None)
+}
+
+fn run(rt: &impl Abort, peer: Scripted, case: &Case) -> Scripted
+    requires { peer.book.phase.state ≡ State.Fresh }
+{
+    let fmu = Fmu::new(peer);
+    if case.talk.len() == 0 {
+        return close(rt, fmu, None, case);
+    }
+    match fmu.instantiate() {
+        Ok(fmu) => run_instantiated(rt, fmu, case),
+        Err(ended) => close_ended(rt, ended, case),
+    }
+}
+
+fn run_instantiated(
+    rt: &impl Abort,
+    mut fmu: Fmu<Scripted, Instantiated>,
+    case: &Case,
+) -> Scripted {
+    let (place, why) = ask_values(rt, &mut fmu, case, 1);
+    match (why, call_at(case, place)) {
+        (None, Some(Call::EnterInitialization { start, stop })) => {
+            assert_permitted(rt, &fmu.peer, &Call::EnterInitialization { start, stop });
+            match fmu.enter_initialization(start, stop) {
+                Ok(fmu) => run_initializing(rt, fmu, case, place.saturating_add(1)),
+                Err(ended) => close_ended(rt, ended, case),
+            }
+        }
+        (why, _) => close(rt, fmu, why, case),
+    }
+}
+
+fn run_initializing(
+    rt: &impl Abort,
+    mut fmu: Fmu<Scripted, Initializing>,
+    case: &Case,
+    from: usize,
+) -> Scripted {
+    let (place, why) = ask_values(rt, &mut fmu, case, from);
+    match (why, call_at(case, place)) {
+        (None, Some(Call::ExitInitialization)) => {
+            assert_permitted(rt, &fmu.peer, &Call::ExitInitialization);
+            match fmu.exit_initialization() {
+                Ok(Running::Step(fmu)) => run_stepping(rt, fmu, case, place.saturating_add(1)),
+                Err(ended) => close_ended(rt, ended, case),
+            }
+        }
+        (why, _) => close(rt, fmu, why, case),
+    }
+}
+
+fn run_stepping(
+    rt: &impl Abort,
+    mut fmu: Fmu<Scripted, Stepping>,
+    case: &Case,
+    from: usize,
+) -> Scripted {
+    let (place, why) = ask_all_stepping(rt, &mut fmu, None, case, from);
+    match (why, call_at(case, place)) {
+        (None, Some(Call::Save)) => {
+            assert_permitted(rt, &fmu.peer, &Call::Save);
+            match fmu.save() {
+                Ok(saved) => run_saved(rt, fmu, saved, case, place.saturating_add(1)),
+                Err(why) => close(rt, fmu, Some(why), case),
+            }
+        }
+        (why, _) => close(rt, fmu, why, case),
+    }
+}
+
+fn run_saved(
+    rt: &impl Abort,
+    mut fmu: Fmu<Scripted, Stepping>,
+    saved: Saved,
+    case: &Case,
+    from: usize,
+) -> Scripted {
+    let (place, why) = ask_all_stepping(rt, &mut fmu, Some(&saved), case, from);
+    match (why, call_at(case, place)) {
+        (None, Some(Call::Free)) => {
+            assert_permitted(rt, &fmu.peer, &Call::Free);
+            match fmu.free(saved) {
+                Ok(_) => run_freed(rt, fmu, case, place.saturating_add(1)),
+                Err(why) => close(rt, fmu, Some(why), case),
+            }
+        }
+        (why, _) => {
+            fmu.abandon(saved);
+            close(rt, fmu, why, case)
         }
     }
 }
 
-fn to_step_mode(rt: &impl Abort, peer: Scripted) -> Fmu<Scripted, Stepping>
-    requires { peer.book.phase.state ≡ State.Fresh }
-{
-    let fmu = not_ended(rt, Fmu::new(peer).instantiate());
-    assert_permitted(
-        rt,
-        &fmu.peer,
-        &Call::EnterInitialization { start: 0, stop: 20 },
-    );
-    let fmu = not_ended(rt, fmu.enter_initialization(0, 20));
-    assert_permitted(rt, &fmu.peer, &Call::ExitInitialization);
-    let Running::Step(fmu) = not_ended(rt, fmu.exit_initialization());
-    fmu
+fn run_freed(
+    rt: &impl Abort,
+    mut fmu: Fmu<Scripted, Stepping>,
+    case: &Case,
+    from: usize,
+) -> Scripted {
+    let (_, why) = ask_all_stepping(rt, &mut fmu, None, case, from);
+    close(rt, fmu, why, case)
 }
 
-fn read_output(rt: &impl Abort, fmu: &mut Fmu<Scripted, Stepping>) -> Result<Reply, Why> {
-    assert_permitted(
-        rt,
-        &fmu.peer,
-        &Call::Get {
-            kind: PortType::Int32,
-            reference: 2,
-        },
-    );
-    fmu.get(PortType::Int32, 2)
-}
-
-fn make_step(fmu: &mut Fmu<Scripted, Stepping>) -> Option<Result<Reply, Why>> {
-    let call = Call::DoStep { at: 0, size: 10 };
-    if is_permitted(&fmu.peer, &call) {
-        Some(fmu.do_step(0, 10))
-    } else {
-        None
-    }
-}
-
-fn assert_talk(rt: &impl Abort, peer: &Scripted, talk: &[Exchange]) {
+fn assert_talk(rt: &impl Abort, peer: &Scripted, case: &Case) {
     match &peer.book.talk {
-        Some(room) => assert_eq!(rt; room.exchanges.as_slice(), talk),
+        Some(room) => assert_eq!(rt; room.exchanges.as_slice(), case.talk),
         None => panic!(rt; "no talk is kept"),
     }
+    assert_eq!(rt; peer.book.faults, case.faults);
 }
 
 #[test]
 fn a_talk_has_each_exchange(rt: HostRuntime) -> Result<(), Fail> {
     for case in &CASES {
-        let peer = make_peer(&rt, rt.alloc(), case.script, case.room)?;
-        let mut fmu = to_step_mode(&rt, peer);
-        assert_eq!(rt; read_output(&rt, &mut fmu), case.read);
-        assert_eq!(rt; make_step(&mut fmu), case.step);
-        let peer = fmu.close(case.silent);
-        assert_talk(&rt, &peer, case.talk);
-        assert_eq!(rt; peer.book.faults, case.faults);
+        let book = make_book(&rt, rt.alloc(), 20)?;
+        let peer = Scripted {
+            book,
+            script: case.talk,
+            given: 0,
+        };
+        let peer = run(&rt, peer, case);
+        assert_talk(&rt, &peer, case);
     }
     Ok(())
 }
 
-const NOT_STARTED: &[Exchange] = &[refused!(START, Kind::Instantiate, BadStatus::Error)];
-
-fn assert_not_started(rt: &impl Abort, ended: Ended<Scripted>) {
-    assert_eq!(rt; ended.phase().state, State::Gone);
-    let Ended { peer, why } = ended;
-    assert_talk(rt, &peer, NOT_STARTED);
-    let expected = Why::Refused {
-        call: START,
-        status: BadStatus::Error,
-    };
-    assert_eq!(rt; why, expected);
-}
-
 #[test]
-fn a_refused_start_leaves_no_instance(rt: HostRuntime) -> Result<(), Fail> {
-    let peer = make_peer(&rt, rt.alloc(), NOT_STARTED, 8)?;
-    match Fmu::new(peer).instantiate() {
-        Ok(fmu) => {
-            let _peer = fmu.close(true);
-            panic!(rt; "an instance was made");
-        }
-        Err(ended) => assert_not_started(&rt, ended),
-    }
+fn a_full_room_leaves_nothing_to_send(rt: HostRuntime) -> Result<(), Fail> {
+    let book = make_book(&rt, rt.alloc(), 5)?;
+    let peer = Scripted {
+        book,
+        script: ALL_GOOD,
+        given: 0,
+    };
+    let peer = run(&rt, peer, &FULL);
+    assert_talk(&rt, &peer, &FULL);
     Ok(())
 }

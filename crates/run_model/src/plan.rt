@@ -7,9 +7,10 @@ pub struct Plan {
     pub stop: u64,
 }
 
-/// How a run ends: at the stop, or where an FMU asked for the end.
+/// How a run ends: at the stop, where an FMU asked for the end, or by the first answer that isn't good.
 #[derive(Clone, Copy, Debug, PartialEq, Eq)]
 pub enum EndKind {
     Stop,
     Asked,
+    Fault,
 }

@@ -1,23 +1,59 @@
 -- The peer at the end of its run, from its start on.
-use Rattle.std.proofs.Common.{◌≡◌, ℕ, List, [], Option, Some, None, IfSome, rules, sym, ◌∙◌, subst}
+use Rattle.std.proofs.Common.{◌≡◌, ℕ, List, [], ◌∷◌, ◌++◌, Option, Some, None, IfSome, refl, sym, ap, ◌∙◌, subst}
+use Rattle.std.specs.Prelude.{All, nat_eq}
+use Rattle.std.specs.List.{IsDistinct}
+use Rattle.std.proofs.lemmas.List.Elements.{All-head, All-tail}
 use Rattle.sim_base.specs.Causes.{Rose}
 use Rattle.value_types.specs.declared.shape.Shape.{Shape}
+use Rattle.fmi_calls.specs.declared.call.Call.{Call}
+use Rattle.fmi_calls.specs.declared.call.Call.TheVariants as C
 use Rattle.fmu_peer.specs.declared.peer.Exchange.{Exchange}
-use Rattle.fmu_peer.specs.Talk as T
-use Rattle.fmu_peer.specs.View.{View}
-use Rattle.step_master.specs.Whole.{EndsPeer}
+use Rattle.fmu_peer.specs.Lean.{StepsFall}
+use Rattle.fmu_peer.specs.View.{View, Fixed}
+use Rattle.step_master.specs.Follow.{IsRunCall, talk_with}
+use Rattle.step_master.specs.Whole.{EndsClosed}
 use Rattle.step_master.specs.declared.run_end.RunEnd.{RunEnd}
-use Rattle.step_master.specs.declared.run_end.RunEnd.TheVariants.{Stop, Asked, Bad, WriteFault}
-use Rattle.ssprun.specs.Facts.{TellsEnd}
+use Rattle.ssprun.specs.Facts.{TellsTalk, TellsEnd}
 
--- a talk of no exchanges is good
-pub good_of_none : (shape : Shape) (talk : Option (List Exchange)) → IfSome talk (λ es. es ≡ []) → IfSome talk (T.AllGood shape)
-good_of_none shape None is = is
-good_of_none shape (Some es) is = subst (λ (xs : List Exchange). T.AllGood shape xs) (sym is) (search rules)
+-- no state is saved, so that no sizes have to fall
+steps_fall : (cs : List Call) → All IsRunCall cs → StepsFall cs
+steps_fall [] h = tt
+steps_fall (C.Instantiate event_mode early_return ∷ cs) h = steps_fall cs (All-tail IsRunCall (C.Instantiate event_mode early_return) cs h)
+steps_fall (C.EnterInitialization start stop ∷ cs) h = steps_fall cs (All-tail IsRunCall (C.EnterInitialization start stop) cs h)
+steps_fall (C.ExitInitialization ∷ cs) h = steps_fall cs (All-tail IsRunCall C.ExitInitialization cs h)
+steps_fall (C.DoStep at size ∷ cs) h = steps_fall cs (All-tail IsRunCall (C.DoStep at size) cs h)
+steps_fall (C.Get kind reference ∷ cs) h = steps_fall cs (All-tail IsRunCall (C.Get kind reference) cs h)
+steps_fall (C.Set kind reference value ∷ cs) h = steps_fall cs (All-tail IsRunCall (C.Set kind reference value) cs h)
+steps_fall (C.Save ∷ cs) h = absurd (All-head IsRunCall C.Save cs h)
+steps_fall (C.Restore ∷ cs) h = steps_fall cs (All-tail IsRunCall C.Restore cs h)
+steps_fall (C.Free ∷ cs) h = steps_fall cs (All-tail IsRunCall C.Free cs h)
+steps_fall (C.Terminate ∷ cs) h = steps_fall cs (All-tail IsRunCall C.Terminate cs h)
+steps_fall (C.FreeInstance ∷ cs) h = steps_fall cs (All-tail IsRunCall C.FreeInstance cs h)
 
-pub tells_end : (end : RunEnd) (v0 v : View) → IfSome v0.talk (λ es. es ≡ []) → v0.faults ≡ 0 → EndsPeer v0 end v → TellsEnd end v
-tells_end Stop v0 v none quiet e = (e.front (good_of_none v0.fixed.shape v0.talk none), e.closed)
-tells_end (Asked point) v0 v none quiet e = (e.front (good_of_none v0.fixed.shape v0.talk none), e.closed)
-tells_end (Bad component why) v0 v none quiet e =
-    (e.bad (good_of_none v0.fixed.shape v0.talk none), e.run_call, λ l. subst (λ (n : ℕ). Rose n v.faults) quiet (e.rose l))
-tells_end WriteFault v0 v none quiet e = (e.good (good_of_none v0.fixed.shape v0.talk none), e.quiet ∙ quiet, e.state)
+-- what was added to no talk is the talk
+whole_talk : (shape : Shape) (end : RunEnd) (o p : Option (List Exchange)) (es : List Exchange) → IfSome o (λ xs. xs ≡ []) → p ≡ talk_with o es → TellsTalk shape end es → IfSome p (TellsTalk shape end)
+whole_talk shape end None p es none is h = subst (λ (x : Option (List Exchange)). IfSome x (TellsTalk shape end)) (sym is) tt
+whole_talk shape end (Some xs) p es none is h =
+    subst (λ (x : Option (List Exchange)). IfSome x (TellsTalk shape end)) (sym (is ∙ ap (λ (ys : List Exchange). Some (ys ++ es)) none)) h
+
+pub tells_end : (end : RunEnd) (v0 v : View) → IfSome v0.talk (λ es. es ≡ []) → v0.faults ≡ 0 → EndsClosed v0 end v → TellsEnd end v
+tells_end end v0 v none quiet e = record {
+  talk = subst (λ (f : Fixed). IfSome v.talk (TellsTalk f.shape end)) (sym e.ends.had.fixed)
+      (whole_talk v0.fixed.shape end v0.talk v.talk (e.ends.run ++ e.ends.closing) none e.ends.had.talk (record {
+        run = e.ends.run;
+        closing = e.ends.closing;
+        is = refl;
+        end_is = e.ends.end_is;
+        run_calls = e.ends.needed.run;
+        lean = (e.ends.needed.lean, steps_fall _ e.ends.needed.run);
+        closing_calls = e.ends.calls;
+        silent = e.ends.silent;
+        closed = e.closed;
+      }));
+  rose = λ l. subst (λ (n : ℕ). Rose n v.faults) quiet (e.ends.rose l);
+}
+
+-- one number is distinct
+pub once_one : (n : ℕ) → IsDistinct nat_eq (n ∷ [])
+unfolding IsDistinct
+once_one n = (tt, tt)

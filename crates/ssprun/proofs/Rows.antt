@@ -1,8 +1,8 @@
 -- The rows of statuses, from what holds of each outcome.
-use Rattle.std.proofs.Common.{◌≡◌, ◌⊎◌, inl, inr, ℕ, ℤ, ◌<◌, ◌≤◌, ◌^◌, true, false, nat_eq, List, [], ◌∷◌, ◌++◌, length, Option, Some, None, IfSome, refl, sym, ap, ◌∙◌, subst, arith, codes}
-use Rattle.std.specs.Prelude.{IsSomeAnd, MatchResult, Result, Ok}
-use Rattle.std.proofs.lemmas.List.{append-nil, length-append}
-use Rattle.std.proofs.Math.Seq.{get_or-append_seam}
+use Rattle.std.proofs.Common.{◌≡◌, ◌⊎◌, inl, inr, ℕ, ℤ, ◌+◌, ◌<◌, ◌≤◌, ◌^◌, true, false, nat_eq, List, [], ◌∷◌, ◌++◌, length, Option, Some, None, IfSome, refl, sym, ap, ◌∙◌, subst, arith, codes}
+use Rattle.std.specs.Prelude.{All, IsSomeAnd, MatchResult, Result, Ok, Err, option_map}
+use Rattle.std.proofs.lemmas.List.{append-nil, map-append}
+use Rattle.std.proofs.lemmas.List.Elements.{All-head, All-tail}
 use Rattle.std.proofs.lemmas.Bool.Decides.{nat_tests}
 use Rattle.std.proofs.lemmas.Grind.{common_steps}
 use Rattle.sim_base.specs.Causes.{Rose}
@@ -10,6 +10,8 @@ use Rattle.sim_base.specs.Told.{added}
 use Rattle.fmu_peer.specs.declared.ended.Why.TheVariants.{Refused, Misreply, Link}
 use Rattle.value_types.specs.declared.shape.Shape.{Shape}
 use Rattle.fmi_calls.specs.declared.call.Call.{Call}
+use Rattle.fmi_calls.specs.declared.call.Call.TheVariants as C
+use Rattle.fmi_calls.specs.Next.{bad_status_of}
 use Rattle.fmi_calls.specs.declared.call.Reply.{Reply}
 use Rattle.fmi_calls.specs.declared.call.BadStatus.{BadStatus}
 use Rattle.fmi_calls.specs.declared.call.Grade.{Grade}
@@ -20,7 +22,8 @@ use Rattle.fmu_peer.specs.declared.peer.PeerFault.{PeerFault}
 use Rattle.fmu_peer.specs.declared.ended.Why.{Why}
 use Rattle.fmu_peer.specs.Answer.{IsWhy, IsFirstBad}
 use Rattle.fmu_peer.specs.Talk as T
-use Rattle.fmu_peer.specs.View.{AllGood}
+use Rattle.fmu_peer.specs.Machine.{Machine}
+use Rattle.fmu_peer.specs.View.{View}
 use Rattle.run_model.specs.declared.plan.EndKind.TheVariants as K
 use Rattle.step_master.specs.declared.run_end.RunEnd.{RunEnd}
 use Rattle.step_master.specs.declared.run_end.RunEnd.TheVariants.{Stop, Asked, Bad, WriteFault}
@@ -28,11 +31,15 @@ use Rattle.counter_form.specs.Form.{IsForm}
 use Rattle.command_line.specs.Line.{Line, IsLine}
 use Rattle.ssprun.specs.declared.outcome.Outcome.{Outcome}
 use Rattle.ssprun.specs.declared.outcome.Outcome.TheVariants.{Words, ReadFailed, Missing, TooBig, OtherForm, StartFailed, Unknown, Memory, Ran}
-use Rattle.ssprun.specs.System.{description_path}
-use Rattle.ssprun.specs.Line.{Puts, outcome_line, outcome_status, missing_line, big_line, refused_line}
-use Rattle.ssprun.specs.Facts.{Calm, HasRun, LineFacts, ReadsNoLine, Facts, file_of, AtPath, IsTooBig, IsOther, IsCounter}
-use Rattle.step_master.specs.End.{is_finished}
-use Rattle.ssprun.specs.Rows.{Command, Says, Answers, AnswersOr11, Finds, WordsRow, ReadFails, LacksFile, FindsTooMuch, FileRow, FormRow, EndsBy, StartFails, IsUnknown, LosesLink, LinkRow, RefusalRow, MisreplyRow, WriteRow, MemoryRow, EndRow, Traces, TraceRow, PeerRow}
+use Rattle.ssprun.specs.System.{description_path, counter_system}
+use Rattle.ssprun.specs.Line.{Puts, outcome_line, outcome_status, missing_line, big_line, refused_line, why_line, why_status}
+use Rattle.ssprun.specs.Facts.{Calm, HasRun, TellsTalk, TellsEnd, LineFacts, ReadsNoLine, Facts, file_of, AtPath, IsTooBig, IsOther, IsCounter}
+use Rattle.step_master.specs.End.{is_finished, TellsWrite}
+use Rattle.step_master.specs.Follow.{IsRunCall, calls_in}
+use Rattle.step_master.specs.Progress.{run_of}
+use Rattle.step_master.specs.Whole.{IsClosingCall, CompletesWhole}
+use Rattle.step_master.specs.Whole as Ended
+use Rattle.ssprun.specs.Rows.{Command, Says, Answers, AnswersOr11, Finds, WordsRow, ReadFails, LacksFile, FindsTooMuch, FileRow, FormRow, EndsBy, StartFails, IsUnknown, LosesLink, LinkRow, RefusalRow, MisreplyRow, WriteRow, MemoryRow, EndRow, WritesTrace, IsStatus, StatusRow, Traces, TraceRow, PeerRow, TellsPeer, IsFirstBadOf}
 
 -- two numbers that differ aren't equal
 pub different : {A : Type 0} (a b : ℕ) → nat_eq a b ≡ false → a ≡ b → A
@@ -421,18 +428,23 @@ run_trace (Bad c why) d line start h p quiet = (
   h.v,
   h.peer,
   λ m told well zero.
-      absurd (not_rose h.v.faults zero (h.tells.2 (h.trace m told well))),
+      absurd (not_rose h.v.faults zero (h.trace m told well)),
 )
 run_trace WriteFault d line start h p quiet = (
   h.v,
   h.peer,
   λ m told well zero.
-      let t = h.trace m told well in (t.0, t.1, t.2, t.3, inr (status_10 p, h.outs, t.4)),
+      written h.v.faults zero (h.trace m told well),
 )
   where
     status_10 : HasPut (Ran WriteFault) d → d.status ≡ 10
     status_10 (inl p) = p.0
     status_10 (inr p) = p.0
+
+    written : {m : Machine} (n : ℕ) → n ≡ 0 → CompletesWhole (run_of (counter_system line.plan.resolution start) line.plan m) WriteFault d.old.out d.new.out 0 n →
+        WritesTrace d (run_of (counter_system line.plan.resolution start) line.plan m)
+    written n zero (inl rose) = absurd (not_rose n zero rose)
+    written n zero (inr t) = (t.0, t.1, t.2, t.3, inr (status_10 p, h.outs, t.4))
 
 ran_from : (end : RunEnd) (d : Command) (line : Line) (start : ℤ) → OfLine (Ran end) d line → Finds d line (IsCounter start) → HasPut (Ran end) d →
     (Rose d.errs d.errs_after → ⊥) → Traces d line start
@@ -475,23 +487,186 @@ why_bad shape (Misreply call reply) e w good = misreply_good (grade_of shape cal
 why_bad shape (Link call fault) e w good =
     subst (λ (x : Result Reply PeerFault). MatchResult x (λ reply. grade_of shape e.call reply ≡ G.Good) (λ fault. ⊥)) w.1 good
 
--- a good talk has no first answer that isn't good
-bad_closed : (shape : Shape) (talk : Option (List Exchange)) (why : Why) → IfSome talk (T.AllGood shape) → IfSome talk (IsFirstBad shape why) → IfSome talk (T.Closed shape)
-bad_closed shape None why good bad = tt
-bad_closed shape (Some es) why good bad =
-    let all : T.AllGood shape (bad.front ++ bad.last ∷ []) = subst (T.AllGood shape) bad.is good in
-    let within : length bad.front < length (bad.front ++ bad.last ∷ []) = simp length-append (omega arith) in
-    absurd (why_bad shape why bad.last bad.bad (subst (T.IsGood shape) (get_or-append_seam bad.front bad.last [] bad.last) (all (length bad.front) bad.last within)))
+-- ---- the first answer that isn't good decides
 
-closed_case : (end : RunEnd) (line : Line) (start : ℤ) (d : Command) (h : HasRun line start end d.old d.new) → AllGood h.v → (Rose d.old.outs d.new.outs → ⊥) →
-    IfSome h.v.talk (T.Closed h.v.fixed.shape)
-closed_case Stop line start d h good quiet = h.tells.1 good
-closed_case (Asked q) line start d h good quiet = h.tells.1 good
-closed_case (Bad c why) line start d h good quiet = bad_closed h.v.fixed.shape h.v.talk why good h.tells.0
-closed_case WriteFault line start d h good quiet = absurd (quiet h.outs)
+-- an element of a whole stands in its first part or in its second
+tails : {X : Type 0} (y z : X) (xs ys : List X) → y ∷ xs ≡ z ∷ ys → xs ≡ ys
+tails y z xs ys e = cc
+
+heads : {X : Type 0} (y z : X) (xs ys : List X) → y ∷ xs ≡ z ∷ ys → y ≡ z
+heads y z xs ys e = cc
+
+abbrev Parted : {X : Type 0} → List X → List X → List X → List X → X → Type 0
+Parted {X = X} a b c d x = ((rest : List X) × (a ≡ c ++ x ∷ rest)) ⊎ ((more : List X) × (c ≡ a ++ more) × (b ≡ more ++ x ∷ d))
+
+parted_under : {X : Type 0} (y z : X) (a b c d : List X) (x : X) → y ≡ z → Parted a b c d x → Parted (y ∷ a) b (z ∷ c) d x
+parted_under y z a b c d x e (inl h) = inl (h.0, ap (λ xs. y ∷ xs) h.1 ∙ ap (λ w. w ∷ (c ++ x ∷ h.0)) e)
+parted_under y z a b c d x e (inr h) = inr (h.0, ap (λ xs. z ∷ xs) h.1 ∙ ap (λ w. w ∷ (a ++ h.0)) (sym e), h.2)
+
+parted : {X : Type 0} (a b c d : List X) (x : X) → a ++ b ≡ c ++ x ∷ d → Parted a b c d x
+parted [] b c d x e = inr (c, refl, e)
+parted (y ∷ a) b [] d x e = inl (a, ap (λ w. w ∷ a) (heads y x (a ++ b) d e))
+parted (y ∷ a) b (z ∷ c) d x e = parted_under y z a b c d x (heads y z (a ++ b) (c ++ x ∷ d) e) (parted a b c d x (tails y z (a ++ b) (c ++ x ∷ d) e))
+
+-- what holds of each holds of one in the middle
+at_middle : {X : Type 0} (P : X → Type 0) (a : List X) (x : X) (b : List X) → All P (a ++ x ∷ b) → P x
+at_middle P [] x b h = All-head P x b h
+at_middle P (y ∷ a) x b h = at_middle P a x b (All-tail P y (a ++ x ∷ b) h)
+
+closing_is_no_run : (c : Call) → IsClosingCall c → IsRunCall c → ⊥
+closing_is_no_run (C.Instantiate event_mode early_return) h k = h
+closing_is_no_run (C.EnterInitialization start stop) h k = h
+closing_is_no_run C.ExitInitialization h k = h
+closing_is_no_run (C.DoStep at size) h k = h
+closing_is_no_run (C.Get kind reference) h k = h
+closing_is_no_run (C.Set kind reference value) h k = h
+closing_is_no_run C.Save h k = h
+closing_is_no_run C.Restore h k = h
+closing_is_no_run C.Free h k = h
+closing_is_no_run C.Terminate h k = k
+closing_is_no_run C.FreeInstance h k = k
+
+-- a run's exchange that isn't good stands in the run
+in_run : (shape : Shape) (end : RunEnd) (talk : List Exchange) (why : Why) (t : TellsTalk shape end talk) (f : IsFirstBadOf shape why talk) → (rest : List Exchange) × (t.run ≡ f.front ++ f.last ∷ rest)
+in_run shape end talk why t f = choose (parted t.run t.closing f.front f.rest f.last (sym t.is ∙ f.is))
+  where
+    choose : ((rest : List Exchange) × (t.run ≡ f.front ++ f.last ∷ rest)) ⊎ ((more : List Exchange) × (f.front ≡ t.run ++ more) × (t.closing ≡ more ++ f.last ∷ f.rest)) →
+        (rest : List Exchange) × (t.run ≡ f.front ++ f.last ∷ rest)
+    choose (inl h) = h
+    choose (inr h) =
+        let there : All IsClosingCall (calls_in (h.0 ++ f.last ∷ f.rest)) = subst (λ (es : List Exchange). All IsClosingCall (calls_in es)) h.2 t.closing_calls in
+        let calls : All IsClosingCall (calls_in h.0 ++ f.last.call ∷ calls_in f.rest) = subst (All IsClosingCall) (map-append (λ (e : Exchange). e.call) h.0 (f.last ∷ f.rest)) there in
+        absurd (closing_is_no_run f.last.call (at_middle IsClosingCall (calls_in h.0) f.last.call (calls_in f.rest) calls) f.run_call)
+
+-- a run of good answers has none that isn't
+no_bad : {A : Type 0} (shape : Shape) (run : List Exchange) (why : Why) (front rest : List Exchange) (last : Exchange) → T.AllGood shape run → run ≡ front ++ last ∷ rest → IsWhy shape why last → A
+no_bad shape run why front rest last good is bad =
+    absurd (why_bad shape why last bad (at_middle (T.IsGood shape) front last rest (subst (T.AllGood shape) is good)))
+
+-- an exchange is one why alone
+abbrev SameResult : Result Reply PeerFault → Result Reply PeerFault → Type 0
+SameResult a b = a ≡ b
+
+ok_same : (x y : Reply) → SameResult (Ok x) (Ok y) → x ≡ y
+ok_same x y e = cc
+
+err_same : (x y : PeerFault) → SameResult (Err x) (Err y) → x ≡ y
+err_same x y e = cc
+
+ok_err : (x : Reply) (f : PeerFault) → SameResult (Ok x) (Err f) → ⊥
+ok_err x f e = cc
+
+grades_apart : (g : Grade) → g ≡ G.Refused → g ≡ G.Misreply → ⊥
+grades_apart g p q = grind (arith, common_steps)
+
+same_refusal : (c d : Call) (s t : BadStatus) (x y : Reply) → c ≡ d → x ≡ y → s ≡ bad_status_of x → t ≡ bad_status_of y → Refused c s ≡ Refused d t
+same_refusal c d s t x y call reply p q =
+    ap (λ (k : Call). Refused k s) call ∙ ap (λ (b : BadStatus). Refused d b) (p ∙ ap bad_status_of reply ∙ sym q)
+
+one_why : (shape : Shape) (w u : Why) (e : Exchange) → IsWhy shape w e → IsWhy shape u e → w ≡ u
+one_why shape (Refused c s) (Refused d t) e a b = same_refusal c d s t a.0 b.0 (sym a.1 ∙ b.1) (ok_same a.0 b.0 (sym a.2 ∙ b.2)) a.3 b.3
+one_why shape (Refused c s) (Misreply d r) e a b =
+    let call : c ≡ d = sym a.1 ∙ b.0 in
+    let reply : a.0 ≡ r = ok_same a.0 r (sym a.2 ∙ b.1) in
+    absurd (grades_apart (grade_of shape d r) (subst (λ (x : Reply). grade_of shape d x ≡ G.Refused) reply (subst (λ (k : Call). grade_of shape k a.0 ≡ G.Refused) call a.4)) b.2)
+one_why shape (Refused c s) (Link d f) e a b = absurd (ok_err a.0 f (sym a.2 ∙ b.1))
+one_why shape (Misreply c r) (Refused d t) e a b =
+    let call : d ≡ c = sym b.1 ∙ a.0 in
+    let reply : b.0 ≡ r = ok_same b.0 r (sym b.2 ∙ a.1) in
+    absurd (grades_apart (grade_of shape c r) (subst (λ (x : Reply). grade_of shape c x ≡ G.Refused) reply (subst (λ (k : Call). grade_of shape k b.0 ≡ G.Refused) call b.4)) a.2)
+one_why shape (Misreply c r) (Misreply d s) e a b =
+    ap (λ (k : Call). Misreply k r) (sym a.0 ∙ b.0) ∙ ap (λ (x : Reply). Misreply d x) (ok_same r s (sym a.1 ∙ b.1))
+one_why shape (Misreply c r) (Link d f) e a b = absurd (ok_err r f (sym a.1 ∙ b.1))
+one_why shape (Link c f) (Refused d t) e a b = absurd (ok_err b.0 f (sym b.2 ∙ a.1))
+one_why shape (Link c f) (Misreply d r) e a b = absurd (ok_err r f (sym b.1 ∙ a.1))
+one_why shape (Link c f) (Link d h) e a b =
+    ap (λ (k : Call). Link k f) (sym a.0 ∙ b.0) ∙ ap (λ (x : PeerFault). Link d x) (err_same f h (sym a.1 ∙ b.1))
+
+-- two first answers that aren't good are one
+one_bad : (shape : Shape) (run front rest : List Exchange) (last : Exchange) (w u : Why) → IsFirstBad shape w run → run ≡ front ++ last ∷ rest → T.AllGood shape front → IsWhy shape u last → w ≡ u
+one_bad shape run front rest last w u b is good bad = choose (parted b.front (b.last ∷ []) front rest last (sym b.is ∙ is))
+  where
+    last_of : (more : List Exchange) (b : Exchange) → b ∷ [] ≡ more ++ last ∷ rest → b ≡ last
+    last_of [] b e = cc
+    last_of (x ∷ []) b e = absurd (cc)
+    last_of (x ∷ (y ∷ more)) b e = absurd (cc)
+
+    choose : ((after : List Exchange) × (b.front ≡ front ++ last ∷ after)) ⊎ ((more : List Exchange) × (front ≡ b.front ++ more) × (b.last ∷ [] ≡ more ++ last ∷ rest)) → w ≡ u
+    choose (inl h) = no_bad shape b.front u front h.0 last b.good h.1 bad
+    choose (inr h) = one_why shape w u last (subst (IsWhy shape w) (last_of h.0 b.last h.2) b.bad) bad
+
+-- the view that is told is the peer's
+last_same : (xs ys : List View) (v w : View) → xs ++ v ∷ [] ≡ ys ++ w ∷ [] → v ≡ w
+last_same [] [] v w e = cc
+last_same [] (y ∷ []) v w e = absurd (cc)
+last_same [] (y ∷ (z ∷ ys)) v w e = absurd (cc)
+last_same (x ∷ []) [] v w e = absurd (cc)
+last_same (x ∷ (z ∷ xs)) [] v w e = absurd (cc)
+last_same (x ∷ xs) (y ∷ ys) v w e = last_same xs ys v w (tails x y (xs ++ v ∷ []) (ys ++ w ∷ []) e)
+
+told_view : (old new : Option (List View)) (before : List View) (v w : View) → new ≡ option_map (λ views. views ++ w ∷ []) old → new ≡ Some (before ++ v ∷ []) → w ≡ v
+told_view None new before v w a b = absurd (none_some (before ++ v ∷ []) (sym a ∙ b))
+  where
+    none_some : (x : List View) → None ≡ Some x → ⊥
+    none_some x e = cc
+told_view (Some views) new before v w a b = last_same views before w v (some_same (views ++ w ∷ []) (before ++ v ∷ []) (sym a ∙ b))
+  where
+    some_same : (x y : List View) → Some x ≡ Some y → x ≡ y
+    some_same x y e = cc
+
+told_talk : (shape : Shape) (end : RunEnd) (o : Option (List Exchange)) (talk : List Exchange) → o ≡ Some talk → IfSome o (TellsTalk shape end) → TellsTalk shape end talk
+told_talk shape end o talk e h = subst (λ (x : Option (List Exchange)). IfSome x (TellsTalk shape end)) e h
+
+answered_by : (why : Why) (d : Command) → PutsLine (why_line why) (why_status why) d → Answers d (why_status why) (why_line why)
+answered_by why d p = answers (why_line why) (why_status why) d p
+
+decided : (end : RunEnd) (d : Command) (line : Line) (start : ℤ) → HasRun line start end d.old d.new → HasPut (Ran end) d → (v : View) (talk : List Exchange) (why : Why) →
+    TellsPeer d v talk → IsFirstBadOf v.fixed.shape why talk → Answers d (why_status why) (why_line why)
+decided end d line start h p v talk why told f =
+    let same : h.v ≡ v = told_view d.old.retired d.new.retired told.before v h.v h.peer.retired told.retired in
+    let tells : TellsEnd end v = subst (TellsEnd end) same h.tells in
+    let t : TellsTalk v.fixed.shape end talk = told_talk v.fixed.shape end v.talk talk told.talk_is tells.talk in
+    let place = in_run v.fixed.shape end talk why t f in
+    by_end end h.outs p t.end_is place.0 place.1
+  where
+    by_end : (end : RunEnd) → TellsWrite end d.old.outs d.new.outs → HasPut (Ran end) d → {run : List Exchange} → Ended.EndsBy v.fixed.shape end run → (rest : List Exchange) → run ≡ f.front ++ f.last ∷ rest → Answers d (why_status why) (why_line why)
+    by_end Stop outs p good rest is = no_bad v.fixed.shape _ why f.front rest f.last good is f.bad
+    by_end (Asked point) outs p good rest is = no_bad v.fixed.shape _ why f.front rest f.last good is f.bad
+    by_end (Bad component w) outs p bad rest is =
+        let one : w ≡ why = one_bad v.fixed.shape _ f.front rest f.last w why bad.1 is f.good f.bad in
+        answered_by why d (subst (λ (x : Why). PutsLine (why_line x) (why_status x) d) one p)
+    by_end WriteFault outs p bad rest is = absurd (told.quiet outs)
+
+-- no peer was started, or the run of one
+not_started : {A : Type 0} (n : ℕ) (m : ℕ) → m ≡ n → m ≡ n + 1 → A
+not_started n m a b = absurd (apart n m a b)
+  where
+    apart : (n m : ℕ) → m ≡ n → m ≡ n + 1 → ⊥
+    apart n m a b = grind (arith, common_steps)
+
+decides : (o : Outcome) (d : Command) → HasFacts o d → HasPut o d → (v : View) (talk : List Exchange) (why : Why) → TellsPeer d v talk → IsFirstBadOf v.fixed.shape why talk →
+    Answers d (why_status why) (why_line why)
+decides Words d (inl r) p v talk why told f = absurd r.facts
+decides Words d (inr w) p v talk why told f = not_started d.old.started d.new.started w.calm.0.started told.started
+decides (ReadFailed t) d (inl r) p v talk why told f = not_started d.old.started d.new.started r.facts.0.0.started told.started
+decides (ReadFailed t) d (inr w) p v talk why told f = absurd w.why
+decides (Missing t) d (inl r) p v talk why told f = not_started d.old.started d.new.started r.facts.0.0.started told.started
+decides (Missing t) d (inr w) p v talk why told f = absurd w.why
+decides (TooBig t) d (inl r) p v talk why told f = not_started d.old.started d.new.started r.facts.0.0.started told.started
+decides (TooBig t) d (inr w) p v talk why told f = absurd w.why
+decides (OtherForm t) d (inl r) p v talk why told f = not_started d.old.started d.new.started r.facts.0.0.started told.started
+decides (OtherForm t) d (inr w) p v talk why told f = absurd w.why
+decides StartFailed d (inl r) p v talk why told f = not_started d.old.started d.new.started r.facts.2.0.started told.started
+decides StartFailed d (inr w) p v talk why told f = absurd w.why
+decides Unknown d (inl r) p v talk why told f = not_started d.old.started d.new.started r.facts.2.0.0.started told.started
+decides Unknown d (inr w) p v talk why told f = absurd w.why
+decides Memory d (inl r) p v talk why told f = not_started d.old.started d.new.started r.facts.0.0.started told.started
+decides Memory d (inr w) p v talk why told f = not_started d.old.started d.new.started w.calm.0.started told.started
+decides (Ran end) d (inl r) p v talk why told f = decided end d r.line r.facts.0 r.facts.2 p v talk why told f
+decides (Ran end) d (inr w) p v talk why told f = absurd w.why
 
 used : (end : RunEnd) (d : Command) (line : Line) → IsLine d.words line → OfLine (Ran end) d line → PeerRow d
-used end d line is g = inr (line, is, g.0, g.2.v, g.2.peer, closed_case end line g.0 d g.2)
+used end d line is g = inr (line, is, g.0, end, g.2)
 
 peer_case : (o : Outcome) (d : Command) → HasFacts o d → PeerRow d
 peer_case Words d (inl r) = absurd r.facts
@@ -536,22 +711,71 @@ pub link_row : (o : Outcome) (d : Command) → HasFacts o d → HasPut o d → L
 link_row o d f p = record {
   when = λ e. let s = said (outcome_line o) (outcome_status o) 5 d p e refl in link_case o d f s.0 s.1;
   unknown = λ line start is finds un calm. unknown_exact o d line start (of_line o d f line is) finds un calm p;
+  lost = λ v talk why k told first. decides o d f p v talk why told first;
 }
 
 pub refusal_row : (o : Outcome) (d : Command) → HasFacts o d → HasPut o d → RefusalRow d
 refusal_row o d f p = record {
   when = λ e. let s = said (outcome_line o) (outcome_status o) 6 d p e refl in refusal_case o d f s.0 s.1;
+  exact = λ v talk why k told first. decides o d f p v talk why told first;
 }
 
 pub misreply_row : (o : Outcome) (d : Command) → HasFacts o d → HasPut o d → MisreplyRow d
 misreply_row o d f p = record {
   when = λ e. let s = said (outcome_line o) (outcome_status o) 7 d p e refl in misreply_case o d f s.0 s.1;
+  exact = λ v talk why k told first. decides o d f p v talk why told first;
 }
+
+-- ---- any status
+
+known_case : (o : Outcome) → IsStatus (outcome_status o)
+known_case Words = inr (inl (omega arith, omega arith))
+known_case (ReadFailed t) = inr (inl (omega arith, omega arith))
+known_case (Missing t) = inr (inl (omega arith, omega arith))
+known_case (TooBig t) = inr (inl (omega arith, omega arith))
+known_case (OtherForm t) = inr (inl (omega arith, omega arith))
+known_case StartFailed = inr (inl (omega arith, omega arith))
+known_case Unknown = inr (inl (omega arith, omega arith))
+known_case Memory = inr (inr (inr refl))
+known_case (Ran Stop) = inl refl
+known_case (Ran (Asked p)) = inl refl
+known_case (Ran (Bad c (Refused call status))) = inr (inl (omega arith, omega arith))
+known_case (Ran (Bad c (Misreply call reply))) = inr (inl (omega arith, omega arith))
+known_case (Ran (Bad c (Link call fault))) = inr (inl (omega arith, omega arith))
+known_case (Ran WriteFault) = inr (inr (inl refl))
+
+any_status : (text : List ℕ) (w : ℕ) (d : Command) → IsStatus w → PutsLine text w d → StatusRow d
+any_status text w d k (inl p) = record { known = subst IsStatus (sym p.0) k; line = inr (text, (p.1, p.2)) }
+any_status text w d k (inr p) = record { known = inr (inr (inl p.0)); line = inl (p.2, (text, p.1)) }
+
+pub status_row : (o : Outcome) (d : Command) → HasFacts o d → HasPut o d → StatusRow d
+status_row o d f p = any_status (outcome_line o) (outcome_status o) d (known_case o) p
+
+write_says : (o : Outcome) (d : Command) → outcome_status o ≡ 10 → Says d (outcome_line o) → Says d (codes "write\n")
+write_says Words d e says = different 2 10 refl e
+write_says (ReadFailed t) d e says = different 3 10 refl e
+write_says (Missing t) d e says = different 3 10 refl e
+write_says (TooBig t) d e says = different 3 10 refl e
+write_says (OtherForm t) d e says = different 4 10 refl e
+write_says StartFailed d e says = different 5 10 refl e
+write_says Unknown d e says = different 5 10 refl e
+write_says Memory d e says = different 11 10 refl e
+write_says (Ran Stop) d e says = different 0 10 refl e
+write_says (Ran (Asked p)) d e says = different 0 10 refl e
+write_says (Ran (Bad c (Refused call status))) d e says = different 6 10 refl e
+write_says (Ran (Bad c (Misreply call reply))) d e says = different 7 10 refl e
+write_says (Ran (Bad c (Link call fault))) d e says = different 5 10 refl e
+write_says (Ran WriteFault) d e says = says
+
+write_line : (o : Outcome) (d : Command) → HasPut o d → d.status ≡ 10 → Says d (codes "write\n") ⊎ Rose d.errs d.errs_after
+write_line o d (inl p) is = inl (write_says o d (sym p.0 ∙ is) (p.1, p.2))
+write_line o d (inr p) is = inr p.2
 
 pub write_row : (o : Outcome) (d : Command) → HasFacts o d → HasPut o d → WriteRow d
 write_row o d f p = record {
   when = λ e. write_when o d f p e;
   higher = λ h. higher_case o d f p h;
+  says = λ e. write_line o d p e;
 }
 
 pub memory_row : (o : Outcome) (d : Command) → HasFacts o d → HasPut o d → MemoryRow d

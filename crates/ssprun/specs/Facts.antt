@@ -1,19 +1,19 @@
 -- What holds of each outcome of running one FMU.
-use Rattle.std.specs.Prelude.{true, ◌≡◌, ◌⊎◌, ℕ, ℤ, ◌+◌, ◌<◌, ◌≤◌, ◌^◌, Bool, false, List, [], ◌∷◌, ◌++◌, length, Option, Some, None, IfSome, option_map, codes}
+use Rattle.std.specs.Prelude.{true, ◌≡◌, ◌⊎◌, ℕ, ℤ, ◌+◌, ◌<◌, ◌≤◌, ◌^◌, Bool, false, All, List, [], ◌∷◌, ◌++◌, length, Option, Some, None, IfSome, option_map, codes}
 use Rattle.sim_base.specs.Causes.{Rose}
 use Rattle.sim_base.specs.Escape.{escaped}
-use Rattle.fmi_calls.specs.declared.phase.State.TheVariants as P
-use Rattle.fmu_peer.specs.Answer.{IsLink, IsFirstBad}
+use Rattle.value_types.specs.declared.shape.Shape.{Shape}
+use Rattle.fmu_peer.specs.declared.peer.Exchange.{Exchange}
+use Rattle.fmu_peer.specs.Lean.{IsLean}
 use Rattle.fmu_peer.specs.Machine.{Machine}
 use Rattle.fmu_peer.specs.Talk as T
-use Rattle.fmu_peer.specs.View.{View, AllGood, IsLegal}
+use Rattle.fmu_peer.specs.View.{View, IsLegal}
 use Rattle.run_model.specs.Behaved.{WellBehaved}
 use Rattle.step_master.specs.Progress.{run_of}
-use Rattle.step_master.specs.Follow.{IsRunCall, call_of}
-use Rattle.step_master.specs.End.{TellsWrite}
-use Rattle.step_master.specs.Whole.{HasGoodFront, WritesWhole, CompletesWhole}
+use Rattle.step_master.specs.Follow.{IsRunCall, calls_in}
+use Rattle.step_master.specs.End.{TellsWrite, current_point}
+use Rattle.step_master.specs.Whole.{EndsBy, IsClosingCall, IsLinkEnd, IsLoss, WritesWhole, CompletesWhole}
 use Rattle.step_master.specs.declared.run_end.RunEnd.{RunEnd}
-use Rattle.step_master.specs.declared.run_end.RunEnd.TheVariants.{Stop, Asked, Bad, WriteFault}
 use Rattle.counter_form.specs.Form.{IsForm}
 use Rattle.counter_form.specs.Counter.{counter_shape}
 use Rattle.command_line.specs.Line.{Line, IsLine}
@@ -64,12 +64,22 @@ pub record RunsPeer (line : Line) (start : ℤ) (old new : Stage) (v : View) : T
   pub origin : IfSome v.fixed.origin (λ o. o ≡ record { host = codes "builtin"; name = codes "fmu"; directory = line.directory })
   pub legal : IsLegal v
 
+-- a talk: the exchanges of the run, whose calls are all needed and which end as the run does, and then those of the closing, of which there are none behind a Fatal or where no answer came
+pub record TellsTalk (shape : Shape) (end : RunEnd) (talk : List Exchange) : Type 0 where
+  pub run : List Exchange
+  pub closing : List Exchange
+  pub is : talk ≡ run ++ closing
+  pub end_is : EndsBy shape end run
+  pub run_calls : All IsRunCall (calls_in run)
+  pub lean : IsLean (calls_in run)
+  pub closing_calls : All IsClosingCall (calls_in closing)
+  pub silent : IsLoss end → closing ≡ []
+  pub closed : T.Closed shape talk
+
 -- the peer's talk and count at the end of its run
-abbrev pub TellsEnd : RunEnd → View → Type 0
-TellsEnd Stop v = IfSome v.talk (HasGoodFront v.fixed.shape) × (AllGood v → IfSome v.talk (T.Closed v.fixed.shape))
-TellsEnd (Asked point) v = IfSome v.talk (HasGoodFront v.fixed.shape) × (AllGood v → IfSome v.talk (T.Closed v.fixed.shape))
-TellsEnd (Bad component why) v = IfSome v.talk (IsFirstBad v.fixed.shape why) × IsRunCall (call_of why) × (IsLink why → Rose 0 v.faults)
-TellsEnd WriteFault v = AllGood v × (v.faults ≡ 0) × ((v.phase.state ≡ P.Instantiated) ⊎ (v.phase.state ≡ P.Step))
+pub record TellsEnd (end : RunEnd) (v : View) : Type 0 where
+  pub talk : IfSome v.talk (TellsTalk v.fixed.shape end)
+  pub rose : IsLinkEnd end → Rose 0 v.faults
 
 -- a run from its start to its end
 pub record HasRun (line : Line) (start : ℤ) (end : RunEnd) (old new : Stage) : Type 0 where
@@ -78,9 +88,9 @@ pub record HasRun (line : Line) (start : ℤ) (end : RunEnd) (old new : Stage) :
   pub peer : RunsPeer line start old new v
   pub tells : TellsEnd end v
   pub outs : TellsWrite end old.outs new.outs
-  pub writes : WritesWhole (counter_system line.plan.resolution start) line.plan end old.out new.out
+  pub writes : WritesWhole (counter_system line.plan.resolution start) line.plan end (current_point line.plan v) old.out new.out
   pub trace : (m : Machine) → v.fixed.machine ≡ Some m → WellBehaved (run_of (counter_system line.plan.resolution start) line.plan m) →
-      CompletesWhole (run_of (counter_system line.plan.resolution start) line.plan m) end old.out new.out
+      CompletesWhole (run_of (counter_system line.plan.resolution start) line.plan m) end old.out new.out 0 v.faults
 
 -- what holds of an outcome once the description is read
 abbrev pub StartFacts : Outcome → Line → ℤ → Stage → Stage → Type 0

@@ -17,6 +17,10 @@ kind_number K.EnterInitialization = 2
 kind_number K.ExitInitialization = 3
 kind_number K.DoStep = 6
 kind_number K.Get = 8
+kind_number K.Set = 9
+kind_number K.Save = 14
+kind_number K.Restore = 15
+kind_number K.Free = 16
 kind_number K.Terminate = 17
 kind_number K.FreeInstance = 18
 
@@ -35,6 +39,10 @@ flags_of A.Instantiate = 0
 flags_of A.EnterInitialization = 0
 flags_of A.ExitInitialization = 0
 flags_of (A.Get word) = 0
+flags_of A.Set = 0
+flags_of A.Save = 0
+flags_of A.Restore = 0
+flags_of A.Free = 0
 flags_of A.Terminate = 0
 flags_of A.FreeInstance = 0
 
@@ -45,6 +53,10 @@ number_of (A.Get word) = word
 number_of A.Instantiate = 0
 number_of A.EnterInitialization = 0
 number_of A.ExitInitialization = 0
+number_of A.Set = 0
+number_of A.Save = 0
+number_of A.Restore = 0
+number_of A.Free = 0
 number_of A.Terminate = 0
 number_of A.FreeInstance = 0
 

@@ -1,8 +1,11 @@
 -- When each status comes, and what stands then.
-use Rattle.std.specs.Prelude.{◌≡◌, ◌⊎◌, ℕ, ℤ, ◌<◌, true, false, List, Option, Some, None, IfSome, IsSomeAnd, codes}
+use Rattle.std.specs.Prelude.{◌≡◌, ◌⊎◌, ℕ, ℤ, ◌+◌, ◌<◌, ◌≤◌, true, false, List, [], ◌∷◌, ◌++◌, Option, Some, None, IsSomeAnd, codes}
 use Rattle.sim_base.specs.Causes.{Rose}
 use Rattle.sim_base.specs.Told.{added, AddsPart}
+use Rattle.value_types.specs.declared.shape.Shape.{Shape}
 use Rattle.fmi_calls.specs.declared.call.Call.{Call}
+use Rattle.fmu_peer.specs.declared.peer.Exchange.{Exchange}
+use Rattle.step_master.specs.Follow.{IsRunCall}
 use Rattle.fmi_calls.specs.declared.call.Reply.{Reply}
 use Rattle.fmi_calls.specs.declared.call.BadStatus.{BadStatus}
 use Rattle.fmu_peer.specs.declared.peer.PeerFault.{PeerFault}
@@ -10,7 +13,8 @@ use Rattle.fmu_peer.specs.declared.ended.Why.{Why}
 use Rattle.fmu_peer.specs.declared.ended.Why.TheVariants.{Refused, Misreply, Link}
 use Rattle.fmu_peer.specs.Machine.{Machine}
 use Rattle.fmu_peer.specs.Talk as T
-use Rattle.fmu_peer.specs.View.{View, AllGood}
+use Rattle.fmu_peer.specs.Answer.{IsWhy}
+use Rattle.fmu_peer.specs.View.{View}
 use Rattle.run_model.specs.declared.plan.EndKind.{EndKind}
 use Rattle.run_model.specs.Text.{Instant, trace_text}
 use Rattle.run_model.specs.Trace.{Run, IsTrace}
@@ -22,7 +26,7 @@ use Rattle.step_master.specs.declared.run_end.RunEnd.TheVariants.{Bad}
 use Rattle.sim_base.specs.declared.numbers.CompId.{CompId}
 use Rattle.command_line.specs.Line.{Line, IsLine}
 use Rattle.ssprun.specs.System.{counter_system, description_path}
-use Rattle.ssprun.specs.Line.{read_line, missing_line, big_line, refused_line, why_line}
+use Rattle.ssprun.specs.Line.{read_line, missing_line, big_line, refused_line, why_line, why_status}
 use Rattle.ssprun.specs.Facts.{Stage, Shelf, Idle, Calm, RunsPeer, HasRun, file_of, AtPath, IsTooBig, IsOther, IsCounter}
 
 -- a call of the program: its words, what is told before and after it, its status, and what err tells with its counts of faults
@@ -109,26 +113,80 @@ IsUnknown d = Says d (codes "unknown fmu\n") × Calm d.old d.new × (d.old.knows
 abbrev pub LosesLink : Command → Line → ℤ → Type 0
 LosesLink d line start = (call : Call) × (fault : PeerFault) × EndsBy d line start (Link call fault)
 
+-- why is the first answer of the run that isn't good: the calls before it got good ones, and its own is none of the closing's
+pub record IsFirstBadOf (shape : Shape) (why : Why) (talk : List Exchange) : Type 0 where
+  pub front : List Exchange
+  pub last : Exchange
+  pub rest : List Exchange
+  pub is : talk ≡ front ++ last ∷ rest
+  pub good : T.AllGood shape front
+  pub bad : IsWhy shape why last
+  pub run_call : IsRunCall last.call
+
+-- one peer was started, it is told and tells its talk, and no put on out failed
+pub record TellsPeer (d : Command) (v : View) (talk : List Exchange) : Type 0 where
+  pub started : d.new.started ≡ d.old.started + 1
+  pub before : List View
+  pub retired : d.new.retired ≡ Some (before ++ v ∷ [])
+  pub talk_is : v.talk ≡ Some talk
+  pub quiet : Rose d.old.outs d.new.outs → ⊥
+
+-- the status and the line are those of the first answer that isn't good
+abbrev pub DecidesBy : Command → (Why → Type 0) → Type 0
+DecidesBy d P = (v : View) (talk : List Exchange) (why : Why) → P why → TellsPeer d v talk → IsFirstBadOf v.fixed.shape why talk → Answers d (why_status why) (why_line why)
+
+abbrev pub IsLinkWhy : Why → Type 0
+IsLinkWhy (Refused call status) = ⊥
+IsLinkWhy (Misreply call reply) = ⊥
+IsLinkWhy (Link call fault) = Unit {0}
+
+abbrev pub IsRefusal : Why → Type 0
+IsRefusal (Refused call status) = Unit {0}
+IsRefusal (Misreply call reply) = ⊥
+IsRefusal (Link call fault) = ⊥
+
+abbrev pub IsMisreply : Why → Type 0
+IsMisreply (Refused call status) = ⊥
+IsMisreply (Misreply call reply) = Unit {0}
+IsMisreply (Link call fault) = ⊥
+
 -- 5: `link` only where the spawner's count or the peer's rose, `unknown` exactly where the spawner doesn't know the identifier
 pub record LinkRow (d : Command) : Type 0 where
   pub when : d.status ≡ 5 → (line : Line) × IsLine d.words line × (start : ℤ) × AtPath line d.folder (IsCounter start) × (StartFails d ⊎ (IsUnknown d ⊎ LosesLink d line start))
   pub unknown : (line : Line) (start : ℤ) → IsLine d.words line → Finds d line (IsCounter start) → d.old.knows (codes "counter") ≡ false →
       (Rose d.old.starts d.new.starts → ⊥) → AnswersOr11 d 5 (codes "unknown fmu\n")
+  pub lost : DecidesBy d IsLinkWhy
 
--- 6: only by a refusal
+-- 6: exactly where the first answer that isn't good is a refusal
 pub record RefusalRow (d : Command) : Type 0 where
   pub when : d.status ≡ 6 → (line : Line) × IsLine d.words line × (start : ℤ) × AtPath line d.folder (IsCounter start)
       × (call : Call) × (status : BadStatus) × EndsBy d line start (Refused call status)
+  pub exact : DecidesBy d IsRefusal
 
--- 7: only by a misreply
+-- 7: exactly where the first answer that isn't good is a misreply
 pub record MisreplyRow (d : Command) : Type 0 where
   pub when : d.status ≡ 7 → (line : Line) × IsLine d.words line × (start : ℤ) × AtPath line d.folder (IsCounter start)
       × (call : Call) × (reply : Reply) × EndsBy d line start (Misreply call reply)
+  pub exact : DecidesBy d IsMisreply
 
 -- 10: only where a sink's count rose, and always where one is higher than before
 pub record WriteRow (d : Command) : Type 0 where
   pub when : d.status ≡ 10 → Rose d.old.outs d.new.outs ⊎ Rose d.errs d.errs_after
   pub higher : (d.old.outs < d.new.outs) ⊎ (d.errs < d.errs_after) → d.status ≡ 10
+  pub says : d.status ≡ 10 → Says d (codes "write\n") ⊎ Rose d.errs d.errs_after
+
+-- the statuses that can come
+abbrev pub IsStatus : ℕ → Type 0
+IsStatus n = (n ≡ 0) ⊎ (((2 ≤ n) × (n ≤ 7)) ⊎ ((n ≡ 10) ⊎ (n ≡ 11)))
+
+-- what err holds behind a put that failed: a front of a line, and nothing else
+abbrev pub CutsLine : Command → Type 0
+CutsLine d = (text : List ℕ) × AddsPart d.before d.after text
+
+-- no other status comes, and where no put on err failed it holds what it held or one line more
+pub record StatusRow (d : Command) : Type 0 where
+  pub known : IsStatus d.status
+  pub line : (Rose d.errs d.errs_after × CutsLine d) ⊎ ((text : List ℕ) × Says d text)
 
 -- 11: nothing was started or written, and no read failed
 pub record MemoryRow (d : Command) : Type 0 where
@@ -156,10 +214,9 @@ pub record TraceRow (d : Command) : Type 0 where
   pub when : (line : Line) (start : ℤ) → IsLine d.words line → Finds d line (IsCounter start) → d.old.knows (codes "counter") ≡ true →
       (Rose d.old.starts d.new.starts → ⊥) → (Rose d.errs d.errs_after → ⊥) → ((d.status ≡ 11) × Calm d.old d.new) ⊎ Traces d line start
 
--- one peer was started and taken back, with a talk that is legal, and closed where each reply is good and no put on out failed
+-- one peer was started and taken back, with a talk that is legal, lean and closed
 abbrev pub UsesPeer : Command → Type 0
-UsesPeer d = (line : Line) × IsLine d.words line × (start : ℤ) × (v : View) × RunsPeer line start d.old d.new v
-    × (AllGood v → (Rose d.old.outs d.new.outs → ⊥) → IfSome v.talk (T.Closed v.fixed.shape))
+UsesPeer d = (line : Line) × IsLine d.words line × (start : ℤ) × (end : RunEnd) × HasRun line start end d.old d.new
 
 -- each peer that was started was taken back once
 abbrev pub PeerRow : Command → Type 0

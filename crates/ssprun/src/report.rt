@@ -125,6 +125,10 @@ fn kind_name(kind: Kind) -> &'static str
         Kind::ExitInitialization => "ExitInitialization",
         Kind::DoStep => "DoStep",
         Kind::Get => "Get",
+        Kind::Set => "Set",
+        Kind::Save => "Save",
+        Kind::Restore => "Restore",
+        Kind::Free => "Free",
         Kind::Terminate => "Terminate",
         Kind::FreeInstance => "FreeInstance",
     }
@@ -177,6 +181,10 @@ fn kind_number(kind: Kind) -> u8
         Kind::ExitInitialization => 3,
         Kind::DoStep => 6,
         Kind::Get => 8,
+        Kind::Set => 9,
+        Kind::Save => 14,
+        Kind::Restore => 15,
+        Kind::Free => 16,
         Kind::Terminate => 17,
         Kind::FreeInstance => 18,
     }

@@ -104,7 +104,7 @@ static CASES: [Case; 24] = [
     Case {
         room: Some(5),
         status: 5,
-        out: "trace 1 1000 0 20\nport 0 Int32 fmu y\nat 0 0\n0 0\n",
+        out: "trace 1 1000 0 20\nport 0 Int32 fmu y\nat 0 0\n0 0\nend fault 0\n",
         err: "link fmu DoStep\n",
         ..WORKED
     },
@@ -264,10 +264,26 @@ const BEYOND: Answer = Ok(Reply::Done {
     },
 });
 
-// The answers of a peer, how many calls it gets, and what the worked command is to give.
+const DISCARDED: Answer = Ok(Reply::Refused {
+    kind: Kind::DoStep,
+    status: BadStatus::Discard,
+});
+
+const DIED: Answer = Ok(Reply::Refused {
+    kind: Kind::DoStep,
+    status: BadStatus::Fatal,
+});
+
+const NOT_TERMINATED: Answer = Ok(Reply::Refused {
+    kind: Kind::Terminate,
+    status: BadStatus::Discard,
+});
+
+// The answers of a peer and the puts on out that fail, the calls that it gets, and what the worked command is to give.
 struct ScriptCase {
     answers: &'static [Answer],
-    calls: usize,
+    outs: &'static [u64],
+    calls: &'static [Kind],
     status: u8,
     out: &'static str,
     err: &'static str,
@@ -277,52 +293,150 @@ const HEAD: &str = "trace 1 1000 0 20\nport 0 Int32 fmu y\n";
 
 const FIRST: &str = "trace 1 1000 0 20\nport 0 Int32 fmu y\nat 0 0\n0 0\n";
 
-static SCRIPTS: [ScriptCase; 8] = [
+const EARLY_FAULT: &str = "trace 1 1000 0 20\nport 0 Int32 fmu y\nend fault 0\n";
+
+const FIRST_FAULT: &str = "trace 1 1000 0 20\nport 0 Int32 fmu y\nat 0 0\n0 0\nend fault 0\n";
+
+// Up to the first step.
+const TO_STEP: &[Kind] = &[
+    Kind::Instantiate,
+    Kind::EnterInitialization,
+    Kind::ExitInitialization,
+    Kind::Get,
+    Kind::DoStep,
+];
+
+const TO_STEP_AND_FREE: &[Kind] = &[
+    Kind::Instantiate,
+    Kind::EnterInitialization,
+    Kind::ExitInitialization,
+    Kind::Get,
+    Kind::DoStep,
+    Kind::FreeInstance,
+];
+
+const TO_STEP_AND_CLOSE: &[Kind] = &[
+    Kind::Instantiate,
+    Kind::EnterInitialization,
+    Kind::ExitInitialization,
+    Kind::Get,
+    Kind::DoStep,
+    Kind::Terminate,
+    Kind::FreeInstance,
+];
+
+static SCRIPTS: [ScriptCase; 14] = [
     ScriptCase {
-        answers: &[STARTED, ENTERED, EXITED, READ, NOT_STEPPED],
-        calls: 5,
+        answers: &[STARTED, ENTERED, EXITED, READ, DISCARDED, TERMINATED, FREED],
+        outs: &[],
+        calls: TO_STEP_AND_CLOSE,
         status: 6,
-        out: FIRST,
+        out: FIRST_FAULT,
+        err: "fmu fmu DoStep Discard\n",
+    },
+    ScriptCase {
+        answers: &[STARTED, ENTERED, EXITED, READ, NOT_STEPPED, FREED],
+        outs: &[],
+        calls: TO_STEP_AND_FREE,
+        status: 6,
+        out: FIRST_FAULT,
         err: "fmu fmu DoStep Error\n",
     },
     ScriptCase {
+        answers: &[STARTED, ENTERED, EXITED, READ, DIED],
+        outs: &[],
+        calls: TO_STEP,
+        status: 6,
+        out: FIRST_FAULT,
+        err: "fmu fmu DoStep Fatal\n",
+    },
+    ScriptCase {
+        answers: &[STARTED, ENTERED, EXITED, READ, EARLY, FREED],
+        outs: &[],
+        calls: TO_STEP_AND_FREE,
+        status: 7,
+        out: FIRST_FAULT,
+        err: "misreply fmu DoStep 060004000000000000000000000000000000000000000000\n",
+    },
+    ScriptCase {
+        answers: &[STARTED, ENTERED, EXITED, READ, Err(PeerFault::Failed)],
+        outs: &[],
+        calls: TO_STEP,
+        status: 5,
+        out: FIRST_FAULT,
+        err: "link fmu DoStep\n",
+    },
+    ScriptCase {
         answers: &[NOT_STARTED],
-        calls: 1,
+        outs: &[],
+        calls: &[Kind::Instantiate],
         status: 6,
         out: "",
         err: "fmu fmu Instantiate Discard\n",
     },
+    // The put of the first instant fails.
     ScriptCase {
-        answers: &[STARTED, ENTERED, EXITED, READ, EARLY],
-        calls: 5,
-        status: 7,
+        answers: &[STARTED, ENTERED, EXITED, READ, TERMINATED, FREED],
+        outs: &[1],
+        calls: &[
+            Kind::Instantiate,
+            Kind::EnterInitialization,
+            Kind::ExitInitialization,
+            Kind::Get,
+            Kind::Terminate,
+            Kind::FreeInstance,
+        ],
+        status: 10,
+        out: HEAD,
+        err: "write\n",
+    },
+    // The put of the end line fails.
+    ScriptCase {
+        answers: &[STARTED, ENTERED, EXITED, READ, NOT_STEPPED, FREED],
+        outs: &[2],
+        calls: TO_STEP_AND_FREE,
+        status: 10,
         out: FIRST,
-        err: "misreply fmu DoStep 060004000000000000000000000000000000000000000000\n",
+        err: "write\n",
     },
     ScriptCase {
-        answers: &[STARTED, ENTERED, EXITED, READ, BEYOND],
-        calls: 5,
+        answers: &[STARTED, ENTERED, EXITED, READ, BEYOND, FREED],
+        outs: &[],
+        calls: TO_STEP_AND_FREE,
         status: 7,
-        out: FIRST,
+        out: FIRST_FAULT,
         err: "misreply fmu DoStep 06010700000000000123456789abcdef0000000000000000\n",
     },
     ScriptCase {
-        answers: &[STARTED, ENTERED, EXITED, MISREAD],
-        calls: 4,
+        answers: &[STARTED, ENTERED, EXITED, MISREAD, FREED],
+        outs: &[],
+        calls: &[
+            Kind::Instantiate,
+            Kind::EnterInitialization,
+            Kind::ExitInitialization,
+            Kind::Get,
+            Kind::FreeInstance,
+        ],
         status: 7,
-        out: HEAD,
+        out: EARLY_FAULT,
         err: "misreply fmu Get 080000000000000000000000800000000000000000000000\n",
     },
     ScriptCase {
-        answers: &[STARTED, OTHER_KIND],
-        calls: 2,
+        answers: &[STARTED, OTHER_KIND, FREED],
+        outs: &[],
+        calls: &[
+            Kind::Instantiate,
+            Kind::EnterInitialization,
+            Kind::FreeInstance,
+        ],
         status: 7,
-        out: HEAD,
+        out: EARLY_FAULT,
         err: "misreply fmu EnterInitialization 120400000000000000000000000000000000000000000000\n",
     },
     ScriptCase {
         answers: &[],
-        calls: 1,
+        outs: &[],
+        calls: &[Kind::Instantiate],
         status: 5,
         out: "",
         err: "link fmu Instantiate\n",
@@ -330,7 +444,17 @@ static SCRIPTS: [ScriptCase; 8] = [
     // The peer asks for the end.
     ScriptCase {
         answers: &[STARTED, ENTERED, EXITED, READ, ASKED, TERMINATED, FREED],
-        calls: 7,
+        outs: &[],
+        calls: TO_STEP_AND_CLOSE,
+        status: 0,
+        out: "trace 1 1000 0 20\nport 0 Int32 fmu y\nat 0 0\n0 0\nend asked 10\n",
+        err: "",
+    },
+    // A bad answer in closing changes nothing.
+    ScriptCase {
+        answers: &[STARTED, ENTERED, EXITED, READ, ASKED, NOT_TERMINATED, FREED],
+        outs: &[],
+        calls: TO_STEP_AND_CLOSE,
         status: 0,
         out: "trace 1 1000 0 20\nport 0 Int32 fmu y\nat 0 0\n0 0\nend asked 10\n",
         err: "",
@@ -449,15 +573,17 @@ fn an_unknown_model_gives_its_line(rt: HostRuntime) -> Result<(), Fail> {
     Ok(())
 }
 
-// The calls of the peers that were taken back.
-fn count_calls(scripts: &Scripts) -> usize {
-    let mut count = 0usize;
+// The kinds of the calls of the peers that were taken back.
+fn kinds_of(alloc: Global, scripts: &Scripts) -> Result<Vec<Kind>, AllocError> {
+    let mut kinds = Vec::new(alloc);
     for script in scripts.retired() {
         if let Some(talk) = script.talk() {
-            count = count.saturating_add(talk.len());
+            for exchange in talk {
+                kinds.push(exchange.call.kind())?;
+            }
         }
     }
-    count
+    Ok(kinds)
 }
 
 #[test]
@@ -467,13 +593,15 @@ fn a_bad_answer_gives_its_line(rt: HostRuntime) -> Result<(), Fail> {
         let answers = Items::from_vec(row.answers.to_vec(alloc)?);
         let mut scripts = Scripts::new(alloc, vec![in alloc; answers]?, Vec::new(alloc));
         let case = Case {
+            outs: row.outs,
             status: row.status,
             out: row.out,
             err: row.err,
             ..WORKED
         };
         assert_case(&rt, alloc, &case, &mut scripts)?;
-        assert_eq!(rt; count_calls(&scripts), row.calls, "at {}", row.err);
+        let kinds = kinds_of(alloc, &scripts)?;
+        assert_eq!(rt; kinds.as_slice(), row.calls, "{}", row.err);
     }
     Ok(())
 }

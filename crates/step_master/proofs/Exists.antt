@@ -1,7 +1,6 @@
 -- A machine that answers well in a system of one component has a trace from each situation that its run comes to.
-use Rattle.std.proofs.Common.{◌≡◌, ◌≢◌, ◌⊎◌, inl, inr, ℕ, zero, suc, ◌+◌, ◌-◌, ◌*◌, ◌/◌, ◌<◌, ◌≤◌, ◌^◌, min, Bool, true, false, nat_lt, not, ◌||◌, List, [], ◌∷◌, ◌++◌, length, map, Option, Some, None, get_or, refl, sym, ap, ◌∙◌, subst, arith}
-use Rattle.std.specs.Prelude.{ℤ, All, slice_get, slice_index_or, option_and_then, option_map, if◌then◌else◌, ◌==◌}
-use Rattle.std.proofs.lemmas.Grind.{common_steps}
+use Rattle.std.proofs.Common.{◌≡◌, inl, inr, ℕ, zero, suc, ◌+◌, ◌-◌, ◌*◌, ◌/◌, ◌<◌, ◌≤◌, min, Bool, true, false, nat_lt, ◌||◌, List, [], ◌∷◌, map, Option, Some, None, get_or, refl, sym, ap, ◌∙◌, subst, arith}
+use Rattle.std.specs.Prelude.{ℤ, slice_get, option_and_then, option_map, if◌then◌else◌, ◌==◌}
 use Rattle.std.proofs.lemmas.Bool.Decides.{nat_tests}
 use Rattle.std.proofs.lemmas.Option.{slice_get_within, get_or_from_slice_get, slice_get-map, slice_get-get_or}
 use Rattle.std.proofs.lemmas.List.{length-map}
@@ -15,7 +14,7 @@ use Rattle.fmi_calls.specs.declared.call.Grade.TheVariants as G
 use Rattle.fmi_calls.specs.declared.call.Kind.{Kind}
 use Rattle.fmi_calls.specs.declared.call.Kind.TheVariants as KI
 use Rattle.fmi_calls.specs.declared.call.BadStatus.{BadStatus}
-use Rattle.fmi_calls.specs.Worth.{grade_of, is_step_end, is_valid}
+use Rattle.fmi_calls.specs.Worth.{grade_of}
 use Rattle.fmi_calls.specs.Next.{end_of}
 use Rattle.fmu_peer.specs.Machine.{State, Machine, after}
 use Rattle.run_model.specs.declared.system.Component.{Component}
@@ -25,15 +24,15 @@ use Rattle.run_model.specs.declared.plan.Plan.{Plan}
 use Rattle.run_model.specs.declared.plan.EndKind.{EndKind}
 use Rattle.run_model.specs.declared.plan.EndKind.TheVariants as K
 use Rattle.run_model.specs.Text.{Instant}
-use Rattle.run_model.specs.Steps.{IsBound, IsMark, IsGridPoint, Agree, AllMeet, IsAsked, AskedFirst, met}
-use Rattle.run_model.specs.Trace.{Run, Situation, Solves, IsStep, Continues, AtStop, WhereAsked, ByStep, instant_of, after_step, equation, value, shown, shown_at, asks_to_end, ends_of, stepped, step_to, end_in, is_terminating}
-use Rattle.run_model.specs.Behaved.{WellBehaved, Reached, AfterStep, AnswersWell}
+use Rattle.run_model.specs.Steps.{IsBound, IsMark, Agree, AllMeet, AskedFirst}
+use Rattle.run_model.specs.Trace.{Run, Situation, Solves, IsStep, Continues, AtStop, WhereAsked, ByStep, instant_of, after_step, value, shown, asks_to_end, ends_of, stepped, step_to, end_in, is_terminating}
+use Rattle.run_model.specs.Behaved.{WellBehaved, AfterStep, AnswersWell}
 use Rattle.step_master.specs.Alone.{IsPlan, IsAlone, IsOwnPort}
 use Rattle.step_master.specs.Follow.{GoodCall, GoodGets}
 use Rattle.step_master.specs.Progress.{run_of, StandsAt}
 
 refused_not_good : (shape : Shape) (at size : ℕ) (kind : Kind) (status : BadStatus) → grade_of shape (C.DoStep at size) (R.Refused kind status) ≡ G.Good → ⊥
-refused_not_good shape at size kind status good = elim kind as (λ k. grade_of shape (C.DoStep at size) (R.Refused k status) ≡ G.Good → ⊥) [ KI.Instantiate ↦ λ e. cc | KI.EnterInitialization ↦ λ e. cc | KI.ExitInitialization ↦ λ e. cc | KI.DoStep ↦ λ e. cc | KI.Get ↦ λ e. cc | KI.Terminate ↦ λ e. cc | KI.FreeInstance ↦ λ e. cc ] good
+refused_not_good shape at size kind status good = elim kind as (λ k. grade_of shape (C.DoStep at size) (R.Refused k status) ≡ G.Good → ⊥) [ KI.Instantiate ↦ λ e. cc | KI.EnterInitialization ↦ λ e. cc | KI.ExitInitialization ↦ λ e. cc | KI.DoStep ↦ λ e. cc | KI.Get ↦ λ e. cc | KI.Set ↦ λ e. cc | KI.Save ↦ λ e. cc | KI.Restore ↦ λ e. cc | KI.Free ↦ λ e. cc | KI.Terminate ↦ λ e. cc | KI.FreeInstance ↦ λ e. cc ] good
 
 -- a step that may not end early ends at its bound
 pub good_step_end : (shape : Shape) (at size : ℕ) (reply : Reply) → shape.might_return_early ≡ false →
@@ -43,6 +42,10 @@ good_step_end shape at size (R.Done w A.Instantiate) early good = absurd (cc)
 good_step_end shape at size (R.Done w A.EnterInitialization) early good = absurd (cc)
 good_step_end shape at size (R.Done w A.ExitInitialization) early good = absurd (cc)
 good_step_end shape at size (R.Done w (A.Get word)) early good = absurd (cc)
+good_step_end shape at size (R.Done w A.Set) early good = absurd (cc)
+good_step_end shape at size (R.Done w A.Save) early good = absurd (cc)
+good_step_end shape at size (R.Done w A.Restore) early good = absurd (cc)
+good_step_end shape at size (R.Done w A.Free) early good = absurd (cc)
 good_step_end shape at size (R.Done w A.Terminate) early good = absurd (cc)
 good_step_end shape at size (R.Done w A.FreeInstance) early good = absurd (cc)
 good_step_end shape at size (R.Refused kind status) early good = absurd (refused_not_good shape at size kind status good)

@@ -1,4 +1,6 @@
 pub mod Calls
+pub mod Sent
+pub mod Needed
 pub mod Values
 pub mod Exists
 pub mod Onward

@@ -1,41 +1,26 @@
 -- From instant to instant: what is put, and what the machine's run says of it.
-use Rattle.std.proofs.Common.{◌≡◌, ◌⊎◌, inl, inr, ℕ, ◌+◌, ◌-◌, ◌<◌, ◌≤◌, Bool, true, false, nat_le, List, [], ◌∷◌, ◌++◌, length, take, map, Option, Some, None, IfSome, refl, sym, ap, ◌∙◌, subst, append_assoc, arith}
-use Rattle.std.specs.Prelude.{ℤ, All}
+use Rattle.std.proofs.Common.{◌≡◌, inr, ℕ, ◌+◌, ◌<◌, ◌≤◌, Bool, true, false, nat_le, List, [], ◌∷◌, ◌++◌, length, take, map, Option, Some, None, refl, sym, ap, ◌∙◌, subst, append_assoc, arith}
+use Rattle.std.specs.Prelude.{ℤ}
 use Rattle.std.proofs.lemmas.List.{append-nil, take-append-le, take_all}
 use Rattle.std.proofs.Math.Seq.{take-append_seam, take-append-add}
 use Rattle.std.proofs.lemmas.Bool.Decides.{nat_tests}
-use Rattle.std.proofs.lemmas.Grind.{common_steps}
-use Rattle.sim_base.specs.Causes.{Rose}
 use Rattle.sim_base.specs.Told.{added, AddsPart}
 use Rattle.value_types.specs.declared.shape.Shape.{Shape}
-use Rattle.fmi_calls.specs.declared.call.Call.{Call}
-use Rattle.fmi_calls.specs.declared.call.Call.TheVariants as C
-use Rattle.fmi_calls.specs.declared.call.Reply.{Reply}
-use Rattle.fmi_calls.specs.declared.phase.Phase.{Phase}
-use Rattle.fmi_calls.specs.Next.{end_of, entered, counted}
-use Rattle.fmu_peer.specs.declared.ended.Why.{Why}
-use Rattle.fmu_peer.specs.Answer.{Answered, Failed, IsLink}
-use Rattle.fmu_peer.specs.Machine.{State, Machine, after}
-use Rattle.fmu_peer.specs.View.{View, AllGood}
-use Rattle.run_model.specs.declared.system.Port.{Port}
+use Rattle.fmu_peer.specs.Machine.{Machine, after}
+use Rattle.fmu_peer.specs.View.{View}
 use Rattle.run_model.specs.declared.system.System.{System}
 use Rattle.run_model.specs.declared.plan.Plan.{Plan}
-use Rattle.run_model.specs.declared.plan.EndKind.{EndKind}
 use Rattle.run_model.specs.declared.plan.EndKind.TheVariants as K
 use Rattle.run_model.specs.Text.{Instant, instants_text, instant_text, end_text}
 use Rattle.run_model.specs.Steps.{IsBound}
-use Rattle.run_model.specs.Trace.{Run, Situation, Solves, IsStep, Continues, AtStop, WhereAsked, ByStep, IsTrace, instant_of, after_step, beginning, shown, is_terminating, step_to}
-use Rattle.run_model.specs.Behaved.{WellBehaved, Reached, AtFirst}
-use Rattle.step_master.specs.declared.run_end.Break.{Break}
-use Rattle.step_master.specs.declared.run_end.Break.TheVariants as B
-use Rattle.step_master.specs.declared.run_end.RunEnd.{RunEnd}
-use Rattle.step_master.specs.declared.run_end.RunEnd.TheVariants.{Stop, Asked, Bad, WriteFault}
+use Rattle.run_model.specs.Trace.{AtStop, WhereAsked, ByStep, IsTrace, instant_of, after_step, beginning, shown, is_terminating, step_to}
+use Rattle.run_model.specs.Behaved.{WellBehaved, AtFirst}
+use Rattle.step_master.specs.declared.run_end.RunEnd.TheVariants.{WriteFault}
 use Rattle.step_master.specs.Alone.{IsPlan, IsAlone}
-use Rattle.step_master.specs.Follow.{Tells, GoesWell, IsAt, Stays, Broke, GoodGets, GoodCall, ShowsValues}
-use Rattle.step_master.specs.Progress.{run_of, StandsAt, Progress, BeginsAt}
-use Rattle.step_master.specs.End.{IsRead, ShowsInstant, CutsInstant, BreaksInstant, PutsEnd, end_at, Writes, Completes, TellsWrite, BadEnd, RunsWell, LeavesPeer, end_of_break, bad_end}
-use Rattle.step_master.proofs.Calls.{well_on, well_by, broke_by, broke_on, tells_after, phase_by_good}
-use Rattle.step_master.proofs.Exists.{GoesOn, goes_on, good_gets, good_step, good_step_end, shown_solves, step_kept, step_asks, stands_after}
+use Rattle.step_master.specs.Follow.{Tells, ShowsValues}
+use Rattle.step_master.specs.Progress.{run_of, Progress, BeginsAt}
+use Rattle.step_master.specs.End.{Completes}
+use Rattle.step_master.proofs.Exists.{goes_on, good_step, shown_solves, step_kept, step_asks, stands_after}
 
 -- ---- text
 
@@ -160,8 +145,8 @@ module _ (system : System) (plan : Plan) (shape : Shape) (alone : IsAlone shape 
 
   -- the put of the instant failed: what stands is a front of the whole trace
   pub front_of_trace : (m : Machine) (pr : Progress (run_of system plan m) m v t so.done) (values : List (Option ℤ)) → ShowsValues v system.ports values → WellBehaved (run_of system plan m) →
-      plan.start ≤ t → t ≤ plan.stop → AddsPart a b (instant_text t 0 values) → Completes (run_of system plan m) WriteFault o b
-  front_of_trace m pr values shows well begun within part =
+      plan.start ≤ t → t ≤ plan.stop → AddsPart a b (instant_text t 0 values) → (c d : ℕ) → Completes (run_of system plan m) WriteFault o b c d
+  front_of_trace m pr values shows well begun within part c d =
       let r = run_of system plan m in
       let whole = goes_on system plan m shape alone plan.stop pr.situation pr.state t (omega arith) pr.stands begun within well p in
       let is = so.done ++ one values ∷ whole.rest in
@@ -172,4 +157,4 @@ module _ (system : System) (plan : Plan) (shape : Shape) (alone : IsAlone shape 
       ap (λ x. instants_text so.done ++ x) (sym (append_assoc (instant_text t 0 values) (instants_text whole.rest) (end_text whole.kind whole.end)))
       ∙ sym (append_assoc (instants_text so.done) (instants_text (one values ∷ whole.rest)) (end_text whole.kind whole.end))
       ∙ ap (λ x. x ++ end_text whole.kind whole.end) (sym (instants_text-append so.done (one values ∷ whole.rest))) in
-      (is, whole.kind, whole.end, trace, subst (AddsPart o b) text (part_behind o a b (instants_text so.done) (instant_text t 0 values ++ rest) so.text (part_more a b (instant_text t 0 values) rest part)))
+      inr (is, whole.kind, whole.end, trace, subst (AddsPart o b) text (part_behind o a b (instants_text so.done) (instant_text t 0 values ++ rest) so.text (part_more a b (instant_text t 0 values) rest part)))

@@ -2,14 +2,15 @@ ghost use Rattle.std.specs.Prelude.{◌≡◌, ◌<◌, ◌≤◌, ◌^◌, leng
 ghost use Rattle.fmi_calls.specs.declared.phase.State.TheVariants as P;
 ghost use Rattle.trace_text.specs.Room.{HoldsEach};
 ghost use Rattle.step_master.specs.Alone.{IsOwnPort};
-ghost use Rattle.step_master.specs.End.{ShowsInstant, BreaksInstant, PutsEnd, end_at};
+ghost use Rattle.step_master.specs.End.{ShowsInstant, BreaksInstant, PutsEnd, PutsBreak, bad_end};
+ghost use Rattle.step_master.specs.Follow.{IsClear};
 
 use crate::RunEnd;
 use crate::outputs::read_ports;
 use crate::run_end::Break;
-use fmu_peer::{Fmu, Peer, Stepping};
+use fmu_peer::{Fmu, Peer, Stepping, Why};
 use run_model::{EndKind, System};
-use sim_base::Sink;
+use sim_base::{CompId, Sink};
 use trace_text::{put_end, put_instant};
 
 /// Reads the outputs at a point, and puts the instant.
@@ -22,6 +23,7 @@ pub(crate) fn show_instant<L: Peer, O: Sink>(
     out: &mut O,
 ) -> Result<(), Break>
     requires state { (L.view fmu.old.peer).phase.state ≡ P.Step }
+    requires clear { IsClear (L.view fmu.old.peer) }
     requires no_event { (L.view fmu.old.peer).fixed.shape.has_event_mode ≡ false }
     requires own { All (IsOwnPort (L.view fmu.old.peer).fixed.shape) system.now.ports }
     requires places { length values.old ≡ length system.now.ports }
@@ -40,29 +42,48 @@ pub(crate) fn show_instant<L: Peer, O: Sink>(
     }
 }
 
-/// Puts the end line.
+/// Puts the end line of an end, and answers the end, or that the put failed.
 pub(crate) fn finish<O: Sink>(
     system: &System,
     kind: EndKind,
+    t: u64,
+    end: RunEnd,
+    text: &mut [u8],
+    out: &mut O,
+) -> RunEnd
+    requires { HoldsEach system.now (length text.old) }
+    ensures { PutsEnd kind t end result (O.content out.old) (O.content out.new) (O.faults out.old) (O.faults out.new) }
+{
+    let length = put_end(kind, t, text);
+    match out.put(&text[..length]) {
+        Ok(()) => end,
+        Err(_) => RunEnd::WriteFault,
+    }
+}
+
+/// Puts the end line of a fault where an answer broke the run off.
+pub(crate) fn break_off<O: Sink>(
+    system: &System,
+    broken: Break,
     t: u64,
     text: &mut [u8],
     out: &mut O,
 ) -> RunEnd
     requires { HoldsEach system.now (length text.old) }
-    ensures { PutsEnd kind t result (O.content out.old) (O.content out.new) (O.faults out.old) (O.faults out.new) }
+    ensures { PutsBreak broken t result (O.content out.old) (O.content out.new) (O.faults out.old) (O.faults out.new) }
 {
-    let length = put_end(kind, t, text);
-    match out.put(&text[..length]) {
-        Ok(()) => end_at(kind, t),
-        Err(_) => RunEnd::WriteFault,
+    match broken {
+        Break::Answer(why) => { finish(system, EndKind::Fault, t, bad_end(why), text, out) },
+        Break::Write => RunEnd::WriteFault,
     }
 }
 
-fn end_at(kind: EndKind, point: u64) -> RunEnd
-    ensures { result ≡ end_at kind point }
+/// The end by an answer that isn't good.
+pub(crate) fn bad_end(why: Why) -> RunEnd
+    ensures { result ≡ bad_end why }
 {
-    match kind {
-        EndKind::Stop => RunEnd::Stop,
-        EndKind::Asked => RunEnd::Asked { point },
+    RunEnd::Bad {
+        component: CompId(0),
+        why,
     }
 }

@@ -1,4 +1,4 @@
-ghost use Rattle.std.specs.Prelude.{◌≡◌, ◌+◌, ◌<◌, ◌≤◌, length};
+ghost use Rattle.std.specs.Prelude.{◌≡◌, ◌+◌, ◌<◌, ◌≤◌, [], ◌∷◌, length};
 ghost use Rattle.fmu_peer.specs.Machine.{Machine};
 ghost use Rattle.trace_text.specs.Room.{HoldsEach};
 ghost use Rattle.run_model.specs.Behaved.{WellBehaved};
@@ -6,16 +6,16 @@ ghost use Rattle.run_model.specs.Trace.{is_terminating};
 ghost use Rattle.step_master.specs.Alone.{IsPlan, IsAlone};
 ghost use Rattle.step_master.specs.Follow.{IsAt};
 ghost use Rattle.step_master.specs.Progress.{BeginsAt, run_of};
-ghost use Rattle.step_master.specs.End.{Writes, Completes, TellsWrite, LeavesPeer, end_of_break, bad_end};
+ghost use Rattle.step_master.specs.End.{Writes, Completes, TellsWrite, LeavesPeer, current_point};
+ghost use Rattle.fmi_calls.specs.declared.call.Call.TheVariants as C;
 
 use crate::RunEnd;
 use crate::bound::next_bound;
-use crate::instant::{finish, show_instant};
-use crate::run_end::Break;
+use crate::instant::{bad_end, break_off, finish, show_instant};
 use fmi_calls::{Content, Reply};
-use fmu_peer::{Fmu, Peer, Stepping, Why};
+use fmu_peer::{Fmu, Peer, Stepping};
 use run_model::{EndKind, Plan, System};
-use sim_base::{CompId, Sink};
+use sim_base::Sink;
 
 /// Shows each instant, and steps from one point to the next, from the start to the end of the run.
 pub(crate) fn steps<L: Peer, O: Sink>(
@@ -32,48 +32,37 @@ pub(crate) fn steps<L: Peer, O: Sink>(
     requires places { length values.old ≡ length system.now.ports }
     requires room { HoldsEach system.now (length text.old) }
     ensures fixed { (L.view fmu.new.peer).fixed ≡ (L.view fmu.old.peer).fixed }
-    ensures peer { LeavesPeer (L.view fmu.old.peer) result (L.view fmu.new.peer) }
+    ensures peer { LeavesPeer (C.ExitInitialization ∷ []) (L.view fmu.old.peer) result (L.view fmu.new.peer) }
     ensures told { TellsWrite result (O.faults out.old) (O.faults out.new) }
-    ensures writes { Writes plan.now result (O.content out.old) (O.content out.new) }
+    ensures writes { Writes plan.now result (current_point plan.now (L.view fmu.new.peer)) (O.content out.old) (O.content out.new) }
     ensures trace { (m : Machine) → BeginsAt (run_of system.now plan.now m) m (L.view fmu.old.peer) → WellBehaved (run_of system.now plan.now m) →
-        Completes (run_of system.now plan.now m) result (O.content out.old) (O.content out.new) }
+        Completes (run_of system.now plan.now m) result (O.content out.old) (O.content out.new) (L.view fmu.old.peer).faults (L.view fmu.new.peer).faults }
 {
     let mut t = plan.start;
     'points: loop {
         if let Err(broken) = show_instant(fmu, system, t, values, text, out) {
-            return broken_off(broken);
+            return break_off(system, broken, t, text, out);
         }
         if t == plan.stop {
-            return finish(system, EndKind::Stop, t, text, out);
+            return finish(system, EndKind::Stop, t, RunEnd::Stop, text, out);
         }
         let bound = next_bound(plan, t);
         match fmu.do_step(t, bound - t) {
-            Err(why) => return bad_answer(why),
+            Err(why) => return finish(system, EndKind::Fault, t, bad_end(why), text, out),
             Ok(reply) => {
                 t = bound;
                 if is_terminating(&reply) {
-                    return finish(system, EndKind::Asked, t, text, out);
+                    return finish(
+                        system,
+                        EndKind::Asked,
+                        t,
+                        RunEnd::Asked { point: t },
+                        text,
+                        out,
+                    );
                 }
             }
         }
-    }
-}
-
-fn broken_off(broken: Break) -> RunEnd
-    ensures { result ≡ end_of_break broken }
-{
-    match broken {
-        Break::Answer(why) => bad_answer(why),
-        Break::Write => RunEnd::WriteFault,
-    }
-}
-
-fn bad_answer(why: Why) -> RunEnd
-    ensures { result ≡ bad_end why }
-{
-    RunEnd::Bad {
-        component: CompId(0),
-        why,
     }
 }
 

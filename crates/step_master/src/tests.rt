@@ -85,6 +85,11 @@ const DISCARDED: Reply = Reply::Refused {
     status: BadStatus::Discard,
 };
 
+const NOT_INSTANTIATED: Reply = Reply::Refused {
+    kind: Kind::Instantiate,
+    status: BadStatus::Error,
+};
+
 macro_rules! stepped {
     ($end:expr, $terminate:expr $(,)?) => {
         done!(Content::DoStep {
@@ -127,7 +132,7 @@ struct Case {
     calls: &'static [Call],
 }
 
-const CASES: [Case; 4] = [
+const CASES: [Case; 8] = [
     // A counter of steps by 2.
     Case {
         replies: &[
@@ -174,9 +179,17 @@ const CASES: [Case; 4] = [
         text: "trace 1 1000 0 20\nport 0 Int32 fmu y\nat 0 0\n0 0\nend asked 10\n",
         calls: &[INSTANTIATE, ENTER, EXIT, GET, FIRST_STEP, TERMINATE, FREE],
     },
-    // It discards its first step.
+    // It discards its first step, and is closed as it stands.
     Case {
-        replies: &[INSTANTIATED, ENTERED, EXITED, ZERO, DISCARDED],
+        replies: &[
+            INSTANTIATED,
+            ENTERED,
+            EXITED,
+            ZERO,
+            DISCARDED,
+            TERMINATED,
+            FREED,
+        ],
         failing: None,
         end: RunEnd::Bad {
             component: CompId(0),
@@ -185,8 +198,76 @@ const CASES: [Case; 4] = [
                 status: BadStatus::Discard,
             },
         },
-        text: "trace 1 1000 0 20\nport 0 Int32 fmu y\nat 0 0\n0 0\n",
-        calls: &[INSTANTIATE, ENTER, EXIT, GET, FIRST_STEP],
+        text: "trace 1 1000 0 20\nport 0 Int32 fmu y\nat 0 0\n0 0\nend fault 0\n",
+        calls: &[INSTANTIATE, ENTER, EXIT, GET, FIRST_STEP, TERMINATE, FREE],
+    },
+    // Its second step ends at another point than it may: the instance is freed alone.
+    Case {
+        replies: &[
+            INSTANTIATED,
+            ENTERED,
+            EXITED,
+            ZERO,
+            stepped!(10, false),
+            TWO,
+            stepped!(30, false),
+            FREED,
+        ],
+        failing: None,
+        end: RunEnd::Bad {
+            component: CompId(0),
+            why: Why::Misreply {
+                call: SECOND_STEP,
+                reply: stepped!(30, false),
+            },
+        },
+        text: "trace 1 1000 0 20\nport 0 Int32 fmu y\nat 0 0\n0 0\nat 10 0\n0 2\nend fault 10\n",
+        calls: &[
+            INSTANTIATE,
+            ENTER,
+            EXIT,
+            GET,
+            FIRST_STEP,
+            GET,
+            SECOND_STEP,
+            FREE,
+        ],
+    },
+    // It answers no more in Initialization Mode: nothing follows.
+    Case {
+        replies: &[INSTANTIATED, ENTERED],
+        failing: None,
+        end: RunEnd::Bad {
+            component: CompId(0),
+            why: Why::Link {
+                call: EXIT,
+                fault: PeerFault::Failed,
+            },
+        },
+        text: "trace 1 1000 0 20\nport 0 Int32 fmu y\nend fault 0\n",
+        calls: &[INSTANTIATE, ENTER, EXIT],
+    },
+    // No instance is made.
+    Case {
+        replies: &[NOT_INSTANTIATED],
+        failing: None,
+        end: RunEnd::Bad {
+            component: CompId(0),
+            why: Why::Refused {
+                call: INSTANTIATE,
+                status: BadStatus::Error,
+            },
+        },
+        text: "",
+        calls: &[INSTANTIATE],
+    },
+    // The put of the header fails: the instance is freed.
+    Case {
+        replies: &[INSTANTIATED, FREED],
+        failing: Some(0),
+        end: RunEnd::WriteFault,
+        text: "",
+        calls: &[INSTANTIATE, FREE],
     },
     // The put of the second instant fails.
     Case {
@@ -197,11 +278,22 @@ const CASES: [Case; 4] = [
             ZERO,
             stepped!(10, false),
             TWO,
+            TERMINATED,
+            FREED,
         ],
         failing: Some(2),
         end: RunEnd::WriteFault,
         text: "trace 1 1000 0 20\nport 0 Int32 fmu y\nat 0 0\n0 0\n",
-        calls: &[INSTANTIATE, ENTER, EXIT, GET, FIRST_STEP, GET],
+        calls: &[
+            INSTANTIATE,
+            ENTER,
+            EXIT,
+            GET,
+            FIRST_STEP,
+            GET,
+            TERMINATE,
+            FREE,
+        ],
     },
 ];
 
@@ -211,13 +303,14 @@ fn a_run_makes_its_calls_and_puts_its_text(rt: HostRuntime) -> Result<(), Fail> 
         let shape = shape_of(rt.alloc())?;
         let system = system_of(rt.alloc(), &shape)?;
         let talk = TalkRoom::with_room(rt.alloc(), 32)?;
+        let mut room = Room::new(rt.alloc(), &system)?;
+        let mut out = sink_of(rt.alloc(), case.failing)?;
+        let book = TalkBook::new(rt.alloc(), shape, Some(talk))?;
         let peer = Scripted {
-            book: TalkBook::new(shape, Some(talk)),
+            book,
             replies: case.replies,
             given: 0,
         };
-        let mut room = Room::new(rt.alloc(), &system)?;
-        let mut out = sink_of(rt.alloc(), case.failing)?;
         let Finished { peer, end } = run_alone(peer, &system, &PLAN, &mut room, &mut out);
         let calls = calls_of(rt.alloc(), peer)?;
         assert_eq!(rt; end, case.end);

@@ -23,5 +23,6 @@ fn kind_text(kind: EndKind) -> &'static str
     match kind {
         EndKind::Stop => "stop",
         EndKind::Asked => "asked",
+        EndKind::Fault => "fault",
     }
 }

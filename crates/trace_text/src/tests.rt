@@ -45,8 +45,8 @@ const CASES: [Case; 3] = [
         ports: &[],
         header: "trace 1 1000 0 20\n",
         instant: "at 10 0\n",
-        kind: EndKind::Stop,
-        end: "end stop 20\n",
+        kind: EndKind::Fault,
+        end: "end fault 20\n",
     },
 ];
 

@@ -1,4 +1,4 @@
-use Rattle.std.proofs.Common.{rules, arith, Ok, Err}
+use Rattle.std.proofs.Common.{rules, Ok, Err}
 use Rattle.fmu_peer.specs.declared.ended.Why.TheVariants.{Refused, Misreply, Link}
 use Rattle.fmu_peer.proofs.TalkLemmas.{answered_good, failed_bad}
 use Rattle.fmu_peer.proofs.fmu.ask.Goals as goal

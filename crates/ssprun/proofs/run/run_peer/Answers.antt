@@ -1,13 +1,27 @@
-use Rattle.std.proofs.Common.{◌≡◌, IfSome, subst, sym, ap, ◌∙◌, codes}
-use Rattle.std.specs.Prelude.{option_map}
+use Rattle.std.proofs.Common.{◌≡◌, IfSome, subst, sym, ap, ◌∙◌, codes, rules}
+use Rattle.std.specs.Prelude.{option_map, map, nat_eq}
+use Rattle.std.specs.List.{IsDistinct}
+use Rattle.run_model.specs.declared.system.Port.{Port}
 use Rattle.fmu_peer.specs.Machine.{Machine}
 use Rattle.fmu_peer.specs.View.{Fixed, Origin}
 use Rattle.run_model.specs.declared.system.System.{System}
 use Rattle.run_model.specs.Behaved.{WellBehaved}
 use Rattle.step_master.specs.Progress.{run_of}
+use Rattle.step_master.specs.End.{current_point}
 use Rattle.step_master.specs.Whole.{WritesWhole, CompletesWhole}
-use Rattle.ssprun.proofs.Peer.{tells_end}
+use Rattle.ssprun.proofs.Peer.{tells_end, once_one}
 use Rattle.ssprun.proofs.run.run_peer.Goals as goal
+
+pub run_alone-peer-requires-clause-alone : goal.run_alone-peer-requires-clause-alone
+run_alone-peer-requires-clause-alone g c = λ lifetimes outlives. record {
+  name = codes "fmu";
+  only = search rules;
+  ports = search rules;
+  once = subst (λ (s : System). IsDistinct nat_eq (map (λ (p : Port). p.reference) s.ports)) (sym c.requires.prepared.system) (once_one 2);
+  no_event = search rules;
+  no_early = search rules;
+  variable = search rules;
+}
 
 pub returns : goal.returns
 returns g c before e = record {
@@ -27,15 +41,16 @@ returns g c before e = record {
       c.requires.peer.talk c.requires.peer.faults c.run_alone-peer.ensures.peer;
   outs = c.run_alone-peer.ensures.told;
   writes = subst
-      (λ (s : System). WritesWhole s c.args.options.now.plan c.run_alone-peer.result.end (g.O.Sink.content c.args.out.now) (g.O.Sink.content c.run_alone-peer.new.out))
+      (λ (s : System). WritesWhole s c.args.options.now.plan c.run_alone-peer.result.end (current_point c.args.options.now.plan (g.S.Link.Peer.view c.run_alone-peer.result.peer)) (g.O.Sink.content c.args.out.now) (g.O.Sink.content c.run_alone-peer.new.out))
       c.requires.prepared.system c.run_alone-peer.ensures.writes;
   trace = λ m t w. subst
-      (λ (s : System). CompletesWhole (run_of s c.args.options.now.plan m) c.run_alone-peer.result.end (g.O.Sink.content c.args.out.now) (g.O.Sink.content c.run_alone-peer.new.out))
+      (λ (s : System). CompletesWhole (run_of s c.args.options.now.plan m) c.run_alone-peer.result.end (g.O.Sink.content c.args.out.now) (g.O.Sink.content c.run_alone-peer.new.out) 0 (g.S.Link.Peer.view c.run_alone-peer.result.peer).faults)
       c.requires.prepared.system
+      (subst (λ n. CompletesWhole (run_of c.args.prepared.now.system c.args.options.now.plan m) c.run_alone-peer.result.end (g.O.Sink.content c.args.out.now) (g.O.Sink.content c.run_alone-peer.new.out) n (g.S.Link.Peer.view c.run_alone-peer.result.peer).faults) c.requires.peer.faults
       (c.run_alone-peer.ensures.trace m
       (record {
         machine = sym (ap (λ (f : Fixed). f.machine) c.run_alone-peer.ensures.fixed) ∙ t;
         state = c.requires.peer.state ∙ ap (option_map (λ (m : Machine). m.first)) (sym (ap (λ (f : Fixed). f.machine) c.run_alone-peer.ensures.fixed) ∙ t);
       })
-      (subst (λ (s : System). WellBehaved (run_of s c.args.options.now.plan m)) (sym c.requires.prepared.system) w));
+      (subst (λ (s : System). WellBehaved (run_of s c.args.options.now.plan m)) (sym c.requires.prepared.system) w)));
 }

@@ -1,4 +1,4 @@
-use Rattle.ssprun.proofs.Rows.{end_row, words_row, file_row, form_row, link_row, refusal_row, misreply_row, write_row, memory_row, trace_row, peer_row}
+use Rattle.ssprun.proofs.Rows.{end_row, words_row, file_row, form_row, link_row, refusal_row, misreply_row, write_row, memory_row, trace_row, peer_row, status_row}
 use Rattle.ssprun.proofs.run.run_words.Goals as goal
 
 pub returns-clause-done : goal.returns-clause-done
@@ -33,3 +33,6 @@ returns-clause-trace g c = trace_row c.run-outcome.result _ c.run-outcome.ensure
 
 pub returns-clause-peer : goal.returns-clause-peer
 returns-clause-peer g c = peer_row c.run-outcome.result _ c.run-outcome.ensures c.report.ensures
+
+pub returns-clause-status : goal.returns-clause-status
+returns-clause-status g c = status_row c.run-outcome.result _ c.run-outcome.ensures c.report.ensures

@@ -1,12 +1,22 @@
-use Rattle.std.proofs.Common.{subst, not}
-use Rattle.std.specs.Prelude.{MatchBool, ◌≡◌, Bool}
-use Rattle.fmu_peer.specs.Close.{Closes}
-use Rattle.step_master.proofs.Closing.{stepping_peer}
+use Rattle.step_master.specs.Follow.{IsClosable}
+use Rattle.step_master.proofs.Closing.{left_shut, closable_left, point_closed, later_closed, writes_at, completes_later}
+use Rattle.fmi_calls.specs.declared.call.Call.TheVariants as C
+use Rattle.std.specs.Prelude.{[], ◌∷◌}
+use Rattle.step_master.specs.Progress.{run_of}
 use Rattle.step_master.proofs.run.run_stepping.Goals as goal
 
 pub returns-clause-peer : goal.returns-clause-peer
 returns-clause-peer g c =
-    stepping_peer c.steps-end.result (g.L.Peer.view c.args.fmu.peer) (g.L.Peer.view c.steps-end.new.fmu.peer) (g.L.Peer.view c.close-peer.result) c.steps-end.ensures.peer
-    (let view = g.L.Peer.view in
-    let P : Bool → Type 0 = λ (b : Bool). MatchBool (not b) (view c.close-peer.result ≡ view c.steps-end.new.fmu.peer) (Closes (view c.steps-end.new.fmu.peer).phase.state (view c.steps-end.new.fmu.peer) (view c.close-peer.result)) in
-    subst P c.is_finished.ensures c.close-peer.ensures)
+    left_shut (C.ExitInitialization ∷ []) c.steps-end.result (g.L.Peer.view c.args.fmu.peer) (g.L.Peer.view c.steps-end.new.fmu.peer) (g.L.Peer.view c.close-peer.result) c.steps-end.ensures.peer c.close-peer.ensures
+
+pub returns-clause-writes : goal.returns-clause-writes
+returns-clause-writes g c =
+    let closable : IsClosable (g.L.Peer.view c.steps-end.new.fmu.peer) = closable_left (C.ExitInitialization ∷ []) c.steps-end.result (g.L.Peer.view c.args.fmu.peer) (g.L.Peer.view c.steps-end.new.fmu.peer) c.steps-end.ensures.peer in
+    writes_at c.args.plan.now c.steps-end.result (g.L.Peer.view c.steps-end.new.fmu.peer) (g.L.Peer.view c.close-peer.result) _ _
+    (point_closed (g.L.Peer.view c.steps-end.new.fmu.peer) (g.L.Peer.view c.close-peer.result) closable c.close-peer.ensures) c.steps-end.ensures.writes
+
+pub returns-clause-trace : goal.returns-clause-trace
+returns-clause-trace g c = λ m begins good.
+    let closable : IsClosable (g.L.Peer.view c.steps-end.new.fmu.peer) = closable_left (C.ExitInitialization ∷ []) c.steps-end.result (g.L.Peer.view c.args.fmu.peer) (g.L.Peer.view c.steps-end.new.fmu.peer) c.steps-end.ensures.peer in
+    completes_later (run_of c.args.system.now c.args.plan.now m) c.steps-end.result _ _ _ _ _
+    (later_closed (g.L.Peer.view c.steps-end.new.fmu.peer) (g.L.Peer.view c.close-peer.result) closable c.close-peer.ensures) (c.steps-end.ensures.trace m begins good)

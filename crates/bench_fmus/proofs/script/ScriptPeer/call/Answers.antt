@@ -1,4 +1,4 @@
-use Rattle.std.proofs.Common.{rules, ap, ◌∙◌}
+use Rattle.std.proofs.Common.{rules}
 use Rattle.bench_fmus.proofs.ScriptLemmas.{kept_answer}
 use Rattle.bench_fmus.proofs.script.ScriptPeer.call.Goals as goal
 

@@ -1,0 +1,141 @@
+ghost use Rattle.std.specs.Prelude.{◌≡◌, option_copied, length, true};
+ghost use Rattle.fmi_calls.specs.Permission.{Permitted};
+ghost use Rattle.fmi_calls.specs.Next.{HasMarks, next_of, entered, end_of, state_after_bad, restores_after, marked, marks_after_set};
+
+use crate::permission::place_of;
+use crate::{BadStatus, Call, Content, Grade, Marks, Phase, Reply, Slot, State, grade};
+use value_types::Shape;
+
+/// Goes on to the phase after a call, with its reply or with none at a fault. It takes no memory.
+pub fn next_phase(shape: &Shape, phase: &mut Phase, call: &Call, reply: Option<&Reply>)
+    requires permitted { Permitted shape.now phase.old call.now }
+    requires room { HasMarks shape.now phase.old }
+    ensures next { phase.new ≡ next_of shape.now phase.old call.now (option_copied reply.entry) }
+    ensures room { HasMarks shape.now phase.new }
+{
+    phase.exchanges = phase.exchanges.saturating_add(1);
+    phase.restores = restores_after(phase.restores, call);
+    let Some(reply) = reply else {
+        phase.state = State::Lost;
+        return;
+    };
+    match grade(shape, phase, call, reply) {
+        Grade::Good => enter(shape, phase, call, reply),
+        Grade::Refused => {
+            phase.state = state_after_bad(phase.state, call, reply.bad_status());
+        }
+        Grade::Misreply => {
+            phase.state = state_after_bad(phase.state, call, BadStatus::Error);
+        }
+    }
+}
+
+fn restores_after(restores: u64, call: &Call) -> u64
+    ensures { result ≡ restores_after restores call.now }
+{
+    match call {
+        Call::Restore => restores.saturating_add(1),
+        _ => restores,
+    }
+}
+
+fn end_of(reply: &Reply, point: u64) -> u64
+    ensures { result ≡ end_of reply.now point }
+{
+    match reply {
+        Reply::Done {
+            content: Content::DoStep { end, .. },
+            ..
+        } => *end,
+        _ => point,
+    }
+}
+
+// Where a good reply leads.
+fn enter(shape: &Shape, phase: &mut Phase, call: &Call, reply: &Reply)
+    requires { HasMarks shape.now phase.old }
+    ensures next { phase.new ≡ entered shape.now phase.old call.now reply.now }
+    ensures room { HasMarks shape.now phase.new }
+{
+    match *call {
+        Call::Instantiate { .. } => phase.state = State::Instantiated,
+        Call::EnterInitialization { start, stop } => {
+            phase.state = State::Initialization;
+            phase.point = start;
+            phase.stop = stop;
+        }
+        Call::ExitInitialization => phase.state = State::Step,
+        Call::DoStep { size, .. } => {
+            phase.point = end_of(reply, phase.point);
+            phase.first_size = Some(phase.first_size.unwrap_or(size));
+            phase.marks.clear();
+        }
+        Call::Get { .. } => {}
+        Call::Set { reference, .. } => {
+            mark_after_set(phase.state, shape, &mut phase.marks, reference);
+        }
+        Call::Save => save(phase),
+        Call::Restore => restore(phase),
+        Call::Free => phase.slot.is_full = false,
+        Call::Terminate => phase.state = State::Terminated,
+        Call::FreeInstance => phase.state = State::Gone,
+    }
+}
+
+fn mark_after_set(state: State, shape: &Shape, marks: &mut Marks, reference: u32)
+    requires { length marks.old ≡ length shape.now.variables }
+    ensures marks { marks.new ≡ marks_after_set state shape.now marks.old reference }
+    ensures room { length marks.new ≡ length shape.now.variables }
+{
+    match state {
+        State::Step => mark(shape, marks, reference),
+        State::Fresh
+        | State::Instantiated
+        | State::Initialization
+        | State::Terminated
+        | State::Dead
+        | State::Lost
+        | State::Gone => {}
+    }
+}
+
+fn mark(shape: &Shape, marks: &mut Marks, reference: u32)
+    requires { length marks.old ≡ length shape.now.variables }
+    ensures marks { marks.new ≡ marked shape.now marks.old reference }
+    ensures room { length marks.new ≡ length shape.now.variables }
+{
+    match place_of(shape, reference) {
+        Some(place) => marks.mark(place),
+        None => {}
+    }
+}
+
+fn save(phase: &mut Phase)
+    requires { length phase.old.marks ≡ length phase.old.slot.marks }
+    ensures { phase.new ≡ record phase.old { slot = record { is_full = true; point = phase.old.point; marks = phase.old.marks } } }
+{
+    phase.slot.is_full = true;
+    phase.slot.point = phase.point;
+    phase.slot.marks.copy_from(&phase.marks);
+}
+
+fn restore(phase: &mut Phase)
+    requires { length phase.old.marks ≡ length phase.old.slot.marks }
+    ensures { phase.new ≡ record phase.old { point = phase.old.slot.point; marks = phase.old.slot.marks } }
+{
+    phase.point = phase.slot.point;
+    phase.marks.copy_from(&phase.slot.marks);
+}
+
+// Where a bad reply leads.
+fn state_after_bad(state: State, call: &Call, status: BadStatus) -> State
+    ensures { result ≡ state_after_bad state call.now status }
+{
+    match (call, status) {
+        (Call::FreeInstance, _) => State::Gone,
+        (_, BadStatus::Fatal) => State::Lost,
+        (Call::Instantiate { .. }, _) => State::Gone,
+        (_, BadStatus::Error) => State::Dead,
+        (_, BadStatus::Discard) => state,
+    }
+}
