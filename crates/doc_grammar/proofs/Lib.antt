@@ -16,3 +16,4 @@ pub mod Cuts
 pub mod Judging
 pub mod Encoded
 pub mod Built
+pub mod Bounded

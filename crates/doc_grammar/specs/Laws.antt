@@ -1,12 +1,12 @@
 -- What holds of documents, their faults and the machine.
-use Rattle.std.specs.Prelude.{◌≡◌, ℕ, List, [], ◌∷◌, ◌++◌, length, None}
+use Rattle.std.specs.Prelude.{◌≡◌, ℕ, ◌≤◌, List, [], ◌∷◌, ◌++◌, length, All, None}
 use Rattle.std.specs.Str.{IsUtf8, encode_utf8_all}
 use Rattle.std.specs.Char.{IsScalar}
 use Rattle.doc_grammar.specs.Characters.{class}
-use Rattle.doc_grammar.specs.Grammar.{strict, Document, Event, Content, events}
+use Rattle.doc_grammar.specs.Grammar.{strict, Document, Event, Content, events, Pair}
 use Rattle.doc_grammar.specs.Faults.{IsDocument, IsFault, IsBroken, judged}
 use Rattle.doc_grammar.specs.Machine.{State, dead, start, step, Run, Leads, Final}
-use Rattle.doc_grammar.specs.Nodes.{nodes_of, nodes_under}
+use Rattle.doc_grammar.specs.Nodes.{Node, nodes_of, nodes_under, Denotes}
 use Rattle.doc_grammar.specs.declared.reasons.Why.{Why}
 use Rattle.doc_grammar.specs.declared.reasons.Rule.{Rule}
 use Rattle.doc_grammar.specs.declared.reasons.Rule.TheVariants.{Malformed}
@@ -48,3 +48,15 @@ Cut =
 -- nodes stand in document order, each below the element that it stands in
 abbrev pub Ordered : Type 0
 Ordered = (c : Content) → nodes_of (events c []) ≡ nodes_under c None 0
+
+-- a name and its value of at most so many bytes each
+abbrev pub PairWithin : ℕ → Pair → Type 0
+PairWithin most p = (length p.0 ≤ most) × (length p.1 ≤ most)
+
+-- a node whose name, and each name and value of its attributes, has at most so many bytes
+abbrev pub NodeWithin : ℕ → Node → Type 0
+NodeWithin most node = (length node.name ≤ most) × All (PairWithin most) node.attrs
+
+-- no name and no value of a document is longer than the document
+abbrev pub Bounded : Type 0
+Bounded = (bytes : List ℕ) (nodes : List Node) → Denotes bytes nodes → All (NodeWithin (length bytes)) nodes

@@ -1,4 +1,4 @@
-ghost use Rattle.doc_grammar.specs.Laws.{OneTree, OneFault, Encoded, Sound, Complete, Judged, Cut, Ordered};
+ghost use Rattle.doc_grammar.specs.Laws.{OneTree, OneFault, Encoded, Sound, Complete, Judged, Cut, Ordered, Bounded};
 
 /// What holds of documents, their faults and the machine.
 pub fn document_laws()
@@ -10,4 +10,5 @@ pub fn document_laws()
     ensures judged { Judged }
     ensures cut { Cut }
     ensures ordered { Ordered }
+    ensures bounded { Bounded }
 {}

@@ -6,6 +6,7 @@ use Rattle.doc_grammar.proofs.Judging.{one_tree, judged_fault, end_fault}
 use Rattle.doc_grammar.proofs.OneFault.{one_fault}
 use Rattle.doc_grammar.proofs.Encoded.{document_utf8}
 use Rattle.doc_grammar.proofs.Built.{ordered}
+use Rattle.doc_grammar.proofs.Bounded.{bounded}
 use Rattle.doc_grammar.proofs.laws.document_laws.Goals as goal
 
 pub returns-clause-one_tree : goal.returns-clause-one_tree
@@ -31,3 +32,6 @@ returns-clause-cut c = λ text s out u h f. end_fault text s out u h f
 
 pub returns-clause-ordered : goal.returns-clause-ordered
 returns-clause-ordered c = λ c. ordered c
+
+pub returns-clause-bounded : goal.returns-clause-bounded
+returns-clause-bounded c = λ bytes nodes h. bounded bytes nodes h
