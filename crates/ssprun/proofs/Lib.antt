@@ -1,2 +1,3 @@
 pub mod Peer
 pub mod Rows
+pub mod AdapterLemmas

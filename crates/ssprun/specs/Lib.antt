@@ -4,4 +4,5 @@ pub mod Line
 pub mod Facts
 pub mod Lines
 pub mod Prepared
+pub mod Reading
 pub mod Rows
