@@ -1,4 +1,4 @@
-ghost use Rattle.std.specs.Prelude.{◌≡◌, ◌+◌, ◌-◌, ◌^◌, ◌<◌, ◌≤◌, min, take, length, List, ℕ, Option, Some, None, Ok, Err, IfOk, IfSome, OnOk, OnErr, is_some, refl};
+ghost use Rattle.std.specs.Prelude.{◌≡◌, ◌+◌, ◌-◌, ◌^◌, ◌<◌, ◌≤◌, min, take, length, List, ℕ, Option, Some, None, Ok, Err, IfOk, IfErr, IfSome, OnOk, OnErr, is_some, refl};
 ghost use Rattle.std.specs.IoError.{error_kind};
 ghost use Rattle.sim_base.specs.Folder.{HasReadCause, Reads};
 ghost use Rattle.sim_base.specs.Told.{added, AddsPart};
@@ -54,7 +54,20 @@ fn read_file<R: Files>(
 ) -> Result<Vec<u8>, ReadFault>
     ensures { KeepsLimit limit result }
 {
-    match fs::open(runtime, path) {
+    read_opened(fs::open(runtime, path), alloc, limit)
+}
+
+// The answer to the opening of a file.
+fn read_opened<R: Read + Drop>(
+    opened: io::Result<R>,
+    alloc: Global,
+    limit: u64,
+) -> Result<Vec<u8>, ReadFault>
+    ensures ok { IfOk opened (λ reader. IfSome (R.remaining reader) (λ left. ReadsWithin left limit result)) }
+    ensures err { IfErr opened (λ error. result ≡ Err (unopened (error_kind error))) }
+    ensures bound { KeepsLimit limit result }
+{
+    match opened {
         Ok(file) => read_within(file, alloc, limit),
         Err(error) => Err(unopened(&error)),
     }
