@@ -10,7 +10,7 @@ use std::test::Fail;
 use value_types::{Causality, PortType, Shape, Variable};
 
 // The type of y, the parameter inc, and the words of y in Initialization Mode and after each of three steps.
-const COUNTS: [(PortType, i128, [u64; 4]); 6] = [
+const COUNTS: [(PortType, i128, [u64; 4]); 13] = [
     (PortType::Int32, 2, [0, 2, 4, 6]),
     (
         PortType::Int32,
@@ -27,7 +27,40 @@ const COUNTS: [(PortType, i128, [u64; 4]); 6] = [
         2_147_483_647,
         [0, 2_147_483_647, 18_446_744_073_709_551_614, 2_147_483_645],
     ),
+    (
+        PortType::Int8,
+        100,
+        [0, 100, 18_446_744_073_709_551_560, 44],
+    ),
+    (PortType::UInt8, 100, [0, 100, 200, 44]),
     (PortType::UInt8, 300, [0, 44, 88, 132]),
+    (
+        PortType::Int16,
+        20_000,
+        [
+            0,
+            20_000,
+            18_446_744_073_709_526_080,
+            18_446_744_073_709_546_080,
+        ],
+    ),
+    (PortType::UInt16, 40_000, [0, 40_000, 14_464, 54_464]),
+    (
+        PortType::UInt32,
+        3_000_000_000,
+        [0, 3_000_000_000, 1_705_032_704, 410_065_408],
+    ),
+    (
+        PortType::UInt64,
+        -1,
+        [
+            0,
+            18_446_744_073_709_551_615,
+            18_446_744_073_709_551_614,
+            18_446_744_073_709_551_613,
+        ],
+    ),
+    (PortType::Enumeration, 7, [0, 7, 14, 21]),
     (PortType::Boolean, 1, [0, 1, 0, 1]),
     (
         PortType::Int64,
@@ -272,6 +305,42 @@ fn a_long_step_asks_to_end(rt: HostRuntime) -> Result<(), Fail> {
         let exit = (Call::ExitInitialization, Content::ExitInitialization);
         assert!(rt; size < 60);
         run(&rt, &mut counter, &[exit, step(0, size, terminate)]);
+    }
+    Ok(())
+}
+
+// The types of the parameter inc and of the outputs y and 7, and the words of both after a step by 300 from a start of
+// 300: under another reference than its own the counter shows the value.
+const OTHERS: [(PortType, PortType, [u64; 2]); 3] = [
+    (PortType::UInt16, PortType::Int8, [44, 44]),
+    (PortType::Int32, PortType::Enumeration, [300, 300]),
+    (PortType::Enumeration, PortType::Boolean, [0, 0]),
+];
+
+#[test]
+fn inc_and_y_have_any_type_and_another_output_shows_its_value(rt: HostRuntime) -> Result<(), Fail> {
+    let alloc = rt.alloc();
+    for (inc, kind, [y, other]) in OTHERS {
+        let variables = vec![in alloc;
+            variable(alloc, 1, inc, Causality::Parameter, Some(300))?,
+            variable(alloc, 2, kind, Causality::Output, None)?,
+            variable(alloc, 7, kind, Causality::Output, Some(300))?,
+        ]?;
+        let shape = self::shape(alloc, "counter", variables)?;
+        let mut bench = Bench::new(alloc, None, Vec::new(alloc));
+        let mut counter = start(&rt, alloc, &mut bench, &shape)?;
+        run(&rt, &mut counter, &BEGIN);
+        let steps = [
+            (Call::ExitInitialization, Content::ExitInitialization),
+            step(0, 20, false),
+            (Call::Get { kind, reference: 2 }, Content::Get { word: y }),
+            (
+                Call::Get { kind, reference: 7 },
+                Content::Get { word: other },
+            ),
+        ];
+        run(&rt, &mut counter, &steps);
+        run(&rt, &mut counter, &END);
     }
     Ok(())
 }

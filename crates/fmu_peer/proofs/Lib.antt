@@ -1,1 +1,4 @@
 pub mod TalkLemmas
+pub mod CloseLemmas
+pub mod OrderLemmas
+pub mod ShutLemmas

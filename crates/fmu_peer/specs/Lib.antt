@@ -5,6 +5,8 @@ pub mod View
 pub mod Start
 pub mod Answer
 pub mod Close
+pub mod Siblings
+pub mod CloseAll
 pub mod Mode
 pub mod Book
 pub mod Props

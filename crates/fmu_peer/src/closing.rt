@@ -1,13 +1,12 @@
-ghost use Rattle.std.specs.Prelude.{◌≡◌, IsTrue, false};
-ghost use Rattle.fmi_calls.specs.declared.phase.State.TheVariants as P;
-ghost use Rattle.fmu_peer.specs.Close.{IsClosed, Closes, Frees, TerminatesAndFrees, can_be_closed};
+ghost use Rattle.std.specs.Prelude.{false, [], ◌∷◌, ◌≡◌};
+ghost use Rattle.fmu_peer.specs.Close.{ClosesWith, IsClosed, closing_calls, is_fatal_answer};
 
-use crate::Peer;
-use fmi_calls::{Call, State};
+use crate::{Peer, PeerFault};
+use fmi_calls::{BadStatus, Call, Grade, Phase, Reply, grade, permitted};
+use value_types::Shape;
 
 /// Ends an instance by the calls that it still may be sent, or silently by none.
-pub(crate) fn close_peer<L: Peer>(peer: &mut L, silent: bool)
-    requires { IsTrue (can_be_closed (L.view peer.old).phase silent) }
+pub(crate) fn close_unless<L: Peer>(peer: &mut L, silent: bool)
     ensures { IsClosed silent (L.view peer.old) (L.view peer.new) }
 {
     if !silent {
@@ -15,32 +14,53 @@ pub(crate) fn close_peer<L: Peer>(peer: &mut L, silent: bool)
     }
 }
 
-fn end_peer<L: Peer>(peer: &mut L)
-    requires { IsTrue (can_be_closed (L.view peer.old).phase false) }
-    ensures { Closes (L.view peer.old).phase.state (L.view peer.old) (L.view peer.new) }
+/// Ends an instance by the calls that it still may be sent, and tells whether one was refused with Fatal. A state that
+/// is still held saved is freed first.
+pub(crate) fn close_peer<L: Peer>(peer: &mut L, has_saved: bool) -> bool
+    ensures { ClosesWith (closing_calls has_saved) (L.view peer.old) result (L.view peer.new) }
 {
-    if peer.phase().state == State::Step {
-        terminate_peer(peer);
+    if has_saved {
+        let freed = send(peer, Call::Free);
+        let ended = end_peer(peer);
+        freed || ended
     } else {
-        free_peer(peer);
+        end_peer(peer)
     }
 }
 
 // Whatever Terminate answers, FreeInstance follows where it is still permitted.
-fn terminate_peer<L: Peer>(peer: &mut L)
-    requires state { (L.view peer.old).phase.state ≡ P.Step }
-    requires empty { (L.view peer.old).phase.slot.is_full ≡ false }
-    ensures { TerminatesAndFrees (L.view peer.old) (L.view peer.new) }
+fn end_peer<L: Peer>(peer: &mut L) -> bool
+    ensures { ClosesWith (closing_calls false) (L.view peer.old) result (L.view peer.new) }
 {
-    let _ = peer.call(&Call::Terminate);
-    free_peer(peer);
+    let terminated = send(peer, Call::Terminate);
+    let freed = send(peer, Call::FreeInstance);
+    terminated || freed
 }
 
-fn free_peer<L: Peer>(peer: &mut L)
-    ensures { Frees (L.view peer.old) (L.view peer.new) }
+// Sends a call where it is permitted, and tells whether it was refused with Fatal.
+fn send<L: Peer>(peer: &mut L, call: Call) -> bool
+    ensures { ClosesWith (call ∷ []) (L.view peer.old) result (L.view peer.new) }
 {
-    let phase = peer.phase();
-    if phase.state.can_be_freed(phase.slot.is_full) {
-        let _ = peer.call(&Call::FreeInstance);
+    if permitted(peer.shape(), peer.phase(), &call) {
+        let answer = peer.call(&call);
+        is_fatal(peer.shape(), peer.phase(), &call, answer)
+    } else {
+        false
+    }
+}
+
+// Whether an answer is a refusal with Fatal.
+fn is_fatal(shape: &Shape, phase: &Phase, call: &Call, answer: Result<Reply, PeerFault>) -> bool
+    ensures { result ≡ is_fatal_answer shape.now call.now answer }
+{
+    match answer {
+        Ok(reply) => match grade(shape, phase, call, &reply) {
+            Grade::Refused => match reply.bad_status() {
+                BadStatus::Fatal => true,
+                BadStatus::Discard | BadStatus::Error => false,
+            },
+            Grade::Good | Grade::Misreply => false,
+        },
+        Err(_) => false,
     }
 }

@@ -1,7 +1,7 @@
 ghost use Rattle.std.specs.Prelude.{◌≡◌, IsTrue};
 ghost use Rattle.fmu_peer.specs.Close.{IsClosed, can_be_closed};
 
-use crate::closing::close_peer;
+use crate::closing::close_unless;
 use crate::{Peer, PeerFault};
 use fmi_calls::{BadStatus, Call, Phase, Reply};
 
@@ -35,8 +35,15 @@ impl<L: Peer> Ended<L> {
         requires { IsTrue (can_be_closed (L.view self.peer).phase silent) }
         ensures { IsClosed silent (L.view self.peer) (L.view result) }
     {
-        let Ended { mut peer, why: _ } = self;
-        close_peer(&mut peer, silent);
+        let mut peer = self.into_peer();
+        close_unless(&mut peer, silent);
+        peer
+    }
+
+    pub(crate) fn into_peer(self) -> L
+        ensures { result ≡ self.peer }
+    {
+        let Ended { peer, why: _ } = self;
         peer
     }
 }

@@ -6,7 +6,7 @@ ghost use Rattle.fmu_peer.specs.Mode.{agrees, instantiate_of};
 ghost use Rattle.fmu_peer.specs.Answer.{Answered, Failed};
 ghost use Rattle.fmu_peer.specs.Close.{IsClosed, can_be_closed};
 
-use crate::closing::close_peer;
+use crate::closing::close_unless;
 use crate::{Ended, Fresh, Initializing, Instantiated, Mode, Peer, Saved, Stepping, Why};
 use fmi_calls::{Call, Grade, Reply, grade};
 use std::marker::PhantomData;
@@ -199,8 +199,15 @@ impl<L: Peer, M: Mode> Fmu<L, M> {
         requires { IsTrue (can_be_closed (L.view self.peer).phase silent) }
         ensures { IsClosed silent (L.view self.peer) (L.view result) }
     {
-        let Fmu { mut peer, mode: _ } = self;
-        close_peer(&mut peer, silent);
+        let mut peer = self.into_peer();
+        close_unless(&mut peer, silent);
+        peer
+    }
+
+    pub(crate) fn into_peer(self) -> L
+        ensures { result ≡ self.peer }
+    {
+        let Fmu { peer, mode: _ } = self;
         peer
     }
 }

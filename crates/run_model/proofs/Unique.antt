@@ -1,13 +1,13 @@
 -- A system, its machines and a plan have one trace at most.
-use Rattle.std.proofs.Common.{◌≡◌, ◌≢◌, ℕ, ◌<◌, ◌≤◌, Bool, true, false, List, [], ◌∷◌, length, map, Option, Some, None, get_or, refl, sym, ap, ◌∙◌, subst, arith}
-use Rattle.std.specs.Prelude.{All, slice_get}
+use Rattle.std.proofs.Common.{◌≡◌, ℕ, ◌<◌, ◌≤◌, true, false, List, [], ◌∷◌, length, map, Option, Some, None, get_or, refl, sym, ap, ◌∙◌, subst, arith}
+use Rattle.std.specs.Prelude.{slice_get}
 use Rattle.std.proofs.lemmas.List.{ext_get_or}
 use Rattle.std.proofs.lemmas.Option.{slice_get-get_or}
 use Rattle.run_model.specs.declared.plan.Plan.{Plan}
 use Rattle.run_model.specs.declared.plan.EndKind.{EndKind}
 use Rattle.run_model.specs.Text.{Instant}
-use Rattle.run_model.specs.Steps.{IsBound, Agree, AllMeet, OthersMeet, Falls, met, others, kept_ask, least_or}
-use Rattle.run_model.specs.Trace.{Run, Situation, Solves, IsStep, Continues, AtStop, WhereAsked, ByStep, IsTrace, instant_of, after_step, equation, value, asks_to_end, ends_of}
+use Rattle.run_model.specs.Steps.{IsBound, Stepper, Agree, AllMeet, OthersMeet, Falls, StopsShort, StopsFirst, StopsAgain, StopsLater, FixedStep, OthersEnd, met, is_other, fallen_bound, kept_ask}
+use Rattle.run_model.specs.Trace.{Run, Situation, Solves, IsStep, LacksStep, Continues, AtStop, WhereAsked, WhereFixed, ByStep, IsTrace, instant_of, after_step, asks_to_end}
 
 -- there is an element at a place within a list
 pub element_at : {X : Type 0} (xs : List X) (p : ℕ) → p < length xs → (x : X) × (slice_get xs p ≡ Some x)
@@ -27,24 +27,41 @@ bound_same plan t b c x y =
     let high : c ≤ b = y.least b x.later x.mark in
     omega arith
 
-pub agree_same : {ends : List (ℕ → ℕ)} {b c : ℕ} {k l : List ℕ} {p q : ℕ} → Agree ends b k p → Agree ends c l q → b ≡ c → (k ≡ l) × (p ≡ q)
-agree_same {ends} (AllMeet b k p m x y) (AllMeet c l q n v w) e =
-    (x ∙ ap (λ a. map (λ (end : ℕ → ℕ). a) ends) e ∙ sym v, y ∙ e ∙ sym w)
-agree_same {ends} (AllMeet b k p m x y) (OthersMeet c l q n a v w) e = absurd (n (subst (λ a. met ends a ≡ a) e m))
-agree_same {ends} (AllMeet b k p m x y) (Falls c l q n a v) e = absurd (n (subst (λ a. met ends a ≡ a) e m))
-agree_same {ends} (OthersMeet b k p m a x y) (AllMeet c l q n v w) e = absurd (m (subst (λ a. met ends a ≡ a) (sym e) n))
-agree_same {ends} (OthersMeet b k p m a x y) (OthersMeet c l q n d v w) e =
-    (x ∙ ap (λ a. map (kept_ask a (met ends a)) ends) e ∙ sym v, y ∙ ap (met ends) e ∙ sym w)
-agree_same {ends} (OthersMeet b k p m a x y) (Falls c l q n d v) e =
-    absurd (d (subst (λ a. All (λ (end : ℕ → ℕ). end (met ends a) ≡ met ends a) (others ends a (met ends a))) e a))
-agree_same {ends} (Falls b k p m a x) (AllMeet c l q n v w) e = absurd (m (subst (λ a. met ends a ≡ a) (sym e) n))
-agree_same {ends} (Falls b k p m a x) (OthersMeet c l q n d v w) e =
-    absurd (a (subst (λ a. All (λ (end : ℕ → ℕ). end (met ends a) ≡ met ends a) (others ends a (met ends a))) (sym e) d))
-agree_same {ends} (Falls b k p m a x) (Falls c l q n d v) e =
-    agree_same x v (ap (λ a. least_or a (map (λ (end : ℕ → ℕ). end (met ends a)) (others ends a (met ends a)))) e)
+pub agree_same : {fmus : List Stepper} {t step b c : ℕ} {k l : List ℕ} {p q : ℕ} → Agree fmus t step b k p → Agree fmus t step c l q → b ≡ c → (k ≡ l) × (p ≡ q)
+agree_same {fmus} (AllMeet b k p may m x y) (AllMeet c l q may2 n v w) e =
+    (x ∙ ap (λ a. map (λ (f : Stepper). a) fmus) e ∙ sym v, y ∙ e ∙ sym w)
+agree_same {fmus} (AllMeet b k p may m x y) (OthersMeet c l q may2 n again a v w) e = absurd (n (subst (λ a. met fmus a ≡ a) e m))
+agree_same {fmus} (AllMeet b k p may m x y) (Falls c l q may2 n again a v) e = absurd (n (subst (λ a. met fmus a ≡ a) e m))
+agree_same {fmus} (OthersMeet b k p may m again a x y) (AllMeet c l q may2 n v w) e = absurd (m (subst (λ a. met fmus a ≡ a) (sym e) n))
+agree_same {fmus} (OthersMeet b k p may m again a x y) (OthersMeet c l q may2 n again2 d v w) e =
+    (x ∙ ap (λ a. map (kept_ask a (met fmus a)) fmus) e ∙ sym v, y ∙ ap (met fmus) e ∙ sym w)
+agree_same {fmus} (OthersMeet b k p may m again a x y) (Falls c l q may2 n again2 d v) e = absurd (d (subst (λ a. OthersEnd fmus a) e a))
+agree_same {fmus} (Falls b k p may m again a x) (AllMeet c l q may2 n v w) e = absurd (m (subst (λ a. met fmus a ≡ a) (sym e) n))
+agree_same {fmus} (Falls b k p may m again a x) (OthersMeet c l q may2 n again2 d v w) e = absurd (a (subst (λ a. OthersEnd fmus a) (sym e) d))
+agree_same {fmus} (Falls b k p may m again a x) (Falls c l q may2 n again2 d v) e = agree_same x v (ap (fallen_bound fmus) e)
+
+-- where the FMUs agree, none of them stops short
+pub agree_or_stop : {fmus : List Stepper} {t step b c : ℕ} {k : List ℕ} {p i e : ℕ} → Agree fmus t step b k p → StopsShort fmus t step c i e → b ≡ c → ⊥
+agree_or_stop {fmus} {t} {step} (AllMeet b k p may m x y) (StopsFirst c i e f w) s = may i (subst (λ a. FixedStep fmus (λ g. true) t step i a) (sym s) f)
+agree_or_stop {fmus} {t} {step} (AllMeet b k p may m x y) (StopsAgain c i e may2 n f w) s = n (subst (λ a. met fmus a ≡ a) s m)
+agree_or_stop {fmus} {t} {step} (AllMeet b k p may m x y) (StopsLater c i e may2 n again2 d v) s = n (subst (λ a. met fmus a ≡ a) s m)
+agree_or_stop {fmus} {t} {step} (OthersMeet b k p may m again a x y) (StopsFirst c i e f w) s = may i (subst (λ a. FixedStep fmus (λ g. true) t step i a) (sym s) f)
+agree_or_stop {fmus} {t} {step} (OthersMeet b k p may m again a x y) (StopsAgain c i e may2 n f w) s =
+    again i (subst (λ a. FixedStep fmus (is_other a (met fmus a)) t step i (met fmus a)) (sym s) f)
+agree_or_stop {fmus} {t} {step} (OthersMeet b k p may m again a x y) (StopsLater c i e may2 n again2 d v) s = d (subst (λ a. OthersEnd fmus a) s a)
+agree_or_stop {fmus} {t} {step} (Falls b k p may m again a x) (StopsFirst c i e f w) s = may i (subst (λ a. FixedStep fmus (λ g. true) t step i a) (sym s) f)
+agree_or_stop {fmus} {t} {step} (Falls b k p may m again a x) (StopsAgain c i e may2 n f w) s =
+    again i (subst (λ a. FixedStep fmus (is_other a (met fmus a)) t step i (met fmus a)) (sym s) f)
+agree_or_stop {fmus} {t} {step} (Falls b k p may m again a x) (StopsLater c i e may2 n again2 d v) s = agree_or_stop x v (ap (fallen_bound fmus) s)
 
 pub step_same : (r : Run) (s : Situation) (k l : List ℕ) (p q : ℕ) → IsStep r s k p → IsStep r s l q → (k ≡ l) × (p ≡ q)
 step_same r s k l p q x y = agree_same x.agree y.agree (bound_same r.plan s.t x.bound y.bound x.is_bound y.is_bound)
+
+-- a step is made or it isn't
+step_or_none : (r : Run) (s z : Situation) (k : List ℕ) (p i e : ℕ) → s ≡ z → IsStep r s k p → LacksStep r z i e → ⊥
+step_or_none r s z k p i e same x y =
+    let there : LacksStep r s i e = subst (λ (u : Situation). LacksStep r u i e) (sym same) y in
+    agree_or_stop x.agree there.stops (bound_same r.plan s.t x.bound there.bound x.is_bound there.is_bound)
 
 abbrev SameEnd : List Instant → List Instant → EndKind → EndKind → ℕ → ℕ → Type 0
 SameEnd is js k l p q = (is ≡ js) × (k ≡ l) × (p ≡ q)
@@ -53,6 +70,12 @@ no_step_at_stop : (r : Run) (s z : Situation) (k : List ℕ) (p : ℕ) → s.t �
 no_step_at_stop r s z k p at e step =
     let same : s.t ≡ z.t = ap (λ (u : Situation). u.t) e in
     let early : z.t < r.plan.stop = step.before_stop in
+    omega arith
+
+no_lack_at_stop : (r : Run) (s z : Situation) (i e : ℕ) → s.t ≡ r.plan.stop → s ≡ z → LacksStep r z i e → ⊥
+no_lack_at_stop r s z i e at same lacks =
+    let there : s.t ≡ z.t = ap (λ (u : Situation). u.t) same in
+    let early : z.t < r.plan.stop = lacks.before_stop in
     omega arith
 
 -- one is told to end by a step and the other to go on
@@ -73,6 +96,8 @@ continues_same {r} (AtStop s V is k p v at i a b) (WhereAsked z W js l q kept po
     absurd (no_step_at_stop r s z kept point at e step)
 continues_same {r} (AtStop s V is k p v at i a b) (ByStep z W js l q kept point rest w step asks j more) e =
     absurd (no_step_at_stop r s z kept point at e step)
+continues_same {r} (AtStop s V is k p v at i a b) (WhereFixed z W js l q n x w lacks j c d) e =
+    absurd (no_lack_at_stop r s z n x at e lacks)
 continues_same {r} (WhereAsked s V is k p kept point v step asks i a b) (AtStop z W js l q w too j c d) e =
     absurd (no_step_at_stop r z s kept point too (sym e) step)
 continues_same {r} (WhereAsked s V is k p kept point v step asks i a b) (WhereAsked z W js l q kept2 point2 w step2 asks2 j c d) e =
@@ -81,6 +106,19 @@ continues_same {r} (WhereAsked s V is k p kept point v step asks i a b) (WhereAs
     (i ∙ ap (λ x. instant_of s x ∷ []) same ∙ ap (λ (u : Situation). instant_of u W ∷ []) e ∙ sym j, a ∙ sym c, b ∙ ends.1 ∙ sym d)
 continues_same {r} (WhereAsked s V is k p kept point v step asks i a b) (ByStep z W js l q kept2 point2 rest w step2 asks2 j more) e =
     absurd (asks_both r s z kept kept2 point point2 e step step2 asks asks2)
+continues_same {r} (WhereAsked s V is k p kept point v step asks i a b) (WhereFixed z W js l q n x w lacks j c d) e =
+    absurd (step_or_none r s z kept point n x e step lacks)
+continues_same {r} (WhereFixed s V is k p m y v lacks i a b) (AtStop z W js l q w too j c d) e =
+    absurd (no_lack_at_stop r z s m y too (sym e) lacks)
+continues_same {r} (WhereFixed s V is k p m y v lacks i a b) (WhereAsked z W js l q kept point w step asks j c d) e =
+    absurd (step_or_none r z s kept point m y (sym e) step lacks)
+continues_same {r} (WhereFixed s V is k p m y v lacks i a b) (WhereFixed z W js l q n x w lacks2 j c d) e =
+    let same : V ≡ W = solves_same r s V W v (subst (λ (u : Situation). Solves r u W) (sym e) w) in
+    (i ∙ ap (λ x. instant_of s x ∷ []) same ∙ ap (λ (u : Situation). instant_of u W ∷ []) e ∙ sym j, a ∙ sym c, b ∙ ap (λ (u : Situation). u.t) e ∙ sym d)
+continues_same {r} (WhereFixed s V is k p m y v lacks i a b) (ByStep z W js l q kept point rest w step asks j more) e =
+    absurd (step_or_none r z s kept point m y (sym e) step lacks)
+continues_same {r} (ByStep s V is k p kept point rest v step asks i more) (WhereFixed z W js l q n x w lacks j c d) e =
+    absurd (step_or_none r s z kept point n x e step lacks)
 continues_same {r} (ByStep s V is k p kept point rest v step asks i more) (AtStop z W js l q w too j c d) e =
     absurd (no_step_at_stop r z s kept point too (sym e) step)
 continues_same {r} (ByStep s V is k p kept point rest v step asks i more) (WhereAsked z W js l q kept2 point2 w step2 asks2 j c d) e =

@@ -1,5 +1,5 @@
 -- Machines whose replies along the run are good: each one that is looked at, or that goes with a change, kept or not.
-use Rattle.std.specs.Prelude.{◌≡◌, ℕ, ℤ, Bool, false, List, Option, Some, slice_get}
+use Rattle.std.specs.Prelude.{◌≡◌, ℕ, ℤ, false, List, Option, Some, slice_get}
 use Rattle.value_types.specs.declared.shape.Shape.{Shape}
 use Rattle.fmi_calls.specs.declared.call.Call.{Call}
 use Rattle.fmi_calls.specs.declared.call.Call.TheVariants as C
@@ -10,7 +10,7 @@ use Rattle.fmu_peer.specs.Mode.{instantiate_of}
 use Rattle.run_model.specs.declared.system.Component.{Component}
 use Rattle.run_model.specs.declared.system.Port.{Port}
 use Rattle.run_model.specs.Steps.{IsBound, IsAsked}
-use Rattle.run_model.specs.Trace.{Run, Situation, Solves, IsStep, beginning, after_step, first_states, instantiated, initializing, ends_of, asks_to_end, step_to}
+use Rattle.run_model.specs.Trace.{Run, Situation, Solves, IsStep, beginning, after_step, first_states, instantiated, initializing, steppers, asks_to_end, step_to}
 use Rattle.std.specs.Prelude.{◌<◌}
 
 -- the run comes to this situation
@@ -32,5 +32,5 @@ pub record WellBehaved (r : Run) : Type 0 where
   pub exit : (i : ℕ) → AnswersWell r (initializing r) i (λ shape. C.ExitInitialization)
   pub gets : (s : Situation) → Reached r s → s.n ≡ 0 → (p : ℕ) (port : Port) → slice_get r.system.ports p ≡ Some port →
       AnswersWell r s.states port.component.0 (λ shape. C.Get port.kind port.reference)
-  pub steps : (s : Situation) → Reached r s → s.t < r.plan.stop → (b i e : ℕ) → IsBound r.plan s.t b → IsAsked (ends_of r.machines s.states s.t) b i e →
+  pub steps : (s : Situation) → Reached r s → s.t < r.plan.stop → (b i e : ℕ) → IsBound r.plan s.t b → IsAsked (steppers r s) s.t r.plan.step b i e →
       AnswersWell r s.states i (λ shape. step_to s.t e)

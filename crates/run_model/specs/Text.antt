@@ -10,7 +10,7 @@ use Rattle.run_model.specs.declared.system.Port.{Port}
 use Rattle.run_model.specs.declared.system.System.{System}
 use Rattle.run_model.specs.declared.plan.Plan.{Plan}
 use Rattle.run_model.specs.declared.plan.EndKind.{EndKind}
-use Rattle.run_model.specs.declared.plan.EndKind.TheVariants.{Stop, Asked, Fault}
+use Rattle.run_model.specs.declared.plan.EndKind.TheVariants.{Stop, Asked, Fixed, Fault}
 
 -- the values of the ports, where they have one, in the n-th instant at the point t
 pub record Instant : Type 0 where
@@ -68,6 +68,7 @@ instants_text (i ∷ is) = instant_text i.t i.n i.values ++ instants_text is
 abbrev pub kind_text : EndKind → List ℕ
 kind_text Stop = codes "stop"
 kind_text Asked = codes "asked"
+kind_text Fixed = codes "fixed"
 kind_text Fault = codes "fault"
 
 abbrev pub end_text : EndKind → ℕ → List ℕ

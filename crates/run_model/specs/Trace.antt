@@ -1,11 +1,10 @@
 -- The one trace of a system of FMUs under a plan (FMI 3.0, 2.1.5: super-dense time; 4.2.1: Co-Simulation).
-use Rattle.std.specs.Prelude.{◌≡◌, ℕ, ◌+◌, ◌-◌, ◌<◌, ℤ, Bool, true, false, ◌||◌, ◌==◌, if◌then◌else◌, List, [], ◌∷◌, length, map, Option, Some, None, option_and_then, slice_get, slice_index_or}
+use Rattle.std.specs.Prelude.{◌≡◌, ℕ, ◌-◌, ◌<◌, ℤ, Bool, true, false, ◌||◌, ◌==◌, if◌then◌else◌, List, [], ◌∷◌, length, map, Option, Some, None, option_and_then, slice_get, slice_index_or}
 use Rattle.value_types.specs.Values.{word_value}
 use Rattle.value_types.specs.declared.values.PortType.{PortType}
 use Rattle.value_types.specs.declared.shape.Shape.{Shape}
 use Rattle.fmi_calls.specs.declared.call.Call.{Call}
 use Rattle.fmi_calls.specs.declared.call.Call.TheVariants as C
-use Rattle.fmi_calls.specs.declared.call.Content.{Content}
 use Rattle.fmi_calls.specs.declared.call.Content.TheVariants as A
 use Rattle.fmi_calls.specs.declared.call.Reply.{Reply}
 use Rattle.fmi_calls.specs.declared.call.Reply.TheVariants as R
@@ -17,9 +16,9 @@ use Rattle.run_model.specs.declared.system.Port.{Port}
 use Rattle.run_model.specs.declared.system.System.{System}
 use Rattle.run_model.specs.declared.plan.Plan.{Plan}
 use Rattle.run_model.specs.declared.plan.EndKind.{EndKind}
-use Rattle.run_model.specs.declared.plan.EndKind.TheVariants.{Stop, Asked}
+use Rattle.run_model.specs.declared.plan.EndKind.TheVariants.{Stop, Asked, Fixed}
 use Rattle.run_model.specs.Text.{Instant}
-use Rattle.run_model.specs.Steps.{IsBound, Agree}
+use Rattle.run_model.specs.Steps.{IsBound, Stepper, Agree, StopsShort}
 
 -- a system, the machine of each component, and a plan
 pub record Run : Type 0 where
@@ -101,10 +100,15 @@ step_to t e = C.DoStep t (e - t)
 abbrev pub end_in : Machine → State → ℕ → ℕ → ℕ
 end_in m s t e = end_of (m.look s (step_to t e)) t
 
-abbrev pub ends_of : List Machine → List State → ℕ → List (ℕ → ℕ)
-ends_of (m ∷ ms) (s ∷ ss) t = end_in m s t ∷ ends_of ms ss t
-ends_of [] ss t = []
-ends_of (m ∷ ms) [] t = []
+-- the FMUs at a point, by their shapes and states
+abbrev pub steppers_of : List Component → List Machine → List State → ℕ → List Stepper
+steppers_of (c ∷ cs) (m ∷ ms) (s ∷ ss) t = record { has_variable_steps = c.shape.has_variable_steps; end = end_in m s t } ∷ steppers_of cs ms ss t
+steppers_of [] ms ss t = []
+steppers_of (c ∷ cs) [] ss t = []
+steppers_of (c ∷ cs) (m ∷ ms) [] t = []
+
+abbrev pub steppers : Run → Situation → List Stepper
+steppers r s = steppers_of r.system.components r.machines s.states s.t
 
 -- each state changed by its kept ask alone
 abbrev pub stepped : List Machine → List State → ℕ → List ℕ → List State
@@ -130,7 +134,14 @@ pub record IsStep (r : Run) (s : Situation) (kept : List ℕ) (point : ℕ) : Ty
   pub before_stop : s.t < r.plan.stop
   pub bound : ℕ
   pub is_bound : IsBound r.plan s.t bound
-  pub agree : Agree (ends_of r.machines s.states s.t) bound kept point
+  pub agree : Agree (steppers r s) s.t r.plan.step bound kept point
+
+-- a step before the stop that isn't made: the i-th component would be asked to step to e, and can't
+pub record LacksStep (r : Run) (s : Situation) (i e : ℕ) : Type 0 where
+  pub before_stop : s.t < r.plan.stop
+  pub bound : ℕ
+  pub is_bound : IsBound r.plan s.t bound
+  pub stops : StopsShort (steppers r s) s.t r.plan.step bound i e
 
 -- where the run stands after the step
 abbrev pub after_step : Run → Situation → List (Option ℤ) → List ℕ → ℕ → Situation
@@ -138,13 +149,15 @@ after_step r s values kept point = record { states = stepped r.machines s.states
 
 -- ---- the whole run
 
--- from here on the instants and the end are these: at the stop the run ends, and so it does at the reached point where a kept answer asks for it; without event mode each point has one instant
+-- from here on the instants and the end are these: at the stop the run ends, and so it does at the reached point where a kept answer asks for it, and where a step begins that an FMU can't make; without event mode each point has one instant
 pub data Continues (r : Run) : Situation → List Instant → EndKind → ℕ → Type 0 where
   AtStop : (s : Situation) (values : List (Option ℤ)) (is : List Instant) (kind : EndKind) (end : ℕ) →
       Solves r s values → s.t ≡ r.plan.stop → is ≡ instant_of s values ∷ [] → kind ≡ Stop → end ≡ s.t → Continues r s is kind end
   WhereAsked : (s : Situation) (values : List (Option ℤ)) (is : List Instant) (kind : EndKind) (end : ℕ) (kept : List ℕ) (point : ℕ) →
       Solves r s values → IsStep r s kept point → asks_to_end r.machines s.states s.t kept ≡ true →
       is ≡ instant_of s values ∷ [] → kind ≡ Asked → end ≡ point → Continues r s is kind end
+  WhereFixed : (s : Situation) (values : List (Option ℤ)) (is : List Instant) (kind : EndKind) (end : ℕ) (i e : ℕ) →
+      Solves r s values → LacksStep r s i e → is ≡ instant_of s values ∷ [] → kind ≡ Fixed → end ≡ s.t → Continues r s is kind end
   ByStep : (s : Situation) (values : List (Option ℤ)) (is : List Instant) (kind : EndKind) (end : ℕ) (kept : List ℕ) (point : ℕ) (rest : List Instant) →
       Solves r s values → IsStep r s kept point → asks_to_end r.machines s.states s.t kept ≡ false →
       is ≡ instant_of s values ∷ rest → Continues r (after_step r s values kept point) rest kind end → Continues r s is kind end

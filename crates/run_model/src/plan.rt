@@ -7,10 +7,12 @@ pub struct Plan {
     pub stop: u64,
 }
 
-/// How a run ends: at the stop, where an FMU asked for the end, or by the first answer that isn't good.
+/// How a run ends: at the stop, where an FMU asked for the end, where a step begins whose size an FMU can't take, or by
+/// the first answer that isn't good.
 #[derive(Clone, Copy, Debug, PartialEq, Eq)]
 pub enum EndKind {
     Stop,
     Asked,
+    Fixed,
     Fault,
 }

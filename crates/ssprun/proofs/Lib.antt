@@ -1,3 +1,4 @@
 pub mod Peer
 pub mod Rows
 pub mod AdapterLemmas
+pub mod Digits

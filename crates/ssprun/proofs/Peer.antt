@@ -48,6 +48,7 @@ tells_end end v0 v none quiet e = record {
         lean = (e.ends.needed.lean, steps_fall _ e.ends.needed.run);
         closing_calls = e.ends.calls;
         silent = e.ends.silent;
+        siblings = e.ends.siblings;
         closed = e.closed;
       }));
   rose = λ l. subst (λ (n : ℕ). Rose n v.faults) quiet (e.ends.rose l);

@@ -26,20 +26,21 @@ use Rattle.fmu_peer.specs.Machine.{Machine}
 use Rattle.fmu_peer.specs.View.{View}
 use Rattle.run_model.specs.declared.plan.EndKind.TheVariants as K
 use Rattle.step_master.specs.declared.run_end.RunEnd.{RunEnd}
-use Rattle.step_master.specs.declared.run_end.RunEnd.TheVariants.{Stop, Asked, Bad, WriteFault}
+use Rattle.step_master.specs.declared.run_end.RunEnd.TheVariants.{Stop, Asked, FixedStep, Bad, WriteFault}
+use Rattle.sim_base.specs.declared.numbers.CompId.{CompId}
 use Rattle.counter_form.specs.Form.{IsForm}
 use Rattle.command_line.specs.Line.{Line, IsLine}
 use Rattle.ssprun.specs.declared.outcome.Outcome.{Outcome}
 use Rattle.ssprun.specs.declared.outcome.Outcome.TheVariants.{Words, ReadFailed, Missing, TooBig, OtherForm, StartFailed, Unknown, Memory, Ran}
 use Rattle.ssprun.specs.System.{description_path, counter_system}
-use Rattle.ssprun.specs.Line.{Puts, outcome_line, outcome_status, missing_line, big_line, refused_line, why_line, why_status}
+use Rattle.ssprun.specs.Line.{Puts, outcome_line, outcome_status, missing_line, big_line, refused_line, why_line, why_status, fixed_line}
 use Rattle.ssprun.specs.Facts.{Calm, HasRun, TellsTalk, TellsEnd, LineFacts, ReadsNoLine, Facts, file_of, AtPath, IsTooBig, IsOther, IsCounter}
 use Rattle.step_master.specs.End.{is_finished, TellsWrite}
 use Rattle.step_master.specs.Follow.{IsRunCall, calls_in}
 use Rattle.step_master.specs.Progress.{run_of}
 use Rattle.step_master.specs.Whole.{IsClosingCall, CompletesWhole}
 use Rattle.step_master.specs.Whole as Ended
-use Rattle.ssprun.specs.Rows.{Command, Says, Answers, AnswersOr11, Finds, WordsRow, ReadFails, LacksFile, FindsTooMuch, FileRow, FormRow, EndsBy, StartFails, IsUnknown, LosesLink, LinkRow, RefusalRow, MisreplyRow, WriteRow, MemoryRow, EndRow, WritesTrace, IsStatus, StatusRow, Traces, TraceRow, PeerRow, TellsPeer, IsFirstBadOf}
+use Rattle.ssprun.specs.Rows.{Command, Says, Answers, AnswersOr11, Finds, WordsRow, ReadFails, LacksFile, FindsTooMuch, FileRow, FormRow, EndsBy, StartFails, IsUnknown, LosesLink, LinkRow, RefusalRow, MisreplyRow, FixedRow, WriteRow, MemoryRow, EndRow, WritesTrace, IsStatus, StatusRow, Traces, TraceRow, PeerRow, TellsPeer, IsFirstBadOf}
 
 -- two numbers that differ aren't equal
 pub different : {A : Type 0} (a b : ℕ) → nat_eq a b ≡ false → a ≡ b → A
@@ -122,6 +123,7 @@ words_case Unknown d f e says = different 5 2 refl e
 words_case Memory d f e says = different 11 2 refl e
 words_case (Ran Stop) d f e says = different 0 2 refl e
 words_case (Ran (Asked p)) d f e says = different 0 2 refl e
+words_case (Ran (FixedStep n at end)) d f e says = different 9 2 refl e
 words_case (Ran (Bad c (Refused call status))) d f e says = different 6 2 refl e
 words_case (Ran (Bad c (Misreply call reply))) d f e says = different 7 2 refl e
 words_case (Ran (Bad c (Link call fault))) d f e says = different 5 2 refl e
@@ -141,6 +143,7 @@ file_case Unknown d f e says = different 5 3 refl e
 file_case Memory d f e says = different 11 3 refl e
 file_case (Ran Stop) d f e says = different 0 3 refl e
 file_case (Ran (Asked p)) d f e says = different 0 3 refl e
+file_case (Ran (FixedStep n at end)) d f e says = different 9 3 refl e
 file_case (Ran (Bad c (Refused call status))) d f e says = different 6 3 refl e
 file_case (Ran (Bad c (Misreply call reply))) d f e says = different 7 3 refl e
 file_case (Ran (Bad c (Link call fault))) d f e says = different 5 3 refl e
@@ -158,6 +161,7 @@ form_case Unknown d f e says = different 5 4 refl e
 form_case Memory d f e says = different 11 4 refl e
 form_case (Ran Stop) d f e says = different 0 4 refl e
 form_case (Ran (Asked p)) d f e says = different 0 4 refl e
+form_case (Ran (FixedStep n at end)) d f e says = different 9 4 refl e
 form_case (Ran (Bad c (Refused call status))) d f e says = different 6 4 refl e
 form_case (Ran (Bad c (Misreply call reply))) d f e says = different 7 4 refl e
 form_case (Ran (Bad c (Link call fault))) d f e says = different 5 4 refl e
@@ -176,6 +180,7 @@ link_case Unknown d (inr w) e says = absurd w.why
 link_case Memory d f e says = different 11 5 refl e
 link_case (Ran Stop) d f e says = different 0 5 refl e
 link_case (Ran (Asked p)) d f e says = different 0 5 refl e
+link_case (Ran (FixedStep n at end)) d f e says = different 9 5 refl e
 link_case (Ran (Bad c (Refused call status))) d f e says = different 6 5 refl e
 link_case (Ran (Bad c (Misreply call reply))) d f e says = different 7 5 refl e
 link_case (Ran (Bad c (Link call fault))) d (inl r) e says = (r.line, r.is, r.facts.0, r.facts.1, inr (inr (call, fault, (says, c, r.facts.2))))
@@ -193,6 +198,7 @@ refusal_case Unknown d f e says = different 5 6 refl e
 refusal_case Memory d f e says = different 11 6 refl e
 refusal_case (Ran Stop) d f e says = different 0 6 refl e
 refusal_case (Ran (Asked p)) d f e says = different 0 6 refl e
+refusal_case (Ran (FixedStep n at end)) d f e says = different 9 6 refl e
 refusal_case (Ran (Bad c (Refused call status))) d (inl r) e says = (r.line, r.is, r.facts.0, r.facts.1, call, status, (says, c, r.facts.2))
 refusal_case (Ran (Bad c (Refused call status))) d (inr w) e says = absurd w.why
 refusal_case (Ran (Bad c (Misreply call reply))) d f e says = different 7 6 refl e
@@ -210,11 +216,30 @@ misreply_case Unknown d f e says = different 5 7 refl e
 misreply_case Memory d f e says = different 11 7 refl e
 misreply_case (Ran Stop) d f e says = different 0 7 refl e
 misreply_case (Ran (Asked p)) d f e says = different 0 7 refl e
+misreply_case (Ran (FixedStep n at end)) d f e says = different 9 7 refl e
 misreply_case (Ran (Bad c (Refused call status))) d f e says = different 6 7 refl e
 misreply_case (Ran (Bad c (Misreply call reply))) d (inl r) e says = (r.line, r.is, r.facts.0, r.facts.1, call, reply, (says, c, r.facts.2))
 misreply_case (Ran (Bad c (Misreply call reply))) d (inr w) e says = absurd w.why
 misreply_case (Ran (Bad c (Link call fault))) d f e says = different 5 7 refl e
 misreply_case (Ran WriteFault) d f e says = different 10 7 refl e
+
+fixed_case : (o : Outcome) (d : Command) → HasFacts o d → outcome_status o ≡ 9 → Says d (outcome_line o) → (line : Line) × IsLine d.words line × (start : ℤ) × AtPath line d.folder (IsCounter start) × (component : CompId) × (at : ℕ) × (end : ℕ) × Says d (fixed_line at end) × HasRun line start (FixedStep component at end) d.old d.new
+fixed_case Words d f e says = different 2 9 refl e
+fixed_case (ReadFailed t) d f e says = different 3 9 refl e
+fixed_case (Missing t) d f e says = different 3 9 refl e
+fixed_case (TooBig t) d f e says = different 3 9 refl e
+fixed_case (OtherForm t) d f e says = different 4 9 refl e
+fixed_case StartFailed d f e says = different 5 9 refl e
+fixed_case Unknown d f e says = different 5 9 refl e
+fixed_case Memory d f e says = different 11 9 refl e
+fixed_case (Ran Stop) d f e says = different 0 9 refl e
+fixed_case (Ran (Asked p)) d f e says = different 0 9 refl e
+fixed_case (Ran (FixedStep n at end)) d (inl r) e says = (r.line, r.is, r.facts.0, r.facts.1, n, at, end, says, r.facts.2)
+fixed_case (Ran (FixedStep n at end)) d (inr w) e says = absurd w.why
+fixed_case (Ran (Bad c (Refused call status))) d f e says = different 6 9 refl e
+fixed_case (Ran (Bad c (Misreply call reply))) d f e says = different 7 9 refl e
+fixed_case (Ran (Bad c (Link call fault))) d f e says = different 5 9 refl e
+fixed_case (Ran WriteFault) d f e says = different 10 9 refl e
 
 memory_case : (o : Outcome) (d : Command) → HasFacts o d → outcome_status o ≡ 11 → Says d (outcome_line o) → Calm d.old d.new × (d.folder.after ≡ d.folder.before) × Says d (codes "memory\n")
 memory_case Words d f e says = different 2 11 refl e
@@ -228,6 +253,7 @@ memory_case Memory d (inl r) e says = (r.facts.0, r.facts.1, says)
 memory_case Memory d (inr w) e says = (w.calm, w.unread, says)
 memory_case (Ran Stop) d f e says = different 0 11 refl e
 memory_case (Ran (Asked p)) d f e says = different 0 11 refl e
+memory_case (Ran (FixedStep n at end)) d f e says = different 9 11 refl e
 memory_case (Ran (Bad c (Refused call status))) d f e says = different 6 11 refl e
 memory_case (Ran (Bad c (Misreply call reply))) d f e says = different 7 11 refl e
 memory_case (Ran (Bad c (Link call fault))) d f e says = different 5 11 refl e
@@ -249,6 +275,7 @@ end_case Memory d f e says = different 11 0 refl e
 end_case (Ran Stop) d (inl r) e says = (r.line, r.is, r.facts.0, r.facts.1, Stop, refl, r.facts.2, silent d.before d.after says.0, says.1)
 end_case (Ran Stop) d (inr w) e says = absurd w.why
 end_case (Ran (Asked p)) d (inl r) e says = (r.line, r.is, r.facts.0, r.facts.1, Asked p, refl, r.facts.2, silent d.before d.after says.0, says.1)
+end_case (Ran (FixedStep n at end)) d f e says = different 9 0 refl e
 end_case (Ran (Asked p)) d (inr w) e says = absurd w.why
 end_case (Ran (Bad c (Refused call status))) d f e says = different 6 0 refl e
 end_case (Ran (Bad c (Misreply call reply))) d f e says = different 7 0 refl e
@@ -276,7 +303,9 @@ outs_case Memory d (inr w) = inl w.calm.0.outs
 outs_case (Ran Stop) d (inl r) = inl r.facts.2.outs
 outs_case (Ran Stop) d (inr w) = absurd w.why
 outs_case (Ran (Asked q)) d (inl r) = inl r.facts.2.outs
+outs_case (Ran (FixedStep n at end)) d (inl r) = inl r.facts.2.outs
 outs_case (Ran (Asked q)) d (inr w) = absurd w.why
+outs_case (Ran (FixedStep n at end)) d (inr w) = absurd w.why
 outs_case (Ran (Bad c why)) d (inl r) = inl r.facts.2.outs
 outs_case (Ran (Bad c why)) d (inr w) = absurd w.why
 outs_case (Ran WriteFault) d (inl r) = inr (refl, r.facts.2.outs)
@@ -293,6 +322,7 @@ write_case Unknown d f e = different 5 10 refl e
 write_case Memory d f e = different 11 10 refl e
 write_case (Ran Stop) d f e = different 0 10 refl e
 write_case (Ran (Asked p)) d f e = different 0 10 refl e
+write_case (Ran (FixedStep n at end)) d f e = different 9 10 refl e
 write_case (Ran (Bad c (Refused call status))) d f e = different 6 10 refl e
 write_case (Ran (Bad c (Misreply call reply))) d f e = different 7 10 refl e
 write_case (Ran (Bad c (Link call fault))) d f e = different 5 10 refl e
@@ -333,6 +363,7 @@ words_exact Unknown d (inr w) p none = absurd w.why
 words_exact Memory d (inr w) p none = memory_or _ _ d p
 words_exact (Ran Stop) d (inr w) p none = absurd w.why
 words_exact (Ran (Asked q)) d (inr w) p none = absurd w.why
+words_exact (Ran (FixedStep n at end)) d (inr w) p none = absurd w.why
 words_exact (Ran (Bad c why)) d (inr w) p none = absurd w.why
 words_exact (Ran WriteFault) d (inr w) p none = absurd w.why
 
@@ -347,6 +378,7 @@ missing_exact Unknown d line g f p = let b = both line d (λ file. file ≡ None
 missing_exact Memory d line g f p = memory_or _ _ d p
 missing_exact (Ran Stop) d line g f p = let b = both line d (λ file. file ≡ None) (IsCounter g.0) f.told (g.1) in absurd (none_there b.0 b.1 b.2.0 b.2.1)
 missing_exact (Ran (Asked q)) d line g f p = let b = both line d (λ file. file ≡ None) (IsCounter g.0) f.told (g.1) in absurd (none_there b.0 b.1 b.2.0 b.2.1)
+missing_exact (Ran (FixedStep n at end)) d line g f p = let b = both line d (λ file. file ≡ None) (IsCounter g.0) f.told (g.1) in absurd (none_there b.0 b.1 b.2.0 b.2.1)
 missing_exact (Ran (Bad c why)) d line g f p = let b = both line d (λ file. file ≡ None) (IsCounter g.0) f.told (g.1) in absurd (none_there b.0 b.1 b.2.0 b.2.1)
 missing_exact (Ran WriteFault) d line g f p = let b = both line d (λ file. file ≡ None) (IsCounter g.0) f.told (g.1) in absurd (none_there b.0 b.1 b.2.0 b.2.1)
 
@@ -361,6 +393,7 @@ big_exact Unknown d line g f p = let b = both line d (IsTooBig) (IsCounter g.0) 
 big_exact Memory d line g f p = memory_or _ _ d p
 big_exact (Ran Stop) d line g f p = let b = both line d (IsTooBig) (IsCounter g.0) f.told (g.1) in absurd (big_short b.0 b.1.0 b.2.0 b.1.1 b.2.1 b.1.2 b.2.2)
 big_exact (Ran (Asked q)) d line g f p = let b = both line d (IsTooBig) (IsCounter g.0) f.told (g.1) in absurd (big_short b.0 b.1.0 b.2.0 b.1.1 b.2.1 b.1.2 b.2.2)
+big_exact (Ran (FixedStep n at end)) d line g f p = let b = both line d (IsTooBig) (IsCounter g.0) f.told (g.1) in absurd (big_short b.0 b.1.0 b.2.0 b.1.1 b.2.1 b.1.2 b.2.2)
 big_exact (Ran (Bad c why)) d line g f p = let b = both line d (IsTooBig) (IsCounter g.0) f.told (g.1) in absurd (big_short b.0 b.1.0 b.2.0 b.1.1 b.2.1 b.1.2 b.2.2)
 big_exact (Ran WriteFault) d line g f p = let b = both line d (IsTooBig) (IsCounter g.0) f.told (g.1) in absurd (big_short b.0 b.1.0 b.2.0 b.1.1 b.2.1 b.1.2 b.2.2)
 
@@ -375,6 +408,7 @@ form_exact Unknown d line g f p = let b = both line d (IsOther) (IsCounter g.0) 
 form_exact Memory d line g f p = memory_or _ _ d p
 form_exact (Ran Stop) d line g f p = let b = both line d (IsOther) (IsCounter g.0) f.told (g.1) in absurd (form_other b.0 b.2.0 b.1.0 g.0 b.2.1 b.1.1 b.2.3 b.1.3)
 form_exact (Ran (Asked q)) d line g f p = let b = both line d (IsOther) (IsCounter g.0) f.told (g.1) in absurd (form_other b.0 b.2.0 b.1.0 g.0 b.2.1 b.1.1 b.2.3 b.1.3)
+form_exact (Ran (FixedStep n at end)) d line g f p = let b = both line d (IsOther) (IsCounter g.0) f.told (g.1) in absurd (form_other b.0 b.2.0 b.1.0 g.0 b.2.1 b.1.1 b.2.3 b.1.3)
 form_exact (Ran (Bad c why)) d line g f p = let b = both line d (IsOther) (IsCounter g.0) f.told (g.1) in absurd (form_other b.0 b.2.0 b.1.0 g.0 b.2.1 b.1.1 b.2.3 b.1.3)
 form_exact (Ran WriteFault) d line g f p = let b = both line d (IsOther) (IsCounter g.0) f.told (g.1) in absurd (form_other b.0 b.2.0 b.1.0 g.0 b.2.1 b.1.1 b.2.3 b.1.3)
 
@@ -395,6 +429,7 @@ unknown_exact Unknown d line start g f un calm p = inr (answers (codes "unknown 
 unknown_exact Memory d line start g f un calm p = memory_or _ _ d p
 unknown_exact (Ran Stop) d line start g f un calm p = known_unknown (sym g.2.known ∙ un)
 unknown_exact (Ran (Asked q)) d line start g f un calm p = known_unknown (sym g.2.known ∙ un)
+unknown_exact (Ran (FixedStep n at end)) d line start g f un calm p = known_unknown (sym g.2.known ∙ un)
 unknown_exact (Ran (Bad c why)) d line start g f un calm p = known_unknown (sym g.2.known ∙ un)
 unknown_exact (Ran WriteFault) d line start g f un calm p = known_unknown (sym g.2.known ∙ un)
 
@@ -423,6 +458,13 @@ run_trace (Asked q) d line start h (inl p) quiet = (
   h.peer,
   λ m told well zero.
       let t = h.trace m told well in (t.0, K.Asked, q, t.1, inl (p.0, t.2)),
+)
+run_trace (FixedStep n at end) d line start h (inr p) quiet = absurd (quiet p.2)
+run_trace (FixedStep n at end) d line start h (inl p) quiet = (
+  h.v,
+  h.peer,
+  λ m told well zero.
+      let t = h.trace m told well in (t.0, K.Fixed, at, t.1, inl ((p.0, end, h.size.next.bound, (p.1, p.2)), t.2)),
 )
 run_trace (Bad c why) d line start h p quiet = (
   h.v,
@@ -466,6 +508,7 @@ trace_exact Unknown d line start g f un calm quiet p = known_unknown (sym un ∙
 trace_exact Memory d line start g f un calm quiet p = inl (memory_alone d p quiet, g.0)
 trace_exact (Ran Stop) d line start g f un calm quiet p = inr (ran_from Stop d line start g f p quiet)
 trace_exact (Ran (Asked q)) d line start g f un calm quiet p = inr (ran_from (Asked q) d line start g f p quiet)
+trace_exact (Ran (FixedStep n at end)) d line start g f un calm quiet p = inr (ran_from (FixedStep n at end) d line start g f p quiet)
 trace_exact (Ran (Bad c why)) d line start g f un calm quiet p = inr (ran_from (Bad c why) d line start g f p quiet)
 trace_exact (Ran WriteFault) d line start g f un calm quiet p = inr (ran_from WriteFault d line start g f p quiet)
 
@@ -632,6 +675,7 @@ decided end d line start h p v talk why told f =
     by_end : (end : RunEnd) → TellsWrite end d.old.outs d.new.outs → HasPut (Ran end) d → {run : List Exchange} → Ended.EndsBy v.fixed.shape end run → (rest : List Exchange) → run ≡ f.front ++ f.last ∷ rest → Answers d (why_status why) (why_line why)
     by_end Stop outs p good rest is = no_bad v.fixed.shape _ why f.front rest f.last good is f.bad
     by_end (Asked point) outs p good rest is = no_bad v.fixed.shape _ why f.front rest f.last good is f.bad
+    by_end (FixedStep n at end) outs p good rest is = no_bad v.fixed.shape _ why f.front rest f.last good is f.bad
     by_end (Bad component w) outs p bad rest is =
         let one : w ≡ why = one_bad v.fixed.shape _ f.front rest f.last w why bad.1 is f.good f.bad in
         answered_by why d (subst (λ (x : Why). PutsLine (why_line x) (why_status x) d) one p)
@@ -726,6 +770,11 @@ misreply_row o d f p = record {
   exact = λ v talk why k told first. decides o d f p v talk why told first;
 }
 
+pub fixed_row : (o : Outcome) (d : Command) → HasFacts o d → HasPut o d → FixedRow d
+fixed_row o d f p = record {
+  when = λ e. let s = said (outcome_line o) (outcome_status o) 9 d p e refl in fixed_case o d f s.0 s.1;
+}
+
 -- ---- any status
 
 known_case : (o : Outcome) → IsStatus (outcome_status o)
@@ -736,17 +785,18 @@ known_case (TooBig t) = inr (inl (omega arith, omega arith))
 known_case (OtherForm t) = inr (inl (omega arith, omega arith))
 known_case StartFailed = inr (inl (omega arith, omega arith))
 known_case Unknown = inr (inl (omega arith, omega arith))
-known_case Memory = inr (inr (inr refl))
+known_case Memory = inr (inr (inr (inr refl)))
 known_case (Ran Stop) = inl refl
 known_case (Ran (Asked p)) = inl refl
+known_case (Ran (FixedStep n at end)) = inr (inr (inl refl))
 known_case (Ran (Bad c (Refused call status))) = inr (inl (omega arith, omega arith))
 known_case (Ran (Bad c (Misreply call reply))) = inr (inl (omega arith, omega arith))
 known_case (Ran (Bad c (Link call fault))) = inr (inl (omega arith, omega arith))
-known_case (Ran WriteFault) = inr (inr (inl refl))
+known_case (Ran WriteFault) = inr (inr (inr (inl refl)))
 
 any_status : (text : List ℕ) (w : ℕ) (d : Command) → IsStatus w → PutsLine text w d → StatusRow d
 any_status text w d k (inl p) = record { known = subst IsStatus (sym p.0) k; line = inr (text, (p.1, p.2)) }
-any_status text w d k (inr p) = record { known = inr (inr (inl p.0)); line = inl (p.2, (text, p.1)) }
+any_status text w d k (inr p) = record { known = inr (inr (inr (inl p.0))); line = inl (p.2, (text, p.1)) }
 
 pub status_row : (o : Outcome) (d : Command) → HasFacts o d → HasPut o d → StatusRow d
 status_row o d f p = any_status (outcome_line o) (outcome_status o) d (known_case o) p
@@ -762,6 +812,7 @@ write_says Unknown d e says = different 5 10 refl e
 write_says Memory d e says = different 11 10 refl e
 write_says (Ran Stop) d e says = different 0 10 refl e
 write_says (Ran (Asked p)) d e says = different 0 10 refl e
+write_says (Ran (FixedStep n at end)) d e says = different 9 10 refl e
 write_says (Ran (Bad c (Refused call status))) d e says = different 6 10 refl e
 write_says (Ran (Bad c (Misreply call reply))) d e says = different 7 10 refl e
 write_says (Ran (Bad c (Link call fault))) d e says = different 5 10 refl e

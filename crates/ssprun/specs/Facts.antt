@@ -6,13 +6,15 @@ use Rattle.value_types.specs.declared.shape.Shape.{Shape}
 use Rattle.fmu_peer.specs.declared.peer.Exchange.{Exchange}
 use Rattle.fmu_peer.specs.Lean.{IsLean}
 use Rattle.fmu_peer.specs.Machine.{Machine}
+use Rattle.fmu_peer.specs.Siblings.{Siblings}
 use Rattle.fmu_peer.specs.Talk as T
 use Rattle.fmu_peer.specs.View.{View, IsLegal}
 use Rattle.run_model.specs.Behaved.{WellBehaved}
 use Rattle.step_master.specs.Progress.{run_of}
 use Rattle.step_master.specs.Follow.{IsRunCall, calls_in}
 use Rattle.step_master.specs.End.{TellsWrite, current_point}
-use Rattle.step_master.specs.Whole.{EndsBy, IsClosingCall, IsLinkEnd, IsLoss, WritesWhole, CompletesWhole}
+use Rattle.step_master.specs.Size.{KeepsSize}
+use Rattle.step_master.specs.Whole.{EndsBy, IsClosingCall, IsLinkEnd, IsLoss, WritesWhole, CompletesWhole, only_member}
 use Rattle.step_master.specs.declared.run_end.RunEnd.{RunEnd}
 use Rattle.counter_form.specs.Form.{IsForm}
 use Rattle.counter_form.specs.Counter.{counter_shape}
@@ -64,7 +66,7 @@ pub record RunsPeer (line : Line) (start : ℤ) (old new : Stage) (v : View) : T
   pub origin : IfSome v.fixed.origin (λ o. o ≡ record { host = codes "builtin"; name = codes "fmu"; directory = line.directory })
   pub legal : IsLegal v
 
--- a talk: the exchanges of the run, whose calls are all needed and which end as the run does, and then those of the closing, of which there are none behind a Fatal or where no answer came
+-- a talk: the exchanges of the run, whose calls are all needed and which end as the run does, and then those of the closing, of which there are none behind a Fatal of an instance of that source or where no answer came
 pub record TellsTalk (shape : Shape) (end : RunEnd) (talk : List Exchange) : Type 0 where
   pub run : List Exchange
   pub closing : List Exchange
@@ -74,6 +76,7 @@ pub record TellsTalk (shape : Shape) (end : RunEnd) (talk : List Exchange) : Typ
   pub lean : IsLean (calls_in run)
   pub closing_calls : All IsClosingCall (calls_in closing)
   pub silent : IsLoss end → closing ≡ []
+  pub siblings : Siblings (only_member shape run closing)
   pub closed : T.Closed shape talk
 
 -- the peer's talk and count at the end of its run
@@ -87,6 +90,7 @@ pub record HasRun (line : Line) (start : ℤ) (end : RunEnd) (old new : Stage) :
   pub known : old.knows (codes "counter") ≡ true
   pub peer : RunsPeer line start old new v
   pub tells : TellsEnd end v
+  pub size : KeepsSize line.plan end v
   pub outs : TellsWrite end old.outs new.outs
   pub writes : WritesWhole (counter_system line.plan.resolution start) line.plan end (current_point line.plan v) old.out new.out
   pub trace : (m : Machine) → v.fixed.machine ≡ Some m → WellBehaved (run_of (counter_system line.plan.resolution start) line.plan m) →

@@ -1,5 +1,5 @@
 -- The lines on the error sink, and their statuses.
-use Rattle.std.specs.Prelude.{◌≡◌, ◌⊎◌, ℕ, List, [], ◌++◌, Option, codes}
+use Rattle.std.specs.Prelude.{◌≡◌, ◌⊎◌, ℕ, List, [], ◌++◌, Option, codes, decimal}
 use Rattle.hex.specs.Hex.{encode_lower}
 use Rattle.sim_base.specs.Causes.{Rose}
 use Rattle.sim_base.specs.Told.{added, AddsPart}
@@ -11,7 +11,7 @@ use Rattle.fmi_calls.specs.declared.call.Status.TheVariants as S
 use Rattle.fmu_peer.specs.declared.ended.Why.{Why}
 use Rattle.fmu_peer.specs.declared.ended.Why.TheVariants.{Refused, Misreply, Link}
 use Rattle.step_master.specs.declared.run_end.RunEnd.{RunEnd}
-use Rattle.step_master.specs.declared.run_end.RunEnd.TheVariants.{Stop, Asked, Bad, WriteFault}
+use Rattle.step_master.specs.declared.run_end.RunEnd.TheVariants.{Stop, Asked, FixedStep, Bad, WriteFault}
 use Rattle.ssprun.specs.declared.outcome.Outcome.{Outcome}
 use Rattle.ssprun.specs.declared.outcome.Outcome.TheVariants.{Words, ReadFailed, Missing, TooBig, OtherForm, StartFailed, Unknown, Memory, Ran}
 use Rattle.ssprun.specs.Frame.{reply_frame}
@@ -61,15 +61,21 @@ big_line file = codes "big " ++ file ++ codes "\n"
 unfoldable pub refused_line : List ℕ → List ℕ
 refused_line file = codes "refused 29 " ++ file ++ codes " /fmiModelDescription[1]\n"
 
+-- the line of a step that an FMU can't make, from a point to an end
+abbrev pub fixed_line : ℕ → ℕ → List ℕ
+fixed_line at end = codes "fixed fmu " ++ decimal at ++ codes " " ++ decimal end ++ codes "\n"
+
 abbrev pub end_line : RunEnd → List ℕ
 end_line Stop = []
 end_line (Asked point) = []
+end_line (FixedStep component at end) = fixed_line at end
 end_line (Bad component why) = why_line why
 end_line WriteFault = codes "write\n"
 
 abbrev pub end_status : RunEnd → ℕ
 end_status Stop = 0
 end_status (Asked point) = 0
+end_status (FixedStep component at end) = 9
 end_status (Bad component why) = why_status why
 end_status WriteFault = 10
 

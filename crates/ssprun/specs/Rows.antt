@@ -16,17 +16,20 @@ use Rattle.fmu_peer.specs.Talk as T
 use Rattle.fmu_peer.specs.Answer.{IsWhy}
 use Rattle.fmu_peer.specs.View.{View}
 use Rattle.run_model.specs.declared.plan.EndKind.{EndKind}
+use Rattle.run_model.specs.declared.plan.Plan.{Plan}
+use Rattle.run_model.specs.Steps.{IsBound}
+use Rattle.run_model.specs.declared.plan.EndKind.TheVariants.{Stop, Asked, Fixed, Fault}
 use Rattle.run_model.specs.Text.{Instant, trace_text}
 use Rattle.run_model.specs.Trace.{Run, IsTrace}
 use Rattle.run_model.specs.Behaved.{WellBehaved}
 use Rattle.step_master.specs.Progress.{run_of}
 use Rattle.step_master.specs.End.{is_finished}
 use Rattle.step_master.specs.declared.run_end.RunEnd.{RunEnd}
-use Rattle.step_master.specs.declared.run_end.RunEnd.TheVariants.{Bad}
+use Rattle.step_master.specs.declared.run_end.RunEnd.TheVariants.{FixedStep, Bad}
 use Rattle.sim_base.specs.declared.numbers.CompId.{CompId}
 use Rattle.command_line.specs.Line.{Line, IsLine}
 use Rattle.ssprun.specs.System.{counter_system, description_path}
-use Rattle.ssprun.specs.Line.{read_line, missing_line, big_line, refused_line, why_line, why_status}
+use Rattle.ssprun.specs.Line.{read_line, missing_line, big_line, refused_line, why_line, why_status, fixed_line}
 use Rattle.ssprun.specs.Facts.{Stage, Shelf, Idle, Calm, RunsPeer, HasRun, file_of, AtPath, IsTooBig, IsOther, IsCounter}
 
 -- a call of the program: its words, what is told before and after it, its status, and what err tells with its counts of faults
@@ -169,6 +172,11 @@ pub record MisreplyRow (d : Command) : Type 0 where
       × (call : Call) × (reply : Reply) × EndsBy d line start (Misreply call reply)
   pub exact : DecidesBy d IsMisreply
 
+-- 9: the run ended before a step whose size the FMU can't take, and with its line
+pub record FixedRow (d : Command) : Type 0 where
+  pub when : d.status ≡ 9 → (line : Line) × IsLine d.words line × (start : ℤ) × AtPath line d.folder (IsCounter start)
+      × (component : CompId) × (at : ℕ) × (end : ℕ) × Says d (fixed_line at end) × HasRun line start (FixedStep component at end) d.old d.new
+
 -- 10: only where a sink's count rose, and always where one is higher than before
 pub record WriteRow (d : Command) : Type 0 where
   pub when : d.status ≡ 10 → Rose d.old.outs d.new.outs ⊎ Rose d.errs d.errs_after
@@ -177,7 +185,7 @@ pub record WriteRow (d : Command) : Type 0 where
 
 -- the statuses that can come
 abbrev pub IsStatus : ℕ → Type 0
-IsStatus n = (n ≡ 0) ⊎ (((2 ≤ n) × (n ≤ 7)) ⊎ ((n ≡ 10) ⊎ (n ≡ 11)))
+IsStatus n = (n ≡ 0) ⊎ (((2 ≤ n) × (n ≤ 7)) ⊎ ((n ≡ 9) ⊎ ((n ≡ 10) ⊎ (n ≡ 11))))
 
 -- what err holds behind a put that failed: a front of a line, and nothing else
 abbrev pub CutsLine : Command → Type 0
@@ -197,10 +205,17 @@ pub record EndRow (d : Command) : Type 0 where
   pub when : d.status ≡ 0 → (line : Line) × IsLine d.words line × (start : ℤ) × AtPath line d.folder (IsCounter start)
       × (end : RunEnd) × (is_finished end ≡ true) × HasRun line start end d.old d.new × (d.after ≡ d.before) × (d.errs_after ≡ d.errs)
 
--- out holds the text of the one trace and the status is 0, or a put on it failed, it holds a front of the text, and the status is 10
+-- status and line of a trace's end: 9 with its line where a step begins that the FMU can't make, else 0
+abbrev pub ReportsEnd : Command → Plan → EndKind → ℕ → Type 0
+ReportsEnd d plan Stop point = d.status ≡ 0
+ReportsEnd d plan Asked point = d.status ≡ 0
+ReportsEnd d plan Fixed point = (d.status ≡ 9) × (bound : ℕ) × IsBound plan point bound × Says d (fixed_line point bound)
+ReportsEnd d plan Fault point = ⊥
+
+-- out holds the text of the one trace and the status is that of its end, or a put on it failed, it holds a front of the text, and the status is 10
 abbrev pub WritesTrace : Command → Run → Type 0
 WritesTrace d r = (is : List Instant) × (kind : EndKind) × (point : ℕ) × IsTrace r is kind point
-    × (((d.status ≡ 0) × (d.new.out ≡ added d.old.out (trace_text r.system r.plan is kind point)))
+    × ((ReportsEnd d r.plan kind point × (d.new.out ≡ added d.old.out (trace_text r.system r.plan is kind point)))
     ⊎ ((d.status ≡ 10) × Rose d.old.outs d.new.outs × AddsPart d.old.out d.new.out (trace_text r.system r.plan is kind point)))
 
 -- the peer that was started, and the trace where it tells a machine that answers well and no call of it failed

@@ -1,11 +1,12 @@
-ghost use Rattle.std.specs.Prelude.{◌≡◌, ◌+◌, ◌≤◌, ◌++◌, length, take, codes, IfOk, if◌then◌else◌};
+ghost use Rattle.std.specs.Prelude.{◌≡◌, ◌+◌, ◌≤◌, ◌++◌, length, take, codes, decimal, IfOk, if◌then◌else◌};
 ghost use Rattle.hex.specs.Hex.{encode_lower};
 ghost use Rattle.ssprun.specs.Frame.{kind_number, status_number, flags_of, number_of, flags_in, number_in, reply_frame};
-ghost use Rattle.ssprun.specs.Line.{Puts, end_line, end_status, kind_name, outcome_line, outcome_status, status_name, why_line, why_status};
+ghost use Rattle.ssprun.specs.Line.{Puts, fixed_line, end_line, end_status, kind_name, outcome_line, outcome_status, status_name, why_line, why_status};
 
 use crate::outcome::Outcome;
 use fmi_calls::{Content, Kind, Reply, Status};
 use fmu_peer::Why;
+use itoa::Buffer;
 use sim_base::Sink;
 use step_master::RunEnd;
 
@@ -31,6 +32,7 @@ fn report_end<E: Sink>(end: &RunEnd, err: &mut E) -> u8
 {
     match end {
         RunEnd::Stop | RunEnd::Asked { .. } => 0,
+        RunEnd::FixedStep { at, end, .. } => put_fixed(*at, *end, err),
         RunEnd::Bad { why, .. } => put_why(why, err),
         RunEnd::WriteFault => put_line(b"write\n", 10, err),
     }
@@ -44,6 +46,27 @@ fn put_line<E: Sink>(line: &[u8], status: u8, err: &mut E) -> u8
         Ok(()) => status,
         Err(_) => 10,
     }
+}
+
+// Puts the line of a step that the FMU can't make. Point and end are counts.
+fn put_fixed<E: Sink>(at: u64, end: u64, err: &mut E) -> u8
+    ensures { Puts (fixed_line at end) 9 result (E.content err.old) (E.content err.new) (E.faults err.old) (E.faults err.new) }
+{
+    let mut line = [0u8; 128];
+    let length = write_fixed(at, end, &mut line);
+    put_line(&line[..length], 9, err)
+}
+
+fn write_fixed(at: u64, end: u64, line: &mut [u8]) -> usize
+    requires { length line.old ≡ 128 }
+    ensures length { result ≤ 128 }
+    ensures text { take result line.new ≡ fixed_line at end }
+{
+    let place = append(b"fixed fmu ", line, 0);
+    let place = append_number(at, line, place);
+    let place = append(b" ", line, place);
+    let place = append_number(end, line, place);
+    append(b"\n", line, place)
 }
 
 // Puts the line of an answer that isn't good.
@@ -113,6 +136,16 @@ fn append(piece: &[u8], line: &mut [u8], at: usize) -> usize
     let end = at + piece.len();
     line[at..end].copy_from_slice(piece);
     end
+}
+
+// Puts the digits of a number behind what stands in the line up to `at`, and answers where they end.
+#[tactic(auto, using(crate::proofs::Digits::decimal_short))]
+fn append_number(number: u64, line: &mut [u8], at: usize) -> usize
+    requires { at + 20 ≤ length line.old }
+    ensures end { result ≤ at + 20 }
+    ensures text { take result line.new ≡ take at line.old ++ decimal number }
+{
+    append(Buffer::new().format(number).as_bytes(), line, at)
 }
 
 fn kind_name(kind: Kind) -> &'static str

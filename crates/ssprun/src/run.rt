@@ -4,7 +4,7 @@ ghost use Rattle.fmu_peer.specs.Start.{IsStarted};
 ghost use Rattle.counter_form.specs.Counter.{counter_shape};
 ghost use Rattle.ssprun.specs.System.{counter_system, description_path};
 ghost use Rattle.ssprun.specs.Facts.{Facts, LineFacts, StartFacts, shelf, stage};
-ghost use Rattle.ssprun.specs.Rows.{EndRow, FileRow, FormRow, LinkRow, MemoryRow, MisreplyRow, PeerRow, RefusalRow, StatusRow, TraceRow, WordsRow, WriteRow, command};
+ghost use Rattle.ssprun.specs.Rows.{EndRow, FileRow, FixedRow, FormRow, LinkRow, MemoryRow, MisreplyRow, PeerRow, RefusalRow, StatusRow, TraceRow, WordsRow, WriteRow, command};
 ghost use Rattle.run_model.specs.declared.plan.EndKind.{EndKind};
 ghost use Rattle.run_model.specs.Text.{Instant};
 ghost use Rattle.run_model.specs.Trace.{IsTrace, Run};
@@ -63,6 +63,10 @@ pub fn run_words<R: Threads + Sync, F: Folder, S: Spawner, O: Sink, E: Sink>(
         (stage (S.started spawner.new) (S.retired spawner.new) (S.knows spawner.new) (S.faults spawner.new) (O.content out.new) (O.faults out.new))
         result (E.content err.old) (E.content err.new) (E.faults err.old) (E.faults err.new)) }
     ensures misreply { MisreplyRow (command (texts words.now) (shelf (F.files folder.old) (F.faults folder.old) (F.faults folder.new))
+        (stage (S.started spawner.old) (S.retired spawner.old) (S.knows spawner.old) (S.faults spawner.old) (O.content out.old) (O.faults out.old))
+        (stage (S.started spawner.new) (S.retired spawner.new) (S.knows spawner.new) (S.faults spawner.new) (O.content out.new) (O.faults out.new))
+        result (E.content err.old) (E.content err.new) (E.faults err.old) (E.faults err.new)) }
+    ensures fixed { FixedRow (command (texts words.now) (shelf (F.files folder.old) (F.faults folder.old) (F.faults folder.new))
         (stage (S.started spawner.old) (S.retired spawner.old) (S.knows spawner.old) (S.faults spawner.old) (O.content out.old) (O.faults out.old))
         (stage (S.started spawner.new) (S.retired spawner.new) (S.knows spawner.new) (S.faults spawner.new) (O.content out.new) (O.faults out.new))
         result (E.content err.old) (E.content err.new) (E.faults err.old) (E.faults err.new)) }

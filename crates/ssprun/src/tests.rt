@@ -1,14 +1,17 @@
 ghost use Rattle.std.specs.Prelude.{None, false};
 
+use crate::outcome::Outcome;
+use crate::report::report;
 use crate::run::run_words;
 use bench_fmus::{Bench, Counter, Scripts};
 use fmi_calls::{BadStatus, Content, Kind, Reply};
 use fmu_peer::{PeerFault, Spawner, StartFault};
-use sim_base::{Items, MemFile, MemFolder, MemSink, Text};
+use sim_base::{CompId, Items, MemFile, MemFolder, MemSink, Text};
 use std::alloc::{AllocError, Global};
 use std::process::Abort;
 use std::test::Fail;
 use std::thread::Threads;
+use step_master::RunEnd;
 use value_types::Shape;
 
 const WORDS: &str = "one|d|--resolution|1000|--step|10|--stop|20";
@@ -570,6 +573,19 @@ fn an_unknown_model_gives_its_line(rt: HostRuntime) -> Result<(), Fail> {
         ..REFUSED
     };
     assert_case(&rt, rt.alloc(), &case, &mut Stranger)?;
+    Ok(())
+}
+
+#[test]
+fn a_size_that_is_not_taken_gives_its_line(rt: HostRuntime) -> Result<(), Fail> {
+    let mut err = MemSink::with_room(rt.alloc(), 64, Vec::new(rt.alloc()))?;
+    let end = RunEnd::FixedStep {
+        component: CompId(0),
+        at: 20,
+        end: 25,
+    };
+    assert_eq!(rt; report(&Outcome::Ran { end }, &mut err), 9);
+    assert_eq!(rt; err.bytes.as_slice(), b"fixed fmu 20 25\n".as_slice());
     Ok(())
 }
 

@@ -61,17 +61,19 @@ stays_by_get old new kind reference reply a =
         stop_is = ap (λ (p : Phase). p.stop) phase ∙ h.stop_is;
         clear = clear_by old new (C.Get kind reference) phase h.clear;
       };
+      first_size = ap (λ (p : Phase). p.first_size) phase;
       told = λ m s h. (tells_after old new (C.Get kind reference) reply m s a.asked h).1;
     }
 
 pub stays_same : (v : View) → Stays v v
-stays_same v = record { well = record { fixed = refl; quiet = refl }; clear = λ h. h; place = λ t stop h. h; told = λ m s h. h }
+stays_same v = record { well = record { fixed = refl; quiet = refl }; clear = λ h. h; place = λ t stop h. h; first_size = refl; told = λ m s h. h }
 
 pub stays_on : (u v w : View) → Stays u v → Stays v w → Stays u w
 stays_on u v w x y = record {
   well = well_on u v w x.well y.well;
   clear = λ h. y.clear (x.clear h);
   place = λ t stop h. y.place t stop (x.place t stop h);
+  first_size = y.first_size ∙ x.first_size;
   told = λ m s h. y.told m s (x.told m s h);
 }
 
@@ -101,6 +103,14 @@ point_after_bad old new call (Refused c status) f =
 point_after_bad old new call (Misreply c reply) f =
     ap (λ (p : Phase). p.point) (f.fails.2.phase ∙ ap (λ (g : Grade). graded old.fixed.shape (counted old.phase call) call reply g) f.fails.1)
 point_after_bad old new call (Link c fault) f = ap (λ (p : Phase). p.point) f.fails.1.phase
+
+-- and the size of the first step
+pub first_size_after_bad : (old new : View) (call : Call) (why : Why) → Failed old call why new → new.phase.first_size ≡ old.phase.first_size
+first_size_after_bad old new call (Refused c status) f =
+    ap (λ (p : Phase). p.first_size) (f.fails.4.phase ∙ ap (λ (g : Grade). graded old.fixed.shape (counted old.phase call) call f.fails.0 g) f.fails.3)
+first_size_after_bad old new call (Misreply c reply) f =
+    ap (λ (p : Phase). p.first_size) (f.fails.2.phase ∙ ap (λ (g : Grade). graded old.fixed.shape (counted old.phase call) call reply g) f.fails.1)
+first_size_after_bad old new call (Link c fault) f = ap (λ (p : Phase). p.first_size) f.fails.1.phase
 
 -- the call is one of the run behind the instance's start
 abbrev pub IsMidCall : Call → Type 0
@@ -149,19 +159,21 @@ broke_by old new call why f mid k = record {
   later = f.later;
   rose = f.rose;
   point = point_after_bad old new call why f;
+  first_size = first_size_after_bad old new call why f;
   behind_start = ap is_start (call_of_failed old new call why f) ∙ k;
   lost = lost_after old new call why f mid;
   told = link_if_good old new call why f;
 }
 
 -- what broke off later broke off the whole, where Good of the whole gives what was good there
-pub broke_on : (u v w : View) (why : Why) (Good Later : Machine → State → Type 0) → GoesWell u v → v.phase.point ≡ u.phase.point → Broke v why w Later →
+pub broke_on : (u v w : View) (why : Why) (Good Later : Machine → State → Type 0) → GoesWell u v → v.phase.point ≡ u.phase.point → v.phase.first_size ≡ u.phase.first_size → Broke v why w Later →
     ((m : Machine) (s : State) → Tells u m s → Good m s → (z : State) × Tells v m z × Later m z) → Broke u why w Good
-broke_on u v w why Good Later x same b k = record {
+broke_on u v w why Good Later x same size b k = record {
   fixed = b.fixed ∙ x.fixed;
   later = subst (λ n. n ≤ w.faults) x.quiet b.later;
   rose = λ l. subst (λ n. Rose n w.faults) x.quiet (b.rose l);
   point = b.point ∙ same;
+  first_size = b.first_size ∙ size;
   behind_start = b.behind_start;
   lost = b.lost;
   told = λ m s t good. let there = k m s t good in b.told m there.0 there.1 there.2;

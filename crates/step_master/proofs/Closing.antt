@@ -1,8 +1,9 @@
 -- From the first call to the closing.
-use Rattle.std.proofs.Common.{◌≡◌, ◌⊎◌, inl, inr, ℕ, ◌≤◌, Bool, true, false, not, max, List, [], ◌∷◌, ◌++◌, Option, Result, Ok, Err, refl, sym, ap, ◌∙◌, subst, append_assoc, arith}
-use Rattle.std.specs.Prelude.{All, MatchBool, MatchResult, map, length}
+use Rattle.std.proofs.Common.{◌≡◌, ◌⊎◌, inl, inr, ℕ, ◌≤◌, Bool, true, false, max, List, [], ◌∷◌, ◌++◌, Option, Result, Ok, Err, refl, sym, ap, ◌∙◌, subst, append_assoc, arith}
+use Rattle.std.specs.Prelude.{All, IsTrue, ◌||◌, MatchBool, MatchResult, map, length}
 use Rattle.std.proofs.lemmas.List.{append-nil}
-use Rattle.std.proofs.lemmas.List.Elements.{All-push, All-append}
+use Rattle.std.proofs.lemmas.List.Elements.{All-nil, All-cons, All-head, All-weaker, All-push, All-append}
+use Rattle.std.proofs.lemmas.List.Folds.{list_any-append, list_any_none}
 use Rattle.sim_base.specs.Causes.{Rose}
 use Rattle.sim_base.specs.Told.{added, AddsPart}
 use Rattle.value_types.specs.declared.shape.Shape.{Shape}
@@ -14,7 +15,7 @@ use Rattle.fmi_calls.specs.declared.call.BadStatus.TheVariants.{Discard, Error, 
 use Rattle.fmi_calls.specs.declared.call.Grade.{Grade}
 use Rattle.fmi_calls.specs.declared.call.Grade.TheVariants as G
 use Rattle.fmi_calls.specs.Worth.{grade_of}
-use Rattle.fmi_calls.specs.Permission.{can_be_freed, none_marked}
+use Rattle.fmi_calls.specs.Permission.{Permitted, can_be_freed, none_marked}
 use Rattle.fmi_calls.specs.Next.{entered, graded, counted, state_after_bad, bad_status_of, fresh}
 use Rattle.fmi_calls.specs.declared.phase.Phase.{Phase}
 use Rattle.fmi_calls.specs.declared.phase.State.{State as PhaseState}
@@ -24,12 +25,14 @@ use Rattle.fmu_peer.specs.declared.peer.Exchange.{Exchange}
 use Rattle.fmu_peer.specs.declared.ended.Why.{Why}
 use Rattle.fmu_peer.specs.declared.ended.Why.TheVariants.{Refused, Misreply, Link}
 use Rattle.fmu_peer.specs.Answer.{Answered, Failed, IsLink, IsWhy, IsFirstBad}
-use Rattle.fmu_peer.specs.Close.{Closes, Frees, TerminatesAndFrees, IsClosed}
+use Rattle.fmu_peer.specs.Close.{SendsInTurn, IsClosed, closing_calls, any_fatal, is_fatal_answer, is_fatal_reply, is_fatal_status}
+use Rattle.fmu_peer.specs.Siblings.{Member, Siblings, IsSpared}
 use Rattle.fmu_peer.specs.Mode.{instantiate_of}
 use Rattle.fmu_peer.specs.Machine.{State, Machine, after}
 use Rattle.fmu_peer.specs.Talk as T
 use Rattle.fmu_peer.specs.View.{View}
 use Rattle.fmu_peer.specs.View.{Asked as AskedOf}
+use Rattle.fmu_peer.proofs.ShutLemmas.{stuck_is_lost}
 use Rattle.run_model.specs.declared.system.Component.{Component}
 use Rattle.run_model.specs.declared.system.System.{System}
 use Rattle.run_model.specs.declared.plan.Plan.{Plan}
@@ -38,13 +41,13 @@ use Rattle.run_model.specs.Text.{Instant, header_text, instants_text, end_text, 
 use Rattle.run_model.specs.Trace.{Run, beginning, instantiated, initializing, initialized, after_all, instant_of, shown}
 use Rattle.run_model.specs.Behaved.{WellBehaved, AtFirst}
 use Rattle.step_master.specs.declared.run_end.RunEnd.{RunEnd}
-use Rattle.step_master.specs.declared.run_end.RunEnd.TheVariants.{Stop, Asked, Bad, WriteFault}
+use Rattle.step_master.specs.declared.run_end.RunEnd.TheVariants.{Stop, Asked, FixedStep, Bad, WriteFault}
 use Rattle.step_master.specs.Alone.{IsPlan, IsAlone}
-use Rattle.step_master.specs.Follow.{Tells, IsMade, GivesUp, GoodCall, LosesInstance, is_start, Had, Sends, Breaks, IsNeeded, IsClosable, calls_in, seen_by}
+use Rattle.step_master.specs.Follow.{Tells, IsMade, GivesUp, GoodCall, LosesInstance, IsFatal, is_start, Had, Sends, Breaks, IsNeeded, IsClosable, calls_in, seen_by}
 use Rattle.step_master.specs.Progress.{run_of, StandsAt, BeginsAt}
 use Rattle.step_master.specs.Initial.{enter_of, leading, led_in, LeadsIn, StopsLeading, GoodLead, IsInstantiatedAs}
 use Rattle.step_master.specs.End.{Writes, Completes, TellsWrite, PutsEnd, BadEnd, RunsWell, LeavesPeer, bad_end, current_point}
-use Rattle.step_master.specs.Whole.{EndsShut, EndsClosed, EndsBy, IsClosingCall, IsLoss, IsLinkEnd, IsBehindStart, WritesWhole, CompletesWhole}
+use Rattle.step_master.specs.Whole.{EndsShut, EndsClosed, EndsBy, IsClosingCall, IsLoss, IsLinkEnd, IsBehindStart, WritesWhole, CompletesWhole, only_member}
 use Rattle.step_master.proofs.Calls.{phase_by_good, link_if_good, call_of_failed, tells_after, broke_by, well_by, well_on}
 use Rattle.step_master.proofs.Exits.{unmarked_is, max_is_right}
 use Rattle.step_master.proofs.Needed.{leading_needed, start_needed, needed_front}
@@ -116,35 +119,6 @@ freed_closes u w result no_step alive asked = record {
   point = point_after_free u w result asked;
 }
 
--- an instance in Step Mode, or as Discard left it there, can be freed
-step_is_freeable : (s : PhaseState) (full : Bool) → s ≡ P.Step → full ≡ false → can_be_freed s full ≡ true
-step_is_freeable s full at empty =
-    subst (λ (x : PhaseState). can_be_freed x full ≡ true) (sym at) (subst (λ (b : Bool). not b ≡ true) (sym empty) refl)
-
-stuck_refused : (status : BadStatus) (p : Phase) → p.state ≡ P.Step → p.slot.is_full ≡ false → can_be_freed (state_after_bad p.state C.Terminate status) p.slot.is_full ≡ false →
-    state_after_bad p.state C.Terminate status ≡ P.Lost
-stuck_refused Discard p at empty stuck = let free : can_be_freed p.state p.slot.is_full ≡ true = step_is_freeable p.state p.slot.is_full at empty in absurd (cc)
-stuck_refused Error p at empty stuck = absurd (cc)
-stuck_refused Fatal p at empty stuck = refl
-
-stuck_after : (shape : Shape) (p : Phase) (reply : Reply) (g : Grade) → p.state ≡ P.Step → p.slot.is_full ≡ false →
-    can_be_freed (graded shape p C.Terminate reply g).state (graded shape p C.Terminate reply g).slot.is_full ≡ false →
-    (graded shape p C.Terminate reply g).state ≡ P.Lost
-stuck_after shape p reply G.Good at empty stuck =
-    let free : not p.slot.is_full ≡ true = subst (λ (b : Bool). not b ≡ true) (sym empty) refl in
-    absurd (cc)
-stuck_after shape p reply G.Refused at empty stuck = stuck_refused (bad_status_of reply) p at empty stuck
-stuck_after shape p reply G.Misreply at empty stuck = absurd (cc)
-
--- behind Terminate an instance that can't be freed is lost
-stuck_is_lost : (u mid : View) (result : Result Reply PeerFault) → AskedOf u C.Terminate result mid → u.phase.state ≡ P.Step → u.phase.slot.is_full ≡ false →
-    can_be_freed mid.phase.state mid.phase.slot.is_full ≡ false → mid.phase.state ≡ P.Lost
-stuck_is_lost u mid (Ok reply) a at empty stuck =
-    ap (λ (p : Phase). p.state) a.phase
-    ∙ stuck_after u.fixed.shape (counted u.phase C.Terminate) reply (grade_of u.fixed.shape C.Terminate reply) at empty
-    (subst (λ (p : Phase). can_be_freed p.state p.slot.is_full ≡ false) a.phase stuck)
-stuck_is_lost u mid (Err fault) a at empty stuck = ap (λ (p : Phase). p.state) a.phase
-
 -- from Step Mode: Terminate, and then FreeInstance or nothing
 ends_by_two : (u mid w : View) (r : Result Reply PeerFault) → AskedOf u C.Terminate r mid → u.phase.state ≡ P.Step → (t : Result Reply PeerFault) → AskedOf mid C.FreeInstance t w → ClosesTo u w
 ends_by_two u mid w r first at t second = record {
@@ -176,44 +150,38 @@ ends_by_one u mid w r first at lost same = record {
   point = ap (λ (v : View). v.phase.point) same ∙ point_after_terminate u mid r first;
 }
 
-ends_in_step : (u w : View) (h : TerminatesAndFrees u w) → u.phase.state ≡ P.Step → u.phase.slot.is_full ≡ false → (b : Bool) → can_be_freed h.mid.phase.state h.mid.phase.slot.is_full ≡ b →
-    MatchBool b ((result : Result Reply PeerFault) × AskedOf h.mid C.FreeInstance result w) (w ≡ h.mid) → ClosesTo u w
-ends_in_step u w h at empty true e f = ends_by_two u h.mid w h.result h.terminates at f.0 f.1
-ends_in_step u w h at empty false e f = ends_by_one u h.mid w h.result h.terminates at (stuck_is_lost u h.mid h.result h.terminates at empty e) f
+never_is : (b : Bool) → (IsTrue b → ⊥) → b ≡ false
+never_is true never = absurd (never refl)
+never_is false never = refl
 
--- an instance that isn't in Step Mode, and can be freed
-ends_freed : (u w : View) (s : PhaseState) → u.phase.state ≡ s → (s ≡ P.Step → ⊥) → (s ≡ P.Lost → ⊥) → can_be_freed s false ≡ true → u.phase.slot.is_full ≡ false → Frees u w → ClosesTo u w
-ends_freed u w s is no_step alive may empty f =
-    let freeable : can_be_freed u.phase.state u.phase.slot.is_full ≡ true =
-    subst (λ (b : Bool). can_be_freed u.phase.state b ≡ true) (sym empty) (subst (λ (x : PhaseState). can_be_freed x false ≡ true) (sym is) may) in
-    let freed : (result : Result Reply PeerFault) × AskedOf u C.FreeInstance result w =
-    subst (λ (b : Bool). MatchBool b ((result : Result Reply PeerFault) × AskedOf u C.FreeInstance result w) (w ≡ u)) freeable f in
-    freed_closes u w freed.0 (λ e. no_step (sym is ∙ e)) (λ e. alive (sym is ∙ e)) freed.1
+-- behind Terminate: FreeInstance, or nothing
+ends_terminated : (u mid w : View) (r : Result Reply PeerFault) (sent : List Exchange) → AskedOf u C.Terminate r mid → u.phase.state ≡ P.Step → u.phase.slot.is_full ≡ false →
+    SendsInTurn (C.FreeInstance ∷ []) mid sent w → ClosesTo u w
+ends_terminated u mid w r sent first at empty (inl (may, (t, rest, last, is, second, (none, same)))) =
+    ends_by_two u mid w r first at t (subst (AskedOf mid C.FreeInstance t) (sym same) second)
+ends_terminated u mid w r sent first at empty (inr (never, (none, same))) =
+    ends_by_one u mid w r first at (stuck_is_lost u mid r first at empty (never_is (can_be_freed mid.phase.state mid.phase.slot.is_full) never)) same
 
--- an instance that may be sent nothing
-ends_silent : (u w : View) (s : PhaseState) → u.phase.state ≡ s → ((full : Bool) → can_be_freed s full ≡ false) → Frees u w → w ≡ u
-ends_silent u w s is never f =
-    let stuck : can_be_freed u.phase.state u.phase.slot.is_full ≡ false = subst (λ (x : PhaseState). can_be_freed x u.phase.slot.is_full ≡ false) (sym is) (never u.phase.slot.is_full) in
-    subst (λ (b : Bool). MatchBool b ((result : Result Reply PeerFault) × AskedOf u C.FreeInstance result w) (w ≡ u)) stuck f
-
-not_closable : (u : View) (s : PhaseState) → u.phase.state ≡ s → (s ≡ P.Lost → ⊥) → can_be_freed s false ≡ false → IsClosable u → ⊥
-not_closable u s is alive never c = elim c.state [
-  | inl lost ↦ alive (sym is ∙ lost)
-  | inr may ↦ (let wrong : can_be_freed s false ≡ true = subst (λ (x : PhaseState). can_be_freed x false ≡ true) is may in let both : false ≡ true = sym never ∙ wrong in absurd (cc))
+-- where Terminate isn't permitted: FreeInstance, or nothing
+ends_freed : (u w : View) (sent : List Exchange) → IsClosable u → (Permitted u.fixed.shape u.phase C.Terminate → ⊥) → SendsInTurn (C.FreeInstance ∷ []) u sent w → ClosesTo u w
+ends_freed u w sent c no_step (inl (may, (t, rest, last, is, asked, (none, same)))) =
+    freed_closes u w t (λ at. no_step (at, c.empty)) (λ lost. absurd (let never = ap (λ (s : PhaseState). can_be_freed s u.phase.slot.is_full) lost in cc (never, may)))
+    (subst (AskedOf u C.FreeInstance t) (sym same) asked)
+ends_freed u w sent c no_step (inr (never, (none, same))) = elim c.state [
+  | inl lost ↦ lost_closes u w lost same
+  | inr may ↦ absurd (never (ap (can_be_freed u.phase.state) c.empty ∙ may))
 ]
 
-closes_in : (u w : View) (s : PhaseState) → u.phase.state ≡ s → IsClosable u → Closes s u w → ClosesTo u w
-closes_in u w P.Fresh is c f = absurd (not_closable u P.Fresh is (λ e. absurd (cc)) refl c)
-closes_in u w P.Instantiated is c f = ends_freed u w P.Instantiated is (λ e. absurd (cc)) (λ e. absurd (cc)) refl c.empty f
-closes_in u w P.Initialization is c f = ends_freed u w P.Initialization is (λ e. absurd (cc)) (λ e. absurd (cc)) refl c.empty f
-closes_in u w P.Step is c f = ends_in_step u w f is c.empty (can_be_freed f.mid.phase.state f.mid.phase.slot.is_full) refl f.frees
-closes_in u w P.Terminated is c f = ends_freed u w P.Terminated is (λ e. absurd (cc)) (λ e. absurd (cc)) refl c.empty f
-closes_in u w P.Dead is c f = ends_freed u w P.Dead is (λ e. absurd (cc)) (λ e. absurd (cc)) refl c.empty f
-closes_in u w P.Lost is c f = lost_closes u w is (ends_silent u w P.Lost is (λ full. refl) f)
-closes_in u w P.Gone is c f = absurd (not_closable u P.Gone is (λ e. absurd (cc)) refl c)
+closes_sent : (u w : View) (sent : List Exchange) → IsClosable u → SendsInTurn (closing_calls false) u sent w → ClosesTo u w
+closes_sent u w sent c (inl (may, (r, rest, mid, is, first, more))) = ends_terminated u mid w r rest first may.0 may.1 more
+closes_sent u w sent c (inr (never, more)) = ends_freed u w sent c never more
 
 closes : (u w : View) → IsClosable u → IsClosed false u w → ClosesTo u w
-closes u w c f = closes_in u w u.phase.state refl c f
+closes u w c f = closes_sent u w f.0 c f.1
+
+-- what the closing sends
+pub sent_closing : (u w : View) → IsClosable u → IsClosed false u w → (es : List Exchange) × Had u es w × All IsClosingCall (calls_in es)
+sent_closing u w c f = let k : ClosesTo u w = closes u w c f in (k.exchanges, k.had, k.calls)
 
 -- the closing leaves the point
 pub point_closed : (u w : View) → IsClosable u → IsClosed false u w → w.phase.point ≡ u.phase.point
@@ -224,6 +192,61 @@ later_closed u w c f = let k : ClosesTo u w = closes u w c f in k.had.later
 
 rose_later : (a b d : ℕ) → Rose a b → b ≤ d → Rose a d
 rose_later a b d h l = omega arith
+
+-- ---- Fatal
+
+-- a good answer is no refusal with Fatal
+no_fatal_answer : (shape : Shape) (call : Call) (result : Result Reply PeerFault) → MatchResult result (λ reply. grade_of shape call reply ≡ G.Good) (λ fault. ⊥) → is_fatal_answer shape call result ≡ false
+no_fatal_answer shape call (Ok reply) good = ap (λ (g : Grade). is_fatal_reply g reply) good
+no_fatal_answer shape call (Err fault) good = absurd good
+
+no_fatal : (shape : Shape) (es : List Exchange) → T.AllGood shape es → any_fatal shape es ≡ false
+no_fatal shape es good =
+    list_any_none (λ (e : Exchange). is_fatal_answer shape e.call e.result) es
+    (All-weaker (T.IsGood shape) (λ (e : Exchange). is_fatal_answer shape e.call e.result ≡ false) (λ e h. no_fatal_answer shape e.call e.result h) es good)
+
+status_is_fatal : (status : BadStatus) → is_fatal_status status ≡ true → IsFatal status
+status_is_fatal Discard h = absurd (cc)
+status_is_fatal Error h = absurd (cc)
+status_is_fatal Fatal h = tt
+
+-- an answer that is a refusal with Fatal loses the instance
+fatal_loses : (shape : Shape) (why : Why) (e : Exchange) → IsWhy shape why e → is_fatal_answer shape e.call e.result ≡ true → LosesInstance why
+fatal_loses shape (Refused call status) e bad h =
+    let there : is_fatal_answer shape call (Ok bad.0) ≡ true =
+    subst (λ (r : Result Reply PeerFault). is_fatal_answer shape call r ≡ true) bad.2 (subst (λ (c : Call). is_fatal_answer shape c e.result ≡ true) bad.1 h) in
+    subst IsFatal (sym bad.3) (status_is_fatal (bad_status_of bad.0) (sym (ap (λ (g : Grade). is_fatal_reply g bad.0) bad.4) ∙ there))
+fatal_loses shape (Misreply call reply) e bad h =
+    let there : is_fatal_answer shape call (Ok reply) ≡ true =
+    subst (λ (r : Result Reply PeerFault). is_fatal_answer shape call r ≡ true) bad.1 (subst (λ (c : Call). is_fatal_answer shape c e.result ≡ true) bad.0 h) in
+    let wrong : false ≡ true = sym (ap (λ (g : Grade). is_fatal_reply g reply) bad.2) ∙ there in
+    absurd (cc)
+fatal_loses shape (Link call fault) e bad h = tt
+
+fatal_behind : (shape : Shape) (xs ys : List Exchange) → T.AllGood shape xs → any_fatal shape (xs ++ ys) ≡ true → any_fatal shape ys ≡ true
+fatal_behind shape xs ys good h =
+    let parts : any_fatal shape (xs ++ ys) ≡ (any_fatal shape xs || any_fatal shape ys) = list_any-append (λ (e : Exchange). is_fatal_answer shape e.call e.result) xs ys in
+    ap (λ (b : Bool). b || any_fatal shape ys) (sym (no_fatal shape xs good)) ∙ sym parts ∙ h
+
+or_false : (b : Bool) → (b || false) ≡ true → b ≡ true
+or_false true h = refl
+or_false false h = h
+
+-- of an only instance nothing is asked but that nothing stands behind its own Fatal
+only_siblings : (shape : Shape) (run closing : List Exchange) → (any_fatal shape run ≡ true → closing ≡ []) → Siblings (only_member shape run closing)
+only_siblings shape run closing h =
+    let m : Member = record { source = 0; shape = shape; run = run; closing = closing } in
+    let Spares : Member → Type 0 = λ n. any_fatal n.shape n.run ≡ true → All (IsSpared n.source) (m ∷ []) in
+    record {
+      behind_run = All-cons Spares m [] (λ f. All-cons (IsSpared 0) m [] (λ same. h f) (All-nil (IsSpared 0))) (All-nil Spares);
+      later = (λ f. All-nil (IsSpared 0), tt);
+    }
+
+only_silent : (shape : Shape) (run closing : List Exchange) → Siblings (only_member shape run closing) → any_fatal shape run ≡ true → closing ≡ []
+only_silent shape run closing s f =
+    let m : Member = record { source = 0; shape = shape; run = run; closing = closing } in
+    let Spares : Member → Type 0 = λ n. any_fatal n.shape n.run ≡ true → All (IsSpared n.source) (m ∷ []) in
+    All-head (IsSpared 0) m [] (All-head Spares m [] s.behind_run f) refl
 
 -- ---- the run with its closing
 
@@ -241,6 +264,8 @@ ends_well seen old u w e r f ends no_loss no_link behind =
         needed = subst (IsNeeded seen) (sym r.sends.calls_are) r.needed;
         calls = k.calls;
         silent = λ l. absurd (no_loss l);
+        siblings = only_siblings old.fixed.shape r.sends.exchanges k.exchanges
+            (λ h. let wrong : false ≡ true = sym (no_fatal old.fixed.shape r.sends.exchanges r.sends.good) ∙ h in absurd (cc));
         rose = λ l. absurd (no_link l);
       };
       shut = subst (λ (s : Shape). T.IsShut s old.phase (r.sends.exchanges ++ k.exchanges)) same
@@ -263,6 +288,9 @@ ends_badly seen old u w e why r f ends loss link behind =
         needed = subst (IsNeeded seen) (sym r.breaks.calls_are) r.needed;
         calls = k.calls;
         silent = λ l. k.silent (r.lost (loss l));
+        siblings = only_siblings old.fixed.shape run k.exchanges
+            (λ h. k.silent (r.lost (fatal_loses old.fixed.shape why r.breaks.last r.breaks.bad
+            (or_false (is_fatal_answer old.fixed.shape r.breaks.last.call r.breaks.last.result) (fatal_behind old.fixed.shape r.breaks.front (r.breaks.last ∷ []) r.breaks.good h)))));
         rose = λ l. rose_later old.faults u.faults w.faults (r.breaks.rose (link l)) k.had.later;
       };
       shut = subst (λ (s : Shape). T.IsShut s old.phase (run ++ k.exchanges)) same
@@ -273,6 +301,7 @@ ends_badly seen old u w e why r f ends loss link behind =
 pub left_shut : (seen : List Call) (e : RunEnd) (old u w : View) → LeavesPeer seen old e u → IsClosed false u w → EndsShut seen old e w
 left_shut seen Stop old u w h f = ends_well seen old u w Stop h f (λ run good. good) (λ l. l) (λ l. l) tt
 left_shut seen (Asked point) old u w h f = ends_well seen old u w (Asked point) h f (λ run good. good) (λ l. l) (λ l. l) tt
+left_shut seen (FixedStep component at end) old u w h f = ends_well seen old u w (FixedStep component at end) h f (λ run good. good) (λ l. l) (λ l. l) tt
 left_shut seen (Bad component why) old u w h f = ends_badly seen old u w (Bad component why) why h.1 f (λ run bad. (h.0, bad)) (λ l. l) (λ l. l) h.1.behind_start
 left_shut seen WriteFault old u w (inl h) f = ends_well seen old u w WriteFault h f (λ run good. inl good) (λ l. l) (λ l. l) tt
 left_shut seen WriteFault old u w (inr h) f = ends_badly seen old u w WriteFault h.0 h.1 f (λ run bad. inr (h.0, bad)) (λ l. absurd l) (λ l. absurd l) tt
@@ -280,6 +309,7 @@ left_shut seen WriteFault old u w (inr h) f = ends_badly seen old u w WriteFault
 pub closable_left : (seen : List Call) (e : RunEnd) (old u : View) → LeavesPeer seen old e u → IsClosable u
 closable_left seen Stop old u h = h.closable
 closable_left seen (Asked point) old u h = h.closable
+closable_left seen (FixedStep component at end) old u h = h.closable
 closable_left seen (Bad component why) old u h = h.1.closable
 closable_left seen WriteFault old u (inl h) = h.closable
 closable_left seen WriteFault old u (inr h) = h.1.closable
@@ -317,6 +347,7 @@ first_bad_behind shape why xs run good h = record {
 ends_by_behind : (shape : Shape) (e : RunEnd) (xs run : List Exchange) → T.AllGood shape xs → EndsBy shape e run → EndsBy shape e (xs ++ run)
 ends_by_behind shape Stop xs run good h = All-append (T.IsGood shape) xs run good h
 ends_by_behind shape (Asked point) xs run good h = All-append (T.IsGood shape) xs run good h
+ends_by_behind shape (FixedStep component at end) xs run good h = All-append (T.IsGood shape) xs run good h
 ends_by_behind shape (Bad component why) xs run good h = (h.0, first_bad_behind shape why xs run good h.1)
 ends_by_behind shape WriteFault xs run good (inl h) = inl (All-append (T.IsGood shape) xs run good h)
 ends_by_behind shape WriteFault xs run good (inr h) = inr (h.0, first_bad_behind shape h.0 xs run good h.1)
@@ -335,6 +366,9 @@ shut_on seen cs e first u w s n h =
             (needed_on seen cs (calls_in h.ends.run) n h.ends.needed);
         calls = h.ends.calls;
         silent = h.ends.silent;
+        siblings = only_siblings first.fixed.shape run h.ends.closing
+            (λ f. only_silent u.fixed.shape h.ends.run h.ends.closing h.ends.siblings
+            (subst (λ (sh : Shape). any_fatal sh h.ends.run ≡ true) (sym same) (fatal_behind first.fixed.shape s.exchanges h.ends.run s.good f)));
         rose = λ l. subst (λ n. Rose n w.faults) s.quiet (h.ends.rose l);
       };
       shut = subst (λ (es : List Exchange). T.IsShut first.fixed.shape first.phase es) (sym (append_assoc s.exchanges h.ends.run h.ends.closing))
@@ -363,6 +397,7 @@ made_by v u reply is_fresh a =
     record {
       state = ap (λ (p : Phase). p.state) phase;
       point = ap (λ (p : Phase). p.point) phase ∙ ap (λ (p : Phase). p.point) is_fresh;
+      unstepped = ap (λ (p : Phase). p.first_size) phase ∙ ap (λ (p : Phase). p.first_size) is_fresh;
       clear = record {
         unset = ap (λ (p : Phase). none_marked p.marks) phase ∙ ap (λ (p : Phase). none_marked p.marks) is_fresh ∙ unmarked_is (length v.fixed.shape.variables);
         empty = ap (λ (p : Phase). p.slot.is_full) phase ∙ ap (λ (p : Phase). p.slot.is_full) is_fresh;
@@ -390,6 +425,7 @@ leads_in plan v u w first second made a b =
           empty = ap (λ (p : Phase). p.slot.is_full) out ∙ ap (λ (p : Phase). p.slot.is_full) into ∙ made.clear.empty;
         };
       };
+      unstepped = ap (λ (p : Phase). p.first_size) out ∙ ap (λ (p : Phase). p.first_size) into ∙ made.unstepped;
       told = λ m s t. (tells_after u w C.ExitInitialization second m (after m s (enter_of plan)) b.asked (tells_after v u (enter_of plan) first m s a.asked t).1).1;
     }
 
@@ -493,6 +529,7 @@ writes_at plan e u w o x same h = subst (λ n. Writes plan e n o x) (sym (point_
 pub completes_later : (r : Run) (e : RunEnd) (o x : Option (List ℕ)) (c d f : ℕ) → d ≤ f → Completes r e o x c d → Completes r e o x c f
 completes_later r Stop o x c d f l h = h
 completes_later r (Asked point) o x c d f l h = h
+completes_later r (FixedStep component at end) o x c d f l h = h
 completes_later r (Bad component why) o x c d f l h = rose_later c d f h l
 completes_later r WriteFault o x c d f l (inl h) = inl (rose_later c d f h l)
 completes_later r WriteFault o x c d f l (inr h) = inr h
@@ -530,24 +567,22 @@ slot_after_bad v u call (Link c fault) f = ap (λ (p : Phase). p.slot.is_full) f
 pub no_slot : (v u : View) (why : Why) → v.phase ≡ fresh v.fixed.shape → Failed v (instantiate_of v.fixed.shape) why u → u.phase.slot.is_full ≡ false
 no_slot v u why is_fresh f = slot_after_bad v u (instantiate_of v.fixed.shape) why f ∙ ap (λ (p : Phase). p.slot.is_full) is_fresh
 
-closes_none : (u w : View) (s : PhaseState) → u.phase.state ≡ s → IsNone s → Closes s u w → w ≡ u
-closes_none u w P.Gone is h f = ends_silent u w P.Gone is (λ full. refl) f
-closes_none u w P.Lost is h f = ends_silent u w P.Lost is (λ full. refl) f
-closes_none u w P.Fresh is (inl e) f = absurd (cc)
-closes_none u w P.Fresh is (inr e) f = absurd (cc)
-closes_none u w P.Instantiated is (inl e) f = absurd (cc)
-closes_none u w P.Instantiated is (inr e) f = absurd (cc)
-closes_none u w P.Initialization is (inl e) f = absurd (cc)
-closes_none u w P.Initialization is (inr e) f = absurd (cc)
-closes_none u w P.Step is (inl e) f = absurd (cc)
-closes_none u w P.Step is (inr e) f = absurd (cc)
-closes_none u w P.Terminated is (inl e) f = absurd (cc)
-closes_none u w P.Terminated is (inr e) f = absurd (cc)
-closes_none u w P.Dead is (inl e) f = absurd (cc)
-closes_none u w P.Dead is (inr e) f = absurd (cc)
+-- an instance that is gone or lost is sent nothing
+no_terminate : (s : PhaseState) → IsNone s → s ≡ P.Step → ⊥
+no_terminate s (inl gone) at = let wrong : P.Step ≡ P.Gone = sym at ∙ gone in absurd (cc)
+no_terminate s (inr lost) at = let wrong : P.Step ≡ P.Lost = sym at ∙ lost in absurd (cc)
+
+no_free : (s : PhaseState) (full : Bool) → IsNone s → can_be_freed s full ≡ true → ⊥
+no_free s full (inl gone) may = let wrong : can_be_freed P.Gone full ≡ true = subst (λ (x : PhaseState). can_be_freed x full ≡ true) gone may in absurd (cc)
+no_free s full (inr lost) may = let wrong : can_be_freed P.Lost full ≡ true = subst (λ (x : PhaseState). can_be_freed x full ≡ true) lost may in absurd (cc)
+
+none_sent : (u w : View) (sent : List Exchange) → IsNone u.phase.state → SendsInTurn (closing_calls false) u sent w → w ≡ u
+none_sent u w sent h (inl (may, more)) = absurd (no_terminate u.phase.state h may.0)
+none_sent u w sent h (inr (never, inl (may, more))) = absurd (no_free u.phase.state u.phase.slot.is_full h may)
+none_sent u w sent h (inr (never, inr (stuck, (none, same)))) = same
 
 pub nothing_sent : (v u w : View) (why : Why) → Failed v (instantiate_of v.fixed.shape) why u → IsClosed false u w → w ≡ u
-nothing_sent v u w why f k = closes_none u w u.phase.state refl (not_made v u why f) k
+nothing_sent v u w why f k = none_sent u w k.0 (not_made v u why f) k.1
 
 not_good : (shape : Shape) (why : Why) (e : Exchange) → IsWhy shape why e → T.IsGood shape e → ⊥
 not_good shape (Refused call status) e bad good =
@@ -580,6 +615,7 @@ ends_unmade v u w why f k =
         needed = subst (IsNeeded []) (sym b.calls_are) (start_needed v.fixed.shape.has_event_mode v.fixed.shape.might_return_early);
         calls = no_call;
         silent = λ l. refl;
+        siblings = only_siblings v.fixed.shape run [] (λ h. refl);
         rose = λ l. subst (λ (x : View). Rose v.faults x.faults) (sym same) (b.rose l);
       };
       closed = inr (inl (record {
@@ -615,6 +651,8 @@ writes_whole system plan Stop current o a b head behind h =
     (h.0, h.1 ∙ ap (λ x. added x (instants_text h.0 ++ end_text K.Stop plan.stop)) head ∙ added_added o (header_text system plan.resolution plan.start plan.stop) (instants_text h.0 ++ end_text K.Stop plan.stop))
 writes_whole system plan (Asked point) current o a b head behind h =
     (h.0, h.1 ∙ ap (λ x. added x (instants_text h.0 ++ end_text K.Asked point)) head ∙ added_added o (header_text system plan.resolution plan.start plan.stop) (instants_text h.0 ++ end_text K.Asked point))
+writes_whole system plan (FixedStep component at end) current o a b head behind h =
+    (h.0, h.1 ∙ ap (λ x. added x (instants_text h.0 ++ end_text K.Fixed at)) head ∙ added_added o (header_text system plan.resolution plan.start plan.stop) (instants_text h.0 ++ end_text K.Fixed at))
 writes_whole system plan (Bad component why) current o a b head behind h =
     subst (λ first. MatchBool first (b ≡ o) ((is : List Instant) × (b ≡ added o (trace_text system plan is K.Fault current)))) (sym behind)
     (h.0, h.1 ∙ ap (λ x. added x (instants_text h.0 ++ end_text K.Fault current)) head ∙ added_added o (header_text system plan.resolution plan.start plan.stop) (instants_text h.0 ++ end_text K.Fault current))
@@ -626,6 +664,8 @@ completes_whole system plan m Stop o a b c d head h =
     (h.0, h.1, h.2 ∙ ap (λ x. added x (instants_text h.0 ++ end_text K.Stop plan.stop)) head ∙ added_added o (header_text system plan.resolution plan.start plan.stop) (instants_text h.0 ++ end_text K.Stop plan.stop))
 completes_whole system plan m (Asked point) o a b c d head h =
     (h.0, h.1, h.2 ∙ ap (λ x. added x (instants_text h.0 ++ end_text K.Asked point)) head ∙ added_added o (header_text system plan.resolution plan.start plan.stop) (instants_text h.0 ++ end_text K.Asked point))
+completes_whole system plan m (FixedStep component at end) o a b c d head h =
+    (h.0, h.1, h.2 ∙ ap (λ x. added x (instants_text h.0 ++ end_text K.Fixed at)) head ∙ added_added o (header_text system plan.resolution plan.start plan.stop) (instants_text h.0 ++ end_text K.Fixed at))
 completes_whole system plan m (Bad component why) o a b c d head h = h
 completes_whole system plan m WriteFault o a b c d head (inl h) = inl h
 completes_whole system plan m WriteFault o a b c d head (inr h) =

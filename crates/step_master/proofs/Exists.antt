@@ -1,5 +1,5 @@
 -- A machine that answers well in a system of one component has a trace from each situation that its run comes to.
-use Rattle.std.proofs.Common.{◌≡◌, inl, inr, ℕ, zero, suc, ◌+◌, ◌-◌, ◌*◌, ◌/◌, ◌<◌, ◌≤◌, min, Bool, true, false, nat_lt, ◌||◌, List, [], ◌∷◌, map, Option, Some, None, get_or, refl, sym, ap, ◌∙◌, subst, arith}
+use Rattle.std.proofs.Common.{◌≡◌, inl, inr, ℕ, zero, suc, ◌+◌, ◌-◌, ◌*◌, ◌/◌, ◌<◌, ◌≤◌, min, Bool, true, false, nat_lt, ◌||◌, IsTrue, List, [], ◌∷◌, map, Option, Some, None, get_or, refl, sym, ap, ◌∙◌, subst, arith}
 use Rattle.std.specs.Prelude.{ℤ, slice_get, option_and_then, option_map, if◌then◌else◌, ◌==◌}
 use Rattle.std.proofs.lemmas.Bool.Decides.{nat_tests}
 use Rattle.std.proofs.lemmas.Option.{slice_get_within, get_or_from_slice_get, slice_get-map, slice_get-get_or}
@@ -24,12 +24,13 @@ use Rattle.run_model.specs.declared.plan.Plan.{Plan}
 use Rattle.run_model.specs.declared.plan.EndKind.{EndKind}
 use Rattle.run_model.specs.declared.plan.EndKind.TheVariants as K
 use Rattle.run_model.specs.Text.{Instant}
-use Rattle.run_model.specs.Steps.{IsBound, IsMark, Agree, AllMeet, AskedFirst}
-use Rattle.run_model.specs.Trace.{Run, Situation, Solves, IsStep, Continues, AtStop, WhereAsked, ByStep, instant_of, after_step, value, shown, asks_to_end, ends_of, stepped, step_to, end_in, is_terminating}
+use Rattle.run_model.specs.Steps.{IsBound, IsMark, Stepper, MayAsk, Agree, AllMeet, StopsShort, StopsFirst, AskedFirst}
+use Rattle.run_model.specs.Trace.{Run, Situation, Solves, IsStep, LacksStep, Continues, AtStop, WhereAsked, WhereFixed, ByStep, instant_of, after_step, value, shown, asks_to_end, steppers, steppers_of, stepped, step_to, end_in, is_terminating}
 use Rattle.run_model.specs.Behaved.{WellBehaved, AfterStep, AnswersWell}
 use Rattle.step_master.specs.Alone.{IsPlan, IsAlone, IsOwnPort}
 use Rattle.step_master.specs.Follow.{GoodCall, GoodGets}
 use Rattle.step_master.specs.Progress.{run_of, StandsAt}
+use Rattle.step_master.specs.Size.{TakesSize}
 
 refused_not_good : (shape : Shape) (at size : ℕ) (kind : Kind) (status : BadStatus) → grade_of shape (C.DoStep at size) (R.Refused kind status) ≡ G.Good → ⊥
 refused_not_good shape at size kind status good = elim kind as (λ k. grade_of shape (C.DoStep at size) (R.Refused k status) ≡ G.Good → ⊥) [ KI.Instantiate ↦ λ e. cc | KI.EnterInitialization ↦ λ e. cc | KI.ExitInitialization ↦ λ e. cc | KI.DoStep ↦ λ e. cc | KI.Get ↦ λ e. cc | KI.Set ↦ λ e. cc | KI.Save ↦ λ e. cc | KI.Restore ↦ λ e. cc | KI.Free ↦ λ e. cc | KI.Terminate ↦ λ e. cc | KI.FreeInstance ↦ λ e. cc ] good
@@ -99,6 +100,24 @@ bound_by plan t false e p begun before =
 pub bound_exists : (plan : Plan) (t : ℕ) → IsPlan plan → plan.start ≤ t → t < plan.stop → (b : ℕ) × IsBound plan t b
 bound_exists plan t p begun before = bound_by plan t (nat_lt (next_grid plan t) plan.stop) refl p begun before
 
+-- ---- one FMU, and the size of a step
+
+abbrev alone_at : Bool → (ℕ → ℕ) → List Stepper
+alone_at variable end = record { has_variable_steps = variable; end = end } ∷ []
+
+-- it may be asked for a size that it takes
+may_ask : (variable : Bool) (end : ℕ → ℕ) (t step b : ℕ) → IsTrue (variable || (b - t) == step) → MayAsk (alone_at variable end) t step b
+may_ask true end t step b takes i f = let none : None ≡ Some i = f.least in cc
+may_ask false end t step b takes i f = f.other_size (grind (arith, nat_tests))
+
+-- and stops short of one that it doesn't
+stops_short : (end : ℕ → ℕ) (t step b : ℕ) → ((b - t) ≡ step → ⊥) → StopsShort (alone_at false end) t step b 0 b
+stops_short end t step b other = StopsFirst b 0 b (record { other_size = other; least = refl }) refl
+
+size_lacks : (variable : Bool) (size step : ℕ) → (variable || size == step) ≡ false → (variable ≡ false) × (size ≡ step → ⊥)
+size_lacks true size step e = absurd (cc)
+size_lacks false size step e = (refl, λ same. grind (arith, nat_tests))
+
 -- ---- one machine in a system of one component
 
 -- the run may go on from a situation at the point, with these values in its instant
@@ -153,33 +172,60 @@ module _ (system : System) (plan : Plan) (m : Machine) (shape : Shape) (alone : 
       let there : slice_get system.ports p ≡ Some (get_or system.ports p d) = slice_get-get_or system.ports p d within in
       good_at s.states state port.component.0 (λ shape. C.Get port.kind port.reference) (well.gets s h.reached h.first p port there) h.states (own_port p port there).component
 
+  -- the one FMU, as the agreement on a step sees it
+  steppers_is : (s : Situation) (state : State) (t : ℕ) → StandsAt (run_of system plan m) s state t →
+      steppers (run_of system plan m) s ≡ alone_at shape.has_variable_steps (end_in m state t)
+  steppers_is s state t h =
+      ap (λ (cs : List Component). steppers_of cs (m ∷ []) s.states s.t) alone.only
+      ∙ ap (λ (ss : List State). steppers_of (record { name = alone.name; shape = shape } ∷ []) (m ∷ []) ss s.t) h.states
+      ∙ ap (λ x. steppers_of (record { name = alone.name; shape = shape } ∷ []) (m ∷ []) (state ∷ []) x) h.point
+
+  may_ask_there : (s : Situation) (state : State) (t b : ℕ) → StandsAt (run_of system plan m) s state t → TakesSize shape plan (b - t) →
+      MayAsk (steppers (run_of system plan m) s) s.t plan.step b
+  may_ask_there s state t b h takes =
+      subst (λ (fmus : List Stepper). MayAsk fmus s.t plan.step b) (sym (steppers_is s state t h))
+      (subst (λ x. MayAsk (alone_at shape.has_variable_steps (end_in m state t)) x plan.step b) (sym h.point) (may_ask shape.has_variable_steps (end_in m state t) t plan.step b takes))
+
+  -- where the FMU doesn't take the size of the step to the bound, the step isn't made
+  pub step_lacks : (s : Situation) (state : State) (t b : ℕ) → StandsAt (run_of system plan m) s state t → t < plan.stop → IsBound plan t b →
+      shape.has_variable_steps ≡ false → ((b - t) ≡ plan.step → ⊥) → LacksStep (run_of system plan m) s 0 b
+  step_lacks s state t b h before bound whole other = record {
+    before_stop = subst (λ x. x < plan.stop) (sym h.point) before;
+    bound = b;
+    is_bound = subst (λ x. IsBound plan x b) (sym h.point) bound;
+    stops = subst (λ (fmus : List Stepper). StopsShort fmus s.t plan.step b 0 b) (sym (steppers_is s state t h))
+        (subst (λ x. StopsShort (alone_at shape.has_variable_steps (end_in m state t)) x plan.step b 0 b) (sym h.point)
+        (subst (λ v. StopsShort (alone_at v (end_in m state t)) t plan.step b 0 b) (sym whole) (stops_short (end_in m state t) t plan.step b other)));
+  }
+
   -- and so is the step to the bound
   pub good_step : (s : Situation) (state : State) (t b : ℕ) → StandsAt (run_of system plan m) s state t → WellBehaved (run_of system plan m) →
-      t < plan.stop → IsBound plan t b → GoodCall shape (step_to t b) m state
-  good_step s state t b h well before bound =
+      t < plan.stop → IsBound plan t b → TakesSize shape plan (b - t) → GoodCall shape (step_to t b) m state
+  good_step s state t b h well before bound takes =
       subst (λ x. GoodCall shape (step_to x b) m state) h.point
       (good_at s.states state 0 (λ shape. step_to s.t b)
-      (well.steps s h.reached (subst (λ x. x < plan.stop) (sym h.point) before) b 0 b (subst (λ x. IsBound plan x b) (sym h.point) bound) (AskedFirst b 0 b refl)) h.states refl)
+      (well.steps s h.reached (subst (λ x. x < plan.stop) (sym h.point) before) b 0 b (subst (λ x. IsBound plan x b) (sym h.point) bound) (AskedFirst b 0 b (may_ask_there s state t b h takes) refl)) h.states refl)
 
   ends_at_bound : (state : State) (t b : ℕ) → t < b → GoodCall shape (step_to t b) m state → end_in m state t b ≡ b
   ends_at_bound state t b later good =
       let at : end_in m state t b ≡ t + (b - t) = good_step_end shape t (b - t) (m.look state (step_to t b)) alone.no_early good in
       omega arith
 
-  agrees_on_bound : (state : State) (t b : ℕ) → end_in m state t b ≡ b → Agree (end_in m state t ∷ []) b (b ∷ []) b
-  agrees_on_bound state t b at =
+  agrees_on_bound : (state : State) (t b : ℕ) → end_in m state t b ≡ b → TakesSize shape plan (b - t) → Agree (alone_at shape.has_variable_steps (end_in m state t)) t plan.step b (b ∷ []) b
+  agrees_on_bound state t b at takes =
       let least : min (end_in m state t b) (end_in m state t b) ≡ b = omega arith in
-      AllMeet b (b ∷ []) b least refl refl
+      AllMeet b (b ∷ []) b (may_ask shape.has_variable_steps (end_in m state t) t plan.step b takes) least refl refl
 
   -- a step that is answered well is kept, and goes to its bound
   pub step_kept : (s : Situation) (state : State) (t b : ℕ) → StandsAt (run_of system plan m) s state t → t < plan.stop → IsBound plan t b →
-      GoodCall shape (step_to t b) m state → IsStep (run_of system plan m) s (b ∷ []) b
-  step_kept s state t b h before bound good = record {
+      TakesSize shape plan (b - t) → GoodCall shape (step_to t b) m state → IsStep (run_of system plan m) s (b ∷ []) b
+  step_kept s state t b h before bound takes good = record {
     before_stop = subst (λ x. x < plan.stop) (sym h.point) before;
     bound = b;
     is_bound = subst (λ x. IsBound plan x b) (sym h.point) bound;
-    agree = subst (λ x. Agree (ends_of (m ∷ []) s.states x) b (b ∷ []) b) (sym h.point)
-        (subst (λ (x : List State). Agree (ends_of (m ∷ []) x t) b (b ∷ []) b) (sym h.states) (agrees_on_bound state t b (ends_at_bound state t b bound.later good)));
+    agree = subst (λ (fmus : List Stepper). Agree fmus s.t plan.step b (b ∷ []) b) (sym (steppers_is s state t h))
+        (subst (λ x. Agree (alone_at shape.has_variable_steps (end_in m state t)) x plan.step b (b ∷ []) b) (sym h.point)
+        (agrees_on_bound state t b (ends_at_bound state t b bound.later good) takes));
   }
 
   -- it asks for the end where its answer does
@@ -232,6 +278,27 @@ module _ (system : System) (plan : Plan) (m : Machine) (shape : Shape) (alone : 
         on = ByStep s values _ more.kind more.end (b ∷ []) b _ (shown_solves s state t h) step (step_asks s state t b h ∙ e) refl more.on;
       }
 
+  where_fixed : (s : Situation) (state : State) (t b : ℕ) → StandsAt (run_of system plan m) s state t → LacksStep (run_of system plan m) s 0 b →
+      GoesOn (run_of system plan m) s (map (shown m state) system.ports)
+  where_fixed s state t b h lacks = record {
+    kind = K.Fixed;
+    end = s.t;
+    rest = [];
+    on = WhereFixed s (map (shown m state) system.ports) _ K.Fixed s.t 0 b (shown_solves s state t h) lacks refl refl refl;
+  }
+
+  by_size : (takes : Bool) (left : ℕ) (s : Situation) (state : State) (t b : ℕ) → (shape.has_variable_steps || (b - t) == plan.step) ≡ takes → plan.stop ≤ t + suc left →
+      StandsAt (run_of system plan m) s state t → plan.start ≤ t → t < plan.stop → IsBound plan t b → b ≤ plan.stop → WellBehaved (run_of system plan m) →
+      ((s : Situation) (state : State) (t : ℕ) → plan.stop ≤ t + left → StandsAt (run_of system plan m) s state t → plan.start ≤ t → t ≤ plan.stop →
+      GoesOn (run_of system plan m) s (map (shown m state) system.ports)) →
+      GoesOn (run_of system plan m) s (map (shown m state) system.ports)
+  by_size true left s state t b e enough h begun before bound low well onward =
+      let good = good_step s state t b h well before bound e in
+      by_answer (is_terminating (m.look state (step_to t b))) left s state t b refl enough h begun bound low (step_kept s state t b h before bound e good) onward
+  by_size false left s state t b e enough h begun before bound low well onward =
+      let lacks = size_lacks shape.has_variable_steps (b - t) plan.step e in
+      where_fixed s state t b h (step_lacks s state t b h before bound lacks.0 lacks.1)
+
   goes_by : (c : Bool) (left : ℕ) (s : Situation) (state : State) (t : ℕ) → nat_lt t plan.stop ≡ c → plan.stop ≤ t + suc left → StandsAt (run_of system plan m) s state t →
       plan.start ≤ t → t ≤ plan.stop → WellBehaved (run_of system plan m) → IsPlan plan →
       ((s : Situation) (state : State) (t : ℕ) → plan.stop ≤ t + left → StandsAt (run_of system plan m) s state t → plan.start ≤ t → t ≤ plan.stop →
@@ -242,8 +309,7 @@ module _ (system : System) (plan : Plan) (m : Machine) (shape : Shape) (alone : 
       let before : t < plan.stop = grind (arith, nat_tests) in
       let bound = bound_exists plan t p begun before in
       let low : bound.0 ≤ plan.stop = bound.1.least plan.stop before (inr refl) in
-      let good = good_step s state t bound.0 h well before bound.1 in
-      by_answer (is_terminating (m.look state (step_to t bound.0))) left s state t bound.0 refl enough h begun bound.1 low (step_kept s state t bound.0 h before bound.1 good) onward
+      by_size (shape.has_variable_steps || (bound.0 - t) == plan.step) left s state t bound.0 refl enough h begun before bound.1 low well onward
 
   -- a trace goes on from each situation that the run comes to, where as many counts are left
   pub goes_on : (left : ℕ) (s : Situation) (state : State) (t : ℕ) → plan.stop ≤ t + left → StandsAt (run_of system plan m) s state t → plan.start ≤ t → t ≤ plan.stop →

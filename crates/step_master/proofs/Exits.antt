@@ -1,7 +1,9 @@
 -- How the loop over the points is left, and how it goes on.
-use Rattle.std.proofs.Common.{◌≡◌, inl, inr, ℕ, zero, suc, ◌+◌, ◌-◌, ◌<◌, ◌≤◌, Bool, true, false, not, max, length, replicate, List, [], ◌∷◌, ◌++◌, Option, IsTrue, refl, sym, ap, ◌∙◌, subst, arith}
-use Rattle.std.specs.Prelude.{unwrap_or, ◌||◌, ◌==◌}
+use Rattle.std.proofs.Common.{◌≡◌, inl, inr, ℕ, zero, suc, ◌+◌, ◌-◌, ◌<◌, ◌≤◌, Bool, true, false, not, max, length, replicate, List, [], ◌∷◌, ◌++◌, Option, Some, None, IfSome, IsTrue, refl, sym, ap, ◌∙◌, subst, arith}
+use Rattle.std.specs.Prelude.{unwrap_or, ◌||◌, ◌==◌, ◌↔◌}
 use Rattle.std.specs.List.{list_any}
+use Rattle.std.proofs.lemmas.Bool.Decides.{nat_tests}
+use Rattle.value_types.specs.declared.shape.Shape.{Shape}
 use Rattle.sim_base.specs.Causes.{Rose}
 use Rattle.sim_base.specs.Told.{added, AddsPart}
 use Rattle.fmi_calls.specs.declared.call.Call.{Call}
@@ -30,22 +32,31 @@ use Rattle.step_master.specs.declared.run_end.RunEnd.TheVariants.{Stop, Asked, W
 use Rattle.step_master.specs.Alone.{IsPlan, IsAlone}
 use Rattle.step_master.specs.Follow.{Tells, GoesWell, IsAt, Stays, Broke, GoodGets, GoodCall, Sends, IsNeeded, IsClosable, gets_of, seen_by}
 use Rattle.step_master.specs.Progress.{run_of, BeginsAt}
-use Rattle.step_master.specs.End.{ShowsInstant, BreaksInstant, StopsReading, PutsEnd, PutsBreak, Writes, Completes, TellsWrite, BadEnd, RunsWell, LeavesPeer, bad_end, current_point}
+use Rattle.step_master.specs.End.{ShowsInstant, BreaksInstant, StopsReading, PutsEnd, PutsBreak, Writes, Completes, TellsWrite, BadEnd, RunsWell, LeavesPeer, bad_end, fixed_end, current_point}
 use Rattle.step_master.proofs.Sent.{sends_none, sends_by, sends_on, breaks_by, breaks_on, needed_on, seen_by-append, closable_after}
 use Rattle.step_master.proofs.Needed.{IsPast, gets_needed, needed_front, turn_needed}
 use Rattle.step_master.proofs.Calls.{well_on, well_by, broke_by, tells_after, phase_by_good}
+use Rattle.step_master.specs.Size.{TakesSize, StepsByPlan, EndsFixed, KeepsSize}
 use Rattle.step_master.proofs.Exists.{good_gets, good_step, good_step_end}
-use Rattle.step_master.proofs.Onward.{SoFar, added_added, part_behind, more_text, trace_at_stop, trace_where_asked, progress_on, front_of_trace}
+use Rattle.step_master.proofs.Onward.{SoFar, added_added, part_behind, more_text, trace_at_stop, trace_where_asked, trace_where_fixed, progress_on, front_of_trace}
 
--- a step to the bound is permitted
-pub may_step : (u : View) (t b stop : ℕ) → IsAt u t stop → u.fixed.shape.has_variable_steps ≡ true → t < b → b ≤ stop → Permitted u.fixed.shape u.phase (C.DoStep t (b - t))
-may_step u t b stop at variable later within =
+-- without variable steps the size is that of the first step, if there was one
+size_for : (variable : Bool) (first : Option ℕ) (size step : ℕ) → IsTrue (variable || size == step) → IfSome first (λ n. IsTrue (variable || n == step)) →
+    IsTrue (variable || unwrap_or first size == size)
+size_for true first size step takes made = refl
+size_for false None size step takes made = grind (arith, nat_tests)
+size_for false (Some n) size step takes made = grind (arith, nat_tests)
+
+-- a step to the bound is permitted, where the FMU takes its size
+pub may_step : (u : View) (plan : Plan) (t b stop : ℕ) → IsAt u t stop → StepsByPlan plan u → TakesSize u.fixed.shape plan (b - t) → t < b → b ≤ stop →
+    Permitted u.fixed.shape u.phase (C.DoStep t (b - t))
+may_step u plan t b stop at made takes later within =
     let stop_is : u.phase.stop ≡ stop = at.stop_is in (
       at.state,
       sym at.point,
       omega arith,
       omega arith,
-      subst (λ v. IsTrue (v || unwrap_or u.phase.first_size (b - t) == (b - t))) (sym variable) refl,
+      size_for u.fixed.shape.has_variable_steps u.phase.first_size (b - t) plan.step takes made,
       subst (λ (full : Bool). IsTrue (not full || u.phase.slot.point == u.phase.point)) (sym at.clear.empty) refl,
     )
 
@@ -73,6 +84,48 @@ at_bound u w t b stop reply at early later a =
         empty = ap (λ (q : Phase). q.slot.is_full) phase ∙ at.clear.empty;
       };
     }
+
+-- ---- the sizes of steps
+
+-- what leaves shape and first step leaves the sizes
+pub sizes_stay : (plan : Plan) (u w : View) → w.fixed ≡ u.fixed → w.phase.first_size ≡ u.phase.first_size → StepsByPlan plan u → StepsByPlan plan w
+sizes_stay plan u w fixed size made =
+    subst (λ (f : Fixed). IfSome w.phase.first_size (TakesSize f.shape plan)) (sym fixed) (subst (λ (o : Option ℕ). IfSome o (TakesSize u.fixed.shape plan)) (sym size) made)
+
+pub sizes_unstepped : (plan : Plan) (u : View) → u.phase.first_size ≡ None → StepsByPlan plan u
+sizes_unstepped plan u none = subst (λ (o : Option ℕ). IfSome o (TakesSize u.fixed.shape plan)) (sym none) tt
+
+first_or : (shape : Shape) (plan : Plan) (first : Option ℕ) (size : ℕ) → IfSome first (TakesSize shape plan) → TakesSize shape plan size → TakesSize shape plan (unwrap_or first size)
+first_or shape plan None size made takes = takes
+first_or shape plan (Some n) size made takes = made
+
+-- one more step
+pub sizes_on : (plan : Plan) (u w : View) (t size : ℕ) (reply : Reply) → Answered u (C.DoStep t size) reply w → TakesSize u.fixed.shape plan size → StepsByPlan plan u → StepsByPlan plan w
+sizes_on plan u w t size reply a takes made =
+    let phase : w.phase ≡ entered u.fixed.shape (counted u.phase (C.DoStep t size)) (C.DoStep t size) reply = phase_by_good u w (C.DoStep t size) reply a in
+    subst (λ (f : Fixed). IfSome w.phase.first_size (TakesSize f.shape plan)) (sym a.asked.fixed)
+    (subst (λ (o : Option ℕ). IfSome o (TakesSize u.fixed.shape plan)) (sym (ap (λ (p : Phase). p.first_size) phase)) (first_or u.fixed.shape plan u.phase.first_size size made takes))
+
+test_of : (size step : ℕ) → size ≡ step → IsTrue (size == step)
+test_of size step same = grind (arith, nat_tests)
+
+size_not : (variable : Bool) (size step : ℕ) → (IsTrue (variable || size == step) → ⊥) → (variable ≡ false) × (size ≡ step → ⊥)
+size_not true size step denied = absurd (denied refl)
+size_not false size step denied = (refl, λ same. denied (test_of size step same))
+
+-- what the test of a size says of an FMU of this shape
+pub takes_is : (b : Bool) (s : Shape) (v : View) (plan : Plan) (size : ℕ) → s ≡ v.fixed.shape → (IsTrue b ↔ TakesSize s plan size) → b ≡ true → TakesSize v.fixed.shape plan size
+takes_is b s v plan size same test said = subst (λ (x : Shape). TakesSize x plan size) same (test.0 said)
+
+pub takes_not : (b : Bool) (s : Shape) (v : View) (plan : Plan) (size : ℕ) → s ≡ v.fixed.shape → (IsTrue b ↔ TakesSize s plan size) → b ≡ false →
+    (v.fixed.shape.has_variable_steps ≡ false) × (size ≡ plan.step → ⊥)
+takes_not b s v plan size same test denied =
+    size_not v.fixed.shape.has_variable_steps size plan.step (λ takes. let said : b ≡ true = test.1 (subst (λ (x : Shape). TakesSize x plan size) (sym same) takes) in absurd (cc))
+
+-- an end by its line, or by the put of it
+pub keeps_at : (plan : Plan) (v : View) (kind : EndKind) (t : ℕ) (end e : RunEnd) (x y : Option (List ℕ)) (c d : ℕ) → StepsByPlan plan v → EndsFixed plan end v → PutsEnd kind t end e x y c d → KeepsSize plan e v
+keeps_at plan v kind t end e x y c d made next (inl h) = subst (λ z. KeepsSize plan z v) (sym h.0) (record { made = made; next = next })
+keeps_at plan v kind t end e x y c d made next (inr h) = subst (λ z. KeepsSize plan z v) (sym h.0) (record { made = made; next = tt })
 
 -- behind the calls so far, the last of which is past, everything went well
 pub record RunsTo (t : ℕ) (old new : View) : Type 0 where
@@ -150,6 +203,11 @@ module _ (system : System) (plan : Plan) (first v : View) (alone : IsAlone first
   broken_writes (B.Answer why) u x y e c d f h (inr p) = subst (λ z. Writes plan z (current_point plan u) o y) (sym p.0) tt
   broken_writes B.Write u x y e c d f h p = subst (λ z. Writes plan z (current_point plan u) o y) (sym p.0) tt
 
+  pub broken_size : (b : Break) (u : View) (x y : Option (List ℕ)) (e : RunEnd) (c d f : ℕ) → StepsByPlan plan v → BreaksInstant v b u system.ports t a x c d → PutsBreak b t e x y d f → KeepsSize plan e u
+  broken_size (B.Answer why) u x y e c d f made h p = keeps_at plan u K.Fault t (bad_end why) e x y d f (sizes_stay plan v u h.0.fixed h.0.first_size made) tt p
+  broken_size B.Write u x y e c d f made h p =
+      subst (λ z. KeepsSize plan z u) (sym p.0) (record { made = sizes_stay plan v u h.0.read.stays.well.fixed h.0.read.stays.first_size made; next = tt })
+
   -- a told machine that answers well lets no call fail but by a fault
   reading_fails : (why : Why) (u : View) → Broke v why u (GoodGets v.fixed.shape system.ports) → (m : Machine) → BeginsAt (run_of system plan m) m first → WellBehaved (run_of system plan m) → Rose first.faults u.faults
   reading_fails why u b m begins good =
@@ -184,6 +242,9 @@ module _ (system : System) (plan : Plan) (first v : View) (alone : IsAlone first
     read_well : RunsWell (C.ExitInitialization ∷ []) first u
     read_well = reads_well u shows.read.stays shows.read.sends
 
+    pub sizes_read : StepsByPlan plan v → StepsByPlan plan u
+    sizes_read made = sizes_stay plan v u shows.read.stays.well.fixed shows.read.stays.first_size made
+
     -- ---- at the stop
 
     pub stop_peer : (e : RunEnd) (x : Option (List ℕ)) (c d : ℕ) → PutsEnd K.Stop t Stop e b x c d → LeavesPeer (C.ExitInitialization ∷ []) first e u
@@ -206,6 +267,9 @@ module _ (system : System) (plan : Plan) (first v : View) (alone : IsAlone first
         subst (λ z. Completes (run_of system plan m) z o x first.faults u.faults) (sym h.0)
         (inr (done, K.Stop, plan.stop, trace, subst (λ n. AddsPart o x (instants_text done ++ end_text K.Stop n)) here (part_of_end x K.Stop t h.1)))
 
+    pub stop_size : (e : RunEnd) (x : Option (List ℕ)) (c d : ℕ) → StepsByPlan plan v → PutsEnd K.Stop t Stop e b x c d → KeepsSize plan e u
+    stop_size e x c d made h = keeps_at plan u K.Stop t Stop e b x c d (sizes_read made) tt h
+
     -- ---- by a step
 
     pub told_then : (m : Machine) (state : State) → Tells v m state → Tells u m state
@@ -213,6 +277,39 @@ module _ (system : System) (plan : Plan) (first v : View) (alone : IsAlone first
 
     fixed_then : u.fixed ≡ first.fixed
     fixed_then = shows.read.stays.well.fixed ∙ well.fixed
+
+    fixed_shape : u.fixed.shape.has_variable_steps ≡ false → first.fixed.shape.has_variable_steps ≡ false
+    fixed_shape whole = ap (λ (f : Fixed). f.shape.has_variable_steps) (sym fixed_then) ∙ whole
+
+    takes_first : (size : ℕ) → TakesSize u.fixed.shape plan size → TakesSize first.fixed.shape plan size
+    takes_first size takes = subst (λ (f : Fixed). TakesSize f.shape plan size) fixed_then takes
+
+    -- the size of the step isn't taken
+    pub fixed_peer : (bound : ℕ) (e : RunEnd) (x : Option (List ℕ)) (c d : ℕ) → PutsEnd K.Fixed t (fixed_end t bound) e b x c d → LeavesPeer (C.ExitInitialization ∷ []) first e u
+    fixed_peer bound e x c d (inl h) = subst (λ z. LeavesPeer (C.ExitInitialization ∷ []) first z u) (sym h.0) read_well
+    fixed_peer bound e x c d (inr h) = subst (λ z. LeavesPeer (C.ExitInitialization ∷ []) first z u) (sym h.0) (inl read_well)
+
+    pub fixed_writes : (bound : ℕ) (e : RunEnd) (x : Option (List ℕ)) (c d : ℕ) → PutsEnd K.Fixed t (fixed_end t bound) e b x c d → Writes plan e (current_point plan u) o x
+    fixed_writes bound e x c d (inl h) = subst (λ z. Writes plan z (current_point plan u) o x) (sym h.0) (done, text_to_end x K.Fixed t h.1)
+    fixed_writes bound e x c d (inr h) = subst (λ z. Writes plan z (current_point plan u) o x) (sym h.0) tt
+
+    pub fixed_size : (bound : ℕ) (e : RunEnd) (x : Option (List ℕ)) (c d : ℕ) → StepsByPlan plan v → IsBound plan t bound →
+        u.fixed.shape.has_variable_steps ≡ false → ((bound - t) ≡ plan.step → ⊥) → PutsEnd K.Fixed t (fixed_end t bound) e b x c d → KeepsSize plan e u
+    fixed_size bound e x c d made is_bound whole other h =
+        let current : current_point plan u ≡ t = ap (max plan.start) (shows.read.stays.place t plan.stop at).point ∙ max_is_right plan.start t begun in
+        keeps_at plan u K.Fixed t (fixed_end t bound) e b x c d (sizes_read made) (record { only = refl; here = sym current; bound = is_bound; fixed = whole; other = other }) h
+
+    pub fixed_trace : (bound : ℕ) (e : RunEnd) (x : Option (List ℕ)) (c d : ℕ) → t < plan.stop → IsBound plan t bound →
+        u.fixed.shape.has_variable_steps ≡ false → ((bound - t) ≡ plan.step → ⊥) → PutsEnd K.Fixed t (fixed_end t bound) e b x c d →
+        (m : Machine) → BeginsAt (run_of system plan m) m first → WellBehaved (run_of system plan m) → Completes (run_of system plan m) e o x first.faults u.faults
+    fixed_trace bound e x c d before is_bound whole other (inl h) m begins good =
+        let pr = so.trace m begins good in
+        let trace = trace_where_fixed system plan first.fixed.shape alone planned first v u t o a b so m pr shows.values shows.read.shows bound before is_bound (fixed_shape whole) other in
+        subst (λ z. Completes (run_of system plan m) z o x first.faults u.faults) (sym h.0) (done, trace, text_to_end x K.Fixed t h.1)
+    fixed_trace bound e x c d before is_bound whole other (inr h) m begins good =
+        let pr = so.trace m begins good in
+        let trace = trace_where_fixed system plan first.fixed.shape alone planned first v u t o a b so m pr shows.values shows.read.shows bound before is_bound (fixed_shape whole) other in
+        subst (λ z. Completes (run_of system plan m) z o x first.faults u.faults) (sym h.0) (inr (done, K.Fixed, t, trace, part_of_end x K.Fixed t h.1))
 
     -- an answer that isn't good
     stepping_badly : (why : Why) (w : View) (bound : ℕ) → Failed u (C.DoStep t (bound - t)) why w → BadEnd (C.ExitInitialization ∷ []) first why w
@@ -241,22 +338,28 @@ module _ (system : System) (plan : Plan) (first v : View) (alone : IsAlone first
         subst (λ z. Writes plan z (current_point plan w) o x) (sym h.0) (fault_text x w (broke.point ∙ (shows.read.stays.place t plan.stop at).point) done (text_to_end x K.Fault t h.1))
     step_writes why w bound failed e x c d (inr h) = subst (λ z. Writes plan z (current_point plan w) o x) (sym h.0) tt
 
-    step_fails : (why : Why) (w : View) (bound : ℕ) → t < plan.stop → IsBound plan t bound → Failed u (C.DoStep t (bound - t)) why w →
+    pub step_size : (why : Why) (w : View) (bound : ℕ) → StepsByPlan plan v → Failed u (C.DoStep t (bound - t)) why w → (e : RunEnd) (x : Option (List ℕ)) (c d : ℕ) → PutsEnd K.Fault t (bad_end why) e b x c d →
+        KeepsSize plan e w
+    step_size why w bound made failed e x c d h =
+        let broke = broke_by u w (C.DoStep t (bound - t)) why failed tt refl in
+        keeps_at plan w K.Fault t (bad_end why) e b x c d (sizes_stay plan u w broke.fixed broke.first_size (sizes_read made)) tt h
+
+    step_fails : (why : Why) (w : View) (bound : ℕ) → t < plan.stop → IsBound plan t bound → TakesSize u.fixed.shape plan (bound - t) → Failed u (C.DoStep t (bound - t)) why w →
         (m : Machine) → BeginsAt (run_of system plan m) m first → WellBehaved (run_of system plan m) → Rose first.faults w.faults
-    step_fails why w bound before is_bound failed m begins good =
+    step_fails why w bound before is_bound takes failed m begins good =
         let pr = so.trace m begins good in
         let broke = broke_by u w (C.DoStep t (bound - t)) why failed tt refl in
         subst (λ n. Rose n w.faults) (shows.read.stays.well.quiet ∙ well.quiet) (broke.rose (broke.told m pr.state (told_then m pr.state pr.told)
-        (subst (λ (f : Fixed). GoodCall f.shape (step_to t bound) m pr.state) (sym fixed_then) (good_step system plan m first.fixed.shape alone pr.situation pr.state t bound pr.stands good before is_bound))))
+        (subst (λ (f : Fixed). GoodCall f.shape (step_to t bound) m pr.state) (sym fixed_then) (good_step system plan m first.fixed.shape alone pr.situation pr.state t bound pr.stands good before is_bound (takes_first (bound - t) takes)))))
 
-    pub step_trace : (why : Why) (w : View) (bound : ℕ) → t < plan.stop → IsBound plan t bound → Failed u (C.DoStep t (bound - t)) why w → (e : RunEnd) (x : Option (List ℕ)) (c d : ℕ) → PutsEnd K.Fault t (bad_end why) e b x c d →
+    pub step_trace : (why : Why) (w : View) (bound : ℕ) → t < plan.stop → IsBound plan t bound → TakesSize u.fixed.shape plan (bound - t) → Failed u (C.DoStep t (bound - t)) why w → (e : RunEnd) (x : Option (List ℕ)) (c d : ℕ) → PutsEnd K.Fault t (bad_end why) e b x c d →
         (m : Machine) → BeginsAt (run_of system plan m) m first → WellBehaved (run_of system plan m) → Completes (run_of system plan m) e o x first.faults w.faults
-    step_trace why w bound before is_bound failed e x c d (inl h) m begins good =
-        subst (λ z. Completes (run_of system plan m) z o x first.faults w.faults) (sym h.0) (step_fails why w bound before is_bound failed m begins good)
-    step_trace why w bound before is_bound failed e x c d (inr h) m begins good =
-        subst (λ z. Completes (run_of system plan m) z o x first.faults w.faults) (sym h.0) (inl (step_fails why w bound before is_bound failed m begins good))
+    step_trace why w bound before is_bound takes failed e x c d (inl h) m begins good =
+        subst (λ z. Completes (run_of system plan m) z o x first.faults w.faults) (sym h.0) (step_fails why w bound before is_bound takes failed m begins good)
+    step_trace why w bound before is_bound takes failed e x c d (inr h) m begins good =
+        subst (λ z. Completes (run_of system plan m) z o x first.faults w.faults) (sym h.0) (inl (step_fails why w bound before is_bound takes failed m begins good))
 
-    module _ (w : View) (bound : ℕ) (reply : Reply) (before : t < plan.stop) (is_bound : IsBound plan t bound) (answered : Answered u (C.DoStep t (bound - t)) reply w) where
+    module _ (w : View) (bound : ℕ) (reply : Reply) (before : t < plan.stop) (is_bound : IsBound plan t bound) (takes : TakesSize u.fixed.shape plan (bound - t)) (answered : Answered u (C.DoStep t (bound - t)) reply w) where
       turn_sends : Sends first (runs.calls ++ (gets_of system.ports ++ C.DoStep t (bound - t) ∷ [])) w
       turn_sends = sends_on first v w runs.calls (gets_of system.ports ++ C.DoStep t (bound - t) ∷ []) runs.sends
           (sends_on v u w (gets_of system.ports) (C.DoStep t (bound - t) ∷ []) shows.read.sends (sends_by u w (C.DoStep t (bound - t)) reply answered))
@@ -298,6 +401,12 @@ module _ (system : System) (plan : Plan) (first v : View) (alone : IsAlone first
       asked_peer e x c d (inl h) = subst (λ z. LeavesPeer (C.ExitInitialization ∷ []) first z w) (sym h.0) runs_on
       asked_peer e x c d (inr h) = subst (λ z. LeavesPeer (C.ExitInitialization ∷ []) first z w) (sym h.0) (inl runs_on)
 
+      pub sizes_after : StepsByPlan plan v → StepsByPlan plan w
+      sizes_after made = sizes_on plan u w t (bound - t) reply answered takes (sizes_read made)
+
+      pub asked_size : (e : RunEnd) (x : Option (List ℕ)) (c d : ℕ) → StepsByPlan plan v → PutsEnd K.Asked bound (Asked bound) e b x c d → KeepsSize plan e w
+      asked_size e x c d made h = keeps_at plan w K.Asked bound (Asked bound) e b x c d (sizes_after made) tt h
+
       pub asked_writes : (e : RunEnd) (x : Option (List ℕ)) (c d : ℕ) → PutsEnd K.Asked bound (Asked bound) e b x c d → Writes plan e (current_point plan w) o x
       asked_writes e x c d (inl h) = subst (λ z. Writes plan z (current_point plan w) o x) (sym h.0) (done, text_to_end x K.Asked bound h.1)
       asked_writes e x c d (inr h) = subst (λ z. Writes plan z (current_point plan w) o x) (sym h.0) tt
@@ -306,11 +415,11 @@ module _ (system : System) (plan : Plan) (first v : View) (alone : IsAlone first
           (m : Machine) → BeginsAt (run_of system plan m) m first → WellBehaved (run_of system plan m) → Completes (run_of system plan m) e o x first.faults w.faults
       asked_trace e x c d (inl h) asks m begins good =
           let pr = so.trace m begins good in
-          let trace = trace_where_asked system plan first.fixed.shape alone planned first v u t o a b so m pr shows.values shows.read.shows good bound before is_bound (looks true asks m pr.state pr.told) in
+          let trace = trace_where_asked system plan first.fixed.shape alone planned first v u t o a b so m pr shows.values shows.read.shows good bound before is_bound (takes_first (bound - t) takes) (looks true asks m pr.state pr.told) in
           subst (λ z. Completes (run_of system plan m) z o x first.faults w.faults) (sym h.0) (done, trace, text_to_end x K.Asked bound h.1)
       asked_trace e x c d (inr h) asks m begins good =
           let pr = so.trace m begins good in
-          let trace = trace_where_asked system plan first.fixed.shape alone planned first v u t o a b so m pr shows.values shows.read.shows good bound before is_bound (looks true asks m pr.state pr.told) in
+          let trace = trace_where_asked system plan first.fixed.shape alone planned first v u t o a b so m pr shows.values shows.read.shows good bound before is_bound (takes_first (bound - t) takes) (looks true asks m pr.state pr.told) in
           subst (λ z. Completes (run_of system plan m) z o x first.faults w.faults) (sym h.0) (inr (done, K.Asked, bound, trace, part_of_end x K.Asked bound h.1))
 
       -- ---- on to the bound
@@ -324,6 +433,6 @@ module _ (system : System) (plan : Plan) (first v : View) (alone : IsAlone first
         text = text;
         trace = λ m begins good.
             let pr = so.trace m begins good in
-            progress_on system plan first.fixed.shape alone planned first v u t o a b so m pr shows.values shows.read.shows good bound before is_bound (looks false goes m pr.state pr.told) w
+            progress_on system plan first.fixed.shape alone planned first v u t o a b so m pr shows.values shows.read.shows good bound before is_bound (takes_first (bound - t) takes) (looks false goes m pr.state pr.told) w
             (tells_after u w (C.DoStep t (bound - t)) reply m pr.state answered.asked (told_then m pr.state pr.told)).1;
       }

@@ -6,3 +6,4 @@ pub mod Exists
 pub mod Onward
 pub mod Exits
 pub mod Closing
+pub mod Sizes

@@ -1,5 +1,5 @@
 -- From instant to instant: what is put, and what the machine's run says of it.
-use Rattle.std.proofs.Common.{◌≡◌, inr, ℕ, ◌+◌, ◌<◌, ◌≤◌, Bool, true, false, nat_le, List, [], ◌∷◌, ◌++◌, length, take, map, Option, Some, None, refl, sym, ap, ◌∙◌, subst, append_assoc, arith}
+use Rattle.std.proofs.Common.{◌≡◌, inr, ℕ, ◌+◌, ◌-◌, ◌<◌, ◌≤◌, Bool, true, false, nat_le, List, [], ◌∷◌, ◌++◌, length, take, map, Option, Some, None, refl, sym, ap, ◌∙◌, subst, append_assoc, arith}
 use Rattle.std.specs.Prelude.{ℤ}
 use Rattle.std.proofs.lemmas.List.{append-nil, take-append-le, take_all}
 use Rattle.std.proofs.Math.Seq.{take-append_seam, take-append-add}
@@ -13,14 +13,15 @@ use Rattle.run_model.specs.declared.plan.Plan.{Plan}
 use Rattle.run_model.specs.declared.plan.EndKind.TheVariants as K
 use Rattle.run_model.specs.Text.{Instant, instants_text, instant_text, end_text}
 use Rattle.run_model.specs.Steps.{IsBound}
-use Rattle.run_model.specs.Trace.{AtStop, WhereAsked, ByStep, IsTrace, instant_of, after_step, beginning, shown, is_terminating, step_to}
+use Rattle.run_model.specs.Trace.{AtStop, WhereAsked, WhereFixed, ByStep, IsTrace, instant_of, after_step, beginning, shown, is_terminating, step_to}
 use Rattle.run_model.specs.Behaved.{WellBehaved, AtFirst}
 use Rattle.step_master.specs.declared.run_end.RunEnd.TheVariants.{WriteFault}
 use Rattle.step_master.specs.Alone.{IsPlan, IsAlone}
 use Rattle.step_master.specs.Follow.{Tells, ShowsValues}
 use Rattle.step_master.specs.Progress.{run_of, Progress, BeginsAt}
 use Rattle.step_master.specs.End.{Completes}
-use Rattle.step_master.proofs.Exists.{goes_on, good_step, shown_solves, step_kept, step_asks, stands_after}
+use Rattle.step_master.specs.Size.{TakesSize}
+use Rattle.step_master.proofs.Exists.{goes_on, good_step, shown_solves, step_lacks, step_kept, step_asks, stands_after}
 
 -- ---- text
 
@@ -107,28 +108,41 @@ module _ (system : System) (plan : Plan) (shape : Shape) (alone : IsAlone shape 
 
   -- the run ends at the bound, where the machine asks for the end
   pub trace_where_asked : (m : Machine) (pr : Progress (run_of system plan m) m v t so.done) (values : List (Option ℤ)) → ShowsValues v system.ports values → WellBehaved (run_of system plan m) →
-      (bound : ℕ) → t < plan.stop → IsBound plan t bound → is_terminating (m.look pr.state (step_to t bound)) ≡ true →
+      (bound : ℕ) → t < plan.stop → IsBound plan t bound → TakesSize shape plan (bound - t) → is_terminating (m.look pr.state (step_to t bound)) ≡ true →
       IsTrace (run_of system plan m) (more values) K.Asked bound
-  trace_where_asked m pr values shows well bound before is_bound asks =
+  trace_where_asked m pr values shows well bound before is_bound takes asks =
       let r = run_of system plan m in
       let V = map (shown m pr.state) system.ports in
-      let good = good_step system plan m shape alone pr.situation pr.state t bound pr.stands well before is_bound in
-      let step = step_kept system plan m shape alone pr.situation pr.state t bound pr.stands before is_bound good in
+      let good = good_step system plan m shape alone pr.situation pr.state t bound pr.stands well before is_bound takes in
+      let step = step_kept system plan m shape alone pr.situation pr.state t bound pr.stands before is_bound takes good in
       subst (λ i. IsTrace r (so.done ++ i ∷ []) K.Asked bound) (one_is m pr values shows)
       (pr.onward (instant_of pr.situation V ∷ []) K.Asked bound
       (WhereAsked pr.situation V _ K.Asked bound (bound ∷ []) bound (shown_solves system plan m shape alone pr.situation pr.state t pr.stands) step
       (step_asks system plan m shape alone pr.situation pr.state t bound pr.stands ∙ asks) refl refl refl))
 
-  -- the run goes on from the bound
-  pub progress_on : (m : Machine) (pr : Progress (run_of system plan m) m v t so.done) (values : List (Option ℤ)) → ShowsValues v system.ports values → WellBehaved (run_of system plan m) →
-      (bound : ℕ) → t < plan.stop → IsBound plan t bound → is_terminating (m.look pr.state (step_to t bound)) ≡ false →
-      (w : View) → Tells w m (after m pr.state (step_to t bound)) →
-      Progress (run_of system plan m) m w bound (more values)
-  progress_on m pr values shows well bound before is_bound asks w told =
+  -- the run ends where the step to the bound has a size that the machine's FMU doesn't take
+  pub trace_where_fixed : (m : Machine) (pr : Progress (run_of system plan m) m v t so.done) (values : List (Option ℤ)) → ShowsValues v system.ports values →
+      (bound : ℕ) → t < plan.stop → IsBound plan t bound → shape.has_variable_steps ≡ false → ((bound - t) ≡ plan.step → ⊥) →
+      IsTrace (run_of system plan m) (more values) K.Fixed t
+  trace_where_fixed m pr values shows bound before is_bound whole other =
       let r = run_of system plan m in
       let V = map (shown m pr.state) system.ports in
-      let good = good_step system plan m shape alone pr.situation pr.state t bound pr.stands well before is_bound in
-      let step = step_kept system plan m shape alone pr.situation pr.state t bound pr.stands before is_bound good in
+      let lacks = step_lacks system plan m shape alone pr.situation pr.state t bound pr.stands before is_bound whole other in
+      subst (λ n. IsTrace r (more values) K.Fixed n) pr.stands.point
+      (subst (λ i. IsTrace r (so.done ++ i ∷ []) K.Fixed pr.situation.t) (one_is m pr values shows)
+      (pr.onward (instant_of pr.situation V ∷ []) K.Fixed pr.situation.t
+      (WhereFixed pr.situation V _ K.Fixed pr.situation.t 0 bound (shown_solves system plan m shape alone pr.situation pr.state t pr.stands) lacks refl refl refl)))
+
+  -- the run goes on from the bound
+  pub progress_on : (m : Machine) (pr : Progress (run_of system plan m) m v t so.done) (values : List (Option ℤ)) → ShowsValues v system.ports values → WellBehaved (run_of system plan m) →
+      (bound : ℕ) → t < plan.stop → IsBound plan t bound → TakesSize shape plan (bound - t) → is_terminating (m.look pr.state (step_to t bound)) ≡ false →
+      (w : View) → Tells w m (after m pr.state (step_to t bound)) →
+      Progress (run_of system plan m) m w bound (more values)
+  progress_on m pr values shows well bound before is_bound takes asks w told =
+      let r = run_of system plan m in
+      let V = map (shown m pr.state) system.ports in
+      let good = good_step system plan m shape alone pr.situation pr.state t bound pr.stands well before is_bound takes in
+      let step = step_kept system plan m shape alone pr.situation pr.state t bound pr.stands before is_bound takes good in
       let solves = shown_solves system plan m shape alone pr.situation pr.state t pr.stands in
       record {
         situation = after_step r pr.situation V (bound ∷ []) bound;

@@ -1,5 +1,5 @@
 -- What a run of one component asks for.
-use Rattle.std.specs.Prelude.{◌≡◌, ℕ, ◌<◌, ◌≤◌, ◌^◌, true, false, nat_eq, List, [], ◌∷◌, map, All}
+use Rattle.std.specs.Prelude.{◌≡◌, ℕ, ◌<◌, ◌≤◌, ◌^◌, false, nat_eq, List, [], ◌∷◌, map, All}
 use Rattle.std.specs.List.{IsDistinct}
 use Rattle.fmi_calls.specs.Permission.{IsReadable}
 use Rattle.value_types.specs.declared.shape.Shape.{Shape}
@@ -19,7 +19,7 @@ pub record IsOwnPort (shape : Shape) (port : Port) : Type 0 where
   pub component : port.component.0 ≡ 0
   pub output : IsReadable shape port.kind port.reference
 
--- a system of one component of this shape, without event mode and early return and with variable steps; its ports are outputs, each once
+-- a system of one component of this shape, without event mode and early return; its ports are outputs, each once
 pub record IsAlone (shape : Shape) (system : System) : Type 0 where
   pub name : List ℕ
   pub only : system.components ≡ record { name = name; shape = shape } ∷ []
@@ -27,4 +27,3 @@ pub record IsAlone (shape : Shape) (system : System) : Type 0 where
   pub once : IsDistinct nat_eq (map (λ (port : Port). port.reference) system.ports)
   pub no_event : shape.has_event_mode ≡ false
   pub no_early : shape.might_return_early ≡ false
-  pub variable : shape.has_variable_steps ≡ true

@@ -15,7 +15,7 @@ use Rattle.run_model.specs.Trace.{Run, IsTrace}
 use Rattle.step_master.specs.declared.run_end.Break.{Break}
 use Rattle.step_master.specs.declared.run_end.Break.TheVariants as B
 use Rattle.step_master.specs.declared.run_end.RunEnd.{RunEnd}
-use Rattle.step_master.specs.declared.run_end.RunEnd.TheVariants.{Stop, Asked, Bad, WriteFault}
+use Rattle.step_master.specs.declared.run_end.RunEnd.TheVariants.{Stop, Asked, FixedStep, Bad, WriteFault}
 use Rattle.step_master.specs.Follow.{Stays, Broke, GoodGets, ShowsValues, Sends, Breaks, IsNeeded, IsClosable, LosesInstance, gets_of, call_of, is_start}
 
 -- an instant was read, and is to be put
@@ -49,16 +49,21 @@ BreaksInstant old (B.Answer why) new ports t before after c d =
     Broke old why new (GoodGets old.fixed.shape ports) × StopsReading old ports why new × IsClosable new × (after ≡ before) × (d ≡ c)
 BreaksInstant old B.Write new ports t before after c d = CutsInstant old new ports t before after × Rose c d
 
--- the run came to its end
+-- the run came to the stop, or to where the FMU asked for the end
 abbrev pub is_finished : RunEnd → Bool
 is_finished Stop = true
 is_finished (Asked point) = true
+is_finished (FixedStep component at end) = false
 is_finished (Bad component why) = false
 is_finished WriteFault = false
 
 -- the end by the first answer that isn't good
 abbrev pub bad_end : Why → RunEnd
 bad_end why = Bad (record { 0 = 0 }) why
+
+-- the end before a step from one point to another, whose size the only component doesn't take
+abbrev pub fixed_end : ℕ → ℕ → RunEnd
+fixed_end at end = FixedStep (record { 0 = 0 }) at end
 
 -- the end line was put, or the put failed
 abbrev pub PutsEnd : EndKind → ℕ → RunEnd → RunEnd → Option (List ℕ) → Option (List ℕ) → ℕ → ℕ → Type 0
@@ -79,6 +84,7 @@ current_point plan v = max plan.start v.phase.point
 abbrev pub Writes : Plan → RunEnd → ℕ → Option (List ℕ) → Option (List ℕ) → Type 0
 Writes plan Stop current before after = (is : List Instant) × (after ≡ added before (instants_text is ++ end_text K.Stop plan.stop))
 Writes plan (Asked point) current before after = (is : List Instant) × (after ≡ added before (instants_text is ++ end_text K.Asked point))
+Writes plan (FixedStep component at end) current before after = (is : List Instant) × (after ≡ added before (instants_text is ++ end_text K.Fixed at))
 Writes plan (Bad component why) current before after = (is : List Instant) × (after ≡ added before (instants_text is ++ end_text K.Fault current))
 Writes plan WriteFault current before after = Unit {0}
 
@@ -88,6 +94,8 @@ Completes r Stop before after c d =
     (is : List Instant) × IsTrace r is K.Stop r.plan.stop × (after ≡ added before (instants_text is ++ end_text K.Stop r.plan.stop))
 Completes r (Asked point) before after c d =
     (is : List Instant) × IsTrace r is K.Asked point × (after ≡ added before (instants_text is ++ end_text K.Asked point))
+Completes r (FixedStep component at end) before after c d =
+    (is : List Instant) × IsTrace r is K.Fixed at × (after ≡ added before (instants_text is ++ end_text K.Fixed at))
 Completes r (Bad component why) before after c d = Rose c d
 Completes r WriteFault before after c d =
     Rose c d ⊎ ((is : List Instant) × (kind : EndKind) × (point : ℕ) × IsTrace r is kind point × AddsPart before after (instants_text is ++ end_text kind point))
@@ -96,6 +104,7 @@ Completes r WriteFault before after c d =
 abbrev pub TellsWrite : RunEnd → ℕ → ℕ → Type 0
 TellsWrite Stop c d = d ≡ c
 TellsWrite (Asked point) c d = d ≡ c
+TellsWrite (FixedStep component at end) c d = d ≡ c
 TellsWrite (Bad component why) c d = d ≡ c
 TellsWrite WriteFault c d = Rose c d
 
@@ -119,5 +128,6 @@ pub record RunsWell (seen : List Call) (old new : View) : Type 0 where
 abbrev pub LeavesPeer : List Call → View → RunEnd → View → Type 0
 LeavesPeer seen old Stop new = RunsWell seen old new
 LeavesPeer seen old (Asked point) new = RunsWell seen old new
+LeavesPeer seen old (FixedStep component at end) new = RunsWell seen old new
 LeavesPeer seen old (Bad component why) new = (component.0 ≡ 0) × BadEnd seen old why new
 LeavesPeer seen old WriteFault new = RunsWell seen old new ⊎ ((why : Why) × BadEnd seen old why new)

@@ -93,6 +93,7 @@ pub record IsClear (v : View) : Type 0 where
 pub record IsMade (v : View) : Type 0 where
   pub state : v.phase.state ≡ P.Instantiated
   pub point : v.phase.point ≡ 0
+  pub unstepped : v.phase.first_size ≡ None
   pub clear : IsClear v
 
 -- in Step Mode at a point, with this stop
@@ -124,6 +125,7 @@ pub record Stays (old new : View) : Type 0 where
   pub well : GoesWell old new
   pub clear : IsClear old → IsClear new
   pub place : (t stop : ℕ) → IsAt old t stop → IsAt new t stop
+  pub first_size : new.phase.first_size ≡ old.phase.first_size
   pub told : (m : Machine) (s : State) → Tells old m s → Tells new m s
 
 abbrev pub call_of : Why → Call
@@ -170,6 +172,7 @@ pub record Broke (old : View) (why : Why) (new : View) (Good : Machine → State
   pub later : old.faults ≤ new.faults
   pub rose : IsLink why → Rose old.faults new.faults
   pub point : new.phase.point ≡ old.phase.point
+  pub first_size : new.phase.first_size ≡ old.phase.first_size
   pub behind_start : is_start (call_of why) ≡ false
   pub lost : LosesInstance why → new.phase.state ≡ P.Lost
   pub told : (m : Machine) (s : State) → Tells old m s → Good m s → IsLink why

@@ -1,5 +1,5 @@
 -- Into Step Mode through Initialization Mode.
-use Rattle.std.specs.Prelude.{◌≡◌, ◌⊎◌, List, [], ◌∷◌}
+use Rattle.std.specs.Prelude.{◌≡◌, ◌⊎◌, List, [], ◌∷◌, None}
 use Rattle.value_types.specs.declared.shape.Shape.{Shape}
 use Rattle.fmi_calls.specs.declared.call.Call.{Call}
 use Rattle.fmi_calls.specs.declared.call.Call.TheVariants as C
@@ -26,6 +26,7 @@ pub record LeadsIn (plan : Plan) (old new : View) : Type 0 where
   pub well : GoesWell old new
   pub sends : Sends old (leading plan) new
   pub at : IsAt new plan.start plan.stop
+  pub unstepped : new.phase.first_size ≡ None
   pub told : (m : Machine) (s : State) → Tells old m s → Tells new m (led_in plan m s)
 
 -- one of the calls got an answer that isn't good

@@ -16,6 +16,7 @@ ghost use Rattle.step_master.specs.Room.{HasRoom};
 ghost use Rattle.step_master.specs.Follow.{Tells, IsAt, IsMade, IsClosable, GivesUp};
 ghost use Rattle.step_master.specs.Progress.{BeginsAt, run_of};
 ghost use Rattle.step_master.specs.End.{TellsWrite, Writes, Completes, PutsEnd, bad_end, current_point};
+ghost use Rattle.step_master.specs.Size.{KeepsSize, StepsByPlan};
 ghost use Rattle.step_master.specs.Whole.{EndsClosed, EndsShut, WritesWhole, CompletesWhole};
 ghost use Rattle.step_master.specs.Initial.{LeadsIn, StopsLeading, GoodLead, IsInstantiatedAs};
 
@@ -47,6 +48,7 @@ pub fn run_alone<L: Peer, O: Sink>(
     requires room { HasRoom system.now room.old }
     ensures fixed { (L.view result.peer).fixed ≡ (L.view peer).fixed }
     ensures peer { EndsClosed (L.view peer) result.end (L.view result.peer) }
+    ensures size { KeepsSize plan.now result.end (L.view result.peer) }
     ensures told { TellsWrite result.end (O.faults out.old) (O.faults out.new) }
     ensures writes { WritesWhole system.now plan.now result.end (current_point plan.now (L.view result.peer)) (O.content out.old) (O.content out.new) }
     ensures trace { (m : Machine) → Tells (L.view peer) m m.first → WellBehaved (run_of system.now plan.now m) →
@@ -72,6 +74,7 @@ fn run_instance<L: Peer, O: Sink>(
     requires room { HasRoom system.now room.old }
     ensures fixed { (L.view result.peer).fixed ≡ (L.view fmu.peer).fixed }
     ensures peer { EndsShut (instantiate_of (L.view fmu.peer).fixed.shape ∷ []) (L.view fmu.peer) result.end (L.view result.peer) }
+    ensures size { KeepsSize plan.now result.end (L.view result.peer) }
     ensures told { TellsWrite result.end (O.faults out.old) (O.faults out.new) }
     ensures writes { WritesWhole system.now plan.now result.end (current_point plan.now (L.view result.peer)) (O.content out.old) (O.content out.new) }
     ensures trace { (m : Machine) → IsInstantiatedAs (run_of system.now plan.now m) m (L.view fmu.peer) → WellBehaved (run_of system.now plan.now m) →
@@ -116,6 +119,7 @@ fn run_headed<L: Peer, O: Sink>(
     requires room { HasRoom system.now room.old }
     ensures fixed { (L.view result.peer).fixed ≡ (L.view fmu.peer).fixed }
     ensures peer { EndsShut (instantiate_of (L.view fmu.peer).fixed.shape ∷ []) (L.view fmu.peer) result.end (L.view result.peer) }
+    ensures size { KeepsSize plan.now result.end (L.view result.peer) }
     ensures told { TellsWrite result.end (O.faults out.old) (O.faults out.new) }
     ensures writes { Writes plan.now result.end (current_point plan.now (L.view result.peer)) (O.content out.old) (O.content out.new) }
     ensures trace { (m : Machine) → IsInstantiatedAs (run_of system.now plan.now m) m (L.view fmu.peer) → WellBehaved (run_of system.now plan.now m) →
@@ -135,6 +139,7 @@ fn initialize<L: Peer>(fmu: Fmu<L, Instantiated>, plan: &Plan) -> Result<Fmu<L, 
     ensures ok { IfOk result (λ next. LeadsIn plan.now (L.view fmu.peer) (L.view next.peer)) }
     ensures stops { IfErr result (λ ended. StopsLeading plan.now (L.view fmu.peer) ended.why (L.view ended.peer)) }
     ensures closable { IfErr result (λ ended. IsClosable (L.view ended.peer)) }
+    ensures sizes { IfErr result (λ ended. StepsByPlan plan.now (L.view ended.peer)) }
     ensures current { IfErr result (λ ended. current_point plan.now (L.view ended.peer) ≡ plan.now.start) }
     ensures err { IfErr result (λ ended. GivesUp (L.view fmu.peer) ended.why (L.view ended.peer) (GoodLead plan.now (L.view fmu.peer).fixed.shape)) }
 {
@@ -166,9 +171,11 @@ fn run_stepping<L: Peer, O: Sink>(
     requires alone { IsAlone (L.view fmu.peer).fixed.shape system.now }
     requires plan { IsPlan plan.now }
     requires at { IsAt (L.view fmu.peer) plan.now.start plan.now.stop }
+    requires sizes { StepsByPlan plan.now (L.view fmu.peer) }
     requires room { HasRoom system.now room.old }
     ensures fixed { (L.view result.peer).fixed ≡ (L.view fmu.peer).fixed }
     ensures peer { EndsShut (C.ExitInitialization ∷ []) (L.view fmu.peer) result.end (L.view result.peer) }
+    ensures size { KeepsSize plan.now result.end (L.view result.peer) }
     ensures told { TellsWrite result.end (O.faults out.old) (O.faults out.new) }
     ensures writes { Writes plan.now result.end (current_point plan.now (L.view result.peer)) (O.content out.old) (O.content out.new) }
     ensures trace { (m : Machine) → BeginsAt (run_of system.now plan.now m) m (L.view fmu.peer) → WellBehaved (run_of system.now plan.now m) →

@@ -7,9 +7,20 @@ pub enum RunEnd {
     /// at the stop
     Stop,
     /// at a point that a step reached, where an FMU asked for the end
-    Asked { point: u64 },
+    Asked {
+        point: u64,
+    },
+    /// at a point, before the step to an end: its size isn't the plan's, and this component takes no other
+    FixedStep {
+        component: CompId,
+        at: u64,
+        end: u64,
+    },
     /// by the first answer that isn't good, of this component
-    Bad { component: CompId, why: Why },
+    Bad {
+        component: CompId,
+        why: Why,
+    },
     /// by a put that failed
     WriteFault,
 }

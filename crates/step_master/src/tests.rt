@@ -48,13 +48,6 @@ impl Peer for Scripted {
     }
 }
 
-const PLAN: Plan = Plan {
-    resolution: 1000,
-    start: 0,
-    step: 10,
-    stop: 20,
-};
-
 macro_rules! done {
     ($content:expr $(,)?) => {
         Reply::Done {
@@ -123,8 +116,12 @@ const TERMINATE: Call = Call::Terminate;
 
 const FREE: Call = Call::FreeInstance;
 
-// What the peer replies and which put fails; the end of the run, its text and its calls.
+// Whether the FMU takes steps of any size, the step and the stop of the plan, what the peer replies, and which put
+// fails; the end of the run, its text and its calls.
 struct Case {
+    variable: bool,
+    step: u64,
+    stop: u64,
     replies: &'static [Reply],
     failing: Option<u64>,
     end: RunEnd,
@@ -132,9 +129,12 @@ struct Case {
     calls: &'static [Call],
 }
 
-const CASES: [Case; 8] = [
+const CASES: [Case; 12] = [
     // A counter of steps by 2.
     Case {
+        variable: true,
+        step: 10,
+        stop: 20,
         replies: &[
             INSTANTIATED,
             ENTERED,
@@ -165,6 +165,9 @@ const CASES: [Case; 8] = [
     },
     // It asks for the end at its first step.
     Case {
+        variable: true,
+        step: 10,
+        stop: 20,
         replies: &[
             INSTANTIATED,
             ENTERED,
@@ -181,6 +184,9 @@ const CASES: [Case; 8] = [
     },
     // It discards its first step, and is closed as it stands.
     Case {
+        variable: true,
+        step: 10,
+        stop: 20,
         replies: &[
             INSTANTIATED,
             ENTERED,
@@ -203,6 +209,9 @@ const CASES: [Case; 8] = [
     },
     // Its second step ends at another point than it may: the instance is freed alone.
     Case {
+        variable: true,
+        step: 10,
+        stop: 20,
         replies: &[
             INSTANTIATED,
             ENTERED,
@@ -235,6 +244,9 @@ const CASES: [Case; 8] = [
     },
     // It answers no more in Initialization Mode: nothing follows.
     Case {
+        variable: true,
+        step: 10,
+        stop: 20,
         replies: &[INSTANTIATED, ENTERED],
         failing: None,
         end: RunEnd::Bad {
@@ -249,6 +261,9 @@ const CASES: [Case; 8] = [
     },
     // No instance is made.
     Case {
+        variable: true,
+        step: 10,
+        stop: 20,
         replies: &[NOT_INSTANTIATED],
         failing: None,
         end: RunEnd::Bad {
@@ -263,6 +278,9 @@ const CASES: [Case; 8] = [
     },
     // The put of the header fails: the instance is freed.
     Case {
+        variable: true,
+        step: 10,
+        stop: 20,
         replies: &[INSTANTIATED, FREED],
         failing: Some(0),
         end: RunEnd::WriteFault,
@@ -271,6 +289,9 @@ const CASES: [Case; 8] = [
     },
     // The put of the second instant fails.
     Case {
+        variable: true,
+        step: 10,
+        stop: 20,
         replies: &[
             INSTANTIATED,
             ENTERED,
@@ -295,12 +316,133 @@ const CASES: [Case; 8] = [
             FREE,
         ],
     },
+    // Steps of the plan's size alone, and the last one would be shorter: it isn't made.
+    Case {
+        variable: false,
+        step: 10,
+        stop: 25,
+        replies: &[
+            INSTANTIATED,
+            ENTERED,
+            EXITED,
+            ZERO,
+            stepped!(10, false),
+            TWO,
+            stepped!(20, false),
+            FOUR,
+            TERMINATED,
+            FREED,
+        ],
+        failing: None,
+        end: RunEnd::FixedStep {
+            component: CompId(0),
+            at: 20,
+            end: 25,
+        },
+        text: "trace 1 1000 0 25\nport 0 Int32 fmu y\nat 0 0\n0 0\nat 10 0\n0 2\nat 20 0\n0 4\nend fixed 20\n",
+        calls: &[
+            INSTANTIATE,
+            Call::EnterInitialization { start: 0, stop: 25 },
+            EXIT,
+            GET,
+            FIRST_STEP,
+            GET,
+            SECOND_STEP,
+            GET,
+            TERMINATE,
+            FREE,
+        ],
+    },
+    // The first step would be shorter than the plan's.
+    Case {
+        variable: false,
+        step: 10,
+        stop: 5,
+        replies: &[INSTANTIATED, ENTERED, EXITED, ZERO, TERMINATED, FREED],
+        failing: None,
+        end: RunEnd::FixedStep {
+            component: CompId(0),
+            at: 0,
+            end: 5,
+        },
+        text: "trace 1 1000 0 5\nport 0 Int32 fmu y\nat 0 0\n0 0\nend fixed 0\n",
+        calls: &[
+            INSTANTIATE,
+            Call::EnterInitialization { start: 0, stop: 5 },
+            EXIT,
+            GET,
+            TERMINATE,
+            FREE,
+        ],
+    },
+    // Each step is of the plan's size.
+    Case {
+        variable: false,
+        step: 10,
+        stop: 20,
+        replies: &[
+            INSTANTIATED,
+            ENTERED,
+            EXITED,
+            ZERO,
+            stepped!(10, false),
+            TWO,
+            stepped!(20, false),
+            FOUR,
+            TERMINATED,
+            FREED,
+        ],
+        failing: None,
+        end: RunEnd::Stop,
+        text: "trace 1 1000 0 20\nport 0 Int32 fmu y\nat 0 0\n0 0\nat 10 0\n0 2\nat 20 0\n0 4\nend stop 20\n",
+        calls: &[
+            INSTANTIATE,
+            ENTER,
+            EXIT,
+            GET,
+            FIRST_STEP,
+            GET,
+            SECOND_STEP,
+            GET,
+            TERMINATE,
+            FREE,
+        ],
+    },
+    // With variable steps the last one is shorter.
+    Case {
+        variable: true,
+        step: 10,
+        stop: 5,
+        replies: &[
+            INSTANTIATED,
+            ENTERED,
+            EXITED,
+            ZERO,
+            stepped!(5, false),
+            TWO,
+            TERMINATED,
+            FREED,
+        ],
+        failing: None,
+        end: RunEnd::Stop,
+        text: "trace 1 1000 0 5\nport 0 Int32 fmu y\nat 0 0\n0 0\nat 5 0\n0 2\nend stop 5\n",
+        calls: &[
+            INSTANTIATE,
+            Call::EnterInitialization { start: 0, stop: 5 },
+            EXIT,
+            GET,
+            Call::DoStep { at: 0, size: 5 },
+            GET,
+            TERMINATE,
+            FREE,
+        ],
+    },
 ];
 
 #[test]
 fn a_run_makes_its_calls_and_puts_its_text(rt: HostRuntime) -> Result<(), Fail> {
     for case in &CASES {
-        let shape = shape_of(rt.alloc())?;
+        let shape = shape_of(rt.alloc(), case.variable)?;
         let system = system_of(rt.alloc(), &shape)?;
         let talk = TalkRoom::with_room(rt.alloc(), 32)?;
         let mut room = Room::new(rt.alloc(), &system)?;
@@ -311,7 +453,14 @@ fn a_run_makes_its_calls_and_puts_its_text(rt: HostRuntime) -> Result<(), Fail> 
             replies: case.replies,
             given: 0,
         };
-        let Finished { peer, end } = run_alone(peer, &system, &PLAN, &mut room, &mut out);
+        let plan = Plan {
+            resolution: 1000,
+            start: 0,
+            step: case.step,
+            stop: case.stop,
+        };
+        assert!(rt; 0 < plan.step && plan.step < 60 && plan.stop < 60);
+        let Finished { peer, end } = run_alone(peer, &system, &plan, &mut room, &mut out);
         let calls = calls_of(rt.alloc(), peer)?;
         assert_eq!(rt; end, case.end);
         assert_eq!(rt; out.bytes.as_slice(), case.text.as_bytes());
@@ -347,7 +496,6 @@ fn system_of(alloc: Global, shape: &Shape) -> Result<System, AllocError>
     requires output { IsReadable shape.now PortType.Int32 2 }
     requires no_event { shape.now.has_event_mode ≡ false }
     requires no_early { shape.now.might_return_early ≡ false }
-    requires variable { shape.now.has_variable_steps ≡ true }
     ensures { IfOk result (IsAlone shape.now) }
 {
     let component = Component {
@@ -366,11 +514,10 @@ fn system_of(alloc: Global, shape: &Shape) -> Result<System, AllocError>
     })
 }
 
-fn shape_of(alloc: Global) -> Result<Shape, AllocError>
+fn shape_of(alloc: Global, variable: bool) -> Result<Shape, AllocError>
     ensures output { IfOk result (λ s. IsReadable s PortType.Int32 2) }
     ensures no_event { IfOk result (λ s. s.has_event_mode ≡ false) }
     ensures no_early { IfOk result (λ s. s.might_return_early ≡ false) }
-    ensures variable { IfOk result (λ s. s.has_variable_steps ≡ true) }
 {
     let y = Variable {
         name: Text::from_str(alloc, "y")?,
@@ -388,7 +535,7 @@ fn shape_of(alloc: Global) -> Result<Shape, AllocError>
         resolution: 1000,
         has_event_mode: false,
         might_return_early: false,
-        has_variable_steps: true,
+        has_variable_steps: variable,
         can_save_state: false,
         can_serialize_state: false,
         variables: Items::from_vec(vec![in alloc; y]?),

@@ -23,6 +23,7 @@ fn kind_text(kind: EndKind) -> &'static str
     match kind {
         EndKind::Stop => "stop",
         EndKind::Asked => "asked",
+        EndKind::Fixed => "fixed",
         EndKind::Fault => "fault",
     }
 }

@@ -1,5 +1,6 @@
-ghost use Rattle.std.specs.Prelude.{◌≡◌, ◌+◌, IfOk, OnOk, length, vec_len};
-ghost use Rattle.trace_text.specs.Room.{AreValues};
+ghost use Rattle.std.specs.Prelude.{◌≡◌, ◌≤◌, ◌+◌, IfOk, OnOk, length, vec_len};
+ghost use Rattle.run_model.specs.Text.{end_text};
+ghost use Rattle.trace_text.specs.Room.{AreValues, HoldsEach};
 
 use crate::{put_end, put_header, put_instant, room_for};
 use run_model::{Component, EndKind, Port, System};
@@ -20,7 +21,7 @@ struct Case {
     end: &'static str,
 }
 
-const CASES: [Case; 3] = [
+const CASES: [Case; 4] = [
     Case {
         component: "c",
         ports: &[("y", PortType::Int32, Some(2))],
@@ -39,6 +40,14 @@ const CASES: [Case; 3] = [
         instant: "at 10 0\n1 -7\n",
         kind: EndKind::Asked,
         end: "end asked 20\n",
+    },
+    Case {
+        component: "whole",
+        ports: &[("y", PortType::Enumeration, Some(1))],
+        header: "trace 1 1000 0 20\nport 0 Enumeration whole y\n",
+        instant: "at 10 0\n0 1\n",
+        kind: EndKind::Fixed,
+        end: "end fixed 20\n",
     },
     Case {
         component: "empty",
@@ -61,10 +70,19 @@ fn texts_are_those_of_the_format(rt: HostRuntime) -> Result<(), Fail> {
         assert_eq!(rt; &out[..length], case.header.as_bytes());
         let length = put_instant(&system, 10, 0, &values, &mut out);
         assert_eq!(rt; &out[..length], case.instant.as_bytes());
-        let length = put_end(case.kind, 20, &mut out);
+        let length = put_end_in(&system, case.kind, 20, &mut out);
         assert_eq!(rt; &out[..length], case.end.as_bytes());
     }
     Ok(())
+}
+
+// Puts the end of a trace into the room of its system.
+fn put_end_in(_system: &System, kind: EndKind, t: u64, out: &mut [u8]) -> usize
+    requires { HoldsEach _system.now (length out.old) }
+    ensures length { result ≡ length (end_text kind t) }
+    ensures within { result ≤ length out.new }
+{
+    put_end(kind, t, out)
 }
 
 fn system_of(alloc: Global, component: &str, rows: &[Row]) -> Result<System, AllocError>

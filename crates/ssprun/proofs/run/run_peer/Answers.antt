@@ -20,7 +20,6 @@ run_alone-peer-requires-clause-alone g c = λ lifetimes outlives. record {
   once = subst (λ (s : System). IsDistinct nat_eq (map (λ (p : Port). p.reference) s.ports)) (sym c.requires.prepared.system) (once_one 2);
   no_event = search rules;
   no_early = search rules;
-  variable = search rules;
 }
 
 pub returns : goal.returns
@@ -39,6 +38,7 @@ returns g c before e = record {
   };
   tells = tells_end c.run_alone-peer.result.end (g.S.Link.Peer.view c.args.peer) (g.S.Link.Peer.view c.run_alone-peer.result.peer)
       c.requires.peer.talk c.requires.peer.faults c.run_alone-peer.ensures.peer;
+  size = c.run_alone-peer.ensures.size;
   outs = c.run_alone-peer.ensures.told;
   writes = subst
       (λ (s : System). WritesWhole s c.args.options.now.plan c.run_alone-peer.result.end (current_point c.args.options.now.plan (g.S.Link.Peer.view c.run_alone-peer.result.peer)) (g.O.Sink.content c.args.out.now) (g.O.Sink.content c.run_alone-peer.new.out))

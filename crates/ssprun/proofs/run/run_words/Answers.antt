@@ -1,4 +1,4 @@
-use Rattle.ssprun.proofs.Rows.{end_row, words_row, file_row, form_row, link_row, refusal_row, misreply_row, write_row, memory_row, trace_row, peer_row, status_row}
+use Rattle.ssprun.proofs.Rows.{end_row, words_row, file_row, form_row, link_row, refusal_row, misreply_row, fixed_row, write_row, memory_row, trace_row, peer_row, status_row}
 use Rattle.ssprun.proofs.run.run_words.Goals as goal
 
 pub returns-clause-done : goal.returns-clause-done
@@ -21,6 +21,9 @@ returns-clause-refusal g c = refusal_row c.run-outcome.result _ c.run-outcome.en
 
 pub returns-clause-misreply : goal.returns-clause-misreply
 returns-clause-misreply g c = misreply_row c.run-outcome.result _ c.run-outcome.ensures c.report.ensures
+
+pub returns-clause-fixed : goal.returns-clause-fixed
+returns-clause-fixed g c = fixed_row c.run-outcome.result _ c.run-outcome.ensures c.report.ensures
 
 pub returns-clause-write : goal.returns-clause-write
 returns-clause-write g c = write_row c.run-outcome.result _ c.run-outcome.ensures c.report.ensures

@@ -10,6 +10,8 @@ use Rattle.step_master.proofs.Calls.{tells_after}
 use Rattle.step_master.proofs.Needed.{start_needed}
 use Rattle.step_master.proofs.Sent.{sends_by}
 use Rattle.step_master.proofs.Closing.{shut_on, closed_from_fresh, made_by, ends_unmade, unmade_writes, unmade_rose, instantiated_is, good_start}
+use Rattle.step_master.specs.Size.{KeepsSize}
+use Rattle.step_master.proofs.Sizes.{unmade_keeps}
 use Rattle.step_master.proofs.run.run_alone.Goals as goal
 
 pub run_instance-requires-clause-made : goal.run_instance-requires-clause-made
@@ -57,3 +59,9 @@ returns-in-Err-clause-trace g c = λ m told good.
     let shape = (g.L.Peer.view c.args.peer).fixed.shape in
     subst (λ e. CompletesWhole (run_of c.args.system.now c.args.plan.now m) e (g.O.Sink.content c.args.out.now) (g.O.Sink.content c.args.out.now) (g.L.Peer.view c.args.peer).faults (g.L.Peer.view c.give_up.result.peer).faults) (sym c.give_up.ensures.end)
     (unmade_rose shape (g.L.Peer.view c.args.peer) (g.L.Peer.view c.in-Err.ended.peer) (g.L.Peer.view c.give_up.result.peer) c.in-Err.ended.why m failed c.give_up.ensures.closed told (good_start c.args.system.now c.args.plan.now m shape c.requires.alone good))
+
+pub returns-in-Err-clause-size : goal.returns-in-Err-clause-size
+returns-in-Err-clause-size g c =
+    let failed = rw c.new.ensures at c.in-Err.ensures.err in
+    subst (λ e. KeepsSize c.args.plan.now e (g.L.Peer.view c.give_up.result.peer)) (sym c.give_up.ensures.end)
+    (unmade_keeps c.args.plan.now (g.L.Peer.view c.args.peer) (g.L.Peer.view c.in-Err.ended.peer) (g.L.Peer.view c.give_up.result.peer) c.in-Err.ended.why c.requires.fresh failed c.give_up.ensures.closed)

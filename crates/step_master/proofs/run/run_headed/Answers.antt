@@ -6,6 +6,10 @@ use Rattle.step_master.specs.Initial.{leading}
 use Rattle.step_master.specs.Progress.{run_of}
 use Rattle.step_master.proofs.Needed.{leading_needed}
 use Rattle.step_master.proofs.Closing.{left_shut, shut_on, begins_at, good_lead, early_peer, early_told, early_writes, early_trace, point_same, point_closed, rose_closed}
+use Rattle.run_model.specs.declared.plan.EndKind.TheVariants as K
+use Rattle.step_master.specs.End.{bad_end}
+use Rattle.step_master.proofs.Exits.{keeps_at, sizes_unstepped}
+use Rattle.step_master.proofs.Sizes.{keeps_closed}
 use Rattle.step_master.proofs.run.run_headed.Goals as goal
 
 pub returns-in-Ok-clause-peer : goal.returns-in-Ok-clause-peer
@@ -41,3 +45,11 @@ returns-in-Err-clause-trace g c = λ m i good.
     early_trace (run_of c.args.system.now c.args.plan.now m) c.args.plan.now c.in-Err.ended.why _ _
     (rose_closed (g.L.Peer.view c.args.fmu.peer) (g.L.Peer.view c.in-Err.ended.peer) (g.L.Peer.view c.stop_early.result.peer) c.in-Err.ensures.closable c.stop_early.ensures.closed (c.in-Err.ensures.err.rose link))
     _ _ _ _ _ c.stop_early.ensures.end
+
+pub run_stepping-requires-clause-sizes : goal.run_stepping-requires-clause-sizes
+run_stepping-requires-clause-sizes g c = λ lifetimes outlives. sizes_unstepped c.args.plan.now (g.L.Peer.view c.in-Ok.fmu.peer) c.in-Ok.ensures.ok.unstepped
+
+pub returns-in-Err-clause-size : goal.returns-in-Err-clause-size
+returns-in-Err-clause-size g c =
+    keeps_closed c.args.plan.now c.stop_early.result.end (g.L.Peer.view c.in-Err.ended.peer) (g.L.Peer.view c.stop_early.result.peer) c.in-Err.ensures.closable c.stop_early.ensures.closed
+    (keeps_at c.args.plan.now (g.L.Peer.view c.in-Err.ended.peer) K.Fault c.args.plan.now.start (bad_end c.in-Err.ended.why) c.stop_early.result.end _ _ _ _ c.in-Err.ensures.sizes tt c.stop_early.ensures.end)

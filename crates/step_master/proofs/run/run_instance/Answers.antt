@@ -2,6 +2,7 @@ use Rattle.std.specs.Prelude.{[], ◌∷◌}
 use Rattle.fmu_peer.specs.Mode.{instantiate_of}
 use Rattle.step_master.specs.declared.run_end.RunEnd.TheVariants.{WriteFault}
 use Rattle.step_master.proofs.Closing.{left_shut, headless, writes_whole, completes_whole, header_cut}
+use Rattle.step_master.proofs.Sizes.{headless_keeps}
 use Rattle.step_master.proofs.run.run_instance.Goals as goal
 
 pub returns-in-Ok-clause-writes : goal.returns-in-Ok-clause-writes
@@ -20,3 +21,6 @@ returns-in-Err-clause-peer g c =
 pub returns-in-Err-clause-trace : goal.returns-in-Err-clause-trace
 returns-in-Err-clause-trace g c = λ m i good.
     header_cut c.args.system.now c.args.plan.now m (g.L.Peer.view c.args.fmu.peer).fixed.shape c.requires.alone (g.L.Peer.view c.args.fmu.peer) (g.O.Sink.content c.args.out.now) _ _ _ c.requires.plan i good c.in-Err.ensures.err
+
+pub returns-in-Err-clause-size : goal.returns-in-Err-clause-size
+returns-in-Err-clause-size g c = headless_keeps c.args.plan.now (g.L.Peer.view c.args.fmu.peer) (g.L.Peer.view c.close.result) c.requires.made c.close.ensures

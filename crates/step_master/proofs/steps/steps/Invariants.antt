@@ -1,6 +1,7 @@
 use Rattle.std.proofs.Common.{◌≡◌, ◌≤◌, ◌-◌, length}
 use Rattle.trace_text.specs.Room.{HoldsEach}
 use Rattle.step_master.specs.Follow.{GoesWell, IsAt}
+use Rattle.step_master.specs.Size.{StepsByPlan}
 use Rattle.step_master.proofs.Exits.{RunsTo}
 use Rattle.step_master.proofs.Onward.{SoFar}
 use Rattle.step_master.proofs.steps.steps.Given as goal
@@ -14,6 +15,7 @@ invariant-points g l =
       runs : RunsTo l.t (view l.fn.fmu.peer) (view l.fmu.peer);
       well : GoesWell (view l.fn.fmu.peer) (view l.fmu.peer);
       at : IsAt (view l.fmu.peer) l.t l.plan.stop;
+      sizes : StepsByPlan l.plan (view l.fmu.peer);
       begun : l.plan.start ≤ l.t;
       within : l.t ≤ l.plan.stop;
       places : length l.values ≡ length l.system.ports;

@@ -17,5 +17,4 @@ returns c = record {
   once = (let e : map (λ (port : Port). port.reference) c.from_vec-2.result ≡ 2 ∷ [] = search rules in subst (IsDistinct nat_eq) (sym e) (once_one 2));
   no_event = search rules;
   no_early = search rules;
-  variable = search rules;
 }
