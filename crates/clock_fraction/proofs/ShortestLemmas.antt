@@ -113,3 +113,13 @@ shortest_only number up down k one fraction lasts counts resolution is =
     let same_counter : one.counter ≡ fraction.counter = counts ∙ sym parts.counts in
     let same_resolution : one.resolution ≡ fraction.resolution = resolution ∙ ap (λ i. 10 ^ i) (sym parts.places) ∙ sym is.resolution in
     ap (λ n. made n one.resolution) same_counter ∙ ap (made fraction.counter) same_resolution
+
+-- the least power of ten is one, and so is the fraction over it
+pub one_shortest : (number up down j k : ℕ) (one other : Fraction) → IsShortest number up down j one → IsShortest number up down k other → one ≡ other
+one_shortest number up down j k one other p q =
+    let above : k ≤ j = q.least one.counter j p.value in
+    let below : j ≤ k = p.least other.counter k q.value in
+    let same : j ≡ k = omega arith in
+    let counter : one.counter ≡ other.counter = mul-cancel_right one.counter other.counter (10 ^ down) (ten_above down) (p.value ∙ ap (λ i. number * 10 ^ (up + i)) same ∙ sym q.value) in
+    let resolution : one.resolution ≡ other.resolution = p.resolution ∙ ap (λ i. 10 ^ i) same ∙ sym q.resolution in
+    ap (λ n. made n one.resolution) counter ∙ ap (made other.counter) resolution

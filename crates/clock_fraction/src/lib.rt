@@ -4,6 +4,7 @@
 mod decimal;
 mod digits;
 mod fraction;
+mod law;
 mod shortest;
 #[cfg(test)]
 mod tests;
@@ -11,4 +12,5 @@ mod ticks;
 
 pub use decimal::from_decimal;
 pub use fraction::{Fraction, to_counts};
+pub use law::one_decimal;
 pub use ticks::{next_tick_after, ticks_at};

@@ -1,0 +1,15 @@
+pub mod SoundLemmas
+pub mod StepLemmas
+pub mod KindLemmas
+pub mod PortLemmas
+pub mod OneLemmas
+pub mod TableLemmas
+pub mod TextLemmas
+pub mod MarkLemmas
+pub mod FollowLemmas
+mod IntervalLemmas
+mod MisreadLemmas
+mod PastLemmas
+mod ReadLemmas
+mod RuleLemmas
+mod TableUse

@@ -1,0 +1,14 @@
+-- A tree with the tables of what its elements name.
+use Rattle.fmu_description.specs.declared.indexed.IndexedTree.{IndexedTree}
+use Rattle.fmu_description.specs.Elements.{variable_key, clock_key, output_key, initial_key, name_key}
+use Rattle.fmu_description.specs.Places.{IsTable, FindsCoSimulation, MarksForeign, found, found_name, is_foreign}
+
+-- the tables are those of the tree
+pub record IsIndexed (d : IndexedTree) : Type 0 where
+  pub variables : IsTable (variable_key d.tree.now) (found d.variables)
+  pub clocks : IsTable (clock_key d.tree.now) (found d.clocks)
+  pub outputs : IsTable (output_key d.tree.now) (found d.outputs)
+  pub initial_unknowns : IsTable (initial_key d.tree.now) (found d.initial_unknowns)
+  pub names : IsTable (name_key d.tree.now) (found_name d.names)
+  pub co_simulation : FindsCoSimulation d.tree.now d.co_simulation
+  pub foreign : MarksForeign d.tree.now (is_foreign d.foreign)

@@ -1,0 +1,9 @@
+pub mod Texts
+pub mod Elements
+pub mod Clocks
+pub mod Places
+pub mod Marks
+pub mod Rules
+pub mod Indexed
+pub mod Answers
+pub mod Description

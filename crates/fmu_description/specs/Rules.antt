@@ -1,0 +1,282 @@
+-- The rules of a model description (FMI 3.0, 2.4; 2.2.8 for clocks), each a statement about one tree and one of its elements.
+use Rattle.std.specs.Prelude.{◌≡◌, ◌≢◌, ◌⊎◌, ℕ, ℤ, ◌<◌, true, false, List, Option, Some, None, is_some, Contains, codes, nat_eq}
+use Rattle.std.specs.List.{starts_with}
+use Rattle.value_types.specs.declared.values.PortType.{PortType}
+use Rattle.value_types.specs.Reading.{Reads}
+use Rattle.value_types.specs.declared.shape.Causality.TheVariants as c
+use Rattle.value_types.specs.declared.shape.IntervalVariability.{IntervalVariability}
+use Rattle.value_types.specs.declared.shape.IntervalVariability.TheVariants as v
+use Rattle.clock_fraction.specs.declared.fraction.Fraction.{Fraction}
+use Rattle.clock_fraction.specs.Counts.{IsCounts}
+use Rattle.clock_fraction.specs.Decimal.{Denotes}
+use Rattle.doc_grammar.specs.Nodes.{Node}
+use Rattle.fmu_description.specs.declared.rule.Rule.{Rule}
+use Rattle.fmu_description.specs.declared.rule.Rule.TheVariants as r
+use Rattle.fmu_description.specs.Texts.{reference, references, counter, variability, port_type}
+use Rattle.fmu_description.specs.Elements.{name_of, is_named, attribute, is_co_simulation, is_variable, is_clock, is_alias, reference_of, references_of, causality_of, flag_of, has_flag, filled, variable_key, clock_key, name_key, IsRepeated, IsHeld, IsCoSimulation, IsUnknown}
+use Rattle.fmu_description.specs.Clocks.{IsForeign, IsTimed, variability_of, counter_of, clocks_of, is_by_counters, IsInterval, IsShift}
+
+-- ---- numbers
+
+abbrev pub number : Rule → ℕ
+number r.RootName = 10
+number r.Version = 11
+number r.NoCoSimulation = 12
+number r.Absent = 13
+number r.Misread = 14
+number r.ReferenceTwice = 15
+number r.NameTwice = 16
+number r.NoInterval = 17
+number r.ClockCausality = 18
+number r.Uneven = 19
+number r.NoClock = 20
+number r.NoVariable = 21
+number r.SerializesUnsaved = 22
+number r.LeftOut = 23
+number r.ClockWithoutEvents = 24
+
+-- ---- what is absent
+
+abbrev pub Lacks : List Node → ℕ → List ℕ → Type 0
+Lacks t k name = attribute t k name ≡ None
+
+-- an empty name counts as absent
+abbrev pub LacksName : List Node → ℕ → Type 0
+LacksName t k = filled (attribute t k (codes "name")) ≡ None
+
+abbrev pub LacksOfRoot : List Node → ℕ → Type 0
+LacksOfRoot t k =
+    (k ≡ 0) × (Lacks t k (codes "fmiVersion") ⊎ (Lacks t k (codes "modelName") ⊎ Lacks t k (codes "instantiationToken")))
+
+abbrev pub LacksOfVariable : List Node → ℕ → Type 0
+LacksOfVariable t k =
+    (is_variable t k ≡ true) × (LacksName t k ⊎ (Lacks t k (codes "valueReference") ⊎ (IsTimed t k × Lacks t k (codes "intervalVariability"))))
+
+abbrev pub LacksOfAlias : List Node → ℕ → Type 0
+LacksOfAlias t k = (is_alias t k ≡ true) × LacksName t k
+
+abbrev pub LacksOfUnknown : List Node → ℕ → Type 0
+LacksOfUnknown t k = IsUnknown t k × Lacks t k (codes "valueReference")
+
+abbrev pub LacksOfCoSimulation : List Node → ℕ → Type 0
+LacksOfCoSimulation t k = IsCoSimulation t k × Lacks t k (codes "modelIdentifier")
+
+-- ---- what doesn't read
+
+-- the attribute is there, and the reading answers nothing
+abbrev pub Misreads : {A : Type 0} → (List ℕ → Option A) → List Node → ℕ → List ℕ → Type 0
+Misreads read t k name = (text : List ℕ) × (attribute t k name ≡ Some text) × (read text ≡ None)
+
+abbrev pub MisreadsFlag : List Node → ℕ → List ℕ → Type 0
+MisreadsFlag t k name = flag_of t k name ≡ None
+
+abbrev pub MisreadsDecimal : List Node → ℕ → List ℕ → Type 0
+MisreadsDecimal t k name = (text : List ℕ) × (attribute t k name ≡ Some text) × ((f : Fraction) → Denotes text f → ⊥)
+
+-- the start value doesn't read as the type
+abbrev pub MisreadsValue : List Node → ℕ → Type 0
+MisreadsValue t k =
+    (text : List ℕ) × (kind : PortType) × (attribute t k (codes "start") ≡ Some text)
+    × (port_type (name_of t k) ≡ Some kind) × ((value : ℤ) → Reads kind text value → ⊥)
+
+-- nor is the variable foreign
+abbrev pub MisreadsStart : List Node → ℕ → Type 0
+MisreadsStart t k = (IsForeign t k → ⊥) × MisreadsValue t k
+
+abbrev pub MisreadsOfCoSimulation : List Node → ℕ → Type 0
+MisreadsOfCoSimulation t k =
+    IsCoSimulation t k × (MisreadsFlag t k (codes "hasEventMode")
+    ⊎ (MisreadsFlag t k (codes "mightReturnEarlyFromDoStep")
+    ⊎ (MisreadsFlag t k (codes "canHandleVariableCommunicationStepSize")
+    ⊎ (MisreadsFlag t k (codes "canGetAndSetFMUState")
+    ⊎ MisreadsFlag t k (codes "canSerializeFMUState")))))
+
+abbrev pub MisreadsSetting : List Node → ℕ → Type 0
+MisreadsSetting t k = MisreadsFlag t k (codes "canHandleMultipleSetPerTimeInstant") ⊎ MisreadsStart t k
+
+abbrev pub MisreadsOfVariable : List Node → ℕ → Type 0
+MisreadsOfVariable t k =
+    (is_variable t k ≡ true) × (Misreads reference t k (codes "valueReference")
+    ⊎ (Misreads references t k (codes "clocks")
+    ⊎ MisreadsSetting t k))
+
+-- the resolution of a clock is 0
+abbrev pub HasNoResolution : List Node → ℕ → Type 0
+HasNoResolution t k = counter_of t k (codes "resolution") ≡ Some 0
+
+abbrev pub MisreadsCounters : List Node → ℕ → Type 0
+MisreadsCounters t k =
+    Misreads counter t k (codes "intervalCounter")
+    ⊎ (Misreads counter t k (codes "shiftCounter")
+    ⊎ (Misreads counter t k (codes "resolution")
+    ⊎ HasNoResolution t k))
+
+abbrev pub MisreadsDecimals : List Node → ℕ → Type 0
+MisreadsDecimals t k = MisreadsDecimal t k (codes "intervalDecimal") ⊎ MisreadsDecimal t k (codes "shiftDecimal")
+
+-- the interval or the shift of a clock
+abbrev pub MisreadsTime : List Node → ℕ → Type 0
+MisreadsTime t k = MisreadsCounters t k ⊎ MisreadsDecimals t k
+
+abbrev pub MisreadsTicks : List Node → ℕ → Type 0
+MisreadsTicks t k = MisreadsFlag t k (codes "supportsFraction") ⊎ (Misreads variability t k (codes "intervalVariability") ⊎ MisreadsTime t k)
+
+abbrev pub MisreadsOfClock : List Node → ℕ → Type 0
+MisreadsOfClock t k = (is_clock t k ≡ true) × MisreadsTicks t k
+
+abbrev pub MisreadsOfUnknown : List Node → ℕ → Type 0
+MisreadsOfUnknown t k = IsUnknown t k × (Misreads reference t k (codes "valueReference") ⊎ Misreads references t k (codes "dependencies"))
+
+-- ---- clocks
+
+abbrev pub IsOf : List Node → ℕ → IntervalVariability → Type 0
+IsOf t k x = variability_of t k ≡ Some x
+
+-- the interval has to be described: of a constant clock, and of a fixed one that isn't asked for it
+abbrev pub NeedsInterval : List Node → ℕ → Type 0
+NeedsInterval t k = IsOf t k v.Constant ⊎ (IsOf t k v.Fixed × (has_flag t k (codes "supportsFraction") ≡ false))
+
+abbrev pub HasInterval : List Node → ℕ → Type 0
+HasInterval t k = (is_by_counters t k ≡ true) ⊎ (is_some (attribute t k (codes "intervalDecimal")) ≡ true)
+
+abbrev pub LacksInterval : List Node → ℕ → Type 0
+LacksInterval t k = IsTimed t k × NeedsInterval t k × (HasInterval t k → ⊥)
+
+-- every variability but triggered
+abbrev pub IsTimeBased : List Node → ℕ → Type 0
+IsTimeBased t k = (x : IntervalVariability) × IsOf t k x × (x ≢ v.Triggered)
+
+abbrev pub HasWrongCausality : List Node → ℕ → Type 0
+HasWrongCausality t k =
+    (IsTimeBased t k × (causality_of t k ≢ c.Input))
+    ⊎ (IsOf t k v.Triggered × (causality_of t k ≢ c.Input) × (causality_of t k ≢ c.Output))
+
+-- a whole number of counts, of which a second has `per_second`
+abbrev pub IsWhole : ℕ → Fraction → Type 0
+IsWhole per_second f = (counts : ℕ) × IsCounts f per_second counts
+
+abbrev pub HasUnevenShift : List Node → ℕ → ℕ → Type 0
+HasUnevenShift t per_second k = (shift : Fraction) × IsShift t k shift × (IsWhole per_second shift → ⊥)
+
+-- the interval that is described is 0, or it or its shift isn't whole
+abbrev pub IsUneven : List Node → ℕ → ℕ → Type 0
+IsUneven t per_second k =
+    (f : Fraction) × IsInterval t k f × ((f.counter ≡ 0) ⊎ ((IsWhole per_second f → ⊥) ⊎ HasUnevenShift t per_second k))
+
+-- tunable or changing
+abbrev pub IsLeftOut : List Node → ℕ → Type 0
+IsLeftOut t k = IsOf t k v.Tunable ⊎ IsOf t k v.Changing
+
+abbrev pub HasNoCoSimulation : List Node → Type 0
+HasNoCoSimulation t = (k : ℕ) → is_co_simulation t k ≡ true → ⊥
+
+-- the FMU has no event mode: its CoSimulation doesn't set the flag
+abbrev pub HasNoEventMode : List Node → Type 0
+HasNoEventMode t = (k : ℕ) × IsCoSimulation t k × (flag_of t k (codes "hasEventMode") ≡ Some false)
+
+-- ---- references
+
+-- one of the references is the key of no element
+abbrev pub NamesNone : (ℕ → Option ℕ) → List ℕ → Type 0
+NamesNone key references = (x : ℕ) × Contains references x × (IsHeld key x → ⊥)
+
+abbrev pub NamesNoClock : List Node → ℕ → Type 0
+NamesNoClock t k = NamesNone (clock_key t) (clocks_of t k)
+
+-- its own reference is that of no variable
+abbrev pub RefersToNothing : List Node → ℕ → Type 0
+RefersToNothing t k = (x : ℕ) × (reference_of t k ≡ Some x) × (IsHeld (variable_key t) x → ⊥)
+
+-- one of its dependencies is the reference of no variable
+abbrev pub DependsOnNothing : List Node → ℕ → Type 0
+DependsOnNothing t k = NamesNone (variable_key t) (references_of t k (codes "dependencies"))
+
+abbrev pub NamesNoVariable : List Node → ℕ → Type 0
+NamesNoVariable t k = RefersToNothing t k ⊎ DependsOnNothing t k
+
+-- `3.0`, or what begins with `3.0.`
+abbrev pub IsVersion : List ℕ → Type 0
+IsVersion text = (text ≡ codes "3.0") ⊎ (starts_with nat_eq text (codes "3.0.") ≡ true)
+
+-- ---- the rules
+
+abbrev pub HasOtherName : List Node → ℕ → Type 0
+HasOtherName t k = (k ≡ 0) × (is_named t k (codes "fmiModelDescription") ≡ false)
+
+abbrev pub NamesOtherVersion : List Node → ℕ → Type 0
+NamesOtherVersion t k = (text : List ℕ) × (attribute t k (codes "fmiVersion") ≡ Some text) × (IsVersion text → ⊥)
+
+abbrev pub HasOtherVersion : List Node → ℕ → Type 0
+HasOtherVersion t k = (k ≡ 0) × NamesOtherVersion t k
+
+abbrev pub LacksCoSimulation : List Node → ℕ → Type 0
+LacksCoSimulation t k = (k ≡ 0) × HasNoCoSimulation t
+
+abbrev pub LacksSomething : List Node → ℕ → Type 0
+LacksSomething t k = LacksOfRoot t k ⊎ (LacksOfCoSimulation t k ⊎ (LacksOfVariable t k ⊎ (LacksOfAlias t k ⊎ LacksOfUnknown t k)))
+
+abbrev pub MisreadsSomething : List Node → ℕ → Type 0
+MisreadsSomething t k = MisreadsOfCoSimulation t k ⊎ (MisreadsOfVariable t k ⊎ (MisreadsOfClock t k ⊎ MisreadsOfUnknown t k))
+
+abbrev pub NamesNoClockAt : List Node → ℕ → Type 0
+NamesNoClockAt t k = (is_variable t k ≡ true) × NamesNoClock t k
+
+abbrev pub NamesNoVariableAt : List Node → ℕ → Type 0
+NamesNoVariableAt t k = IsUnknown t k × NamesNoVariable t k
+
+abbrev pub SerializesUnsaved : List Node → ℕ → Type 0
+SerializesUnsaved t k =
+    IsCoSimulation t k × (has_flag t k (codes "canSerializeFMUState") ≡ true) × (has_flag t k (codes "canGetAndSetFMUState") ≡ false)
+
+abbrev pub HasNoEvents : List Node → ℕ → Type 0
+HasNoEvents t k = IsTimed t k × HasNoEventMode t
+
+-- the element breaks the rule, where a second has so many counts
+abbrev pub Violates : Rule → List Node → ℕ → ℕ → Type 0
+-- 10: the root is no `fmiModelDescription` (2.4.1)
+Violates r.RootName t per_second k = HasOtherName t k
+-- 11: another version than 3.0 (2.4.1)
+Violates r.Version t per_second k = HasOtherVersion t k
+-- 12: no CoSimulation (4.4; Model Exchange and Scheduled Execution are left out)
+Violates r.NoCoSimulation t per_second k = LacksCoSimulation t k
+-- 13: a required attribute is absent (2.4)
+Violates r.Absent t per_second k = LacksSomething t k
+-- 14: an attribute doesn't read as its type (2.4)
+Violates r.Misread t per_second k = MisreadsSomething t k
+-- 15: a value reference twice (2.4.7: value references are unique in this profile)
+Violates r.ReferenceTwice t per_second k = IsRepeated (variable_key t) k
+-- 16: a name twice, those of aliases included (2.4.7.4)
+Violates r.NameTwice t per_second k = IsRepeated (name_key t) k
+-- 17: a clock has no interval (2.4.7.5)
+Violates r.NoInterval t per_second k = LacksInterval t k
+-- 18: a time-based clock is an input, a triggered one an input or an output (2.2.8)
+Violates r.ClockCausality t per_second k = IsTimed t k × HasWrongCausality t k
+-- 19: an interval is above 0, and it and its shift are whole counts (a narrowing of this profile)
+Violates r.Uneven t per_second k = IsTimed t k × IsUneven t per_second k
+-- 20: what `clocks` names is no Clock (2.4.7.4)
+Violates r.NoClock t per_second k = NamesNoClockAt t k
+-- 21: what an Output or InitialUnknown names is no variable (2.4.9)
+Violates r.NoVariable t per_second k = NamesNoVariableAt t k
+-- 22: a state is serialized only where it can be saved (2.2.6)
+Violates r.SerializesUnsaved t per_second k = SerializesUnsaved t k
+-- 23: tunable and changing clocks are left out of this profile
+Violates r.LeftOut t per_second k = IsTimed t k × IsLeftOut t k
+-- 24: a Clock asks for event mode (2.2.8)
+Violates r.ClockWithoutEvents t per_second k = HasNoEvents t k
+
+abbrev pub BreaksNoRule : List Node → ℕ → ℕ → Type 0
+BreaksNoRule t per_second k = (rule : Rule) → Violates rule t per_second k → ⊥
+
+-- the least number of a rule that the element breaks
+pub record IsLeast (t : List Node) (per_second k : ℕ) (rule : Rule) : Type 0 where
+  pub broken : Violates rule t per_second k
+  pub least : (other : Rule) → number other < number rule → Violates other t per_second k → ⊥
+
+-- the first violation: at the first element that breaks a rule, the one of the least number
+pub record IsFirstViolation (t : List Node) (per_second k : ℕ) (rule : Rule) : Type 0 where
+  pub is : IsLeast t per_second k rule
+  pub first : (j : ℕ) (other : Rule) → j < k → Violates other t per_second j → ⊥
+
+-- no element breaks a rule
+abbrev pub IsSound : List Node → ℕ → Type 0
+IsSound t per_second = (rule : Rule) (k : ℕ) → Violates rule t per_second k → ⊥

@@ -1,0 +1,156 @@
+//! What the outputs depend on.
+ghost use Rattle.std.specs.Prelude.{◌≡◌, ◌↔◌, Some, codes, filter, IfOk, IsTrue};
+ghost use Rattle.std.specs.List.{AllZip};
+ghost use Rattle.fmu_description.specs.Description.{DependsInitiallyOn, DependsOn, IsDependency, IsExact, IsInitialDependency, IsSoundTree, inputs_among, is_port_at, listed, outputs_among};
+ghost use Rattle.fmu_description.specs.Elements.{attribute, initial_key, output_key, references_of, variable_key};
+ghost use Rattle.fmu_description.specs.Places.{IsTable, found};
+
+use crate::elements::{attribute, references_of};
+use crate::places::Places;
+use crate::ports::{Ports, is_output_port};
+use doc_tree::Tree;
+use sim_base::Items;
+use std::alloc::{AllocError, Global};
+use value_types::Dependency;
+
+/// What each output depends on in Event Mode and Step Mode.
+pub(crate) fn dependencies(
+    alloc: Global,
+    tree: &Tree,
+    outputs: &Places,
+    ports: &Ports,
+) -> Result<Items<Dependency>, AllocError>
+    requires { IsTable (output_key tree.now) (found outputs.now) }
+    ensures { IfOk result (AllZip (IsDependency tree.now ports.now) (outputs_among ports.now)) }
+{
+    let mut dependencies = Vec::new(alloc);
+    for variable in ports.variables() {
+        if is_output_port(variable) {
+            let output = variable.reference;
+            let on = depends_on(alloc, tree, outputs, ports, output)?;
+            dependencies.push(Dependency { output, on })?;
+        }
+    }
+    Ok(Items::from_vec(dependencies))
+}
+
+/// What each output depends on in Initialization Mode.
+pub(crate) fn initial_dependencies(
+    alloc: Global,
+    tree: &Tree,
+    places: &Places,
+    unknowns: &Places,
+    outputs: &Places,
+    ports: &Ports,
+) -> Result<Items<Dependency>, AllocError>
+    requires sound { IsSoundTree tree.now }
+    requires places { IsTable (variable_key tree.now) (found places.now) }
+    requires unknowns { IsTable (initial_key tree.now) (found unknowns.now) }
+    requires outputs { IsTable (output_key tree.now) (found outputs.now) }
+    ensures { IfOk result (AllZip (IsInitialDependency tree.now ports.now) (outputs_among ports.now)) }
+{
+    let mut dependencies = Vec::new(alloc);
+    for variable in ports.variables() {
+        if is_output_port(variable) {
+            let output = variable.reference;
+            let on = depends_initially_on(alloc, tree, places, unknowns, outputs, ports, output)?;
+            dependencies.push(Dependency { output, on })?;
+        }
+    }
+    Ok(Items::from_vec(dependencies))
+}
+
+/// What an output depends on in Event Mode and Step Mode.
+fn depends_on(
+    alloc: Global,
+    tree: &Tree,
+    outputs: &Places,
+    ports: &Ports,
+    reference: u32,
+) -> Result<Items<u32>, AllocError>
+    requires { IsTable (output_key tree.now) (found outputs.now) }
+    ensures { IfOk result (DependsOn tree.now ports.now reference) }
+{
+    match outputs.find(reference) {
+        Some(node) => listed(alloc, tree, node, ports),
+        None => all_inputs(alloc, ports),
+    }
+}
+
+/// What an output depends on in Initialization Mode.
+fn depends_initially_on(
+    alloc: Global,
+    tree: &Tree,
+    places: &Places,
+    unknowns: &Places,
+    outputs: &Places,
+    ports: &Ports,
+    reference: u32,
+) -> Result<Items<u32>, AllocError>
+    requires sound { IsSoundTree tree.now }
+    requires places { IsTable (variable_key tree.now) (found places.now) }
+    requires unknowns { IsTable (initial_key tree.now) (found unknowns.now) }
+    requires outputs { IsTable (output_key tree.now) (found outputs.now) }
+    ensures { IfOk result (DependsInitiallyOn tree.now ports.now reference) }
+{
+    match unknowns.find(reference) {
+        Some(node) => listed(alloc, tree, node, ports),
+        None if is_exact(tree, places, reference) => Ok(Items::from_vec(Vec::new(alloc))),
+        None => depends_on(alloc, tree, outputs, ports, reference),
+    }
+}
+
+/// Whether the start value of the variable is exact.
+fn is_exact(tree: &Tree, places: &Places, reference: u32) -> bool
+    requires sound { IsSoundTree tree.now }
+    requires places { IsTable (variable_key tree.now) (found places.now) }
+    ensures { IsTrue result ↔ IsExact tree.now reference }
+{
+    match places.find(reference) {
+        Some(node) => is_exact_at(tree, node),
+        None => false,
+    }
+}
+
+fn is_exact_at(tree: &Tree, node: usize) -> bool
+    ensures { IsTrue result ↔ (attribute tree.now node (codes "initial") ≡ Some (codes "exact")) }
+{
+    match attribute(tree, node, "initial") {
+        Some(text) => text == "exact",
+        None => false,
+    }
+}
+
+/// What a list of dependencies says: an absent one means all inputs.
+fn listed(alloc: Global, tree: &Tree, node: usize, ports: &Ports) -> Result<Items<u32>, AllocError>
+    ensures { IfOk result (λ on. on ≡ listed ports.now (attribute tree.now node (codes "dependencies"))) }
+{
+    match attribute(tree, node, "dependencies") {
+        Some(_) => ports_listed(alloc, tree, node, ports),
+        None => all_inputs(alloc, ports),
+    }
+}
+
+fn all_inputs(alloc: Global, ports: &Ports) -> Result<Items<u32>, AllocError>
+    ensures { IfOk result (λ on. on ≡ inputs_among ports.now) }
+{
+    Ok(Items::from_vec(ports.inputs().to_vec(alloc)?))
+}
+
+/// The ports that a list of dependencies names.
+fn ports_listed(
+    alloc: Global,
+    tree: &Tree,
+    node: usize,
+    ports: &Ports,
+) -> Result<Items<u32>, AllocError>
+    ensures { IfOk result (λ on. on ≡ filter (is_port_at ports.now) (references_of tree.now node (codes "dependencies"))) }
+{
+    let listed = references_of(alloc, tree, node, "dependencies")?;
+    let named = listed
+        .iter()
+        .copied()
+        .filter(|reference| ports.is_port_at(*reference))
+        .collect(alloc)?;
+    Ok(Items::from_vec(named))
+}

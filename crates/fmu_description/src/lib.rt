@@ -1,0 +1,30 @@
+//! What a model description says of its FMU, or the first rule that it breaks.
+#![tactic(auto)]
+
+mod absent;
+mod clock_rules;
+mod dependencies;
+mod elements;
+mod foreign;
+mod indexed;
+mod intervals;
+mod law;
+mod misread;
+mod places;
+mod ports;
+mod reader;
+#[cfg(test)]
+mod reader_tests;
+mod rule;
+mod rules;
+mod shape;
+#[cfg(test)]
+mod shape_tests;
+#[cfg(test)]
+mod tests;
+mod texts;
+mod timings;
+mod variables;
+
+pub use reader::read_description;
+pub use rule::Rule;

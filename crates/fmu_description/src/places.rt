@@ -1,0 +1,174 @@
+//! Where the elements with keys stand.
+ghost use Rattle.std.specs.Prelude.{◌≡◌, ◌↔◌, ℕ, ◌+◌, List, Option, IfOk, IsTrue, OnOk, option_copied};
+ghost use Rattle.fmu_description.specs.Elements.{clock_key, initial_key, IsRepeated, name_key, output_key, variable_key};
+ghost use Rattle.fmu_description.specs.Places.{FindsCoSimulation, found, found_name, IsTable, IsTableBelow};
+
+use crate::elements;
+use doc_tree::Tree;
+use std::alloc::{AllocError, Global};
+use std::collections::BTreeMap;
+
+/// The first element of each value reference.
+#[derive(Drop)]
+pub(crate) struct Places {
+    first: BTreeMap<u32, usize>,
+}
+
+impl Places {
+    fn new(alloc: Global) -> Places
+        ensures { (reference : ℕ) → found result reference ≡ None }
+    {
+        Places {
+            first: BTreeMap::new(alloc),
+        }
+    }
+
+    // Puts in an element, unless one with its reference is there.
+    fn put(&mut self, reference: Option<u32>, node: usize) -> Result<(), AllocError>
+        ensures { OnOk result ((key : ℕ → Option ℕ) → reference ≡ key node → IsTableBelow key node (found self.old) → IsTableBelow key (node + 1) (found self.new)) }
+    {
+        let Some(reference) = reference else {
+            return Ok(());
+        };
+        if !self.first.contains_key(&reference) {
+            self.first.insert(reference, node)?;
+        }
+        Ok(())
+    }
+
+    /// The first element with the reference.
+    pub(crate) fn find(&self, reference: u32) -> Option<usize>
+        ensures { result ≡ found self.now reference }
+    {
+        self.first.get(&reference).copied()
+    }
+
+    /// Whether an element before this one has its reference, where it has one.
+    pub(crate) fn is_repeated(&self, reference: Option<u32>, node: usize) -> bool
+        ensures { (key : ℕ → Option ℕ) → IsTable key (found self.now) → reference ≡ key node → (IsTrue result ↔ IsRepeated key node) }
+    {
+        let Some(reference) = reference else {
+            return false;
+        };
+        match self.find(reference) {
+            Some(first) => first < node,
+            None => false,
+        }
+    }
+}
+
+/// The first element of each name.
+#[derive(Drop)]
+pub(crate) struct NamePlaces<'a> {
+    first: BTreeMap<&'a str, usize>,
+}
+
+impl<'a> NamePlaces<'a> {
+    fn new(alloc: Global) -> NamePlaces<'a>
+        ensures { (name : List ℕ) → found_name result name ≡ None }
+    {
+        NamePlaces {
+            first: BTreeMap::new(alloc),
+        }
+    }
+
+    // Puts in an element, unless one with its name is there.
+    fn put(&mut self, name: Option<&'a str>, node: usize) -> Result<(), AllocError>
+        ensures { OnOk result ((key : ℕ → Option (List ℕ)) → option_copied name.entry ≡ key node → IsTableBelow key node (found_name self.old) → IsTableBelow key (node + 1) (found_name self.new)) }
+    {
+        let Some(name) = name else {
+            return Ok(());
+        };
+        if !self.first.contains_key(name) {
+            self.first.insert(name, node)?;
+        }
+        Ok(())
+    }
+
+    /// The first element with the name.
+    pub(crate) fn find(&self, name: &str) -> Option<usize>
+        ensures { result ≡ found_name self.now name.now }
+    {
+        self.first.get(name).copied()
+    }
+
+    /// Whether an element before this one has its name, where it has one.
+    pub(crate) fn is_repeated(&self, name: Option<&str>, node: usize) -> bool
+        ensures { (key : ℕ → Option (List ℕ)) → IsTable key (found_name self.now) → option_copied name.entry ≡ key node → (IsTrue result ↔ IsRepeated key node) }
+    {
+        let Some(name) = name else {
+            return false;
+        };
+        match self.find(name) {
+            Some(first) => first < node,
+            None => false,
+        }
+    }
+}
+
+/// The first variable of each value reference.
+pub(crate) fn variable_places(alloc: Global, tree: &Tree) -> Result<Places, AllocError>
+    ensures { IfOk result (λ places. IsTable (variable_key tree.now) (found places)) }
+{
+    let mut places = Places::new(alloc);
+    for node in 0..tree.len() {
+        places.put(elements::variable_key(tree, node), node)?;
+    }
+    Ok(places)
+}
+
+/// The first Clock of each value reference.
+pub(crate) fn clock_places(alloc: Global, tree: &Tree) -> Result<Places, AllocError>
+    ensures { IfOk result (λ places. IsTable (clock_key tree.now) (found places)) }
+{
+    let mut places = Places::new(alloc);
+    for node in 0..tree.len() {
+        places.put(elements::clock_key(tree, node), node)?;
+    }
+    Ok(places)
+}
+
+/// The first Output of each value reference.
+pub(crate) fn output_places(alloc: Global, tree: &Tree) -> Result<Places, AllocError>
+    ensures { IfOk result (λ places. IsTable (output_key tree.now) (found places)) }
+{
+    let mut places = Places::new(alloc);
+    for node in 0..tree.len() {
+        places.put(elements::output_key(tree, node), node)?;
+    }
+    Ok(places)
+}
+
+/// The first InitialUnknown of each value reference.
+pub(crate) fn initial_places(alloc: Global, tree: &Tree) -> Result<Places, AllocError>
+    ensures { IfOk result (λ places. IsTable (initial_key tree.now) (found places)) }
+{
+    let mut places = Places::new(alloc);
+    for node in 0..tree.len() {
+        places.put(elements::initial_key(tree, node), node)?;
+    }
+    Ok(places)
+}
+
+/// The first variable or Alias of each name.
+pub(crate) fn name_places(alloc: Global, tree: &Tree) -> Result<NamePlaces<'_>, AllocError>
+    ensures { IfOk result (λ places. IsTable (name_key tree.now) (found_name places)) }
+{
+    let mut places = NamePlaces::new(alloc);
+    for node in 0..tree.len() {
+        places.put(elements::name_key(tree, node), node)?;
+    }
+    Ok(places)
+}
+
+/// The element CoSimulation that counts.
+pub(crate) fn co_simulation(tree: &Tree) -> Option<usize>
+    ensures { FindsCoSimulation tree.now result }
+{
+    for node in 0..tree.len() {
+        if elements::is_co_simulation(tree, node) {
+            return Some(node);
+        }
+    }
+    None
+}

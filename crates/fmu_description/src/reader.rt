@@ -1,0 +1,68 @@
+//! What a description says of its FMU, or the first rule that it breaks.
+ghost use Rattle.std.specs.Prelude.{◌≡◌, ℕ, IfOk, IfErr};
+ghost use Rattle.value_types.specs.declared.shape.Shape.{Shape};
+ghost use Rattle.fmu_description.specs.Answers.{Faults, Gives, IsRefusal, Refuses};
+ghost use Rattle.fmu_description.specs.Description.{Describes};
+ghost use Rattle.fmu_description.specs.Indexed.{IsIndexed};
+ghost use Rattle.fmu_description.specs.Rules.{IsFirstViolation, IsSound};
+ghost use Rattle.fmu_description.specs.declared.rule.Rule.{Rule};
+
+use crate::indexed::IndexedTree;
+use crate::law::one_description;
+use crate::rule::Rule;
+use crate::shape::describe;
+use doc_tree::{Refusal, Tree};
+use sim_base::Items;
+use std::alloc::{AllocError, Global};
+use value_types::Shape;
+
+fn refusal(alloc: Global, node: usize, rule: Rule) -> Refusal
+    ensures { IsRefusal result rule node }
+{
+    Refusal::At {
+        file: 0,
+        node,
+        rule: rule.number(),
+        ports: Items::from_vec(Vec::new(alloc)),
+    }
+}
+
+fn describe_indexed(alloc: Global, indexed: &IndexedTree) -> Result<Shape, AllocError>
+    requires indexed { IsIndexed indexed.now }
+    requires sound { IsSound indexed.now.tree.now indexed.now.resolution }
+    ensures { IfOk result (Describes indexed.now.tree.now indexed.now.resolution) }
+{
+    describe(
+        alloc,
+        indexed.tree,
+        &indexed.foreign,
+        &indexed.variables,
+        &indexed.initial_unknowns,
+        &indexed.outputs,
+        indexed.resolution,
+    )
+}
+
+/// What the tree of a model description says of its FMU, where a second has `resolution` counts; or the first element
+/// that breaks a rule, and the rule of the least number that it breaks (FMI 3.0, 2.4).
+#[tactic(auto, using(crate::proofs::ReadLemmas::faults, crate::proofs::ReadLemmas::exact_at, crate::proofs::ReadLemmas::none_described, crate::proofs::ReadLemmas::none_violated))]
+pub fn read_description(alloc: Global, tree: &Tree, resolution: u64) -> Result<Shape, Refusal>
+    ensures sound { IfOk result (λ shape. IsSound tree.now resolution) }
+    ensures found { IfOk result (Describes tree.now resolution) }
+    ensures fault { IfErr result (Faults tree.now resolution) }
+    ensures exact { (rule : Rule) (node : ℕ) → IsFirstViolation tree.now resolution node rule → Refuses result rule node }
+    ensures only { (shape : Shape) → IsSound tree.now resolution → Describes tree.now resolution shape → Gives result shape }
+{
+    one_description();
+    let Ok(indexed) = IndexedTree::new(alloc, tree, resolution) else {
+        return Err(Refusal::Memory);
+    };
+    match indexed.first_violation(alloc) {
+        Ok(Some((node, rule))) => Err(refusal(alloc, node, rule)),
+        Ok(None) => match describe_indexed(alloc, &indexed) {
+            Ok(shape) => Ok(shape),
+            Err(_) => Err(Refusal::Memory),
+        },
+        Err(_) => Err(Refusal::Memory),
+    }
+}
