@@ -10,7 +10,7 @@ use Rattle.fmi_calls.specs.declared.call.Call.TheVariants as C
 use Rattle.fmi_calls.specs.declared.call.Content.TheVariants as A
 use Rattle.fmi_calls.specs.declared.call.Reply.TheVariants.{Done}
 use Rattle.fmi_calls.specs.Permission.{is_input}
-use Rattle.fmu_peer.specs.Machine.{IsLawful, AgreeFor, value_at, declared_of}
+use Rattle.fmu_peer.specs.Machine.{IsLawful, AgreeFor, value_at, is_declared}
 use Rattle.value_types.specs.Values.{word_of}
 use Rattle.bench_fmus.specs.Wrapping.{wrapped}
 use Rattle.bench_fmus.specs.BuiltIn.{numbers_in}
@@ -39,7 +39,7 @@ value_at-same (v ∷ vs) (x ∷ xs) (y ∷ ys) reference p q same found =
 
 same_at : (shape : Shape) (initializing : Bool) (output : ℕ) (xs ys : List ℤ) → AgreeFor shape initializing output xs ys → SameAt shape.variables xs ys
 same_at shape initializing output xs ys agree k v at is =
-    agree.each k v at (ap (λ (c : Causality). is_input c && not (list_any (λ r. r == v.reference) (declared_of shape initializing output))) is)
+    agree.each k v at (ap (λ (c : Causality). is_input c && not (is_declared shape initializing output v)) is)
 
 pub counter_lawful : (shape : Shape) → IsLawful shape (counter_machine shape)
 counter_lawful shape (C.Get kind reference) output s xs ys asked found mode agree =

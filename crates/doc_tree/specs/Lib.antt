@@ -1,3 +1,4 @@
 pub mod Elements
 pub mod Answers
 pub mod Building
+pub mod Path

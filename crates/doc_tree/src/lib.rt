@@ -3,6 +3,7 @@
 
 mod builder;
 mod element;
+mod path;
 mod refusal;
 #[cfg(test)]
 mod tests;

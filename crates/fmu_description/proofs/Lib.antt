@@ -13,3 +13,4 @@ mod PastLemmas
 mod ReadLemmas
 mod RuleLemmas
 mod TableUse
+pub mod DistinctLemmas

@@ -7,6 +7,7 @@ use Rattle.value_types.specs.declared.values.PortType.{PortType}
 use Rattle.value_types.specs.declared.values.PortType.TheVariants.{Boolean}
 use Rattle.value_types.specs.declared.shape.Variable.{Variable}
 use Rattle.value_types.specs.declared.shape.ClockTiming.{ClockTiming}
+use Rattle.value_types.specs.declared.shape.Knowns.{Knowns}
 use Rattle.value_types.specs.declared.shape.Dependency.{Dependency}
 use Rattle.value_types.specs.declared.shape.Shape.{Shape}
 use Rattle.value_types.specs.Reading.{Reads, Writes}
@@ -158,14 +159,14 @@ one_timing_of t sound one v x y p q =
 
 -- ---- dependencies
 
-one_on : (t : List Node) (xs : List Variable) (x : ℕ) (a b : List ℕ) → DependsOn t xs x a → DependsOn t xs x b → a ≡ b
+one_on : (t : List Node) (xs : List Variable) (x : ℕ) (a b : Knowns) → DependsOn t xs x a → DependsOn t xs x b → a ≡ b
 one_on t xs x a b (inl p) (inl q) =
     p.2 ∙ ap (λ (k : ℕ). listed xs (attribute t k (codes "dependencies"))) (one_first (output_key t) x p.0 q.0 p.1 q.1) ∙ sym q.2
 one_on t xs x a b (inl p) (inr q) = absurd (q.0 (p.0, p.1.0))
 one_on t xs x a b (inr p) (inl q) = absurd (p.0 (q.0, q.1.0))
 one_on t xs x a b (inr p) (inr q) = p.1 ∙ sym q.1
 
-one_initially_on : (t : List Node) (xs : List Variable) (x : ℕ) (a b : List ℕ) → DependsInitiallyOn t xs x a → DependsInitiallyOn t xs x b → a ≡ b
+one_initially_on : (t : List Node) (xs : List Variable) (x : ℕ) (a b : Knowns) → DependsInitiallyOn t xs x a → DependsInitiallyOn t xs x b → a ≡ b
 one_initially_on t xs x a b (inl p) (inl q) =
     p.2 ∙ ap (λ (k : ℕ). listed xs (attribute t k (codes "dependencies"))) (one_first (initial_key t) x p.0 q.0 p.1 q.1) ∙ sym q.2
 one_initially_on t xs x a b (inl p) (inr q) = absurd (q.0 (p.0, p.1.0))

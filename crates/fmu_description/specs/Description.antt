@@ -8,6 +8,8 @@ use Rattle.value_types.specs.declared.shape.Causality.{Causality}
 use Rattle.value_types.specs.declared.shape.Causality.TheVariants as c
 use Rattle.value_types.specs.declared.shape.Variable.{Variable}
 use Rattle.value_types.specs.declared.shape.ClockTiming.{ClockTiming}
+use Rattle.value_types.specs.declared.shape.Knowns.{Knowns}
+use Rattle.value_types.specs.declared.shape.Knowns.TheVariants.{AllInputs, Listed}
 use Rattle.value_types.specs.declared.shape.Dependency.{Dependency}
 use Rattle.value_types.specs.declared.shape.Shape.{Shape}
 use Rattle.value_types.specs.Reading.{Reads}
@@ -148,9 +150,6 @@ is_output_port x = is_some x.kind && is_output x.causality
 abbrev pub is_port : Variable → Bool
 is_port x = is_some x.kind && (is_input x.causality || is_output x.causality)
 
-abbrev pub inputs_among : List Variable → List ℕ
-inputs_among xs = map (λ (x : Variable). x.reference) (filter is_input_port xs)
-
 abbrev pub outputs_among : List Variable → List Variable
 outputs_among xs = filter is_output_port xs
 
@@ -158,32 +157,31 @@ outputs_among xs = filter is_output_port xs
 abbrev pub is_port_at : List Variable → ℕ → Bool
 is_port_at xs reference = option_map_or is_port (variable_at xs reference) false
 
--- the references of the inputs, and of each reference whether it is that of a port
-pub record KnowsPorts (xs : List Variable) (inputs : List ℕ) (ports : ℕ → Option Bool) : Type 0 where
-  pub inputs_are : inputs ≡ inputs_among xs
-  pub ports_are : (reference : ℕ) → ports reference ≡ option_map is_port (variable_at xs reference)
+-- of each reference whether it is that of a port
+abbrev pub KnowsPorts : List Variable → (ℕ → Option Bool) → Type 0
+KnowsPorts xs ports = (reference : ℕ) → ports reference ≡ option_map is_port (variable_at xs reference)
 
 -- what a list of dependencies says: an absent one means all inputs, an empty one none; what is no port is dropped
-abbrev pub listed : List Variable → Option (List ℕ) → List ℕ
-listed xs None = inputs_among xs
-listed xs (Some text) = filter (is_port_at xs) (unwrap_or (references text) [])
+abbrev pub listed : List Variable → Option (List ℕ) → Knowns
+listed xs None = AllInputs
+listed xs (Some text) = Listed (filter (is_port_at xs) (unwrap_or (references text) []))
 
 -- what an output depends on in Event Mode and Step Mode: what its Output lists, without one all inputs
-abbrev pub DependsOn : List Node → List Variable → ℕ → List ℕ → Type 0
+abbrev pub DependsOn : List Node → List Variable → ℕ → Knowns → Type 0
 DependsOn t xs reference on =
     ((k : ℕ) × IsFirstWith (output_key t) reference k × (on ≡ listed xs (attribute t k (codes "dependencies"))))
-    ⊎ ((IsHeld (output_key t) reference → ⊥) × (on ≡ inputs_among xs))
+    ⊎ ((IsHeld (output_key t) reference → ⊥) × (on ≡ AllInputs))
 
 -- its start value is exact, and isn't computed from others
 abbrev pub IsExact : List Node → ℕ → Type 0
 IsExact t reference = (k : ℕ) × (variable_key t k ≡ Some reference) × (attribute t k (codes "initial") ≡ Some (codes "exact"))
 
 -- what it depends on in Initialization Mode: what its InitialUnknown lists; without one nothing where it is exact, else as in the other modes (the choice of this profile)
-abbrev pub DependsInitiallyOn : List Node → List Variable → ℕ → List ℕ → Type 0
+abbrev pub DependsInitiallyOn : List Node → List Variable → ℕ → Knowns → Type 0
 DependsInitiallyOn t xs reference on =
     ((k : ℕ) × IsFirstWith (initial_key t) reference k × (on ≡ listed xs (attribute t k (codes "dependencies"))))
     ⊎ ((IsHeld (initial_key t) reference → ⊥)
-    × ((IsExact t reference × (on ≡ [])) ⊎ ((IsExact t reference → ⊥) × DependsOn t xs reference on)))
+    × ((IsExact t reference × (on ≡ Listed [])) ⊎ ((IsExact t reference → ⊥) × DependsOn t xs reference on)))
 
 abbrev pub IsDependency : List Node → List Variable → Variable → Dependency → Type 0
 IsDependency t xs x d = (d.output ≡ x.reference) × DependsOn t xs x.reference d.on

@@ -1,7 +1,7 @@
 //! What the outputs depend on.
 ghost use Rattle.std.specs.Prelude.{◌≡◌, ◌↔◌, Some, codes, filter, IfOk, IsTrue};
 ghost use Rattle.std.specs.List.{AllZip};
-ghost use Rattle.fmu_description.specs.Description.{DependsInitiallyOn, DependsOn, IsDependency, IsExact, IsInitialDependency, IsSoundTree, inputs_among, is_port_at, listed, outputs_among};
+ghost use Rattle.fmu_description.specs.Description.{DependsInitiallyOn, DependsOn, IsDependency, IsExact, IsInitialDependency, IsSoundTree, is_port_at, listed, outputs_among};
 ghost use Rattle.fmu_description.specs.Elements.{attribute, initial_key, output_key, references_of, variable_key};
 ghost use Rattle.fmu_description.specs.Places.{IsTable, found};
 
@@ -11,7 +11,7 @@ use crate::ports::{Ports, is_output_port};
 use doc_tree::Tree;
 use sim_base::Items;
 use std::alloc::{AllocError, Global};
-use value_types::Dependency;
+use value_types::{Dependency, Knowns};
 
 /// What each output depends on in Event Mode and Step Mode.
 pub(crate) fn dependencies(
@@ -67,13 +67,13 @@ fn depends_on(
     outputs: &Places,
     ports: &Ports,
     reference: u32,
-) -> Result<Items<u32>, AllocError>
+) -> Result<Knowns, AllocError>
     requires { IsTable (output_key tree.now) (found outputs.now) }
     ensures { IfOk result (DependsOn tree.now ports.now reference) }
 {
     match outputs.find(reference) {
         Some(node) => listed(alloc, tree, node, ports),
-        None => all_inputs(alloc, ports),
+        None => Ok(Knowns::AllInputs),
     }
 }
 
@@ -86,7 +86,7 @@ fn depends_initially_on(
     outputs: &Places,
     ports: &Ports,
     reference: u32,
-) -> Result<Items<u32>, AllocError>
+) -> Result<Knowns, AllocError>
     requires sound { IsSoundTree tree.now }
     requires places { IsTable (variable_key tree.now) (found places.now) }
     requires unknowns { IsTable (initial_key tree.now) (found unknowns.now) }
@@ -95,7 +95,9 @@ fn depends_initially_on(
 {
     match unknowns.find(reference) {
         Some(node) => listed(alloc, tree, node, ports),
-        None if is_exact(tree, places, reference) => Ok(Items::from_vec(Vec::new(alloc))),
+        None if is_exact(tree, places, reference) => {
+            Ok(Knowns::Listed(Items::from_vec(Vec::new(alloc))))
+        }
         None => depends_on(alloc, tree, outputs, ports, reference),
     }
 }
@@ -122,19 +124,13 @@ fn is_exact_at(tree: &Tree, node: usize) -> bool
 }
 
 /// What a list of dependencies says: an absent one means all inputs.
-fn listed(alloc: Global, tree: &Tree, node: usize, ports: &Ports) -> Result<Items<u32>, AllocError>
+fn listed(alloc: Global, tree: &Tree, node: usize, ports: &Ports) -> Result<Knowns, AllocError>
     ensures { IfOk result (λ on. on ≡ listed ports.now (attribute tree.now node (codes "dependencies"))) }
 {
     match attribute(tree, node, "dependencies") {
-        Some(_) => ports_listed(alloc, tree, node, ports),
-        None => all_inputs(alloc, ports),
+        Some(_) => Ok(Knowns::Listed(ports_listed(alloc, tree, node, ports)?)),
+        None => Ok(Knowns::AllInputs),
     }
-}
-
-fn all_inputs(alloc: Global, ports: &Ports) -> Result<Items<u32>, AllocError>
-    ensures { IfOk result (λ on. on ≡ inputs_among ports.now) }
-{
-    Ok(Items::from_vec(ports.inputs().to_vec(alloc)?))
 }
 
 /// The ports that a list of dependencies names.

@@ -4,6 +4,7 @@
 mod absent;
 mod clock_rules;
 mod dependencies;
+mod distinct;
 mod elements;
 mod foreign;
 mod indexed;
@@ -26,5 +27,6 @@ mod texts;
 mod timings;
 mod variables;
 
+pub use distinct::distinct_references;
 pub use reader::read_description;
 pub use rule::Rule;

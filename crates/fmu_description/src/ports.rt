@@ -4,20 +4,13 @@ ghost use Rattle.std.specs.Option.{option_map};
 ghost use Rattle.std.specs.Ordering.{nat_cmp};
 ghost use Rattle.std.specs.BTreeMap.{get};
 ghost use Rattle.value_types.specs.Shape.{variable_at};
-ghost use Rattle.fmu_description.specs.Description.{inputs_among, is_input_port, is_output_port, is_port, is_port_at};
+ghost use Rattle.fmu_description.specs.Description.{is_output_port, is_port, is_port_at};
 
 use sim_base::Items;
 use std::alloc::{AllocError, Global};
 use std::collections::BTreeMap;
 use std::marker::Model;
 use value_types::{Causality, Variable};
-
-/// Whether the variable is an input that isn't foreign.
-fn is_input_port(variable: &Variable) -> bool
-    ensures { result ≡ is_input_port variable.now }
-{
-    variable.kind.is_some() && matches!(variable.causality, Causality::Input)
-}
 
 /// Whether the variable is an output that isn't foreign.
 pub(crate) fn is_output_port(variable: &Variable) -> bool
@@ -30,19 +23,6 @@ fn is_port(variable: &Variable) -> bool
     ensures { result ≡ is_port variable.now }
 {
     variable.kind.is_some() && matches!(variable.causality, Causality::Input | Causality::Output)
-}
-
-/// The references of the inputs.
-fn inputs_among(alloc: Global, variables: &[Variable]) -> Result<Vec<u32>, AllocError>
-    ensures { IfOk result (λ inputs. inputs.items ≡ inputs_among variables.now) }
-{
-    let mut inputs = Vec::new(alloc);
-    for variable in variables {
-        if is_input_port(variable) {
-            inputs.push(variable.reference)?;
-        }
-    }
-    Ok(inputs)
 }
 
 /// Of each reference whether its first variable is a port.
@@ -63,7 +43,6 @@ fn ports_among(alloc: Global, variables: &[Variable]) -> Result<BTreeMap<u32, bo
 #[derive(Drop)]
 pub(crate) struct Ports {
     variables: Items<Variable>,
-    inputs: Vec<u32>,
     are_ports: BTreeMap<u32, bool>,
 }
 
@@ -78,7 +57,7 @@ impl Model for Ports {
 
     ghost view = { λ p. p.variables };
 
-    ghost invariant = { λ p. KnowsPorts p.variables p.inputs.items (get nat_cmp p.are_ports) };
+    ghost invariant = { λ p. KnowsPorts p.variables (get nat_cmp p.are_ports) };
 }
 
 impl Ports {
@@ -86,11 +65,9 @@ impl Ports {
     pub(crate) fn new(alloc: Global, variables: Items<Variable>) -> Result<Ports, AllocError>
         ensures { IfOk result (λ ports. ports ≡ variables) }
     {
-        let inputs = inputs_among(alloc, variables.as_slice())?;
         let are_ports = ports_among(alloc, variables.as_slice())?;
         Ok(Ports {
             variables,
-            inputs,
             are_ports,
         })
     }
@@ -107,13 +84,6 @@ impl Ports {
         ensures { result ≡ self }
     {
         self.variables
-    }
-
-    /// The references of the inputs.
-    pub(crate) fn inputs(&self) -> &[u32]
-        ensures { result.now ≡ inputs_among self.now }
-    {
-        self.inputs.as_slice()
     }
 
     /// Whether the reference is that of a port.

@@ -277,18 +277,18 @@ fn a_third_of_a_second_is_whole_at_some_resolutions(rt: HostRuntime) -> Result<(
     Ok(())
 }
 
-// 65,536 outputs, whose references go in steps round the numbers below 65,536.
-fn many_outputs(alloc: Global, step: u64) -> Result<String, AllocError> {
+// 32,768 inputs and as many outputs, which depend on all of them, by references that go in steps round the numbers below
+// 65,536.
+fn many_ports(alloc: Global, step: u64) -> Result<String, AllocError> {
     let mut variables = String::new(alloc);
     let mut outputs = String::new(alloc);
     for at in 0u64..65536 {
         let reference = at.wrapping_mul(step) % 65536;
+        let causality = if at % 2 == 0 { "input" } else { "output" };
         variables.push_str(format!(in alloc;
-            "<Int32 name=\"a.name.that.begins.as.all.others.do.{reference}\" valueReference=\"{reference}\" causality=\"output\"/>"
+            "<Int32 name=\"a.name.that.begins.as.all.others.do.{reference}\" valueReference=\"{reference}\" causality=\"{causality}\"/>"
         )?.as_str())?;
-        outputs.push_str(format!(in alloc;
-            "<Output valueReference=\"{reference}\" dependencies=\"\"/>"
-        )?.as_str())?;
+        outputs.push_str(format!(in alloc; "<Output valueReference=\"{reference}\"/>")?.as_str())?;
     }
     let content = format!(in alloc;
         "<CoSimulation modelIdentifier=\"m\"/><ModelVariables>{variables}</ModelVariables><ModelStructure>{outputs}</ModelStructure>"
@@ -297,10 +297,11 @@ fn many_outputs(alloc: Global, step: u64) -> Result<String, AllocError> {
 }
 
 #[test]
-fn many_outputs_are_read(rt: HostRuntime) -> Result<(), Fail> {
-    let document = many_outputs(rt.alloc(), 40503)?;
+fn many_ports_are_read(rt: HostRuntime) -> Result<(), Fail> {
+    let document = many_ports(rt.alloc(), 40503)?;
     let tree = read_tree(rt.alloc(), document.as_bytes())?;
     let shape = read_description(rt.alloc(), &tree, 1000)?;
-    assert_eq!(rt; shape.dependencies.len(), 65536);
+    assert_eq!(rt; shape.variables.len(), 65536);
+    assert_eq!(rt; shape.dependencies.len(), 32768);
     Ok(())
 }

@@ -4,7 +4,7 @@ use doc_tree::read_tree;
 use sim_base::Items;
 use std::alloc::{AllocError, Global};
 use std::test::Fail;
-use value_types::{Dependency, Shape, Variable};
+use value_types::{Dependency, Knowns, Shape, Variable};
 
 const COUNTER: &str =
     r#"<fmiModelDescription fmiVersion="3.0" modelName="counter" instantiationToken="{c}"><CoSimulation modelIdentifier="counter" canGetAndSetFMUState="true" canHandleVariableCommunicationStepSize="true"/><ModelVariables><Int32 name="inc" valueReference="1" causality="parameter" variability="fixed" start="2"/><Int32 name="y" valueReference="2" causality="output" variability="discrete"/></ModelVariables><ModelStructure><Output valueReference="2" dependencies=""/></ModelStructure></fmiModelDescription>"#;
@@ -20,7 +20,7 @@ const PARTS: [(&str, &str); 6] = [
     // Aliases, foreign variables, two lists of variables, and an exact start value.
     (
         r#"<ModelVariables><Int32 name="a" valueReference="1" causality="input"><Alias name="b"/><Alias name="c"/></Int32><Float64 name="f" valueReference="2" causality="input" start="0.5"/></ModelVariables><ModelVariables><Int8 name="d" valueReference="3" causality="output" initial="exact" start="-5"/><Int32 name="v" valueReference="4" causality="output"><Dimension start="2"/></Int32></ModelVariables>"#,
-        "a=b=c 1 Some(Int32) Input None;f 2 None Input None;d 3 Some(Int8) Output Some(-5);v 4 None Output None;||3: 1;|3:;",
+        "a=b=c 1 Some(Int32) Input None;f 2 None Input None;d 3 Some(Int8) Output Some(-5);v 4 None Output None;||3: all;|3:;",
     ),
     // Start values.
     (
@@ -30,7 +30,7 @@ const PARTS: [(&str, &str); 6] = [
     // Lists of dependencies: one that names a parameter, a second of one output, absent ones and empty ones.
     (
         r#"<ModelVariables><Int32 name="p" valueReference="1" causality="parameter"/><Int32 name="u" valueReference="2" causality="input"/><Int32 name="w" valueReference="3" causality="input"/><Int32 name="x" valueReference="4" causality="output"/><Int32 name="y" valueReference="5" causality="output"/><Int32 name="z" valueReference="6" causality="output"/></ModelVariables><ModelStructure><Output valueReference="4" dependencies="1 3"/><Output valueReference="4" dependencies="2"/><Output valueReference="5"/><Output valueReference="6" dependencies=""/><InitialUnknown valueReference="4" dependencies="2 4"/><InitialUnknown valueReference="5" dependencies=""/><InitialUnknown valueReference="6"/></ModelStructure>"#,
-        "p 1 Some(Int32) Parameter None;u 2 Some(Int32) Input None;w 3 Some(Int32) Input None;x 4 Some(Int32) Output None;y 5 Some(Int32) Output None;z 6 Some(Int32) Output None;||4: 3;5: 2 3;6:;|4: 2 4;5:;6: 2 3;",
+        "p 1 Some(Int32) Parameter None;u 2 Some(Int32) Input None;w 3 Some(Int32) Input None;x 4 Some(Int32) Output None;y 5 Some(Int32) Output None;z 6 Some(Int32) Output None;||4: 3;5: all;6:;|4: 2 4;5:;6: all;",
     ),
     // Without an InitialUnknown what the Output lists counts, where the start value isn't exact.
     (
@@ -40,7 +40,7 @@ const PARTS: [(&str, &str); 6] = [
     // Clocks with decimals, with counters, with both and with neither, a local one, and what they clock.
     (
         r#"<ModelVariables><Clock name="c" valueReference="1" causality="input" intervalVariability="constant" intervalDecimal="0.01" shiftDecimal="1e-1"/><Clock name="d" valueReference="2" causality="input" intervalVariability="fixed" supportsFraction="true" intervalCounter="1" resolution="4" shiftCounter="3"/><Clock name="e" valueReference="3" causality="input" intervalVariability="fixed" supportsFraction="true"/><Clock name="o" valueReference="4" causality="output" intervalVariability="triggered"/><Clock name="l" valueReference="5" intervalVariability="triggered"/><Int32 name="k" valueReference="6" causality="input" clocks="1  2" canHandleMultipleSetPerTimeInstant="false"/><Int32 name="g" valueReference="7" causality="output" clocks="5"/><Clock name="n" valueReference="8" causality="input" intervalVariability="constant" supportsFraction="true" intervalCounter="1" resolution="2" intervalDecimal="0.25"/></ModelVariables>"#,
-        "c 1 Some(Clock) Input None;d 2 Some(Clock) Input None;e 3 Some(Clock) Input None;o 4 Some(Clock) Output None;l 5 None Local None;k 6 Some(Int32) Input None @1 @2 once;g 7 None Output None @5;n 8 Some(Clock) Input None;|1 Constant false 1/100 1/10;2 Fixed true 1/4 3/4;3 Fixed true - -;4 Triggered false - -;8 Constant true 1/2 0/2;|4: 1 2 3 6 8;|4: 1 2 3 6 8;",
+        "c 1 Some(Clock) Input None;d 2 Some(Clock) Input None;e 3 Some(Clock) Input None;o 4 Some(Clock) Output None;l 5 None Local None;k 6 Some(Int32) Input None @1 @2 once;g 7 None Output None @5;n 8 Some(Clock) Input None;|1 Constant false 1/100 1/10;2 Fixed true 1/4 3/4;3 Fixed true - -;4 Triggered false - -;8 Constant true 1/2 0/2;|4: all;|4: all;",
     ),
 ];
 
@@ -77,6 +77,18 @@ fn put_fraction(
     }
 }
 
+fn put_knowns(alloc: Global, text: &mut String, knowns: &Knowns) -> Result<(), AllocError> {
+    match knowns {
+        Knowns::AllInputs => text.push_str(" all"),
+        Knowns::Listed(on) => {
+            for reference in on.as_slice() {
+                text.push_str(format!(in alloc; " {reference}")?.as_str())?;
+            }
+            Ok(())
+        }
+    }
+}
+
 fn put_dependencies(
     alloc: Global,
     text: &mut String,
@@ -86,9 +98,7 @@ fn put_dependencies(
     for dependency in dependencies.as_slice() {
         let output = dependency.output;
         text.push_str(format!(in alloc; "{output}:")?.as_str())?;
-        for on in dependency.on.as_slice() {
-            text.push_str(format!(in alloc; " {on}")?.as_str())?;
-        }
+        put_knowns(alloc, text, &dependency.on)?;
         text.push_str(";")?;
     }
     Ok(())

@@ -92,11 +92,11 @@ closes_same b d v old f fatal w new same from is to h =
     (subst (λ (x : Bool). ClosesWith (closing_calls x) v f w) same h)))
 
 -- an instance that is spared
-pub closes_spared : (spared : Bool) (old new : Instance) (fatal : Bool) → spared ≡ true → fatal ≡ false → new.view ≡ old.view → new.source ≡ old.source → new.has_saved ≡ false → new.is_fatal ≡ (old.is_fatal || fatal) → Closes spared old new
-closes_spared spared old new fatal is_spared none view source spent is =
-    subst (λ (b : Bool). Closes b old new) (sym is_spared) ([], record { turn = (refl, view); source = source; spent = spent; fatal = is ∙ ap (λ (b : Bool). old.is_fatal || b) none; closed = λ (e : true ≡ false). absurd (cc) })
+pub closes_spared : (spared : Bool) (old new : Instance) (fatal : Bool) → spared ≡ true → fatal ≡ false → new.view ≡ old.view → new.source ≡ old.source → new.has_saved ≡ false → new.is_closed ≡ true → new.is_fatal ≡ (old.is_fatal || fatal) → Closes spared old new
+closes_spared spared old new fatal is_spared none view source spent shut is =
+    subst (λ (b : Bool). Closes b old new) (sym is_spared) ([], record { turn = (refl, view); source = source; spent = spent; shut = shut; fatal = is ∙ ap (λ (b : Bool). old.is_fatal || b) none; closed = λ (e : true ≡ false). absurd (cc) })
 
 -- an instance that is sent what closes it
-pub closes_called : (spared : Bool) (old new : Instance) (fatal : Bool) → spared ≡ false → ClosesWith (closing_calls old.has_saved) old.view fatal new.view → new.source ≡ old.source → new.has_saved ≡ false → new.is_fatal ≡ (old.is_fatal || fatal) → Closes spared old new
-closes_called spared old new fatal not_spared h source spent is =
-    subst (λ (b : Bool). Closes b old new) (sym not_spared) (h.sent, record { turn = h.turn; source = source; spent = spent; fatal = is ∙ ap (λ (b : Bool). old.is_fatal || b) h.fatal_is; closed = λ e talk left. closed_by old new.view h.sent talk left h.turn })
+pub closes_called : (spared : Bool) (old new : Instance) (fatal : Bool) → spared ≡ false → ClosesWith (closing_calls old.has_saved) old.view fatal new.view → new.source ≡ old.source → new.has_saved ≡ false → new.is_closed ≡ true → new.is_fatal ≡ (old.is_fatal || fatal) → Closes spared old new
+closes_called spared old new fatal not_spared h source spent shut is =
+    subst (λ (b : Bool). Closes b old new) (sym not_spared) (h.sent, record { turn = h.turn; source = source; spent = spent; shut = shut; fatal = is ∙ ap (λ (b : Bool). old.is_fatal || b) h.fatal_is; closed = λ e talk left. closed_by old new.view h.sent talk left h.turn })

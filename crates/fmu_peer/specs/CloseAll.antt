@@ -14,12 +14,13 @@ use Rattle.fmu_peer.specs.Siblings.{Member, Siblings}
 use Rattle.fmu_peer.specs.Talk.{Closed as IsClosedTalk, EndsKeeping, StartsBadly, phase_after}
 use Rattle.fmu_peer.specs.View.{View}
 
--- an instance among others: its source, what is known of it, whether its saved state is still held, and whether one of its answers was a refusal with Fatal
+-- an instance among others: its source, what is known of it, whether its saved state is still held, whether one of its answers was a refusal with Fatal, and whether its peer alone is left of it
 pub record Instance : Type 0 where
   pub source : ℕ
   pub view : View
   pub has_saved : Bool
   pub is_fatal : Bool
+  pub is_closed : Bool
 
 abbrev pub peer_in : {L : Type 0} {g : _} → Held L g → L
 peer_in (Fresh fmu) = fmu.peer
@@ -29,6 +30,15 @@ peer_in (Stepping fmu) = fmu.peer
 peer_in (Ended ended) = ended.peer
 peer_in (Closed peer) = peer
 
+-- nothing but the peer is held
+abbrev pub is_closed : {L : Type 0} {g : _} → Held L g → Bool
+is_closed (Fresh fmu) = false
+is_closed (Instantiated fmu) = false
+is_closed (Initializing fmu) = false
+is_closed (Stepping fmu) = false
+is_closed (Ended ended) = false
+is_closed (Closed peer) = true
+
 -- the instance of a slot
 abbrev pub instance_in : {L : Type 0} {g : _} → (L → View) → Slot L g → Instance
 instance_in view slot = record {
@@ -36,6 +46,7 @@ instance_in view slot = record {
   view = view (peer_in slot.held);
   has_saved = is_some slot.saved;
   is_fatal = slot.is_fatal;
+  is_closed = is_closed slot.held;
 }
 
 -- one of the instances of this source had an answer that was a refusal with Fatal
@@ -64,6 +75,7 @@ pub record ClosesOne (spared : Bool) (c : Closing) : Type 0 where
   pub turn : SendsInTurn (if spared then [] else closing_calls c.old.has_saved) c.old.view c.sent c.new.view
   pub source : c.new.source ≡ c.old.source
   pub spent : c.new.has_saved ≡ false
+  pub shut : c.new.is_closed ≡ true
   pub fatal : c.new.is_fatal ≡ (c.old.is_fatal || any_fatal c.old.view.fixed.shape c.sent)
   pub closed : spared ≡ false → (talk : List Exchange) → IsLeft c.old talk → IsClosedTalk c.old.view.fixed.shape (talk ++ c.sent)
 

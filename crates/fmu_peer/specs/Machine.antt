@@ -1,10 +1,12 @@
 -- An FMU as a function of its saved state and inputs (FMI 3.0, 2.2.6: FMU state; 2.4.9: dependencies of outputs).
-use Rattle.std.specs.Prelude.{◌≡◌, ℕ, ℤ, Bool, true, false, not, ◌&&◌, ◌==◌, List, [], ◌∷◌, length, Option, Some, None, IsSomeAnd, find, if◌then◌else◌, slice_get}
+use Rattle.std.specs.Prelude.{◌≡◌, ℕ, ℤ, Bool, true, false, not, ◌&&◌, ◌==◌, List, [], ◌∷◌, length, Option, Some, None, IsSomeAnd, is_some, find, if◌then◌else◌, slice_get}
 use Rattle.std.specs.Option.{option_map_or}
 use Rattle.std.specs.List.{list_any}
 use Rattle.value_types.specs.Shape.{variable_at}
 use Rattle.value_types.specs.declared.shape.Causality.TheVariants.{Output}
 use Rattle.value_types.specs.declared.shape.Variable.{Variable}
+use Rattle.value_types.specs.declared.shape.Knowns.{Knowns}
+use Rattle.value_types.specs.declared.shape.Knowns.TheVariants.{AllInputs, Listed}
 use Rattle.value_types.specs.declared.shape.Dependency.{Dependency}
 use Rattle.value_types.specs.declared.shape.Shape.{Shape}
 use Rattle.fmi_calls.specs.declared.call.Call.{Call}
@@ -69,14 +71,19 @@ value_at [] values reference = None
 value_at (v ∷ vs) [] reference = None
 value_at (v ∷ vs) (x ∷ xs) reference = if v.reference == reference then Some x else value_at vs xs reference
 
--- the references that an output declares to depend on, in Initialization Mode by a list of its own
-abbrev pub declared_of : Shape → Bool → ℕ → List ℕ
-declared_of shape initializing output =
-    option_map_or (λ (d : Dependency). d.on) (find (λ (d : Dependency). d.output == output) (if initializing then shape.initial_dependencies else shape.dependencies)) []
+-- the variable is among the knowns of an output; all inputs are those that aren't foreign
+abbrev pub is_known : Knowns → Variable → Bool
+is_known AllInputs v = is_some v.kind
+is_known (Listed on) v = list_any (λ r. r == v.reference) on
+
+-- the output declares to depend on this variable, in Initialization Mode by a list of its own
+abbrev pub is_declared : Shape → Bool → ℕ → Variable → Bool
+is_declared shape initializing output v =
+    option_map_or (λ (d : Dependency). is_known d.on v) (find (λ (d : Dependency). d.output == output) (if initializing then shape.initial_dependencies else shape.dependencies)) false
 
 -- an input that the output doesn't declare
 abbrev pub is_undeclared : Shape → Bool → ℕ → Variable → Bool
-is_undeclared shape initializing output v = is_input v.causality && not (list_any (λ r. r == v.reference) (declared_of shape initializing output))
+is_undeclared shape initializing output v = is_input v.causality && not (is_declared shape initializing output v)
 
 -- the values are equal but at inputs that the output doesn't declare
 pub record AgreeFor (shape : Shape) (initializing : Bool) (output : ℕ) (xs ys : List ℤ) : Type 0 where

@@ -1,12 +1,16 @@
 //! The other side of an FMU: peers that answer calls, spawners that start them, and an FMU in typed states.
 #![tactic(auto)]
 
+#[cfg(test)]
+mod close_tests;
 mod closing;
 mod ended;
 mod fmu;
 mod mode;
 mod peer;
 mod saved;
+#[cfg(test)]
+mod scripted;
 mod slot;
 mod spawner;
 mod talk_book;

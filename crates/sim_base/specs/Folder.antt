@@ -14,6 +14,14 @@ Reads at limit (Err (TooBig n)) = (bytes : List ℕ) × (at ≡ Some bytes) × (
 Reads at limit (Err Failed) = Unit {0}
 Reads at limit (Err Memory) = Unit {0}
 
+-- whatever stands at the path: no more bytes than the limit, and a length past it
+abbrev pub KeepsLimit : ℕ → Result (Vec ℕ Global) ReadFault → Type 0
+KeepsLimit limit (Ok bytes) = length bytes.items ≤ limit
+KeepsLimit limit (Err (TooBig n)) = limit < n
+KeepsLimit limit (Err Missing) = Unit {0}
+KeepsLimit limit (Err Failed) = Unit {0}
+KeepsLimit limit (Err Memory) = Unit {0}
+
 -- the count never falls, `Failed` is answered only where it rose, and no other answer moves it
 pub record HasReadCause {T : Type 0} (before after : ℕ) (result : Result T ReadFault) : Type 0 where
   pub later : before ≤ after

@@ -1,5 +1,5 @@
 ghost use Rattle.std.specs.Prelude.{◌≡◌, ◌↔◌, List, ℕ, Option, Some, IfSome, option_map, Contains};
-ghost use Rattle.sim_base.specs.Folder.{HasReadCause, Reads, file_at};
+ghost use Rattle.sim_base.specs.Folder.{HasReadCause, KeepsLimit, Reads, file_at};
 
 use crate::items::is_listed;
 use crate::{Items, Text};
@@ -30,6 +30,7 @@ pub trait Folder {
     /// Reads the whole file at a path, of at most `limit` bytes.
     fn read(&mut self, alloc: Global, path: &str, limit: u64) -> Result<Vec<u8>, ReadFault>
         ensures reads { IfSome (files self.old) (λ at. Reads (at path.now) limit result) }
+        ensures within { KeepsLimit limit result }
         ensures kept { files self.new ≡ files self.old }
         ensures cause { HasReadCause (faults self.old) (faults self.new) result };
 }
@@ -87,6 +88,7 @@ impl Folder for MemFolder {
 
     fn read(&mut self, alloc: Global, path: &str, limit: u64) -> Result<Vec<u8>, ReadFault>
         ensures reads { Reads (file_at self.old.files path.now) limit result }
+        ensures within { KeepsLimit limit result }
         ensures kept { self.new.files ≡ self.old.files }
         ensures failing { self.new.failing ≡ self.old.failing }
         ensures counted { self.new.reads ≡ min (self.old.reads + 1) (2 ^ 64 - 1) }
@@ -106,6 +108,7 @@ impl Folder for MemFolder {
 
 fn read_from(alloc: Global, files: &[MemFile], path: &str, limit: u64) -> Result<Vec<u8>, ReadFault>
     ensures reads { Reads (file_at files.now path.now) limit result }
+    ensures within { KeepsLimit limit result }
     ensures succeeds { result ≡ Err ReadFault.Failed → ⊥ }
 {
     let Some(file) = find(files, path) else {

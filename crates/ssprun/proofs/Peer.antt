@@ -1,7 +1,6 @@
 -- The peer at the end of its run, from its start on.
 use Rattle.std.proofs.Common.{◌≡◌, ℕ, List, [], ◌∷◌, ◌++◌, Option, Some, None, IfSome, refl, sym, ap, ◌∙◌, subst}
-use Rattle.std.specs.Prelude.{All, nat_eq}
-use Rattle.std.specs.List.{IsDistinct}
+use Rattle.std.specs.Prelude.{All}
 use Rattle.std.proofs.lemmas.List.Elements.{All-head, All-tail}
 use Rattle.sim_base.specs.Causes.{Rose}
 use Rattle.value_types.specs.declared.shape.Shape.{Shape}
@@ -53,8 +52,3 @@ tells_end end v0 v none quiet e = record {
       }));
   rose = λ l. subst (λ (n : ℕ). Rose n v.faults) quiet (e.ends.rose l);
 }
-
--- one number is distinct
-pub once_one : (n : ℕ) → IsDistinct nat_eq (n ∷ [])
-unfolding IsDistinct
-once_one n = (tt, tt)

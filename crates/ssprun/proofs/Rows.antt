@@ -1,5 +1,5 @@
 -- The rows of statuses, from what holds of each outcome.
-use Rattle.std.proofs.Common.{◌≡◌, ◌⊎◌, inl, inr, ℕ, ℤ, ◌+◌, ◌<◌, ◌≤◌, ◌^◌, true, false, nat_eq, List, [], ◌∷◌, ◌++◌, length, Option, Some, None, IfSome, refl, sym, ap, ◌∙◌, subst, arith, codes}
+use Rattle.std.proofs.Common.{◌≡◌, ◌⊎◌, inl, inr, ℕ, ◌+◌, ◌<◌, ◌≤◌, ◌^◌, true, false, nat_eq, List, [], ◌∷◌, ◌++◌, length, Option, Some, None, IfSome, refl, sym, ap, ◌∙◌, subst, arith, codes}
 use Rattle.std.specs.Prelude.{All, IsSomeAnd, MatchResult, Result, Ok, Err, option_map}
 use Rattle.std.proofs.lemmas.List.{append-nil, map-append}
 use Rattle.std.proofs.lemmas.List.Elements.{All-head, All-tail}
@@ -28,19 +28,20 @@ use Rattle.run_model.specs.declared.plan.EndKind.TheVariants as K
 use Rattle.step_master.specs.declared.run_end.RunEnd.{RunEnd}
 use Rattle.step_master.specs.declared.run_end.RunEnd.TheVariants.{Stop, Asked, FixedStep, Bad, WriteFault}
 use Rattle.sim_base.specs.declared.numbers.CompId.{CompId}
-use Rattle.counter_form.specs.Form.{IsForm}
+use Rattle.single_fmu.specs.System.{system_of}
+use Rattle.single_fmu.specs.Taken.{IsTaken, Breaks}
 use Rattle.command_line.specs.Line.{Line, IsLine}
 use Rattle.ssprun.specs.declared.outcome.Outcome.{Outcome}
-use Rattle.ssprun.specs.declared.outcome.Outcome.TheVariants.{Words, ReadFailed, Missing, TooBig, OtherForm, StartFailed, Unknown, Memory, Ran}
-use Rattle.ssprun.specs.System.{description_path, counter_system}
+use Rattle.ssprun.specs.declared.outcome.Outcome.TheVariants.{Words, ReadFailed, Missing, TooBig, Broken, StartFailed, Unknown, Memory, Ran}
+use Rattle.ssprun.specs.System.{description_path}
 use Rattle.ssprun.specs.Line.{Puts, outcome_line, outcome_status, missing_line, big_line, refused_line, why_line, why_status, fixed_line}
-use Rattle.ssprun.specs.Facts.{Calm, HasRun, TellsTalk, TellsEnd, LineFacts, ReadsNoLine, Facts, file_of, AtPath, IsTooBig, IsOther, IsCounter}
+use Rattle.ssprun.specs.Facts.{Calm, HasRun, TellsTalk, TellsEnd, LineFacts, ReadsNoLine, Facts, file_of, AtPath, IsTooBig, GivesShape, BreaksRule, IsShape, IsBroken}
 use Rattle.step_master.specs.End.{is_finished, TellsWrite}
 use Rattle.step_master.specs.Follow.{IsRunCall, calls_in}
 use Rattle.step_master.specs.Progress.{run_of}
 use Rattle.step_master.specs.Whole.{IsClosingCall, CompletesWhole}
 use Rattle.step_master.specs.Whole as Ended
-use Rattle.ssprun.specs.Rows.{Command, Says, Answers, AnswersOr11, Finds, WordsRow, ReadFails, LacksFile, FindsTooMuch, FileRow, FormRow, EndsBy, StartFails, IsUnknown, LosesLink, LinkRow, RefusalRow, MisreplyRow, FixedRow, WriteRow, MemoryRow, EndRow, WritesTrace, IsStatus, StatusRow, Traces, TraceRow, PeerRow, TellsPeer, IsFirstBadOf}
+use Rattle.ssprun.specs.Rows.{Command, Says, Answers, AnswersOr11, Finds, WordsRow, ReadFails, LacksFile, FindsTooMuch, FileRow, RuleRow, EndsBy, StartFails, IsUnknown, LosesLink, LinkRow, RefusalRow, MisreplyRow, FixedRow, WriteRow, MemoryRow, EndRow, WritesTrace, IsStatus, StatusRow, Traces, TraceRow, PeerRow, TellsPeer, IsFirstBadOf}
 
 -- two numbers that differ aren't equal
 pub different : {A : Type 0} (a b : ℕ) → nat_eq a b ≡ false → a ≡ b → A
@@ -80,7 +81,7 @@ of_line o d (inr w) line is = of_no_line o w
     of_no_line (ReadFailed t) w = absurd w.why
     of_no_line (Missing t) w = absurd w.why
     of_no_line (TooBig t) w = absurd w.why
-    of_no_line (OtherForm t) w = absurd w.why
+    of_no_line (Broken t) w = absurd w.why
     of_no_line StartFailed w = absurd w.why
     of_no_line Unknown w = absurd w.why
     of_no_line Memory w = (w.calm, w.unread)
@@ -108,8 +109,17 @@ big_short file a b x y more less = above (length a) more (subst (λ (c : List �
     above : (n : ℕ) → 2 ^ 24 < n → n ≤ 2 ^ 24 → ⊥
     above n more less = grind (arith, common_steps)
 
-form_other : (file : Option (List ℕ)) (a b : List ℕ) (start : ℤ) → file ≡ Some a → file ≡ Some b → IsForm a start → ((other : ℤ) → IsForm b other → ⊥) → ⊥
-form_other file a b start x y form none = none start (subst (λ (c : List ℕ). IsForm c start) (same_bytes file a b x y) form)
+taken_broken : (line : Line) (file : Option (List ℕ)) (shape : Shape) (rule : ℕ) (place : List ℕ) → IsShape line shape file → BreaksRule line rule place file → ⊥
+taken_broken line file shape rule place t b =
+    t.3.none rule place (subst (λ (c : List ℕ). Breaks line.plan.resolution c rule place) (same_bytes file b.0 t.0 b.1 t.1) b.3)
+
+broken_taken : (line : Line) (file : Option (List ℕ)) (shape : Shape) (rule : ℕ) (place : List ℕ) → IsBroken line rule place file → GivesShape line shape file → ⊥
+broken_taken line file shape rule place b t =
+    b.3.none shape (subst (λ (c : List ℕ). IsTaken line.plan.resolution c shape) (same_bytes file t.0 b.0 t.1 b.1) t.3)
+
+same_broken : (line : Line) (file : Option (List ℕ)) (rule other : ℕ) (place at : List ℕ) → IsBroken line rule place file → BreaksRule line other at file → (rule ≡ other) × (place ≡ at)
+same_broken line file rule other place at b o =
+    b.3.only other at (subst (λ (c : List ℕ). Breaks line.plan.resolution c other at) (same_bytes file o.0 b.0 o.1 b.1) o.3)
 
 words_case : (o : Outcome) (d : Command) → HasFacts o d → outcome_status o ≡ 2 → Says d (outcome_line o) → ((line : Line) → IsLine d.words line → ⊥) × Calm d.old d.new × Says d (codes "words\n")
 words_case Words d (inl r) e says = absurd r.facts
@@ -117,7 +127,7 @@ words_case Words d (inr w) e says = (w.why, w.calm, says)
 words_case (ReadFailed t) d f e says = different 3 2 refl e
 words_case (Missing t) d f e says = different 3 2 refl e
 words_case (TooBig t) d f e says = different 3 2 refl e
-words_case (OtherForm t) d f e says = different 4 2 refl e
+words_case (Broken t) d f e says = different 4 2 refl e
 words_case StartFailed d f e says = different 5 2 refl e
 words_case Unknown d f e says = different 5 2 refl e
 words_case Memory d f e says = different 11 2 refl e
@@ -137,7 +147,7 @@ file_case (Missing t) d (inl r) e says = (r.line, r.is, r.facts.0, inr (inl (sub
 file_case (Missing t) d (inr w) e says = absurd w.why
 file_case (TooBig t) d (inl r) e says = (r.line, r.is, r.facts.0, inr (inr (subst (λ (x : List ℕ). Says d x) r.facts.1 says, r.facts.2)))
 file_case (TooBig t) d (inr w) e says = absurd w.why
-file_case (OtherForm t) d f e says = different 4 3 refl e
+file_case (Broken t) d f e says = different 4 3 refl e
 file_case StartFailed d f e says = different 5 3 refl e
 file_case Unknown d f e says = different 5 3 refl e
 file_case Memory d f e says = different 11 3 refl e
@@ -149,30 +159,31 @@ file_case (Ran (Bad c (Misreply call reply))) d f e says = different 7 3 refl e
 file_case (Ran (Bad c (Link call fault))) d f e says = different 5 3 refl e
 file_case (Ran WriteFault) d f e says = different 10 3 refl e
 
-form_case : (o : Outcome) (d : Command) → HasFacts o d → outcome_status o ≡ 4 → Says d (outcome_line o) → (line : Line) × IsLine d.words line × Calm d.old d.new × AtPath line d.folder IsOther × Says d (refused_line (file_of line))
-form_case Words d f e says = different 2 4 refl e
-form_case (ReadFailed t) d f e says = different 3 4 refl e
-form_case (Missing t) d f e says = different 3 4 refl e
-form_case (TooBig t) d f e says = different 3 4 refl e
-form_case (OtherForm t) d (inl r) e says = (r.line, r.is, r.facts.0, r.facts.2, subst (λ (x : List ℕ). Says d x) r.facts.1 says)
-form_case (OtherForm t) d (inr w) e says = absurd w.why
-form_case StartFailed d f e says = different 5 4 refl e
-form_case Unknown d f e says = different 5 4 refl e
-form_case Memory d f e says = different 11 4 refl e
-form_case (Ran Stop) d f e says = different 0 4 refl e
-form_case (Ran (Asked p)) d f e says = different 0 4 refl e
-form_case (Ran (FixedStep n at end)) d f e says = different 9 4 refl e
-form_case (Ran (Bad c (Refused call status))) d f e says = different 6 4 refl e
-form_case (Ran (Bad c (Misreply call reply))) d f e says = different 7 4 refl e
-form_case (Ran (Bad c (Link call fault))) d f e says = different 5 4 refl e
-form_case (Ran WriteFault) d f e says = different 10 4 refl e
+rule_case : (o : Outcome) (d : Command) → HasFacts o d → outcome_status o ≡ 4 → Says d (outcome_line o) → (line : Line) × IsLine d.words line × Calm d.old d.new
+    × (rule : ℕ) × (place : List ℕ) × AtPath line d.folder (IsBroken line rule place) × Says d (refused_line (file_of line) rule place)
+rule_case Words d f e says = different 2 4 refl e
+rule_case (ReadFailed t) d f e says = different 3 4 refl e
+rule_case (Missing t) d f e says = different 3 4 refl e
+rule_case (TooBig t) d f e says = different 3 4 refl e
+rule_case (Broken t) d (inl r) e says = (r.line, r.is, r.facts.0, r.facts.1.0, r.facts.1.1, r.facts.1.3, subst (λ (x : List ℕ). Says d x) r.facts.1.2 says)
+rule_case (Broken t) d (inr w) e says = absurd w.why
+rule_case StartFailed d f e says = different 5 4 refl e
+rule_case Unknown d f e says = different 5 4 refl e
+rule_case Memory d f e says = different 11 4 refl e
+rule_case (Ran Stop) d f e says = different 0 4 refl e
+rule_case (Ran (Asked p)) d f e says = different 0 4 refl e
+rule_case (Ran (FixedStep n at end)) d f e says = different 9 4 refl e
+rule_case (Ran (Bad c (Refused call status))) d f e says = different 6 4 refl e
+rule_case (Ran (Bad c (Misreply call reply))) d f e says = different 7 4 refl e
+rule_case (Ran (Bad c (Link call fault))) d f e says = different 5 4 refl e
+rule_case (Ran WriteFault) d f e says = different 10 4 refl e
 
-link_case : (o : Outcome) (d : Command) → HasFacts o d → outcome_status o ≡ 5 → Says d (outcome_line o) → (line : Line) × IsLine d.words line × (start : ℤ) × AtPath line d.folder (IsCounter start) × (StartFails d ⊎ (IsUnknown d ⊎ LosesLink d line start))
+link_case : (o : Outcome) (d : Command) → HasFacts o d → outcome_status o ≡ 5 → Says d (outcome_line o) → (line : Line) × IsLine d.words line × (shape : Shape) × AtPath line d.folder (IsShape line shape) × (StartFails d ⊎ (IsUnknown d shape ⊎ LosesLink d line shape))
 link_case Words d f e says = different 2 5 refl e
 link_case (ReadFailed t) d f e says = different 3 5 refl e
 link_case (Missing t) d f e says = different 3 5 refl e
 link_case (TooBig t) d f e says = different 3 5 refl e
-link_case (OtherForm t) d f e says = different 4 5 refl e
+link_case (Broken t) d f e says = different 4 5 refl e
 link_case StartFailed d (inl r) e says = (r.line, r.is, r.facts.0, r.facts.1, inl (says, r.facts.2.0, r.facts.2.1))
 link_case StartFailed d (inr w) e says = absurd w.why
 link_case Unknown d (inl r) e says = (r.line, r.is, r.facts.0, r.facts.1, inr (inl (says, r.facts.2.0, r.facts.2.1)))
@@ -187,12 +198,12 @@ link_case (Ran (Bad c (Link call fault))) d (inl r) e says = (r.line, r.is, r.fa
 link_case (Ran (Bad c (Link call fault))) d (inr w) e says = absurd w.why
 link_case (Ran WriteFault) d f e says = different 10 5 refl e
 
-refusal_case : (o : Outcome) (d : Command) → HasFacts o d → outcome_status o ≡ 6 → Says d (outcome_line o) → (line : Line) × IsLine d.words line × (start : ℤ) × AtPath line d.folder (IsCounter start) × (call : Call) × (status : BadStatus) × EndsBy d line start (Refused call status)
+refusal_case : (o : Outcome) (d : Command) → HasFacts o d → outcome_status o ≡ 6 → Says d (outcome_line o) → (line : Line) × IsLine d.words line × (shape : Shape) × AtPath line d.folder (IsShape line shape) × (call : Call) × (status : BadStatus) × EndsBy d line shape (Refused call status)
 refusal_case Words d f e says = different 2 6 refl e
 refusal_case (ReadFailed t) d f e says = different 3 6 refl e
 refusal_case (Missing t) d f e says = different 3 6 refl e
 refusal_case (TooBig t) d f e says = different 3 6 refl e
-refusal_case (OtherForm t) d f e says = different 4 6 refl e
+refusal_case (Broken t) d f e says = different 4 6 refl e
 refusal_case StartFailed d f e says = different 5 6 refl e
 refusal_case Unknown d f e says = different 5 6 refl e
 refusal_case Memory d f e says = different 11 6 refl e
@@ -205,12 +216,12 @@ refusal_case (Ran (Bad c (Misreply call reply))) d f e says = different 7 6 refl
 refusal_case (Ran (Bad c (Link call fault))) d f e says = different 5 6 refl e
 refusal_case (Ran WriteFault) d f e says = different 10 6 refl e
 
-misreply_case : (o : Outcome) (d : Command) → HasFacts o d → outcome_status o ≡ 7 → Says d (outcome_line o) → (line : Line) × IsLine d.words line × (start : ℤ) × AtPath line d.folder (IsCounter start) × (call : Call) × (reply : Reply) × EndsBy d line start (Misreply call reply)
+misreply_case : (o : Outcome) (d : Command) → HasFacts o d → outcome_status o ≡ 7 → Says d (outcome_line o) → (line : Line) × IsLine d.words line × (shape : Shape) × AtPath line d.folder (IsShape line shape) × (call : Call) × (reply : Reply) × EndsBy d line shape (Misreply call reply)
 misreply_case Words d f e says = different 2 7 refl e
 misreply_case (ReadFailed t) d f e says = different 3 7 refl e
 misreply_case (Missing t) d f e says = different 3 7 refl e
 misreply_case (TooBig t) d f e says = different 3 7 refl e
-misreply_case (OtherForm t) d f e says = different 4 7 refl e
+misreply_case (Broken t) d f e says = different 4 7 refl e
 misreply_case StartFailed d f e says = different 5 7 refl e
 misreply_case Unknown d f e says = different 5 7 refl e
 misreply_case Memory d f e says = different 11 7 refl e
@@ -223,12 +234,12 @@ misreply_case (Ran (Bad c (Misreply call reply))) d (inr w) e says = absurd w.wh
 misreply_case (Ran (Bad c (Link call fault))) d f e says = different 5 7 refl e
 misreply_case (Ran WriteFault) d f e says = different 10 7 refl e
 
-fixed_case : (o : Outcome) (d : Command) → HasFacts o d → outcome_status o ≡ 9 → Says d (outcome_line o) → (line : Line) × IsLine d.words line × (start : ℤ) × AtPath line d.folder (IsCounter start) × (component : CompId) × (at : ℕ) × (end : ℕ) × Says d (fixed_line at end) × HasRun line start (FixedStep component at end) d.old d.new
+fixed_case : (o : Outcome) (d : Command) → HasFacts o d → outcome_status o ≡ 9 → Says d (outcome_line o) → (line : Line) × IsLine d.words line × (shape : Shape) × AtPath line d.folder (IsShape line shape) × (component : CompId) × (at : ℕ) × (end : ℕ) × Says d (fixed_line at end) × HasRun line shape (FixedStep component at end) d.old d.new
 fixed_case Words d f e says = different 2 9 refl e
 fixed_case (ReadFailed t) d f e says = different 3 9 refl e
 fixed_case (Missing t) d f e says = different 3 9 refl e
 fixed_case (TooBig t) d f e says = different 3 9 refl e
-fixed_case (OtherForm t) d f e says = different 4 9 refl e
+fixed_case (Broken t) d f e says = different 4 9 refl e
 fixed_case StartFailed d f e says = different 5 9 refl e
 fixed_case Unknown d f e says = different 5 9 refl e
 fixed_case Memory d f e says = different 11 9 refl e
@@ -246,7 +257,7 @@ memory_case Words d f e says = different 2 11 refl e
 memory_case (ReadFailed t) d f e says = different 3 11 refl e
 memory_case (Missing t) d f e says = different 3 11 refl e
 memory_case (TooBig t) d f e says = different 3 11 refl e
-memory_case (OtherForm t) d f e says = different 4 11 refl e
+memory_case (Broken t) d f e says = different 4 11 refl e
 memory_case StartFailed d f e says = different 5 11 refl e
 memory_case Unknown d f e says = different 5 11 refl e
 memory_case Memory d (inl r) e says = (r.facts.0, r.facts.1, says)
@@ -263,12 +274,12 @@ silent : (before after : Option (List ℕ)) → after ≡ added before [] → af
 silent None after e = e
 silent (Some old) after e = e ∙ ap Some (append-nil old)
 
-end_case : (o : Outcome) (d : Command) → HasFacts o d → outcome_status o ≡ 0 → Says d (outcome_line o) → (line : Line) × IsLine d.words line × (start : ℤ) × AtPath line d.folder (IsCounter start) × (end : RunEnd) × (is_finished end ≡ true) × HasRun line start end d.old d.new × (d.after ≡ d.before) × (d.errs_after ≡ d.errs)
+end_case : (o : Outcome) (d : Command) → HasFacts o d → outcome_status o ≡ 0 → Says d (outcome_line o) → (line : Line) × IsLine d.words line × (shape : Shape) × AtPath line d.folder (IsShape line shape) × (end : RunEnd) × (is_finished end ≡ true) × HasRun line shape end d.old d.new × (d.after ≡ d.before) × (d.errs_after ≡ d.errs)
 end_case Words d f e says = different 2 0 refl e
 end_case (ReadFailed t) d f e says = different 3 0 refl e
 end_case (Missing t) d f e says = different 3 0 refl e
 end_case (TooBig t) d f e says = different 3 0 refl e
-end_case (OtherForm t) d f e says = different 4 0 refl e
+end_case (Broken t) d f e says = different 4 0 refl e
 end_case StartFailed d f e says = different 5 0 refl e
 end_case Unknown d f e says = different 5 0 refl e
 end_case Memory d f e says = different 11 0 refl e
@@ -292,8 +303,8 @@ outs_case (Missing t) d (inl r) = inl r.facts.0.0.outs
 outs_case (Missing t) d (inr w) = absurd w.why
 outs_case (TooBig t) d (inl r) = inl r.facts.0.0.outs
 outs_case (TooBig t) d (inr w) = absurd w.why
-outs_case (OtherForm t) d (inl r) = inl r.facts.0.0.outs
-outs_case (OtherForm t) d (inr w) = absurd w.why
+outs_case (Broken t) d (inl r) = inl r.facts.0.0.outs
+outs_case (Broken t) d (inr w) = absurd w.why
 outs_case StartFailed d (inl r) = inl r.facts.2.0.outs
 outs_case StartFailed d (inr w) = absurd w.why
 outs_case Unknown d (inl r) = inl r.facts.2.0.0.outs
@@ -316,7 +327,7 @@ write_case Words d f e = different 2 10 refl e
 write_case (ReadFailed t) d f e = different 3 10 refl e
 write_case (Missing t) d f e = different 3 10 refl e
 write_case (TooBig t) d f e = different 3 10 refl e
-write_case (OtherForm t) d f e = different 4 10 refl e
+write_case (Broken t) d f e = different 4 10 refl e
 write_case StartFailed d f e = different 5 10 refl e
 write_case Unknown d f e = different 5 10 refl e
 write_case Memory d f e = different 11 10 refl e
@@ -357,7 +368,7 @@ words_exact Words d (inr w) p none = inr (answers (codes "words\n") 2 d p)
 words_exact (ReadFailed t) d (inr w) p none = absurd w.why
 words_exact (Missing t) d (inr w) p none = absurd w.why
 words_exact (TooBig t) d (inr w) p none = absurd w.why
-words_exact (OtherForm t) d (inr w) p none = absurd w.why
+words_exact (Broken t) d (inr w) p none = absurd w.why
 words_exact StartFailed d (inr w) p none = absurd w.why
 words_exact Unknown d (inr w) p none = absurd w.why
 words_exact Memory d (inr w) p none = memory_or _ _ d p
@@ -372,45 +383,54 @@ missing_exact Words d line g f p = absurd g
 missing_exact (ReadFailed t) d line g f p = absurd (f.quiet g.2)
 missing_exact (Missing t) d line g f p = inr (answers (missing_line (file_of line)) 3 d (subst (λ (x : List ℕ). PutsLine x 3 d) g.1 p))
 missing_exact (TooBig t) d line g f p = let b = both line d (λ file. file ≡ None) (IsTooBig) f.told (g.2) in absurd (none_there b.0 b.1 b.2.0 b.2.1)
-missing_exact (OtherForm t) d line g f p = let b = both line d (λ file. file ≡ None) (IsOther) f.told (g.2) in absurd (none_there b.0 b.1 b.2.0 b.2.1)
-missing_exact StartFailed d line g f p = let b = both line d (λ file. file ≡ None) (IsCounter g.0) f.told (g.1) in absurd (none_there b.0 b.1 b.2.0 b.2.1)
-missing_exact Unknown d line g f p = let b = both line d (λ file. file ≡ None) (IsCounter g.0) f.told (g.1) in absurd (none_there b.0 b.1 b.2.0 b.2.1)
+missing_exact (Broken t) d line g f p = let b = both line d (λ file. file ≡ None) (IsBroken line g.1.0 g.1.1) f.told (g.1.3) in absurd (none_there b.0 b.1 b.2.0 b.2.1)
+missing_exact StartFailed d line g f p = let b = both line d (λ file. file ≡ None) (IsShape line g.0) f.told (g.1) in absurd (none_there b.0 b.1 b.2.0 b.2.1)
+missing_exact Unknown d line g f p = let b = both line d (λ file. file ≡ None) (IsShape line g.0) f.told (g.1) in absurd (none_there b.0 b.1 b.2.0 b.2.1)
 missing_exact Memory d line g f p = memory_or _ _ d p
-missing_exact (Ran Stop) d line g f p = let b = both line d (λ file. file ≡ None) (IsCounter g.0) f.told (g.1) in absurd (none_there b.0 b.1 b.2.0 b.2.1)
-missing_exact (Ran (Asked q)) d line g f p = let b = both line d (λ file. file ≡ None) (IsCounter g.0) f.told (g.1) in absurd (none_there b.0 b.1 b.2.0 b.2.1)
-missing_exact (Ran (FixedStep n at end)) d line g f p = let b = both line d (λ file. file ≡ None) (IsCounter g.0) f.told (g.1) in absurd (none_there b.0 b.1 b.2.0 b.2.1)
-missing_exact (Ran (Bad c why)) d line g f p = let b = both line d (λ file. file ≡ None) (IsCounter g.0) f.told (g.1) in absurd (none_there b.0 b.1 b.2.0 b.2.1)
-missing_exact (Ran WriteFault) d line g f p = let b = both line d (λ file. file ≡ None) (IsCounter g.0) f.told (g.1) in absurd (none_there b.0 b.1 b.2.0 b.2.1)
+missing_exact (Ran Stop) d line g f p = let b = both line d (λ file. file ≡ None) (IsShape line g.0) f.told (g.1) in absurd (none_there b.0 b.1 b.2.0 b.2.1)
+missing_exact (Ran (Asked q)) d line g f p = let b = both line d (λ file. file ≡ None) (IsShape line g.0) f.told (g.1) in absurd (none_there b.0 b.1 b.2.0 b.2.1)
+missing_exact (Ran (FixedStep n at end)) d line g f p = let b = both line d (λ file. file ≡ None) (IsShape line g.0) f.told (g.1) in absurd (none_there b.0 b.1 b.2.0 b.2.1)
+missing_exact (Ran (Bad c why)) d line g f p = let b = both line d (λ file. file ≡ None) (IsShape line g.0) f.told (g.1) in absurd (none_there b.0 b.1 b.2.0 b.2.1)
+missing_exact (Ran WriteFault) d line g f p = let b = both line d (λ file. file ≡ None) (IsShape line g.0) f.told (g.1) in absurd (none_there b.0 b.1 b.2.0 b.2.1)
 
 big_exact : (o : Outcome) (d : Command) (line : Line) → OfLine o d line → Finds d line (IsTooBig) → HasPut o d → AnswersOr11 d 3 (big_line (file_of line))
 big_exact Words d line g f p = absurd g
 big_exact (ReadFailed t) d line g f p = absurd (f.quiet g.2)
 big_exact (Missing t) d line g f p = let b = both line d (IsTooBig) (λ file. file ≡ None) f.told (g.2) in absurd (none_there b.0 b.2 b.1.0 b.1.1)
 big_exact (TooBig t) d line g f p = inr (answers (big_line (file_of line)) 3 d (subst (λ (x : List ℕ). PutsLine x 3 d) g.1 p))
-big_exact (OtherForm t) d line g f p = let b = both line d (IsTooBig) (IsOther) f.told (g.2) in absurd (big_short b.0 b.1.0 b.2.0 b.1.1 b.2.1 b.1.2 b.2.2)
-big_exact StartFailed d line g f p = let b = both line d (IsTooBig) (IsCounter g.0) f.told (g.1) in absurd (big_short b.0 b.1.0 b.2.0 b.1.1 b.2.1 b.1.2 b.2.2)
-big_exact Unknown d line g f p = let b = both line d (IsTooBig) (IsCounter g.0) f.told (g.1) in absurd (big_short b.0 b.1.0 b.2.0 b.1.1 b.2.1 b.1.2 b.2.2)
+big_exact (Broken t) d line g f p = let b = both line d (IsTooBig) (IsBroken line g.1.0 g.1.1) f.told (g.1.3) in absurd (big_short b.0 b.1.0 b.2.0 b.1.1 b.2.1 b.1.2 b.2.2)
+big_exact StartFailed d line g f p = let b = both line d (IsTooBig) (IsShape line g.0) f.told (g.1) in absurd (big_short b.0 b.1.0 b.2.0 b.1.1 b.2.1 b.1.2 b.2.2)
+big_exact Unknown d line g f p = let b = both line d (IsTooBig) (IsShape line g.0) f.told (g.1) in absurd (big_short b.0 b.1.0 b.2.0 b.1.1 b.2.1 b.1.2 b.2.2)
 big_exact Memory d line g f p = memory_or _ _ d p
-big_exact (Ran Stop) d line g f p = let b = both line d (IsTooBig) (IsCounter g.0) f.told (g.1) in absurd (big_short b.0 b.1.0 b.2.0 b.1.1 b.2.1 b.1.2 b.2.2)
-big_exact (Ran (Asked q)) d line g f p = let b = both line d (IsTooBig) (IsCounter g.0) f.told (g.1) in absurd (big_short b.0 b.1.0 b.2.0 b.1.1 b.2.1 b.1.2 b.2.2)
-big_exact (Ran (FixedStep n at end)) d line g f p = let b = both line d (IsTooBig) (IsCounter g.0) f.told (g.1) in absurd (big_short b.0 b.1.0 b.2.0 b.1.1 b.2.1 b.1.2 b.2.2)
-big_exact (Ran (Bad c why)) d line g f p = let b = both line d (IsTooBig) (IsCounter g.0) f.told (g.1) in absurd (big_short b.0 b.1.0 b.2.0 b.1.1 b.2.1 b.1.2 b.2.2)
-big_exact (Ran WriteFault) d line g f p = let b = both line d (IsTooBig) (IsCounter g.0) f.told (g.1) in absurd (big_short b.0 b.1.0 b.2.0 b.1.1 b.2.1 b.1.2 b.2.2)
+big_exact (Ran Stop) d line g f p = let b = both line d (IsTooBig) (IsShape line g.0) f.told (g.1) in absurd (big_short b.0 b.1.0 b.2.0 b.1.1 b.2.1 b.1.2 b.2.2)
+big_exact (Ran (Asked q)) d line g f p = let b = both line d (IsTooBig) (IsShape line g.0) f.told (g.1) in absurd (big_short b.0 b.1.0 b.2.0 b.1.1 b.2.1 b.1.2 b.2.2)
+big_exact (Ran (FixedStep n at end)) d line g f p = let b = both line d (IsTooBig) (IsShape line g.0) f.told (g.1) in absurd (big_short b.0 b.1.0 b.2.0 b.1.1 b.2.1 b.1.2 b.2.2)
+big_exact (Ran (Bad c why)) d line g f p = let b = both line d (IsTooBig) (IsShape line g.0) f.told (g.1) in absurd (big_short b.0 b.1.0 b.2.0 b.1.1 b.2.1 b.1.2 b.2.2)
+big_exact (Ran WriteFault) d line g f p = let b = both line d (IsTooBig) (IsShape line g.0) f.told (g.1) in absurd (big_short b.0 b.1.0 b.2.0 b.1.1 b.2.1 b.1.2 b.2.2)
 
-form_exact : (o : Outcome) (d : Command) (line : Line) → OfLine o d line → Finds d line (IsOther) → HasPut o d → AnswersOr11 d 4 (refused_line (file_of line))
-form_exact Words d line g f p = absurd g
-form_exact (ReadFailed t) d line g f p = absurd (f.quiet g.2)
-form_exact (Missing t) d line g f p = let b = both line d (IsOther) (λ file. file ≡ None) f.told (g.2) in absurd (none_there b.0 b.2 b.1.0 b.1.1)
-form_exact (TooBig t) d line g f p = let b = both line d (IsOther) (IsTooBig) f.told (g.2) in absurd (big_short b.0 b.2.0 b.1.0 b.2.1 b.1.1 b.2.2 b.1.2)
-form_exact (OtherForm t) d line g f p = inr (answers (refused_line (file_of line)) 4 d (subst (λ (x : List ℕ). PutsLine x 4 d) g.1 p))
-form_exact StartFailed d line g f p = let b = both line d (IsOther) (IsCounter g.0) f.told (g.1) in absurd (form_other b.0 b.2.0 b.1.0 g.0 b.2.1 b.1.1 b.2.3 b.1.3)
-form_exact Unknown d line g f p = let b = both line d (IsOther) (IsCounter g.0) f.told (g.1) in absurd (form_other b.0 b.2.0 b.1.0 g.0 b.2.1 b.1.1 b.2.3 b.1.3)
-form_exact Memory d line g f p = memory_or _ _ d p
-form_exact (Ran Stop) d line g f p = let b = both line d (IsOther) (IsCounter g.0) f.told (g.1) in absurd (form_other b.0 b.2.0 b.1.0 g.0 b.2.1 b.1.1 b.2.3 b.1.3)
-form_exact (Ran (Asked q)) d line g f p = let b = both line d (IsOther) (IsCounter g.0) f.told (g.1) in absurd (form_other b.0 b.2.0 b.1.0 g.0 b.2.1 b.1.1 b.2.3 b.1.3)
-form_exact (Ran (FixedStep n at end)) d line g f p = let b = both line d (IsOther) (IsCounter g.0) f.told (g.1) in absurd (form_other b.0 b.2.0 b.1.0 g.0 b.2.1 b.1.1 b.2.3 b.1.3)
-form_exact (Ran (Bad c why)) d line g f p = let b = both line d (IsOther) (IsCounter g.0) f.told (g.1) in absurd (form_other b.0 b.2.0 b.1.0 g.0 b.2.1 b.1.1 b.2.3 b.1.3)
-form_exact (Ran WriteFault) d line g f p = let b = both line d (IsOther) (IsCounter g.0) f.told (g.1) in absurd (form_other b.0 b.2.0 b.1.0 g.0 b.2.1 b.1.1 b.2.3 b.1.3)
+rule_exact : (o : Outcome) (d : Command) (line : Line) (rule : ℕ) (place : List ℕ) → OfLine o d line → Finds d line (BreaksRule line rule place) → HasPut o d → AnswersOr11 d 4 (refused_line (file_of line) rule place)
+rule_exact Words d line rule place g f p = absurd g
+rule_exact (ReadFailed t) d line rule place g f p = absurd (f.quiet g.2)
+rule_exact (Missing t) d line rule place g f p = let b = both line d (BreaksRule line rule place) (λ file. file ≡ None) f.told (g.2) in absurd (none_there b.0 b.2 b.1.0 b.1.1)
+rule_exact (TooBig t) d line rule place g f p = let b = both line d (BreaksRule line rule place) (IsTooBig) f.told (g.2) in absurd (big_short b.0 b.2.0 b.1.0 b.2.1 b.1.1 b.2.2 b.1.2)
+rule_exact (Broken t) d line rule place g f p = inr (answers (refused_line (file_of line) rule place) 4 d (subst (λ (x : List ℕ). PutsLine x 4 d) same p))
+  where
+    told : (file : Option (List ℕ)) × BreaksRule line rule place file × IsBroken line g.1.0 g.1.1 file
+    told = both line d (BreaksRule line rule place) (IsBroken line g.1.0 g.1.1) f.told (g.1.3)
+
+    one : (g.1.0 ≡ rule) × (g.1.1 ≡ place)
+    one = same_broken line told.0 g.1.0 rule g.1.1 place told.2 told.1
+
+    same : t ≡ refused_line (file_of line) rule place
+    same = g.1.2 ∙ ap (λ (n : ℕ). refused_line (file_of line) n g.1.1) one.0 ∙ ap (λ (w : List ℕ). refused_line (file_of line) rule w) one.1
+rule_exact StartFailed d line rule place g f p = let b = both line d (BreaksRule line rule place) (IsShape line g.0) f.told (g.1) in absurd (taken_broken line b.0 g.0 rule place b.2 b.1)
+rule_exact Unknown d line rule place g f p = let b = both line d (BreaksRule line rule place) (IsShape line g.0) f.told (g.1) in absurd (taken_broken line b.0 g.0 rule place b.2 b.1)
+rule_exact Memory d line rule place g f p = memory_or _ _ d p
+rule_exact (Ran Stop) d line rule place g f p = let b = both line d (BreaksRule line rule place) (IsShape line g.0) f.told (g.1) in absurd (taken_broken line b.0 g.0 rule place b.2 b.1)
+rule_exact (Ran (Asked q)) d line rule place g f p = let b = both line d (BreaksRule line rule place) (IsShape line g.0) f.told (g.1) in absurd (taken_broken line b.0 g.0 rule place b.2 b.1)
+rule_exact (Ran (FixedStep n at end)) d line rule place g f p = let b = both line d (BreaksRule line rule place) (IsShape line g.0) f.told (g.1) in absurd (taken_broken line b.0 g.0 rule place b.2 b.1)
+rule_exact (Ran (Bad c why)) d line rule place g f p = let b = both line d (BreaksRule line rule place) (IsShape line g.0) f.told (g.1) in absurd (taken_broken line b.0 g.0 rule place b.2 b.1)
+rule_exact (Ran WriteFault) d line rule place g f p = let b = both line d (BreaksRule line rule place) (IsShape line g.0) f.told (g.1) in absurd (taken_broken line b.0 g.0 rule place b.2 b.1)
 
 known_unknown : {A : Type 0} → true ≡ false → A
 known_unknown e = absurd (apart e)
@@ -418,61 +438,65 @@ known_unknown e = absurd (apart e)
     apart : true ≡ false → ⊥
     apart e = grind (arith, common_steps)
 
-unknown_exact : (o : Outcome) (d : Command) (line : Line) (start : ℤ) → OfLine o d line → Finds d line (IsCounter start) → d.old.knows (codes "counter") ≡ false → (Rose d.old.starts d.new.starts → ⊥) → HasPut o d → AnswersOr11 d 5 (codes "unknown fmu\n")
-unknown_exact Words d line start g f un calm p = absurd g
-unknown_exact (ReadFailed t) d line start g f un calm p = absurd (f.quiet g.2)
-unknown_exact (Missing t) d line start g f un calm p = let b = both line d (IsCounter start) (λ file. file ≡ None) f.told (g.2) in absurd (none_there b.0 b.2 b.1.0 b.1.1)
-unknown_exact (TooBig t) d line start g f un calm p = let b = both line d (IsCounter start) (IsTooBig) f.told (g.2) in absurd (big_short b.0 b.2.0 b.1.0 b.2.1 b.1.1 b.2.2 b.1.2)
-unknown_exact (OtherForm t) d line start g f un calm p = let b = both line d (IsCounter start) (IsOther) f.told (g.2) in absurd (form_other b.0 b.1.0 b.2.0 start b.1.1 b.2.1 b.1.3 b.2.3)
-unknown_exact StartFailed d line start g f un calm p = absurd (calm g.2.1)
-unknown_exact Unknown d line start g f un calm p = inr (answers (codes "unknown fmu\n") 5 d p)
-unknown_exact Memory d line start g f un calm p = memory_or _ _ d p
-unknown_exact (Ran Stop) d line start g f un calm p = known_unknown (sym g.2.known ∙ un)
-unknown_exact (Ran (Asked q)) d line start g f un calm p = known_unknown (sym g.2.known ∙ un)
-unknown_exact (Ran (FixedStep n at end)) d line start g f un calm p = known_unknown (sym g.2.known ∙ un)
-unknown_exact (Ran (Bad c why)) d line start g f un calm p = known_unknown (sym g.2.known ∙ un)
-unknown_exact (Ran WriteFault) d line start g f un calm p = known_unknown (sym g.2.known ∙ un)
+-- the shape is the one that the bytes give
+one_shape : (line : Line) (d : Command) (shape other : Shape) → IsSomeAnd d.folder.files (λ at. GivesShape line shape (at (description_path line.directory))) →
+    AtPath line d.folder (IsShape line other) → other ≡ shape
+one_shape line d shape other told at =
+    let b = both line d (GivesShape line shape) (IsShape line other) told at in
+    b.2.3.only shape (subst (λ (c : List ℕ). IsTaken line.plan.resolution c shape) (same_bytes b.0 b.1.0 b.2.0 b.1.1 b.2.1) b.1.3)
+
+same_identifier : (line : Line) (d : Command) (shape other : Shape) → IsSomeAnd d.folder.files (λ at. GivesShape line shape (at (description_path line.directory))) →
+    AtPath line d.folder (IsShape line other) → other.identifier ≡ shape.identifier
+same_identifier line d shape other told at = ap (λ (s : Shape). s.identifier) (one_shape line d shape other told at)
+
+unknown_exact : (o : Outcome) (d : Command) (line : Line) (shape : Shape) → OfLine o d line → Finds d line (GivesShape line shape) → d.old.knows shape.identifier ≡ false → (Rose d.old.starts d.new.starts → ⊥) → HasPut o d → AnswersOr11 d 5 (codes "unknown fmu\n")
+unknown_exact Words d line shape g f un calm p = absurd g
+unknown_exact (ReadFailed t) d line shape g f un calm p = absurd (f.quiet g.2)
+unknown_exact (Missing t) d line shape g f un calm p = let b = both line d (GivesShape line shape) (λ file. file ≡ None) f.told (g.2) in absurd (none_there b.0 b.2 b.1.0 b.1.1)
+unknown_exact (TooBig t) d line shape g f un calm p = let b = both line d (GivesShape line shape) (IsTooBig) f.told (g.2) in absurd (big_short b.0 b.2.0 b.1.0 b.2.1 b.1.1 b.2.2 b.1.2)
+unknown_exact (Broken t) d line shape g f un calm p = let b = both line d (GivesShape line shape) (IsBroken line g.1.0 g.1.1) f.told (g.1.3) in absurd (broken_taken line b.0 shape g.1.0 g.1.1 b.2 b.1)
+unknown_exact StartFailed d line shape g f un calm p = absurd (calm g.2.1)
+unknown_exact Unknown d line shape g f un calm p = inr (answers (codes "unknown fmu\n") 5 d p)
+unknown_exact Memory d line shape g f un calm p = memory_or _ _ d p
+unknown_exact (Ran Stop) d line shape g f un calm p = known_unknown (sym g.2.known ∙ ap d.old.knows (same_identifier line d shape g.0 f.told g.1) ∙ un)
+unknown_exact (Ran (Asked q)) d line shape g f un calm p = known_unknown (sym g.2.known ∙ ap d.old.knows (same_identifier line d shape g.0 f.told g.1) ∙ un)
+unknown_exact (Ran (FixedStep n at end)) d line shape g f un calm p = known_unknown (sym g.2.known ∙ ap d.old.knows (same_identifier line d shape g.0 f.told g.1) ∙ un)
+unknown_exact (Ran (Bad c why)) d line shape g f un calm p = known_unknown (sym g.2.known ∙ ap d.old.knows (same_identifier line d shape g.0 f.told g.1) ∙ un)
+unknown_exact (Ran WriteFault) d line shape g f un calm p = known_unknown (sym g.2.known ∙ ap d.old.knows (same_identifier line d shape g.0 f.told g.1) ∙ un)
 
 not_rose : (n : ℕ) → n ≡ 0 → Rose 0 n → ⊥
 not_rose n zero rose = grind (arith, common_steps)
 
--- the start value is the one that the bytes spell
-one_start : (line : Line) (d : Command) (start other : ℤ) → IsSomeAnd d.folder.files (λ at. IsCounter start (at (description_path line.directory))) →
-    AtPath line d.folder (IsCounter other) → other ≡ start
-one_start line d start other told at =
-    let b = both line d (IsCounter start) (IsCounter other) told at in
-    b.2.4 start (subst (λ (c : List ℕ). IsForm c start) (same_bytes b.0 b.1.0 b.2.0 b.1.1 b.2.1) b.1.3)
-
-run_trace : (end : RunEnd) (d : Command) (line : Line) (start : ℤ) → HasRun line start end d.old d.new → HasPut (Ran end) d → (Rose d.errs d.errs_after → ⊥) →
-    Traces d line start
-run_trace Stop d line start h (inr p) quiet = absurd (quiet p.2)
-run_trace Stop d line start h (inl p) quiet = (
+run_trace : (end : RunEnd) (d : Command) (line : Line) (shape : Shape) → HasRun line shape end d.old d.new → HasPut (Ran end) d → (Rose d.errs d.errs_after → ⊥) →
+    Traces d line shape
+run_trace Stop d line shape h (inr p) quiet = absurd (quiet p.2)
+run_trace Stop d line shape h (inl p) quiet = (
   h.v,
   h.peer,
   λ m told well zero.
       let t = h.trace m told well in (t.0, K.Stop, line.plan.stop, t.1, inl (p.0, t.2)),
 )
-run_trace (Asked q) d line start h (inr p) quiet = absurd (quiet p.2)
-run_trace (Asked q) d line start h (inl p) quiet = (
+run_trace (Asked q) d line shape h (inr p) quiet = absurd (quiet p.2)
+run_trace (Asked q) d line shape h (inl p) quiet = (
   h.v,
   h.peer,
   λ m told well zero.
       let t = h.trace m told well in (t.0, K.Asked, q, t.1, inl (p.0, t.2)),
 )
-run_trace (FixedStep n at end) d line start h (inr p) quiet = absurd (quiet p.2)
-run_trace (FixedStep n at end) d line start h (inl p) quiet = (
+run_trace (FixedStep n at end) d line shape h (inr p) quiet = absurd (quiet p.2)
+run_trace (FixedStep n at end) d line shape h (inl p) quiet = (
   h.v,
   h.peer,
   λ m told well zero.
       let t = h.trace m told well in (t.0, K.Fixed, at, t.1, inl ((p.0, end, h.size.next.bound, (p.1, p.2)), t.2)),
 )
-run_trace (Bad c why) d line start h p quiet = (
+run_trace (Bad c why) d line shape h p quiet = (
   h.v,
   h.peer,
   λ m told well zero.
       absurd (not_rose h.v.faults zero (h.trace m told well)),
 )
-run_trace WriteFault d line start h p quiet = (
+run_trace WriteFault d line shape h p quiet = (
   h.v,
   h.peer,
   λ m told well zero.
@@ -483,34 +507,34 @@ run_trace WriteFault d line start h p quiet = (
     status_10 (inl p) = p.0
     status_10 (inr p) = p.0
 
-    written : {m : Machine} (n : ℕ) → n ≡ 0 → CompletesWhole (run_of (counter_system line.plan.resolution start) line.plan m) WriteFault d.old.out d.new.out 0 n →
-        WritesTrace d (run_of (counter_system line.plan.resolution start) line.plan m)
+    written : {m : Machine} (n : ℕ) → n ≡ 0 → CompletesWhole (run_of (system_of shape) line.plan m) WriteFault d.old.out d.new.out 0 n →
+        WritesTrace d (run_of (system_of shape) line.plan m)
     written n zero (inl rose) = absurd (not_rose n zero rose)
     written n zero (inr t) = (t.0, t.1, t.2, t.3, inr (status_10 p, h.outs, t.4))
 
-ran_from : (end : RunEnd) (d : Command) (line : Line) (start : ℤ) → OfLine (Ran end) d line → Finds d line (IsCounter start) → HasPut (Ran end) d →
-    (Rose d.errs d.errs_after → ⊥) → Traces d line start
-ran_from end d line start g f p quiet =
-    run_trace end d line start (subst (λ (s : ℤ). HasRun line s end d.old d.new) (one_start line d start g.0 f.told g.1) g.2) p quiet
+ran_from : (end : RunEnd) (d : Command) (line : Line) (shape : Shape) → OfLine (Ran end) d line → Finds d line (GivesShape line shape) → HasPut (Ran end) d →
+    (Rose d.errs d.errs_after → ⊥) → Traces d line shape
+ran_from end d line shape g f p quiet =
+    run_trace end d line shape (subst (λ (s : Shape). HasRun line s end d.old d.new) (one_shape line d shape g.0 f.told g.1) g.2) p quiet
 
 memory_alone : (d : Command) → PutsLine (codes "memory\n") 11 d → (Rose d.errs d.errs_after → ⊥) → d.status ≡ 11
 memory_alone d (inl p) quiet = p.0
 memory_alone d (inr p) quiet = absurd (quiet p.2)
 
-trace_exact : (o : Outcome) (d : Command) (line : Line) (start : ℤ) → OfLine o d line → Finds d line (IsCounter start) → d.old.knows (codes "counter") ≡ true → (Rose d.old.starts d.new.starts → ⊥) → (Rose d.errs d.errs_after → ⊥) → HasPut o d → ((d.status ≡ 11) × Calm d.old d.new) ⊎ Traces d line start
-trace_exact Words d line start g f un calm quiet p = absurd g
-trace_exact (ReadFailed t) d line start g f un calm quiet p = absurd (f.quiet g.2)
-trace_exact (Missing t) d line start g f un calm quiet p = let b = both line d (IsCounter start) (λ file. file ≡ None) f.told (g.2) in absurd (none_there b.0 b.2 b.1.0 b.1.1)
-trace_exact (TooBig t) d line start g f un calm quiet p = let b = both line d (IsCounter start) (IsTooBig) f.told (g.2) in absurd (big_short b.0 b.2.0 b.1.0 b.2.1 b.1.1 b.2.2 b.1.2)
-trace_exact (OtherForm t) d line start g f un calm quiet p = let b = both line d (IsCounter start) (IsOther) f.told (g.2) in absurd (form_other b.0 b.1.0 b.2.0 start b.1.1 b.2.1 b.1.3 b.2.3)
-trace_exact StartFailed d line start g f un calm quiet p = absurd (calm g.2.1)
-trace_exact Unknown d line start g f un calm quiet p = known_unknown (sym un ∙ g.2.1)
-trace_exact Memory d line start g f un calm quiet p = inl (memory_alone d p quiet, g.0)
-trace_exact (Ran Stop) d line start g f un calm quiet p = inr (ran_from Stop d line start g f p quiet)
-trace_exact (Ran (Asked q)) d line start g f un calm quiet p = inr (ran_from (Asked q) d line start g f p quiet)
-trace_exact (Ran (FixedStep n at end)) d line start g f un calm quiet p = inr (ran_from (FixedStep n at end) d line start g f p quiet)
-trace_exact (Ran (Bad c why)) d line start g f un calm quiet p = inr (ran_from (Bad c why) d line start g f p quiet)
-trace_exact (Ran WriteFault) d line start g f un calm quiet p = inr (ran_from WriteFault d line start g f p quiet)
+trace_exact : (o : Outcome) (d : Command) (line : Line) (shape : Shape) → OfLine o d line → Finds d line (GivesShape line shape) → d.old.knows shape.identifier ≡ true → (Rose d.old.starts d.new.starts → ⊥) → (Rose d.errs d.errs_after → ⊥) → HasPut o d → ((d.status ≡ 11) × Calm d.old d.new) ⊎ Traces d line shape
+trace_exact Words d line shape g f un calm quiet p = absurd g
+trace_exact (ReadFailed t) d line shape g f un calm quiet p = absurd (f.quiet g.2)
+trace_exact (Missing t) d line shape g f un calm quiet p = let b = both line d (GivesShape line shape) (λ file. file ≡ None) f.told (g.2) in absurd (none_there b.0 b.2 b.1.0 b.1.1)
+trace_exact (TooBig t) d line shape g f un calm quiet p = let b = both line d (GivesShape line shape) (IsTooBig) f.told (g.2) in absurd (big_short b.0 b.2.0 b.1.0 b.2.1 b.1.1 b.2.2 b.1.2)
+trace_exact (Broken t) d line shape g f un calm quiet p = let b = both line d (GivesShape line shape) (IsBroken line g.1.0 g.1.1) f.told (g.1.3) in absurd (broken_taken line b.0 shape g.1.0 g.1.1 b.2 b.1)
+trace_exact StartFailed d line shape g f un calm quiet p = absurd (calm g.2.1)
+trace_exact Unknown d line shape g f un calm quiet p = known_unknown (sym un ∙ sym (ap d.old.knows (same_identifier line d shape g.0 f.told g.1)) ∙ g.2.1)
+trace_exact Memory d line shape g f un calm quiet p = inl (memory_alone d p quiet, g.0)
+trace_exact (Ran Stop) d line shape g f un calm quiet p = inr (ran_from Stop d line shape g f p quiet)
+trace_exact (Ran (Asked q)) d line shape g f un calm quiet p = inr (ran_from (Asked q) d line shape g f p quiet)
+trace_exact (Ran (FixedStep n at end)) d line shape g f un calm quiet p = inr (ran_from (FixedStep n at end) d line shape g f p quiet)
+trace_exact (Ran (Bad c why)) d line shape g f un calm quiet p = inr (ran_from (Bad c why) d line shape g f p quiet)
+trace_exact (Ran WriteFault) d line shape g f un calm quiet p = inr (ran_from WriteFault d line shape g f p quiet)
 
 good_at : (shape : Shape) (e : Exchange) (call : Call) (reply : Reply) → e.call ≡ call → e.result ≡ Ok reply → T.IsGood shape e → grade_of shape call reply ≡ G.Good
 good_at shape e call reply c r good =
@@ -663,9 +687,9 @@ told_talk shape end o talk e h = subst (λ (x : Option (List Exchange)). IfSome 
 answered_by : (why : Why) (d : Command) → PutsLine (why_line why) (why_status why) d → Answers d (why_status why) (why_line why)
 answered_by why d p = answers (why_line why) (why_status why) d p
 
-decided : (end : RunEnd) (d : Command) (line : Line) (start : ℤ) → HasRun line start end d.old d.new → HasPut (Ran end) d → (v : View) (talk : List Exchange) (why : Why) →
+decided : (end : RunEnd) (d : Command) (line : Line) (shape : Shape) → HasRun line shape end d.old d.new → HasPut (Ran end) d → (v : View) (talk : List Exchange) (why : Why) →
     TellsPeer d v talk → IsFirstBadOf v.fixed.shape why talk → Answers d (why_status why) (why_line why)
-decided end d line start h p v talk why told f =
+decided end d line shape h p v talk why told f =
     let same : h.v ≡ v = told_view d.old.retired d.new.retired told.before v h.v h.peer.retired told.retired in
     let tells : TellsEnd end v = subst (TellsEnd end) same h.tells in
     let t : TellsTalk v.fixed.shape end talk = told_talk v.fixed.shape end v.talk talk told.talk_is tells.talk in
@@ -698,8 +722,8 @@ decides (Missing t) d (inl r) p v talk why told f = not_started d.old.started d.
 decides (Missing t) d (inr w) p v talk why told f = absurd w.why
 decides (TooBig t) d (inl r) p v talk why told f = not_started d.old.started d.new.started r.facts.0.0.started told.started
 decides (TooBig t) d (inr w) p v talk why told f = absurd w.why
-decides (OtherForm t) d (inl r) p v talk why told f = not_started d.old.started d.new.started r.facts.0.0.started told.started
-decides (OtherForm t) d (inr w) p v talk why told f = absurd w.why
+decides (Broken t) d (inl r) p v talk why told f = not_started d.old.started d.new.started r.facts.0.0.started told.started
+decides (Broken t) d (inr w) p v talk why told f = absurd w.why
 decides StartFailed d (inl r) p v talk why told f = not_started d.old.started d.new.started r.facts.2.0.started told.started
 decides StartFailed d (inr w) p v talk why told f = absurd w.why
 decides Unknown d (inl r) p v talk why told f = not_started d.old.started d.new.started r.facts.2.0.0.started told.started
@@ -721,8 +745,8 @@ peer_case (Missing t) d (inl r) = inl r.facts.0.0
 peer_case (Missing t) d (inr w) = absurd w.why
 peer_case (TooBig t) d (inl r) = inl r.facts.0.0
 peer_case (TooBig t) d (inr w) = absurd w.why
-peer_case (OtherForm t) d (inl r) = inl r.facts.0.0
-peer_case (OtherForm t) d (inr w) = absurd w.why
+peer_case (Broken t) d (inl r) = inl r.facts.0.0
+peer_case (Broken t) d (inr w) = absurd w.why
 peer_case StartFailed d (inl r) = inl r.facts.2.0
 peer_case StartFailed d (inr w) = absurd w.why
 peer_case Unknown d (inl r) = inl r.facts.2.0.0
@@ -745,16 +769,16 @@ file_row o d f p = record {
   big = λ line is finds. big_exact o d line (of_line o d f line is) finds p;
 }
 
-pub form_row : (o : Outcome) (d : Command) → HasFacts o d → HasPut o d → FormRow d
-form_row o d f p = record {
-  when = λ e. let s = said (outcome_line o) (outcome_status o) 4 d p e refl in form_case o d f s.0 s.1;
-  exact = λ line is finds. form_exact o d line (of_line o d f line is) finds p;
+pub rule_row : (o : Outcome) (d : Command) → HasFacts o d → HasPut o d → RuleRow d
+rule_row o d f p = record {
+  when = λ e. let s = said (outcome_line o) (outcome_status o) 4 d p e refl in rule_case o d f s.0 s.1;
+  exact = λ line rule place is finds. rule_exact o d line rule place (of_line o d f line is) finds p;
 }
 
 pub link_row : (o : Outcome) (d : Command) → HasFacts o d → HasPut o d → LinkRow d
 link_row o d f p = record {
   when = λ e. let s = said (outcome_line o) (outcome_status o) 5 d p e refl in link_case o d f s.0 s.1;
-  unknown = λ line start is finds un calm. unknown_exact o d line start (of_line o d f line is) finds un calm p;
+  unknown = λ line shape is finds un calm. unknown_exact o d line shape (of_line o d f line is) finds un calm p;
   lost = λ v talk why k told first. decides o d f p v talk why told first;
 }
 
@@ -782,7 +806,7 @@ known_case Words = inr (inl (omega arith, omega arith))
 known_case (ReadFailed t) = inr (inl (omega arith, omega arith))
 known_case (Missing t) = inr (inl (omega arith, omega arith))
 known_case (TooBig t) = inr (inl (omega arith, omega arith))
-known_case (OtherForm t) = inr (inl (omega arith, omega arith))
+known_case (Broken t) = inr (inl (omega arith, omega arith))
 known_case StartFailed = inr (inl (omega arith, omega arith))
 known_case Unknown = inr (inl (omega arith, omega arith))
 known_case Memory = inr (inr (inr (inr refl)))
@@ -806,7 +830,7 @@ write_says Words d e says = different 2 10 refl e
 write_says (ReadFailed t) d e says = different 3 10 refl e
 write_says (Missing t) d e says = different 3 10 refl e
 write_says (TooBig t) d e says = different 3 10 refl e
-write_says (OtherForm t) d e says = different 4 10 refl e
+write_says (Broken t) d e says = different 4 10 refl e
 write_says StartFailed d e says = different 5 10 refl e
 write_says Unknown d e says = different 5 10 refl e
 write_says Memory d e says = different 11 10 refl e
@@ -841,7 +865,7 @@ end_row o d f p = record {
 
 pub trace_row : (o : Outcome) (d : Command) → HasFacts o d → HasPut o d → TraceRow d
 trace_row o d f p = record {
-  when = λ line start is finds un calm quiet. trace_exact o d line start (of_line o d f line is) finds un calm quiet p;
+  when = λ line shape is finds un calm quiet. trace_exact o d line shape (of_line o d f line is) finds un calm quiet p;
 }
 
 pub peer_row : (o : Outcome) (d : Command) → HasFacts o d → HasPut o d → PeerRow d

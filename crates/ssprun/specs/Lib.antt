@@ -4,5 +4,6 @@ pub mod Line
 pub mod Facts
 pub mod Lines
 pub mod Prepared
+pub mod Refusing
 pub mod Reading
 pub mod Rows

@@ -13,7 +13,7 @@ use Rattle.fmu_peer.specs.declared.ended.Why.TheVariants.{Refused, Misreply, Lin
 use Rattle.step_master.specs.declared.run_end.RunEnd.{RunEnd}
 use Rattle.step_master.specs.declared.run_end.RunEnd.TheVariants.{Stop, Asked, FixedStep, Bad, WriteFault}
 use Rattle.ssprun.specs.declared.outcome.Outcome.{Outcome}
-use Rattle.ssprun.specs.declared.outcome.Outcome.TheVariants.{Words, ReadFailed, Missing, TooBig, OtherForm, StartFailed, Unknown, Memory, Ran}
+use Rattle.ssprun.specs.declared.outcome.Outcome.TheVariants.{Words, ReadFailed, Missing, TooBig, Broken, StartFailed, Unknown, Memory, Ran}
 use Rattle.ssprun.specs.Frame.{reply_frame}
 
 -- a call's name in FMI 3.0, without the prefix fmi3 and the word Mode
@@ -58,8 +58,9 @@ missing_line file = codes "missing " ++ file ++ codes "\n"
 unfoldable pub big_line : List ℕ → List ℕ
 big_line file = codes "big " ++ file ++ codes "\n"
 
-unfoldable pub refused_line : List ℕ → List ℕ
-refused_line file = codes "refused 29 " ++ file ++ codes " /fmiModelDescription[1]\n"
+-- the line of a file that breaks a rule first at a place
+unfoldable pub refused_line : List ℕ → ℕ → List ℕ → List ℕ
+refused_line file rule place = codes "refused " ++ decimal rule ++ codes " " ++ file ++ codes " " ++ place ++ codes "\n"
 
 -- the line of a step that an FMU can't make, from a point to an end
 abbrev pub fixed_line : ℕ → ℕ → List ℕ
@@ -85,7 +86,7 @@ outcome_line Words = codes "words\n"
 outcome_line (ReadFailed line) = line
 outcome_line (Missing line) = line
 outcome_line (TooBig line) = line
-outcome_line (OtherForm line) = line
+outcome_line (Broken line) = line
 outcome_line StartFailed = codes "link fmu start\n"
 outcome_line Unknown = codes "unknown fmu\n"
 outcome_line Memory = codes "memory\n"
@@ -96,7 +97,7 @@ outcome_status Words = 2
 outcome_status (ReadFailed line) = 3
 outcome_status (Missing line) = 3
 outcome_status (TooBig line) = 3
-outcome_status (OtherForm line) = 4
+outcome_status (Broken line) = 4
 outcome_status StartFailed = 5
 outcome_status Unknown = 5
 outcome_status Memory = 11

@@ -14,14 +14,6 @@ ReadsWithin left limit (Err Missing) = ⊥
 ReadsWithin left limit (Err Failed) = Unit {0}
 ReadsWithin left limit (Err Memory) = Unit {0}
 
--- whatever is left: no more than the limit, and too big is more
-abbrev pub KeepsLimit : ℕ → Result (Vec ℕ Global) ReadFault → Type 0
-KeepsLimit limit (Ok bytes) = length bytes.items ≤ limit
-KeepsLimit limit (Err (TooBig n)) = limit < n
-KeepsLimit limit (Err Missing) = Unit {0}
-KeepsLimit limit (Err Failed) = Unit {0}
-KeepsLimit limit (Err Memory) = Unit {0}
-
 -- why a file wasn't opened
 abbrev pub unopened : ErrorKind → ReadFault
 unopened NotFound = Missing

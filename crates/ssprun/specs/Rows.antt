@@ -1,5 +1,5 @@
 -- When each status comes, and what stands then.
-use Rattle.std.specs.Prelude.{◌≡◌, ◌⊎◌, ℕ, ℤ, ◌+◌, ◌<◌, ◌≤◌, true, false, List, [], ◌∷◌, ◌++◌, Option, Some, None, IsSomeAnd, codes}
+use Rattle.std.specs.Prelude.{◌≡◌, ◌⊎◌, ℕ, ◌+◌, ◌<◌, ◌≤◌, true, false, List, [], ◌∷◌, ◌++◌, Option, Some, None, IsSomeAnd, codes}
 use Rattle.sim_base.specs.Causes.{Rose}
 use Rattle.sim_base.specs.Told.{added, AddsPart}
 use Rattle.value_types.specs.declared.shape.Shape.{Shape}
@@ -28,9 +28,10 @@ use Rattle.step_master.specs.declared.run_end.RunEnd.{RunEnd}
 use Rattle.step_master.specs.declared.run_end.RunEnd.TheVariants.{FixedStep, Bad}
 use Rattle.sim_base.specs.declared.numbers.CompId.{CompId}
 use Rattle.command_line.specs.Line.{Line, IsLine}
-use Rattle.ssprun.specs.System.{counter_system, description_path}
+use Rattle.single_fmu.specs.System.{system_of}
+use Rattle.ssprun.specs.System.{description_path}
 use Rattle.ssprun.specs.Line.{read_line, missing_line, big_line, refused_line, why_line, why_status, fixed_line}
-use Rattle.ssprun.specs.Facts.{Stage, Shelf, Idle, Calm, RunsPeer, HasRun, file_of, AtPath, IsTooBig, IsOther, IsCounter}
+use Rattle.ssprun.specs.Facts.{Stage, Shelf, Idle, Calm, RunsPeer, HasRun, file_of, AtPath, IsTooBig, GivesShape, BreaksRule, IsShape, IsBroken}
 
 -- a call of the program: its words, what is told before and after it, its status, and what err tells with its counts of faults
 pub record Command : Type 0 where
@@ -98,23 +99,25 @@ pub record FileRow (d : Command) : Type 0 where
   pub missing : (line : Line) → IsLine d.words line → Finds d line (λ file. file ≡ None) → AnswersOr11 d 3 (missing_line (file_of line))
   pub big : (line : Line) → IsLine d.words line → Finds d line IsTooBig → AnswersOr11 d 3 (big_line (file_of line))
 
--- 4: exactly where the file is of another form
-pub record FormRow (d : Command) : Type 0 where
-  pub when : d.status ≡ 4 → (line : Line) × IsLine d.words line × Calm d.old d.new × AtPath line d.folder IsOther × Says d (refused_line (file_of line))
-  pub exact : (line : Line) → IsLine d.words line → Finds d line IsOther → AnswersOr11 d 4 (refused_line (file_of line))
+-- 4: exactly where the file breaks a rule, the first of which and its place are told
+pub record RuleRow (d : Command) : Type 0 where
+  pub when : d.status ≡ 4 → (line : Line) × IsLine d.words line × Calm d.old d.new
+      × (rule : ℕ) × (place : List ℕ) × AtPath line d.folder (IsBroken line rule place) × Says d (refused_line (file_of line) rule place)
+  pub exact : (line : Line) (rule : ℕ) (place : List ℕ) → IsLine d.words line → Finds d line (BreaksRule line rule place) →
+      AnswersOr11 d 4 (refused_line (file_of line) rule place)
 
 -- the run that ended by the first answer that isn't good, with its line
-abbrev pub EndsBy : Command → Line → ℤ → Why → Type 0
-EndsBy d line start why = Says d (why_line why) × (component : CompId) × HasRun line start (Bad component why) d.old d.new
+abbrev pub EndsBy : Command → Line → Shape → Why → Type 0
+EndsBy d line shape why = Says d (why_line why) × (component : CompId) × HasRun line shape (Bad component why) d.old d.new
 
 abbrev pub StartFails : Command → Type 0
 StartFails d = Says d (codes "link fmu start\n") × Idle d.old d.new × Rose d.old.starts d.new.starts
 
-abbrev pub IsUnknown : Command → Type 0
-IsUnknown d = Says d (codes "unknown fmu\n") × Calm d.old d.new × (d.old.knows (codes "counter") ≡ false)
+abbrev pub IsUnknown : Command → Shape → Type 0
+IsUnknown d shape = Says d (codes "unknown fmu\n") × Calm d.old d.new × (d.old.knows shape.identifier ≡ false)
 
-abbrev pub LosesLink : Command → Line → ℤ → Type 0
-LosesLink d line start = (call : Call) × (fault : PeerFault) × EndsBy d line start (Link call fault)
+abbrev pub LosesLink : Command → Line → Shape → Type 0
+LosesLink d line shape = (call : Call) × (fault : PeerFault) × EndsBy d line shape (Link call fault)
 
 -- why is the first answer of the run that isn't good: the calls before it got good ones, and its own is none of the closing's
 pub record IsFirstBadOf (shape : Shape) (why : Why) (talk : List Exchange) : Type 0 where
@@ -155,27 +158,27 @@ IsMisreply (Link call fault) = ⊥
 
 -- 5: `link` only where the spawner's count or the peer's rose, `unknown` exactly where the spawner doesn't know the identifier
 pub record LinkRow (d : Command) : Type 0 where
-  pub when : d.status ≡ 5 → (line : Line) × IsLine d.words line × (start : ℤ) × AtPath line d.folder (IsCounter start) × (StartFails d ⊎ (IsUnknown d ⊎ LosesLink d line start))
-  pub unknown : (line : Line) (start : ℤ) → IsLine d.words line → Finds d line (IsCounter start) → d.old.knows (codes "counter") ≡ false →
+  pub when : d.status ≡ 5 → (line : Line) × IsLine d.words line × (shape : Shape) × AtPath line d.folder (IsShape line shape) × (StartFails d ⊎ (IsUnknown d shape ⊎ LosesLink d line shape))
+  pub unknown : (line : Line) (shape : Shape) → IsLine d.words line → Finds d line (GivesShape line shape) → d.old.knows shape.identifier ≡ false →
       (Rose d.old.starts d.new.starts → ⊥) → AnswersOr11 d 5 (codes "unknown fmu\n")
   pub lost : DecidesBy d IsLinkWhy
 
 -- 6: exactly where the first answer that isn't good is a refusal
 pub record RefusalRow (d : Command) : Type 0 where
-  pub when : d.status ≡ 6 → (line : Line) × IsLine d.words line × (start : ℤ) × AtPath line d.folder (IsCounter start)
-      × (call : Call) × (status : BadStatus) × EndsBy d line start (Refused call status)
+  pub when : d.status ≡ 6 → (line : Line) × IsLine d.words line × (shape : Shape) × AtPath line d.folder (IsShape line shape)
+      × (call : Call) × (status : BadStatus) × EndsBy d line shape (Refused call status)
   pub exact : DecidesBy d IsRefusal
 
 -- 7: exactly where the first answer that isn't good is a misreply
 pub record MisreplyRow (d : Command) : Type 0 where
-  pub when : d.status ≡ 7 → (line : Line) × IsLine d.words line × (start : ℤ) × AtPath line d.folder (IsCounter start)
-      × (call : Call) × (reply : Reply) × EndsBy d line start (Misreply call reply)
+  pub when : d.status ≡ 7 → (line : Line) × IsLine d.words line × (shape : Shape) × AtPath line d.folder (IsShape line shape)
+      × (call : Call) × (reply : Reply) × EndsBy d line shape (Misreply call reply)
   pub exact : DecidesBy d IsMisreply
 
 -- 9: the run ended before a step whose size the FMU can't take, and with its line
 pub record FixedRow (d : Command) : Type 0 where
-  pub when : d.status ≡ 9 → (line : Line) × IsLine d.words line × (start : ℤ) × AtPath line d.folder (IsCounter start)
-      × (component : CompId) × (at : ℕ) × (end : ℕ) × Says d (fixed_line at end) × HasRun line start (FixedStep component at end) d.old d.new
+  pub when : d.status ≡ 9 → (line : Line) × IsLine d.words line × (shape : Shape) × AtPath line d.folder (IsShape line shape)
+      × (component : CompId) × (at : ℕ) × (end : ℕ) × Says d (fixed_line at end) × HasRun line shape (FixedStep component at end) d.old d.new
 
 -- 10: only where a sink's count rose, and always where one is higher than before
 pub record WriteRow (d : Command) : Type 0 where
@@ -202,8 +205,8 @@ pub record MemoryRow (d : Command) : Type 0 where
 
 -- 0: the run came to its end, and err holds what it held
 pub record EndRow (d : Command) : Type 0 where
-  pub when : d.status ≡ 0 → (line : Line) × IsLine d.words line × (start : ℤ) × AtPath line d.folder (IsCounter start)
-      × (end : RunEnd) × (is_finished end ≡ true) × HasRun line start end d.old d.new × (d.after ≡ d.before) × (d.errs_after ≡ d.errs)
+  pub when : d.status ≡ 0 → (line : Line) × IsLine d.words line × (shape : Shape) × AtPath line d.folder (IsShape line shape)
+      × (end : RunEnd) × (is_finished end ≡ true) × HasRun line shape end d.old d.new × (d.after ≡ d.before) × (d.errs_after ≡ d.errs)
 
 -- status and line of a trace's end: 9 with its line where a step begins that the FMU can't make, else 0
 abbrev pub ReportsEnd : Command → Plan → EndKind → ℕ → Type 0
@@ -219,19 +222,19 @@ WritesTrace d r = (is : List Instant) × (kind : EndKind) × (point : ℕ) × Is
     ⊎ ((d.status ≡ 10) × Rose d.old.outs d.new.outs × AddsPart d.old.out d.new.out (trace_text r.system r.plan is kind point)))
 
 -- the peer that was started, and the trace where it tells a machine that answers well and no call of it failed
-abbrev pub Traces : Command → Line → ℤ → Type 0
-Traces d line start = (v : View) × RunsPeer line start d.old d.new v
-    × ((m : Machine) → v.fixed.machine ≡ Some m → WellBehaved (run_of (counter_system line.plan.resolution start) line.plan m) → v.faults ≡ 0 →
-    WritesTrace d (run_of (counter_system line.plan.resolution start) line.plan m))
+abbrev pub Traces : Command → Line → Shape → Type 0
+Traces d line shape = (v : View) × RunsPeer line shape d.old d.new v
+    × ((m : Machine) → v.fixed.machine ≡ Some m → WellBehaved (run_of (system_of shape) line.plan m) → v.faults ≡ 0 →
+    WritesTrace d (run_of (system_of shape) line.plan m))
 
--- the trace: where the file is a description, the identifier is known, and no read, start or put on err failed, or for want of memory nothing
+-- the trace: where the file is taken, the identifier is known, and no read, start or put on err failed, or for want of memory nothing
 pub record TraceRow (d : Command) : Type 0 where
-  pub when : (line : Line) (start : ℤ) → IsLine d.words line → Finds d line (IsCounter start) → d.old.knows (codes "counter") ≡ true →
-      (Rose d.old.starts d.new.starts → ⊥) → (Rose d.errs d.errs_after → ⊥) → ((d.status ≡ 11) × Calm d.old d.new) ⊎ Traces d line start
+  pub when : (line : Line) (shape : Shape) → IsLine d.words line → Finds d line (GivesShape line shape) → d.old.knows shape.identifier ≡ true →
+      (Rose d.old.starts d.new.starts → ⊥) → (Rose d.errs d.errs_after → ⊥) → ((d.status ≡ 11) × Calm d.old d.new) ⊎ Traces d line shape
 
 -- one peer was started and taken back, with a talk that is legal, lean and closed
 abbrev pub UsesPeer : Command → Type 0
-UsesPeer d = (line : Line) × IsLine d.words line × (start : ℤ) × (end : RunEnd) × HasRun line start end d.old d.new
+UsesPeer d = (line : Line) × IsLine d.words line × (shape : Shape) × (end : RunEnd) × HasRun line shape end d.old d.new
 
 -- each peer that was started was taken back once
 abbrev pub PeerRow : Command → Type 0

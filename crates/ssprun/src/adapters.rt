@@ -1,8 +1,8 @@
 ghost use Rattle.std.specs.Prelude.{◌≡◌, ◌+◌, ◌-◌, ◌^◌, ◌<◌, ◌≤◌, min, take, length, List, ℕ, Option, Some, None, Ok, Err, IfOk, IfErr, IfSome, OnOk, OnErr, is_some, refl};
 ghost use Rattle.std.specs.IoError.{error_kind};
-ghost use Rattle.sim_base.specs.Folder.{HasReadCause, Reads};
+ghost use Rattle.sim_base.specs.Folder.{HasReadCause, KeepsLimit, Reads};
 ghost use Rattle.sim_base.specs.Told.{added, AddsPart};
-ghost use Rattle.ssprun.specs.Reading.{KeepsLimit, ReadsWithin, unopened, unread};
+ghost use Rattle.ssprun.specs.Reading.{ReadsWithin, unopened, unread};
 
 #[cfg(test)]
 mod tests;
@@ -35,7 +35,7 @@ impl<'a, R: Files> Folder for HostFolder<'a, R> {
     ghost faults = { λ f. f.faults };
 
     fn read(&mut self, alloc: Global, path: &str, limit: u64) -> Result<Vec<u8>, ReadFault>
-        ensures bound { KeepsLimit limit result }
+        ensures within { KeepsLimit limit result }
         ensures cause { HasReadCause self.old.faults self.new.faults result }
     {
         let result = read_file(self.runtime, alloc, path, limit);

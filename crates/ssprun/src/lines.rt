@@ -2,20 +2,22 @@ ghost use Rattle.std.specs.Prelude.{◌≡◌, ◌++◌, IfOk};
 ghost use Rattle.sim_base.specs.Escape.{escaped};
 ghost use Rattle.ssprun.specs.Line.{read_line, missing_line, big_line, refused_line};
 
-use sim_base::{Items, escape};
+use crate::outcome::Outcome;
+use itoa::Buffer;
+use sim_base::{Items, ReadFault, escape};
 use std::alloc::{AllocError, Global};
 
-/// The lines on the error sink that name the description's file, made before it is read.
+/// The lines on the error sink that name the description's file, made before it is read, and the name as they have it.
 #[derive(Drop)]
 pub(crate) struct FileLines {
     pub read: Items<u8>,
     pub missing: Items<u8>,
     pub big: Items<u8>,
-    pub refused: Items<u8>,
+    pub name: Items<u8>,
 }
 
 impl FileLines {
-    ghost use Rattle.ssprun.specs.Lines.{NamesFile};
+    ghost use Rattle.ssprun.specs.Lines.{NamesFile, unread_outcome};
 
     /// The lines of the file at a path.
     pub fn new(alloc: Global, path: &str) -> Result<FileLines, AllocError>
@@ -27,8 +29,20 @@ impl FileLines {
             read: read_line(alloc, name)?,
             missing: missing_line(alloc, name)?,
             big: big_line(alloc, name)?,
-            refused: refused_line(alloc, name)?,
+            name: Items::from_vec(file),
         })
+    }
+
+    /// The outcome of a read of the file that didn't answer it.
+    pub fn into_outcome(self, fault: ReadFault) -> Outcome
+        ensures { result ≡ unread_outcome self fault }
+    {
+        match fault {
+            ReadFault::Failed => Outcome::ReadFailed { line: self.read },
+            ReadFault::Missing => Outcome::Missing { line: self.missing },
+            ReadFault::TooBig { .. } => Outcome::TooBig { line: self.big },
+            ReadFault::Memory => Outcome::Memory,
+        }
     }
 }
 
@@ -53,11 +67,24 @@ fn big_line(alloc: Global, file: &[u8]) -> Result<Items<u8>, AllocError>
     joined(alloc, b"big ", file, b"\n")
 }
 
+/// The line of a file that breaks a rule first at a place.
 #[tactic(auto, unfolding(crate::specs::Line::refused_line))]
-fn refused_line(alloc: Global, file: &[u8]) -> Result<Items<u8>, AllocError>
-    ensures { IfOk result (λ line. line ≡ refused_line file.now) }
+pub(crate) fn refused_line(
+    alloc: Global,
+    file: &[u8],
+    rule: u32,
+    place: &str,
+) -> Result<Items<u8>, AllocError>
+    ensures { IfOk result (λ line. line ≡ refused_line file.now rule place.now) }
 {
-    joined(alloc, b"refused 29 ", file, b" /fmiModelDescription[1]\n")
+    let mut line = Vec::from_slice(alloc, b"refused ")?;
+    line.extend_from_slice(Buffer::new().format(rule).as_bytes())?;
+    line.extend_from_slice(b" ")?;
+    line.extend_from_slice(file)?;
+    line.extend_from_slice(b" ")?;
+    line.extend_from_slice(place.as_bytes())?;
+    line.extend_from_slice(b"\n")?;
+    Ok(Items::from_vec(line))
 }
 
 fn escaped_name(alloc: Global, name: &str) -> Result<Vec<u8>, AllocError>

@@ -12,8 +12,8 @@ pub(crate) enum Outcome {
     Missing { line: Items<u8> },
     /// The description is longer than a file may be.
     TooBig { line: Items<u8> },
-    /// The description isn't of the form that is read so far.
-    OtherForm { line: Items<u8> },
+    /// The description breaks a rule.
+    Broken { line: Items<u8> },
     /// The start of the peer failed.
     StartFailed,
     /// The model identifier isn't known.

@@ -19,7 +19,7 @@ pub(crate) fn report<E: Sink>(outcome: &Outcome, err: &mut E) -> u8
         Outcome::ReadFailed { line } | Outcome::Missing { line } | Outcome::TooBig { line } => {
             put_line(line.as_slice(), 3, err)
         }
-        Outcome::OtherForm { line } => put_line(line.as_slice(), 4, err),
+        Outcome::Broken { line } => put_line(line.as_slice(), 4, err),
         Outcome::StartFailed => put_line(b"link fmu start\n", 5, err),
         Outcome::Unknown => put_line(b"unknown fmu\n", 5, err),
         Outcome::Memory => put_line(b"memory\n", 11, err),

@@ -1,28 +1,30 @@
-ghost use Rattle.std.specs.Prelude.{◌≡◌, ◌+◌, ◌<◌, true, List, IfOk, IfSome, length, ℤ, ℕ, codes, string_bytes};
+ghost use Rattle.std.specs.Prelude.{◌≡◌, ◌+◌, ◌<◌, true, List, IfOk, IfSome, length, ◌≤◌, ◌^◌, ℕ, codes, string_bytes};
 ghost use Rattle.command_line.specs.Line.{IsWithin, line_of, texts};
 ghost use Rattle.fmu_peer.specs.Start.{IsStarted};
-ghost use Rattle.counter_form.specs.Counter.{counter_shape};
-ghost use Rattle.ssprun.specs.System.{counter_system, description_path};
-ghost use Rattle.ssprun.specs.Facts.{Facts, LineFacts, StartFacts, shelf, stage};
-ghost use Rattle.ssprun.specs.Rows.{EndRow, FileRow, FixedRow, FormRow, LinkRow, MemoryRow, MisreplyRow, PeerRow, RefusalRow, StatusRow, TraceRow, WordsRow, WriteRow, command};
+ghost use Rattle.single_fmu.specs.System.{system_of};
+ghost use Rattle.step_master.specs.Alone.{IsAlone};
+ghost use Rattle.ssprun.specs.System.{description_path};
+ghost use Rattle.ssprun.specs.Facts.{BytesFacts, Facts, LineFacts, StartFacts, file_of, shelf, stage};
+ghost use Rattle.ssprun.specs.Rows.{EndRow, FileRow, FixedRow, RuleRow, LinkRow, MemoryRow, MisreplyRow, PeerRow, RefusalRow, StatusRow, TraceRow, WordsRow, WriteRow, command};
 ghost use Rattle.run_model.specs.declared.plan.EndKind.{EndKind};
 ghost use Rattle.run_model.specs.Text.{Instant};
 ghost use Rattle.run_model.specs.Trace.{IsTrace, Run};
 ghost use Rattle.ssprun.specs.Lines.{NamesFile};
 ghost use Rattle.ssprun.specs.Prepared.{IsPrepared};
+ghost use Rattle.ssprun.specs.Refusing.{IsRefusal};
 
-use crate::lines::FileLines;
+use crate::lines::{FileLines, refused_line};
 use crate::outcome::Outcome;
 use crate::report::report;
 use command_line::{Options, WordsFault, read_words};
-use counter_form::{make_shape, read_form};
 use fmu_peer::{Peer, Spawner, StartFault};
-use run_model::{Component, Port, System, one_trace};
-use sim_base::{CompId, Folder, Items, MOST_FILE_BYTES, ReadFault, Sink, Text};
+use run_model::{System, one_trace};
+use sim_base::{Folder, MOST_FILE_BYTES, Sink};
+use single_fmu::{Fault, make_system, read_shape, taken_laws};
 use std::alloc::{AllocError, Global};
 use std::thread::Threads;
 use step_master::{Finished, Room, run_alone};
-use value_types::{PortType, Shape};
+use value_types::Shape;
 
 /// Does what the words of a command line say, and answers the program's status.
 ///
@@ -50,7 +52,7 @@ pub fn run_words<R: Threads + Sync, F: Folder, S: Spawner, O: Sink, E: Sink>(
         (stage (S.started spawner.old) (S.retired spawner.old) (S.knows spawner.old) (S.faults spawner.old) (O.content out.old) (O.faults out.old))
         (stage (S.started spawner.new) (S.retired spawner.new) (S.knows spawner.new) (S.faults spawner.new) (O.content out.new) (O.faults out.new))
         result (E.content err.old) (E.content err.new) (E.faults err.old) (E.faults err.new)) }
-    ensures form { FormRow (command (texts words.now) (shelf (F.files folder.old) (F.faults folder.old) (F.faults folder.new))
+    ensures rule { RuleRow (command (texts words.now) (shelf (F.files folder.old) (F.faults folder.old) (F.faults folder.new))
         (stage (S.started spawner.old) (S.retired spawner.old) (S.knows spawner.old) (S.faults spawner.old) (O.content out.old) (O.faults out.old))
         (stage (S.started spawner.new) (S.retired spawner.new) (S.knows spawner.new) (S.faults spawner.new) (O.content out.new) (O.faults out.new))
         result (E.content err.old) (E.content err.new) (E.faults err.old) (E.faults err.new)) }
@@ -132,21 +134,46 @@ fn run_options<F: Folder, S: Spawner, O: Sink>(
     let Ok((path, lines)) = name_file(alloc, options.directory) else {
         return Outcome::Memory;
     };
-    let bytes = match folder.read(alloc, path.as_str(), MOST_FILE_BYTES) {
-        Ok(bytes) => bytes,
-        Err(ReadFault::Failed) => return Outcome::ReadFailed { line: lines.read },
-        Err(ReadFault::Missing) => return Outcome::Missing {
-            line: lines.missing,
+    match folder.read(alloc, path.as_str(), MOST_FILE_BYTES) {
+        Ok(bytes) => run_bytes(alloc, options, lines.name.as_slice(), &bytes, spawner, out),
+        Err(fault) => lines.into_outcome(fault),
+    }
+}
+
+// Runs the FMU whose description the bytes are. The name is that of their file, as a line has it.
+fn run_bytes<S: Spawner, O: Sink>(
+    alloc: Global,
+    options: &Options<'_>,
+    name: &[u8],
+    bytes: &[u8],
+    spawner: &mut S,
+    out: &mut O,
+) -> Outcome
+    requires within { IsWithin (line_of options.now) }
+    requires name { name.now ≡ file_of (line_of options.now) }
+    requires short { length bytes.now ≤ 2 ^ 24 }
+    ensures { BytesFacts result (line_of options.now) bytes.now
+        (stage (S.started spawner.old) (S.retired spawner.old) (S.knows spawner.old) (S.faults spawner.old) (O.content out.old) (O.faults out.old))
+        (stage (S.started spawner.new) (S.retired spawner.new) (S.knows spawner.new) (S.faults spawner.new) (O.content out.new) (O.faults out.new)) }
+{
+    taken_laws();
+    match read_shape(alloc, bytes, options.plan.resolution) {
+        Ok(shape) => run_shape(alloc, options, shape, spawner, out),
+        Err(fault) => refuse(alloc, name, fault),
+    }
+}
+
+// The outcome of a file that is at fault.
+fn refuse(alloc: Global, file: &[u8], fault: Fault) -> Outcome
+    ensures { IsRefusal file.now fault result }
+{
+    match fault {
+        Fault::Broken { rule, place } => match refused_line(alloc, file, rule, &place) {
+            Ok(line) => Outcome::Broken { line },
+            Err(_) => Outcome::Memory,
         },
-        Err(ReadFault::TooBig { .. }) => return Outcome::TooBig { line: lines.big },
-        Err(ReadFault::Memory) => return Outcome::Memory,
-    };
-    let Some(start) = read_form(&bytes) else {
-        return Outcome::OtherForm {
-            line: lines.refused,
-        };
-    };
-    run_counter(alloc, options, start, spawner, out)
+        Fault::Memory => Outcome::Memory,
+    }
 }
 
 // The path of the description, and the lines that name it.
@@ -176,11 +203,10 @@ struct Prepared {
 }
 
 // All the memory of the run.
-fn prepare(alloc: Global, resolution: u64, start: i128) -> Result<Prepared, AllocError>
-    ensures { IfOk result (IsPrepared resolution start) }
+fn prepare(alloc: Global, shape: Shape) -> Result<Prepared, AllocError>
+    ensures { IfOk result (IsPrepared shape) }
 {
-    let shape = make_shape(alloc, resolution, start)?;
-    let system = counter_system(alloc, shape.copy(alloc)?)?;
+    let system = make_system(alloc, &shape)?;
     let room = Room::new(alloc, &system)?;
     Ok(Prepared {
         shape,
@@ -189,42 +215,25 @@ fn prepare(alloc: Global, resolution: u64, start: i128) -> Result<Prepared, Allo
     })
 }
 
-fn counter_system(alloc: Global, shape: Shape) -> Result<System, AllocError>
-    ensures { (resolution : ℕ) (start : ℤ) → shape ≡ counter_shape resolution start → IfOk result (λ s. s ≡ counter_system resolution start) }
-{
-    let component = Component {
-        name: Text::from_str(alloc, "fmu")?,
-        shape,
-    };
-    let port = Port {
-        component: CompId(0),
-        name: Text::from_str(alloc, "y")?,
-        kind: PortType::Int32,
-        reference: 2,
-    };
-    Ok(System {
-        components: Items::from_vec(vec![in alloc; component]?),
-        ports: Items::from_vec(vec![in alloc; port]?),
-    })
-}
-
-fn run_counter<S: Spawner, O: Sink>(
+fn run_shape<S: Spawner, O: Sink>(
     alloc: Global,
     options: &Options<'_>,
-    start: i128,
+    shape: Shape,
     spawner: &mut S,
     out: &mut O,
 ) -> Outcome
-    requires { IsWithin (line_of options.now) }
-    ensures { StartFacts result (line_of options.now) start
+    requires within { IsWithin (line_of options.now) }
+    requires alone { IsAlone shape (system_of shape) }
+    requires token { length shape.token ≤ 2 ^ 24 }
+    ensures { StartFacts result (line_of options.now) shape
         (stage (S.started spawner.old) (S.retired spawner.old) (S.knows spawner.old) (S.faults spawner.old) (O.content out.old) (O.faults out.old))
         (stage (S.started spawner.new) (S.retired spawner.new) (S.knows spawner.new) (S.faults spawner.new) (O.content out.new) (O.faults out.new)) }
 {
-    let Ok(mut prepared) = prepare(alloc, options.plan.resolution, start) else {
+    let Ok(mut prepared) = prepare(alloc, shape) else {
         return Outcome::Memory;
     };
     match spawner.start(alloc, "builtin", "fmu", options.directory, &prepared.shape) {
-        Ok(peer) => run_peer(peer, options, start, &mut prepared, spawner, out),
+        Ok(peer) => run_peer(peer, options, &mut prepared, spawner, out),
         Err(StartFault::Failed) => Outcome::StartFailed,
         Err(StartFault::Unknown) => Outcome::Unknown,
         Err(StartFault::Memory) => Outcome::Memory,
@@ -235,17 +244,17 @@ fn run_counter<S: Spawner, O: Sink>(
 fn run_peer<S: Spawner, O: Sink>(
     peer: S::Link,
     options: &Options<'_>,
-    _start: i128,
     prepared: &mut Prepared,
     spawner: &mut S,
     out: &mut O,
 ) -> Outcome
     requires within { IsWithin (line_of options.now) }
-    requires prepared { IsPrepared options.now.plan.resolution _start prepared.old }
-    requires peer { IsStarted (codes "builtin") (codes "fmu") options.now.directory.now (counter_shape options.now.plan.resolution _start) (S.Link.view peer) }
-    requires known { S.knows spawner.old (codes "counter") ≡ true }
+    requires prepared { IsPrepared prepared.old.shape prepared.old }
+    requires alone { IsAlone prepared.old.shape (system_of prepared.old.shape) }
+    requires peer { IsStarted (codes "builtin") (codes "fmu") options.now.directory.now prepared.old.shape (S.Link.view peer) }
+    requires known { S.knows spawner.old prepared.old.shape.identifier ≡ true }
     requires fewer { IfSome (S.retired spawner.old) (λ views. length views < S.started spawner.old) }
-    ensures { (before : ℕ) → S.started spawner.old ≡ before + 1 → StartFacts result (line_of options.now) _start
+    ensures { (before : ℕ) → S.started spawner.old ≡ before + 1 → StartFacts result (line_of options.now) prepared.old.shape
         (stage before (S.retired spawner.old) (S.knows spawner.old) (S.faults spawner.old) (O.content out.old) (O.faults out.old))
         (stage (S.started spawner.new) (S.retired spawner.new) (S.knows spawner.new) (S.faults spawner.new) (O.content out.new) (O.faults out.new)) }
 {

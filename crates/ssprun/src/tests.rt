@@ -1,31 +1,32 @@
 ghost use Rattle.std.specs.Prelude.{None, false};
 
-use crate::outcome::Outcome;
-use crate::report::report;
 use crate::run::run_words;
 use bench_fmus::{Bench, Counter, Scripts};
 use fmi_calls::{BadStatus, Content, Kind, Reply};
 use fmu_peer::{PeerFault, Spawner, StartFault};
-use sim_base::{CompId, Items, MemFile, MemFolder, MemSink, Text};
+use sim_base::{Items, MemFile, MemFolder, MemSink, Text};
 use std::alloc::{AllocError, Global};
 use std::process::Abort;
 use std::test::Fail;
 use std::thread::Threads;
-use step_master::RunEnd;
 use value_types::Shape;
 
 const WORDS: &str = "one|d|--resolution|1000|--step|10|--stop|20";
 
-const DESCRIPTION: &str =
-    r#"<fmiModelDescription fmiVersion="3.0" modelName="counter" instantiationToken="{c}"><CoSimulation modelIdentifier="counter" canGetAndSetFMUState="true" canHandleVariableCommunicationStepSize="true"/><ModelVariables><Int32 name="inc" valueReference="1" causality="parameter" variability="fixed" start="2"/><Int32 name="y" valueReference="2" causality="output" variability="discrete"/></ModelVariables><ModelStructure><Output valueReference="2" dependencies=""/></ModelStructure></fmiModelDescription>"#;
+// What stands before and behind the counter's variables in its description.
+const BEFORE: &str =
+    r#"<fmiModelDescription fmiVersion="3.0" modelName="counter" instantiationToken="{c}"><CoSimulation modelIdentifier="counter" canGetAndSetFMUState="true" canHandleVariableCommunicationStepSize="true"/><ModelVariables>"#;
+
+const BEHIND: &str =
+    r#"</ModelVariables><ModelStructure><Output valueReference="2" dependencies=""/></ModelStructure></fmiModelDescription>"#;
 
 // What stands at `d/modelDescription.xml`.
 #[derive(Clone, Copy)]
 enum File {
     None,
-    Empty,
-    // the counter's description with this start value
-    Counter(&'static str),
+    // the counter's description with this type and this start value
+    Counter(&'static str, &'static str),
+    Whole(&'static str),
 }
 
 // A command with what is to fail, by numbers from 0, and what it is to give.
@@ -45,7 +46,7 @@ struct Case {
 
 const WORKED: Case = Case {
     words: WORDS,
-    file: File::Counter("2"),
+    file: File::Counter("Int32", "2"),
     room: None,
     reads: &[],
     starts: &[],
@@ -58,7 +59,7 @@ const WORKED: Case = Case {
 
 const REFUSED: Case = Case { out: "", ..WORKED };
 
-static CASES: [Case; 24] = [
+static CASES: [Case; 28] = [
     WORKED,
     Case {
         words: "one|d|--resolution|1000|--step|10|--stop|0",
@@ -78,18 +79,18 @@ static CASES: [Case; 24] = [
         ..WORKED
     },
     Case {
-        file: File::Counter("5"),
+        file: File::Counter("Int32", "5"),
         out: "trace 1 1000 0 20\nport 0 Int32 fmu y\nat 0 0\n0 0\nat 10 0\n0 5\nat 20 0\n0 10\nend stop 20\n",
         ..WORKED
     },
     Case {
-        file: File::Counter("-3"),
+        file: File::Counter("Int32", "-3"),
         out: "trace 1 1000 0 20\nport 0 Int32 fmu y\nat 0 0\n0 0\nat 10 0\n0 -3\nat 20 0\n0 -6\nend stop 20\n",
         ..WORKED
     },
     // The second sum wraps.
     Case {
-        file: File::Counter("2147483647"),
+        file: File::Counter("Int32", "2147483647"),
         out: "trace 1 1000 0 20\nport 0 Int32 fmu y\nat 0 0\n0 0\nat 10 0\n0 2147483647\nat 20 0\n0 -2\nend stop 20\n",
         ..WORKED
     },
@@ -142,16 +143,52 @@ static CASES: [Case; 24] = [
         ..REFUSED
     },
     Case {
-        file: File::Empty,
+        file: File::Whole(""),
+        status: 4,
+        err: "refused 2 d/modelDescription.xml byte 0\n",
+        ..REFUSED
+    },
+    Case {
+        file: File::Counter("Int32", "2147483648"),
+        status: 4,
+        err: "refused 14 d/modelDescription.xml /fmiModelDescription[1]/ModelVariables[2]/Int32[1]\n",
+        ..REFUSED
+    },
+    // An input isn't built yet.
+    Case {
+        file: File::Whole(
+            r#"<fmiModelDescription fmiVersion="3.0" modelName="m" instantiationToken=""><CoSimulation modelIdentifier="gain"/><ModelVariables><Int32 name="u" valueReference="1" causality="input"/></ModelVariables></fmiModelDescription>"#,
+        ),
         status: 4,
         err: "refused 29 d/modelDescription.xml /fmiModelDescription[1]\n",
         ..REFUSED
     },
     Case {
-        file: File::Counter("2147483648"),
-        status: 4,
-        err: "refused 29 d/modelDescription.xml /fmiModelDescription[1]\n",
+        file: File::Whole(
+            r#"<fmiModelDescription fmiVersion="3.0" modelName="m" instantiationToken=""><CoSimulation modelIdentifier="adder"/></fmiModelDescription>"#,
+        ),
+        status: 5,
+        err: "unknown fmu\n",
         ..REFUSED
+    },
+    // The last step would be shorter, which the FMU doesn't take.
+    Case {
+        words: "one|d|--resolution|1000|--step|10|--stop|25",
+        file: File::Whole(
+            r#"<fmiModelDescription fmiVersion="3.0" modelName="counter" instantiationToken="{c}"><CoSimulation modelIdentifier="counter"/><ModelVariables><Int32 name="inc" valueReference="1" causality="parameter" start="2"/><Int32 name="y" valueReference="2" causality="output"/></ModelVariables></fmiModelDescription>"#,
+        ),
+        status: 9,
+        out: "trace 1 1000 0 25\nport 0 Int32 fmu y\nat 0 0\n0 0\nat 10 0\n0 2\nat 20 0\n0 4\nend fixed 20\n",
+        err: "fixed fmu 20 25\n",
+        ..WORKED
+    },
+    // A step of ten asks for the end. The second output is none of the counter's own.
+    Case {
+        file: File::Whole(
+            r#"<?xml version="1.0" encoding="UTF-8"?><fmiModelDescription fmiVersion="3.0.1" modelName="counter" instantiationToken="{c}" xmlns:v="http://v" v:x="1"><CoSimulation modelIdentifier="counter" canHandleVariableCommunicationStepSize="1"/><ModelVariables><Int8 name="y" valueReference="2" causality="output"><Alias name="why"/></Int8><Float64 name="f" valueReference="9" causality="input"/><UInt16 name="long" valueReference="3" causality="parameter" start="10"/><Int64 name="z %" valueReference="5" causality="output" initial="exact" start="-7"/></ModelVariables><ModelStructure><Output valueReference="2"/></ModelStructure></fmiModelDescription>"#,
+        ),
+        out: "trace 1 1000 0 20\nport 0 Int8 fmu y\nport 1 Int64 fmu z%20%25\nat 0 0\n0 0\n1 -7\nend asked 10\n",
+        ..WORKED
     },
     Case {
         starts: &[0],
@@ -503,27 +540,23 @@ fn split_words(alloc: Global, line: &str) -> Result<Vec<String>, AllocError> {
     Ok(words)
 }
 
-fn file_bytes(alloc: Global, start: &str) -> Result<Vec<u8>, AllocError> {
-    match DESCRIPTION.split_once("start=\"2\"") {
-        Some((front, back)) => {
-            let text = format!(in alloc; "{front}start=\"{start}\"{back}")?;
-            text.as_bytes().to_vec(alloc)
-        }
-        None => Ok(Vec::new(alloc)),
-    }
+fn describe_counter(alloc: Global, kind: &str, start: &str) -> Result<String, AllocError> {
+    format!(in alloc;
+        "{BEFORE}<{kind} name=\"inc\" valueReference=\"1\" causality=\"parameter\" variability=\"fixed\" start=\"{start}\"/><{kind} name=\"y\" valueReference=\"2\" causality=\"output\" variability=\"discrete\"/>{BEHIND}"
+    )
 }
 
 fn make_folder(alloc: Global, file: &File, reads: &[u64]) -> Result<MemFolder, AllocError> {
     let mut files = Vec::new(alloc);
-    let bytes = match file {
+    let text = match file {
         File::None => None,
-        File::Empty => Some(Vec::new(alloc)),
-        File::Counter(start) => Some(file_bytes(alloc, start)?),
+        File::Counter(kind, start) => Some(describe_counter(alloc, kind, start)?),
+        File::Whole(text) => Some(String::from_str(alloc, text)?),
     };
-    if let Some(bytes) = bytes {
+    if let Some(text) = text {
         files.push(MemFile {
             path: Text::from_str(alloc, "d/modelDescription.xml")?,
-            bytes: Items::from_vec(bytes),
+            bytes: Items::from_vec(text.as_bytes().to_vec(alloc)?),
         })?;
     }
     Ok(MemFolder::new(files, reads.to_vec(alloc)?))
@@ -576,16 +609,47 @@ fn an_unknown_model_gives_its_line(rt: HostRuntime) -> Result<(), Fail> {
     Ok(())
 }
 
+// A type, a parameter's value, and what a counter of that type shows after one step and after two.
+const TYPES: [(&str, &str, &str, &str); 8] = [
+    ("Int8", "100", "100", "-56"),
+    ("UInt8", "100", "100", "200"),
+    ("Int16", "32767", "32767", "-2"),
+    ("UInt16", "65535", "65535", "65534"),
+    ("Int32", "-2147483648", "-2147483648", "0"),
+    ("UInt32", "4294967295", "4294967295", "4294967294"),
+    ("Int64", "9223372036854775807", "9223372036854775807", "-2"),
+    (
+        "UInt64",
+        "18446744073709551615",
+        "18446744073709551615",
+        "18446744073709551614",
+    ),
+];
+
 #[test]
-fn a_size_that_is_not_taken_gives_its_line(rt: HostRuntime) -> Result<(), Fail> {
-    let mut err = MemSink::with_room(rt.alloc(), 64, Vec::new(rt.alloc()))?;
-    let end = RunEnd::FixedStep {
-        component: CompId(0),
-        at: 20,
-        end: 25,
-    };
-    assert_eq!(rt; report(&Outcome::Ran { end }, &mut err), 9);
-    assert_eq!(rt; err.bytes.as_slice(), b"fixed fmu 20 25\n".as_slice());
+fn a_counter_wraps_in_its_type(rt: HostRuntime) -> Result<(), Fail> {
+    let alloc = rt.alloc();
+    for (kind, start, first, second) in &TYPES {
+        let words = split_words(alloc, WORDS)?;
+        let mut folder = make_folder(alloc, &File::Counter(kind, start), &[])?;
+        let mut bench = Bench::new(alloc, None, Vec::new(alloc));
+        let mut out = MemSink::with_room(alloc, 200, Vec::new(alloc))?;
+        let mut err = MemSink::with_room(alloc, 200, Vec::new(alloc))?;
+        let expected = format!(in alloc;
+            "trace 1 1000 0 20\nport 0 {kind} fmu y\nat 0 0\n0 0\nat 10 0\n0 {first}\nat 20 0\n0 {second}\nend stop 20\n"
+        )?;
+        let status = run_words(
+            &rt,
+            alloc,
+            &words,
+            &mut folder,
+            &mut bench,
+            &mut out,
+            &mut err,
+        );
+        assert_eq!(rt; status, 0);
+        assert_eq!(rt; out.bytes.as_slice(), expected.as_bytes());
+    }
     Ok(())
 }
 

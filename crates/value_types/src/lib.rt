@@ -11,5 +11,5 @@ mod values;
 pub use clock_fraction::Fraction;
 pub use joint::{Class, Joint, class_of, connectable};
 pub use reading::read_value;
-pub use shape::{Causality, ClockTiming, Dependency, IntervalVariability, Shape, Variable};
+pub use shape::{Causality, ClockTiming, Dependency, IntervalVariability, Knowns, Shape, Variable};
 pub use values::{PortType, fits, from_word, greatest, least, to_word};

@@ -62,11 +62,20 @@ pub struct Variable {
     pub can_be_set_again: bool,
 }
 
-/// The value references that an output depends on.
+/// What an output depends on (FMI 3.0, 2.4.9: knowns of an unknown).
+#[derive(Debug, Drop)]
+pub enum Knowns {
+    /// every input of the FMU that isn't foreign
+    AllInputs,
+    /// the ports with these value references
+    Listed(Items<u32>),
+}
+
+/// What an output depends on, by its value reference.
 #[derive(Debug, Drop)]
 pub struct Dependency {
     pub output: u32,
-    pub on: Items<u32>,
+    pub on: Knowns,
 }
 
 /// What a description says of an FMU, at a resolution.
@@ -116,6 +125,18 @@ impl Variable {
     }
 }
 
+impl Knowns {
+    /// Other knowns that are the same.
+    pub fn copy(&self, alloc: Global) -> Result<Knowns, AllocError>
+        ensures { IfOk result (λ k. k ≡ self.now) }
+    {
+        match self {
+            Knowns::AllInputs => Ok(Knowns::AllInputs),
+            Knowns::Listed(on) => Ok(Knowns::Listed(Items::from_vec(on.as_slice().to_vec(alloc)?))),
+        }
+    }
+}
+
 impl Dependency {
     /// Another dependency that is the same.
     pub fn copy(&self, alloc: Global) -> Result<Dependency, AllocError>
@@ -123,7 +144,7 @@ impl Dependency {
     {
         Ok(Dependency {
             output: self.output,
-            on: Items::from_vec(self.on.as_slice().to_vec(alloc)?),
+            on: self.on.copy(alloc)?,
         })
     }
 }

@@ -1,6 +1,7 @@
 use crate::{
-    Causality, Class, ClockTiming, Dependency, Fraction, IntervalVariability, Joint, PortType,
-    Shape, Variable, class_of, connectable, fits, from_word, greatest, least, read_value, to_word,
+    Causality, Class, ClockTiming, Dependency, Fraction, IntervalVariability, Joint, Knowns,
+    PortType, Shape, Variable, class_of, connectable, fits, from_word, greatest, least, read_value,
+    to_word,
 };
 use sim_base::{Items, Text};
 use std::alloc::{AllocError, Global};
@@ -164,7 +165,11 @@ fn shape(alloc: Global) -> Result<Shape, AllocError> {
     };
     let dependency = Dependency {
         output: 7,
-        on: Items::from_vec(vec![in alloc; 1, 2]?),
+        on: Knowns::Listed(Items::from_vec(vec![in alloc; 1, 2]?)),
+    };
+    let initial_dependency = Dependency {
+        output: 7,
+        on: Knowns::AllInputs,
     };
     Ok(Shape {
         identifier: Text::from_str(alloc, "machine")?,
@@ -178,7 +183,7 @@ fn shape(alloc: Global) -> Result<Shape, AllocError> {
         variables: Items::from_vec(vec![in alloc; variable]?),
         clocks: Items::from_vec(vec![in alloc; clock]?),
         dependencies: Items::from_vec(vec![in alloc; dependency]?),
-        initial_dependencies: Items::from_vec(vec![in alloc]?),
+        initial_dependencies: Items::from_vec(vec![in alloc; initial_dependency]?),
     })
 }
 

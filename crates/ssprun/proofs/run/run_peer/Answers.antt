@@ -1,7 +1,7 @@
-use Rattle.std.proofs.Common.{◌≡◌, IfSome, subst, sym, ap, ◌∙◌, codes, rules}
-use Rattle.std.specs.Prelude.{option_map, map, nat_eq}
-use Rattle.std.specs.List.{IsDistinct}
-use Rattle.run_model.specs.declared.system.Port.{Port}
+use Rattle.std.proofs.Common.{◌≡◌, IfSome, subst, sym, ap, ◌∙◌, codes}
+use Rattle.std.specs.Prelude.{option_map}
+use Rattle.value_types.specs.declared.shape.Shape.{Shape}
+use Rattle.step_master.specs.Alone.{IsAlone}
 use Rattle.fmu_peer.specs.Machine.{Machine}
 use Rattle.fmu_peer.specs.View.{Fixed, Origin}
 use Rattle.run_model.specs.declared.system.System.{System}
@@ -9,18 +9,13 @@ use Rattle.run_model.specs.Behaved.{WellBehaved}
 use Rattle.step_master.specs.Progress.{run_of}
 use Rattle.step_master.specs.End.{current_point}
 use Rattle.step_master.specs.Whole.{WritesWhole, CompletesWhole}
-use Rattle.ssprun.proofs.Peer.{tells_end, once_one}
+use Rattle.ssprun.proofs.Peer.{tells_end}
 use Rattle.ssprun.proofs.run.run_peer.Goals as goal
 
 pub run_alone-peer-requires-clause-alone : goal.run_alone-peer-requires-clause-alone
-run_alone-peer-requires-clause-alone g c = λ lifetimes outlives. record {
-  name = codes "fmu";
-  only = search rules;
-  ports = search rules;
-  once = subst (λ (s : System). IsDistinct nat_eq (map (λ (p : Port). p.reference) s.ports)) (sym c.requires.prepared.system) (once_one 2);
-  no_event = search rules;
-  no_early = search rules;
-}
+run_alone-peer-requires-clause-alone g c = λ lifetimes outlives.
+    subst (λ (s : Shape). IsAlone s c.args.prepared.now.system) (sym c.requires.peer.shape_is)
+    (subst (IsAlone c.args.prepared.now.shape) (sym c.requires.prepared.system) c.requires.alone)
 
 pub returns : goal.returns
 returns g c before e = record {
@@ -30,7 +25,7 @@ returns g c before e = record {
     started = c.retire.ensures.started ∙ e;
     retired = c.retire.ensures.retired;
     starts = c.retire.ensures.faults;
-    shape = ap (λ (f : Fixed). f.shape) c.run_alone-peer.ensures.fixed ∙ c.requires.peer.shape_is;
+    shape_is = ap (λ (f : Fixed). f.shape) c.run_alone-peer.ensures.fixed ∙ c.requires.peer.shape_is;
     origin = subst
         (λ (f : Fixed). IfSome f.origin (λ (o : Origin). o ≡ record { host = codes "builtin"; name = codes "fmu"; directory = c.args.options.now.directory.now }))
         (sym c.run_alone-peer.ensures.fixed) c.requires.peer.origin;

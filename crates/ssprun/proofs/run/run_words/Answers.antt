@@ -1,4 +1,4 @@
-use Rattle.ssprun.proofs.Rows.{end_row, words_row, file_row, form_row, link_row, refusal_row, misreply_row, fixed_row, write_row, memory_row, trace_row, peer_row, status_row}
+use Rattle.ssprun.proofs.Rows.{end_row, words_row, file_row, rule_row, link_row, refusal_row, misreply_row, fixed_row, write_row, memory_row, trace_row, peer_row, status_row}
 use Rattle.ssprun.proofs.run.run_words.Goals as goal
 
 pub returns-clause-done : goal.returns-clause-done
@@ -10,8 +10,8 @@ returns-clause-words g c = words_row c.run-outcome.result _ c.run-outcome.ensure
 pub returns-clause-file : goal.returns-clause-file
 returns-clause-file g c = file_row c.run-outcome.result _ c.run-outcome.ensures c.report.ensures
 
-pub returns-clause-form : goal.returns-clause-form
-returns-clause-form g c = form_row c.run-outcome.result _ c.run-outcome.ensures c.report.ensures
+pub returns-clause-rule : goal.returns-clause-rule
+returns-clause-rule g c = rule_row c.run-outcome.result _ c.run-outcome.ensures c.report.ensures
 
 pub returns-clause-link : goal.returns-clause-link
 returns-clause-link g c = link_row c.run-outcome.result _ c.run-outcome.ensures c.report.ensures

@@ -1,0 +1,286 @@
+use crate::scripted::{
+    EMPTIED, ENTERED, EXITED, FREED, Reached, SAVED, START, STARTED, STEP, STEPPED, Scripted,
+    TERMINATED, WRONG, assert_talk, assert_unsaved, failed, make_book, refused, run, wrong,
+};
+use crate::{Exchange, Held, PeerFault, Slot, SourceId, Why, close_all};
+use fmi_calls::{BadStatus, Call, Kind, Reply};
+use std::alloc::Global;
+use std::process::Abort;
+
+// One of several FMUs: its source, how many of its exchanges are the run's, and its whole talk.
+struct Part {
+    source: u32,
+    run: usize,
+    talk: &'static [Exchange],
+}
+
+macro_rules! part {
+    ($source:expr, $run:expr, $talk:expr $(,)?) => {
+        Part {
+            source: $source,
+            run: $run,
+            talk: $talk,
+        }
+    };
+}
+
+const CLOSED: &[Exchange] = &[STARTED, ENTERED, EXITED, STEPPED, TERMINATED, FREED];
+
+const LEFT: &[Exchange] = &[STARTED, ENTERED, EXITED, STEPPED];
+
+const KEPT: &[Exchange] = &[STARTED, ENTERED, EXITED, SAVED, STEPPED];
+
+const GIVEN_BACK: &[Exchange] = &[
+    STARTED, ENTERED, EXITED, SAVED, STEPPED, EMPTIED, TERMINATED, FREED,
+];
+
+const FATAL_STEP: &[Exchange] = &[
+    STARTED,
+    ENTERED,
+    EXITED,
+    refused!(STEP, Kind::DoStep, BadStatus::Fatal),
+];
+
+const FATAL_TERMINATE: &[Exchange] = &[
+    STARTED,
+    ENTERED,
+    EXITED,
+    STEPPED,
+    refused!(Call::Terminate, Kind::Terminate, BadStatus::Fatal),
+];
+
+const FAILED_TERMINATE: &[Exchange] = &[
+    STARTED,
+    ENTERED,
+    EXITED,
+    STEPPED,
+    failed!(Call::Terminate),
+];
+
+const FAMILIES: [[Part; 3]; 12] = [
+    // A state that was saved is freed first, and only from Step Mode the instance is terminated.
+    [
+        part!(7, 4, CLOSED),
+        part!(7, 5, GIVEN_BACK),
+        part!(8, 2, &[STARTED, ENTERED, FREED]),
+    ],
+    // Fatal in the run: the other one of that source is sent nothing.
+    [
+        part!(7, 4, LEFT),
+        part!(7, 4, FATAL_STEP),
+        part!(8, 4, CLOSED),
+    ],
+    [
+        part!(7, 4, FATAL_STEP),
+        part!(8, 4, CLOSED),
+        part!(7, 5, KEPT),
+    ],
+    [
+        part!(
+            7,
+            1,
+            &[refused!(START, Kind::Instantiate, BadStatus::Fatal)]
+        ),
+        part!(7, 1, &[STARTED]),
+        part!(8, 1, &[STARTED, FREED]),
+    ],
+    // Fatal at Terminate: only a later one of that source is sent nothing.
+    [
+        part!(7, 4, CLOSED),
+        part!(7, 4, FATAL_TERMINATE),
+        part!(7, 4, LEFT),
+    ],
+    [
+        part!(7, 4, FATAL_TERMINATE),
+        part!(8, 5, GIVEN_BACK),
+        part!(7, 5, KEPT),
+    ],
+    // Fatal at Free, and at FreeInstance.
+    [
+        part!(
+            7,
+            5,
+            &[
+                STARTED,
+                ENTERED,
+                EXITED,
+                SAVED,
+                STEPPED,
+                refused!(Call::Free, Kind::Free, BadStatus::Fatal),
+            ],
+        ),
+        part!(7, 4, LEFT),
+        part!(8, 4, CLOSED),
+    ],
+    [
+        part!(
+            7,
+            4,
+            &[
+                STARTED,
+                ENTERED,
+                EXITED,
+                STEPPED,
+                TERMINATED,
+                refused!(Call::FreeInstance, Kind::FreeInstance, BadStatus::Fatal),
+            ],
+        ),
+        part!(7, 4, LEFT),
+        part!(8, 4, CLOSED),
+    ],
+    // Discard at Free, in the closing and in the run: that instance alone is sent nothing more.
+    [
+        part!(
+            7,
+            5,
+            &[
+                STARTED,
+                ENTERED,
+                EXITED,
+                SAVED,
+                STEPPED,
+                refused!(Call::Free, Kind::Free, BadStatus::Discard),
+            ],
+        ),
+        part!(
+            7,
+            5,
+            &[
+                STARTED,
+                ENTERED,
+                EXITED,
+                SAVED,
+                refused!(Call::Free, Kind::Free, BadStatus::Discard),
+            ],
+        ),
+        part!(7, 4, CLOSED),
+    ],
+    // Behind Error and a misreply FreeInstance alone, with a saved state too.
+    [
+        part!(
+            7,
+            4,
+            &[
+                STARTED,
+                ENTERED,
+                EXITED,
+                refused!(STEP, Kind::DoStep, BadStatus::Error),
+                FREED,
+            ],
+        ),
+        part!(
+            7,
+            5,
+            &[
+                STARTED,
+                ENTERED,
+                EXITED,
+                SAVED,
+                refused!(STEP, Kind::DoStep, BadStatus::Error),
+                FREED,
+            ],
+        ),
+        part!(
+            7,
+            5,
+            &[
+                STARTED,
+                ENTERED,
+                EXITED,
+                SAVED,
+                STEPPED,
+                wrong!(Call::Free),
+                FREED,
+            ],
+        ),
+    ],
+    // Where no answer comes that instance is sent nothing more, and the closing goes on.
+    [
+        part!(7, 4, &[STARTED, ENTERED, EXITED, failed!(STEP)]),
+        part!(7, 4, FAILED_TERMINATE),
+        part!(7, 4, CLOSED),
+    ],
+    // Where there is no instance nothing is sent.
+    [
+        part!(7, 0, &[]),
+        part!(
+            7,
+            1,
+            &[refused!(START, Kind::Instantiate, BadStatus::Discard)],
+        ),
+        part!(7, 1, &[STARTED, FREED]),
+    ],
+];
+
+fn is_fatal(why: Option<Why>) -> bool {
+    match why {
+        Some(Why::Refused { call: _, status }) => status == BadStatus::Fatal,
+        Some(Why::Misreply { .. }) | Some(Why::Link { .. }) | None => false,
+    }
+}
+
+// The FMU after its run.
+fn run_part(rt: &impl Abort, alloc: Global, part: &Part) -> Slot<Scripted> {
+    assert!(rt; part.run <= part.talk.len());
+    let peer = Scripted {
+        book: make_book(rt, alloc, 20).expect(rt, "memory is left"),
+        script: part.talk,
+        given: 0,
+    };
+    let Reached { held, saved, why } = run(rt, peer, &part.talk[..part.run]);
+    Slot {
+        source: SourceId(part.source),
+        held,
+        saved,
+        is_fatal: is_fatal(why),
+    }
+}
+
+// The FMU is closed, its saved state given up, and it has had the part's talk.
+fn assert_closed(rt: &impl Abort, slot: Slot<Scripted>, part: &Part) {
+    let Slot {
+        source,
+        held,
+        saved,
+        is_fatal: _,
+    } = slot;
+    assert_eq!(rt; source, SourceId(part.source));
+    assert_unsaved(rt, saved);
+    assert!(rt; is_closed(&held));
+    assert_talk(rt, &held.into_peer(), part.talk);
+}
+
+fn is_closed(held: &Held<Scripted>) -> bool {
+    match held {
+        Held::Closed(_) => true,
+        _ => false,
+    }
+}
+
+fn assert_send<T: Send>(_value: &T) {}
+
+fn apart<T>(values: [T; 3]) -> (T, T, T) {
+    let [one, two, three] = values;
+    (one, two, three)
+}
+
+fn assert_family(rt: &impl Abort, alloc: Global, parts: &[Part; 3]) {
+    let mut slots = [
+        run_part(rt, alloc, &parts[0]),
+        run_part(rt, alloc, &parts[1]),
+        run_part(rt, alloc, &parts[2]),
+    ];
+    assert_send(&slots);
+    close_all(&mut slots);
+    let (one, two, three) = apart(slots);
+    assert_closed(rt, one, &parts[0]);
+    assert_closed(rt, two, &parts[1]);
+    assert_closed(rt, three, &parts[2]);
+}
+
+#[test]
+fn instances_of_one_source_are_lost_together(rt: HostRuntime) {
+    for parts in &FAMILIES {
+        assert_family(&rt, rt.alloc(), parts);
+    }
+}
