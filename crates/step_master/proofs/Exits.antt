@@ -36,7 +36,7 @@ use Rattle.step_master.specs.End.{ShowsInstant, BreaksInstant, StopsReading, Put
 use Rattle.step_master.proofs.Sent.{sends_none, sends_by, sends_on, breaks_by, breaks_on, needed_on, seen_by-append, closable_after}
 use Rattle.step_master.proofs.Needed.{IsPast, gets_needed, needed_front, turn_needed}
 use Rattle.step_master.proofs.Calls.{well_on, well_by, broke_by, tells_after, phase_by_good}
-use Rattle.step_master.specs.Size.{TakesSize, StepsByPlan, EndsFixed, KeepsSize}
+use Rattle.step_master.specs.Size.{TakesSize, StepsByPlan, EndsAt, KeepsSize}
 use Rattle.step_master.proofs.Exists.{good_gets, good_step, good_step_end}
 use Rattle.step_master.proofs.Onward.{SoFar, added_added, part_behind, more_text, trace_at_stop, trace_where_asked, trace_where_fixed, progress_on, front_of_trace}
 
@@ -122,8 +122,11 @@ pub takes_not : (b : Bool) (s : Shape) (v : View) (plan : Plan) (size : ℕ) →
 takes_not b s v plan size same test denied =
     size_not v.fixed.shape.has_variable_steps size plan.step (λ takes. let said : b ≡ true = test.1 (subst (λ (x : Shape). TakesSize x plan size) (sym same) takes) in absurd (cc))
 
+begun_by : (s t b : ℕ) → s ≤ t → t < b → s ≤ b
+begun_by s t b begun later = omega arith
+
 -- an end by its line, or by the put of it
-pub keeps_at : (plan : Plan) (v : View) (kind : EndKind) (t : ℕ) (end e : RunEnd) (x y : Option (List ℕ)) (c d : ℕ) → StepsByPlan plan v → EndsFixed plan end v → PutsEnd kind t end e x y c d → KeepsSize plan e v
+pub keeps_at : (plan : Plan) (v : View) (kind : EndKind) (t : ℕ) (end e : RunEnd) (x y : Option (List ℕ)) (c d : ℕ) → StepsByPlan plan v → EndsAt plan end v → PutsEnd kind t end e x y c d → KeepsSize plan e v
 keeps_at plan v kind t end e x y c d made next (inl h) = subst (λ z. KeepsSize plan z v) (sym h.0) (record { made = made; next = next })
 keeps_at plan v kind t end e x y c d made next (inr h) = subst (λ z. KeepsSize plan z v) (sym h.0) (record { made = made; next = tt })
 
@@ -267,8 +270,11 @@ module _ (system : System) (plan : Plan) (first v : View) (alone : IsAlone first
         subst (λ z. Completes (run_of system plan m) z o x first.faults u.faults) (sym h.0)
         (inr (done, K.Stop, plan.stop, trace, subst (λ n. AddsPart o x (instants_text done ++ end_text K.Stop n)) here (part_of_end x K.Stop t h.1)))
 
-    pub stop_size : (e : RunEnd) (x : Option (List ℕ)) (c d : ℕ) → StepsByPlan plan v → PutsEnd K.Stop t Stop e b x c d → KeepsSize plan e u
-    stop_size e x c d made h = keeps_at plan u K.Stop t Stop e b x c d (sizes_read made) tt h
+    here : current_point plan u ≡ t
+    here = ap (max plan.start) (shows.read.stays.place t plan.stop at).point ∙ max_is_right plan.start t begun
+
+    pub stop_size : (e : RunEnd) (x : Option (List ℕ)) (c d : ℕ) → StepsByPlan plan v → PutsEnd K.Stop t Stop e b x c d → t ≡ plan.stop → KeepsSize plan e u
+    stop_size e x c d made h stop = keeps_at plan u K.Stop t Stop e b x c d (sizes_read made) (here ∙ stop) h
 
     -- ---- by a step
 
@@ -296,8 +302,7 @@ module _ (system : System) (plan : Plan) (first v : View) (alone : IsAlone first
     pub fixed_size : (bound : ℕ) (e : RunEnd) (x : Option (List ℕ)) (c d : ℕ) → StepsByPlan plan v → IsBound plan t bound →
         u.fixed.shape.has_variable_steps ≡ false → ((bound - t) ≡ plan.step → ⊥) → PutsEnd K.Fixed t (fixed_end t bound) e b x c d → KeepsSize plan e u
     fixed_size bound e x c d made is_bound whole other h =
-        let current : current_point plan u ≡ t = ap (max plan.start) (shows.read.stays.place t plan.stop at).point ∙ max_is_right plan.start t begun in
-        keeps_at plan u K.Fixed t (fixed_end t bound) e b x c d (sizes_read made) (record { only = refl; here = sym current; bound = is_bound; fixed = whole; other = other }) h
+        keeps_at plan u K.Fixed t (fixed_end t bound) e b x c d (sizes_read made) (record { only = refl; here = sym here; bound = is_bound; fixed = whole; other = other }) h
 
     pub fixed_trace : (bound : ℕ) (e : RunEnd) (x : Option (List ℕ)) (c d : ℕ) → t < plan.stop → IsBound plan t bound →
         u.fixed.shape.has_variable_steps ≡ false → ((bound - t) ≡ plan.step → ⊥) → PutsEnd K.Fixed t (fixed_end t bound) e b x c d →
@@ -405,7 +410,9 @@ module _ (system : System) (plan : Plan) (first v : View) (alone : IsAlone first
       sizes_after made = sizes_on plan u w t (bound - t) reply answered takes (sizes_read made)
 
       pub asked_size : (e : RunEnd) (x : Option (List ℕ)) (c d : ℕ) → StepsByPlan plan v → PutsEnd K.Asked bound (Asked bound) e b x c d → KeepsSize plan e w
-      asked_size e x c d made h = keeps_at plan w K.Asked bound (Asked bound) e b x c d (sizes_after made) tt h
+      asked_size e x c d made h =
+          let there : current_point plan w ≡ bound = ap (max plan.start) place_after.point ∙ max_is_right plan.start bound (begun_by plan.start t bound begun is_bound.later) in
+          keeps_at plan w K.Asked bound (Asked bound) e b x c d (sizes_after made) there h
 
       pub asked_writes : (e : RunEnd) (x : Option (List ℕ)) (c d : ℕ) → PutsEnd K.Asked bound (Asked bound) e b x c d → Writes plan e (current_point plan w) o x
       asked_writes e x c d (inl h) = subst (λ z. Writes plan z (current_point plan w) o x) (sym h.0) (done, text_to_end x K.Asked bound h.1)

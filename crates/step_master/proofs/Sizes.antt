@@ -24,7 +24,7 @@ use Rattle.step_master.specs.declared.run_end.RunEnd.TheVariants.{Stop, Asked, F
 use Rattle.step_master.specs.Follow.{IsClosable, IsMade, calls_in}
 use Rattle.step_master.specs.Initial.{enter_of}
 use Rattle.step_master.specs.Whole.{IsClosingCall}
-use Rattle.step_master.specs.Size.{StepsByPlan, EndsFixed, KeepsSize}
+use Rattle.step_master.specs.Size.{StepsByPlan, EndsAt, KeepsSize}
 use Rattle.step_master.specs.End.{bad_end, current_point}
 use Rattle.step_master.proofs.Calls.{broke_by, phase_by_good, first_size_after_bad}
 use Rattle.step_master.proofs.Closing.{sent_closing, point_closed, point_same, closable_left, headless, nothing_sent}
@@ -58,9 +58,9 @@ by_closing shape p [] k = refl
 by_closing shape p (e ∷ es) k =
     by_closing shape (T.next_by shape p e) es (All-tail IsClosingCall e.call (calls_in es) k) ∙ by_exchange shape p e (All-head IsClosingCall e.call (calls_in es) k)
 
-ends_same : (plan : Plan) (e : RunEnd) (u w : View) → w.fixed ≡ u.fixed → current_point plan w ≡ current_point plan u → EndsFixed plan e u → EndsFixed plan e w
-ends_same plan Stop u w fixed point h = h
-ends_same plan (Asked at) u w fixed point h = h
+ends_same : (plan : Plan) (e : RunEnd) (u w : View) → w.fixed ≡ u.fixed → current_point plan w ≡ current_point plan u → EndsAt plan e u → EndsAt plan e w
+ends_same plan Stop u w fixed point h = point ∙ h
+ends_same plan (Asked at) u w fixed point h = point ∙ h
 ends_same plan (FixedStep component at end) u w fixed point h = record {
   only = h.only;
   here = h.here ∙ sym point;

@@ -24,15 +24,15 @@ pub record LacksSize (plan : Plan) (v : View) (component at end : ℕ) : Type 0 
   pub fixed : v.fixed.shape.has_variable_steps ≡ false
   pub other : end - at ≢ plan.step
 
--- a run ends by FixedStep only where the next step lacks its size
-abbrev pub EndsFixed : Plan → RunEnd → View → Type 0
-EndsFixed plan Stop v = Unit {0}
-EndsFixed plan (Asked point) v = Unit {0}
-EndsFixed plan (FixedStep component at end) v = LacksSize plan v component.0 at end
-EndsFixed plan (Bad component why) v = Unit {0}
-EndsFixed plan WriteFault v = Unit {0}
+-- where a run ends: with Stop at the plan's stop, with Asked at the point that is told, with FixedStep where the next step lacks its size
+abbrev pub EndsAt : Plan → RunEnd → View → Type 0
+EndsAt plan Stop v = current_point plan v ≡ plan.stop
+EndsAt plan (Asked point) v = current_point plan v ≡ point
+EndsAt plan (FixedStep component at end) v = LacksSize plan v component.0 at end
+EndsAt plan (Bad component why) v = Unit {0}
+EndsAt plan WriteFault v = Unit {0}
 
--- the sizes of a run that ended so
+-- the sizes of a run that ended so, and where it ended
 pub record KeepsSize (plan : Plan) (end : RunEnd) (v : View) : Type 0 where
   pub made : StepsByPlan plan v
-  pub next : EndsFixed plan end v
+  pub next : EndsAt plan end v

@@ -2,7 +2,7 @@ use Rattle.std.proofs.Common.{refl, ◌∙◌, sym, subst, rules, arith, ◌≤�
 use Rattle.run_model.specs.declared.plan.EndKind.TheVariants as K
 use Rattle.step_master.specs.End.{PutsEnd, TellsWrite}
 use Rattle.step_master.proofs.Onward.{so_far_begins}
-use Rattle.step_master.proofs.Exits.{takes_is, takes_not, sizes_stay, sizes_after, fixed_peer, fixed_size, fixed_writes, fixed_trace, may_step, runs_to_begin, broken_peer, broken_told, broken_writes, broken_trace, stop_writes, stop_trace, stop_peer, step_peer, step_writes, step_trace, asked_peer, asked_writes, asked_trace, well_after, place_after, runs_after, so_far_after}
+use Rattle.step_master.proofs.Exits.{takes_is, takes_not, sizes_stay, sizes_after, fixed_peer, fixed_size, fixed_writes, fixed_trace, may_step, runs_to_begin, broken_peer, broken_told, broken_writes, broken_trace, stop_writes, stop_trace, stop_peer, step_peer, step_writes, step_trace, asked_peer, asked_writes, asked_trace, well_after, place_after, runs_after, so_far_after, stop_size, asked_size}
 use Rattle.step_master.proofs.steps.steps.Goals as goal
 
 pub points-init : goal.points-init
@@ -49,6 +49,12 @@ returns-then-t-plan-clause-peer g c =
     stop_peer c.args.system.now c.args.plan.now (g.L.Peer.view c.args.fmu.now.peer) (g.L.Peer.view c.points.fmu.peer) c.requires.alone c.requires.plan c.points.t (g.O.Sink.content c.args.out.now) (g.O.Sink.content c.points.out)
     c.points.invariant.so_far c.points.invariant.runs c.points.invariant.well c.points.invariant.at c.points.invariant.begun c.points.invariant.within
     (g.L.Peer.view c.show_instant.new.fmu.peer) (g.O.Sink.content c.show_instant.new.out) c.in_default.ensures.ok c.finish.result _ _ _ c.finish.ensures
+
+pub returns-then-t-plan-clause-size : goal.returns-then-t-plan-clause-size
+returns-then-t-plan-clause-size g c =
+    stop_size c.args.system.now c.args.plan.now (g.L.Peer.view c.args.fmu.now.peer) (g.L.Peer.view c.points.fmu.peer) c.requires.alone c.requires.plan c.points.t (g.O.Sink.content c.args.out.now) (g.O.Sink.content c.points.out)
+    c.points.invariant.so_far c.points.invariant.runs c.points.invariant.well c.points.invariant.at c.points.invariant.begun c.points.invariant.within
+    (g.L.Peer.view c.show_instant.new.fmu.peer) (g.O.Sink.content c.show_instant.new.out) c.in_default.ensures.ok c.finish.result _ _ _ c.points.invariant.sizes c.finish.ensures c.if-t-plan.true
 
 pub returns-then-t-plan-clause-writes : goal.returns-then-t-plan-clause-writes
 returns-then-t-plan-clause-writes g c =
@@ -109,6 +115,16 @@ returns-then-is_terminating-clause-peer g c =
     (g.L.Peer.view c.show_instant.new.fmu.peer) (g.O.Sink.content c.show_instant.new.out) c.in_default.ensures.ok
     (g.L.Peer.view c.do_step.new.self.peer) c.next_bound-bound.result c.in-Ok.reply before c.next_bound-bound.ensures takes c.in-Ok.ensures.ok
     c.finish-then-is_terminating.result _ _ _ c.finish-then-is_terminating.ensures
+
+pub returns-then-is_terminating-clause-size : goal.returns-then-is_terminating-clause-size
+returns-then-is_terminating-clause-size g c =
+    let before : c.points.t < c.args.plan.now.stop = let within : c.points.t ≤ c.args.plan.now.stop = c.points.invariant.within in omega arith in
+    let takes = takes_is c.takes_size.result c.shape.result.now (g.L.Peer.view c.show_instant.new.fmu.peer) c.args.plan.now (c.next_bound-bound.result - c.points.t) c.shape.ensures c.takes_size.ensures c.if-not-takes_size.false in
+    asked_size c.args.system.now c.args.plan.now (g.L.Peer.view c.args.fmu.now.peer) (g.L.Peer.view c.points.fmu.peer) c.requires.alone c.requires.plan c.points.t (g.O.Sink.content c.args.out.now) (g.O.Sink.content c.points.out)
+    c.points.invariant.so_far c.points.invariant.runs c.points.invariant.well c.points.invariant.at c.points.invariant.begun c.points.invariant.within
+    (g.L.Peer.view c.show_instant.new.fmu.peer) (g.O.Sink.content c.show_instant.new.out) c.in_default.ensures.ok
+    (g.L.Peer.view c.do_step.new.self.peer) c.next_bound-bound.result c.in-Ok.reply before c.next_bound-bound.ensures takes c.in-Ok.ensures.ok
+    c.finish-then-is_terminating.result _ _ _ c.points.invariant.sizes c.finish-then-is_terminating.ensures
 
 pub returns-then-is_terminating-clause-writes : goal.returns-then-is_terminating-clause-writes
 returns-then-is_terminating-clause-writes g c =
