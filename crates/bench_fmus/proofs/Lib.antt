@@ -1,6 +1,5 @@
 pub mod WrapLemmas
-pub mod WriteLemmas
 pub mod ValueLemmas
 pub mod PeerLemmas
-pub mod CounterLemmas
+pub mod BuiltInLemmas
 pub mod ScriptLemmas

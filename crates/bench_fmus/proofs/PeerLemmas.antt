@@ -1,11 +1,17 @@
 -- What a peer that keeps its exchanges in a book tells after a call.
-use Rattle.std.proofs.Common.{◌≡◌, [], ◌∷◌, ◌++◌, Option, Some, None, Result, Ok, Err, Bool, true, false, if◌then◌else◌, refl, sym, ap, subst}
+use Rattle.std.proofs.Common.{◌≡◌, [], ◌∷◌, ◌++◌, Option, Some, None, Result, Ok, Err, Bool, true, false, if◌then◌else◌, refl, sym, ap, ◌∙◌, subst}
 use Rattle.std.specs.Prelude.{option_map}
+use Rattle.std.specs.Result.{result_ok}
+use Rattle.value_types.specs.declared.shape.Shape.{Shape}
+use Rattle.fmi_calls.specs.Next.{next_of}
+use Rattle.fmi_calls.specs.Permission.{Permitted}
 use Rattle.fmi_calls.specs.declared.call.Call.{Call}
+use Rattle.fmi_calls.specs.declared.phase.Phase.{Phase}
 use Rattle.fmi_calls.specs.declared.call.Reply.{Reply}
 use Rattle.fmu_peer.specs.declared.peer.PeerFault.{PeerFault}
 use Rattle.fmu_peer.specs.declared.talk_room.TalkRoom.{TalkRoom}
-use Rattle.fmu_peer.specs.Machine.{Machine, State, after}
+use Rattle.fmu_peer.specs.Machine.{IsInPhase, IsMachineOf, Machine, MachineState, after}
+use Rattle.fmu_peer.proofs.MachineLemmas.{in_phase_after, in_phase_lost}
 use Rattle.fmu_peer.specs.View.{talked, AnswersAs}
 use Rattle.bench_fmus.specs.Told.{talk_in}
 
@@ -17,10 +23,20 @@ talk_goes_on None new call result is = is
 talk_goes_on (Some t) new call result is = is
 
 -- what a machine answers, or a fault in its place, is the machine's
-pub answers_as : (m : Machine) (s t : State) (call : Call) (reply : Reply) (fills : Bool) (fault : PeerFault) (result : Result Reply PeerFault) →
+pub answers_as : (m : Machine) (s t : MachineState) (call : Call) (reply : Reply) (fills : Bool) (fault : PeerFault) (result : Result Reply PeerFault) →
     reply ≡ m.look s call → t ≡ after m s call → result ≡ (if fills then Err fault else Ok reply) →
     AnswersAs (Some m) (Some s) call result (Some t)
 answers_as m s t call reply true fault result reply_is state_is result_is =
     subst (λ (r : Result Reply PeerFault). AnswersAs (Some m) (Some s) call r (Some t)) (sym result_is) refl
 answers_as m s t call reply false fault result reply_is state_is result_is =
-    subst (λ (r : Result Reply PeerFault). AnswersAs (Some m) (Some s) call r (Some t)) (sym result_is) (reply_is, ap (λ (u : State). Some u) state_is)
+    subst (λ (r : Result Reply PeerFault). AnswersAs (Some m) (Some s) call r (Some t)) (sym result_is) (reply_is, ap (λ (u : MachineState). Some u) state_is)
+
+-- its state is one of an instance in the phase that a book goes on to
+pub in_phase_kept : (shape : Shape) (m : Machine) (phase next : Phase) (s t : MachineState) (call : Call) (reply : Reply) (fills : Bool) (fault : PeerFault) (result : Result Reply PeerFault) →
+    IsMachineOf shape m → Permitted shape phase call → IsInPhase m phase s → reply ≡ m.look s call → t ≡ after m s call → result ≡ (if fills then Err fault else Ok reply) →
+    next ≡ next_of shape phase call (result_ok result) → IsInPhase m next t
+in_phase_kept shape m phase next s t call reply true fault result is may old reply_is state_is result_is next_is =
+    subst (λ (p : Phase). IsInPhase m p t) (sym (next_is ∙ ap (λ (r : Result Reply PeerFault). next_of shape phase call (result_ok r)) result_is)) (in_phase_lost shape m phase call t)
+in_phase_kept shape m phase next s t call reply false fault result is may old reply_is state_is result_is next_is =
+    subst (λ (p : Phase). IsInPhase m p t) (sym (next_is ∙ ap (λ (r : Result Reply PeerFault). next_of shape phase call (result_ok r)) result_is ∙ ap (λ (r : Reply). next_of shape phase call (Some r)) reply_is))
+    (subst (λ (u : MachineState). IsInPhase m (next_of shape phase call (Some (m.look s call))) u) (sym state_is) (in_phase_after shape m is phase s old call may))

@@ -1,37 +1,40 @@
--- What the built-in machines have in common: the numbers of a state, and the values of their variables.
-use Rattle.std.specs.Prelude.{ℕ, ℤ, pos, int_lt, Bool, List, [], ◌∷◌, slice_index_or, map, Option, None, unwrap_or}
+-- What the built-in machines have in common: the numbers of a state, the values under references, and the machine that a behaviour makes.
+use Rattle.std.specs.Prelude.{ℕ, ◌+◌, ℤ, pos, int_lt, Bool, false, List, [], ◌∷◌, slice_index_or, filter, map, Option, Some, None, unwrap_or}
+use Rattle.value_types.specs.Values.{word_of}
+use Rattle.value_types.specs.declared.values.PortType.TheVariants.{Clock}
+use Rattle.value_types.specs.declared.shape.IntervalVariability.{IntervalVariability}
+use Rattle.value_types.specs.declared.shape.IntervalVariability.TheVariants.{Countdown}
 use Rattle.value_types.specs.declared.shape.Variable.{Variable}
-use Rattle.fmu_peer.specs.Machine.{State, Saved, value_at}
+use Rattle.value_types.specs.declared.shape.Shape.{Shape}
+use Rattle.fmi_calls.specs.declared.call.Call.{Call}
+use Rattle.fmi_calls.specs.declared.call.Call.TheVariants as C
+use Rattle.fmi_calls.specs.declared.call.Content.{Content}
+use Rattle.fmi_calls.specs.declared.call.Content.TheVariants as A
+use Rattle.fmi_calls.specs.declared.call.Interval.{Interval}
+use Rattle.fmi_calls.specs.declared.call.Interval.TheVariants.{NotYetKnown, Changed}
+use Rattle.fmi_calls.specs.declared.call.Reply.TheVariants.{Done}
+use Rattle.fmi_calls.specs.Worth.{variability_at}
+use Rattle.fmu_peer.specs.Machine.{Machine, MachineState, is_input_clock, value_at}
+use Rattle.bench_fmus.specs.Wrapping.{wrapped}
 
--- the point that was reached, an input's last value, a count, a flag, and the mark of Initialization Mode
+-- ---- a state
+
+-- the mark of Initialization Mode, and a count
 pub record Numbers : Type 0 where
-  pub point : ℤ
-  pub held : ℤ
-  pub count : ℤ
-  pub fired : ℤ
   pub mark : ℤ
+  pub count : ℤ
 
 -- the numbers as a state has them
 abbrev pub listed : Numbers → List ℤ
-listed n = n.point ∷ n.held ∷ n.count ∷ n.fired ∷ n.mark ∷ []
-
--- the state of these numbers and values, with this slot
-abbrev pub state_of : Numbers → List ℤ → Option Saved → State
-state_of n values slot = record { numbers = listed n; values = values; slot = slot }
+listed n = n.mark ∷ n.count ∷ []
 
 -- the numbers that a state has; one that is missing is 0
 abbrev pub numbers_in : List ℤ → Numbers
-numbers_in xs = record {
-  point = slice_index_or xs 0 (pos 0);
-  held = slice_index_or xs 1 (pos 0);
-  count = slice_index_or xs 2 (pos 0);
-  fired = slice_index_or xs 3 (pos 0);
-  mark = slice_index_or xs 4 (pos 0);
-}
+numbers_in xs = record { mark = slice_index_or xs 0 (pos 0); count = slice_index_or xs 1 (pos 0) }
 
 -- before the first call
 abbrev pub at_first : Numbers
-at_first = record { point = pos 0; held = pos 0; count = pos 0; fired = pos 0; mark = pos 0 }
+at_first = record { mark = pos 0; count = pos 0 }
 
 -- the state is in Initialization Mode
 abbrev pub is_marked : Numbers → Bool
@@ -41,10 +44,65 @@ is_marked n = int_lt (pos 0) n.mark
 abbrev pub start_of : Variable → ℤ
 start_of v = unwrap_or v.start (pos 0)
 
--- a state's value under a reference, or 0 where no variable has it
+-- the value under a reference, or 0 where no variable has it
 abbrev pub value_of : List Variable → List ℤ → ℕ → ℤ
 value_of variables values reference = unwrap_or (value_at variables values reference) (pos 0)
 
+-- the values as the references have them: of several variables with one reference each has the first one's
+abbrev pub spread : List Variable → List ℤ → List ℤ
+spread variables values = map (λ (v : Variable). value_of variables values v.reference) variables
+
 -- the first state
-abbrev pub first_state : List Variable → State
-first_state variables = state_of at_first (map start_of variables) None
+abbrev pub first_state : List Variable → MachineState
+first_state variables = record { numbers = listed at_first; values = spread variables (map start_of variables); slot = None }
+
+-- ---- a machine
+
+-- how a machine behaves: what a reference shows, whether a step of a size asks to end the simulation, and the count after a step; each by the variables, the count and the values
+pub record Behaviour : Type 0 where
+  pub shown : List Variable → ℤ → List ℤ → ℕ → ℤ
+  pub asks_to_end : List Variable → List ℤ → ℕ → Bool
+  pub counted : List Variable → ℤ → List ℤ → ℤ
+
+-- a countdown Clock isn't armed, and any other ticks each second
+abbrev pub interval_of : Option IntervalVariability → Interval
+interval_of (Some Countdown) = NotYetKnown
+interval_of _ = Changed (record { counter = 1; resolution = 1 })
+
+-- what a reply carries
+abbrev pub content_of : Behaviour → Shape → Numbers → List ℤ → Call → Content
+content_of b shape n values (C.DoStep at size) = A.DoStep false (b.asks_to_end shape.variables values size) false (at + size)
+content_of b shape n values (C.Get kind reference) = A.Get (word_of (wrapped kind (b.shown shape.variables n.count values reference)))
+content_of b shape n values (C.GetClock reference) = A.GetClock (word_of (wrapped Clock (b.shown shape.variables n.count values reference)))
+content_of b shape n values (C.GetInterval reference) = A.GetInterval (interval_of (variability_at shape reference))
+content_of b shape n values (C.GetShift reference) = A.GetShift (record { counter = 0; resolution = 1 })
+content_of b shape n values C.Update = A.Update false false None
+content_of b shape n values (C.Instantiate event_mode early_return) = A.Instantiate
+content_of b shape n values (C.EnterInitialization start stop) = A.EnterInitialization
+content_of b shape n values C.ExitInitialization = A.ExitInitialization
+content_of b shape n values C.EnterEvent = A.EnterEvent
+content_of b shape n values C.EnterStep = A.EnterStep
+content_of b shape n values (C.Set kind reference value) = A.Set
+content_of b shape n values (C.SetClock reference) = A.SetClock
+content_of b shape n values C.Save = A.Save
+content_of b shape n values C.Restore = A.Restore
+content_of b shape n values C.Free = A.Free
+content_of b shape n values C.Terminate = A.Terminate
+content_of b shape n values C.FreeInstance = A.FreeInstance
+
+-- the numbers after a call; what Set, Save, Restore and Free do is the same for every machine
+abbrev pub numbers_after : Behaviour → List Variable → Numbers → List ℤ → Call → Numbers
+numbers_after b variables n values (C.EnterInitialization start stop) = record n { mark = pos 1 }
+numbers_after b variables n values C.ExitInitialization = record n { mark = pos 0 }
+numbers_after b variables n values (C.DoStep at size) = record n { count = b.counted variables n.count values }
+numbers_after b variables n values _ = n
+
+abbrev pub machine_of : Behaviour → Shape → Machine
+machine_of b shape = record {
+  references = map (λ (v : Variable). v.reference) shape.variables;
+  clocks = map (λ (v : Variable). v.reference) (filter is_input_clock shape.variables);
+  first = first_state shape.variables;
+  initializing = λ numbers. is_marked (numbers_in numbers);
+  look = λ s call. Done false (content_of b shape (numbers_in s.numbers) s.values call);
+  change = λ s call. listed (numbers_after b shape.variables (numbers_in s.numbers) s.values call);
+}

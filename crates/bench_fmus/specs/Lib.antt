@@ -1,9 +1,10 @@
 pub mod Wrapping
 pub mod BuiltIn
-pub mod Counting
-pub mod NumbersTold
+pub mod Counter
+pub mod Models
 pub mod Told
-pub mod CounterLaw
-pub mod CounterView
+pub mod Laws
+pub mod BuiltInView
 pub mod Answers
 pub mod ScriptView
+pub mod Spawners

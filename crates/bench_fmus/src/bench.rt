@@ -1,8 +1,8 @@
 ghost use Rattle.std.specs.Prelude.{◌≡◌, ◌↔◌, ◌+◌, ◌-◌, ◌^◌, ◌<◌, ◌≤◌, ◌++◌, min, [], ◌∷◌, length, Some, Err, IfOk, IfSome, Contains, option_map};
 ghost use Rattle.std.specs.Option.{ForSome};
 
-use crate::{Counter, Origin, Retired, StartPlan};
-use fmu_peer::{Spawner, StartFault, TalkBook, TalkRoom};
+use crate::{BuiltIn, Model, Origin, Retired, StartPlan};
+use fmu_peer::{Spawner, StartFault, TalkRoom};
 use std::alloc::{AllocError, Global};
 use value_types::Shape;
 
@@ -12,13 +12,13 @@ use value_types::Shape;
 pub struct Bench {
     pub room: Option<usize>,
     pub plan: StartPlan,
-    pub retired: Retired<Counter>,
+    pub retired: Retired<BuiltIn>,
     ghost fits: { ForSome room (λ n. 0 < n) },
 }
 
 impl Bench {
     ghost use Rattle.fmu_peer.specs.Start.{IsStarted};
-    ghost use Rattle.bench_fmus.specs.CounterView.{counter_view};
+    ghost use Rattle.bench_fmus.specs.BuiltInView.{built_in_view};
 
     /// A spawner before its first start.
     pub fn new(alloc: Global, room: Option<usize>, failing: Vec<u64>) -> Bench
@@ -36,28 +36,28 @@ impl Bench {
     }
 
     /// The peers that were taken back, in order.
-    pub fn retired(&self) -> &[Counter]
+    pub fn retired(&self) -> &[BuiltIn]
         ensures { result.now ≡ self.now.retired.peers.items }
     {
         self.retired.peers.as_slice()
     }
 
-    fn make_counter(
+    fn make(
         &self,
         alloc: Global,
+        model: Model,
         host: &str,
         name: &str,
         directory: &str,
         shape: &Shape,
-    ) -> Result<Counter, AllocError>
-        ensures fresh { IfOk result (λ c. IsStarted host.now name.now directory.now shape.now (counter_view c)) }
-        ensures talk { IfOk result (λ c. option_map (λ t. t.room) c.book.talk ≡ self.now.room) }
+    ) -> Result<BuiltIn, AllocError>
+        ensures fresh { IfOk result (λ b. IsStarted host.now name.now directory.now shape.now (built_in_view b)) }
+        ensures talk { IfOk result (λ b. option_map (λ t. t.room) b.book.talk ≡ self.now.room) }
     {
         let talk = make_talk(alloc, self.room)?;
-        let book = TalkBook::new(alloc, shape.copy(alloc)?, talk)?;
         let origin = Origin::from_texts(alloc, host, name, directory)?;
-        let counter = Counter::new(alloc, book, origin)?;
-        Ok(counter)
+        let peer = BuiltIn::new(alloc, model, origin, shape, talk)?;
+        Ok(peer)
     }
 }
 
@@ -72,21 +72,16 @@ fn make_talk(alloc: Global, room: Option<usize>) -> Result<Option<TalkRoom>, All
 }
 
 impl Spawner for Bench {
-    type Link = Counter;
+    type Link = BuiltIn;
 
     ghost use Rattle.std.specs.Prelude.{map, OnOk, OnErr, IsErrOf, true};
-    ghost use Rattle.fmu_peer.specs.Start.{IsStarted, HasStartCause, AnswersUnknown};
+    ghost use Rattle.fmu_peer.specs.Start.{IsStarted, NotesStart, AnswersUnknown};
     ghost use Rattle.fmu_peer.specs.declared.spawner.StartFault.TheVariants.{Failed, Memory};
-    ghost use Rattle.bench_fmus.specs.Counting.{is_counter};
-    ghost use Rattle.bench_fmus.specs.CounterView.{counter_view, fewer_views};
+    ghost use Rattle.bench_fmus.specs.Models.{is_model};
+    ghost use Rattle.bench_fmus.specs.BuiltInView.{built_in_view, fewer_views};
+    ghost use Rattle.bench_fmus.specs.Spawners.{bench_view};
 
-    ghost started = { λ b. b.retired.started };
-
-    ghost retired = { λ b. Some (map counter_view b.retired.peers.items) };
-
-    ghost knows = { λ b identifier. is_counter identifier };
-
-    ghost faults = { λ b. b.plan.faults };
+    ghost view = { bench_view };
 
     ghost fewer = { λ b. fewer_views b.retired.peers.items b.retired.started b.retired.fewer };
 
@@ -97,38 +92,35 @@ impl Spawner for Bench {
         name: &str,
         directory: &str,
         shape: &Shape,
-    ) -> Result<Counter, StartFault>
+    ) -> Result<BuiltIn, StartFault>
         requires name { (1 ≤ length name.now) × (length name.now ≤ 2 ^ 24) }
         requires token { length shape.now.token ≤ 2 ^ 24 }
-        ensures fresh { IfOk result (λ c. IsStarted host.now name.now directory.now shape.now (counter_view c)) }
-        ensures talk { IfOk result (λ c. option_map (λ t. t.room) c.book.talk ≡ self.old.room) }
-        ensures ok { OnOk result (self.new.retired.started ≡ self.old.retired.started + 1) }
-        ensures err { OnErr result (self.new.retired.started ≡ self.old.retired.started) }
-        ensures retired { self.new.retired.peers.items ≡ self.old.retired.peers.items }
+        ensures fresh { IfOk result (λ b. IsStarted host.now name.now directory.now shape.now (built_in_view b)) }
+        ensures talk { IfOk result (λ b. option_map (λ t. t.room) b.book.talk ≡ self.old.room) }
         ensures room { self.new.room ≡ self.old.room }
         ensures failing { self.new.plan.failing ≡ self.old.plan.failing }
         ensures counted { self.new.plan.starts ≡ min (self.old.plan.starts + 1) (2 ^ 64 - 1) }
         ensures failed { (result ≡ Err Failed) ↔ Contains self.old.plan.failing self.old.plan.starts }
-        ensures unknown { AnswersUnknown (is_counter shape.now.identifier) result }
+        ensures unknown { AnswersUnknown (is_model shape.now.identifier) result }
 
         // Another name is refused without memory.
-        ensures memory { IsErrOf result Memory → is_counter shape.now.identifier ≡ true }
-        ensures cause { HasStartCause self.old.plan.faults self.new.plan.faults result }
+        ensures memory { IsErrOf result Memory → is_model shape.now.identifier ≡ true }
+        ensures noted { NotesStart (bench_view self.old) (bench_view self.new) result }
     {
         self.plan.begin()?;
-        if shape.identifier.as_str() != "counter" {
+        let Some(model) = Model::named(shape.identifier.as_str()) else {
             return Err(StartFault::Unknown);
-        }
-        let Ok(counter) = self.make_counter(alloc, host, name, directory, shape) else {
+        };
+        let Ok(peer) = self.make(alloc, model, host, name, directory, shape) else {
             return Err(StartFault::Memory);
         };
-        match self.retired.reserve() {
-            Ok(()) => Ok(counter),
+        match self.retired.count(peer) {
+            Ok(peer) => Ok(peer),
             Err(_) => Err(StartFault::Memory),
         }
     }
 
-    fn retire(&mut self, link: Counter)
+    fn retire(&mut self, link: BuiltIn)
         requires { length self.old.retired.peers.items < self.old.retired.started }
         ensures retired { self.new.retired.peers.items ≡ self.old.retired.peers.items ++ link ∷ [] }
         ensures started { self.new.retired.started ≡ self.old.retired.started }

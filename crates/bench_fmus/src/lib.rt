@@ -2,8 +2,10 @@
 #![tactic(auto)]
 
 mod bench;
+mod built_in;
+mod built_in_state;
 mod counter;
-mod numbers;
+mod model;
 mod origin;
 mod retired;
 mod saved_state;
@@ -15,8 +17,9 @@ mod tests;
 mod wrap;
 
 pub use bench::Bench;
-pub use counter::Counter;
-pub use numbers::Numbers;
+pub use built_in::BuiltIn;
+pub use built_in_state::{BuiltInState, Numbers};
+pub use model::Model;
 pub use origin::Origin;
 pub use retired::Retired;
 pub use saved_state::SavedState;

@@ -1,4 +1,4 @@
-ghost use Rattle.std.specs.Prelude.{◌≡◌, ◌+◌, ◌<◌, ◌≤◌, ◌++◌, [], ◌∷◌, length, vec_capacity, OnOk, OnErr};
+ghost use Rattle.std.specs.Prelude.{◌≡◌, ◌+◌, ◌<◌, ◌≤◌, ◌++◌, [], ◌∷◌, length, vec_capacity, IfOk, OnErr, OnOk};
 
 use std::alloc::{AllocError, Global};
 
@@ -23,15 +23,25 @@ impl<L> Retired<L> {
         }
     }
 
-    /// Counts a start, and makes the room to take its peer back.
-    pub fn reserve(&mut self) -> Result<(), AllocError>
+    /// Counts the start of a peer, and makes the room to take it back.
+    pub fn count(&mut self, peer: L) -> Result<L, AllocError>
+    where
+        L: Drop,
+        ensures peer { IfOk result (λ same. same ≡ peer) }
         ensures ok { OnOk result (self.new.started ≡ self.old.started + 1) }
         ensures err { OnErr result (self.new.started ≡ self.old.started) }
         ensures peers { self.new.peers.items ≡ self.old.peers.items }
     {
-        let Some(started) = self.started.checked_add(1) else {
-            return Err(AllocError);
-        };
+        self.reserve()?;
+        Ok(peer)
+    }
+
+    fn reserve(&mut self) -> Result<(), AllocError>
+        ensures ok { OnOk result (self.new.started ≡ self.old.started + 1) }
+        ensures err { OnErr result (self.new.started ≡ self.old.started) }
+        ensures peers { self.new.peers.items ≡ self.old.peers.items }
+    {
+        let started = self.started + 1;
         self.peers.reserve(started - self.peers.len())?;
         self.started = started;
         Ok(())

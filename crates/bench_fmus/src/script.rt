@@ -55,6 +55,12 @@ impl Peer for Script {
 
     ghost view = { script_view };
 
+    ghost machine = { λ s. tt };
+
+    ghost in_phase = { λ s. tt };
+
+    ghost ignores_slot = { λ s. tt };
+
     ghost lawful = { λ s. tt };
 
     fn shape(&self) -> &Shape {

@@ -89,17 +89,12 @@ impl Spawner for Scripts {
     type Link = Script;
 
     ghost use Rattle.std.specs.Prelude.{map};
-    ghost use Rattle.fmu_peer.specs.Start.{HasStartCause, AnswersUnknown};
+    ghost use Rattle.fmu_peer.specs.Start.{NotesStart, AnswersUnknown};
     ghost use Rattle.fmu_peer.specs.declared.spawner.StartFault.TheVariants.{Failed};
     ghost use Rattle.bench_fmus.specs.ScriptView.{fewer_scripts};
+    ghost use Rattle.bench_fmus.specs.Spawners.{scripts_view};
 
-    ghost started = { λ s. s.retired.started };
-
-    ghost retired = { λ s. Some (map script_view s.retired.peers.items) };
-
-    ghost knows = { λ s identifier. true };
-
-    ghost faults = { λ s. s.plan.faults };
+    ghost view = { scripts_view };
 
     ghost fewer = { λ s. fewer_scripts s.retired.peers.items s.retired.started s.retired.fewer };
 
@@ -116,15 +111,12 @@ impl Spawner for Scripts {
         ensures fresh { IfOk result (λ s. IsStarted host.now name.now directory.now shape.now (script_view s)) }
         ensures answers { IfOk result (λ s. Some s.answers ≡ slice_get self.old.lists self.old.plan.starts) }
         ensures room { IfOk result (λ s. option_map (λ t. t.room) s.book.talk ≡ Some (length s.answers + 1)) }
-        ensures ok { OnOk result (self.new.retired.started ≡ self.old.retired.started + 1) }
-        ensures err { OnErr result (self.new.retired.started ≡ self.old.retired.started) }
-        ensures retired { self.new.retired.peers.items ≡ self.old.retired.peers.items }
         ensures lists { self.new.lists ≡ self.old.lists }
         ensures failing { self.new.plan.failing ≡ self.old.plan.failing }
         ensures counted { self.new.plan.starts ≡ min (self.old.plan.starts + 1) (2 ^ 64 - 1) }
         ensures failed { (result ≡ Err Failed) ↔ (Contains self.old.plan.failing self.old.plan.starts ⊎ (length self.old.lists ≤ self.old.plan.starts)) }
         ensures unknown { AnswersUnknown true result }
-        ensures cause { HasStartCause self.old.plan.faults self.new.plan.faults result }
+        ensures noted { NotesStart (scripts_view self.old) (scripts_view self.new) result }
     {
         let place = self.plan.starts as usize;
         self.plan.begin()?;
@@ -134,8 +126,8 @@ impl Spawner for Scripts {
         let Ok(script) = make_script(alloc, host, name, directory, shape, answers.as_slice()) else {
             return Err(StartFault::Memory);
         };
-        match self.retired.reserve() {
-            Ok(()) => Ok(script),
+        match self.retired.count(script) {
+            Ok(script) => Ok(script),
             Err(_) => Err(StartFault::Memory),
         }
     }

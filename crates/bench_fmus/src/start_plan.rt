@@ -1,6 +1,5 @@
-ghost use Rattle.std.specs.Prelude.{◌≡◌, ◌↔◌, ◌+◌, ◌-◌, ◌^◌, ◌≤◌, min, IsErr, IfErr, Contains};
-ghost use Rattle.sim_base.specs.Causes.{Rose};
-ghost use Rattle.fmu_peer.specs.Start.{HasStartCause};
+ghost use Rattle.std.specs.Prelude.{◌≡◌, ◌↔◌, ◌+◌, ◌-◌, ◌^◌, min, IsErr, IfErr, OnOk, OnErr, Contains};
+ghost use Rattle.sim_base.specs.Causes.{one_more};
 
 use fmu_peer::StartFault;
 use sim_base::Items;
@@ -32,7 +31,8 @@ impl StartPlan {
         ensures failed { IfErr result (λ fault. fault ≡ StartFault.Failed) }
         ensures failing { self.new.failing ≡ self.old.failing }
         ensures counted { self.new.starts ≡ min (self.old.starts + 1) (2 ^ 64 - 1) }
-        ensures cause { HasStartCause self.old.faults self.new.faults result }
+        ensures quiet { OnOk result (self.new.faults ≡ self.old.faults) }
+        ensures rose { OnErr result (self.new.faults ≡ one_more self.old.faults) }
     {
         let fails = self.failing.as_slice().contains(&self.starts);
         self.starts = self.starts.saturating_add(1);
@@ -42,8 +42,7 @@ impl StartPlan {
     /// Counts a fault.
     pub fn fail(&mut self) -> StartFault
         ensures fault { result ≡ StartFault.Failed }
-        ensures rose { Rose self.old.faults self.new.faults }
-        ensures later { self.old.faults ≤ self.new.faults }
+        ensures rose { self.new.faults ≡ one_more self.old.faults }
         ensures failing { self.new.failing ≡ self.old.failing }
         ensures starts { self.new.starts ≡ self.old.starts }
     {

@@ -7,7 +7,7 @@ use sim_base::{Items, Text};
 use std::alloc::{AllocError, Global};
 use std::process::Abort;
 use std::test::Fail;
-use value_types::{Causality, PortType, Shape, Variable};
+use value_types::{ByReference, Causality, PortType, Shape, Variable};
 
 // The type of y, the parameter inc, and the words of y in Initialization Mode and after each of three steps.
 const COUNTS: [(PortType, i128, [u64; 4]); 13] = [
@@ -99,6 +99,8 @@ const END: [(Call, Content); 2] = [
     (Call::Terminate, Content::Terminate),
     (Call::FreeInstance, Content::FreeInstance),
 ];
+
+const NO_STEPS: &[(Call, Content)] = &[];
 
 const GET: Call = Call::Get {
     kind: PortType::Int32,
@@ -192,10 +194,10 @@ fn shape(alloc: Global, identifier: &str, variables: Vec<Variable>) -> Result<Sh
         has_variable_steps: true,
         can_save_state: true,
         can_serialize_state: false,
-        variables: Items::from_vec(variables),
-        clocks: Items::from_vec(Vec::new(alloc)),
-        dependencies: Items::from_vec(Vec::new(alloc)),
-        initial_dependencies: Items::from_vec(Vec::new(alloc)),
+        variables: ByReference::new(alloc, variables)?,
+        clocks: ByReference::new(alloc, Vec::new(alloc))?,
+        dependencies: ByReference::new(alloc, Vec::new(alloc))?,
+        initial_dependencies: ByReference::new(alloc, Vec::new(alloc))?,
     })
 }
 
@@ -250,10 +252,11 @@ fn step(at: u64, size: u64, terminate: bool) -> (Call, Content)
     (Call::DoStep { at, size }, content)
 }
 
-fn count<L: Peer>(rt: &impl Abort, peer: &mut L, kind: PortType, words: &[u64; 4]) {
+// What reads y behind Initialization Mode and behind each of three steps.
+fn steps_of(kind: PortType, words: &[u64; 4]) -> [(Call, Content); 8] {
     let get = Call::Get { kind, reference: 2 };
     let [first, second, third, fourth] = *words;
-    let steps = [
+    [
         (get, Content::Get { word: first }),
         (Call::ExitInitialization, Content::ExitInitialization),
         step(0, 20, false),
@@ -262,8 +265,26 @@ fn count<L: Peer>(rt: &impl Abort, peer: &mut L, kind: PortType, words: &[u64; 4
         (get, Content::Get { word: third }),
         step(40, 20, false),
         (get, Content::Get { word: fourth }),
-    ];
-    run(rt, peer, &steps);
+    ]
+}
+
+// One peer of the shape answers these calls so, and then those of its closing.
+fn drive<S: Spawner>(
+    rt: &impl Abort,
+    alloc: Global,
+    spawner: &mut S,
+    shape: &Shape,
+    first: &[(Call, Content)],
+    then: &[(Call, Content)],
+) -> Result<(), StartFault>
+where
+    S::Link: Drop,
+{
+    let mut peer = start(rt, alloc, spawner, shape)?;
+    run(rt, &mut peer, first);
+    run(rt, &mut peer, then);
+    run(rt, &mut peer, &END);
+    Ok(())
 }
 
 #[test]
@@ -272,11 +293,8 @@ fn a_counter_counts(rt: HostRuntime) -> Result<(), Fail> {
     for (kind, inc, words) in COUNTS {
         let shape = counter_shape(alloc, kind, inc, None)?;
         let mut bench = Bench::new(alloc, None, Vec::new(alloc));
-        let mut counter = start(&rt, alloc, &mut bench, &shape)?;
-        run(&rt, &mut counter, &BEGIN);
-        count(&rt, &mut counter, kind, &words);
-        run(&rt, &mut counter, &END);
-        assert!(rt; counter.talk().is_none());
+        let steps = steps_of(kind, &words);
+        drive(&rt, alloc, &mut bench, &shape, &BEGIN, &steps)?;
     }
     Ok(())
 }
@@ -287,9 +305,7 @@ fn a_value_is_written_and_a_state_comes_back(rt: HostRuntime) -> Result<(), Fail
     for steps in RUNS {
         let shape = counter_shape(alloc, PortType::Int32, 2, None)?;
         let mut bench = Bench::new(alloc, None, Vec::new(alloc));
-        let mut counter = start(&rt, alloc, &mut bench, &shape)?;
-        run(&rt, &mut counter, steps);
-        run(&rt, &mut counter, &END);
+        drive(&rt, alloc, &mut bench, &shape, steps, NO_STEPS)?;
     }
     Ok(())
 }
@@ -300,11 +316,10 @@ fn a_long_step_asks_to_end(rt: HostRuntime) -> Result<(), Fail> {
     for (long, size, terminate) in LONGS {
         let shape = counter_shape(alloc, PortType::Int32, 1, long)?;
         let mut bench = Bench::new(alloc, None, Vec::new(alloc));
-        let mut counter = start(&rt, alloc, &mut bench, &shape)?;
-        run(&rt, &mut counter, &BEGIN);
         let exit = (Call::ExitInitialization, Content::ExitInitialization);
         assert!(rt; size < 60);
-        run(&rt, &mut counter, &[exit, step(0, size, terminate)]);
+        let steps = [exit, step(0, size, terminate)];
+        drive(&rt, alloc, &mut bench, &shape, &BEGIN, &steps)?;
     }
     Ok(())
 }
@@ -328,8 +343,6 @@ fn inc_and_y_have_any_type_and_another_output_shows_its_value(rt: HostRuntime) -
         ]?;
         let shape = self::shape(alloc, "counter", variables)?;
         let mut bench = Bench::new(alloc, None, Vec::new(alloc));
-        let mut counter = start(&rt, alloc, &mut bench, &shape)?;
-        run(&rt, &mut counter, &BEGIN);
         let steps = [
             (Call::ExitInitialization, Content::ExitInitialization),
             step(0, 20, false),
@@ -339,9 +352,24 @@ fn inc_and_y_have_any_type_and_another_output_shows_its_value(rt: HostRuntime) -
                 Content::Get { word: other },
             ),
         ];
-        run(&rt, &mut counter, &steps);
-        run(&rt, &mut counter, &END);
+        drive(&rt, alloc, &mut bench, &shape, &BEGIN, &steps)?;
     }
+    Ok(())
+}
+
+#[test]
+fn variables_with_one_reference_have_one_value(rt: HostRuntime) -> Result<(), Fail> {
+    let alloc = rt.alloc();
+    let variables = vec![in alloc;
+        variable(alloc, 7, PortType::Int32, Causality::Output, Some(4))?,
+        variable(alloc, 1, PortType::Int64, Causality::Parameter, Some(3))?,
+        variable(alloc, 1, PortType::Int64, Causality::Parameter, Some(9))?,
+        variable(alloc, 2, PortType::Int32, Causality::Output, None)?,
+    ]?;
+    let shape = self::shape(alloc, "counter", variables)?;
+    let mut bench = Bench::new(alloc, None, Vec::new(alloc));
+    let steps = steps_of(PortType::Int32, &[0, 3, 6, 9]);
+    drive(&rt, alloc, &mut bench, &shape, &BEGIN, &steps)?;
     Ok(())
 }
 

@@ -2,18 +2,33 @@
 use Rattle.std.specs.Prelude.{◌≡◌, ℕ, ◌^◌, ◌≤◌, Bool, true, false, List, [], ◌∷◌, map, find, Option, Some, None, if◌then◌else◌, codes, decimal, String, string_bytes}
 use Rattle.std.specs.Str.{bytes_eq}
 use Rattle.std.specs.declared.alloc.Global.{Global}
-use Rattle.run_model.specs.declared.plan.Plan.{Plan}
+use Rattle.system_model.specs.declared.plan.Plan.{Plan}
 use Rattle.command_line.specs.Words.{Word, Item, IsSpelled, has_each_once, is_among, positionals_of, value_of}
+use Rattle.command_line.specs.declared.words.CommandLine.{CommandLine}
+use Rattle.command_line.specs.declared.words.CommandLine.TheVariants as R
 use Rattle.command_line.specs.declared.words.Options.{Options}
 
 -- ---- the table of the commands
 
 -- an option whose value is a count: its limits, and the count where it isn't given, unless it has to be
-pub record OptionRow : Type 0 where
+pub record CountRow : Type 0 where
   pub name : Word
   pub least : ℕ
   pub most : ℕ
   pub default : Option ℕ
+
+-- an option whose value is a text, and the text where it isn't given, unless it has to be
+pub record TextRow : Type 0 where
+  pub name : Word
+  pub default : Option Word
+
+pub data OptionRow : Type 0 where
+  CountOption : CountRow → OptionRow
+  TextOption : TextRow → OptionRow
+
+abbrev pub option_name : OptionRow → Word
+option_name (CountOption row) = row.name
+option_name (TextOption row) = row.name
 
 -- a command: its name, the names of its positionals in order, and its options
 pub record CommandRow : Type 0 where
@@ -22,27 +37,31 @@ pub record CommandRow : Type 0 where
   pub options : List OptionRow
 
 -- counts go up to 2^62
-abbrev pub count_row : Word → ℕ → Option ℕ → OptionRow
+abbrev pub count_row : Word → ℕ → Option ℕ → CountRow
 count_row name least default = record { name = name; least = least; most = 2 ^ 62; default = default }
 
-abbrev pub resolution_row : OptionRow
+abbrev pub resolution_row : CountRow
 resolution_row = count_row (codes "resolution") 1 None
 
-abbrev pub step_row : OptionRow
+abbrev pub step_row : CountRow
 step_row = count_row (codes "step") 1 None
 
-abbrev pub stop_row : OptionRow
+abbrev pub stop_row : CountRow
 stop_row = count_row (codes "stop") 0 None
 
-abbrev pub start_row : OptionRow
+abbrev pub start_row : CountRow
 start_row = count_row (codes "start") 0 (Some 0)
+
+-- where no option says it, so many instants at a point end a run
+abbrev pub default_limit : ℕ
+default_limit = 100
 
 -- the run of one FMU
 abbrev pub one_row : CommandRow
 one_row = record {
   name = codes "one";
   positionals = codes "DIR" ∷ [];
-  options = resolution_row ∷ step_row ∷ stop_row ∷ start_row ∷ [];
+  options = CountOption resolution_row ∷ CountOption step_row ∷ CountOption stop_row ∷ CountOption start_row ∷ [];
 }
 
 abbrev pub commands : List CommandRow
@@ -51,7 +70,7 @@ commands = one_row ∷ []
 -- ---- lines of a table
 
 abbrev pub option_names : CommandRow → List Word
-option_names row = map (λ o. o.name) row.options
+option_names row = map option_name row.options
 
 -- the command with a name
 abbrev pub command_named : List CommandRow → Word → Option CommandRow
@@ -91,21 +110,31 @@ pub record IsLineOf (rows : List CommandRow) (words : List Word) (name : Word) (
   pub gives : get ≡ given row items
 
 -- the word is this count, in decimal digits without a sign or a leading zero, and within the option's limits
-pub record IsCount (o : OptionRow) (word : Word) (n : ℕ) : Type 0 where
+pub record IsCount (o : CountRow) (word : Word) (n : ℕ) : Type 0 where
   pub digits : word ≡ decimal n
   pub at_least : o.least ≤ n
   pub at_most : n ≤ o.most
 
 -- an option's count: that of its value, or where it isn't given the one that stands in its place
-abbrev pub Counts : OptionRow → Option Word → ℕ → Type 0
+abbrev pub Counts : CountRow → Option Word → ℕ → Type 0
 Counts o (Some word) n = IsCount o word n
 Counts o None n = o.default ≡ Some n
 
+-- an option's text: its value, or where it isn't given the one that stands in its place
+abbrev pub Gives : TextRow → Option Word → Word → Type 0
+Gives o (Some word) text = word ≡ text
+Gives o None text = o.default ≡ Some text
+
 -- ---- what a line asks for
 
-pub record Line : Type 0 where
+-- a line of `one`: the directory of the FMU, and the plan
+pub record OneLine : Type 0 where
   pub directory : List ℕ
   pub plan : Plan
+
+-- a line of a command
+pub data Line : Type 0 where
+  One : OneLine → Line
 
 -- the options give each count of the plan, which doesn't stop before it starts
 pub record GivesPlan (get : Lookup) (plan : Plan) : Type 0 where
@@ -113,15 +142,16 @@ pub record GivesPlan (get : Lookup) (plan : Plan) : Type 0 where
   pub step : Counts step_row (get step_row.name) plan.step
   pub stop : Counts stop_row (get stop_row.name) plan.stop
   pub start : Counts start_row (get start_row.name) plan.start
+  pub limit : plan.limit ≡ default_limit
   pub ordered : plan.start ≤ plan.stop
 
 -- a line of `one` gives the directory and the plan
-abbrev pub AsksOne : Lookup → Line → Type 0
+abbrev pub AsksOne : Lookup → OneLine → Type 0
 AsksOne get line = (get (codes "DIR") ≡ Some line.directory) × GivesPlan get line.plan
 
 -- what a line of each command asks for
 abbrev pub Asks : Word → Lookup → Line → Type 0
-Asks name get line = (name ≡ one_row.name) × AsksOne get line
+Asks name get (One line) = (name ≡ one_row.name) × AsksOne get line
 
 -- the words are a line that asks for this
 pub record IsLine (words : List Word) (line : Line) : Type 0 where
@@ -130,12 +160,23 @@ pub record IsLine (words : List Word) (line : Line) : Type 0 where
   pub is : IsLineOf commands words name get
   pub asks : Asks name get line
 
--- the limits of each line's plan
-pub record IsWithin (line : Line) : Type 0 where
-  pub resolution : (1 ≤ line.plan.resolution) × (line.plan.resolution ≤ 2 ^ 62)
-  pub step : (1 ≤ line.plan.step) × (line.plan.step ≤ 2 ^ 62)
-  pub stop : line.plan.stop ≤ 2 ^ 62
-  pub start : line.plan.start ≤ line.plan.stop
+abbrev pub directory_of : Line → List ℕ
+directory_of (One line) = line.directory
+
+abbrev pub plan_of : Line → Plan
+plan_of (One line) = line.plan
+
+-- the limits of a plan
+pub record IsWithin (plan : Plan) : Type 0 where
+  pub resolution : (1 ≤ plan.resolution) × (plan.resolution ≤ 2 ^ 62)
+  pub step : (1 ≤ plan.step) × (plan.step ≤ 2 ^ 62)
+  pub stop : plan.stop ≤ 2 ^ 62
+  pub start : plan.start ≤ plan.stop
+  pub limit : (1 ≤ plan.limit) × (plan.limit ≤ 10000)
+
+-- the plan of a line keeps its limits
+abbrev pub KeepsLimits : Line → Type 0
+KeepsLimits line = IsWithin (plan_of line)
 
 -- ---- words and options of the program
 
@@ -143,6 +184,14 @@ pub record IsWithin (line : Line) : Type 0 where
 abbrev pub texts : List (String Global) → List Word
 texts words = map (string_bytes {Z = Global}) words
 
--- the line that options tell
-abbrev pub line_of : Options → Line
-line_of options = record { directory = options.directory.now; plan = options.plan }
+-- the line of `one` that options tell
+abbrev pub one_of : Options → OneLine
+one_of options = record { directory = options.directory.now; plan = options.plan }
+
+-- the line that a command with its options tells
+abbrev pub line_of : CommandLine → Line
+line_of (R.One options) = One (one_of options)
+
+-- the line of these options
+abbrev pub line_with : Options → Line
+line_with options = One (one_of options)

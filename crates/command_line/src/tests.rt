@@ -1,4 +1,4 @@
-use crate::{WordsFault, read_words};
+use crate::{CommandLine, WordsFault, read_words};
 use std::alloc::{AllocError, Global};
 use std::test::Fail;
 
@@ -162,7 +162,7 @@ fn split_words(alloc: Global, line: &str) -> Result<Vec<String>, AllocError> {
 }
 
 fn read(alloc: Global, words: &[String]) -> Result<(&str, [u64; 4]), WordsFault> {
-    let options = read_words(alloc, words)?;
+    let CommandLine::One(options) = read_words(alloc, words)?;
     let plan = options.plan;
     let counts = [plan.resolution, plan.start, plan.step, plan.stop];
     Ok((options.directory, counts))

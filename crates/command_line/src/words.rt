@@ -1,21 +1,31 @@
 ghost use Rattle.std.specs.Prelude.{◌≡◌, IfOk, IfErr, IfSome, IsSomeAnd};
 ghost use Rattle.clap.specs.Words.{app_of, first_of, found_of, rows_of, subcommand_rows_of};
 ghost use Rattle.command_line.specs.App.{app_of_rows};
-ghost use Rattle.command_line.specs.Line.{Asks, AsksOne, GivesPlan, IsLine, IsLineOf, IsWithin, Line, Lookup, commands, line_of, texts};
+ghost use Rattle.command_line.specs.Line.{Asks, AsksOne, GivesPlan, IsLine, IsLineOf, IsWithin, KeepsLimits, Line, Lookup, OneLine, commands, line_of, one_of, texts};
 ghost use Rattle.command_line.specs.Table.{GivesLine, SubAsks};
 ghost use Rattle.command_line.specs.Words.{Word};
 ghost use Rattle.command_line.specs.declared.fault.WordsFault.TheVariants.{NoLine};
-ghost use Rattle.run_model.specs.declared.plan.Plan.{Plan};
+ghost use Rattle.system_model.specs.declared.plan.Plan.{Plan};
 
 use crate::clap_command::{top_command, with_subcommand};
 use crate::counts::{option_count, value_of};
 use crate::fault::WordsFault;
 use crate::lines::read_line;
 use clap::{ArgMatches, Command};
-use run_model::Plan;
 use std::alloc::{AllocError, Global};
+use system_model::Plan;
 
-/// What a command line asks for: to run the FMU in a directory by a plan.
+// So many instants at a point end a run, where no option says it.
+const DEFAULT_LIMIT: u64 = 100;
+
+/// What a command line asks for, by its command.
+#[derive(Clone, Copy, Debug)]
+pub enum CommandLine<'a> {
+    /// to run the FMU in a directory
+    One(Options<'a>),
+}
+
+/// What `one` is asked for: the directory of the FMU, and the plan of its run.
 #[derive(Clone, Copy, Debug)]
 pub struct Options<'a> {
     pub directory: &'a str,
@@ -25,15 +35,15 @@ pub struct Options<'a> {
 /// Reads the words of a command line, without the program's name.
 ///
 /// `NoLine` comes only where the words are no line. `Memory` may come for any words.
-pub fn read_words(alloc: Global, words: &[String]) -> Result<Options<'_>, WordsFault>
-    ensures ok { IfOk result (λ o. IsLine (texts words.now) (line_of o)) }
+pub fn read_words(alloc: Global, words: &[String]) -> Result<CommandLine<'_>, WordsFault>
+    ensures ok { IfOk result (λ l. IsLine (texts words.now) (line_of l)) }
     ensures none { IfErr result (λ e. e ≡ NoLine → (line : Line) → IsLine (texts words.now) line → ⊥) }
-    ensures only { (line : Line) → IsLine (texts words.now) line → IfOk result (λ o. line_of o ≡ line) }
-    ensures within { IfOk result (λ o. IsWithin (line_of o)) }
+    ensures only { (line : Line) → IsLine (texts words.now) line → IfOk result (λ l. line_of l ≡ line) }
+    ensures within { IfOk result (λ l. KeepsLimits (line_of l)) }
 {
     match find_line(alloc, words) {
         Ok(matches) => match read_matches(&matches) {
-            Some(options) => Ok(options),
+            Some(line) => Ok(line),
             None => Err(WordsFault::NoLine),
         },
         Err(fault) => Err(fault),
@@ -65,11 +75,11 @@ fn make_command<'a>(alloc: Global) -> Result<Command<'a>, AllocError>
     )
 }
 
-// The options of the command that was matched.
-fn read_matches<'a>(matches: &ArgMatches<'a>) -> Option<Options<'a>>
-    ensures ok { IfSome result (λ o. SubAsks (subcommand_rows_of matches.now) (line_of o)) }
-    ensures only { (line : Line) → SubAsks (subcommand_rows_of matches.now) line → IsSomeAnd result (λ o. line_of o ≡ line) }
-    ensures within { IfSome result (λ o. IsWithin (line_of o)) }
+// The command that was matched, with its options.
+fn read_matches<'a>(matches: &ArgMatches<'a>) -> Option<CommandLine<'a>>
+    ensures ok { IfSome result (λ l. SubAsks (subcommand_rows_of matches.now) (line_of l)) }
+    ensures only { (line : Line) → SubAsks (subcommand_rows_of matches.now) line → IsSomeAnd result (λ l. line_of l ≡ line) }
+    ensures within { IfSome result (λ l. KeepsLimits (line_of l)) }
 {
     match matches.subcommand() {
         Some((name, inner)) => read_command(name, inner),
@@ -77,22 +87,22 @@ fn read_matches<'a>(matches: &ArgMatches<'a>) -> Option<Options<'a>>
     }
 }
 
-// The options of a command, by its name.
-fn read_command<'a>(name: &str, matches: &ArgMatches<'a>) -> Option<Options<'a>>
-    ensures ok { IfSome result (λ o. Asks name.now (λ n. first_of n (rows_of (found_of matches.now))) (line_of o)) }
-    ensures only { (line : Line) → Asks name.now (λ n. first_of n (rows_of (found_of matches.now))) line → IsSomeAnd result (λ o. line_of o ≡ line) }
-    ensures within { IfSome result (λ o. IsWithin (line_of o)) }
+// A command with its options, by its name.
+fn read_command<'a>(name: &str, matches: &ArgMatches<'a>) -> Option<CommandLine<'a>>
+    ensures ok { IfSome result (λ l. Asks name.now (λ n. first_of n (rows_of (found_of matches.now))) (line_of l)) }
+    ensures only { (line : Line) → Asks name.now (λ n. first_of n (rows_of (found_of matches.now))) line → IsSomeAnd result (λ l. line_of l ≡ line) }
+    ensures within { IfSome result (λ l. KeepsLimits (line_of l)) }
 {
     match name {
-        "one" => read_one(matches),
+        "one" => Some(CommandLine::One(read_one(matches)?)),
         _ => None,
     }
 }
 
 fn read_one<'a>(matches: &ArgMatches<'a>) -> Option<Options<'a>>
-    ensures ok { IfSome result (λ o. AsksOne (λ n. first_of n (rows_of (found_of matches.now))) (line_of o)) }
-    ensures only { (line : Line) → AsksOne (λ n. first_of n (rows_of (found_of matches.now))) line → IsSomeAnd result (λ o. line_of o ≡ line) }
-    ensures within { IfSome result (λ o. IsWithin (line_of o)) }
+    ensures ok { IfSome result (λ o. AsksOne (λ n. first_of n (rows_of (found_of matches.now))) (one_of o)) }
+    ensures only { (line : OneLine) → AsksOne (λ n. first_of n (rows_of (found_of matches.now))) line → IsSomeAnd result (λ o. one_of o ≡ line) }
+    ensures within { IfSome result (λ o. IsWithin o.plan) }
 {
     let directory = value_of(matches, "DIR")?;
     let plan = read_plan(matches)?;
@@ -108,6 +118,7 @@ fn read_plan(matches: &ArgMatches<'_>) -> Option<Plan>
         start: option_count(matches, "start", 0, Some(0))?,
         step: option_count(matches, "step", 1, None)?,
         stop: option_count(matches, "stop", 0, None)?,
+        limit: DEFAULT_LIMIT,
     };
     if plan.start <= plan.stop {
         Some(plan)

@@ -1,5 +1,5 @@
 use crate::is_document;
-use doc_tree::{DocError, Rule, read_tree};
+use doc_tree::{DocError, DocumentRule, read_tree};
 use std::alloc::{AllocError, Global};
 use std::test::Fail;
 
@@ -70,7 +70,7 @@ fn agrees(alloc: Global, text: &[u8]) -> bool {
     if is_one {
         for byte in 0..text.len() {
             let expected = DocError::At {
-                rule: Rule::Malformed,
+                rule: DocumentRule::Malformed,
                 byte,
             };
             let front = &text[..byte];

@@ -1,8 +1,7 @@
 -- The levels of a path, and the place of an element among those beside it.
-use Rattle.std.proofs.Common.{◌≡◌, ℕ, suc, zero, ◌+◌, ◌-◌, ◌<◌, List, [], ◌∷◌, ◌++◌, length, Option, Some, None, IfSome, get_or, take, true, false, refl, sym, ap, ◌∙◌, subst, arith, sub-one}
+use Rattle.std.proofs.Common.{◌≡◌, ℕ, suc, zero, ◌+◌, ◌-◌, ◌<◌, List, [], ◌∷◌, ◌++◌, length, Option, None, IfSome, get_or, take, true, false, refl, subst, arith}
 use Rattle.std.specs.Prelude.{count_by, slice_get}
 use Rattle.std.specs.Option.{option_map_or}
-use Rattle.std.proofs.lemmas.Grind.{common_steps}
 use Rattle.std.proofs.lemmas.List.Sums.{count_by_more_yes, count_by_more_no}
 use Rattle.doc_grammar.specs.Nodes.{Node}
 use Rattle.doc_tree.specs.Path.{parent_at, is_same, step_text, path_within}

@@ -2,3 +2,4 @@ pub mod Elements
 pub mod Answers
 pub mod Building
 pub mod Path
+pub mod Rules

@@ -4,12 +4,16 @@
 mod builder;
 mod element;
 mod path;
+mod place;
 mod refusal;
+mod rule;
 #[cfg(test)]
 mod tests;
 mod tree;
 
 pub use builder::read_tree;
-pub use doc_events::{DocError, Rule};
+pub use doc_events::{DocError, Rule as DocumentRule};
+pub use place::Place;
 pub use refusal::Refusal;
+pub use rule::{DESCRIPTION_RULES, DescriptionRule, Rule};
 pub use tree::Tree;

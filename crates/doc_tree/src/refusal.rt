@@ -1,3 +1,4 @@
+use crate::Rule;
 use sim_base::{Items, PortId};
 use thiserror::Error;
 
@@ -5,11 +6,11 @@ use thiserror::Error;
 #[derive(Debug, Drop, Error)]
 pub enum Refusal {
     /// `file` is the place in the order of reading, and `ports` are those of a loop.
-    #[error("rule {rule} is broken at element {node} of file {file}")]
+    #[error("rule {} is broken at element {node} of file {file}", rule.number())]
     At {
         file: usize,
         node: usize,
-        rule: u32,
+        rule: Rule,
         ports: Items<PortId>,
     },
     #[error("no memory is left")]

@@ -1,10 +1,10 @@
 -- The phase after a call with its reply, or with a fault in the reply's place (FMI 3.0, 4.2.1; 2.2.3 for Discard, Error and Fatal; 2.2.6: FMU state).
 use Rattle.std.specs.Prelude.{◌≡◌, ℕ, ◌+◌, ◌-◌, ◌^◌, Bool, true, false, min, List, length, replicate, set, Option, Some, None, unwrap_or}
 use Rattle.std.specs.Option.{option_map_or}
+use Rattle.value_types.specs.Shape.{place_of}
 use Rattle.value_types.specs.declared.shape.Shape.{Shape}
 use Rattle.fmi_calls.specs.declared.call.Call.{Call}
 use Rattle.fmi_calls.specs.declared.call.Call.TheVariants as C
-use Rattle.fmi_calls.specs.declared.call.Content.{Content}
 use Rattle.fmi_calls.specs.declared.call.Content.TheVariants as A
 use Rattle.fmi_calls.specs.declared.call.Reply.{Reply}
 use Rattle.fmi_calls.specs.declared.call.Reply.TheVariants as R
@@ -13,11 +13,10 @@ use Rattle.fmi_calls.specs.declared.call.BadStatus.TheVariants.{Discard, Error, 
 use Rattle.fmi_calls.specs.declared.call.Grade.{Grade}
 use Rattle.fmi_calls.specs.declared.call.Grade.TheVariants.{Good, Refused, Misreply}
 use Rattle.fmi_calls.specs.declared.phase.Phase.{Phase}
-use Rattle.fmi_calls.specs.declared.phase.Slot.{Slot}
-use Rattle.fmi_calls.specs.declared.phase.State.{State}
-use Rattle.fmi_calls.specs.declared.phase.State.TheVariants.{Fresh, Instantiated, Initialization, Step, Terminated, Dead, Lost, Gone}
+use Rattle.fmi_calls.specs.declared.phase.InstanceState.{InstanceState}
+use Rattle.fmi_calls.specs.declared.phase.InstanceState.TheVariants.{Fresh, Instantiated, Initialization, Step, Terminated, Dead, Lost, Gone}
 use Rattle.fmi_calls.specs.Worth.{grade_of}
-use Rattle.fmi_calls.specs.Permission.{place_of}
+use Rattle.fmi_calls.specs.Kinds.{bad_status_of}
 
 -- no variable is marked
 abbrev pub unmarked : Shape → List Bool
@@ -43,26 +42,19 @@ pub record HasMarks (shape : Shape) (phase : Phase) : Type 0 where
 
 -- the marks once a variable is marked
 abbrev pub marked : Shape → List Bool → ℕ → List Bool
-marked shape marks reference = option_map_or (λ place. set marks place true) (place_of shape reference) marks
+marked shape marks reference = option_map_or (λ place. set marks place true) (place_of shape.variables reference) marks
 
 -- the marks once a variable is set: only in Step Mode is that kept in mind
-abbrev pub marks_after_set : State → Shape → List Bool → ℕ → List Bool
+abbrev pub marks_after_set : InstanceState → Shape → List Bool → ℕ → List Bool
 marks_after_set Step shape marks reference = marked shape marks reference
-marks_after_set Instantiated shape marks reference = marks
-marks_after_set Initialization shape marks reference = marks
-marks_after_set Fresh shape marks reference = marks
-marks_after_set Terminated shape marks reference = marks
-marks_after_set Dead shape marks reference = marks
-marks_after_set Lost shape marks reference = marks
-marks_after_set Gone shape marks reference = marks
+marks_after_set _ shape marks reference = marks
 
 -- where a step ended
 abbrev pub end_of : Reply → ℕ → ℕ
 end_of (R.Done is_warning (A.DoStep event_needed terminate early end)) point = end
-end_of (R.Done is_warning content) point = point
-end_of (R.Refused kind status) point = point
+end_of _ point = point
 
--- where a good reply leads: Save fills the slot with the point and the marks, Restore brings them back and keeps the slot, Free empties it
+-- where a good reply leads: Save fills the slot with the point and the marks, Restore brings them back and keeps the slot, Free empties it; the calls of event mode and of Clocks, which no phase permits yet, leave it
 abbrev pub entered : Shape → Phase → Call → Reply → Phase
 entered shape phase (C.Instantiate event_mode early_return) reply = record phase { state = Instantiated }
 entered shape phase (C.EnterInitialization start stop) reply = record phase { state = Initialization; point = start; stop = stop }
@@ -72,44 +64,31 @@ entered shape phase (C.DoStep at size) reply = record phase {
   first_size = Some (unwrap_or phase.first_size size);
   marks = unmarked shape;
 }
-entered shape phase (C.Get kind reference) reply = phase
 entered shape phase (C.Set kind reference value) reply = record phase { marks = marks_after_set phase.state shape phase.marks reference }
 entered shape phase C.Save reply = record phase { slot = record { is_full = true; point = phase.point; marks = phase.marks } }
 entered shape phase C.Restore reply = record phase { point = phase.slot.point; marks = phase.slot.marks }
 entered shape phase C.Free reply = record phase { slot = record { is_full = false; point = phase.slot.point; marks = phase.slot.marks } }
 entered shape phase C.Terminate reply = record phase { state = Terminated }
 entered shape phase C.FreeInstance reply = record phase { state = Gone }
+entered shape phase _ reply = phase
 
 -- after a bad status: Error leads to Dead and Fatal to Lost, and Discard leaves the state
-abbrev after_bad : State → BadStatus → State
+abbrev after_bad : InstanceState → BadStatus → InstanceState
 after_bad state Discard = state
 after_bad state Error = Dead
 after_bad state Fatal = Lost
 
 -- the same for Instantiate, which made no instance then
-abbrev after_bad_start : BadStatus → State
+abbrev after_bad_start : BadStatus → InstanceState
 after_bad_start Discard = Gone
 after_bad_start Error = Gone
 after_bad_start Fatal = Lost
 
 -- where a bad reply leads; an instance that is freed is gone whatever the reply
-abbrev pub state_after_bad : State → Call → BadStatus → State
+abbrev pub state_after_bad : InstanceState → Call → BadStatus → InstanceState
 state_after_bad state C.FreeInstance status = Gone
 state_after_bad state (C.Instantiate event_mode early_return) status = after_bad_start status
-state_after_bad state (C.EnterInitialization start stop) status = after_bad state status
-state_after_bad state C.ExitInitialization status = after_bad state status
-state_after_bad state (C.DoStep at size) status = after_bad state status
-state_after_bad state (C.Get kind reference) status = after_bad state status
-state_after_bad state (C.Set kind reference value) status = after_bad state status
-state_after_bad state C.Save status = after_bad state status
-state_after_bad state C.Restore status = after_bad state status
-state_after_bad state C.Free status = after_bad state status
-state_after_bad state C.Terminate status = after_bad state status
-
--- what a refusal says; anything else is no refusal, and counts as Error does
-abbrev pub bad_status_of : Reply → BadStatus
-bad_status_of (R.Refused kind status) = status
-bad_status_of (R.Done is_warning content) = Error
+state_after_bad state _ status = after_bad state status
 
 -- one more of a count that stays at its last value
 abbrev pub one_more : ℕ → ℕ
@@ -118,16 +97,7 @@ one_more count = min (count + 1) (2 ^ 64 - 1)
 -- the number of Restore calls, this one among them
 abbrev pub restores_after : ℕ → Call → ℕ
 restores_after restores C.Restore = one_more restores
-restores_after restores (C.Instantiate event_mode early_return) = restores
-restores_after restores (C.EnterInitialization start stop) = restores
-restores_after restores C.ExitInitialization = restores
-restores_after restores (C.DoStep at size) = restores
-restores_after restores (C.Get kind reference) = restores
-restores_after restores (C.Set kind reference value) = restores
-restores_after restores C.Save = restores
-restores_after restores C.Free = restores
-restores_after restores C.Terminate = restores
-restores_after restores C.FreeInstance = restores
+restores_after restores _ = restores
 
 -- the call is counted
 abbrev pub counted : Phase → Call → Phase

@@ -1,21 +1,20 @@
 -- Which call FMI 3.0 permits an FMU in its phase (4.2.1: the state machine of Co-Simulation and its table of functions; 2.2.6: FMU state).
-use Rattle.std.specs.Prelude.{◌≡◌, ℕ, ◌+◌, ◌<◌, ◌≤◌, ℤ, Bool, true, false, not, ◌||◌, ◌&&◌, ◌==◌, IsTrue, List, unwrap_or, length, slice_index_or, IsSomeAnd, Some, Option}
+use Rattle.std.specs.Prelude.{◌≡◌, ℕ, ◌+◌, ◌<◌, ◌≤◌, Bool, true, false, not, ◌||◌, ◌&&◌, ◌==◌, IsTrue, List, unwrap_or, slice_index_or, IsSomeAnd, Some}
 use Rattle.std.specs.Option.{option_map_or}
-use Rattle.std.specs.List.{list_any, position}
-use Rattle.value_types.specs.Shape.{IsOutput, variable_at}
+use Rattle.std.specs.List.{list_any}
+use Rattle.value_types.specs.Shape.{IsOutput, is_at, is_input, is_parameter, is_unclocked, place_of, variable_at}
 use Rattle.value_types.specs.Values.{Fits}
 use Rattle.value_types.specs.declared.values.PortType.{PortType}
 use Rattle.value_types.specs.declared.values.PortType.TheVariants.{Clock}
 use Rattle.value_types.specs.declared.shape.Causality.{Causality}
-use Rattle.value_types.specs.declared.shape.Causality.TheVariants as V
 use Rattle.value_types.specs.declared.shape.Shape.{Shape}
 use Rattle.value_types.specs.declared.shape.Variable.{Variable}
 use Rattle.fmi_calls.specs.declared.call.Call.{Call}
 use Rattle.fmi_calls.specs.declared.call.Call.TheVariants as C
 use Rattle.fmi_calls.specs.declared.phase.Phase.{Phase}
-use Rattle.fmi_calls.specs.declared.phase.Slot.{Slot}
-use Rattle.fmi_calls.specs.declared.phase.State.{State}
-use Rattle.fmi_calls.specs.declared.phase.State.TheVariants.{Fresh, Instantiated, Initialization, Step, Terminated, Dead, Lost, Gone}
+use Rattle.fmi_calls.specs.declared.phase.SavedPhase.{SavedPhase}
+use Rattle.fmi_calls.specs.declared.phase.InstanceState.{InstanceState}
+use Rattle.fmi_calls.specs.declared.phase.InstanceState.TheVariants.{Fresh, Instantiated, Initialization, Step, Terminated, Dead, Lost, Gone}
 
 -- ---- variables
 
@@ -32,43 +31,11 @@ IsReadable shape kind reference = IsTrue (is_value_type kind) × IsOutput shape 
 abbrev pub IsWritable : Shape → PortType → ℕ → Type 0
 IsWritable shape kind reference = IsTrue (is_value_type kind) × IsSomeAnd (variable_at shape.variables reference) (λ (v : Variable). v.kind ≡ Some kind)
 
--- the variable has a value at every instant, not at ticks of clocks alone
-abbrev pub is_unclocked : Shape → ℕ → Bool
-is_unclocked shape reference = option_map_or (λ (v : Variable). length v.clocks == 0) (variable_at shape.variables reference) false
-
-abbrev pub is_parameter : Causality → Bool
-is_parameter V.Parameter = true
-is_parameter V.CalculatedParameter = false
-is_parameter V.StructuralParameter = false
-is_parameter V.Input = false
-is_parameter V.Output = false
-is_parameter V.Local = false
-is_parameter V.Independent = false
-is_parameter V.Other = false
-
-abbrev pub is_input : Causality → Bool
-is_input V.Parameter = false
-is_input V.CalculatedParameter = false
-is_input V.StructuralParameter = false
-is_input V.Input = true
-is_input V.Output = false
-is_input V.Local = false
-is_input V.Independent = false
-is_input V.Other = false
-
--- whether a variable's causality is of this sort
-abbrev pub has_causality : (Causality → Bool) → Shape → ℕ → Bool
-has_causality sort shape reference = option_map_or (λ (v : Variable). sort v.causality) (variable_at shape.variables reference) false
-
 -- ---- marks: which inputs were set since the last step
-
--- the variable's place in the shape
-abbrev pub place_of : Shape → ℕ → Option ℕ
-place_of shape reference = position (λ (v : Variable). v.reference == reference) shape.variables
 
 -- the variable is marked
 abbrev pub is_marked : Shape → List Bool → ℕ → Bool
-is_marked shape marks reference = option_map_or (λ place. slice_index_or marks place false) (place_of shape reference) false
+is_marked shape marks reference = option_map_or (λ place. slice_index_or marks place false) (place_of shape.variables reference) false
 
 -- no variable is marked
 abbrev pub none_marked : List Bool → Bool
@@ -76,30 +43,25 @@ none_marked marks = not (list_any (λ flag. flag) marks)
 
 -- ---- the table
 
+-- whether a variable's causality is of this sort
+abbrev pub has_causality : (Causality → Bool) → Shape → ℕ → Bool
+has_causality sort shape reference = is_at (λ (v : Variable). sort v.causality) shape.variables reference
+
 -- in Initialization Mode unclocked outputs may be read; in Step Mode, where there is no event mode, every output until an input is set
-abbrev pub can_be_read : State → Shape → List Bool → ℕ → Bool
-can_be_read Initialization shape marks reference = is_unclocked shape reference
+abbrev pub can_be_read : InstanceState → Shape → List Bool → ℕ → Bool
+can_be_read Initialization shape marks reference = is_at is_unclocked shape.variables reference
 can_be_read Step shape marks reference = not shape.has_event_mode && none_marked marks
-can_be_read Fresh shape marks reference = false
-can_be_read Instantiated shape marks reference = false
-can_be_read Terminated shape marks reference = false
-can_be_read Dead shape marks reference = false
-can_be_read Lost shape marks reference = false
-can_be_read Gone shape marks reference = false
+can_be_read _ shape marks reference = false
 
 -- parameters may be set before Initialization Mode, unclocked inputs in it; in Step Mode, where there is no event mode, each input once before the next step
-abbrev pub can_be_set : State → Shape → List Bool → ℕ → Bool
+abbrev pub can_be_set : InstanceState → Shape → List Bool → ℕ → Bool
 can_be_set Instantiated shape marks reference = has_causality is_parameter shape reference
-can_be_set Initialization shape marks reference = has_causality is_input shape reference && is_unclocked shape reference
+can_be_set Initialization shape marks reference = has_causality is_input shape reference && is_at is_unclocked shape.variables reference
 can_be_set Step shape marks reference = has_causality is_input shape reference && not shape.has_event_mode && not (is_marked shape marks reference)
-can_be_set Fresh shape marks reference = false
-can_be_set Terminated shape marks reference = false
-can_be_set Dead shape marks reference = false
-can_be_set Lost shape marks reference = false
-can_be_set Gone shape marks reference = false
+can_be_set _ shape marks reference = false
 
 -- the instance may be freed: with a saved state only where it is dead
-abbrev pub can_be_freed : State → Bool → Bool
+abbrev pub can_be_freed : InstanceState → Bool → Bool
 can_be_freed Instantiated has_saved = not has_saved
 can_be_freed Initialization has_saved = not has_saved
 can_be_freed Step has_saved = not has_saved
@@ -114,14 +76,14 @@ abbrev pub IsSizeFor : Shape → Phase → ℕ → Type 0
 IsSizeFor shape phase size = IsTrue (shape.has_variable_steps || unwrap_or phase.first_size size == size)
 
 -- a state that is saved is that of the point
-abbrev pub is_of_point : Slot → ℕ → Bool
+abbrev pub is_of_point : SavedPhase → ℕ → Bool
 is_of_point slot point = not slot.is_full || slot.point == point
 
 -- states may be saved, and the slot is full or empty as this says
 abbrev pub KeepsState : Shape → Phase → Bool → Type 0
 KeepsState shape phase is_full = (phase.state ≡ Step) × (shape.can_save_state ≡ true) × (phase.slot.is_full ≡ is_full)
 
--- the call is permitted: ExitInitialization only without event mode, which isn't built yet
+-- the call is permitted: ExitInitialization only without event mode, which isn't built yet; so the calls of event mode and of Clocks are not
 abbrev pub Permitted : Shape → Phase → Call → Type 0
 Permitted shape phase (C.Instantiate event_mode early_return) =
     (phase.state ≡ Fresh) × (event_mode ≡ shape.has_event_mode) × (early_return ≡ shape.might_return_early)
@@ -138,3 +100,10 @@ Permitted shape phase C.Restore = KeepsState shape phase true
 Permitted shape phase C.Free = KeepsState shape phase true
 Permitted shape phase C.Terminate = (phase.state ≡ Step) × (phase.slot.is_full ≡ false)
 Permitted shape phase C.FreeInstance = IsTrue (can_be_freed phase.state phase.slot.is_full)
+Permitted shape phase C.EnterEvent = ⊥
+Permitted shape phase C.EnterStep = ⊥
+Permitted shape phase C.Update = ⊥
+Permitted shape phase (C.GetClock reference) = ⊥
+Permitted shape phase (C.SetClock reference) = ⊥
+Permitted shape phase (C.GetInterval reference) = ⊥
+Permitted shape phase (C.GetShift reference) = ⊥

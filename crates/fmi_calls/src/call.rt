@@ -1,6 +1,7 @@
 ghost use Rattle.std.specs.Prelude.{◌≡◌};
-ghost use Rattle.fmi_calls.specs.Kinds.{kind_of, kind_of_content, kind_of_reply, status_of, status_of_bad};
+ghost use Rattle.fmi_calls.specs.Kinds.{bad_status_of, kind_of, kind_of_content, kind_of_reply, status_of, status_of_bad};
 
+use clock_fraction::Fraction;
 use value_types::PortType;
 
 /// A call of an FMU (FMI 3.0, 4.2). Points and sizes are counts over the resolution, a reference is a value reference.
@@ -16,10 +17,14 @@ pub enum Call {
         stop: u64,
     },
     ExitInitialization,
+    EnterEvent,
+    EnterStep,
     DoStep {
         at: u64,
         size: u64,
     },
+    /// fmi3UpdateDiscreteStates
+    Update,
     Get {
         kind: PortType,
         reference: u32,
@@ -28,6 +33,19 @@ pub enum Call {
         kind: PortType,
         reference: u32,
         value: i128,
+    },
+    GetClock {
+        reference: u32,
+    },
+    /// The Clock is set to active.
+    SetClock {
+        reference: u32,
+    },
+    GetInterval {
+        reference: u32,
+    },
+    GetShift {
+        reference: u32,
     },
     /// fmi3GetFMUState: the state is kept in the instance's slot.
     Save,
@@ -45,9 +63,16 @@ pub enum Kind {
     Instantiate,
     EnterInitialization,
     ExitInitialization,
+    EnterEvent,
+    EnterStep,
     DoStep,
+    Update,
     Get,
     Set,
+    GetClock,
+    SetClock,
+    GetInterval,
+    GetShift,
     Save,
     Restore,
     Free,
@@ -73,12 +98,23 @@ pub enum BadStatus {
     Fatal,
 }
 
+/// What GetInterval answers (FMI 3.0, fmi3IntervalQualifier): no interval yet, one that is the same as before, or a new
+/// one, in seconds.
+#[derive(Clone, Copy, Debug, PartialEq, Eq)]
+pub enum Interval {
+    NotYetKnown,
+    Unchanged(Fraction),
+    Changed(Fraction),
+}
+
 /// What a reply with the status OK or Warning carries, by its kind.
 #[derive(Clone, Copy, Debug, PartialEq, Eq)]
 pub enum Content {
     Instantiate,
     EnterInitialization,
     ExitInitialization,
+    EnterEvent,
+    EnterStep,
     /// `end` is the point that was reached.
     DoStep {
         event_needed: bool,
@@ -86,11 +122,29 @@ pub enum Content {
         early: bool,
         end: u64,
     },
+    /// `again` is discreteStatesNeedUpdate, `event_time` the point of nextEventTime where that is defined.
+    Update {
+        again: bool,
+        terminate: bool,
+        event_time: Option<u64>,
+    },
     /// the word of the value
     Get {
         word: u64,
     },
     Set,
+    /// 1 where the Clock is active, 0 where it isn't
+    GetClock {
+        word: u64,
+    },
+    SetClock,
+    GetInterval {
+        interval: Interval,
+    },
+    /// in seconds
+    GetShift {
+        shift: Fraction,
+    },
     Save,
     Restore,
     Free,
@@ -122,9 +176,16 @@ impl Call {
             Call::Instantiate { .. } => Kind::Instantiate,
             Call::EnterInitialization { .. } => Kind::EnterInitialization,
             Call::ExitInitialization => Kind::ExitInitialization,
+            Call::EnterEvent => Kind::EnterEvent,
+            Call::EnterStep => Kind::EnterStep,
             Call::DoStep { .. } => Kind::DoStep,
+            Call::Update => Kind::Update,
             Call::Get { .. } => Kind::Get,
             Call::Set { .. } => Kind::Set,
+            Call::GetClock { .. } => Kind::GetClock,
+            Call::SetClock { .. } => Kind::SetClock,
+            Call::GetInterval { .. } => Kind::GetInterval,
+            Call::GetShift { .. } => Kind::GetShift,
             Call::Save => Kind::Save,
             Call::Restore => Kind::Restore,
             Call::Free => Kind::Free,
@@ -143,9 +204,16 @@ impl Content {
             Content::Instantiate => Kind::Instantiate,
             Content::EnterInitialization => Kind::EnterInitialization,
             Content::ExitInitialization => Kind::ExitInitialization,
+            Content::EnterEvent => Kind::EnterEvent,
+            Content::EnterStep => Kind::EnterStep,
             Content::DoStep { .. } => Kind::DoStep,
+            Content::Update { .. } => Kind::Update,
             Content::Get { .. } => Kind::Get,
             Content::Set => Kind::Set,
+            Content::GetClock { .. } => Kind::GetClock,
+            Content::SetClock => Kind::SetClock,
+            Content::GetInterval { .. } => Kind::GetInterval,
+            Content::GetShift { .. } => Kind::GetShift,
             Content::Save => Kind::Save,
             Content::Restore => Kind::Restore,
             Content::Free => Kind::Free,
@@ -181,10 +249,6 @@ impl Reply {
             Reply::Refused { status, .. } => Status::from_bad(*status),
         }
     }
-}
-
-impl Reply {
-    ghost use Rattle.fmi_calls.specs.Next.{bad_status_of};
 
     /// The status of a refusal; anything else counts as Error does.
     pub fn bad_status(&self) -> BadStatus

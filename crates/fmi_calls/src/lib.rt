@@ -2,6 +2,7 @@
 #![tactic(auto)]
 
 mod call;
+mod kind_facts;
 mod marks;
 mod next;
 mod permission;
@@ -10,9 +11,10 @@ mod phase;
 mod tests;
 mod worth;
 
-pub use call::{BadStatus, Call, Content, Grade, Kind, Reply, Status};
+pub use call::{BadStatus, Call, Content, Grade, Interval, Kind, Reply, Status};
+pub use kind_facts::{KindFacts, Part};
 pub use marks::Marks;
 pub use next::next_phase;
 pub use permission::permitted;
-pub use phase::{Phase, Slot, State};
+pub use phase::{InstanceState, Phase, SavedPhase};
 pub use worth::{grade, valid};

@@ -8,14 +8,18 @@ use std::marker::Model;
 #[derive(Debug, Drop)]
 pub struct Marks {
     flags: Vec<bool>,
+    /// how many are set
+    count: usize,
 }
 
 impl Model for Marks {
-    ghost use Rattle.std.specs.Prelude.{List, Bool};
+    ghost use Rattle.std.specs.Prelude.{◌≡◌, List, Bool, count_by};
 
     ghost Value = { List Bool };
 
     ghost view = { λ m. m.flags.items };
+
+    ghost invariant = { λ m. m.count ≡ count_by (λ flag. flag) m.flags.items };
 }
 
 impl Marks {
@@ -25,6 +29,7 @@ impl Marks {
     {
         Ok(Marks {
             flags: vec![in alloc; false; count]?,
+            count: 0,
         })
     }
 
@@ -39,7 +44,7 @@ impl Marks {
     pub fn any(&self) -> bool
         ensures { result ≡ list_any (λ flag. flag) self.now }
     {
-        self.flags.contains(&true)
+        self.count > 0
     }
 
     /// Marks the variable at a place.
@@ -47,15 +52,19 @@ impl Marks {
         requires { place < length self.old }
         ensures { self.new ≡ set self.old place true }
     {
-        self.flags[place] = true;
+        if !self.flags[place] {
+            self.flags[place] = true;
+            self.count += 1;
+        }
     }
 
     /// Takes every mark away.
     pub(crate) fn clear(&mut self)
         ensures { self.new ≡ replicate (length self.old) false }
     {
-        for flag in self.flags.iter_mut() {
-            *flag = false;
+        if self.count > 0 {
+            self.flags.fill(false);
+            self.count = 0;
         }
     }
 
@@ -65,5 +74,6 @@ impl Marks {
         ensures { self.new ≡ other.now }
     {
         self.flags.copy_from_slice(&other.flags);
+        self.count = other.count;
     }
 }

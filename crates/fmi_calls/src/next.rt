@@ -2,8 +2,7 @@ ghost use Rattle.std.specs.Prelude.{◌≡◌, option_copied, length, true};
 ghost use Rattle.fmi_calls.specs.Permission.{Permitted};
 ghost use Rattle.fmi_calls.specs.Next.{HasMarks, next_of, entered, end_of, state_after_bad, restores_after, marked, marks_after_set};
 
-use crate::permission::place_of;
-use crate::{BadStatus, Call, Content, Grade, Marks, Phase, Reply, Slot, State, grade};
+use crate::{BadStatus, Call, Content, Grade, InstanceState, Marks, Phase, Reply, grade};
 use value_types::Shape;
 
 /// Goes on to the phase after a call, with its reply or with none at a fault. It takes no memory.
@@ -16,7 +15,7 @@ pub fn next_phase(shape: &Shape, phase: &mut Phase, call: &Call, reply: Option<&
     phase.exchanges = phase.exchanges.saturating_add(1);
     phase.restores = restores_after(phase.restores, call);
     let Some(reply) = reply else {
-        phase.state = State::Lost;
+        phase.state = InstanceState::Lost;
         return;
     };
     match grade(shape, phase, call, reply) {
@@ -58,44 +57,45 @@ fn enter(shape: &Shape, phase: &mut Phase, call: &Call, reply: &Reply)
     ensures room { HasMarks shape.now phase.new }
 {
     match *call {
-        Call::Instantiate { .. } => phase.state = State::Instantiated,
+        Call::Instantiate { .. } => phase.state = InstanceState::Instantiated,
         Call::EnterInitialization { start, stop } => {
-            phase.state = State::Initialization;
+            phase.state = InstanceState::Initialization;
             phase.point = start;
             phase.stop = stop;
         }
-        Call::ExitInitialization => phase.state = State::Step,
+        Call::ExitInitialization => phase.state = InstanceState::Step,
         Call::DoStep { size, .. } => {
             phase.point = end_of(reply, phase.point);
             phase.first_size = Some(phase.first_size.unwrap_or(size));
             phase.marks.clear();
         }
-        Call::Get { .. } => {}
         Call::Set { reference, .. } => {
             mark_after_set(phase.state, shape, &mut phase.marks, reference);
         }
         Call::Save => save(phase),
         Call::Restore => restore(phase),
         Call::Free => phase.slot.is_full = false,
-        Call::Terminate => phase.state = State::Terminated,
-        Call::FreeInstance => phase.state = State::Gone,
+        Call::Terminate => phase.state = InstanceState::Terminated,
+        Call::FreeInstance => phase.state = InstanceState::Gone,
+        Call::EnterEvent
+        | Call::EnterStep
+        | Call::Update
+        | Call::Get { .. }
+        | Call::GetClock { .. }
+        | Call::SetClock { .. }
+        | Call::GetInterval { .. }
+        | Call::GetShift { .. } => {}
     }
 }
 
-fn mark_after_set(state: State, shape: &Shape, marks: &mut Marks, reference: u32)
+fn mark_after_set(state: InstanceState, shape: &Shape, marks: &mut Marks, reference: u32)
     requires { length marks.old ≡ length shape.now.variables }
     ensures marks { marks.new ≡ marks_after_set state shape.now marks.old reference }
     ensures room { length marks.new ≡ length shape.now.variables }
 {
     match state {
-        State::Step => mark(shape, marks, reference),
-        State::Fresh
-        | State::Instantiated
-        | State::Initialization
-        | State::Terminated
-        | State::Dead
-        | State::Lost
-        | State::Gone => {}
+        InstanceState::Step => mark(shape, marks, reference),
+        _ => {}
     }
 }
 
@@ -104,7 +104,7 @@ fn mark(shape: &Shape, marks: &mut Marks, reference: u32)
     ensures marks { marks.new ≡ marked shape.now marks.old reference }
     ensures room { length marks.new ≡ length shape.now.variables }
 {
-    match place_of(shape, reference) {
+    match shape.variables.place_of(reference) {
         Some(place) => marks.mark(place),
         None => {}
     }
@@ -128,14 +128,14 @@ fn restore(phase: &mut Phase)
 }
 
 // Where a bad reply leads.
-fn state_after_bad(state: State, call: &Call, status: BadStatus) -> State
+fn state_after_bad(state: InstanceState, call: &Call, status: BadStatus) -> InstanceState
     ensures { result ≡ state_after_bad state call.now status }
 {
     match (call, status) {
-        (Call::FreeInstance, _) => State::Gone,
-        (_, BadStatus::Fatal) => State::Lost,
-        (Call::Instantiate { .. }, _) => State::Gone,
-        (_, BadStatus::Error) => State::Dead,
+        (Call::FreeInstance, _) => InstanceState::Gone,
+        (_, BadStatus::Fatal) => InstanceState::Lost,
+        (Call::Instantiate { .. }, _) => InstanceState::Gone,
+        (_, BadStatus::Error) => InstanceState::Dead,
         (_, BadStatus::Discard) => state,
     }
 }

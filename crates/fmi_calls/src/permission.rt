@@ -1,27 +1,9 @@
-ghost use Rattle.std.specs.Prelude.{◌≡◌, ◌<◌, ◌↔◌, IsTrue, IfSome, IsSomeAnd, Some, length, option_map};
-ghost use Rattle.fmi_calls.specs.Permission.{Permitted, IsReadable, IsWritable, can_be_read, can_be_set, is_unclocked, has_causality, is_marked, is_of_point, is_input, is_parameter, place_of};
-ghost use Rattle.value_types.specs.Shape.{IsOutput, variable_at};
+ghost use Rattle.std.specs.Prelude.{◌≡◌, ◌↔◌, IsTrue, IsSomeAnd, Some};
+ghost use Rattle.fmi_calls.specs.Permission.{Permitted, IsReadable, IsWritable, can_be_read, can_be_set, has_causality, is_marked, is_of_point};
+ghost use Rattle.value_types.specs.Shape.{IsOutput, is_at, is_input, is_parameter, is_unclocked, variable_at};
 
-use crate::{Call, Marks, Phase, Slot, State};
-use value_types::{Causality, PortType, Shape, Variable, fits};
-
-fn find_variable(variables: &[Variable], reference: u32) -> Option<&Variable>
-    ensures { option_map (λ v. v.now) result ≡ variable_at variables.now reference }
-{
-    variables.iter().find(|v| v.reference == reference)
-}
-
-/// The place of a variable in the shape.
-pub(crate) fn place_of(shape: &Shape, reference: u32) -> Option<usize>
-    ensures place { result ≡ place_of shape.now reference }
-    ensures within { IfSome result (λ place. place < length shape.now.variables) }
-{
-    shape
-        .variables
-        .as_slice()
-        .iter()
-        .position(|v| v.reference == reference)
-}
+use crate::{Call, InstanceState, Marks, Phase, SavedPhase};
+use value_types::{Causality, PortType, Shape, fits};
 
 fn is_readable(shape: &Shape, kind: PortType, reference: u32) -> bool
     ensures { IsTrue result ↔ IsReadable shape.now kind reference }
@@ -32,8 +14,8 @@ fn is_readable(shape: &Shape, kind: PortType, reference: u32) -> bool
 fn is_output(shape: &Shape, kind: PortType, reference: u32) -> bool
     ensures { IsTrue result ↔ IsOutput shape.now kind reference }
 {
-    match find_variable(shape.variables.as_slice(), reference) {
-        Some(variable) => { variable.kind == Some(kind) && variable.causality == Causality::Output }
+    match shape.variables.find(reference) {
+        Some(variable) => variable.kind == Some(kind) && variable.causality == Causality::Output,
         None => false,
     }
 }
@@ -47,17 +29,17 @@ fn is_writable(shape: &Shape, kind: PortType, reference: u32) -> bool
 fn is_of_type(shape: &Shape, kind: PortType, reference: u32) -> bool
     ensures { IsTrue result ↔ IsSomeAnd (variable_at shape.now.variables reference) (λ v. v.kind ≡ Some kind) }
 {
-    match find_variable(shape.variables.as_slice(), reference) {
+    match shape.variables.find(reference) {
         Some(variable) => variable.kind == Some(kind),
         None => false,
     }
 }
 
 fn is_unclocked(shape: &Shape, reference: u32) -> bool
-    ensures { result ≡ is_unclocked shape.now reference }
+    ensures { result ≡ is_at is_unclocked shape.now.variables reference }
 {
-    match find_variable(shape.variables.as_slice(), reference) {
-        Some(variable) => variable.clocks.len() == 0,
+    match shape.variables.find(reference) {
+        Some(variable) => variable.is_unclocked(),
         None => false,
     }
 }
@@ -65,8 +47,8 @@ fn is_unclocked(shape: &Shape, reference: u32) -> bool
 fn is_parameter(shape: &Shape, reference: u32) -> bool
     ensures { result ≡ has_causality is_parameter shape.now reference }
 {
-    match find_variable(shape.variables.as_slice(), reference) {
-        Some(variable) => is_parameter_causality(variable.causality),
+    match shape.variables.find(reference) {
+        Some(variable) => variable.is_parameter(),
         None => false,
     }
 }
@@ -74,64 +56,48 @@ fn is_parameter(shape: &Shape, reference: u32) -> bool
 fn is_input(shape: &Shape, reference: u32) -> bool
     ensures { result ≡ has_causality is_input shape.now reference }
 {
-    match find_variable(shape.variables.as_slice(), reference) {
-        Some(variable) => is_input_causality(variable.causality),
+    match shape.variables.find(reference) {
+        Some(variable) => variable.causality == Causality::Input,
         None => false,
     }
-}
-
-fn is_parameter_causality(causality: Causality) -> bool
-    ensures { result ≡ is_parameter causality }
-{
-    causality == Causality::Parameter
-}
-
-fn is_input_causality(causality: Causality) -> bool
-    ensures { result ≡ is_input causality }
-{
-    causality == Causality::Input
 }
 
 fn is_marked(shape: &Shape, marks: &Marks, reference: u32) -> bool
     ensures { result ≡ is_marked shape.now marks.now reference }
 {
-    match place_of(shape, reference) {
+    match shape.variables.place_of(reference) {
         Some(place) => marks.has(place),
         None => false,
     }
 }
 
-fn can_be_read(state: State, shape: &Shape, marks: &Marks, reference: u32) -> bool
+fn can_be_read(state: InstanceState, shape: &Shape, marks: &Marks, reference: u32) -> bool
     ensures { result ≡ can_be_read state shape.now marks.now reference }
 {
     match state {
-        State::Initialization => is_unclocked(shape, reference),
-        State::Step => !shape.has_event_mode && !marks.any(),
-        State::Fresh
-        | State::Instantiated
-        | State::Terminated
-        | State::Dead
-        | State::Lost
-        | State::Gone => false,
+        InstanceState::Initialization => is_unclocked(shape, reference),
+        InstanceState::Step => !shape.has_event_mode && !marks.any(),
+        _ => false,
     }
 }
 
-fn can_be_set(state: State, shape: &Shape, marks: &Marks, reference: u32) -> bool
+fn can_be_set(state: InstanceState, shape: &Shape, marks: &Marks, reference: u32) -> bool
     ensures { result ≡ can_be_set state shape.now marks.now reference }
 {
     match state {
-        State::Instantiated => is_parameter(shape, reference),
-        State::Initialization => is_input(shape, reference) && is_unclocked(shape, reference),
-        State::Step => {
+        InstanceState::Instantiated => is_parameter(shape, reference),
+        InstanceState::Initialization => is_input(shape, reference)
+            && is_unclocked(shape, reference),
+        InstanceState::Step => {
             is_input(shape, reference)
                 && !shape.has_event_mode
                 && !is_marked(shape, marks, reference)
         }
-        State::Fresh | State::Terminated | State::Dead | State::Lost | State::Gone => false,
+        _ => false,
     }
 }
 
-fn is_of_point(slot: &Slot, point: u64) -> bool
+fn is_of_point(slot: &SavedPhase, point: u64) -> bool
     ensures { result ≡ is_of_point slot.now point }
 {
     !slot.is_full || slot.point == point
@@ -146,18 +112,18 @@ pub fn permitted(shape: &Shape, phase: &Phase, call: &Call) -> bool
             event_mode,
             early_return,
         } => {
-            phase.state == State::Fresh
+            phase.state == InstanceState::Fresh
                 && event_mode == shape.has_event_mode
                 && early_return == shape.might_return_early
         }
         Call::EnterInitialization { start, stop } => {
-            phase.state == State::Instantiated && start <= stop
+            phase.state == InstanceState::Instantiated && start <= stop
         }
         Call::ExitInitialization => {
-            phase.state == State::Initialization && !shape.has_event_mode
+            phase.state == InstanceState::Initialization && !shape.has_event_mode
         }
         Call::DoStep { at, size } => {
-            phase.state == State::Step
+            phase.state == InstanceState::Step
                 && at == phase.point
                 && 0 < size
                 && at <= phase.stop
@@ -178,11 +144,20 @@ pub fn permitted(shape: &Shape, phase: &Phase, call: &Call) -> bool
                 && is_writable(shape, kind, reference)
                 && fits(kind, value)
         }
-        Call::Save => { phase.state == State::Step && shape.can_save_state && !phase.slot.is_full }
-        Call::Restore | Call::Free => {
-            phase.state == State::Step && shape.can_save_state && phase.slot.is_full
+        Call::Save => {
+            phase.state == InstanceState::Step && shape.can_save_state && !phase.slot.is_full
         }
-        Call::Terminate => phase.state == State::Step && !phase.slot.is_full,
+        Call::Restore | Call::Free => {
+            phase.state == InstanceState::Step && shape.can_save_state && phase.slot.is_full
+        }
+        Call::Terminate => phase.state == InstanceState::Step && !phase.slot.is_full,
         Call::FreeInstance => phase.state.can_be_freed(phase.slot.is_full),
+        Call::EnterEvent
+        | Call::EnterStep
+        | Call::Update
+        | Call::GetClock { .. }
+        | Call::SetClock { .. }
+        | Call::GetInterval { .. }
+        | Call::GetShift { .. } => false,
     }
 }

@@ -8,7 +8,7 @@ use value_types::Shape;
 
 /// Where an instance stands (FMI 3.0, 4.2.1). A dead one may only be freed, a lost one may be sent nothing more.
 #[derive(Clone, Copy, Debug, PartialEq, Eq)]
-pub enum State {
+pub enum InstanceState {
     Fresh,
     Instantiated,
     Initialization,
@@ -19,10 +19,10 @@ pub enum State {
     Gone,
 }
 
-/// What a saved state brings back of the phase: the point, a count, and the marks. Where the slot isn't full, both are
-/// left over.
+/// What a saved state brings back of the phase: the point, a count, and the marks. Where no state is saved, both are left
+/// over.
 #[derive(Debug, Drop)]
-pub struct Slot {
+pub struct SavedPhase {
     pub is_full: bool,
     pub point: u64,
     pub marks: Marks,
@@ -31,7 +31,7 @@ pub struct Slot {
 /// The phase of an FMU: its state and what else decides which call is permitted. Points are counts.
 #[derive(Debug, Drop)]
 pub struct Phase {
-    pub state: State,
+    pub state: InstanceState,
     /// the current point
     pub point: u64,
     pub stop: u64,
@@ -40,24 +40,25 @@ pub struct Phase {
     /// which variables were set since the last step
     pub marks: Marks,
     /// where Save keeps a state
-    pub slot: Slot,
+    pub slot: SavedPhase,
     /// how many exchanges there were; it stays at its last value
     pub exchanges: u64,
     /// how many of them were Restore calls; it stays at its last value
     pub restores: u64,
 }
 
-impl State {
+impl InstanceState {
     /// Whether the instance may be freed, with a saved state or without one.
     pub fn can_be_freed(self, has_saved: bool) -> bool
         ensures { result ≡ can_be_freed self has_saved }
     {
         match self {
-            State::Instantiated | State::Initialization | State::Step | State::Terminated => {
-                !has_saved
-            }
-            State::Dead => true,
-            State::Fresh | State::Lost | State::Gone => false,
+            InstanceState::Instantiated
+            | InstanceState::Initialization
+            | InstanceState::Step
+            | InstanceState::Terminated => { !has_saved }
+            InstanceState::Dead => true,
+            InstanceState::Fresh | InstanceState::Lost | InstanceState::Gone => false,
         }
     }
 }
@@ -70,12 +71,12 @@ impl Phase {
     {
         let count = shape.variables.len();
         Ok(Phase {
-            state: State::Fresh,
+            state: InstanceState::Fresh,
             point: 0,
             stop: 0,
             first_size: None,
             marks: Marks::none(alloc, count)?,
-            slot: Slot {
+            slot: SavedPhase {
                 is_full: false,
                 point: 0,
                 marks: Marks::none(alloc, count)?,

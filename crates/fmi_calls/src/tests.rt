@@ -1,12 +1,14 @@
 use crate::{
-    BadStatus, Call, Content, Grade, Kind, Phase, Reply, State, Status, grade, next_phase,
-    permitted, valid,
+    BadStatus, Call, Content, Grade, InstanceState, Interval, Kind, Phase, Reply, Status, grade,
+    next_phase, permitted, valid,
 };
 use sim_base::{Items, Text};
 use std::alloc::{AllocError, Global};
 use std::process::Abort;
 use std::test::Fail;
-use value_types::{Causality, PortType, Shape, Variable};
+use value_types::{
+    ByReference, Causality, ClockTiming, Fraction, IntervalVariability, PortType, Shape, Variable,
+};
 
 const INSTANTIATE: Call = Call::Instantiate {
     event_mode: false,
@@ -60,8 +62,8 @@ const SHORTER: Call = Call::DoStep { at: 40, size: 20 };
 const LONG: Call = Call::DoStep { at: 10, size: 91 };
 
 // Others that no phase permits: another flag, a stop before the start, no size, an input that is read, another type, a
-// value out of range, an output that is set.
-const NEVER: [Call; 7] = [
+// value out of range, an output that is set, and the calls of event mode and of Clocks.
+const NEVER: [Call; 14] = [
     Call::Instantiate {
         event_mode: true,
         early_return: true,
@@ -89,6 +91,13 @@ const NEVER: [Call; 7] = [
         reference: 2,
         value: 0,
     },
+    Call::EnterEvent,
+    Call::EnterStep,
+    Call::Update,
+    Call::GetClock { reference: 4 },
+    Call::SetClock { reference: 4 },
+    Call::GetInterval { reference: 4 },
+    Call::GetShift { reference: 4 },
 ];
 
 const PROBES: [Call; 16] = [
@@ -162,34 +171,34 @@ const TERMINATED: (Call, Option<Reply>) = (TERMINATE, done!(Content::Terminate))
 // Calls with their replies, or none at a fault, then state and point, and what is permitted.
 type Row = (
     &'static [(Call, Option<Reply>)],
-    State,
+    InstanceState,
     u64,
     &'static [Call],
 );
 
 const PATHS: [Row; 28] = [
-    (&[], State::Fresh, 0, &[INSTANTIATE]),
+    (&[], InstanceState::Fresh, 0, &[INSTANTIATE]),
     (
         &[STARTED],
-        State::Instantiated,
+        InstanceState::Instantiated,
         0,
         &[ENTER, SET_PARAMETER, FREE],
     ),
     (
         &[(INSTANTIATE, refused!(Kind::Instantiate, BadStatus::Error))],
-        State::Gone,
+        InstanceState::Gone,
         0,
         &[],
     ),
     (
         &[(INSTANTIATE, refused!(Kind::Instantiate, BadStatus::Fatal))],
-        State::Lost,
+        InstanceState::Lost,
         0,
         &[],
     ),
     (
         &[STARTED, ENTERED],
-        State::Initialization,
+        InstanceState::Initialization,
         10,
         &[EXIT, GET, SET, FREE],
     ),
@@ -198,13 +207,13 @@ const PATHS: [Row; 28] = [
             STARTED,
             (ENTER, refused!(Kind::EnterInitialization, BadStatus::Error)),
         ],
-        State::Dead,
+        InstanceState::Dead,
         0,
         &[FREE],
     ),
     (
         &[STARTED, ENTERED, (GET, done!(Content::Get { word: 7 }))],
-        State::Initialization,
+        InstanceState::Initialization,
         10,
         &[EXIT, GET, SET, FREE],
     ),
@@ -214,25 +223,25 @@ const PATHS: [Row; 28] = [
             ENTERED,
             (GET, refused!(Kind::Get, BadStatus::Discard)),
         ],
-        State::Initialization,
+        InstanceState::Initialization,
         10,
         &[EXIT, GET, SET, FREE],
     ),
     (
         &[STARTED, ENTERED, EXITED],
-        State::Step,
+        InstanceState::Step,
         10,
         &[STEP, GET, SET, SAVE, TERMINATE, FREE],
     ),
     (
         &[STARTED, ENTERED, EXITED, STEPPED],
-        State::Step,
+        InstanceState::Step,
         40,
         &[SECOND, GET, SET, SAVE, TERMINATE, FREE],
     ),
     (
         &[STARTED, ENTERED, EXITED, (STEP, ended!(true, 25))],
-        State::Step,
+        InstanceState::Step,
         25,
         &[BEHIND_EARLY, GET, SET, SAVE, TERMINATE, FREE],
     ),
@@ -243,7 +252,7 @@ const PATHS: [Row; 28] = [
             EXITED,
             (STEP, refused!(Kind::DoStep, BadStatus::Discard)),
         ],
-        State::Step,
+        InstanceState::Step,
         10,
         &[STEP, GET, SET, SAVE, TERMINATE, FREE],
     ),
@@ -254,25 +263,25 @@ const PATHS: [Row; 28] = [
             EXITED,
             (STEP, refused!(Kind::DoStep, BadStatus::Fatal)),
         ],
-        State::Lost,
+        InstanceState::Lost,
         10,
         &[],
     ),
     (
         &[STARTED, ENTERED, EXITED, (STEP, None)],
-        State::Lost,
+        InstanceState::Lost,
         10,
         &[],
     ),
     (
         &[STARTED, ENTERED, EXITED, (STEP, ended!(false, 41))],
-        State::Dead,
+        InstanceState::Dead,
         10,
         &[FREE],
     ),
     (
         &[STARTED, ENTERED, EXITED, STEPPED, TERMINATED],
-        State::Terminated,
+        InstanceState::Terminated,
         40,
         &[FREE],
     ),
@@ -285,7 +294,7 @@ const PATHS: [Row; 28] = [
             TERMINATED,
             (FREE, done!(Content::FreeInstance)),
         ],
-        State::Gone,
+        InstanceState::Gone,
         40,
         &[],
     ),
@@ -295,13 +304,13 @@ const PATHS: [Row; 28] = [
             ENTERED,
             (FREE, refused!(Kind::FreeInstance, BadStatus::Error)),
         ],
-        State::Gone,
+        InstanceState::Gone,
         10,
         &[],
     ),
     (
         &[STARTED, (FREE, done!(Content::Terminate))],
-        State::Gone,
+        InstanceState::Gone,
         0,
         &[],
     ),
@@ -312,43 +321,43 @@ const PATHS: [Row; 28] = [
             ENTERED,
             GIVEN,
         ],
-        State::Initialization,
+        InstanceState::Initialization,
         10,
         &[EXIT, GET, SET, FREE],
     ),
     (
         &[STARTED, ENTERED, EXITED, GIVEN],
-        State::Step,
+        InstanceState::Step,
         10,
         &[STEP, SAVE, TERMINATE, FREE],
     ),
     (
         &[STARTED, ENTERED, EXITED, GIVEN, STEPPED],
-        State::Step,
+        InstanceState::Step,
         40,
         &[SECOND, GET, SET, SAVE, TERMINATE, FREE],
     ),
     (
         &[STARTED, ENTERED, EXITED, SAVED],
-        State::Step,
+        InstanceState::Step,
         10,
         &[STEP, GET, SET, RESTORE, EMPTY],
     ),
     (
         &[STARTED, ENTERED, EXITED, SAVED, ENDED_EARLY],
-        State::Step,
+        InstanceState::Step,
         25,
         &[GET, SET, RESTORE, EMPTY],
     ),
     (
         &[STARTED, ENTERED, EXITED, GIVEN, SAVED, STEPPED, RESTORED],
-        State::Step,
+        InstanceState::Step,
         10,
         &[STEP, RESTORE, EMPTY],
     ),
     (
         &[STARTED, ENTERED, EXITED, SAVED, STEPPED, EMPTIED],
-        State::Step,
+        InstanceState::Step,
         40,
         &[SECOND, GET, SET, SAVE, TERMINATE, FREE],
     ),
@@ -360,7 +369,7 @@ const PATHS: [Row; 28] = [
             SAVED,
             (EMPTY, refused!(Kind::Free, BadStatus::Discard)),
         ],
-        State::Step,
+        InstanceState::Step,
         10,
         &[STEP, GET, SET, RESTORE, EMPTY],
     ),
@@ -372,7 +381,7 @@ const PATHS: [Row; 28] = [
             SAVED,
             (STEP, done!(Content::Get { word: 0 })),
         ],
-        State::Dead,
+        InstanceState::Dead,
         10,
         &[FREE],
     ),
@@ -406,14 +415,43 @@ const STATUSES: [(BadStatus, Status); 3] = [
     (BadStatus::Fatal, Status::Fatal),
 ];
 
-const KINDS: [(Call, Content, Kind); 11] = [
-    (INSTANTIATE, Content::Instantiate, Kind::Instantiate),
+// A call, what its reply carries, and the kind of both with its number and name.
+const KINDS: [(Call, Content, Kind, u8, &str); 18] = [
+    (
+        INSTANTIATE,
+        Content::Instantiate,
+        Kind::Instantiate,
+        1,
+        "Instantiate",
+    ),
     (
         ENTER,
         Content::EnterInitialization,
         Kind::EnterInitialization,
+        2,
+        "EnterInitialization",
     ),
-    (EXIT, Content::ExitInitialization, Kind::ExitInitialization),
+    (
+        EXIT,
+        Content::ExitInitialization,
+        Kind::ExitInitialization,
+        3,
+        "ExitInitialization",
+    ),
+    (
+        Call::EnterEvent,
+        Content::EnterEvent,
+        Kind::EnterEvent,
+        4,
+        "EnterEvent",
+    ),
+    (
+        Call::EnterStep,
+        Content::EnterStep,
+        Kind::EnterStep,
+        5,
+        "EnterStep",
+    ),
     (
         STEP,
         Content::DoStep {
@@ -423,14 +461,117 @@ const KINDS: [(Call, Content, Kind); 11] = [
             end: 40,
         },
         Kind::DoStep,
+        6,
+        "DoStep",
     ),
-    (GET, Content::Get { word: 0 }, Kind::Get),
-    (SET, Content::Set, Kind::Set),
-    (SAVE, Content::Save, Kind::Save),
-    (RESTORE, Content::Restore, Kind::Restore),
-    (EMPTY, Content::Free, Kind::Free),
-    (TERMINATE, Content::Terminate, Kind::Terminate),
-    (FREE, Content::FreeInstance, Kind::FreeInstance),
+    (
+        Call::Update,
+        Content::Update {
+            again: true,
+            terminate: false,
+            event_time: Some(7),
+        },
+        Kind::Update,
+        7,
+        "Update",
+    ),
+    (GET, Content::Get { word: 0 }, Kind::Get, 8, "Get"),
+    (SET, Content::Set, Kind::Set, 9, "Set"),
+    (
+        Call::GetClock { reference: 4 },
+        Content::GetClock { word: 1 },
+        Kind::GetClock,
+        10,
+        "GetClock",
+    ),
+    (
+        Call::SetClock { reference: 4 },
+        Content::SetClock,
+        Kind::SetClock,
+        11,
+        "SetClock",
+    ),
+    (
+        Call::GetInterval { reference: 4 },
+        Content::GetInterval {
+            interval: Interval::Changed(EIGHTH),
+        },
+        Kind::GetInterval,
+        12,
+        "GetInterval",
+    ),
+    (
+        Call::GetShift { reference: 4 },
+        Content::GetShift { shift: EIGHTH },
+        Kind::GetShift,
+        13,
+        "GetShift",
+    ),
+    (SAVE, Content::Save, Kind::Save, 14, "Save"),
+    (RESTORE, Content::Restore, Kind::Restore, 15, "Restore"),
+    (EMPTY, Content::Free, Kind::Free, 16, "Free"),
+    (
+        TERMINATE,
+        Content::Terminate,
+        Kind::Terminate,
+        17,
+        "Terminate",
+    ),
+    (
+        FREE,
+        Content::FreeInstance,
+        Kind::FreeInstance,
+        18,
+        "FreeInstance",
+    ),
+];
+
+// Fractions of a second, which has 1,000 counts.
+const EIGHTH: Fraction = Fraction {
+    counter: 1,
+    resolution: 8,
+};
+
+const THIRD: Fraction = Fraction {
+    counter: 1,
+    resolution: 3,
+};
+
+const NOTHING: Fraction = Fraction {
+    counter: 0,
+    resolution: 3,
+};
+
+const UNKNOWN: Fraction = Fraction {
+    counter: 1,
+    resolution: 0,
+};
+
+// The intervals of a fixed Clock and of a countdown Clock, and whether they are valid.
+const INTERVALS: [(u32, Interval, bool); 16] = [
+    (4, Interval::NotYetKnown, false),
+    (4, Interval::Unchanged(EIGHTH), true),
+    (4, Interval::Changed(EIGHTH), true),
+    (4, Interval::Unchanged(THIRD), false),
+    (4, Interval::Changed(THIRD), false),
+    (4, Interval::Unchanged(NOTHING), false),
+    (4, Interval::Changed(NOTHING), false),
+    (4, Interval::Changed(UNKNOWN), false),
+    (5, Interval::NotYetKnown, true),
+    (5, Interval::Unchanged(EIGHTH), true),
+    (5, Interval::Unchanged(THIRD), true),
+    (5, Interval::Unchanged(UNKNOWN), true),
+    (5, Interval::Changed(EIGHTH), true),
+    (5, Interval::Changed(NOTHING), true),
+    (5, Interval::Changed(THIRD), false),
+    (5, Interval::Changed(UNKNOWN), false),
+];
+
+const SHIFTS: [(Fraction, bool); 4] = [
+    (EIGHTH, true),
+    (NOTHING, true),
+    (THIRD, false),
+    (UNKNOWN, false),
 ];
 
 fn variable(alloc: Global, reference: u32, causality: Causality) -> Result<Variable, AllocError> {
@@ -446,12 +587,26 @@ fn variable(alloc: Global, reference: u32, causality: Causality) -> Result<Varia
     })
 }
 
+fn clock(reference: u32, variability: IntervalVariability) -> ClockTiming {
+    ClockTiming {
+        reference,
+        variability,
+        supports_fraction: true,
+        interval: None,
+        shift: None,
+    }
+}
+
 // An FMU without event mode and without variable steps.
 fn shape_of(alloc: Global, might_return_early: bool) -> Result<Shape, AllocError> {
     let variables = vec![in alloc;
         variable(alloc, 1, Causality::Input)?,
         variable(alloc, 2, Causality::Output)?,
         variable(alloc, 3, Causality::Parameter)?,
+    ]?;
+    let clocks = vec![in alloc;
+        clock(4, IntervalVariability::Fixed),
+        clock(5, IntervalVariability::Countdown),
     ]?;
     Ok(Shape {
         identifier: Text::from_str(alloc, "model")?,
@@ -462,10 +617,10 @@ fn shape_of(alloc: Global, might_return_early: bool) -> Result<Shape, AllocError
         has_variable_steps: false,
         can_save_state: true,
         can_serialize_state: false,
-        variables: Items::from_vec(variables),
-        clocks: Items::from_vec(Vec::new(alloc)),
-        dependencies: Items::from_vec(Vec::new(alloc)),
-        initial_dependencies: Items::from_vec(Vec::new(alloc)),
+        variables: ByReference::new(alloc, variables)?,
+        clocks: ByReference::new(alloc, clocks)?,
+        dependencies: ByReference::new(alloc, Vec::new(alloc))?,
+        initial_dependencies: ByReference::new(alloc, Vec::new(alloc))?,
     })
 }
 
@@ -552,8 +707,9 @@ fn a_word_is_in_the_range_of_its_type(rt: HostRuntime) -> Result<(), Fail> {
 fn a_reply_is_of_the_kind_of_its_call(rt: HostRuntime) -> Result<(), Fail> {
     let shape = shape_of(rt.alloc(), true)?;
     let phase = Phase::fresh(rt.alloc(), &shape)?;
-    for (call, content, kind) in KINDS {
+    for (call, content, kind, number, name) in KINDS {
         assert_eq!(rt; (call.kind(), content.kind()), (kind, kind));
+        assert_eq!(rt; (kind.facts().number, kind.facts().name), (number, name));
         for is_warning in [false, true] {
             let reply = Reply::Done {
                 is_warning,
@@ -565,7 +721,7 @@ fn a_reply_is_of_the_kind_of_its_call(rt: HostRuntime) -> Result<(), Fail> {
                 Status::Ok
             };
             assert_eq!(rt; (reply.kind(), reply.status()), (kind, status));
-            for (other, _, other_kind) in KINDS {
+            for (other, _, other_kind, _, _) in KINDS {
                 let is_good = grade(&shape, &phase, &other, &reply) == Grade::Good;
                 assert_eq!(rt; is_good, kind == other_kind, "{reply:?} to {other:?}");
             }
@@ -580,7 +736,7 @@ fn a_refusal_is_of_the_kind_of_its_call(rt: HostRuntime) -> Result<(), Fail> {
     let phase = Phase::fresh(rt.alloc(), &shape)?;
     for (bad, status) in STATUSES {
         assert_eq!(rt; Status::from_bad(bad), status);
-        for (_, _, kind) in KINDS {
+        for (_, _, kind, _, _) in KINDS {
             let reply = Reply::Refused { kind, status: bad };
             assert_eq!(rt; (reply.kind(), reply.status()), (kind, status));
             assert_eq!(rt; reply.bad_status(), bad);
@@ -592,6 +748,30 @@ fn a_refusal_is_of_the_kind_of_its_call(rt: HostRuntime) -> Result<(), Fail> {
             let worth = grade(&shape, &phase, &STEP, &reply);
             assert_eq!(rt; worth, expected, "{reply:?}");
         }
+    }
+    Ok(())
+}
+
+#[test]
+fn intervals_and_shifts_are_whole_counts(rt: HostRuntime) -> Result<(), Fail> {
+    let shape = shape_of(rt.alloc(), false)?;
+    let phase = Phase::fresh(rt.alloc(), &shape)?;
+    for (reference, interval, expected) in INTERVALS {
+        let call = Call::GetInterval { reference };
+        let content = Content::GetInterval { interval };
+        let is_valid = valid(&shape, &phase, &call, &content);
+        assert_eq!(rt; is_valid, expected, "{interval:?} of {reference}");
+    }
+    for (shift, expected) in SHIFTS {
+        let call = Call::GetShift { reference: 4 };
+        let content = Content::GetShift { shift };
+        let is_valid = valid(&shape, &phase, &call, &content);
+        assert_eq!(rt; is_valid, expected, "{shift:?}");
+    }
+    for (word, expected) in [(0, true), (1, true), (2, false)] {
+        let call = Call::GetClock { reference: 4 };
+        let is_valid = valid(&shape, &phase, &call, &Content::GetClock { word });
+        assert_eq!(rt; is_valid, expected, "{word}");
     }
     Ok(())
 }

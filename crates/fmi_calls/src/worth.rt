@@ -1,9 +1,10 @@
 ghost use Rattle.std.specs.Prelude.{◌≡◌, is_some};
-ghost use Rattle.fmi_calls.specs.Worth.{grade_of, is_step_end, is_valid};
+ghost use Rattle.fmi_calls.specs.Worth.{grade_of, has_counts, is_countdown_interval, is_interval, is_known_interval, is_step_end, is_valid, variability_at};
 ghost use Rattle.value_types.specs.Values.{word_value};
 
-use crate::{Call, Content, Grade, Phase, Reply};
-use value_types::{PortType, Shape, from_word};
+use crate::{Call, Content, Grade, Interval, Phase, Reply};
+use clock_fraction::{Fraction, to_counts};
+use value_types::{IntervalVariability, PortType, Shape, from_word};
 
 /// Whether what a reply with OK or Warning carries is what the call may get, in any phase that permits the call.
 pub fn valid(shape: &Shape, _phase: &Phase, call: &Call, content: &Content) -> bool
@@ -23,7 +24,18 @@ pub fn valid(shape: &Shape, _phase: &Phase, call: &Call, content: &Content) -> b
         (Call::Instantiate { .. }, Content::Instantiate) => true,
         (Call::EnterInitialization { .. }, Content::EnterInitialization) => true,
         (Call::ExitInitialization, Content::ExitInitialization) => true,
+        (Call::EnterEvent, Content::EnterEvent) => true,
+        (Call::EnterStep, Content::EnterStep) => true,
+        (Call::Update, Content::Update { .. }) => true,
         (Call::Set { .. }, Content::Set) => true,
+        (Call::GetClock { .. }, Content::GetClock { word }) => word <= 1,
+        (Call::SetClock { .. }, Content::SetClock) => true,
+        (Call::GetInterval { reference }, Content::GetInterval { interval }) => {
+            is_interval(variability_at(shape, reference), interval, shape.resolution)
+        }
+        (Call::GetShift { .. }, Content::GetShift { shift }) => {
+            has_counts(0, shift, shape.resolution)
+        }
         (Call::Save, Content::Save) => true,
         (Call::Restore, Content::Restore) => true,
         (Call::Free, Content::Free) => true,
@@ -46,6 +58,58 @@ fn is_word(kind: PortType, word: u64) -> bool
     ensures { result ≡ is_some (word_value kind word) }
 {
     from_word(kind, word).is_some()
+}
+
+fn variability_at(shape: &Shape, reference: u32) -> Option<IntervalVariability>
+    ensures { result ≡ variability_at shape.now reference }
+{
+    match shape.clocks.find(reference) {
+        Some(clock) => Some(clock.variability),
+        None => None,
+    }
+}
+
+fn is_interval(
+    variability: Option<IntervalVariability>,
+    interval: Interval,
+    resolution: u64,
+) -> bool
+    ensures { result ≡ is_interval variability interval resolution }
+{
+    match variability {
+        Some(IntervalVariability::Countdown) => is_countdown_interval(interval, resolution),
+        _ => is_known_interval(interval, resolution),
+    }
+}
+
+fn is_countdown_interval(interval: Interval, resolution: u64) -> bool
+    ensures { result ≡ is_countdown_interval interval resolution }
+{
+    match interval {
+        Interval::NotYetKnown | Interval::Unchanged(_) => true,
+        Interval::Changed(fraction) => has_counts(0, fraction, resolution),
+    }
+}
+
+fn is_known_interval(interval: Interval, resolution: u64) -> bool
+    ensures { result ≡ is_known_interval interval resolution }
+{
+    match interval {
+        Interval::NotYetKnown => false,
+        Interval::Unchanged(fraction) | Interval::Changed(fraction) => {
+            has_counts(1, fraction, resolution)
+        }
+    }
+}
+
+// Whether a fraction of a second is a whole number of counts, and at least so many.
+fn has_counts(least: u128, fraction: Fraction, resolution: u64) -> bool
+    ensures { result ≡ has_counts least fraction resolution }
+{
+    match to_counts(fraction, resolution) {
+        Some(counts) => least <= counts,
+        None => false,
+    }
 }
 
 /// The worth of a reply to a call that the phase permits.

@@ -1,7 +1,6 @@
 pub mod SoundLemmas
 pub mod StepLemmas
 pub mod KindLemmas
-pub mod PortLemmas
 pub mod OneLemmas
 pub mod TableLemmas
 pub mod TextLemmas

@@ -1,5 +1,5 @@
 -- What doesn't read, from what a reader answers.
-use Rattle.std.proofs.Common.{◌≡◌, ◌↔◌, ◌⊎◌, ℕ, ℤ, Bool, true, false, not, List, Option, Some, None, IsTrue, IfSome, IfOk, Result, Ok, Err, is_some, sym, ap, ◌∙◌, refl, subst, inl, inr}
+use Rattle.std.proofs.Common.{◌≡◌, ◌↔◌, ◌⊎◌, ℕ, Bool, true, false, not, List, Option, Some, None, IsTrue, IfSome, IfOk, Result, Ok, Err, is_some, sym, ◌∙◌, refl, subst, inl, inr}
 use Rattle.std.proofs.lemmas.Bool.{both_ways, iff_false}
 use Rattle.std.proofs.lemmas.Option.{same_Some, none-some}
 use Rattle.clock_fraction.specs.declared.fraction.Fraction.{Fraction}

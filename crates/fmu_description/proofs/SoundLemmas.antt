@@ -8,13 +8,14 @@ use Rattle.value_types.specs.declared.values.PortType.TheVariants.{Int8, UInt8, 
 use Rattle.value_types.specs.declared.shape.Variable.{Variable}
 use Rattle.clock_fraction.specs.declared.fraction.Fraction.{Fraction}
 use Rattle.doc_grammar.specs.Nodes.{Node}
-use Rattle.fmu_description.specs.declared.rule.Rule.TheVariants as r
+use Rattle.doc_tree.specs.declared.rule.DescriptionRule.TheVariants as r
 use Rattle.fmu_description.specs.Texts.{reference, counter, variability, port_type}
 use Rattle.fmu_description.specs.Elements.{name_of, is_named, attribute, is_variable, is_clock, is_co_simulation, reference_of, variable_key, key_if, IsFirstWith, IsCoSimulation}
 use Rattle.fmu_description.specs.Clocks.{IsForeign, OfItself, IsTimed, variability_of, IsInterval, ByCounters, ByDecimal, IsShift, Counters, NoCounter, Decimal, NoDecimal}
 use Rattle.fmu_description.specs.Places.{FindsCoSimulation}
 use Rattle.fmu_description.specs.Rules.{IsSound}
-use Rattle.fmu_description.specs.Description.{IsSoundTree, ReadsStart, IsKind, IsVariable, IsTimedAt, is_clock_type, variables_in}
+use Rattle.value_types.specs.Shape.{is_clock_type}
+use Rattle.fmu_description.specs.Description.{IsSoundTree, ReadsStart, IsKind, IsVariable, IsTimedAt, variables_in}
 use Rattle.fmu_description.proofs.StepLemmas.{source}
 
 -- ---- the least number

@@ -1,12 +1,12 @@
 -- Foreign variables, and the Clocks of a description (FMI 3.0, 2.2.8: clocks; 2.4.7.5: attributes of clocks).
-use Rattle.std.specs.Prelude.{◌≡◌, ◌⊎◌, ℕ, ◌<◌, Bool, true, false, ◌&&◌, List, Option, Some, None, is_some, option_and_then, unwrap_or, Contains, codes}
+use Rattle.std.specs.Prelude.{◌≡◌, ◌⊎◌, ℕ, Bool, true, false, ◌&&◌, List, Option, Some, None, is_some, option_and_then, Contains, codes}
 use Rattle.value_types.specs.declared.shape.Causality.TheVariants as c
 use Rattle.value_types.specs.declared.shape.IntervalVariability.{IntervalVariability}
 use Rattle.clock_fraction.specs.declared.fraction.Fraction.{Fraction}
 use Rattle.clock_fraction.specs.Decimal.{Denotes}
 use Rattle.doc_grammar.specs.Nodes.{Node}
 use Rattle.fmu_description.specs.Texts.{counter, variability, is_foreign_type}
-use Rattle.fmu_description.specs.Elements.{attribute, parent, name_of, is_variable, is_clock, is_dimension, reference_of, references_of, causality_of, has_flag, clock_key}
+use Rattle.fmu_description.specs.Elements.{attribute, parent, name_of, is_variable, is_clock, is_dimension, references_of, causality_of, has_flag, clock_key}
 
 -- ---- foreign variables, which are never set, read, bound or traced (a narrowing of this profile)
 

@@ -1,11 +1,7 @@
 -- What a model description says of its FMU (FMI 3.0, 2.4): the shape that its tree denotes.
-use Rattle.std.specs.Prelude.{◌≡◌, ◌⊎◌, ℕ, ℤ, Bool, true, false, ◌&&◌, ◌||◌, List, [], length, map, filter, Option, Some, None, is_some, unwrap_or, option_map, codes}
+use Rattle.std.specs.Prelude.{◌≡◌, ◌⊎◌, ℕ, ℤ, Bool, true, List, [], length, map, filter, Option, Some, None, unwrap_or, codes}
 use Rattle.std.specs.List.{AllZip, range_with_len}
-use Rattle.std.specs.Option.{option_map_or}
 use Rattle.value_types.specs.declared.values.PortType.{PortType}
-use Rattle.value_types.specs.declared.values.PortType.TheVariants.{Int8, UInt8, Int16, UInt16, Int32, UInt32, Int64, UInt64, Boolean, Enumeration, Clock}
-use Rattle.value_types.specs.declared.shape.Causality.{Causality}
-use Rattle.value_types.specs.declared.shape.Causality.TheVariants as c
 use Rattle.value_types.specs.declared.shape.Variable.{Variable}
 use Rattle.value_types.specs.declared.shape.ClockTiming.{ClockTiming}
 use Rattle.value_types.specs.declared.shape.Knowns.{Knowns}
@@ -13,7 +9,7 @@ use Rattle.value_types.specs.declared.shape.Knowns.TheVariants.{AllInputs, Liste
 use Rattle.value_types.specs.declared.shape.Dependency.{Dependency}
 use Rattle.value_types.specs.declared.shape.Shape.{Shape}
 use Rattle.value_types.specs.Reading.{Reads}
-use Rattle.value_types.specs.Shape.{variable_at}
+use Rattle.value_types.specs.Shape.{is_at, is_clock, is_output_port, is_port}
 use Rattle.clock_fraction.specs.declared.fraction.Fraction.{Fraction}
 use Rattle.doc_grammar.specs.Nodes.{Node}
 use Rattle.doc_tree.specs.Elements.{children_of}
@@ -101,65 +97,17 @@ IsTimedAt t reference = (k : ℕ) × (variable_key t k ≡ Some reference) × Is
 abbrev pub IsTimingOf : List Node → Variable → ClockTiming → Type 0
 IsTimingOf t x timing = (k : ℕ) × (variable_key t k ≡ Some x.reference) × IsTiming t k timing
 
-abbrev pub is_clock_type : Option PortType → Bool
-is_clock_type (Some Clock) = true
-is_clock_type (Some Int8) = false
-is_clock_type (Some UInt8) = false
-is_clock_type (Some Int16) = false
-is_clock_type (Some UInt16) = false
-is_clock_type (Some Int32) = false
-is_clock_type (Some UInt32) = false
-is_clock_type (Some Int64) = false
-is_clock_type (Some UInt64) = false
-is_clock_type (Some Boolean) = false
-is_clock_type (Some Enumeration) = false
-is_clock_type None = false
-
 abbrev pub clocks_among : List Variable → List Variable
-clocks_among xs = filter (λ (x : Variable). is_clock_type x.kind) xs
+clocks_among xs = filter is_clock xs
 
 -- ---- dependencies (2.4.9: ModelStructure)
-
-abbrev pub is_input : Causality → Bool
-is_input c.Input = true
-is_input c.Parameter = false
-is_input c.CalculatedParameter = false
-is_input c.StructuralParameter = false
-is_input c.Output = false
-is_input c.Local = false
-is_input c.Independent = false
-is_input c.Other = false
-
-abbrev pub is_output : Causality → Bool
-is_output c.Output = true
-is_output c.Parameter = false
-is_output c.CalculatedParameter = false
-is_output c.StructuralParameter = false
-is_output c.Input = false
-is_output c.Local = false
-is_output c.Independent = false
-is_output c.Other = false
-
--- an input or output that isn't foreign
-abbrev pub is_input_port : Variable → Bool
-is_input_port x = is_some x.kind && is_input x.causality
-
-abbrev pub is_output_port : Variable → Bool
-is_output_port x = is_some x.kind && is_output x.causality
-
-abbrev pub is_port : Variable → Bool
-is_port x = is_some x.kind && (is_input x.causality || is_output x.causality)
 
 abbrev pub outputs_among : List Variable → List Variable
 outputs_among xs = filter is_output_port xs
 
 -- the reference is that of a port
 abbrev pub is_port_at : List Variable → ℕ → Bool
-is_port_at xs reference = option_map_or is_port (variable_at xs reference) false
-
--- of each reference whether it is that of a port
-abbrev pub KnowsPorts : List Variable → (ℕ → Option Bool) → Type 0
-KnowsPorts xs ports = (reference : ℕ) → ports reference ≡ option_map is_port (variable_at xs reference)
+is_port_at xs reference = is_at is_port xs reference
 
 -- what a list of dependencies says: an absent one means all inputs, an empty one none; what is no port is dropped
 abbrev pub listed : List Variable → Option (List ℕ) → Knowns

@@ -10,30 +10,12 @@ use Rattle.clock_fraction.specs.declared.fraction.Fraction.{Fraction}
 use Rattle.clock_fraction.specs.Counts.{IsCounts}
 use Rattle.clock_fraction.specs.Decimal.{Denotes}
 use Rattle.doc_grammar.specs.Nodes.{Node}
-use Rattle.fmu_description.specs.declared.rule.Rule.{Rule}
-use Rattle.fmu_description.specs.declared.rule.Rule.TheVariants as r
+use Rattle.doc_tree.specs.Rules.{description_number}
+use Rattle.doc_tree.specs.declared.rule.DescriptionRule.{DescriptionRule}
+use Rattle.doc_tree.specs.declared.rule.DescriptionRule.TheVariants as r
 use Rattle.fmu_description.specs.Texts.{reference, references, counter, variability, port_type}
 use Rattle.fmu_description.specs.Elements.{name_of, is_named, attribute, is_co_simulation, is_variable, is_clock, is_alias, reference_of, references_of, causality_of, flag_of, has_flag, filled, variable_key, clock_key, name_key, IsRepeated, IsHeld, IsCoSimulation, IsUnknown}
 use Rattle.fmu_description.specs.Clocks.{IsForeign, IsTimed, variability_of, counter_of, clocks_of, is_by_counters, IsInterval, IsShift}
-
--- ---- numbers
-
-abbrev pub number : Rule → ℕ
-number r.RootName = 10
-number r.Version = 11
-number r.NoCoSimulation = 12
-number r.Absent = 13
-number r.Misread = 14
-number r.ReferenceTwice = 15
-number r.NameTwice = 16
-number r.NoInterval = 17
-number r.ClockCausality = 18
-number r.Uneven = 19
-number r.NoClock = 20
-number r.NoVariable = 21
-number r.SerializesUnsaved = 22
-number r.LeftOut = 23
-number r.ClockWithoutEvents = 24
 
 -- ---- what is absent
 
@@ -232,7 +214,7 @@ abbrev pub HasNoEvents : List Node → ℕ → Type 0
 HasNoEvents t k = IsTimed t k × HasNoEventMode t
 
 -- the element breaks the rule, where a second has so many counts
-abbrev pub Violates : Rule → List Node → ℕ → ℕ → Type 0
+abbrev pub Violates : DescriptionRule → List Node → ℕ → ℕ → Type 0
 -- 10: the root is no `fmiModelDescription` (2.4.1)
 Violates r.RootName t per_second k = HasOtherName t k
 -- 11: another version than 3.0 (2.4.1)
@@ -265,18 +247,18 @@ Violates r.LeftOut t per_second k = IsTimed t k × IsLeftOut t k
 Violates r.ClockWithoutEvents t per_second k = HasNoEvents t k
 
 abbrev pub BreaksNoRule : List Node → ℕ → ℕ → Type 0
-BreaksNoRule t per_second k = (rule : Rule) → Violates rule t per_second k → ⊥
+BreaksNoRule t per_second k = (rule : DescriptionRule) → Violates rule t per_second k → ⊥
 
 -- the least number of a rule that the element breaks
-pub record IsLeast (t : List Node) (per_second k : ℕ) (rule : Rule) : Type 0 where
+pub record IsLeast (t : List Node) (per_second k : ℕ) (rule : DescriptionRule) : Type 0 where
   pub broken : Violates rule t per_second k
-  pub least : (other : Rule) → number other < number rule → Violates other t per_second k → ⊥
+  pub least : (other : DescriptionRule) → description_number other < description_number rule → Violates other t per_second k → ⊥
 
 -- the first violation: at the first element that breaks a rule, the one of the least number
-pub record IsFirstViolation (t : List Node) (per_second k : ℕ) (rule : Rule) : Type 0 where
+pub record IsFirstViolation (t : List Node) (per_second k : ℕ) (rule : DescriptionRule) : Type 0 where
   pub is : IsLeast t per_second k rule
-  pub first : (j : ℕ) (other : Rule) → j < k → Violates other t per_second j → ⊥
+  pub first : (j : ℕ) (other : DescriptionRule) → j < k → Violates other t per_second j → ⊥
 
 -- no element breaks a rule
 abbrev pub IsSound : List Node → ℕ → Type 0
-IsSound t per_second = (rule : Rule) (k : ℕ) → Violates rule t per_second k → ⊥
+IsSound t per_second = (rule : DescriptionRule) (k : ℕ) → Violates rule t per_second k → ⊥

@@ -7,31 +7,30 @@ ghost use Rattle.fmu_description.specs.Places.{IsTable, found};
 
 use crate::elements::{attribute, references_of};
 use crate::places::Places;
-use crate::ports::{Ports, is_output_port};
 use doc_tree::Tree;
 use sim_base::Items;
 use std::alloc::{AllocError, Global};
-use value_types::{Dependency, Knowns};
+use value_types::{ByReference, Dependency, Knowns, Variable};
 
 /// What each output depends on in Event Mode and Step Mode.
 pub(crate) fn dependencies(
     alloc: Global,
     tree: &Tree,
     outputs: &Places,
-    ports: &Ports,
-) -> Result<Items<Dependency>, AllocError>
+    variables: &ByReference<Variable>,
+) -> Result<ByReference<Dependency>, AllocError>
     requires { IsTable (output_key tree.now) (found outputs.now) }
-    ensures { IfOk result (AllZip (IsDependency tree.now ports.now) (outputs_among ports.now)) }
+    ensures { IfOk result (AllZip (IsDependency tree.now variables.now) (outputs_among variables.now)) }
 {
     let mut dependencies = Vec::new(alloc);
-    for variable in ports.variables() {
-        if is_output_port(variable) {
+    for variable in variables.as_slice() {
+        if variable.is_output_port() {
             let output = variable.reference;
-            let on = depends_on(alloc, tree, outputs, ports, output)?;
+            let on = depends_on(alloc, tree, outputs, variables, output)?;
             dependencies.push(Dependency { output, on })?;
         }
     }
-    Ok(Items::from_vec(dependencies))
+    ByReference::new(alloc, dependencies)
 }
 
 /// What each output depends on in Initialization Mode.
@@ -41,23 +40,25 @@ pub(crate) fn initial_dependencies(
     places: &Places,
     unknowns: &Places,
     outputs: &Places,
-    ports: &Ports,
-) -> Result<Items<Dependency>, AllocError>
+    variables: &ByReference<Variable>,
+) -> Result<ByReference<Dependency>, AllocError>
     requires sound { IsSoundTree tree.now }
     requires places { IsTable (variable_key tree.now) (found places.now) }
     requires unknowns { IsTable (initial_key tree.now) (found unknowns.now) }
     requires outputs { IsTable (output_key tree.now) (found outputs.now) }
-    ensures { IfOk result (AllZip (IsInitialDependency tree.now ports.now) (outputs_among ports.now)) }
+    ensures { IfOk result (AllZip (IsInitialDependency tree.now variables.now) (outputs_among variables.now)) }
 {
     let mut dependencies = Vec::new(alloc);
-    for variable in ports.variables() {
-        if is_output_port(variable) {
+    for variable in variables.as_slice() {
+        if variable.is_output_port() {
             let output = variable.reference;
-            let on = depends_initially_on(alloc, tree, places, unknowns, outputs, ports, output)?;
+            let on = depends_initially_on(
+                alloc, tree, places, unknowns, outputs, variables, output,
+            )?;
             dependencies.push(Dependency { output, on })?;
         }
     }
-    Ok(Items::from_vec(dependencies))
+    ByReference::new(alloc, dependencies)
 }
 
 /// What an output depends on in Event Mode and Step Mode.
@@ -65,14 +66,14 @@ fn depends_on(
     alloc: Global,
     tree: &Tree,
     outputs: &Places,
-    ports: &Ports,
+    variables: &ByReference<Variable>,
     reference: u32,
 ) -> Result<Knowns, AllocError>
     requires { IsTable (output_key tree.now) (found outputs.now) }
-    ensures { IfOk result (DependsOn tree.now ports.now reference) }
+    ensures { IfOk result (DependsOn tree.now variables.now reference) }
 {
     match outputs.find(reference) {
-        Some(node) => listed(alloc, tree, node, ports),
+        Some(node) => listed(alloc, tree, node, variables),
         None => Ok(Knowns::AllInputs),
     }
 }
@@ -84,21 +85,21 @@ fn depends_initially_on(
     places: &Places,
     unknowns: &Places,
     outputs: &Places,
-    ports: &Ports,
+    variables: &ByReference<Variable>,
     reference: u32,
 ) -> Result<Knowns, AllocError>
     requires sound { IsSoundTree tree.now }
     requires places { IsTable (variable_key tree.now) (found places.now) }
     requires unknowns { IsTable (initial_key tree.now) (found unknowns.now) }
     requires outputs { IsTable (output_key tree.now) (found outputs.now) }
-    ensures { IfOk result (DependsInitiallyOn tree.now ports.now reference) }
+    ensures { IfOk result (DependsInitiallyOn tree.now variables.now reference) }
 {
     match unknowns.find(reference) {
-        Some(node) => listed(alloc, tree, node, ports),
+        Some(node) => listed(alloc, tree, node, variables),
         None if is_exact(tree, places, reference) => {
             Ok(Knowns::Listed(Items::from_vec(Vec::new(alloc))))
         }
-        None => depends_on(alloc, tree, outputs, ports, reference),
+        None => depends_on(alloc, tree, outputs, variables, reference),
     }
 }
 
@@ -124,11 +125,16 @@ fn is_exact_at(tree: &Tree, node: usize) -> bool
 }
 
 /// What a list of dependencies says: an absent one means all inputs.
-fn listed(alloc: Global, tree: &Tree, node: usize, ports: &Ports) -> Result<Knowns, AllocError>
-    ensures { IfOk result (λ on. on ≡ listed ports.now (attribute tree.now node (codes "dependencies"))) }
+fn listed(
+    alloc: Global,
+    tree: &Tree,
+    node: usize,
+    variables: &ByReference<Variable>,
+) -> Result<Knowns, AllocError>
+    ensures { IfOk result (λ on. on ≡ listed variables.now (attribute tree.now node (codes "dependencies"))) }
 {
     match attribute(tree, node, "dependencies") {
-        Some(_) => Ok(Knowns::Listed(ports_listed(alloc, tree, node, ports)?)),
+        Some(_) => Ok(Knowns::Listed(ports_listed(alloc, tree, node, variables)?)),
         None => Ok(Knowns::AllInputs),
     }
 }
@@ -138,15 +144,25 @@ fn ports_listed(
     alloc: Global,
     tree: &Tree,
     node: usize,
-    ports: &Ports,
+    variables: &ByReference<Variable>,
 ) -> Result<Items<u32>, AllocError>
-    ensures { IfOk result (λ on. on ≡ filter (is_port_at ports.now) (references_of tree.now node (codes "dependencies"))) }
+    ensures { IfOk result (λ on. on ≡ filter (is_port_at variables.now) (references_of tree.now node (codes "dependencies"))) }
 {
     let listed = references_of(alloc, tree, node, "dependencies")?;
     let named = listed
         .iter()
         .copied()
-        .filter(|reference| ports.is_port_at(*reference))
+        .filter(|reference| is_port_at(variables, *reference))
         .collect(alloc)?;
     Ok(Items::from_vec(named))
+}
+
+/// Whether a reference is that of a port.
+fn is_port_at(variables: &ByReference<Variable>, reference: u32) -> bool
+    ensures { result ≡ is_port_at variables.now reference }
+{
+    match variables.find(reference) {
+        Some(variable) => variable.is_port(),
+        None => false,
+    }
 }

@@ -12,11 +12,9 @@ mod intervals;
 mod law;
 mod misread;
 mod places;
-mod ports;
 mod reader;
 #[cfg(test)]
 mod reader_tests;
-mod rule;
 mod rules;
 mod shape;
 #[cfg(test)]
@@ -29,4 +27,3 @@ mod variables;
 
 pub use distinct::distinct_references;
 pub use reader::read_description;
-pub use rule::Rule;

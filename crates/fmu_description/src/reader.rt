@@ -1,28 +1,27 @@
 //! What a description says of its FMU, or the first rule that it breaks.
 ghost use Rattle.std.specs.Prelude.{◌≡◌, ℕ, IfOk, IfErr};
 ghost use Rattle.value_types.specs.declared.shape.Shape.{Shape};
-ghost use Rattle.fmu_description.specs.Answers.{Faults, Gives, IsRefusal, Refuses};
+ghost use Rattle.fmu_description.specs.Answers.{Faults, Gives, NamesViolation, Refuses};
 ghost use Rattle.fmu_description.specs.Description.{Describes};
 ghost use Rattle.fmu_description.specs.Indexed.{IsIndexed};
 ghost use Rattle.fmu_description.specs.Rules.{IsFirstViolation, IsSound};
-ghost use Rattle.fmu_description.specs.declared.rule.Rule.{Rule};
+ghost use Rattle.doc_tree.specs.declared.rule.DescriptionRule.{DescriptionRule};
 
 use crate::indexed::IndexedTree;
 use crate::law::one_description;
-use crate::rule::Rule;
 use crate::shape::describe;
-use doc_tree::{Refusal, Tree};
+use doc_tree::{DescriptionRule, Refusal, Rule, Tree};
 use sim_base::Items;
 use std::alloc::{AllocError, Global};
 use value_types::Shape;
 
-fn refusal(alloc: Global, node: usize, rule: Rule) -> Refusal
-    ensures { IsRefusal result rule node }
+fn refusal(alloc: Global, node: usize, rule: DescriptionRule) -> Refusal
+    ensures { NamesViolation result rule node }
 {
     Refusal::At {
         file: 0,
         node,
-        rule: rule.number(),
+        rule: Rule::Description(rule),
         ports: Items::from_vec(Vec::new(alloc)),
     }
 }
@@ -50,7 +49,7 @@ pub fn read_description(alloc: Global, tree: &Tree, resolution: u64) -> Result<S
     ensures sound { IfOk result (λ shape. IsSound tree.now resolution) }
     ensures found { IfOk result (Describes tree.now resolution) }
     ensures fault { IfErr result (Faults tree.now resolution) }
-    ensures exact { (rule : Rule) (node : ℕ) → IsFirstViolation tree.now resolution node rule → Refuses result rule node }
+    ensures exact { (rule : DescriptionRule) (node : ℕ) → IsFirstViolation tree.now resolution node rule → Refuses result rule node }
     ensures only { (shape : Shape) → IsSound tree.now resolution → Describes tree.now resolution shape → Gives result shape }
 {
     one_description();

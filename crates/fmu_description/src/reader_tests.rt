@@ -229,7 +229,7 @@ fn refused(answer: Result<Shape, Refusal>) -> Option<(u32, usize)> {
             },
         ) => {
             if file == 0 && ports.len() == 0 {
-                Some((rule, node))
+                Some((rule.number(), node))
             } else {
                 None
             }

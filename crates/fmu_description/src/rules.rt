@@ -3,7 +3,7 @@ ghost use Rattle.std.specs.Prelude.{◌≡◌, ◌↔◌, ◌<◌, ℕ, IsTrue, 
 ghost use Rattle.fmu_description.specs.Elements.{IsCoSimulation};
 ghost use Rattle.fmu_description.specs.Indexed.{IsIndexed};
 ghost use Rattle.fmu_description.specs.Rules.{BreaksNoRule, HasNoEvents, HasOtherName, HasOtherVersion, IsFirstViolation, IsLeast, IsSound, IsVersion, LacksCoSimulation, LacksOfCoSimulation, LacksOfUnknown, LacksSomething, MisreadsOfCoSimulation, MisreadsOfUnknown, MisreadsOfVariable, MisreadsSetting, MisreadsSomething, NamesNoClockAt, NamesNoVariableAt, NamesOtherVersion, SerializesUnsaved, Violates};
-ghost use Rattle.fmu_description.specs.declared.rule.Rule.{Rule};
+ghost use Rattle.doc_tree.specs.declared.rule.DescriptionRule.{DescriptionRule};
 
 use crate::absent::{lacks, lacks_of_alias, lacks_of_root, lacks_of_variable};
 use crate::clock_rules::{
@@ -14,8 +14,7 @@ use crate::indexed::IndexedTree;
 use crate::misread::{
     misreads_flag, misreads_of_clock, misreads_reference, misreads_references, misreads_start,
 };
-use crate::rule::{RULES, Rule};
-use doc_tree::Tree;
+use doc_tree::{DESCRIPTION_RULES, DescriptionRule, Tree};
 use std::alloc::{AllocError, Global};
 
 fn has_other_name(tree: &Tree, node: usize) -> bool
@@ -170,37 +169,37 @@ impl IndexedTree<'_> {
     }
 
     /// Whether an element breaks a rule.
-    fn breaks(&self, alloc: Global, rule: Rule, node: usize) -> Result<bool, AllocError>
+    fn breaks(&self, alloc: Global, rule: DescriptionRule, node: usize) -> Result<bool, AllocError>
         requires { IsIndexed self.now }
         ensures { IfOk result (λ b. IsTrue b ↔ Violates rule self.now.tree.now self.now.resolution node) }
     {
         match rule {
-            Rule::RootName => Ok(has_other_name(self.tree, node)),
-            Rule::Version => Ok(has_other_version(self.tree, node)),
-            Rule::NoCoSimulation => Ok(self.lacks_co_simulation(node)),
-            Rule::Absent => Ok(self.lacks_something(node)),
-            Rule::Misread => self.misreads_something(alloc, node),
-            Rule::ReferenceTwice => Ok(self.repeats_reference(node)),
-            Rule::NameTwice => Ok(self.repeats_name(node)),
-            Rule::NoInterval => Ok(lacks_interval(self.tree, node)),
-            Rule::ClockCausality => Ok(breaks_causality(self.tree, node)),
-            Rule::Uneven => Ok(breaks_counts(self.tree, node, self.resolution)),
-            Rule::NoClock => self.variable_names_no_clock(alloc, node),
-            Rule::NoVariable => self.unknown_names_no_variable(alloc, node),
-            Rule::SerializesUnsaved => Ok(self.serializes_unsaved(node)),
-            Rule::LeftOut => Ok(breaks_profile(self.tree, node)),
-            Rule::ClockWithoutEvents => Ok(self.has_no_events(node)),
+            DescriptionRule::RootName => Ok(has_other_name(self.tree, node)),
+            DescriptionRule::Version => Ok(has_other_version(self.tree, node)),
+            DescriptionRule::NoCoSimulation => Ok(self.lacks_co_simulation(node)),
+            DescriptionRule::Absent => Ok(self.lacks_something(node)),
+            DescriptionRule::Misread => self.misreads_something(alloc, node),
+            DescriptionRule::ReferenceTwice => Ok(self.repeats_reference(node)),
+            DescriptionRule::NameTwice => Ok(self.repeats_name(node)),
+            DescriptionRule::NoInterval => Ok(lacks_interval(self.tree, node)),
+            DescriptionRule::ClockCausality => Ok(breaks_causality(self.tree, node)),
+            DescriptionRule::Uneven => Ok(breaks_counts(self.tree, node, self.resolution)),
+            DescriptionRule::NoClock => self.variable_names_no_clock(alloc, node),
+            DescriptionRule::NoVariable => self.unknown_names_no_variable(alloc, node),
+            DescriptionRule::SerializesUnsaved => Ok(self.serializes_unsaved(node)),
+            DescriptionRule::LeftOut => Ok(breaks_profile(self.tree, node)),
+            DescriptionRule::ClockWithoutEvents => Ok(self.has_no_events(node)),
         }
     }
 
     /// The rule of the least number that an element breaks.
-    fn broken_rule(&self, alloc: Global, node: usize) -> Result<Option<Rule>, AllocError>
+    fn broken_rule(&self, alloc: Global, node: usize) -> Result<Option<DescriptionRule>, AllocError>
         requires { IsIndexed self.now }
         ensures { IfOk result (λ found. MatchOption found
             (BreaksNoRule self.now.tree.now self.now.resolution node)
             (IsLeast self.now.tree.now self.now.resolution node)) }
     {
-        for rule in RULES {
+        for rule in DESCRIPTION_RULES {
             if self.breaks(alloc, rule, node)? {
                 return Ok(Some(rule));
             }
@@ -210,7 +209,10 @@ impl IndexedTree<'_> {
 
     /// The first element that breaks a rule, and the rule of the least number that it breaks.
     #[tactic(auto, using(crate::proofs::RuleLemmas::all_sound))]
-    pub(crate) fn first_violation(&self, alloc: Global) -> Result<Option<(usize, Rule)>, AllocError>
+    pub(crate) fn first_violation(
+        &self,
+        alloc: Global,
+    ) -> Result<Option<(usize, DescriptionRule)>, AllocError>
         requires { IsIndexed self.now }
         ensures { IfOk result (λ found. MatchOption found
             (IsSound self.now.tree.now self.now.resolution)

@@ -9,7 +9,6 @@ use crate::dependencies::{dependencies, initial_dependencies};
 use crate::elements::has_flag;
 use crate::foreign::Foreign;
 use crate::places::{Places, co_simulation};
-use crate::ports::Ports;
 use crate::timings::timings;
 use crate::variables::{text_of, variables};
 use doc_tree::Tree;
@@ -35,11 +34,11 @@ pub(crate) fn describe(
     ensures { IfOk result (Describes tree.now resolution) }
 {
     let element = co_simulation(tree).unwrap();
-    let ports = Ports::new(alloc, variables(alloc, tree, foreign)?)?;
-    let clocks = timings(alloc, tree, places, ports.variables())?;
-    let dependencies = dependencies(alloc, tree, outputs, &ports)?;
+    let variables = variables(alloc, tree, foreign)?;
+    let clocks = timings(alloc, tree, places, variables.as_slice())?;
+    let dependencies = dependencies(alloc, tree, outputs, &variables)?;
     let initial_dependencies = initial_dependencies(
-        alloc, tree, places, unknowns, outputs, &ports,
+        alloc, tree, places, unknowns, outputs, &variables,
     )?;
     Ok(Shape {
         identifier: Text::from_str(alloc, text_of(tree, element, "modelIdentifier"))?,
@@ -50,7 +49,7 @@ pub(crate) fn describe(
         has_variable_steps: has_flag(tree, element, "canHandleVariableCommunicationStepSize"),
         can_save_state: has_flag(tree, element, "canGetAndSetFMUState"),
         can_serialize_state: has_flag(tree, element, "canSerializeFMUState"),
-        variables: ports.into_variables(),
+        variables,
         clocks,
         dependencies,
         initial_dependencies,

@@ -1,10 +1,9 @@
 use crate::read_description;
 use clock_fraction::Fraction;
 use doc_tree::read_tree;
-use sim_base::Items;
 use std::alloc::{AllocError, Global};
 use std::test::Fail;
-use value_types::{Dependency, Knowns, Shape, Variable};
+use value_types::{ByReference, Dependency, Knowns, Shape, Variable};
 
 const COUNTER: &str =
     r#"<fmiModelDescription fmiVersion="3.0" modelName="counter" instantiationToken="{c}"><CoSimulation modelIdentifier="counter" canGetAndSetFMUState="true" canHandleVariableCommunicationStepSize="true"/><ModelVariables><Int32 name="inc" valueReference="1" causality="parameter" variability="fixed" start="2"/><Int32 name="y" valueReference="2" causality="output" variability="discrete"/></ModelVariables><ModelStructure><Output valueReference="2" dependencies=""/></ModelStructure></fmiModelDescription>"#;
@@ -92,7 +91,7 @@ fn put_knowns(alloc: Global, text: &mut String, knowns: &Knowns) -> Result<(), A
 fn put_dependencies(
     alloc: Global,
     text: &mut String,
-    dependencies: &Items<Dependency>,
+    dependencies: &ByReference<Dependency>,
 ) -> Result<(), AllocError> {
     text.push_str("|")?;
     for dependency in dependencies.as_slice() {

@@ -2,7 +2,7 @@
 ghost use Rattle.std.specs.Prelude.{◌≡◌, ℕ, Some, IfOk};
 ghost use Rattle.std.specs.List.{AllZip};
 ghost use Rattle.fmu_description.specs.Clocks.{IsTimed};
-ghost use Rattle.fmu_description.specs.Description.{HasShift, IsShiftTold, IsSoundTree, IsTimedAt, IsTiming, IsTimingOf, IsVariable, clocks_among, is_clock_type, variables_in};
+ghost use Rattle.fmu_description.specs.Description.{HasShift, IsShiftTold, IsSoundTree, IsTimedAt, IsTiming, IsTimingOf, IsVariable, clocks_among, variables_in};
 ghost use Rattle.fmu_description.specs.Elements.{variable_key};
 ghost use Rattle.fmu_description.specs.Places.{IsTable, found};
 
@@ -11,9 +11,8 @@ use crate::intervals;
 use crate::places::Places;
 use clock_fraction::Fraction;
 use doc_tree::Tree;
-use sim_base::Items;
 use std::alloc::{AllocError, Global};
-use value_types::{ClockTiming, PortType, Variable};
+use value_types::{ByReference, ClockTiming, Variable};
 
 /// The timings of the variables of type Clock of a sound tree, in the order of the description.
 pub(crate) fn timings(
@@ -21,7 +20,7 @@ pub(crate) fn timings(
     tree: &Tree,
     places: &Places,
     variables: &[Variable],
-) -> Result<Items<ClockTiming>, AllocError>
+) -> Result<ByReference<ClockTiming>, AllocError>
     requires sound { IsSoundTree tree.now }
     requires places { IsTable (variable_key tree.now) (found places.now) }
     requires variables { AllZip (IsVariable tree.now) (variables_in tree.now) variables.now }
@@ -29,17 +28,11 @@ pub(crate) fn timings(
 {
     let mut timings = Vec::new(alloc);
     for variable in variables {
-        if is_clock_type(variable.kind) {
+        if variable.is_clock() {
             timings.push(timing_at(tree, places, variable.reference))?;
         }
     }
-    Ok(Items::from_vec(timings))
-}
-
-fn is_clock_type(kind: Option<PortType>) -> bool
-    ensures { result ≡ is_clock_type kind }
-{
-    matches!(kind, Some(PortType::Clock))
+    ByReference::new(alloc, timings)
 }
 
 /// The timing of the Clock with a reference.

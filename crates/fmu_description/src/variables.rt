@@ -15,14 +15,14 @@ use crate::texts::{flag_or, port_type};
 use doc_tree::Tree;
 use sim_base::{Items, Text};
 use std::alloc::{AllocError, Global};
-use value_types::{PortType, Variable, read_value};
+use value_types::{ByReference, PortType, Variable, read_value};
 
 /// The variables of a sound tree, in the order of the description.
 pub(crate) fn variables(
     alloc: Global,
     tree: &Tree,
     foreign: &Foreign,
-) -> Result<Items<Variable>, AllocError>
+) -> Result<ByReference<Variable>, AllocError>
     requires sound { IsSoundTree tree.now }
     requires foreign { MarksForeign tree.now (is_foreign foreign.now) }
     ensures { IfOk result (AllZip (IsVariable tree.now) (variables_in tree.now)) }
@@ -33,7 +33,7 @@ pub(crate) fn variables(
             variables.push(variable(alloc, tree, node, foreign.is_foreign(node))?)?;
         }
     }
-    Ok(Items::from_vec(variables))
+    ByReference::new(alloc, variables)
 }
 
 /// The variable that an element describes.

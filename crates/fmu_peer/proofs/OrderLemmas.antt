@@ -41,7 +41,7 @@ stays_lost spared source c one h =
     subst (λ (n : ℕ). (c.new.is_fatal && n == source) ≡ true) (sym one.source)
     (subst (λ (b : Bool). (b && c.old.source == source) ≡ true) (sym one.fatal) (and_or c.old.is_fatal (any_fatal c.old.view.fixed.shape c.sent) (c.old.source == source) h))
 
-same_number : (n : ℕ) → (n == n) ≡ true
+pub same_number : (n : ℕ) → (n == n) ≡ true
 same_number n = grind (arith)
 
 becomes_lost : (spared : Bool) (c : Closing) → ClosesOne spared c → any_fatal c.old.view.fixed.shape c.sent ≡ true → is_lost_of c.old.source c.new ≡ true
@@ -70,7 +70,7 @@ sent_nothing true c one h = one.turn.0
 sent_nothing false c one h = absurd (cc)
 
 -- an instance of a source that is lost is sent nothing
-spared_from : (source : ℕ) (closed : List Instance) (cs : List Closing) → is_source_lost source (closed ++ befores cs) ≡ true → InOrder closed cs → All (IsSpared source) (map member_of cs)
+pub spared_from : (source : ℕ) (closed : List Instance) (cs : List Closing) → is_source_lost source (closed ++ befores cs) ≡ true → InOrder closed cs → All (IsSpared source) (map member_of cs)
 spared_from source closed [] lost order = All-nil (IsSpared source)
 spared_from source closed (c ∷ cs) lost order =
     All-cons (IsSpared source) (member_of c) (map member_of cs)
@@ -79,7 +79,7 @@ spared_from source closed (c ∷ cs) lost order =
     (spared_from source (closed ++ c.new ∷ []) cs
     (lost_on source closed c.old c.new (befores cs) (stays_lost (is_source_lost c.old.source (closed ++ c.old ∷ befores cs)) source c order.0) lost) order.1)
 
-spares_later : (closed : List Instance) (cs : List Closing) → InOrder closed cs → SparesLater (map member_of cs)
+pub spares_later : (closed : List Instance) (cs : List Closing) → InOrder closed cs → SparesLater (map member_of cs)
 spares_later closed [] order = tt
 spares_later closed (c ∷ cs) order = (
   λ (h : any_fatal c.old.view.fixed.shape c.sent ≡ true). spared_from c.old.source (closed ++ c.new ∷ []) cs

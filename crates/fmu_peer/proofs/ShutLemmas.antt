@@ -14,11 +14,14 @@ use Rattle.fmi_calls.specs.declared.call.BadStatus.TheVariants.{Discard, Error, 
 use Rattle.fmi_calls.specs.declared.call.Grade.{Grade}
 use Rattle.fmi_calls.specs.declared.call.Grade.TheVariants as G
 use Rattle.fmi_calls.specs.declared.phase.Phase.{Phase}
-use Rattle.fmi_calls.specs.declared.phase.State.{State}
-use Rattle.fmi_calls.specs.declared.phase.State.TheVariants as P
+use Rattle.fmi_calls.specs.declared.phase.InstanceState.{InstanceState}
+use Rattle.fmi_calls.specs.declared.phase.InstanceState.TheVariants as P
+use Rattle.fmi_calls.specs.KindFacts.{same_kind}
 use Rattle.fmi_calls.specs.Permission.{Permitted, can_be_freed}
 use Rattle.fmi_calls.specs.Worth.{grade_of, is_valid}
-use Rattle.fmi_calls.specs.Next.{fresh, graded, counted, state_after_bad, bad_status_of}
+use Rattle.fmi_calls.specs.Next.{fresh, graded, counted, state_after_bad}
+use Rattle.fmi_calls.specs.Kinds.{bad_status_of}
+use Rattle.fmi_calls.proofs.KindLemmas.{same_kind-is}
 use Rattle.fmu_peer.specs.declared.peer.Exchange.{Exchange}
 use Rattle.fmu_peer.specs.declared.peer.PeerFault.{PeerFault}
 use Rattle.fmu_peer.specs.Close.{SendsInTurn, closing_calls}
@@ -34,7 +37,7 @@ never_is : (b : Bool) → (IsTrue b → ⊥) → b ≡ false
 never_is true never = absurd (never refl)
 never_is false never = refl
 
-freeable : (s : State) (full : Bool) → can_be_freed s false ≡ true → (full ≡ false) ⊎ (is_over s ≡ true) → can_be_freed s full ≡ true
+freeable : (s : InstanceState) (full : Bool) → can_be_freed s false ≡ true → (full ≡ false) ⊎ (is_over s ≡ true) → can_be_freed s full ≡ true
 freeable s full may (inl empty) = ap (can_be_freed s) empty ∙ may
 freeable P.Dead full may (inr over) = refl
 freeable P.Lost full may (inr over) = may
@@ -50,13 +53,13 @@ empty_if_free true may = absurd (cc)
 empty_if_free false may = refl
 
 -- freed in Step Mode, the instance keeps no state
-empty_at_step : (s : State) (full : Bool) → s ≡ P.Step → can_be_freed s full ≡ true → full ≡ false
-empty_at_step s full at may = empty_if_free full (subst (λ (x : State). can_be_freed x full ≡ true) at may)
+empty_at_step : (s : InstanceState) (full : Bool) → s ≡ P.Step → can_be_freed s full ≡ true → full ≡ false
+empty_at_step s full at may = empty_if_free full (subst (λ (x : InstanceState). can_be_freed x full ≡ true) at may)
 
 -- ---- behind Terminate
 
-step_is_freeable : (s : State) (full : Bool) → s ≡ P.Step → full ≡ false → can_be_freed s full ≡ true
-step_is_freeable s full at empty = subst (λ (x : State). can_be_freed x full ≡ true) (sym at) (subst (λ (b : Bool). not b ≡ true) (sym empty) refl)
+step_is_freeable : (s : InstanceState) (full : Bool) → s ≡ P.Step → full ≡ false → can_be_freed s full ≡ true
+step_is_freeable s full at empty = subst (λ (x : InstanceState). can_be_freed x full ≡ true) (sym at) (subst (λ (b : Bool). not b ≡ true) (sym empty) refl)
 
 stuck_refused : (status : BadStatus) (p : Phase) → p.state ≡ P.Step → p.slot.is_full ≡ false → can_be_freed (state_after_bad p.state C.Terminate status) p.slot.is_full ≡ false →
     state_after_bad p.state C.Terminate status ≡ P.Lost
@@ -128,7 +131,7 @@ lost_if_stuck u (inr may) free never = absurd (never (freeable u.phase.state u.p
 
 not_at_step : (u : View) → (u.phase.slot.is_full ≡ false) ⊎ (is_over u.phase.state ≡ true) → (Permitted u.fixed.shape u.phase C.Terminate → ⊥) → u.phase.state ≡ P.Step → ⊥
 not_at_step u (inl empty) never at = never (at, empty)
-not_at_step u (inr over) never at = let wrong : is_over P.Step ≡ true = subst (λ (s : State). is_over s ≡ true) at over in absurd (cc)
+not_at_step u (inr over) never at = let wrong : is_over P.Step ≡ true = subst (λ (s : InstanceState). is_over s ≡ true) at over in absurd (cc)
 
 end_shut : (u w : View) (sent : List Exchange) (p : Phase) (talk : List Exchange) → u.phase ≡ phase_from u.fixed.shape p talk →
     (u.phase.state ≡ P.Lost) ⊎ (can_be_freed u.phase.state false ≡ true) → (u.phase.slot.is_full ≡ false) ⊎ (is_over u.phase.state ≡ true) →
@@ -158,18 +161,12 @@ if_not_refused : (b : Bool) → (if b then G.Good else G.Misreply) ≡ G.Refused
 if_not_refused true e = cc
 if_not_refused false e = cc
 
+was_refused : (b : Bool) → (if b then G.Refused else G.Misreply) ≡ G.Refused → b ≡ true
+was_refused true e = refl
+was_refused false e = absurd (cc)
+
 kind_free : (shape : Shape) (kind : Kind) (status : BadStatus) → grade_of shape C.Free (R.Refused kind status) ≡ G.Refused → kind ≡ K.Free
-kind_free shape K.Free status e = refl
-kind_free shape K.Instantiate status e = absurd (cc)
-kind_free shape K.EnterInitialization status e = absurd (cc)
-kind_free shape K.ExitInitialization status e = absurd (cc)
-kind_free shape K.DoStep status e = absurd (cc)
-kind_free shape K.Get status e = absurd (cc)
-kind_free shape K.Set status e = absurd (cc)
-kind_free shape K.Save status e = absurd (cc)
-kind_free shape K.Restore status e = absurd (cc)
-kind_free shape K.Terminate status e = absurd (cc)
-kind_free shape K.FreeInstance status e = absurd (cc)
+kind_free shape kind status e = same_kind-is kind K.Free (was_refused (same_kind kind K.Free) e)
 
 discard_of : (shape : Shape) (reply : Reply) → grade_of shape C.Free reply ≡ G.Refused → bad_status_of reply ≡ Discard → reply ≡ R.Refused K.Free Discard
 discard_of shape (R.Done is_warning content) e d = absurd (if_not_refused (is_valid shape C.Free content) e)
@@ -187,7 +184,7 @@ after_refused shape p reply Error d e full = Freed (inr refl) (inr refl)
 after_refused shape p reply Fatal d e full = Freed (inr refl) (inl refl)
 
 after_graded : (shape : Shape) (p : Phase) (reply : Reply) (g : Grade) → grade_of shape C.Free reply ≡ g → p.state ≡ P.Step → p.slot.is_full ≡ true → AfterFree (graded shape p C.Free reply g) (Ok reply)
-after_graded shape p reply G.Good e at full = Freed (inl refl) (inr (ap (λ (s : State). can_be_freed s false) at))
+after_graded shape p reply G.Good e at full = Freed (inl refl) (inr (ap (λ (s : InstanceState). can_be_freed s false) at))
 after_graded shape p reply G.Refused e at full = after_refused shape p reply (bad_status_of reply) refl e full
 after_graded shape p reply G.Misreply e at full = Freed (inr refl) (inr refl)
 
@@ -244,7 +241,7 @@ module _ (i : Instance) (w : View) (sent : List Exchange) (p : Phase) (talk : Li
 fresh_ends_none : (v w : View) (sent : List Exchange) → v.phase.state ≡ P.Fresh → SendsInTurn (closing_calls false) v sent w → sent ≡ []
 fresh_ends_none v w sent is (inl (may, more)) = absurd (let wrong : P.Fresh ≡ P.Step = sym is ∙ may.0 in cc)
 fresh_ends_none v w sent is (inr (never, inl (may, more))) =
-    absurd (let wrong : can_be_freed P.Fresh v.phase.slot.is_full ≡ true = subst (λ (s : State). can_be_freed s v.phase.slot.is_full ≡ true) is may in cc)
+    absurd (let wrong : can_be_freed P.Fresh v.phase.slot.is_full ≡ true = subst (λ (s : InstanceState). can_be_freed s v.phase.slot.is_full ≡ true) is may in cc)
 fresh_ends_none v w sent is (inr (never, inr (stuck, (none, same)))) = none
 
 fresh_sends_none : (v w : View) (sent : List Exchange) (saved : Bool) → v.phase.state ≡ P.Fresh → SendsInTurn (closing_calls saved) v sent w → sent ≡ []

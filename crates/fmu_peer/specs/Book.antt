@@ -1,7 +1,7 @@
 -- The room of a talk.
 use Rattle.std.specs.Prelude.{◌+◌, Bool, true, false, nat_lt, nat_le, length, Option, Some, None}
-use Rattle.fmi_calls.specs.declared.phase.State.{State}
-use Rattle.fmi_calls.specs.declared.phase.State.TheVariants.{Fresh, Instantiated, Initialization, Step, Terminated, Dead, Lost, Gone}
+use Rattle.fmi_calls.specs.declared.phase.InstanceState.{InstanceState}
+use Rattle.fmi_calls.specs.declared.phase.InstanceState.TheVariants.{Lost}
 use Rattle.fmu_peer.specs.declared.talk_room.TalkRoom.{TalkRoom}
 
 -- whether the next exchange fills the room
@@ -15,12 +15,6 @@ has_room None = true
 has_room (Some t) = nat_lt (length t.exchanges.items) t.room
 
 -- the instance may be sent nothing more
-abbrev pub is_lost : State → Bool
+abbrev pub is_lost : InstanceState → Bool
 is_lost Lost = true
-is_lost Fresh = false
-is_lost Instantiated = false
-is_lost Initialization = false
-is_lost Step = false
-is_lost Terminated = false
-is_lost Dead = false
-is_lost Gone = false
+is_lost _ = false

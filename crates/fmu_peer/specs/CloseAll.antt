@@ -2,7 +2,7 @@
 use Rattle.std.specs.Prelude.{◌≡◌, ◌⊎◌, ℕ, ◌==◌, Bool, true, false, ◌||◌, ◌&&◌, if◌then◌else◌, is_some, unwrap_or, Some, List, [], ◌∷◌, ◌++◌, map, set, slice_get, All}
 use Rattle.std.specs.List.{list_any}
 use Rattle.fmi_calls.specs.declared.call.Call.TheVariants as C
-use Rattle.fmi_calls.specs.declared.phase.State.TheVariants as P
+use Rattle.fmi_calls.specs.declared.phase.InstanceState.TheVariants as P
 use Rattle.fmi_calls.specs.Permission.{Permitted, can_be_freed}
 use Rattle.fmu_peer.specs.declared.peer.Exchange.{Exchange}
 use Rattle.fmu_peer.specs.declared.slot.Held.{Held}

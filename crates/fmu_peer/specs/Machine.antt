@@ -1,39 +1,44 @@
--- An FMU as a function of its saved state and inputs (FMI 3.0, 2.2.6: FMU state; 2.4.9: dependencies of outputs).
-use Rattle.std.specs.Prelude.{◌≡◌, ℕ, ℤ, Bool, true, false, not, ◌&&◌, ◌==◌, List, [], ◌∷◌, length, Option, Some, None, IsSomeAnd, is_some, find, if◌then◌else◌, slice_get}
-use Rattle.std.specs.Option.{option_map_or}
-use Rattle.std.specs.List.{list_any}
-use Rattle.value_types.specs.Shape.{variable_at}
+-- An FMU as a function of its saved state and inputs (FMI 3.0, 2.2.6: FMU state; 2.4.9: dependencies of outputs; 4.2.1: the state machine of Co-Simulation).
+use Rattle.std.specs.Prelude.{◌≡◌, ℕ, ℤ, Bool, true, false, ◌&&◌, ◌==◌, List, [], ◌∷◌, length, filter, map, Option, Some, None, IsSomeAnd, pos, unwrap_or, if◌then◌else◌}
+use Rattle.std.specs.List.{list_any, slice_get}
+use Rattle.std.specs.Option.{option_and_then}
+use Rattle.value_types.specs.Shape.{AgreeFor, is_clock, is_input_port, place_of, variable_at}
 use Rattle.value_types.specs.declared.shape.Causality.TheVariants.{Output}
 use Rattle.value_types.specs.declared.shape.Variable.{Variable}
-use Rattle.value_types.specs.declared.shape.Knowns.{Knowns}
-use Rattle.value_types.specs.declared.shape.Knowns.TheVariants.{AllInputs, Listed}
-use Rattle.value_types.specs.declared.shape.Dependency.{Dependency}
 use Rattle.value_types.specs.declared.shape.Shape.{Shape}
+use Rattle.fmi_calls.specs.declared.call.BadStatus.TheVariants.{Discard}
 use Rattle.fmi_calls.specs.declared.call.Call.{Call}
 use Rattle.fmi_calls.specs.declared.call.Call.TheVariants as C
 use Rattle.fmi_calls.specs.declared.call.Reply.{Reply}
-use Rattle.fmi_calls.specs.Permission.{is_input}
+use Rattle.fmi_calls.specs.declared.call.Reply.TheVariants.{Refused}
+use Rattle.fmi_calls.specs.declared.phase.InstanceState.{InstanceState}
+use Rattle.fmi_calls.specs.declared.phase.InstanceState.TheVariants as P
+use Rattle.fmi_calls.specs.declared.phase.Phase.{Phase}
+use Rattle.fmi_calls.specs.KindFacts.{keeps_state}
 
 -- what Save keeps
-pub record Saved : Type 0 where
+pub record SavedMachine : Type 0 where
   pub numbers : List ℤ
   pub values : List ℤ
 
 -- a state: numbers of the machine's own, a value for each variable of the shape in its order, and the slot of Save
-pub record State : Type 0 where
+pub record MachineState : Type 0 where
   pub numbers : List ℤ
   pub values : List ℤ
-  pub slot : Option Saved
+  pub slot : Option SavedMachine
 
--- the references of its values; the first state; whether a state is in Initialization Mode; the reply to a call; and the numbers after a call that changes them
+-- the references of its values, and those of its input Clocks; the first state; whether a state is in Initialization Mode; the reply to a call; and the numbers after a call that changes them
 pub record Machine : Type 0 where
   pub references : List ℕ
-  pub first : State
+  pub clocks : List ℕ
+  pub first : MachineState
   pub initializing : List ℤ → Bool
-  pub look : State → Call → Reply
-  pub change : State → Call → List ℤ
+  pub look : MachineState → Call → Reply
+  pub change : MachineState → Call → List ℤ
 
-abbrev pub changed : Machine → State → Call → State
+-- ---- the state after a call
+
+abbrev pub changed : Machine → MachineState → Call → MachineState
 changed m s call = record s { numbers = m.change s call }
 
 -- the values once the one under a reference is written
@@ -42,73 +47,107 @@ written (r ∷ rs) (x ∷ xs) reference value = (if r == reference then value el
 written [] xs reference value = xs
 written (r ∷ rs) [] reference value = []
 
+-- the values once those under some references are written
+abbrev pub all_written : List ℕ → (ℕ → Option ℤ) → List ℤ → List ℤ
+all_written (r ∷ rs) new (x ∷ xs) = unwrap_or (new r) x ∷ all_written rs new xs
+all_written [] new xs = xs
+all_written (r ∷ rs) new [] = []
+
+-- 0 under each of the references
+abbrev pub zero_at : List ℕ → ℕ → Option ℤ
+zero_at references r = if list_any (λ x. x == r) references then Some (pos 0) else None
+
+-- the values once the input Clocks are inactive again
+abbrev pub unticked : Machine → List ℤ → List ℤ
+unticked m values = all_written m.references (zero_at m.clocks) values
+
 -- what a state keeps
-abbrev pub kept : State → Saved
+abbrev pub kept : MachineState → SavedMachine
 kept s = record { numbers = s.numbers; values = s.values }
 
 -- the state once what was saved is back; the slot keeps it
-abbrev pub put_back : Option Saved → State → State
+abbrev pub put_back : Option SavedMachine → MachineState → MachineState
 put_back None s = s
 put_back (Some saved) s = record s { numbers = saved.numbers; values = saved.values }
 
--- the state after a call: reading changes nothing, Set writes a value, Save fills the slot, Restore puts it back, and Free empties it
-abbrev pub after : Machine → State → Call → State
+-- the state after a call: reading changes nothing, Set writes a value and SetClock 1, Update makes the input Clocks inactive, Save fills the slot, Restore puts it back, and Free empties it; every other call changes the numbers alone
+abbrev pub after : Machine → MachineState → Call → MachineState
 after m s (C.Get kind reference) = s
+after m s (C.GetClock reference) = s
+after m s (C.GetInterval reference) = s
+after m s (C.GetShift reference) = s
 after m s (C.Set kind reference value) = record s { values = written m.references s.values reference value }
+after m s (C.SetClock reference) = record s { values = written m.references s.values reference (pos 1) }
+after m s C.Update = record (changed m s C.Update) { values = unticked m s.values }
 after m s C.Save = record s { slot = Some (kept s) }
 after m s C.Restore = put_back s.slot s
 after m s C.Free = record s { slot = None }
-after m s (C.Instantiate event_mode early_return) = changed m s (C.Instantiate event_mode early_return)
-after m s (C.EnterInitialization start stop) = changed m s (C.EnterInitialization start stop)
-after m s C.ExitInitialization = changed m s C.ExitInitialization
-after m s (C.DoStep at size) = changed m s (C.DoStep at size)
-after m s C.Terminate = changed m s C.Terminate
-after m s C.FreeInstance = changed m s C.FreeInstance
+after m s call = changed m s call
 
--- the value under a reference; one that no variable has reads 0
+-- the value under a reference
 abbrev pub value_at : List Variable → List ℤ → ℕ → Option ℤ
-value_at [] values reference = None
-value_at (v ∷ vs) [] reference = None
-value_at (v ∷ vs) (x ∷ xs) reference = if v.reference == reference then Some x else value_at vs xs reference
+value_at variables values reference = option_and_then (slice_get values) (place_of variables reference)
 
--- the variable is among the knowns of an output; all inputs are those that aren't foreign
-abbrev pub is_known : Knowns → Variable → Bool
-is_known AllInputs v = is_some v.kind
-is_known (Listed on) v = list_any (λ r. r == v.reference) on
+-- ---- a machine is one of its shape
 
--- the output declares to depend on this variable, in Initialization Mode by a list of its own
-abbrev pub is_declared : Shape → Bool → ℕ → Variable → Bool
-is_declared shape initializing output v =
-    option_map_or (λ (d : Dependency). is_known d.on v) (find (λ (d : Dependency). d.output == output) (if initializing then shape.initial_dependencies else shape.dependencies)) false
+-- an input Clock that isn't foreign
+abbrev pub is_input_clock : Variable → Bool
+is_input_clock v = is_input_port v && is_clock v
 
--- an input that the output doesn't declare
-abbrev pub is_undeclared : Shape → Bool → ℕ → Variable → Bool
-is_undeclared shape initializing output v = is_input v.causality && not (is_declared shape initializing output v)
+-- the call changes whether the instance is in Initialization Mode
+abbrev pub changes_mode : Call → Bool
+changes_mode (C.EnterInitialization start stop) = true
+changes_mode C.ExitInitialization = true
+changes_mode _ = false
 
--- the values are equal but at inputs that the output doesn't declare
-pub record AgreeFor (shape : Shape) (initializing : Bool) (output : ℕ) (xs ys : List ℤ) : Type 0 where
-  pub first : length xs ≡ length shape.variables
-  pub second : length ys ≡ length shape.variables
-  pub each : (k : ℕ) (v : Variable) → slice_get shape.variables k ≡ Some v → is_undeclared shape initializing output v ≡ false →
-      slice_get xs k ≡ slice_get ys k
+abbrev pub is_discard : Reply → Bool
+is_discard (Refused kind Discard) = true
+is_discard _ = false
+
+-- the machine is that of an FMU of this shape: it has a value for each variable, and no saved state at first; it is in Initialization Mode from EnterInitialization to ExitInitialization, and answers neither by Discard, which FMI 3.0 doesn't have for a change of mode
+pub record IsMachineOf (shape : Shape) (m : Machine) : Type 0 where
+  pub references : m.references ≡ map (λ (v : Variable). v.reference) shape.variables
+  pub clocks : m.clocks ≡ map (λ (v : Variable). v.reference) (filter is_input_clock shape.variables)
+  pub values : length m.first.values ≡ length shape.variables
+  pub empty : m.first.slot ≡ None
+  pub before : m.initializing m.first.numbers ≡ false
+  pub enters : (s : MachineState) (start stop : ℕ) → m.initializing (m.change s (C.EnterInitialization start stop)) ≡ true
+  pub exits : (s : MachineState) → m.initializing (m.change s C.ExitInitialization) ≡ false
+  pub keeps : (s : MachineState) (call : Call) → changes_mode call ≡ false → m.initializing (m.change s call) ≡ m.initializing s.numbers
+  pub undiscarded : (s : MachineState) (call : Call) → changes_mode call ≡ true → is_discard (m.look s call) ≡ false
+
+abbrev pub is_initialization : InstanceState → Bool
+is_initialization P.Initialization = true
+is_initialization _ = false
+
+-- the instance isn't dead, lost or gone
+abbrev pub is_alive : InstanceState → Bool
+is_alive P.Dead = false
+is_alive P.Lost = false
+is_alive P.Gone = false
+is_alive _ = true
+
+-- the machine's state is one of an instance in this phase: it is in Initialization Mode exactly where the instance is, and what it keeps saved isn't
+pub record IsInPhase (m : Machine) (phase : Phase) (s : MachineState) : Type 0 where
+  pub mode : is_alive phase.state ≡ true → m.initializing s.numbers ≡ is_initialization phase.state
+  pub saved : is_alive phase.state ≡ true → (kept : SavedMachine) → s.slot ≡ Some kept → m.initializing kept.numbers ≡ false
+
+-- ---- what a machine's replies don't depend on
+
+-- but for the calls that save, restore and free a state, neither a reply nor a change depends on the state that is saved
+pub record IgnoresSlot (m : Machine) : Type 0 where
+  pub looks : (call : Call) (s : MachineState) (slot : Option SavedMachine) → keeps_state call ≡ false → m.look (record s { slot = slot }) call ≡ m.look s call
+  pub changes : (call : Call) (s : MachineState) (slot : Option SavedMachine) → keeps_state call ≡ false → m.change (record s { slot = slot }) call ≡ m.change s call
 
 -- the output that a call looks at
 abbrev pub output_of : Call → Option ℕ
 output_of (C.Get kind reference) = Some reference
-output_of (C.Instantiate event_mode early_return) = None
-output_of (C.EnterInitialization start stop) = None
-output_of C.ExitInitialization = None
-output_of (C.DoStep at size) = None
-output_of (C.Set kind reference value) = None
-output_of C.Save = None
-output_of C.Restore = None
-output_of C.Free = None
-output_of C.Terminate = None
-output_of C.FreeInstance = None
+output_of (C.GetClock reference) = Some reference
+output_of _ = None
 
 -- what an output shows doesn't depend on an input that it doesn't declare; without event mode this is asked in Initialization Mode alone
 abbrev pub IsLawful : Shape → Machine → Type 0
-IsLawful shape m = (call : Call) (output : ℕ) (s : State) (xs ys : List ℤ) → output_of call ≡ Some output →
+IsLawful shape m = (call : Call) (output : ℕ) (s : MachineState) (xs ys : List ℤ) → output_of call ≡ Some output →
     IsSomeAnd (variable_at shape.variables output) (λ (v : Variable). v.causality ≡ Output) →
     (shape.has_event_mode ≡ false → m.initializing s.numbers ≡ true) →
     AgreeFor shape (m.initializing s.numbers) output xs ys →

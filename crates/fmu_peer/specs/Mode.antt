@@ -3,10 +3,10 @@ use Rattle.std.specs.Prelude.{Bool, true, false, ◌||◌}
 use Rattle.value_types.specs.declared.shape.Shape.{Shape}
 use Rattle.fmi_calls.specs.declared.call.Call.{Call}
 use Rattle.fmi_calls.specs.declared.call.Call.TheVariants as C
-use Rattle.fmi_calls.specs.declared.phase.State.{State}
-use Rattle.fmi_calls.specs.declared.phase.State.TheVariants.{Fresh, Instantiated, Initialization, Step, Terminated, Dead, Lost, Gone}
+use Rattle.fmi_calls.specs.declared.phase.InstanceState.{InstanceState}
+use Rattle.fmi_calls.specs.declared.phase.InstanceState.TheVariants.{Fresh, Instantiated, Initialization, Step, Terminated, Dead, Lost, Gone}
 
-abbrev same_state : State → State → Bool
+abbrev same_state : InstanceState → InstanceState → Bool
 same_state Fresh Fresh = true
 same_state Instantiated Instantiated = true
 same_state Initialization Initialization = true
@@ -18,18 +18,13 @@ same_state Gone Gone = true
 same_state _ _ = false
 
 -- the instance is dead or lost
-abbrev pub is_over : State → Bool
+abbrev pub is_over : InstanceState → Bool
 is_over Dead = true
 is_over Lost = true
-is_over Fresh = false
-is_over Instantiated = false
-is_over Initialization = false
-is_over Step = false
-is_over Terminated = false
-is_over Gone = false
+is_over _ = false
 
 -- a typed state and the phase's state agree, or the instance is dead or lost
-abbrev pub agrees : State → State → Bool
+abbrev pub agrees : InstanceState → InstanceState → Bool
 agrees mode state = same_state state mode || is_over state
 
 -- the Instantiate that a shape's flags ask for

@@ -16,16 +16,16 @@ use Rattle.value_types.specs.contracts.shape.Causality as causality
 use Rattle.fmi_calls.specs.declared.call.Call.{Call}
 use Rattle.fmi_calls.specs.declared.call.Call.TheVariants as C
 use Rattle.fmi_calls.specs.declared.phase.Phase.{Phase}
-use Rattle.fmi_calls.specs.declared.phase.State.{State}
+use Rattle.fmi_calls.specs.declared.phase.InstanceState.{InstanceState}
 use Rattle.fmi_calls.specs.Permission.{Permitted, IsWritable, can_be_set}
 use Rattle.fmi_calls.specs.Next.{fresh}
-use Rattle.fmi_calls.specs.contracts.phase.State as state
+use Rattle.fmi_calls.specs.contracts.phase.InstanceState as state
 use Rattle.fmi_calls.specs.contracts.phase.Phase as phase
 use Rattle.fmu_peer.specs.declared.peer.Exchange.{Exchange}
 use Rattle.fmu_peer.specs.declared.talk_room.TalkRoom.{TalkRoom}
 use Rattle.fmu_peer.specs.Talk.{Legal, LegalFrom, next_by, phase_after}
 
-state_set : IsSet State
+state_set : IsSet InstanceState
 state_set = Coded-set (state.the_row).coded
 
 phase_set : IsSet Phase
@@ -76,6 +76,13 @@ Permitted-prop shape p C.Restore = hlevel (le_prop, state_set, bool_set, nat_set
 Permitted-prop shape p C.Free = hlevel (le_prop, state_set, bool_set, nat_set)
 Permitted-prop shape p C.Terminate = hlevel (le_prop, state_set, bool_set, nat_set)
 Permitted-prop shape p C.FreeInstance = hlevel (le_prop, state_set, bool_set, nat_set)
+Permitted-prop shape p C.EnterEvent = λ a b. absurd a
+Permitted-prop shape p C.EnterStep = λ a b. absurd a
+Permitted-prop shape p C.Update = λ a b. absurd a
+Permitted-prop shape p (C.GetClock reference) = λ a b. absurd a
+Permitted-prop shape p (C.SetClock reference) = λ a b. absurd a
+Permitted-prop shape p (C.GetInterval reference) = λ a b. absurd a
+Permitted-prop shape p (C.GetShift reference) = λ a b. absurd a
 
 LegalFrom-prop : (shape : Shape) (p : Phase) (es : List Exchange) → IsProp (LegalFrom shape p es)
 LegalFrom-prop shape p [] = Unit-prop

@@ -8,7 +8,7 @@ use Rattle.fmi_calls.specs.declared.call.Kind.TheVariants as K
 use Rattle.fmi_calls.specs.declared.call.BadStatus.TheVariants as B
 use Rattle.fmi_calls.specs.declared.call.Grade.TheVariants as G
 use Rattle.fmi_calls.specs.declared.phase.Phase.{Phase}
-use Rattle.fmi_calls.specs.declared.phase.State.TheVariants as P
+use Rattle.fmi_calls.specs.declared.phase.InstanceState.TheVariants as P
 use Rattle.fmi_calls.specs.Worth.{grade_of}
 use Rattle.fmi_calls.specs.Permission.{Permitted}
 use Rattle.fmi_calls.specs.Next.{next_of, fresh}

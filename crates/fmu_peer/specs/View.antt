@@ -11,7 +11,7 @@ use Rattle.fmu_peer.specs.declared.peer.PeerFault.{PeerFault}
 use Rattle.fmu_peer.specs.declared.peer.Exchange.{Exchange}
 use Rattle.fmu_peer.specs.Talk as T
 use Rattle.fmu_peer.specs.Talk.{Legal, phase_after}
-use Rattle.fmu_peer.specs.Machine.{State, Machine, after}
+use Rattle.fmu_peer.specs.Machine.{IsInPhase, Machine, MachineState, after}
 
 -- what a peer was started with, beside its shape
 pub record Origin : Type 0 where
@@ -30,7 +30,7 @@ pub record View : Type 0 where
   pub fixed : Fixed
   pub phase : Phase
   pub talk : Option (List Exchange)
-  pub state : Option State
+  pub state : Option MachineState
   pub faults : ℕ
 
 -- the talk once an exchange is added
@@ -39,7 +39,7 @@ talked None call result = None
 talked (Some es) call result = Some (es ++ record { call = call; result = result } ∷ [])
 
 -- where a machine is told, the reply is its look and its state goes on; after a fault it tells some state
-abbrev pub AnswersAs : Option Machine → Option State → Call → Result Reply PeerFault → Option State → Type 0
+abbrev pub AnswersAs : Option Machine → Option MachineState → Call → Result Reply PeerFault → Option MachineState → Type 0
 AnswersAs (Some m) (Some s) call (Ok reply) new = (reply ≡ m.look s call) × (new ≡ Some (after m s call))
 AnswersAs (Some m) (Some s) call (Err fault) new = IsSome new
 AnswersAs (Some m) None call result new = new ≡ None
@@ -60,3 +60,12 @@ IsLegal v = IfSome v.talk (λ es. Legal v.fixed.shape es × (v.phase ≡ phase_a
 -- each reply of a told talk is good
 abbrev pub AllGood : View → Type 0
 AllGood v = IfSome v.talk (T.AllGood v.fixed.shape)
+
+-- where a machine is told, so is its state, which is one of an instance in this phase
+abbrev pub IsToldInPhase : Option Machine → Option MachineState → Phase → Type 0
+IsToldInPhase (Some m) (Some s) phase = IsInPhase m phase s
+IsToldInPhase (Some m) None phase = ⊥
+IsToldInPhase None state phase = Unit {0}
+
+abbrev pub TellsItsPhase : View → Type 0
+TellsItsPhase v = IsToldInPhase v.fixed.machine v.state v.phase

@@ -1,7 +1,7 @@
 ghost use Rattle.std.specs.Prelude.{◌≡◌, IfOk, IfErr, OnOk, IsTrue};
 ghost use Rattle.fmi_calls.specs.declared.call.Reply.{Reply};
 ghost use Rattle.fmi_calls.specs.Permission.{Permitted};
-ghost use Rattle.fmi_calls.specs.declared.phase.State.TheVariants as P;
+ghost use Rattle.fmi_calls.specs.declared.phase.InstanceState.TheVariants as P;
 ghost use Rattle.fmu_peer.specs.Mode.{agrees, instantiate_of};
 ghost use Rattle.fmu_peer.specs.Answer.{Answered, Failed};
 ghost use Rattle.fmu_peer.specs.Close.{IsClosed, can_be_closed};

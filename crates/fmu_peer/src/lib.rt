@@ -1,29 +1,23 @@
 //! The other side of an FMU: peers that answer calls, spawners that start them, and an FMU in typed states.
 #![tactic(auto)]
 
-#[cfg(test)]
-mod close_tests;
 mod closing;
 mod ended;
 mod fmu;
 mod mode;
 mod peer;
 mod saved;
-#[cfg(test)]
-mod scripted;
 mod slot;
 mod spawner;
 mod talk_book;
 mod talk_room;
-#[cfg(test)]
-mod tests;
 
 pub use ended::{Ended, Why};
 pub use fmu::{Fmu, Running};
 pub use mode::{Fresh, Initializing, Instantiated, Mode, Stepping};
 pub use peer::{Exchange, Peer, PeerFault};
 pub use saved::Saved;
-pub use slot::{Held, Slot, SourceId, close_all};
+pub use slot::{Held, Slot, close_all};
 pub use spawner::{Spawner, StartFault};
 pub use talk_book::TalkBook;
 pub use talk_room::TalkRoom;

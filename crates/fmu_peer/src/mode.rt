@@ -1,9 +1,9 @@
-ghost use Rattle.fmi_calls.specs.declared.phase.State.{State};
+ghost use Rattle.fmi_calls.specs.declared.phase.InstanceState.{InstanceState};
 
 /// A state of an FMU as a type.
 pub trait Mode {
     /// The state that a live FMU is in.
-    ghost state: { State };
+    ghost state: { InstanceState };
 }
 
 /// Before Instantiate.
@@ -19,17 +19,17 @@ pub struct Initializing;
 pub struct Stepping;
 
 impl Mode for Fresh {
-    ghost state = { State.Fresh };
+    ghost state = { InstanceState.Fresh };
 }
 
 impl Mode for Instantiated {
-    ghost state = { State.Instantiated };
+    ghost state = { InstanceState.Instantiated };
 }
 
 impl Mode for Initializing {
-    ghost state = { State.Initialization };
+    ghost state = { InstanceState.Initialization };
 }
 
 impl Mode for Stepping {
-    ghost state = { State.Step };
+    ghost state = { InstanceState.Step };
 }

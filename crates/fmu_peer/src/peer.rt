@@ -1,7 +1,7 @@
 ghost use Rattle.std.specs.Prelude.{◌≡◌, IfSome};
 ghost use Rattle.fmi_calls.specs.Permission.{Permitted};
-ghost use Rattle.fmu_peer.specs.Machine.{IsLawful};
-ghost use Rattle.fmu_peer.specs.View.{View, Asked, IsLegal};
+ghost use Rattle.fmu_peer.specs.Machine.{IgnoresSlot, IsLawful, IsMachineOf};
+ghost use Rattle.fmu_peer.specs.View.{View, Asked, IsLegal, TellsItsPhase};
 
 use fmi_calls::{Call, Phase, Reply};
 use thiserror::Error;
@@ -43,6 +43,15 @@ pub trait Peer: Send {
         requires { Permitted (view self.old).fixed.shape (view self.old).phase call.now }
         ensures { Asked (view self.old) call.now result (view self.new) };
 
-    /// What a told machine's outputs show doesn't depend on inputs that they don't declare.
+    /// A told machine is one of its shape.
+    ghost machine: { (p : Self) → IfSome (view p).fixed.machine (IsMachineOf (view p).fixed.shape) };
+
+    /// Its state is in Initialization Mode exactly where the instance is.
+    ghost in_phase: { (p : Self) → TellsItsPhase (view p) };
+
+    /// It answers the same whatever state is saved.
+    ghost ignores_slot: { (p : Self) → IfSome (view p).fixed.machine IgnoresSlot };
+
+    /// What its outputs show doesn't depend on inputs that they don't declare.
     ghost lawful: { (p : Self) → IfSome (view p).fixed.machine (IsLawful (view p).fixed.shape) };
 }

@@ -4,10 +4,7 @@ ghost use Rattle.fmu_peer.specs.CloseAll.{Closes, ClosesAll, ClosesAt, instance_
 use crate::closing::close_peer;
 use crate::{Ended, Fmu, Fresh, Initializing, Instantiated, Peer, Saved, Stepping};
 use core::mem::replace_with;
-
-/// Which FMU an instance is of: the instances of one source have one number.
-#[derive(Clone, Copy, Debug, PartialEq, Eq)]
-pub struct SourceId(pub u32);
+use sim_base::SourceId;
 
 /// An FMU in any state, or what a failed transition or its closing left of it.
 pub enum Held<L: Peer> {

@@ -1,6 +1,5 @@
-ghost use Rattle.std.specs.Prelude.{◌≡◌, ◌+◌, ◌^◌, ◌<◌, ◌≤◌, ◌++◌, ℕ, List, [], ◌∷◌, length, Option, Some, IfOk, IfSome, OnOk, OnErr, Bool, option_map};
-ghost use Rattle.fmu_peer.specs.View.{View};
-ghost use Rattle.fmu_peer.specs.Start.{IsStarted, HasStartCause, AnswersUnknown};
+ghost use Rattle.std.specs.Prelude.{◌≡◌, ◌^◌, ◌<◌, ◌≤◌, length, IfOk};
+ghost use Rattle.fmu_peer.specs.Start.{AnswersUnknown, IsStarted, NotesStart, with_retired};
 
 use crate::Peer;
 use std::alloc::Global;
@@ -22,17 +21,11 @@ pub enum StartFault {
 pub trait Spawner {
     type Link: Peer;
 
-    /// How many peers it has started.
-    ghost started: { Self → ℕ };
+    ghost use Rattle.fmu_peer.specs.Start.{SpawnerView};
 
-    /// The peers that were taken back, in order, where it tells them.
-    ghost retired: { Self → Option (List View) };
-
-    /// The model identifiers that it knows.
-    ghost knows: { Self → List ℕ → Bool };
-
-    /// How often it has failed.
-    ghost faults: { Self → ℕ };
+    /// What it tells: how many peers it has started, those that were taken back, in order, the model identifiers that
+    /// it knows, and how often a start has failed.
+    ghost view: { Self → SpawnerView };
 
     /// Starts a peer by the host's name, for an instance of this name whose FMU lies in this directory, and makes the
     /// room to take it back. The lengths of name and token are in bytes.
@@ -47,21 +40,14 @@ pub trait Spawner {
         requires name { (1 ≤ length name.now) × (length name.now ≤ 2 ^ 24) }
         requires token { length shape.now.token ≤ 2 ^ 24 }
         ensures fresh { IfOk result (λ link. IsStarted host.now name.now directory.now shape.now (Self.Link.view link)) }
-        ensures ok { OnOk result (started self.new ≡ started self.old + 1) }
-        ensures err { OnErr result (started self.new ≡ started self.old) }
-        ensures retired { retired self.new ≡ retired self.old }
-        ensures knows { knows self.new ≡ knows self.old }
-        ensures unknown { AnswersUnknown (knows self.old shape.now.identifier) result }
-        ensures cause { HasStartCause (faults self.old) (faults self.new) result };
+        ensures unknown { AnswersUnknown ((view self.old).knows shape.now.identifier) result }
+        ensures noted { NotesStart (view self.old) (view self.new) result };
 
     /// Takes a peer back. It can't fail.
     fn retire(&mut self, link: Self::Link)
-        requires { IfSome (retired self.old) (λ views. length views < started self.old) }
-        ensures retired { retired self.new ≡ option_map (λ views. views ++ Self.Link.view link ∷ []) (retired self.old) }
-        ensures started { started self.new ≡ started self.old }
-        ensures knows { knows self.new ≡ knows self.old }
-        ensures faults { faults self.new ≡ faults self.old };
+        requires { length (view self.old).retired < (view self.old).started }
+        ensures { view self.new ≡ with_retired (view self.old) (Self.Link.view link) };
 
     /// No more peers are taken back than were started.
-    ghost fewer: { (s : Self) → IfSome (retired s) (λ views. length views ≤ started s) };
+    ghost fewer: { (s : Self) → length (view s).retired ≤ (view s).started };
 }

@@ -1,1 +1,13 @@
+pub mod Written
+pub mod Alike
 pub mod Unique
+pub mod Solvable
+pub mod Decided
+pub mod States
+pub mod Initially
+pub mod InitiallySolvable
+pub mod StepsOnce
+pub mod OneTrace
+pub mod Midst
+pub mod AlongRun
+pub mod Behaves

@@ -1,4 +1,14 @@
-pub mod Text
+pub mod Run
+pub mod Inputs
+pub mod Timers
+pub mod Equations
+pub mod Initial
+pub mod AfterInstant
 pub mod Steps
+pub mod Stepping
 pub mod Trace
+pub mod Machines
 pub mod Behaved
+pub mod Walk
+pub mod AlwaysWell
+pub mod Laws

@@ -1,21 +1,29 @@
 -- Where a step from a point goes (FMI 3.0, 4.2.1.2: fmi3DoStep and early return; the attribute canHandleVariableCommunicationStepSize of CoSimulation).
-use Rattle.std.specs.Prelude.{◌≡◌, ◌≢◌, ◌⊎◌, ℕ, ◌+◌, ◌-◌, ◌*◌, ◌<◌, ◌≤◌, min, Bool, true, not, ◌&&◌, ◌==◌, if◌then◌else◌, List, [], ◌∷◌, map, filter, All, Some, slice_get}
+use Rattle.std.specs.Prelude.{◌≡◌, ◌≢◌, ℕ, ◌+◌, ◌-◌, ◌*◌, ◌<◌, ◌≤◌, min, Bool, true, not, ◌&&◌, ◌==◌, if◌then◌else◌, List, [], ◌∷◌, map, filter, All, Some, slice_get}
 use Rattle.std.specs.List.{position}
-use Rattle.run_model.specs.declared.plan.Plan.{Plan}
+use Rattle.system_model.specs.declared.plan.Plan.{Plan}
+use Rattle.run_model.specs.Run.{Timer}
+use Rattle.run_model.specs.Timers.{TicksAt}
 
 -- start + k * step
 abbrev pub IsGridPoint : Plan → ℕ → Type 0
 IsGridPoint plan point = (k : ℕ) × (point ≡ plan.start + k * plan.step)
 
--- a point that no step passes over: a grid point or the stop
-abbrev pub IsMark : Plan → ℕ → Type 0
-IsMark plan point = IsGridPoint plan point ⊎ (point ≡ plan.stop)
+-- some Clock ticks at the point
+abbrev pub SomeTicksAt : ℕ → List Timer → ℕ → Type 0
+SomeTicksAt start timers point = (p : ℕ) × (timer : Timer) × (slice_get timers p ≡ Some timer) × TicksAt start timer point
+
+-- a point that no step passes over: a grid point, a tick of a Clock or the stop
+pub data IsMark (plan : Plan) (timers : List Timer) (point : ℕ) : Type 0 where
+  OnGrid : IsGridPoint plan point → IsMark plan timers point
+  AtTick : SomeTicksAt plan.start timers point → IsMark plan timers point
+  OnStop : point ≡ plan.stop → IsMark plan timers point
 
 -- the bound of the step from t: the least such point after t
-pub record IsBound (plan : Plan) (t bound : ℕ) : Type 0 where
+pub record IsBound (plan : Plan) (timers : List Timer) (t bound : ℕ) : Type 0 where
   pub later : t < bound
-  pub mark : IsMark plan bound
-  pub least : (point : ℕ) → t < point → IsMark plan point → bound ≤ point
+  pub mark : IsMark plan timers bound
+  pub least : (point : ℕ) → t < point → IsMark plan timers point → bound ≤ point
 
 -- the least of the numbers, or d where there are none
 abbrev pub least_or : ℕ → List ℕ → ℕ

@@ -1,10 +1,8 @@
-//! What a run is: systems and plans, and the definitions of the one trace and of its text.
+//! What a run is: the equations of its instants, what follows them, and its one trace.
 #![tactic(auto)]
 
-mod law;
-mod plan;
-mod system;
+mod laws;
 
-pub use law::one_trace;
-pub use plan::{EndKind, Plan};
-pub use system::{Component, Port, System};
+pub use laws::{
+    always_behaves, one_next, one_solution, one_trace, situation_laws, type_laws, walk_laws,
+};

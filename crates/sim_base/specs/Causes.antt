@@ -1,5 +1,9 @@
 -- A count of faults, before a call and after it. It stands still at its last value.
-use Rattle.std.specs.Prelude.{◌≡◌, ℕ, ◌+◌, ◌-◌, ◌^◌, ◌≤◌, min, Result, OnOk, OnErr}
+use Rattle.std.specs.Prelude.{◌≡◌, ℕ, ◌+◌, ◌-◌, ◌^◌, ◌≤◌, min, max, Result, OnOk, OnErr}
+
+-- one fault more: the count rises by one, and never falls
+abbrev pub one_more : ℕ → ℕ
+one_more faults = max faults (min (faults + 1) (2 ^ 64 - 1))
 
 -- the count rose, or stands at its last value
 abbrev pub Rose : ℕ → ℕ → Type 0

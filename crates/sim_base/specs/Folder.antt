@@ -1,10 +1,38 @@
--- What reading a file answers.
-use Rattle.std.specs.Prelude.{◌≡◌, ℕ, ◌<◌, ◌≤◌, List, [], ◌∷◌, length, Option, Some, None, Vec, Result, Ok, Err, if◌then◌else◌, bytes_eq}
+-- What a folder tells, and what reading a file answers and changes.
+use Rattle.std.specs.Prelude.{◌≡◌, ◌⊎◌, ℕ, ◌<◌, ◌≤◌, List, [], ◌∷◌, ◌++◌, length, Option, Some, None, Vec, Result, Ok, Err, if◌then◌else◌, bytes_eq}
 use Rattle.std.specs.declared.alloc.Global.{Global}
-use Rattle.sim_base.specs.Causes.{Rose}
+use Rattle.sim_base.specs.Causes.{one_more}
 use Rattle.sim_base.specs.declared.folder.ReadFault.{ReadFault}
 use Rattle.sim_base.specs.declared.folder.ReadFault.TheVariants.{Failed, Missing, TooBig, Memory}
 use Rattle.sim_base.specs.declared.folder.MemFile.{MemFile}
+use Rattle.sim_base.specs.ReadNotes.{ReadNotes}
+
+-- what a folder tells: the bytes at each path, where it tells them, and its notes of its reads
+pub record FolderView : Type 0 where
+  pub files : Option (List ℕ → Option (List ℕ))
+  pub asked : List (List ℕ)
+  pub failed : List (List ℕ)
+  pub faults : ℕ
+
+-- what a folder tells that has these files and these notes
+abbrev pub folder_view : Option (List ℕ → Option (List ℕ)) → ReadNotes → FolderView
+folder_view files notes = record { files = files; asked = notes.asked; failed = notes.failed; faults = notes.faults }
+
+-- one more path was asked for
+abbrev pub with_asked : FolderView → List ℕ → FolderView
+with_asked view path = record view { asked = view.asked ++ path ∷ [] }
+
+-- the read of one more path failed
+abbrev pub with_failed : FolderView → List ℕ → FolderView
+with_failed view path = record view { failed = view.failed ++ path ∷ []; faults = one_more view.faults }
+
+-- what a read of a path makes of what a folder tells. For want of memory the path may not be noted
+abbrev pub NotesRead : FolderView → FolderView → List ℕ → Result (Vec ℕ Global) ReadFault → Type 0
+NotesRead old new path (Ok bytes) = new ≡ with_asked old path
+NotesRead old new path (Err Missing) = new ≡ with_asked old path
+NotesRead old new path (Err (TooBig n)) = new ≡ with_asked old path
+NotesRead old new path (Err Failed) = new ≡ with_failed (with_asked old path) path
+NotesRead old new path (Err Memory) = (new ≡ with_asked old path) ⊎ (new ≡ old)
 
 -- the answer to a read of what stands at a path: all of it, or why not
 abbrev pub Reads : Option (List ℕ) → ℕ → Result (Vec ℕ Global) ReadFault → Type 0
@@ -21,12 +49,6 @@ KeepsLimit limit (Err (TooBig n)) = limit < n
 KeepsLimit limit (Err Missing) = Unit {0}
 KeepsLimit limit (Err Failed) = Unit {0}
 KeepsLimit limit (Err Memory) = Unit {0}
-
--- the count never falls, `Failed` is answered only where it rose, and no other answer moves it
-pub record HasReadCause {T : Type 0} (before after : ℕ) (result : Result T ReadFault) : Type 0 where
-  pub later : before ≤ after
-  pub rose : result ≡ Err Failed → Rose before after
-  pub quiet : (result ≡ Err Failed → ⊥) → after ≡ before
 
 -- the bytes at a path in a list of files: the first of that path counts
 abbrev pub file_at : List MemFile → List ℕ → Option (List ℕ)

@@ -1,8 +1,8 @@
 ghost use Rattle.std.specs.Prelude.{◌≡◌, ◌↔◌, List, ℕ, Option, Some, IfSome, option_map, Contains};
-ghost use Rattle.sim_base.specs.Folder.{HasReadCause, KeepsLimit, Reads, file_at};
+ghost use Rattle.sim_base.specs.Folder.{KeepsLimit, NotesRead, Reads, file_at};
 
 use crate::items::is_listed;
-use crate::{Items, Text};
+use crate::{Items, ReadBook, Text};
 use std::alloc::Global;
 use thiserror::Error;
 
@@ -21,18 +21,16 @@ pub enum ReadFault {
 
 /// A map from paths to bytes, which a read leaves as it is.
 pub trait Folder {
-    /// The bytes at each path, where it tells them.
-    ghost files: { Self → Option (List ℕ → Option (List ℕ)) };
+    ghost use Rattle.sim_base.specs.Folder.{FolderView};
 
-    /// How often it has failed.
-    ghost faults: { Self → ℕ };
+    /// What it tells: the bytes at each path, if it tells them, and its notes of its reads.
+    ghost view: { Self → FolderView };
 
     /// Reads the whole file at a path, of at most `limit` bytes.
     fn read(&mut self, alloc: Global, path: &str, limit: u64) -> Result<Vec<u8>, ReadFault>
-        ensures reads { IfSome (files self.old) (λ at. Reads (at path.now) limit result) }
+        ensures reads { IfSome (view self.old).files (λ at. Reads (at path.now) limit result) }
         ensures within { KeepsLimit limit result }
-        ensures kept { files self.new ≡ files self.old }
-        ensures cause { HasReadCause (faults self.old) (faults self.new) result };
+        ensures noted { NotesRead (view self.old) (view self.new) path.now result };
 }
 
 /// A file in memory.
@@ -48,21 +46,23 @@ pub struct MemFolder {
     pub files: Items<MemFile>,
     pub failing: Items<u64>,
     pub reads: u64,
-    pub faults: u64,
+    pub book: ReadBook,
 }
 
 impl MemFolder {
+    ghost use Rattle.std.specs.Prelude.{[]};
+
     /// A folder of these files, before its first read.
-    pub fn new(files: Vec<MemFile>, failing: Vec<u64>) -> MemFolder
+    pub fn new(alloc: Global, files: Vec<MemFile>, failing: Vec<u64>) -> MemFolder
         ensures files { result.files ≡ files.items }
         ensures failing { result.failing ≡ failing.items }
-        ensures quiet { (result.reads ≡ 0) × (result.faults ≡ 0) }
+        ensures quiet { (result.reads ≡ 0) × (result.book.asked ≡ []) × (result.book.failed ≡ []) × (result.book.faults ≡ 0) }
     {
         MemFolder {
             files: Items::from_vec(files),
             failing: Items::from_vec(failing),
             reads: 0,
-            faults: 0,
+            book: ReadBook::new(alloc),
         }
     }
 }
@@ -79,27 +79,29 @@ fn find<'a>(files: &'a [MemFile], path: &str) -> Option<&'a MemFile>
 }
 
 impl Folder for MemFolder {
-    ghost use Rattle.std.specs.Prelude.{◌+◌, ◌-◌, ◌^◌, min, Err};
-    ghost use Rattle.sim_base.specs.declared.folder.ReadFault.TheVariants.{Failed};
+    ghost use Rattle.std.specs.Prelude.{◌+◌, ◌-◌, ◌^◌, ◌⊎◌, min, Err};
+    ghost use Rattle.sim_base.specs.Folder.{folder_view};
+    ghost use Rattle.sim_base.specs.declared.folder.ReadFault.TheVariants.{Failed, Memory};
 
-    ghost files = { λ f. Some (file_at f.files) };
-
-    ghost faults = { λ f. f.faults };
+    ghost view = { λ f. folder_view (Some (file_at f.files)) f.book };
 
     fn read(&mut self, alloc: Global, path: &str, limit: u64) -> Result<Vec<u8>, ReadFault>
         ensures reads { Reads (file_at self.old.files path.now) limit result }
         ensures within { KeepsLimit limit result }
-        ensures kept { self.new.files ≡ self.old.files }
-        ensures failing { self.new.failing ≡ self.old.failing }
+        ensures noted { NotesRead (folder_view (Some (file_at self.old.files)) self.old.book)
+            (folder_view (Some (file_at self.new.files)) self.new.book) path.now result }
+        ensures kept { (self.new.files ≡ self.old.files) × (self.new.failing ≡ self.old.failing) }
         ensures counted { self.new.reads ≡ min (self.old.reads + 1) (2 ^ 64 - 1) }
-        ensures exact { (result ≡ Err Failed) ↔ Contains self.old.failing self.old.reads }
-        ensures faulted { result ≡ Err Failed → self.new.faults ≡ min (self.old.faults + 1) (2 ^ 64 - 1) }
-        ensures cause { HasReadCause self.old.faults self.new.faults result }
+        ensures failed { result ≡ Err Failed → Contains self.old.failing self.old.reads }
+        ensures failing { Contains self.old.failing self.old.reads → (result ≡ Err Failed) ⊎ (result ≡ Err Memory) }
     {
         let is_failing = is_listed(self.failing.as_slice(), self.reads);
         self.reads = self.reads.saturating_add(1);
+        let Ok(asked) = self.book.ask(alloc, path) else {
+            return Err(ReadFault::Memory);
+        };
         if is_failing {
-            self.faults = self.faults.saturating_add(1);
+            self.book.fail(asked);
             return Err(ReadFault::Failed);
         }
         read_from(alloc, self.files.as_slice(), path, limit)

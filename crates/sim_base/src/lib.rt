@@ -1,4 +1,4 @@
-//! What every crate of the simulator stands on: limits, numbers of components and ports, lists and texts that contracts compare, and the outside as traits with forms in memory.
+//! What every crate of the simulator stands on: limits, numbers of components, ports and sources, lists and texts that contracts compare, and the outside as traits with forms in memory.
 #![tactic(auto)]
 
 mod escaping;
@@ -7,6 +7,7 @@ mod items;
 mod limits;
 mod numbers;
 mod path;
+mod read_book;
 mod sink;
 #[cfg(test)]
 mod tests;
@@ -16,7 +17,8 @@ pub use escaping::{EscapedByte, escape, escaped_byte};
 pub use folder::{Folder, MemFile, MemFolder, ReadFault};
 pub use items::Items;
 pub use limits::{MOST_COUNTS, MOST_FILE_BYTES, MOST_NAME_BYTES};
-pub use numbers::{CompId, PortId};
+pub use numbers::{CompId, PortId, SourceId};
 pub use path::join_path;
+pub use read_book::ReadBook;
 pub use sink::{MemSink, Sink, SinkFault};
 pub use text::Text;

@@ -5,6 +5,7 @@ use crate::{
     ReadFault, Sink, SinkFault, Text, escape, escaped_byte, join_path,
 };
 use std::alloc::{AllocError, Global};
+use std::process::Abort;
 use std::test::Fail;
 
 const NAMES: [(&str, &str); 5] = [
@@ -70,7 +71,7 @@ fn paths_are_joined(rt: HostRuntime) -> Result<(), Fail> {
 fn a_folder_answers_by_its_lists(rt: HostRuntime) -> Result<(), Fail> {
     let alloc = rt.alloc();
     let files = vec![in alloc; file(alloc, "a", b"12")?, file(alloc, "a", b"later")?]?;
-    let mut folder = MemFolder::new(files, vec![in alloc; 1]?);
+    let mut folder = MemFolder::new(alloc, files, vec![in alloc; 1]?);
     assert_eq!(rt; folder.read(alloc, "b", 9), Err(ReadFault::Missing));
     assert_eq!(rt; folder.read(alloc, "a", 9), Err(ReadFault::Failed));
     assert_eq!(rt;
@@ -78,20 +79,41 @@ fn a_folder_answers_by_its_lists(rt: HostRuntime) -> Result<(), Fail> {
         Err(ReadFault::TooBig { length: 2 })
     );
     assert_eq!(rt; folder.read(alloc, "a", 2)?.as_slice(), b"12".as_slice());
-    assert_eq!(rt; folder.faults, 1);
+    assert_paths(&rt, folder.book.asked(), &["b", "a", "a", "a"]);
+    assert_paths(&rt, folder.book.failed(), &["a"]);
+    assert_eq!(rt; folder.book.faults(), 1);
     Ok(())
 }
+
+fn assert_paths(rt: &impl Abort, paths: &[Text], want: &[&str]) {
+    assert_eq!(rt; paths.len(), want.len());
+    for (path, text) in paths.iter().zip(want) {
+        assert_eq!(rt; path.as_str(), *text);
+    }
+}
+
+// At each put: the bytes, whether it succeeds, and what the sink has told by then.
+const PUTS: [(&[u8], bool, &[u8], &[usize], u64); 6] = [
+    (b"ab", true, b"ab", &[2], 0),
+    (b"c", false, b"ab", &[2, 0], 0),
+    (b"cd", false, b"ab", &[2, 0, 0], 0),
+    (b"c", true, b"abc", &[2, 0, 0, 1], 0),
+    (b"", false, b"abc", &[2, 0, 0, 1], 1),
+    (b"", false, b"abc", &[2, 0, 0, 1], 2),
+];
 
 #[test]
 fn a_sink_fails_by_its_list_and_its_room(rt: HostRuntime) -> Result<(), Fail> {
     let alloc = rt.alloc();
-    let mut sink = MemSink::with_room(alloc, 3, vec![in alloc; 1]?)?;
-    assert_eq!(rt; sink.put(b"ab"), Ok(()));
-    assert_eq!(rt; sink.put(b"c"), Err(SinkFault));
-    assert_eq!(rt; sink.put(b"cd"), Err(SinkFault));
-    assert_eq!(rt; sink.put(b"c"), Ok(()));
-    assert_eq!(rt; sink.bytes.as_slice(), b"abc".as_slice());
-    assert_eq!(rt; sink.faults, 2);
+    let mut sink = MemSink::with_room(alloc, 3, 4, vec![in alloc; 1]?)?;
+    for (bytes, succeeds, content, lengths, beyond) in PUTS {
+        let want = if succeeds { Ok(()) } else { Err(SinkFault) };
+        assert_eq!(rt; sink.put(bytes), want);
+        assert_eq!(rt; sink.bytes.as_slice(), content);
+        assert_eq!(rt; sink.lengths.as_slice(), lengths);
+        assert_eq!(rt; sink.beyond, beyond);
+    }
+    assert_eq!(rt; (sink.puts, sink.faults), (6, 4));
     Ok(())
 }
 

@@ -1,5 +1,20 @@
-pub mod Peer
-pub mod Rows
-pub mod AdapterLemmas
 pub mod Digits
-mod Reading
+pub mod KindNames
+pub mod Statuses
+pub mod Findings
+pub mod FolderLemmas
+pub mod When
+pub mod Exactly
+pub mod FirstBad
+pub mod PeerLemmas
+pub mod Running
+pub mod Lines
+pub mod Outs
+pub mod Runs
+pub mod Deciding
+pub mod Tracing
+pub mod Rows
+pub mod LoadLemmas
+pub mod ReadLemmas
+pub mod StreamLemmas
+pub mod NameLemmas

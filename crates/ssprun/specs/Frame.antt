@@ -1,28 +1,18 @@
 -- The 24 bytes of a reply on the link: kind, status, flags, zero, a qualifier of 4 bytes, and two numbers of 8 bytes, all big-endian.
-use Rattle.std.specs.Prelude.{ℕ, ◌+◌, List, [], ◌∷◌, ◌++◌, replicate, if◌then◌else◌}
+use Rattle.std.specs.Prelude.{ℕ, ◌+◌, List, [], ◌∷◌, ◌++◌, is_some, unwrap_or, if◌then◌else◌}
 use Rattle.std.specs.Int.{w64, to_be_bytes}
-use Rattle.fmi_calls.specs.declared.call.Kind.{Kind}
-use Rattle.fmi_calls.specs.declared.call.Kind.TheVariants as K
+use Rattle.clock_fraction.specs.declared.fraction.Fraction.{Fraction}
 use Rattle.fmi_calls.specs.declared.call.Status.{Status}
 use Rattle.fmi_calls.specs.declared.call.Status.TheVariants as S
+use Rattle.fmi_calls.specs.declared.call.Interval.{Interval}
+use Rattle.fmi_calls.specs.declared.call.Interval.TheVariants.{NotYetKnown, Unchanged, Changed}
 use Rattle.fmi_calls.specs.declared.call.Content.{Content}
 use Rattle.fmi_calls.specs.declared.call.Content.TheVariants as A
 use Rattle.fmi_calls.specs.declared.call.Reply.{Reply}
 use Rattle.fmi_calls.specs.declared.call.Reply.TheVariants.{Done, Refused}
+use Rattle.fmi_calls.specs.KindFacts.{facts_of}
 use Rattle.fmi_calls.specs.Kinds.{kind_of_reply, status_of}
-
-abbrev pub kind_number : Kind → ℕ
-kind_number K.Instantiate = 1
-kind_number K.EnterInitialization = 2
-kind_number K.ExitInitialization = 3
-kind_number K.DoStep = 6
-kind_number K.Get = 8
-kind_number K.Set = 9
-kind_number K.Save = 14
-kind_number K.Restore = 15
-kind_number K.Free = 16
-kind_number K.Terminate = 17
-kind_number K.FreeInstance = 18
+use Rattle.ssprun.specs.declared.frame.Numbers.{Numbers}
 
 abbrev pub status_number : Status → ℕ
 status_number S.Ok = 0
@@ -31,44 +21,47 @@ status_number S.Discard = 2
 status_number S.Error = 3
 status_number S.Fatal = 4
 
--- flags of a step: event handling needed, terminate, early
+-- flags of a step: event handling needed, terminate, early; of an update: another is needed, terminate, a next event time is defined
 abbrev pub flags_of : Content → ℕ
 flags_of (A.DoStep event_needed terminate early end) =
     (if event_needed then 1 else 0) + (if terminate then 2 else 0) + (if early then 4 else 0)
-flags_of A.Instantiate = 0
-flags_of A.EnterInitialization = 0
-flags_of A.ExitInitialization = 0
-flags_of (A.Get word) = 0
-flags_of A.Set = 0
-flags_of A.Save = 0
-flags_of A.Restore = 0
-flags_of A.Free = 0
-flags_of A.Terminate = 0
-flags_of A.FreeInstance = 0
+flags_of (A.Update again terminate event_time) =
+    (if again then 1 else 0) + (if terminate then 2 else 0) + (if is_some event_time then 4 else 0)
+flags_of _ = 0
 
--- the first number: the end that a step reached, or the word of a value
-abbrev pub number_of : Content → ℕ
-number_of (A.DoStep event_needed terminate early end) = end
-number_of (A.Get word) = word
-number_of A.Instantiate = 0
-number_of A.EnterInitialization = 0
-number_of A.ExitInitialization = 0
-number_of A.Set = 0
-number_of A.Save = 0
-number_of A.Restore = 0
-number_of A.Free = 0
-number_of A.Terminate = 0
-number_of A.FreeInstance = 0
+-- a number alone
+abbrev pub one_number : ℕ → Numbers
+one_number first = record { qualifier = 0; first = first; second = 0 }
+
+-- a fraction of a second as its counter and its resolution
+abbrev pub fraction_numbers : ℕ → Fraction → Numbers
+fraction_numbers qualifier f = record { qualifier = qualifier; first = f.counter; second = f.resolution }
+
+abbrev pub interval_numbers : Interval → Numbers
+interval_numbers NotYetKnown = one_number 0
+interval_numbers (Unchanged interval) = fraction_numbers 1 interval
+interval_numbers (Changed interval) = fraction_numbers 2 interval
+
+-- the end that a step reached, the next event time, a value's word, an interval with its qualifier, a shift
+abbrev pub numbers_of : Content → Numbers
+numbers_of (A.DoStep event_needed terminate early end) = one_number end
+numbers_of (A.Update again terminate event_time) = one_number (unwrap_or event_time 0)
+numbers_of (A.Get word) = one_number word
+numbers_of (A.GetClock word) = one_number word
+numbers_of (A.GetInterval interval) = interval_numbers interval
+numbers_of (A.GetShift shift) = fraction_numbers 0 shift
+numbers_of _ = one_number 0
 
 abbrev pub flags_in : Reply → ℕ
 flags_in (Done is_warning content) = flags_of content
 flags_in (Refused kind status) = 0
 
-abbrev pub number_in : Reply → ℕ
-number_in (Done is_warning content) = number_of content
-number_in (Refused kind status) = 0
+abbrev pub numbers_in : Reply → Numbers
+numbers_in (Done is_warning content) = numbers_of content
+numbers_in (Refused kind status) = one_number 0
 
 unfoldable pub reply_frame : Reply → List ℕ
 reply_frame reply =
-    kind_number (kind_of_reply reply) ∷ status_number (status_of reply) ∷ flags_in reply ∷ 0 ∷ 0 ∷ 0 ∷ 0 ∷ 0 ∷ []
-    ++ to_be_bytes w64 (number_in reply) ++ replicate 8 0
+    let numbers = numbers_in reply in
+    (facts_of (kind_of_reply reply)).number ∷ status_number (status_of reply) ∷ flags_in reply ∷ 0 ∷ 0 ∷ 0 ∷ 0 ∷ numbers.qualifier ∷ []
+    ++ to_be_bytes w64 numbers.first ++ to_be_bytes w64 numbers.second

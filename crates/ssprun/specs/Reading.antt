@@ -1,8 +1,9 @@
--- What a read of an opened file answers.
-use Rattle.std.specs.Prelude.{◌≡◌, ℕ, ◌+◌, ◌<◌, ◌≤◌, List, length, Vec, Result, Ok, Err}
+-- What a folder over the host asks for, and what a read of an opened file answers.
+use Rattle.std.specs.Prelude.{◌≡◌, ℕ, ◌+◌, ◌<◌, ◌≤◌, List, ◌++◌, length, Option, option_map, Vec, Result, Ok, Err}
 use Rattle.std.specs.declared.alloc.Global.{Global}
 use Rattle.std.specs.declared.io.ErrorKind.{ErrorKind}
 use Rattle.std.specs.declared.io.ErrorKind.TheVariants.{NotFound, OutOfMemory}
+use Rattle.sim_base.specs.ReadNotes.{ReadNotes}
 use Rattle.sim_base.specs.declared.folder.ReadFault.{ReadFault}
 use Rattle.sim_base.specs.declared.folder.ReadFault.TheVariants.{Failed, Missing, TooBig, Memory}
 
@@ -24,3 +25,7 @@ unopened _ = Failed
 abbrev pub unread : ErrorKind → ReadFault
 unread OutOfMemory = Memory
 unread _ = Failed
+
+-- what a folder told as asked for is what it asked the host to open, each once
+abbrev pub Opens : Option (List (List ℕ)) → Option (List (List ℕ)) → ReadNotes → ReadNotes → Type 0
+Opens old new before after = (paths : List (List ℕ)) × (after.asked ≡ before.asked ++ paths) × (new ≡ option_map (λ opened. opened ++ paths) old)

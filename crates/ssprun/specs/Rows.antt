@@ -1,125 +1,157 @@
 -- When each status comes, and what stands then.
-use Rattle.std.specs.Prelude.{◌≡◌, ◌⊎◌, ℕ, ◌+◌, ◌<◌, ◌≤◌, true, false, List, [], ◌∷◌, ◌++◌, Option, Some, None, IsSomeAnd, codes}
+use Rattle.std.specs.Prelude.{◌≡◌, ◌⊎◌, ℕ, ◌+◌, ◌<◌, ◌≤◌, true, false, List, ◌∷◌, ◌++◌, length, map, All, Some, IsSomeAnd, codes}
+use Rattle.std.specs.List.{slice_get}
 use Rattle.sim_base.specs.Causes.{Rose}
-use Rattle.sim_base.specs.Told.{added, AddsPart}
+use Rattle.sim_base.specs.Sink.{with_piece}
+use Rattle.sim_base.specs.declared.numbers.CompId.{CompId}
 use Rattle.value_types.specs.declared.shape.Shape.{Shape}
-use Rattle.fmi_calls.specs.declared.call.Call.{Call}
+use Rattle.doc_tree.specs.declared.place.Place.{Place}
+use Rattle.doc_tree.specs.declared.rule.Rule.{Rule}
+use Rattle.fmi_calls.specs.KindFacts.{IsRunCall}
 use Rattle.fmu_peer.specs.declared.peer.Exchange.{Exchange}
-use Rattle.step_master.specs.Follow.{IsRunCall}
-use Rattle.fmi_calls.specs.declared.call.Reply.{Reply}
-use Rattle.fmi_calls.specs.declared.call.BadStatus.{BadStatus}
-use Rattle.fmu_peer.specs.declared.peer.PeerFault.{PeerFault}
 use Rattle.fmu_peer.specs.declared.ended.Why.{Why}
 use Rattle.fmu_peer.specs.declared.ended.Why.TheVariants.{Refused, Misreply, Link}
-use Rattle.fmu_peer.specs.Machine.{Machine}
 use Rattle.fmu_peer.specs.Talk as T
-use Rattle.fmu_peer.specs.Answer.{IsWhy}
-use Rattle.fmu_peer.specs.View.{View}
-use Rattle.run_model.specs.declared.plan.EndKind.{EndKind}
-use Rattle.run_model.specs.declared.plan.Plan.{Plan}
-use Rattle.run_model.specs.Steps.{IsBound}
-use Rattle.run_model.specs.declared.plan.EndKind.TheVariants.{Stop, Asked, Fixed, Fault}
-use Rattle.run_model.specs.Text.{Instant, trace_text}
-use Rattle.run_model.specs.Trace.{Run, IsTrace}
+use Rattle.fmu_peer.specs.Answer.{IsLink, IsWhy}
+use Rattle.fmu_peer.specs.View.{Origin, View}
+use Rattle.system_model.specs.declared.plan.EndKind.{EndKind}
+use Rattle.system_model.specs.declared.plan.EndKind.TheVariants.{Stop, Asked, Limit, Fixed, Fault}
+use Rattle.system_model.specs.declared.plan.Plan.{Plan}
+use Rattle.system_model.specs.declared.system.System.{System}
+use Rattle.system_model.specs.Text.{Instant}
+use Rattle.run_model.specs.Run.{Run}
+use Rattle.run_model.specs.Trace.{IsTrace}
 use Rattle.run_model.specs.Behaved.{WellBehaved}
-use Rattle.step_master.specs.Progress.{run_of}
-use Rattle.step_master.specs.End.{is_finished}
+use Rattle.step_master.specs.declared.bad_answer.BadAnswer.{BadAnswer}
 use Rattle.step_master.specs.declared.run_end.RunEnd.{RunEnd}
-use Rattle.step_master.specs.declared.run_end.RunEnd.TheVariants.{FixedStep, Bad}
-use Rattle.sim_base.specs.declared.numbers.CompId.{CompId}
-use Rattle.command_line.specs.Line.{Line, IsLine}
-use Rattle.single_fmu.specs.System.{system_of}
-use Rattle.ssprun.specs.System.{description_path}
-use Rattle.ssprun.specs.Line.{read_line, missing_line, big_line, refused_line, why_line, why_status, fixed_line}
-use Rattle.ssprun.specs.Facts.{Stage, Shelf, Idle, Calm, RunsPeer, HasRun, file_of, AtPath, IsTooBig, GivesShape, BreaksRule, IsShape, IsBroken}
+use Rattle.step_master.specs.declared.run_end.RunEnd.TheVariants as E
+use Rattle.step_master.specs.Course.{IsBoundOf, trace_pieces}
+use Rattle.step_master.specs.Puts.{CutsPiece, with_pieces}
+use Rattle.step_master.specs.Traced.{IsRunOf}
+use Rattle.command_line.specs.Line.{IsLine, Line, directory_of, plan_of}
+use Rattle.ssprun.specs.declared.outcome.FileFault.TheVariants.{Unread, Missing, TooBig, Broken}
+use Rattle.ssprun.specs.declared.outcome.StartCause.TheVariants.{Failed, Unknown}
+use Rattle.ssprun.specs.Description.{Finding, Absent, Long, Faulty, Taken, IsFound}
+use Rattle.ssprun.specs.Facts.{Calm, Loads, FindsLast, only_name, system_for, task_of}
+use Rattle.ssprun.specs.Files.{description_path, files_of, ReadsSome, FailsAt}
+use Rattle.ssprun.specs.Happened.{Happened}
+use Rattle.ssprun.specs.Message.{CutsShort, file_message, start_message, fixed_message, bad_message, why_status}
+use Rattle.ssprun.specs.Runs.{FailsToStart, HasRun, IsUnasked, RunsPeers, names_of}
 
--- a call of the program: its words, what is told before and after it, its status, and what err tells with its counts of faults
-pub record Command : Type 0 where
-  pub words : List (List ℕ)
-  pub folder : Shelf
-  pub old : Stage
-  pub new : Stage
-  pub status : ℕ
-  pub before : Option (List ℕ)
-  pub after : Option (List ℕ)
-  pub errs : ℕ
-  pub errs_after : ℕ
+-- ---- what err holds
 
-abbrev pub command : List (List ℕ) → Shelf → Stage → Stage → ℕ → Option (List ℕ) → Option (List ℕ) → ℕ → ℕ → Command
-command words folder old new status before after errs errs_after = record {
-  words = words;
-  folder = folder;
-  old = old;
-  new = new;
-  status = status;
-  before = before;
-  after = after;
-  errs = errs;
-  errs_after = errs_after;
-}
+-- one put more with this line, and no other
+abbrev pub Says : Happened → List ℕ → Type 0
+Says h text = h.err_after ≡ with_piece h.err text
 
--- err holds this text more, and no put on it failed
-abbrev pub Says : Command → List ℕ → Type 0
-Says d text = (d.after ≡ added d.before text) × (d.errs_after ≡ d.errs)
+-- nothing more
+abbrev pub IsSilent : Happened → Type 0
+IsSilent h = h.err_after ≡ h.err
 
--- the line couldn't be put
-abbrev pub IsMute : Command → Type 0
-IsMute d = (d.status ≡ 10) × Rose d.errs d.errs_after
+-- this line couldn't be put
+abbrev pub IsMute : Happened → List ℕ → Type 0
+IsMute h text = (h.status ≡ 10) × CutsShort text h.err h.err_after
 
 -- this status with this line, unless the line couldn't be put
-abbrev pub Answers : Command → ℕ → List ℕ → Type 0
-Answers d status text = ((d.status ≡ status) × Says d text) ⊎ IsMute d
+abbrev pub Answers : Happened → ℕ → List ℕ → Type 0
+Answers h status text = ((h.status ≡ status) × Says h text) ⊎ IsMute h text
+
+-- the line of want of memory
+abbrev pub memory_line : List ℕ
+memory_line = codes "memory\n"
 
 -- want of memory, or this status with this line
-abbrev pub AnswersOr11 : Command → ℕ → List ℕ → Type 0
-AnswersOr11 d status text = (d.status ≡ 11) ⊎ Answers d status text
+abbrev pub AnswersOr11 : Happened → ℕ → List ℕ → Type 0
+AnswersOr11 h status text = Answers h 11 memory_line ⊎ Answers h status text
 
--- no read failed, and the folder tells this of the file
-pub record Finds (d : Command) (line : Line) (P : Option (List ℕ) → Type 0) : Type 0 where
-  pub quiet : Rose d.folder.before d.folder.after → ⊥
-  pub told : IsSomeAnd d.folder.files (λ at. P (at (description_path line.directory)))
+-- ---- which files are read
+
+-- the words are a line, and this holds of it
+abbrev pub OnLine : Happened → (Line → Type 0) → Type 0
+OnLine h P = (line : Line) × IsLine h.words line × P line
+
+-- the words are no line
+abbrev pub IsNoLine : Happened → Type 0
+IsNoLine h = (line : Line) → IsLine h.words line → ⊥
+
+-- the folder tells its files, the description is found so, and no read failed
+pub record IsToFind (h : Happened) (line : Line) (found : Finding) : Type 0 where
+  pub unfailed : h.new.folder.failed ≡ h.old.folder.failed
+  pub told : IsSomeAnd h.old.folder.files (λ at. IsFound (plan_of line).resolution found (at (description_path (directory_of line))))
+
+-- some of the line's files were asked for, each once and from the first on; the read of the last of them may have failed, and then that is answered
+pub data ReadsFiles (h : Happened) (line : Line) : Type 0 where
+  Quiet : ReadsSome (files_of line) h.old.folder h.new.folder → ReadsFiles h line
+  Failing : (path : List ℕ) → FailsAt (files_of line) path h.old.folder h.new.folder → Answers h 3 (file_message path Unread) → ReadsFiles h line
+
+-- without a line no file is asked for; with one each of its files is, but for want of memory or behind a file that ends the command
+pub record ReadingRow (h : Happened) : Type 0 where
+  pub none : IsNoLine h → h.new.folder ≡ h.old.folder
+  pub some : (line : Line) → IsLine h.words line → ReadsFiles h line
+  pub all : (line : Line) → IsLine h.words line → (h.new.folder.asked ≡ h.old.folder.asked ++ files_of line) ⊎ Answers h 11 memory_line
+
+-- ---- the statuses
+
+-- at the stop, or where a component asked for it
+abbrev pub IsFinished : RunEnd → Type 0
+IsFinished E.Stop = Unit {0}
+IsFinished (E.Asked point) = Unit {0}
+IsFinished (E.EventLimit point) = ⊥
+IsFinished (E.FixedStep component at end) = ⊥
+IsFinished (E.Bad bad) = ⊥
+IsFinished E.WriteFault = ⊥
+
+-- the run of the line's FMU ended so
+abbrev pub RunsTo : Happened → Line → RunEnd → Type 0
+RunsTo h line end = (shape : Shape) × Loads line shape h.old.folder h.new.folder × HasRun (task_of line) (system_for shape) end h.old.run h.new.run
+
+-- 0: the run came to its end, and err holds what it held
+abbrev pub HasEnded : Happened → Line → Type 0
+HasEnded h line = (end : RunEnd) × IsFinished end × RunsTo h line end × IsSilent h
+
+pub record EndRow (h : Happened) : Type 0 where
+  pub when : h.status ≡ 0 → OnLine h (HasEnded h)
 
 -- 2: exactly where the words are no line
-pub record WordsRow (d : Command) : Type 0 where
-  pub when : d.status ≡ 2 → ((line : Line) → IsLine d.words line → ⊥) × Calm d.old d.new × Says d (codes "words\n")
-  pub exact : ((line : Line) → IsLine d.words line → ⊥) → AnswersOr11 d 2 (codes "words\n")
+pub record WordsRow (h : Happened) : Type 0 where
+  pub when : h.status ≡ 2 → IsNoLine h × (h.new ≡ h.old) × Says h (codes "words\n")
+  pub exact : IsNoLine h → AnswersOr11 h 2 (codes "words\n")
 
-abbrev pub ReadFails : Command → Line → Type 0
-ReadFails d line = Says d (read_line (file_of line)) × Rose d.folder.before d.folder.after
+-- 3: `read` only where the read of that file failed and no other, `missing` and `big` exactly where the file is so
+pub data LacksFile (h : Happened) (line : Line) : Type 0 where
+  IsUnread : (path : List ℕ) → FailsAt (files_of line) path h.old.folder h.new.folder → Says h (file_message path Unread) → LacksFile h line
+  IsMissing : (path : List ℕ) → FindsLast line path Absent h.old.folder h.new.folder → Says h (file_message path Missing) → LacksFile h line
+  IsTooBig : (path : List ℕ) → FindsLast line path Long h.old.folder h.new.folder → Says h (file_message path TooBig) → LacksFile h line
 
-abbrev pub LacksFile : Command → Line → Type 0
-LacksFile d line = Says d (missing_line (file_of line)) × AtPath line d.folder (λ file. file ≡ None)
-
-abbrev pub FindsTooMuch : Command → Line → Type 0
-FindsTooMuch d line = Says d (big_line (file_of line)) × AtPath line d.folder IsTooBig
-
--- 3: `read` only where the folder's count rose, `missing` and `big` exactly where the file is so
-pub record FileRow (d : Command) : Type 0 where
-  pub when : d.status ≡ 3 → (line : Line) × IsLine d.words line × Calm d.old d.new × (ReadFails d line ⊎ (LacksFile d line ⊎ FindsTooMuch d line))
-  pub missing : (line : Line) → IsLine d.words line → Finds d line (λ file. file ≡ None) → AnswersOr11 d 3 (missing_line (file_of line))
-  pub big : (line : Line) → IsLine d.words line → Finds d line IsTooBig → AnswersOr11 d 3 (big_line (file_of line))
+pub record FileRow (h : Happened) : Type 0 where
+  pub when : h.status ≡ 3 → OnLine h (λ line. Calm h.old.run h.new.run × LacksFile h line)
+  pub missing : (line : Line) → IsLine h.words line → IsToFind h line Absent →
+      AnswersOr11 h 3 (file_message (description_path (directory_of line)) Missing)
+  pub big : (line : Line) → IsLine h.words line → IsToFind h line Long →
+      AnswersOr11 h 3 (file_message (description_path (directory_of line)) TooBig)
 
 -- 4: exactly where the file breaks a rule, the first of which and its place are told
-pub record RuleRow (d : Command) : Type 0 where
-  pub when : d.status ≡ 4 → (line : Line) × IsLine d.words line × Calm d.old d.new
-      × (rule : ℕ) × (place : List ℕ) × AtPath line d.folder (IsBroken line rule place) × Says d (refused_line (file_of line) rule place)
-  pub exact : (line : Line) (rule : ℕ) (place : List ℕ) → IsLine d.words line → Finds d line (BreaksRule line rule place) →
-      AnswersOr11 d 4 (refused_line (file_of line) rule place)
+abbrev pub BreaksRule : Happened → Line → Type 0
+BreaksRule h line = (path : List ℕ) × (rule : Rule) × (place : Place)
+    × FindsLast line path (Faulty rule place) h.old.folder h.new.folder × Says h (file_message path (Broken rule place))
 
--- the run that ended by the first answer that isn't good, with its line
-abbrev pub EndsBy : Command → Line → Shape → Why → Type 0
-EndsBy d line shape why = Says d (why_line why) × (component : CompId) × HasRun line shape (Bad component why) d.old d.new
+pub record RuleRow (h : Happened) : Type 0 where
+  pub when : h.status ≡ 4 → OnLine h (λ line. Calm h.old.run h.new.run × BreaksRule h line)
+  pub exact : (line : Line) (rule : Rule) (place : Place) → IsLine h.words line → IsToFind h line (Faulty rule place) →
+      AnswersOr11 h 4 (file_message (description_path (directory_of line)) (Broken rule place))
 
-abbrev pub StartFails : Command → Type 0
-StartFails d = Says d (codes "link fmu start\n") × Idle d.old d.new × Rose d.old.starts d.new.starts
+-- the run was broken off by an answer that isn't good, of the component with this name, and with its line
+pub record BreaksOffBy (h : Happened) (line : Line) (P : Why → Type 0) : Type 0 where
+  pub shape : Shape
+  pub loads : Loads line shape h.old.folder h.new.folder
+  pub bad : BadAnswer
+  pub so : P bad.why
+  pub name : List ℕ
+  pub named : slice_get (names_of (system_for shape)) bad.component.0 ≡ Some name
+  pub says : Says h (bad_message name bad.why)
+  pub run : HasRun (task_of line) (system_for shape) (E.Bad bad) h.old.run h.new.run
 
-abbrev pub IsUnknown : Command → Shape → Type 0
-IsUnknown d shape = Says d (codes "unknown fmu\n") × Calm d.old d.new × (d.old.knows shape.identifier ≡ false)
-
-abbrev pub LosesLink : Command → Line → Shape → Type 0
-LosesLink d line shape = (call : Call) × (fault : PeerFault) × EndsBy d line shape (Link call fault)
-
--- why is the first answer of the run that isn't good: the calls before it got good ones, and its own is none of the closing's
+-- why is the first answer of the talk's run that isn't good: the calls before it got good ones, and its own is none of the closing's
 pub record IsFirstBadOf (shape : Shape) (why : Why) (talk : List Exchange) : Type 0 where
   pub front : List Exchange
   pub last : Exchange
@@ -129,113 +161,155 @@ pub record IsFirstBadOf (shape : Shape) (why : Why) (talk : List Exchange) : Typ
   pub bad : IsWhy shape why last
   pub run_call : IsRunCall last.call
 
--- one peer was started, it is told and tells its talk, and no put on out failed
-pub record TellsPeer (d : Command) (v : View) (talk : List Exchange) : Type 0 where
-  pub started : d.new.started ≡ d.old.started + 1
-  pub before : List View
-  pub retired : d.new.retired ≡ Some (before ++ v ∷ [])
-  pub talk_is : v.talk ≡ Some talk
-  pub quiet : Rose d.old.outs d.new.outs → ⊥
+-- these peers were taken back, each tells its talk, and no put on out failed
+pub record TellPeers (h : Happened) (peers : List View) (talks : List (List Exchange)) : Type 0 where
+  pub retired : h.new.run.spawner.retired ≡ h.old.run.spawner.retired ++ peers
+  pub talks_are : map (λ (v : View). v.talk) peers ≡ map (λ (talk : List Exchange). Some talk) talks
+  pub quiet : Rose h.old.run.out.faults h.new.run.out.faults → ⊥
 
--- the status and the line are those of the first answer that isn't good
-abbrev pub DecidesBy : Command → (Why → Type 0) → Type 0
-DecidesBy d P = (v : View) (talk : List Exchange) (why : Why) → P why → TellsPeer d v talk → IsFirstBadOf v.fixed.shape why talk → Answers d (why_status why) (why_line why)
+-- of these peers the one at a place, of this name, had this first answer that isn't good, and those before it had none
+pub record IsLeastBadOf (peers : List View) (talks : List (List Exchange)) (name : List ℕ) (why : Why) : Type 0 where
+  pub place : ℕ
+  pub peer : View
+  pub talk : List Exchange
+  pub here : slice_get peers place ≡ Some peer
+  pub told : slice_get talks place ≡ Some talk
+  pub named : IsSomeAnd peer.fixed.origin (λ (o : Origin). o.name ≡ name)
+  pub first : IsFirstBadOf peer.fixed.shape why talk
+  pub before : (k : ℕ) (v : View) (es : List Exchange) (other : Why) → k < place → slice_get peers k ≡ Some v → slice_get talks k ≡ Some es → IsFirstBadOf v.fixed.shape other es → ⊥
 
-abbrev pub IsLinkWhy : Why → Type 0
-IsLinkWhy (Refused call status) = ⊥
-IsLinkWhy (Misreply call reply) = ⊥
-IsLinkWhy (Link call fault) = Unit {0}
+-- the status and the line are those of the first answer that isn't good, of the least component
+abbrev pub DecidesBy : Happened → (Why → Type 0) → Type 0
+DecidesBy h P = (peers : List View) (talks : List (List Exchange)) (name : List ℕ) (why : Why) → P why → TellPeers h peers talks → IsLeastBadOf peers talks name why →
+    Answers h (why_status why) (bad_message name why)
 
-abbrev pub IsRefusal : Why → Type 0
-IsRefusal (Refused call status) = Unit {0}
-IsRefusal (Misreply call reply) = ⊥
-IsRefusal (Link call fault) = ⊥
+abbrev pub IsRefusedWhy : Why → Type 0
+IsRefusedWhy (Refused call status) = Unit {0}
+IsRefusedWhy (Misreply call reply) = ⊥
+IsRefusedWhy (Link call fault) = ⊥
 
-abbrev pub IsMisreply : Why → Type 0
-IsMisreply (Refused call status) = ⊥
-IsMisreply (Misreply call reply) = Unit {0}
-IsMisreply (Link call fault) = ⊥
+abbrev pub IsMisreplyWhy : Why → Type 0
+IsMisreplyWhy (Refused call status) = ⊥
+IsMisreplyWhy (Misreply call reply) = Unit {0}
+IsMisreplyWhy (Link call fault) = ⊥
 
 -- 5: `link` only where the spawner's count or the peer's rose, `unknown` exactly where the spawner doesn't know the identifier
-pub record LinkRow (d : Command) : Type 0 where
-  pub when : d.status ≡ 5 → (line : Line) × IsLine d.words line × (shape : Shape) × AtPath line d.folder (IsShape line shape) × (StartFails d ⊎ (IsUnknown d shape ⊎ LosesLink d line shape))
-  pub unknown : (line : Line) (shape : Shape) → IsLine d.words line → Finds d line (GivesShape line shape) → d.old.knows shape.identifier ≡ false →
-      (Rose d.old.starts d.new.starts → ⊥) → AnswersOr11 d 5 (codes "unknown fmu\n")
-  pub lost : DecidesBy d IsLinkWhy
+pub data LosesPeer (h : Happened) (line : Line) : Type 0 where
+  NotStarted : (shape : Shape) (name : List ℕ) → Loads line shape h.old.folder h.new.folder → FailsToStart (task_of line) (system_for shape) name Failed h.old.run h.new.run →
+      Rose h.old.run.spawner.faults h.new.run.spawner.faults → Says h (start_message name Failed) → LosesPeer h line
+  NotKnown : (shape : Shape) (name : List ℕ) → Loads line shape h.old.folder h.new.folder → FailsToStart (task_of line) (system_for shape) name Unknown h.old.run h.new.run →
+      Says h (start_message name Unknown) → LosesPeer h line
+  NotAnswering : BreaksOffBy h line IsLink → LosesPeer h line
+
+pub record LinkRow (h : Happened) : Type 0 where
+  pub when : h.status ≡ 5 → OnLine h (LosesPeer h)
+  pub unknown : (line : Line) (shape : Shape) → IsLine h.words line → IsToFind h line (Taken shape) →
+      h.old.run.spawner.knows shape.identifier ≡ false → (Rose h.old.run.spawner.faults h.new.run.spawner.faults → ⊥) →
+      AnswersOr11 h 5 (start_message only_name Unknown)
+  pub lost : DecidesBy h IsLink
 
 -- 6: exactly where the first answer that isn't good is a refusal
-pub record RefusalRow (d : Command) : Type 0 where
-  pub when : d.status ≡ 6 → (line : Line) × IsLine d.words line × (shape : Shape) × AtPath line d.folder (IsShape line shape)
-      × (call : Call) × (status : BadStatus) × EndsBy d line shape (Refused call status)
-  pub exact : DecidesBy d IsRefusal
+pub record RefusalRow (h : Happened) : Type 0 where
+  pub when : h.status ≡ 6 → OnLine h (λ line. BreaksOffBy h line IsRefusedWhy)
+  pub exact : DecidesBy h IsRefusedWhy
 
 -- 7: exactly where the first answer that isn't good is a misreply
-pub record MisreplyRow (d : Command) : Type 0 where
-  pub when : d.status ≡ 7 → (line : Line) × IsLine d.words line × (shape : Shape) × AtPath line d.folder (IsShape line shape)
-      × (call : Call) × (reply : Reply) × EndsBy d line shape (Misreply call reply)
-  pub exact : DecidesBy d IsMisreply
+pub record MisreplyRow (h : Happened) : Type 0 where
+  pub when : h.status ≡ 7 → OnLine h (λ line. BreaksOffBy h line IsMisreplyWhy)
+  pub exact : DecidesBy h IsMisreplyWhy
 
--- 9: the run ended before a step whose size the FMU can't take, and with its line
-pub record FixedRow (d : Command) : Type 0 where
-  pub when : d.status ≡ 9 → (line : Line) × IsLine d.words line × (shape : Shape) × AtPath line d.folder (IsShape line shape)
-      × (component : CompId) × (at : ℕ) × (end : ℕ) × Says d (fixed_line at end) × HasRun line shape (FixedStep component at end) d.old d.new
+-- 9: the run ended before a step whose size a component can't take, the least of those, and with its line
+pub record LacksSize (h : Happened) (line : Line) : Type 0 where
+  pub shape : Shape
+  pub loads : Loads line shape h.old.folder h.new.folder
+  pub component : CompId
+  pub at : ℕ
+  pub end : ℕ
+  pub name : List ℕ
+  pub named : slice_get (names_of (system_for shape)) component.0 ≡ Some name
+  pub says : Says h (fixed_message name at end)
+  pub run : HasRun (task_of line) (system_for shape) (E.FixedStep component at end) h.old.run h.new.run
+
+pub record FixedRow (h : Happened) : Type 0 where
+  pub when : h.status ≡ 9 → OnLine h (LacksSize h)
 
 -- 10: only where a sink's count rose, and always where one is higher than before
-pub record WriteRow (d : Command) : Type 0 where
-  pub when : d.status ≡ 10 → Rose d.old.outs d.new.outs ⊎ Rose d.errs d.errs_after
-  pub higher : (d.old.outs < d.new.outs) ⊎ (d.errs < d.errs_after) → d.status ≡ 10
-  pub says : d.status ≡ 10 → Says d (codes "write\n") ⊎ Rose d.errs d.errs_after
+pub record WriteRow (h : Happened) : Type 0 where
+  pub when : h.status ≡ 10 → (Says h (codes "write\n") × Rose h.old.run.out.faults h.new.run.out.faults) ⊎ ((text : List ℕ) × IsMute h text)
+  pub higher : (h.old.run.out.faults < h.new.run.out.faults) ⊎ (h.err.faults < h.err_after.faults) → h.status ≡ 10
+
+-- each peer that was started was taken back, and none of them was called; nothing was put
+pub record IsIdle (h : Happened) : Type 0 where
+  pub peers : List View
+  pub unasked : All IsUnasked peers
+  pub started : h.new.run.spawner.started ≡ h.old.run.spawner.started + length peers
+  pub retired : h.new.run.spawner.retired ≡ h.old.run.spawner.retired ++ peers
+  pub out : h.new.run.out ≡ h.old.run.out
+
+-- 11: no read and no start failed, no peer was called, and nothing was put
+pub record MemoryRow (h : Happened) : Type 0 where
+  pub when : h.status ≡ 11 → IsIdle h × (h.new.run.spawner.faults ≡ h.old.run.spawner.faults) × (h.new.folder.failed ≡ h.old.folder.failed) × Says h memory_line
 
 -- the statuses that can come
 abbrev pub IsStatus : ℕ → Type 0
 IsStatus n = (n ≡ 0) ⊎ (((2 ≤ n) × (n ≤ 7)) ⊎ ((n ≡ 9) ⊎ ((n ≡ 10) ⊎ (n ≡ 11))))
 
--- what err holds behind a put that failed: a front of a line, and nothing else
-abbrev pub CutsLine : Command → Type 0
-CutsLine d = (text : List ℕ) × AddsPart d.before d.after text
+-- no other status comes, and err holds what it held or one line more, or a front of one
+pub record StatusRow (h : Happened) : Type 0 where
+  pub known : IsStatus h.status
+  pub line : IsSilent h ⊎ ((text : List ℕ) × (Says h text ⊎ IsMute h text))
 
--- no other status comes, and where no put on err failed it holds what it held or one line more
-pub record StatusRow (d : Command) : Type 0 where
-  pub known : IsStatus d.status
-  pub line : (Rose d.errs d.errs_after × CutsLine d) ⊎ ((text : List ℕ) × Says d text)
+-- ---- the run
 
--- 11: nothing was started or written, and no read failed
-pub record MemoryRow (d : Command) : Type 0 where
-  pub when : d.status ≡ 11 → Calm d.old d.new × (d.folder.after ≡ d.folder.before) × Says d (codes "memory\n")
+-- status and line of a trace's end: 9 with its line where a step begins that a component can't make, else 0
+abbrev pub ReportsEnd : Happened → System → Plan → EndKind → ℕ → Type 0
+ReportsEnd h system plan Stop point = (h.status ≡ 0) × IsSilent h
+ReportsEnd h system plan Asked point = (h.status ≡ 0) × IsSilent h
+ReportsEnd h system plan Fixed point = (h.status ≡ 9) × (place : ℕ) × (name : List ℕ) × (bound : ℕ)
+    × (slice_get (names_of system) place ≡ Some name) × IsBoundOf plan point bound × Says h (fixed_message name point bound)
+ReportsEnd h system plan Limit point = ⊥
+ReportsEnd h system plan Fault point = ⊥
 
--- 0: the run came to its end, and err holds what it held
-pub record EndRow (d : Command) : Type 0 where
-  pub when : d.status ≡ 0 → (line : Line) × IsLine d.words line × (shape : Shape) × AtPath line d.folder (IsShape line shape)
-      × (end : RunEnd) × (is_finished end ≡ true) × HasRun line shape end d.old d.new × (d.after ≡ d.before) × (d.errs_after ≡ d.errs)
+-- out has the text of the one trace, one piece a put, and the status is that of its end; or the put of one of its pieces failed, out has those before it and a front of that, and the status is 10
+pub data WritesTrace (h : Happened) (r : Run) : Type 0 where
+  Whole : (is : List Instant) (kind : EndKind) (point : ℕ) → IsTrace r is kind point → ReportsEnd h r.system r.plan kind point →
+      h.new.run.out ≡ with_pieces h.old.run.out (trace_pieces r.system r.plan is kind point) → WritesTrace h r
+  Front : (is : List Instant) (kind : EndKind) (point : ℕ) (pieces : List (List ℕ)) (piece : List ℕ) (rest : List (List ℕ)) → IsTrace r is kind point → h.status ≡ 10 →
+      trace_pieces r.system r.plan is kind point ≡ pieces ++ piece ∷ rest → CutsPiece (with_pieces h.old.run.out pieces) piece h.new.run.out → WritesTrace h r
 
--- status and line of a trace's end: 9 with its line where a step begins that the FMU can't make, else 0
-abbrev pub ReportsEnd : Command → Plan → EndKind → ℕ → Type 0
-ReportsEnd d plan Stop point = d.status ≡ 0
-ReportsEnd d plan Asked point = d.status ≡ 0
-ReportsEnd d plan Fixed point = (d.status ≡ 9) × (bound : ℕ) × IsBound plan point bound × Says d (fixed_line point bound)
-ReportsEnd d plan Fault point = ⊥
-
--- out holds the text of the one trace and the status is that of its end, or a put on it failed, it holds a front of the text, and the status is 10
-abbrev pub WritesTrace : Command → Run → Type 0
-WritesTrace d r = (is : List Instant) × (kind : EndKind) × (point : ℕ) × IsTrace r is kind point
-    × ((ReportsEnd d r.plan kind point × (d.new.out ≡ added d.old.out (trace_text r.system r.plan is kind point)))
-    ⊎ ((d.status ≡ 10) × Rose d.old.outs d.new.outs × AddsPart d.old.out d.new.out (trace_text r.system r.plan is kind point)))
-
--- the peer that was started, and the trace where it tells a machine that answers well and no call of it failed
-abbrev pub Traces : Command → Line → Shape → Type 0
-Traces d line shape = (v : View) × RunsPeer line shape d.old d.new v
-    × ((m : Machine) → v.fixed.machine ≡ Some m → WellBehaved (run_of (system_of shape) line.plan m) → v.faults ≡ 0 →
-    WritesTrace d (run_of (system_of shape) line.plan m))
+-- the peers that were started, and the trace where they tell machines that behave well and no call of them failed
+pub record Traces (h : Happened) (line : Line) (system : System) : Type 0 where
+  pub olds : List View
+  pub news : List View
+  pub peers : RunsPeers (task_of line) system olds news h.old.run.spawner h.new.run.spawner
+  pub writes : (r : Run) → IsRunOf system olds r → r.plan ≡ plan_of line → WellBehaved r → All (λ (v : View). v.faults ≡ 0) news → WritesTrace h r
 
 -- the trace: where the file is taken, the identifier is known, and no read, start or put on err failed, or for want of memory nothing
-pub record TraceRow (d : Command) : Type 0 where
-  pub when : (line : Line) (shape : Shape) → IsLine d.words line → Finds d line (GivesShape line shape) → d.old.knows shape.identifier ≡ true →
-      (Rose d.old.starts d.new.starts → ⊥) → (Rose d.errs d.errs_after → ⊥) → ((d.status ≡ 11) × Calm d.old d.new) ⊎ Traces d line shape
+pub record TraceRow (h : Happened) : Type 0 where
+  pub when : (line : Line) (shape : Shape) → IsLine h.words line → IsToFind h line (Taken shape) → h.old.run.spawner.knows shape.identifier ≡ true →
+      (Rose h.old.run.spawner.faults h.new.run.spawner.faults → ⊥) → (Rose h.err.faults h.err_after.faults → ⊥) →
+      ((h.status ≡ 11) × IsIdle h) ⊎ Traces h line (system_for shape)
 
--- one peer was started and taken back, with a talk that is legal, lean and closed
-abbrev pub UsesPeer : Command → Type 0
-UsesPeer d = (line : Line) × IsLine d.words line × (shape : Shape) × (end : RunEnd) × HasRun line shape end d.old d.new
+-- each peer that was started was taken back once: uncalled, or behind a run in which its talk is legal, lean and closed, and puts and ends are those of the run
+pub data PeerRow (h : Happened) : Type 0 where
+  Idle : IsIdle h → PeerRow h
+  Ran : (line : Line) → IsLine h.words line → (end : RunEnd) → RunsTo h line end → PeerRow h
 
--- each peer that was started was taken back once
-abbrev pub PeerRow : Command → Type 0
-PeerRow d = Idle d.old d.new ⊎ UsesPeer d
+-- ---- all of it
+
+-- what holds of each call of the program
+pub record KeepsRows (h : Happened) : Type 0 where
+  pub ended : EndRow h
+  pub words : WordsRow h
+  pub file : FileRow h
+  pub rule : RuleRow h
+  pub link : LinkRow h
+  pub refusal : RefusalRow h
+  pub misreply : MisreplyRow h
+  pub fixed : FixedRow h
+  pub write : WriteRow h
+  pub memory : MemoryRow h
+  pub status : StatusRow h
+  pub reading : ReadingRow h
+  pub peer : PeerRow h
+  pub trace : TraceRow h

@@ -1,46 +1,48 @@
 //! The program: it reads one FMU's description, runs the FMU, and writes the trace.
 #![tactic(auto)]
 
-mod adapters;
-mod lines;
+mod args;
+mod files;
+mod frame;
+mod loading;
+#[cfg(test)]
+mod long_tests;
+mod message;
+mod names;
+mod naming;
 mod outcome;
+mod peers;
 mod report;
+mod room;
 mod run;
+mod streams;
 #[cfg(test)]
 mod tests;
+mod wanted;
 
-use adapters::{HostFolder, WriterSink};
+use args::run_args;
 use bench_fmus::Bench;
-use outcome::Outcome;
-use report::report;
-use run::run_words;
+use files::{HostFiles, OpenedFolder};
+use std::env;
 use std::process::ExitCode;
-use std::{env, io};
+use streams::{StreamSink, WriterStream};
 
 fn main(rt: HostRuntime) -> ExitCode {
-    let mut err = WriterSink::new(rt.stderr());
-    let Ok(words) = collect_words(&rt) else {
-        return ExitCode::from(report(&Outcome::Memory, &mut err));
-    };
-    let mut out = WriterSink::new(rt.stdout());
-    let mut folder = HostFolder::new(&rt);
+    let mut folder = OpenedFolder::new(rt.alloc(), HostFiles::new(&rt));
     let mut spawner = Bench::new(rt.alloc(), None, Vec::new(rt.alloc()));
-    ExitCode::from(run_words(
+    let mut out = StreamSink::new(WriterStream {
+        writer: rt.stdout(),
+    });
+    let mut err = StreamSink::new(WriterStream {
+        writer: rt.stderr(),
+    });
+    ExitCode::from(run_args(
         &rt,
         rt.alloc(),
-        &words,
+        env::args(&rt),
         &mut folder,
         &mut spawner,
         &mut out,
         &mut err,
     ))
-}
-
-// The words behind the program's name.
-fn collect_words(rt: &HostRuntime) -> io::Result<Vec<String>> {
-    let mut words = Vec::new(rt.alloc());
-    for word in env::args(rt)?.skip(1) {
-        words.push(word)?;
-    }
-    Ok(words)
 }

@@ -1,25 +1,54 @@
-use sim_base::Items;
-use step_master::RunEnd;
+use doc_tree::{Place, Rule};
+use fmu_peer::Why;
+use sim_base::Text;
 
-/// How a command ends; where the description is at fault, with the line that says so.
+/// How a command ends.
 #[derive(Debug, Drop)]
 pub(crate) enum Outcome {
     /// The words are no command line.
     Words,
-    /// The read of the description failed.
-    ReadFailed { line: Items<u8> },
-    /// There is no description.
-    Missing { line: Items<u8> },
-    /// The description is longer than a file may be.
-    TooBig { line: Items<u8> },
-    /// The description breaks a rule.
-    Broken { line: Items<u8> },
-    /// The start of the peer failed.
-    StartFailed,
-    /// The model identifier isn't known.
-    Unknown,
     /// There was no memory to begin with.
     Memory,
-    /// The peer was started, and its run ended so.
-    Ran { end: RunEnd },
+    /// A file wasn't taken.
+    File { path: Text, fault: FileFault },
+    /// The peer of the component of this name wasn't started.
+    Start { component: Text, fault: StartCause },
+    /// All peers were started, and the run ended so.
+    Ran { end: End },
+}
+
+/// Why a file wasn't taken.
+#[derive(Debug, Drop)]
+pub(crate) enum FileFault {
+    /// Its read failed.
+    Unread,
+    /// There is none.
+    Missing,
+    /// It is longer than a file may be.
+    TooBig,
+    /// It breaks this rule first, at this place.
+    Broken { rule: Rule, place: Place },
+}
+
+/// Why a peer wasn't started.
+#[derive(Clone, Copy, Debug, PartialEq, Eq)]
+pub(crate) enum StartCause {
+    Failed,
+    /// Its model identifier isn't known.
+    Unknown,
+}
+
+/// How a run ends, with the name of the component that it ends by. Points are counts.
+#[derive(Debug, Drop)]
+pub(crate) enum End {
+    /// at the stop
+    Stop,
+    /// where a component asked for the end
+    Asked,
+    /// before the step from a point to an end, whose size isn't the plan's, where this component takes no other
+    FixedStep { component: Text, at: u64, end: u64 },
+    /// by the first answer that isn't good, of this component
+    Bad { component: Text, why: Why },
+    /// by a put that failed
+    WriteFault,
 }

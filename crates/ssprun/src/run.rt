@@ -1,30 +1,30 @@
-ghost use Rattle.std.specs.Prelude.{◌≡◌, ◌+◌, ◌<◌, true, List, IfOk, IfSome, length, ◌≤◌, ◌^◌, ℕ, codes, string_bytes};
-ghost use Rattle.command_line.specs.Line.{IsWithin, line_of, texts};
-ghost use Rattle.fmu_peer.specs.Start.{IsStarted};
-ghost use Rattle.single_fmu.specs.System.{system_of};
-ghost use Rattle.step_master.specs.Alone.{IsAlone};
-ghost use Rattle.ssprun.specs.System.{description_path};
-ghost use Rattle.ssprun.specs.Facts.{BytesFacts, Facts, LineFacts, StartFacts, file_of, shelf, stage};
-ghost use Rattle.ssprun.specs.Rows.{EndRow, FileRow, FixedRow, RuleRow, LinkRow, MemoryRow, MisreplyRow, PeerRow, RefusalRow, StatusRow, TraceRow, WordsRow, WriteRow, command};
-ghost use Rattle.run_model.specs.declared.plan.EndKind.{EndKind};
-ghost use Rattle.run_model.specs.Text.{Instant};
-ghost use Rattle.run_model.specs.Trace.{IsTrace, Run};
-ghost use Rattle.ssprun.specs.Lines.{NamesFile};
-ghost use Rattle.ssprun.specs.Prepared.{IsPrepared};
-ghost use Rattle.ssprun.specs.Refusing.{IsRefusal};
+ghost use Rattle.std.specs.Prelude.{◌≡◌, ◌+◌, ◌<◌, ◌≤◌, ◌^◌, length, map};
+ghost use Rattle.command_line.specs.Line.{IsWithin, KeepsLimits, line_of, line_with, texts};
+ghost use Rattle.fmu_peer.specs.Start.{SpawnerView};
+ghost use Rattle.run_model.specs.Laws.{OneTrace};
+ghost use Rattle.sim_base.specs.Sink.{SinkView};
+ghost use Rattle.system_model.specs.declared.system.System.{System};
+ghost use Rattle.system_loading.specs.System.{ports_of, system_of};
+ghost use Rattle.ssprun.specs.Facts.{Facts, LineFacts, SystemFacts, task_of};
+ghost use Rattle.ssprun.specs.Happened.{happened, scene, stage};
+ghost use Rattle.ssprun.specs.Peers.{AreKnown, AreStarted, StartsUpTo, with_all_started};
+ghost use Rattle.ssprun.specs.Rows.{KeepsRows};
+ghost use Rattle.ssprun.specs.Runs.{CanRun, Task, names_of};
 
-use crate::lines::{FileLines, refused_line};
-use crate::outcome::Outcome;
-use crate::report::report;
-use command_line::{Options, WordsFault, read_words};
-use fmu_peer::{Peer, Spawner, StartFault};
-use run_model::{System, one_trace};
-use sim_base::{Folder, MOST_FILE_BYTES, Sink};
-use single_fmu::{Fault, make_system, read_shape, taken_laws};
-use std::alloc::{AllocError, Global};
+use crate::loading::load;
+use crate::naming::Naming;
+use crate::outcome::StartCause;
+use crate::peers::{Unstarted, retire_each, start_each};
+use crate::report::Report;
+use command_line::{CommandLine, Options, WordsFault, read_words};
+use fmu_peer::{Spawner, StartFault};
+use run_model::one_trace;
+use sim_base::{Folder, Items, Sink};
+use std::alloc::Global;
 use std::thread::Threads;
-use step_master::{Finished, Room, run_alone};
-use value_types::Shape;
+use step_master::{Master, PrepareEnd, PrepareFault, RunEnd, lives_of_peers, runs_of_machines};
+use system_loading::{Member, make_system, taken_laws};
+use system_model::{Bound, System};
 
 /// Does what the words of a command line say, and answers the program's status.
 ///
@@ -32,7 +32,7 @@ use value_types::Shape;
 /// first call to its closing, and puts its trace on `out`. R, H, T and S are counts: R of them are one second, and the
 /// run goes from S, which is 0 where it isn't given, to T by steps of H. At each status but 0 one line is put on `err`.
 pub fn run_words<R: Threads + Sync, F: Folder, S: Spawner, O: Sink, E: Sink>(
-    _rt: &R,
+    rt: &R,
     alloc: Global,
     words: &[String],
     folder: &mut F,
@@ -40,232 +40,190 @@ pub fn run_words<R: Threads + Sync, F: Folder, S: Spawner, O: Sink, E: Sink>(
     out: &mut O,
     err: &mut E,
 ) -> u8
-    ensures done { EndRow (command (texts words.now) (shelf (F.files folder.old) (F.faults folder.old) (F.faults folder.new))
-        (stage (S.started spawner.old) (S.retired spawner.old) (S.knows spawner.old) (S.faults spawner.old) (O.content out.old) (O.faults out.old))
-        (stage (S.started spawner.new) (S.retired spawner.new) (S.knows spawner.new) (S.faults spawner.new) (O.content out.new) (O.faults out.new))
-        result (E.content err.old) (E.content err.new) (E.faults err.old) (E.faults err.new)) }
-    ensures words { WordsRow (command (texts words.now) (shelf (F.files folder.old) (F.faults folder.old) (F.faults folder.new))
-        (stage (S.started spawner.old) (S.retired spawner.old) (S.knows spawner.old) (S.faults spawner.old) (O.content out.old) (O.faults out.old))
-        (stage (S.started spawner.new) (S.retired spawner.new) (S.knows spawner.new) (S.faults spawner.new) (O.content out.new) (O.faults out.new))
-        result (E.content err.old) (E.content err.new) (E.faults err.old) (E.faults err.new)) }
-    ensures file { FileRow (command (texts words.now) (shelf (F.files folder.old) (F.faults folder.old) (F.faults folder.new))
-        (stage (S.started spawner.old) (S.retired spawner.old) (S.knows spawner.old) (S.faults spawner.old) (O.content out.old) (O.faults out.old))
-        (stage (S.started spawner.new) (S.retired spawner.new) (S.knows spawner.new) (S.faults spawner.new) (O.content out.new) (O.faults out.new))
-        result (E.content err.old) (E.content err.new) (E.faults err.old) (E.faults err.new)) }
-    ensures rule { RuleRow (command (texts words.now) (shelf (F.files folder.old) (F.faults folder.old) (F.faults folder.new))
-        (stage (S.started spawner.old) (S.retired spawner.old) (S.knows spawner.old) (S.faults spawner.old) (O.content out.old) (O.faults out.old))
-        (stage (S.started spawner.new) (S.retired spawner.new) (S.knows spawner.new) (S.faults spawner.new) (O.content out.new) (O.faults out.new))
-        result (E.content err.old) (E.content err.new) (E.faults err.old) (E.faults err.new)) }
-    ensures link { LinkRow (command (texts words.now) (shelf (F.files folder.old) (F.faults folder.old) (F.faults folder.new))
-        (stage (S.started spawner.old) (S.retired spawner.old) (S.knows spawner.old) (S.faults spawner.old) (O.content out.old) (O.faults out.old))
-        (stage (S.started spawner.new) (S.retired spawner.new) (S.knows spawner.new) (S.faults spawner.new) (O.content out.new) (O.faults out.new))
-        result (E.content err.old) (E.content err.new) (E.faults err.old) (E.faults err.new)) }
-    ensures refusal { RefusalRow (command (texts words.now) (shelf (F.files folder.old) (F.faults folder.old) (F.faults folder.new))
-        (stage (S.started spawner.old) (S.retired spawner.old) (S.knows spawner.old) (S.faults spawner.old) (O.content out.old) (O.faults out.old))
-        (stage (S.started spawner.new) (S.retired spawner.new) (S.knows spawner.new) (S.faults spawner.new) (O.content out.new) (O.faults out.new))
-        result (E.content err.old) (E.content err.new) (E.faults err.old) (E.faults err.new)) }
-    ensures misreply { MisreplyRow (command (texts words.now) (shelf (F.files folder.old) (F.faults folder.old) (F.faults folder.new))
-        (stage (S.started spawner.old) (S.retired spawner.old) (S.knows spawner.old) (S.faults spawner.old) (O.content out.old) (O.faults out.old))
-        (stage (S.started spawner.new) (S.retired spawner.new) (S.knows spawner.new) (S.faults spawner.new) (O.content out.new) (O.faults out.new))
-        result (E.content err.old) (E.content err.new) (E.faults err.old) (E.faults err.new)) }
-    ensures fixed { FixedRow (command (texts words.now) (shelf (F.files folder.old) (F.faults folder.old) (F.faults folder.new))
-        (stage (S.started spawner.old) (S.retired spawner.old) (S.knows spawner.old) (S.faults spawner.old) (O.content out.old) (O.faults out.old))
-        (stage (S.started spawner.new) (S.retired spawner.new) (S.knows spawner.new) (S.faults spawner.new) (O.content out.new) (O.faults out.new))
-        result (E.content err.old) (E.content err.new) (E.faults err.old) (E.faults err.new)) }
-    ensures write { WriteRow (command (texts words.now) (shelf (F.files folder.old) (F.faults folder.old) (F.faults folder.new))
-        (stage (S.started spawner.old) (S.retired spawner.old) (S.knows spawner.old) (S.faults spawner.old) (O.content out.old) (O.faults out.old))
-        (stage (S.started spawner.new) (S.retired spawner.new) (S.knows spawner.new) (S.faults spawner.new) (O.content out.new) (O.faults out.new))
-        result (E.content err.old) (E.content err.new) (E.faults err.old) (E.faults err.new)) }
-    ensures memory { MemoryRow (command (texts words.now) (shelf (F.files folder.old) (F.faults folder.old) (F.faults folder.new))
-        (stage (S.started spawner.old) (S.retired spawner.old) (S.knows spawner.old) (S.faults spawner.old) (O.content out.old) (O.faults out.old))
-        (stage (S.started spawner.new) (S.retired spawner.new) (S.knows spawner.new) (S.faults spawner.new) (O.content out.new) (O.faults out.new))
-        result (E.content err.old) (E.content err.new) (E.faults err.old) (E.faults err.new)) }
-    ensures status { StatusRow (command (texts words.now) (shelf (F.files folder.old) (F.faults folder.old) (F.faults folder.new))
-        (stage (S.started spawner.old) (S.retired spawner.old) (S.knows spawner.old) (S.faults spawner.old) (O.content out.old) (O.faults out.old))
-        (stage (S.started spawner.new) (S.retired spawner.new) (S.knows spawner.new) (S.faults spawner.new) (O.content out.new) (O.faults out.new))
-        result (E.content err.old) (E.content err.new) (E.faults err.old) (E.faults err.new)) }
-    ensures peer { PeerRow (command (texts words.now) (shelf (F.files folder.old) (F.faults folder.old) (F.faults folder.new))
-        (stage (S.started spawner.old) (S.retired spawner.old) (S.knows spawner.old) (S.faults spawner.old) (O.content out.old) (O.faults out.old))
-        (stage (S.started spawner.new) (S.retired spawner.new) (S.knows spawner.new) (S.faults spawner.new) (O.content out.new) (O.faults out.new))
-        result (E.content err.old) (E.content err.new) (E.faults err.old) (E.faults err.new)) }
-    ensures trace { TraceRow (command (texts words.now) (shelf (F.files folder.old) (F.faults folder.old) (F.faults folder.new))
-        (stage (S.started spawner.old) (S.retired spawner.old) (S.knows spawner.old) (S.faults spawner.old) (O.content out.old) (O.faults out.old))
-        (stage (S.started spawner.new) (S.retired spawner.new) (S.knows spawner.new) (S.faults spawner.new) (O.content out.new) (O.faults out.new))
-        result (E.content err.old) (E.content err.new) (E.faults err.old) (E.faults err.new)) }
-    ensures one { (r : Run) (is js : List Instant) (k l : EndKind) (p q : ℕ) → IsTrace r is k p → IsTrace r js l q → (is ≡ js) × (k ≡ l) × (p ≡ q) }
+    ensures rows { KeepsRows (happened (texts words.now)
+        (stage (F.view folder.old) (S.view spawner.old) (O.view out.old))
+        (stage (F.view folder.new) (S.view spawner.new) (O.view out.new))
+        (E.view err.old) (E.view err.new) result) }
+    ensures one { OneTrace }
 {
     one_trace();
-    let outcome = run(alloc, words, folder, spawner, out);
-    report(&outcome, err)
+    run(rt, alloc, words, folder, spawner, out).put(err)
 }
 
 // Does what the words say, and answers how it ended.
-fn run<F: Folder, S: Spawner, O: Sink>(
+fn run<R: Threads + Sync, F: Folder, S: Spawner, O: Sink>(
+    rt: &R,
     alloc: Global,
     words: &[String],
     folder: &mut F,
     spawner: &mut S,
     out: &mut O,
-) -> Outcome
-    ensures { Facts result (texts words.now) (shelf (F.files folder.old) (F.faults folder.old) (F.faults folder.new))
-        (stage (S.started spawner.old) (S.retired spawner.old) (S.knows spawner.old) (S.faults spawner.old) (O.content out.old) (O.faults out.old))
-        (stage (S.started spawner.new) (S.retired spawner.new) (S.knows spawner.new) (S.faults spawner.new) (O.content out.new) (O.faults out.new)) }
+) -> Report
+    ensures { Facts result.outcome (texts words.now)
+        (stage (F.view folder.old) (S.view spawner.old) (O.view out.old))
+        (stage (F.view folder.new) (S.view spawner.new) (O.view out.new)) }
 {
     match read_words(alloc, words) {
-        Ok(options) => run_options(alloc, &options, folder, spawner, out),
-        Err(WordsFault::NoLine) => Outcome::Words,
-        Err(WordsFault::Memory) => Outcome::Memory,
+        Ok(line) => run_command(rt, alloc, line, folder, spawner, out),
+        Err(WordsFault::NoLine) => Report::words(alloc),
+        Err(WordsFault::Memory) => Report::memory(alloc),
     }
 }
 
-// Runs the FMU in the directory that the options name.
-fn run_options<F: Folder, S: Spawner, O: Sink>(
+// Does what a line asks for, by its command.
+fn run_command<R: Threads + Sync, F: Folder, S: Spawner, O: Sink>(
+    rt: &R,
+    alloc: Global,
+    line: CommandLine<'_>,
+    folder: &mut F,
+    spawner: &mut S,
+    out: &mut O,
+) -> Report
+    requires { KeepsLimits (line_of line) }
+    ensures { LineFacts result.outcome (line_of line.entry)
+        (stage (F.view folder.old) (S.view spawner.old) (O.view out.old))
+        (stage (F.view folder.new) (S.view spawner.new) (O.view out.new)) }
+{
+    match line {
+        CommandLine::One(options) => run_one(rt, alloc, &options, folder, spawner, out),
+    }
+}
+
+// Runs the FMU in a directory.
+fn run_one<R: Threads + Sync, F: Folder, S: Spawner, O: Sink>(
+    rt: &R,
     alloc: Global,
     options: &Options<'_>,
     folder: &mut F,
     spawner: &mut S,
     out: &mut O,
-) -> Outcome
-    requires { IsWithin (line_of options.now) }
-    ensures { LineFacts result (line_of options.now) (shelf (F.files folder.old) (F.faults folder.old) (F.faults folder.new))
-        (stage (S.started spawner.old) (S.retired spawner.old) (S.knows spawner.old) (S.faults spawner.old) (O.content out.old) (O.faults out.old))
-        (stage (S.started spawner.new) (S.retired spawner.new) (S.knows spawner.new) (S.faults spawner.new) (O.content out.new) (O.faults out.new)) }
-{
-    let Ok((path, lines)) = name_file(alloc, options.directory) else {
-        return Outcome::Memory;
-    };
-    match folder.read(alloc, path.as_str(), MOST_FILE_BYTES) {
-        Ok(bytes) => run_bytes(alloc, options, lines.name.as_slice(), &bytes, spawner, out),
-        Err(fault) => lines.into_outcome(fault),
-    }
-}
-
-// Runs the FMU whose description the bytes are. The name is that of their file, as a line has it.
-fn run_bytes<S: Spawner, O: Sink>(
-    alloc: Global,
-    options: &Options<'_>,
-    name: &[u8],
-    bytes: &[u8],
-    spawner: &mut S,
-    out: &mut O,
-) -> Outcome
-    requires within { IsWithin (line_of options.now) }
-    requires name { name.now ≡ file_of (line_of options.now) }
-    requires short { length bytes.now ≤ 2 ^ 24 }
-    ensures { BytesFacts result (line_of options.now) bytes.now
-        (stage (S.started spawner.old) (S.retired spawner.old) (S.knows spawner.old) (S.faults spawner.old) (O.content out.old) (O.faults out.old))
-        (stage (S.started spawner.new) (S.retired spawner.new) (S.knows spawner.new) (S.faults spawner.new) (O.content out.new) (O.faults out.new)) }
+) -> Report
+    requires { IsWithin options.now.plan }
+    ensures { LineFacts result.outcome (line_with options.now)
+        (stage (F.view folder.old) (S.view spawner.old) (O.view out.old))
+        (stage (F.view folder.new) (S.view spawner.new) (O.view out.new)) }
 {
     taken_laws();
-    match read_shape(alloc, bytes, options.plan.resolution) {
-        Ok(shape) => run_shape(alloc, options, shape, spawner, out),
-        Err(fault) => refuse(alloc, name, fault),
+    match load(alloc, options, folder) {
+        Ok(members) => run_members(rt, alloc, options, members, spawner, out),
+        Err(report) => report,
     }
 }
 
-// The outcome of a file that is at fault.
-fn refuse(alloc: Global, file: &[u8], fault: Fault) -> Outcome
-    ensures { IsRefusal file.now fault result }
-{
-    match fault {
-        Fault::Broken { rule, place } => match refused_line(alloc, file, rule, &place) {
-            Ok(line) => Outcome::Broken { line },
-            Err(_) => Outcome::Memory,
-        },
-        Fault::Memory => Outcome::Memory,
-    }
-}
-
-// The path of the description, and the lines that name it.
-fn name_file(alloc: Global, directory: &str) -> Result<(String, FileLines), AllocError>
-    ensures path { IfOk result (λ file. string_bytes file.0 ≡ description_path directory.now) }
-    ensures lines { IfOk result (λ file. NamesFile (description_path directory.now) file.1) }
-{
-    let path = description_path(alloc, directory)?;
-    let lines = FileLines::new(alloc, path.as_str())?;
-    Ok((path, lines))
-}
-
-fn description_path(alloc: Global, directory: &str) -> Result<String, AllocError>
-    ensures { IfOk result (λ path. string_bytes path ≡ description_path directory.now) }
-{
-    let mut path = String::from_str(alloc, directory)?;
-    path.push_str("/modelDescription.xml")?;
-    Ok(path)
-}
-
-/// What a run needs before its peer starts.
-#[derive(Drop)]
-struct Prepared {
-    shape: Shape,
-    system: System,
-    room: Room,
-}
-
-// All the memory of the run.
-fn prepare(alloc: Global, shape: Shape) -> Result<Prepared, AllocError>
-    ensures { IfOk result (IsPrepared shape) }
-{
-    let system = make_system(alloc, &shape)?;
-    let room = Room::new(alloc, &system)?;
-    Ok(Prepared {
-        shape,
-        system,
-        room,
-    })
-}
-
-fn run_shape<S: Spawner, O: Sink>(
+// Runs the system of these components.
+fn run_members<R: Threads + Sync, S: Spawner, O: Sink>(
+    rt: &R,
     alloc: Global,
     options: &Options<'_>,
-    shape: Shape,
+    members: Vec<Member>,
     spawner: &mut S,
     out: &mut O,
-) -> Outcome
-    requires within { IsWithin (line_of options.now) }
-    requires alone { IsAlone shape (system_of shape) }
-    requires token { length shape.token ≤ 2 ^ 24 }
-    ensures { StartFacts result (line_of options.now) shape
-        (stage (S.started spawner.old) (S.retired spawner.old) (S.knows spawner.old) (S.faults spawner.old) (O.content out.old) (O.faults out.old))
-        (stage (S.started spawner.new) (S.retired spawner.new) (S.knows spawner.new) (S.faults spawner.new) (O.content out.new) (O.faults out.new)) }
+) -> Report
+    requires within { IsWithin options.now.plan }
+    requires runnable { CanRun (system_of members.items) }
+    requires few { length members.items < 2 ^ 32 }
+    requires few_ports { length (ports_of members.items) < 2 ^ 32 }
+    ensures { SystemFacts result.outcome (task_of (line_with options.now)) (system_of members.items)
+        (scene (S.view spawner.old) (O.view out.old)) (scene (S.view spawner.new) (O.view out.new)) }
 {
-    let Ok(mut prepared) = prepare(alloc, shape) else {
-        return Outcome::Memory;
-    };
-    match spawner.start(alloc, "builtin", "fmu", options.directory, &prepared.shape) {
-        Ok(peer) => run_peer(peer, options, &mut prepared, spawner, out),
-        Err(StartFault::Failed) => Outcome::StartFailed,
-        Err(StartFault::Unknown) => Outcome::Unknown,
-        Err(StartFault::Memory) => Outcome::Memory,
+    match make_system(alloc, members) {
+        Ok(system) => run_system(rt, alloc, options, system, spawner, out),
+        Err(_) => Report::memory(alloc),
     }
 }
 
-// Runs the peer from its first call to its closing, and takes it back.
-fn run_peer<S: Spawner, O: Sink>(
-    peer: S::Link,
+// Runs a system: starts its peers, and takes them back at the end.
+fn run_system<R: Threads + Sync, S: Spawner, O: Sink>(
+    rt: &R,
+    alloc: Global,
     options: &Options<'_>,
-    prepared: &mut Prepared,
+    system: System,
     spawner: &mut S,
     out: &mut O,
-) -> Outcome
-    requires within { IsWithin (line_of options.now) }
-    requires prepared { IsPrepared prepared.old.shape prepared.old }
-    requires alone { IsAlone prepared.old.shape (system_of prepared.old.shape) }
-    requires peer { IsStarted (codes "builtin") (codes "fmu") options.now.directory.now prepared.old.shape (S.Link.view peer) }
-    requires known { S.knows spawner.old prepared.old.shape.identifier ≡ true }
-    requires fewer { IfSome (S.retired spawner.old) (λ views. length views < S.started spawner.old) }
-    ensures { (before : ℕ) → S.started spawner.old ≡ before + 1 → StartFacts result (line_of options.now) prepared.old.shape
-        (stage before (S.retired spawner.old) (S.knows spawner.old) (S.faults spawner.old) (O.content out.old) (O.faults out.old))
-        (stage (S.started spawner.new) (S.retired spawner.new) (S.knows spawner.new) (S.faults spawner.new) (O.content out.new) (O.faults out.new)) }
+) -> Report
+    requires within { IsWithin options.now.plan }
+    requires runnable { CanRun system }
+    ensures { SystemFacts result.outcome (task_of (line_with options.now)) system
+        (scene (S.view spawner.old) (O.view out.old)) (scene (S.view spawner.new) (O.view out.new)) }
 {
-    let Finished { peer, end } = run_alone(
-        peer,
-        &prepared.system,
-        &options.plan,
-        &mut prepared.room,
-        out,
-    );
-    let _ = peer.phase();
-    spawner.retire(peer);
-    Outcome::Ran { end }
+    let components = system.components.as_slice();
+    let Ok(naming) = Naming::new(alloc, components) else {
+        return Report::memory(alloc);
+    };
+    let Ok(room) = Vec::with_capacity(alloc, components.len()) else {
+        return Report::memory(alloc);
+    };
+    match start_each(alloc, options.directory, components, room, spawner) {
+        Ok(peers) => run_peers(rt, alloc, options, system, naming, peers, spawner, out),
+        Err(unstarted) => give_up(alloc, naming, unstarted, spawner),
+    }
+}
+
+// Where a peer wasn't started: takes back those before it.
+fn give_up<S: Spawner>(
+    alloc: Global,
+    naming: Naming,
+    unstarted: Unstarted<S::Link>,
+    spawner: &mut S,
+) -> Report
+    requires one { unstarted.component.0 < length naming.names.items }
+    requires fewer { length (S.view spawner.old).retired + length unstarted.peers.items ≤ (S.view spawner.old).started }
+    ensures { (task : Task) (system : System) (before : SpawnerView) (out : SinkView) → naming.names.items ≡ names_of system →
+        StartsUpTo task.directory system.components unstarted.component.0 unstarted.fault (map S.Link.view unstarted.peers.items) before (S.view spawner.old) →
+        SystemFacts result.outcome task system (scene before out) (scene (S.view spawner.new) out) }
+{
+    let Unstarted {
+        peers,
+        component,
+        fault,
+    } = unstarted;
+    retire_each(peers, spawner);
+    match fault {
+        StartFault::Failed => naming.not_started(component, StartCause::Failed),
+        StartFault::Unknown => naming.not_started(component, StartCause::Unknown),
+        StartFault::Memory => Report::memory(alloc),
+    }
+}
+
+// Runs the peers from their first calls to their closing, and takes them back.
+fn run_peers<R: Threads + Sync, S: Spawner, O: Sink>(
+    rt: &R,
+    alloc: Global,
+    options: &Options<'_>,
+    system: System,
+    naming: Naming,
+    peers: Vec<S::Link>,
+    spawner: &mut S,
+    out: &mut O,
+) -> Report
+    requires within { IsWithin options.now.plan }
+    requires runnable { CanRun system }
+    requires names { naming.names.items ≡ names_of system }
+    requires each { length peers.items ≡ length system.components }
+    requires started { AreStarted options.now.directory.now system.components (map S.Link.view peers.items) }
+    requires fewer { length (S.view spawner.old).retired + length peers.items ≤ (S.view spawner.old).started }
+    ensures { (before : SpawnerView) → AreKnown before system.components → S.view spawner.old ≡ with_all_started before (length peers.items) →
+        SystemFacts result.outcome (task_of (line_with options.now)) system (scene before (O.view out.old)) (scene (S.view spawner.new) (O.view out.new)) }
+{
+    lives_of_peers();
+    runs_of_machines();
+    let bound = Bound {
+        components: Items::from_vec(Vec::new(alloc)),
+        unreached: 0,
+    };
+    match Master::prepare(alloc, system, bound, peers, options.plan) {
+        Ok(master) => {
+            let mut master = master;
+            let end = master.run(rt, out);
+            retire_each(master.close(), spawner);
+            naming.ended(end)
+        }
+        Err(PrepareEnd { peers, fault }) => {
+            retire_each(peers, spawner);
+            match fault {
+                PrepareFault::Memory => Report::memory(alloc),
+                PrepareFault::Bad(bad) => naming.ended(RunEnd::Bad(bad)),
+            }
+        }
+    }
 }

@@ -1,15 +1,12 @@
-ghost use Rattle.std.specs.Prelude.{None, false};
-
 use crate::run::run_words;
-use bench_fmus::{Bench, Counter, Scripts};
+use bench_fmus::{Bench, Scripts};
 use fmi_calls::{BadStatus, Content, Kind, Reply};
-use fmu_peer::{PeerFault, Spawner, StartFault};
+use fmu_peer::{PeerFault, Spawner};
 use sim_base::{Items, MemFile, MemFolder, MemSink, Text};
 use std::alloc::{AllocError, Global};
 use std::process::Abort;
 use std::test::Fail;
 use std::thread::Threads;
-use value_types::Shape;
 
 const WORDS: &str = "one|d|--resolution|1000|--step|10|--stop|20";
 
@@ -501,37 +498,6 @@ static SCRIPTS: [ScriptCase; 14] = [
     },
 ];
 
-// A spawner that knows no model.
-#[derive(Drop)]
-struct Stranger;
-
-impl Spawner for Stranger {
-    type Link = Counter;
-
-    ghost started = { λ s. 0 };
-
-    ghost retired = { λ s. None };
-
-    ghost knows = { λ s identifier. false };
-
-    ghost faults = { λ s. 0 };
-
-    ghost fewer = { λ s. tt };
-
-    fn start(
-        &mut self,
-        _alloc: Global,
-        _host: &str,
-        _name: &str,
-        _directory: &str,
-        _shape: &Shape,
-    ) -> Result<Counter, StartFault> {
-        Err(StartFault::Unknown)
-    }
-
-    fn retire(&mut self, _link: Counter) {}
-}
-
 fn split_words(alloc: Global, line: &str) -> Result<Vec<String>, AllocError> {
     let mut words = Vec::new(alloc);
     for word in line.split('|') {
@@ -559,7 +525,7 @@ fn make_folder(alloc: Global, file: &File, reads: &[u64]) -> Result<MemFolder, A
             bytes: Items::from_vec(text.as_bytes().to_vec(alloc)?),
         })?;
     }
-    Ok(MemFolder::new(files, reads.to_vec(alloc)?))
+    Ok(MemFolder::new(alloc, files, reads.to_vec(alloc)?))
 }
 
 fn make_bench(rt: &impl Abort, alloc: Global, case: &Case) -> Result<Bench, AllocError> {
@@ -580,8 +546,8 @@ fn assert_case<R: Abort + Threads + Sync, S: Spawner>(
 ) -> Result<(), AllocError> {
     let words = split_words(alloc, case.words)?;
     let mut folder = make_folder(alloc, &case.file, case.reads)?;
-    let mut out = MemSink::with_room(alloc, 200, case.outs.to_vec(alloc)?)?;
-    let mut err = MemSink::with_room(alloc, 200, case.errs.to_vec(alloc)?)?;
+    let mut out = MemSink::with_room(alloc, 200, 8, case.outs.to_vec(alloc)?)?;
+    let mut err = MemSink::with_room(alloc, 200, 1, case.errs.to_vec(alloc)?)?;
     let status = run_words(rt, alloc, &words, &mut folder, spawner, &mut out, &mut err);
     assert_eq!(rt; out.bytes.as_slice(), case.out.as_bytes());
     assert_eq!(rt; err.bytes.as_slice(), case.err.as_bytes());
@@ -595,17 +561,6 @@ fn a_command_gives_its_trace_or_its_line(rt: HostRuntime) -> Result<(), Fail> {
         let mut bench = make_bench(&rt, rt.alloc(), case)?;
         assert_case(&rt, rt.alloc(), case, &mut bench)?;
     }
-    Ok(())
-}
-
-#[test]
-fn an_unknown_model_gives_its_line(rt: HostRuntime) -> Result<(), Fail> {
-    let case = Case {
-        status: 5,
-        err: "unknown fmu\n",
-        ..REFUSED
-    };
-    assert_case(&rt, rt.alloc(), &case, &mut Stranger)?;
     Ok(())
 }
 
@@ -633,8 +588,8 @@ fn a_counter_wraps_in_its_type(rt: HostRuntime) -> Result<(), Fail> {
         let words = split_words(alloc, WORDS)?;
         let mut folder = make_folder(alloc, &File::Counter(kind, start), &[])?;
         let mut bench = Bench::new(alloc, None, Vec::new(alloc));
-        let mut out = MemSink::with_room(alloc, 200, Vec::new(alloc))?;
-        let mut err = MemSink::with_room(alloc, 200, Vec::new(alloc))?;
+        let mut out = MemSink::with_room(alloc, 200, 8, Vec::new(alloc))?;
+        let mut err = MemSink::with_room(alloc, 200, 8, Vec::new(alloc))?;
         let expected = format!(in alloc;
             "trace 1 1000 0 20\nport 0 {kind} fmu y\nat 0 0\n0 0\nat 10 0\n0 {first}\nat 20 0\n0 {second}\nend stop 20\n"
         )?;

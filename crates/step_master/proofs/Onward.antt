@@ -1,174 +1,236 @@
--- From instant to instant: what is put, and what the machine's run says of it.
-use Rattle.std.proofs.Common.{◌≡◌, inr, ℕ, ◌+◌, ◌-◌, ◌<◌, ◌≤◌, Bool, true, false, nat_le, List, [], ◌∷◌, ◌++◌, length, take, map, Option, Some, None, refl, sym, ap, ◌∙◌, subst, append_assoc, arith}
-use Rattle.std.specs.Prelude.{ℤ}
-use Rattle.std.proofs.lemmas.List.{append-nil, take-append-le, take_all}
-use Rattle.std.proofs.Math.Seq.{take-append_seam, take-append-add}
+-- Where a run of told machines goes from a point: the values of its instant, the step and what follows.
+use Rattle.std.proofs.Common.{◌≡◌, ◌≢◌, ℕ, zero, suc, ◌+◌, ◌-◌, ◌<◌, ◌==◌, ℤ, Bool, true, false, List, [], ◌∷◌, Option, Some, None, refl, sym, ap, ap₂, ◌∙◌, subst, arith, length, map, not}
+use Rattle.std.specs.Prelude.{All, ◌&&◌, if◌then◌else◌, min, position, slice_index_or}
+use Rattle.std.specs.List.{list_any, slice_get}
+use Rattle.std.proofs.lemmas.List.{get_or_default}
+use Rattle.std.proofs.lemmas.List.Elements.{All-head, All-map, All-tail}
+use Rattle.std.proofs.lemmas.Option.{none-some as none_some}
 use Rattle.std.proofs.lemmas.Bool.Decides.{nat_tests}
-use Rattle.sim_base.specs.Told.{added, AddsPart}
 use Rattle.value_types.specs.declared.shape.Shape.{Shape}
-use Rattle.fmu_peer.specs.Machine.{Machine, after}
-use Rattle.fmu_peer.specs.View.{View}
-use Rattle.run_model.specs.declared.system.System.{System}
-use Rattle.run_model.specs.declared.plan.Plan.{Plan}
-use Rattle.run_model.specs.declared.plan.EndKind.TheVariants as K
-use Rattle.run_model.specs.Text.{Instant, instants_text, instant_text, end_text}
-use Rattle.run_model.specs.Steps.{IsBound}
-use Rattle.run_model.specs.Trace.{AtStop, WhereAsked, WhereFixed, ByStep, IsTrace, instant_of, after_step, beginning, shown, is_terminating, step_to}
-use Rattle.run_model.specs.Behaved.{WellBehaved, AtFirst}
-use Rattle.step_master.specs.declared.run_end.RunEnd.TheVariants.{WriteFault}
-use Rattle.step_master.specs.Alone.{IsPlan, IsAlone}
-use Rattle.step_master.specs.Follow.{Tells, ShowsValues}
-use Rattle.step_master.specs.Progress.{run_of, Progress, BeginsAt}
-use Rattle.step_master.specs.End.{Completes}
-use Rattle.step_master.specs.Size.{TakesSize}
-use Rattle.step_master.proofs.Exists.{goes_on, good_step, shown_solves, step_lacks, step_kept, step_asks, stands_after}
+use Rattle.value_types.proofs.IndexLemmas.{position-map}
+use Rattle.fmi_calls.specs.declared.call.Call.TheVariants as C
+use Rattle.fmu_peer.specs.Machine.{Machine, MachineState, after}
+use Rattle.system_model.specs.declared.system.Component.{Component}
+use Rattle.system_model.specs.Sound.{IsSound}
+use Rattle.run_model.specs.Run.{IsFmu, Run, Situation, each, each_from}
+use Rattle.run_model.specs.AfterInstant as F
+use Rattle.run_model.specs.AfterInstant.{Done, Following}
+use Rattle.run_model.specs.Behaved.{IsAnsweredWell}
+use Rattle.run_model.specs.Equations.{Solves}
+use Rattle.run_model.specs.Stepping as P
+use Rattle.run_model.specs.Stepping.{Next, asks_to_end, departing, end_in, is_terminating, kept_at, step_to, stepped, steppers}
+use Rattle.run_model.specs.Steps.{AllMeet, IsBound, MayAsk, Stepper, StopsFirst, least_or, met}
+use Rattle.run_model.specs.Trace.{Leads, LeadsBy}
+use Rattle.run_model.proofs.States.{each-get}
+use Rattle.step_master.specs.Carried.{any_asks_to_end, gets, values_of}
+use Rattle.step_master.specs.Course.{IsBoundOf, first_unfit, stepping}
+use Rattle.step_master.specs.Log.{Sent}
+use Rattle.step_master.specs.Stage.{IsAnswered}
+use Rattle.step_master.specs.System.{IsBuilt, shapes_of}
+use Rattle.step_master.proofs.Begun.{IsHere}
+use Rattle.step_master.proofs.Looking.{AreReplies, any_asks, one_of, reading_stays, stage_states, states_by, values_are}
+use Rattle.step_master.proofs.Phases.{good_step_end}
+use Rattle.step_master.proofs.Prepared.{get_here, got, is_within}
+use Rattle.step_master.proofs.Quiet.{AreNever, bound_on, departing_is, is_done, next_never, no_event, outputs, outputs_solve, updated_states}
+use Rattle.step_master.proofs.SideBySide.{AreAll, all_on, each_length, each_same}
 
--- ---- text
+-- ---- lists
 
-pub added_nil : (o : Option (List ℕ)) → added o [] ≡ o
-added_nil None = refl
-added_nil (Some xs) = ap Some (append-nil xs)
+met_same : (b d : ℕ) (xs : List ℕ) → d ≡ b → All (λ (x : ℕ). x ≡ b) xs → least_or d xs ≡ b
+met_same b d [] e all = e
+met_same b d (x ∷ xs) e all =
+    let head = All-head (λ (y : ℕ). y ≡ b) x xs all in
+    let rest = met_same b x xs head (All-tail (λ (y : ℕ). y ≡ b) x xs all) in
+    ap₂ min head rest ∙ both b where
+      both : (b : ℕ) → min b b ≡ b
+      both b = omega arith
 
-pub added_added : (o : Option (List ℕ)) (a b : List ℕ) → added (added o a) b ≡ added o (a ++ b)
-added_added None a b = refl
-added_added (Some xs) a b = ap Some (append_assoc xs a b)
+const_at : (xs : List Stepper) (u i : ℕ) → i < length xs → slice_index_or (map (λ (x : Stepper). u) xs) i 0 ≡ u
+const_at [] u i w = absurd (omega (arith, w))
+const_at (x ∷ xs) u zero w = refl
+const_at (x ∷ xs) u (suc i) w = const_at xs u i (omega (arith, w))
 
-pub instants_text-append : (is js : List Instant) → instants_text (is ++ js) ≡ instants_text is ++ instants_text js
-instants_text-append [] js = refl
-instants_text-append (i ∷ is) js =
-    ap (λ w. instant_text i.t i.n i.values ++ w) (instants_text-append is js) ∙ sym (append_assoc (instant_text i.t i.n i.values) (instants_text is) (instants_text js))
+-- what depends on the component alone
+map_from : {X Y : Type 0} (f : ℕ → Component → Machine → MachineState → X) (g : X → Y) (h : Component → Y) → ((i : ℕ) (c : Component) (m : Machine) (s : MachineState) → g (f i c m s) ≡ h c) →
+    (k : ℕ) (cs : List Component) (ms : List Machine) (ss : List MachineState) → length ms ≡ length cs → length ss ≡ length cs → map g (each_from f k cs ms ss) ≡ map h cs
+map_from f g h same k [] ms ss e l = refl
+map_from f g h same k (c ∷ cs) [] ss e l = absurd (omega (arith, e))
+map_from f g h same k (c ∷ cs) (m ∷ ms) [] e l = absurd (omega (arith, l))
+map_from f g h same k (c ∷ cs) (m ∷ ms) (s ∷ ss) e l = ap₂ ◌∷◌ (same k c m s) (map_from f g h same (suc k) cs ms ss (omega (arith, e)) (omega (arith, l)))
 
-within_or_past : (b : Bool) (xs ys : List ℕ) (n : ℕ) → nat_le n (length xs) ≡ b → (k : ℕ) × (take n xs ≡ take k (xs ++ ys))
-within_or_past true xs ys n e = (n, sym (take-append-le n xs ys (grind (arith, nat_tests))))
-within_or_past false xs ys n e = (length xs, take_all n xs (grind (arith, nat_tests)) ∙ sym (take-append_seam xs ys))
+-- what holds for each FMU
+pub all_each : {X : Type 0} (r : Run) (ss : List MachineState) (f : ℕ → Component → Machine → MachineState → X) (Q : X → Type 0) →
+    ((i : ℕ) (c : Component) (m : Machine) (s : MachineState) → IsFmu r ss i c m s → Q (f i c m s)) → All Q (each r ss f)
+all_each r ss f Q h = λ k d w.
+    let x = got (each r ss f) k w in
+    let at = each-get f 0 k r.system.components r.machines ss x.0 x.1 in
+    let place : 0 + k ≡ k = omega arith in
+    subst Q (get_here (each r ss f) k x.0 x.1 ∙ get_or_default (each r ss f) k x.0 d w)
+    (subst Q (sym (at.is ∙ ap (λ (n : ℕ). f n at.component at.machine at.state) place))
+    (h k at.component at.machine at.state (record { component = at.of_c; machine = at.of_m; state = at.of_s })))
 
--- a front of what goes on behind some text is a front of the whole
-pub part_behind : (o p q : Option (List ℕ)) (a b : List ℕ) → p ≡ added o a → AddsPart p q b → AddsPart o q (a ++ b)
-part_behind o p q a b e h =
-    (length a + h.0, h.1 ∙ ap (λ x. added x (take h.0 b)) e ∙ added_added o a (take h.0 b) ∙ ap (added o) (sym (take-append-add a b h.0)))
+-- ---- sizes
 
--- a front of a front is one
-pub part_more : (o q : Option (List ℕ)) (a b : List ℕ) → AddsPart o q a → AddsPart o q (a ++ b)
-part_more o q a b h = let k = within_or_past (nat_le h.0 (length a)) a b h.0 refl in (k.0, h.1 ∙ ap (added o) k.1)
+unfit_none : (b : Bool) (size step i : ℕ) (o : Option ℕ) → (size == step) ≡ b → (if b then None else o) ≡ None → size ≢ step → o ≡ Some i → ⊥
+unfit_none true size step i o e h other is = absurd (other (equal size step e)) where
+  equal : (a b : ℕ) → (a == b) ≡ true → a ≡ b
+  equal a b q = grind (arith, nat_tests)
+unfit_none false size step i o e h other is = absurd (none_some i (sym h ∙ is))
 
--- ---- the invariant of the loop
+unfit_some : (b : Bool) (size step i : ℕ) (o : Option ℕ) → (size == step) ≡ b → (if b then None else o) ≡ Some i → (size ≢ step) × (o ≡ Some i)
+unfit_some true size step i o e h = absurd (none_some i h)
+unfit_some false size step i o e h = (unequal size step e, h) where
+  unequal : (a b : ℕ) → (a == b) ≡ false → a ≢ b
+  unequal a b q = grind (arith, nat_tests)
 
--- behind the header the text of these instants was put, and where a machine is told its run came here behind them
-pub record SoFar (system : System) (plan : Plan) (first v : View) (t : ℕ) (before present : Option (List ℕ)) : Type 0 where
-  pub done : List Instant
-  pub text : present ≡ added before (instants_text done)
-  pub trace : (m : Machine) → BeginsAt (run_of system plan m) m first → WellBehaved (run_of system plan m) → Progress (run_of system plan m) m v t done
+no_event_if : {X : Type 0} (b : Bool) (x y : X) → b ≡ false → (if b then x else y) ≡ y
+no_event_if true x y h = absurd (cc)
+no_event_if false x y h = refl
 
-pub so_far_begins : (system : System) (plan : Plan) (v : View) (before : Option (List ℕ)) → SoFar system plan v v plan.start before before
-so_far_begins system plan v before = record {
-  done = [];
-  text = sym (added_nil before);
-  trace = λ m b well. record {
-    situation = beginning (run_of system plan m);
-    state = b.state;
-    stands = record { reached = AtFirst _ refl; states = b.is_first; point = refl; first = refl };
-    told = b.told;
-    onward = λ is kind end c. c;
-  };
-}
+module _ (r : Run) (sound : IsSound r.system) (built : IsBuilt r.system) (t : ℕ) (ss : List MachineState) where
+  -- ---- the values of the instant
 
-module _ (system : System) (plan : Plan) (shape : Shape) (alone : IsAlone shape system) (p : IsPlan plan) (first v u : View) (t : ℕ) (o a b : Option (List ℕ))
-    (so : SoFar system plan first v t o a) where
-  -- the instant that was put
-  abbrev pub one : List (Option ℤ) → Instant
-  one values = record { t = t; n = 0; values = values }
+  -- the answers to the Gets carry what the outputs show, and leave the states
+  pub reads_are : AreAll r ss → (reads : List Sent) → IsAnswered (shapes_of r.system) (gets r.system.ports) reads → AreReplies r ss reads → values_of reads ≡ outputs r sound built ss
+  reads_are all reads answered replies = values_are r ss all sound reads answered replies
 
-  abbrev pub more : List (Option ℤ) → List Instant
-  more values = so.done ++ one values ∷ []
+  pub reads_leave : AreAll r ss → (reads : List Sent) → IsAnswered (shapes_of r.system) (gets r.system.ports) reads → AreReplies r ss reads → states_by r ss reads ≡ ss
+  reads_leave all reads answered replies = reading_stays r ss all sound reads answered replies
 
-  pub more_text : (values : List (Option ℤ)) → b ≡ added a (instant_text t 0 values) → b ≡ added o (instants_text (more values))
-  more_text values put =
-      put ∙ ap (λ x. added x (instant_text t 0 values)) so.text ∙ added_added o (instants_text so.done) (instant_text t 0 values)
-      ∙ ap (λ w. added o (instants_text so.done ++ w)) (sym (append-nil (instant_text t 0 values)))
-      ∙ ap (added o) (sym (instants_text-append so.done (one values ∷ [])))
+  module _ (s : Situation) (here : IsHere r t ss s) where
+    abbrev pub values_here : List (Option ℤ)
+    values_here = outputs r sound built ss
 
-  one_is : (m : Machine) (pr : Progress (run_of system plan m) m v t so.done) (values : List (Option ℤ)) → ShowsValues v system.ports values →
-      instant_of pr.situation (map (shown m pr.state) system.ports) ≡ one values
-  one_is m pr values shows =
-      ap (λ n. record { t = n; n = pr.situation.n; values = map (shown m pr.state) system.ports }) pr.stands.point
-      ∙ ap (λ n. record { t = t; n = n; values = map (shown m pr.state) system.ports }) pr.stands.first
-      ∙ ap one (sym (shows m pr.state pr.told))
+    pub solves_here : Solves r s values_here
+    solves_here = outputs_solve r sound built s ss here.first here.states
 
-  -- the run ends at the stop
-  pub trace_at_stop : (m : Machine) (pr : Progress (run_of system plan m) m v t so.done) (values : List (Option ℤ)) → ShowsValues v system.ports values → t ≡ plan.stop →
-      IsTrace (run_of system plan m) (more values) K.Stop plan.stop
-  trace_at_stop m pr values shows at =
-      let r = run_of system plan m in
-      let V = map (shown m pr.state) system.ports in
-      let there : IsTrace r (so.done ++ instant_of pr.situation V ∷ []) K.Stop pr.situation.t =
-      pr.onward (instant_of pr.situation V ∷ []) K.Stop pr.situation.t
-      (AtStop pr.situation V _ K.Stop pr.situation.t (shown_solves system plan m shape alone pr.situation pr.state t pr.stands) (pr.stands.point ∙ at) refl refl refl) in
-      subst (λ n. IsTrace r (more values) K.Stop n) (pr.stands.point ∙ at)
-      (subst (λ i. IsTrace r (so.done ++ i ∷ []) K.Stop pr.situation.t) (one_is m pr values shows) there)
+    -- the point is done with it
+    abbrev pub done_here : Situation
+    done_here = F.updated r s values_here
 
-  -- the run ends at the bound, where the machine asks for the end
-  pub trace_where_asked : (m : Machine) (pr : Progress (run_of system plan m) m v t so.done) (values : List (Option ℤ)) → ShowsValues v system.ports values → WellBehaved (run_of system plan m) →
-      (bound : ℕ) → t < plan.stop → IsBound plan t bound → TakesSize shape plan (bound - t) → is_terminating (m.look pr.state (step_to t bound)) ≡ true →
-      IsTrace (run_of system plan m) (more values) K.Asked bound
-  trace_where_asked m pr values shows well bound before is_bound takes asks =
-      let r = run_of system plan m in
-      let V = map (shown m pr.state) system.ports in
-      let good = good_step system plan m shape alone pr.situation pr.state t bound pr.stands well before is_bound takes in
-      let step = step_kept system plan m shape alone pr.situation pr.state t bound pr.stands before is_bound takes good in
-      subst (λ i. IsTrace r (so.done ++ i ∷ []) K.Asked bound) (one_is m pr values shows)
-      (pr.onward (instant_of pr.situation V ∷ []) K.Asked bound
-      (WhereAsked pr.situation V _ K.Asked bound (bound ∷ []) bound (shown_solves system plan m shape alone pr.situation pr.state t pr.stands) step
-      (step_asks system plan m shape alone pr.situation pr.state t bound pr.stands ∙ asks) refl refl refl))
+    pub following_here : F.following r s values_here ≡ Done
+    following_here = is_done r sound built s values_here here.never
 
-  -- the run ends where the step to the bound has a size that the machine's FMU doesn't take
-  pub trace_where_fixed : (m : Machine) (pr : Progress (run_of system plan m) m v t so.done) (values : List (Option ℤ)) → ShowsValues v system.ports values →
-      (bound : ℕ) → t < plan.stop → IsBound plan t bound → shape.has_variable_steps ≡ false → ((bound - t) ≡ plan.step → ⊥) →
-      IsTrace (run_of system plan m) (more values) K.Fixed t
-  trace_where_fixed m pr values shows bound before is_bound whole other =
-      let r = run_of system plan m in
-      let V = map (shown m pr.state) system.ports in
-      let lacks = step_lacks system plan m shape alone pr.situation pr.state t bound pr.stands before is_bound whole other in
-      subst (λ n. IsTrace r (more values) K.Fixed n) pr.stands.point
-      (subst (λ i. IsTrace r (so.done ++ i ∷ []) K.Fixed pr.situation.t) (one_is m pr values shows)
-      (pr.onward (instant_of pr.situation V ∷ []) K.Fixed pr.situation.t
-      (WhereFixed pr.situation V _ K.Fixed pr.situation.t 0 bound (shown_solves system plan m shape alone pr.situation pr.state t pr.stands) lacks refl refl refl)))
+    pub done_never : AreNever done_here.timers
+    done_never = next_never r sound built s values_here here.never
 
-  -- the run goes on from the bound
-  pub progress_on : (m : Machine) (pr : Progress (run_of system plan m) m v t so.done) (values : List (Option ℤ)) → ShowsValues v system.ports values → WellBehaved (run_of system plan m) →
-      (bound : ℕ) → t < plan.stop → IsBound plan t bound → TakesSize shape plan (bound - t) → is_terminating (m.look pr.state (step_to t bound)) ≡ false →
-      (w : View) → Tells w m (after m pr.state (step_to t bound)) →
-      Progress (run_of system plan m) m w bound (more values)
-  progress_on m pr values shows well bound before is_bound takes asks w told =
-      let r = run_of system plan m in
-      let V = map (shown m pr.state) system.ports in
-      let good = good_step system plan m shape alone pr.situation pr.state t bound pr.stands well before is_bound takes in
-      let step = step_kept system plan m shape alone pr.situation pr.state t bound pr.stands before is_bound takes good in
-      let solves = shown_solves system plan m shape alone pr.situation pr.state t pr.stands in
-      record {
-        situation = after_step r pr.situation V (bound ∷ []) bound;
-        state = after m pr.state (step_to t bound);
-        stands = stands_after system plan m shape alone pr.situation pr.state t bound V pr.stands solves step asks;
-        told = told;
-        onward = λ is kind end c.
-            subst (λ x. IsTrace r x kind end) (sym (append_assoc so.done (one values ∷ []) is))
-            (subst (λ i. IsTrace r (so.done ++ i ∷ is) kind end) (one_is m pr values shows)
-            (pr.onward (instant_of pr.situation V ∷ is) kind end
-            (ByStep pr.situation V _ kind end (bound ∷ []) bound is solves step
-            (step_asks system plan m shape alone pr.situation pr.state t bound pr.stands ∙ asks) refl c)));
+    pub done_states : done_here.states ≡ ss
+    done_states = updated_states r sound built s values_here (subst (AreAll r) (sym here.states) here.all) ∙ here.states
+
+    pub departing_here : departing r done_here ≡ ss
+    departing_here = departing_is r sound built done_here (subst (AreAll r) (sym done_states) here.all) ∙ done_states
+
+    -- what follows is what a step makes of it
+    pub leads_here : (next : Next) → P.Departs r done_here next → Leads r s values_here next
+    leads_here next d = subst (λ (f : Following). LeadsBy f r s values_here next) (sym following_here) d
+
+    -- ---- the step
+
+    abbrev stepper_of : ℕ → ℕ → Component → Machine → MachineState → Stepper
+    stepper_of at i c m state = record { has_variable_steps = c.shape.has_variable_steps; end = end_in m state at }
+
+    pub steppers_here : steppers r done_here ≡ each r ss (stepper_of t)
+    steppers_here = ap₂ (λ (xs : List MachineState) (n : ℕ). each r xs (stepper_of n)) departing_here here.point
+
+    abbrev fixed_size : Stepper → Bool
+    fixed_size x = true && not x.has_variable_steps
+
+    unvaried_here : position fixed_size (steppers r done_here) ≡ position (λ (c : Component). not c.shape.has_variable_steps) r.system.components
+    unvaried_here =
+        ap (position fixed_size) steppers_here
+        ∙ sym (position-map fixed_size (λ b. b) (each r ss (stepper_of t)))
+        ∙ ap (position (λ b. b)) (map_from (stepper_of t) fixed_size (λ (c : Component). not c.shape.has_variable_steps) (λ i c m state. refl) 0 r.system.components r.machines ss here.all.machines here.all.states)
+        ∙ position-map (λ (c : Component). not c.shape.has_variable_steps) (λ b. b) r.system.components
+
+    pub bound_here : (u : ℕ) → IsBoundOf r.plan t u → IsBound r.plan done_here.timers done_here.t u
+    bound_here u b = subst (λ (n : ℕ). IsBound r.plan done_here.timers n u) (sym here.point) (bound_on r.plan done_here.timers t u done_never b.bound)
+
+    pub before_here : (u : ℕ) → IsBoundOf r.plan t u → done_here.t < r.plan.stop
+    before_here u b = subst (λ (n : ℕ). n < r.plan.stop) (sym here.point) b.before_stop
+
+    -- each may be asked to step so far
+    pub may_here : (u : ℕ) → first_unfit r.system r.plan (u - t) ≡ None → MayAsk (steppers r done_here) done_here.t r.plan.step u
+    may_here u fit i fixed =
+        unfit_none ((u - t) == r.plan.step) (u - t) r.plan.step i (position (λ (c : Component). not c.shape.has_variable_steps) r.system.components) refl fit
+        (subst (λ (n : ℕ). u - n ≢ r.plan.step) here.point fixed.other_size) (sym unvaried_here ∙ fixed.least)
+
+    -- or the least that takes no such size is told
+    pub lacks_here : (u i : ℕ) → IsBoundOf r.plan t u → first_unfit r.system r.plan (u - t) ≡ Some i → P.LacksStep r done_here i u
+    lacks_here u i bound unfit =
+        let so = unfit_some ((u - t) == r.plan.step) (u - t) r.plan.step i (position (λ (c : Component). not c.shape.has_variable_steps) r.system.components) refl unfit in
+        record {
+          before_stop = before_here u bound;
+          bound = u;
+          is_bound = bound_here u bound;
+          stops = StopsFirst u i u (record { other_size = subst (λ (n : ℕ). u - n ≢ r.plan.step) (sym here.point) so.0; least = unvaried_here ∙ so.1 }) refl;
+        }
+
+    -- the asks that are kept
+    abbrev pub kept_to : ℕ → List ℕ
+    kept_to u = map (λ (x : Stepper). u) (steppers r done_here)
+
+    kept_is : (u i : ℕ) → i < length r.system.components → kept_at (kept_to u) i ≡ u
+    kept_is u i w =
+        let e : length (steppers r done_here) ≡ length r.system.components = ap length steppers_here ∙ each_length r ss here.all (stepper_of t) in
+        const_at (steppers r done_here) u i (omega (arith, e, w))
+
+    call_is : (u i : ℕ) (c : Component) → slice_get r.system.components i ≡ Some c → step_to done_here.t (kept_at (kept_to u) i) ≡ C.DoStep t (u - t)
+    call_is u i c at = ap₂ step_to here.point (kept_is u i (is_within r.system.components i c at))
+
+    -- behind the step
+    abbrev pub next_here : ℕ → Situation
+    next_here u = stepped r done_here (kept_to u) u
+
+    pub next_states : (u : ℕ) → (next_here u).states ≡ each r ss (λ i c m state. after m state (C.DoStep t (u - t)))
+    next_states u =
+        ap (λ (xs : List MachineState). each r xs (λ i c m state.
+        let there : MachineState = after m state (step_to done_here.t (kept_at (kept_to u) i)) in
+        if c.shape.has_event_mode then after m there C.EnterEvent else there)) departing_here
+        ∙ each_same r ss (λ i c m state.
+        let there : MachineState = after m state (step_to done_here.t (kept_at (kept_to u) i)) in
+        if c.shape.has_event_mode then after m there C.EnterEvent else there) (λ i c m state. after m state (C.DoStep t (u - t)))
+        (λ i c m state fmu. no_event_if c.shape.has_event_mode _ _ (no_event r sound built i c fmu.component) ∙ ap (after m state) (call_is u i c fmu.component))
+
+    -- a step that each answers well goes to its bound
+    module _ (u : ℕ) (bound : IsBoundOf r.plan t u) (good : (i : ℕ) (c : Component) (m : Machine) (state : MachineState) → IsFmu r ss i c m state → IsAnsweredWell c.shape m state (C.DoStep t (u - t))) where
+      early_of : (i : ℕ) (c : Component) → slice_get r.system.components i ≡ Some c → c.shape.might_return_early ≡ false
+      early_of i c at = subst (λ (d : Component). d.shape.might_return_early ≡ false) (sym (get_here r.system.components i c at)) (built.no_early i c (is_within r.system.components i c at))
+
+      ends_well : (i : ℕ) (c : Component) (m : Machine) (state : MachineState) → IsFmu r ss i c m state → end_in m state t u ≡ u
+      ends_well i c m state fmu =
+          let end : end_in m state t u ≡ t + (u - t) = good_step_end c.shape t (u - t) (m.look state (C.DoStep t (u - t))) (early_of i c fmu.component) (good i c m state fmu) in
+          let later = bound.bound.later in
+          end ∙ omega (arith, later)
+
+      met_well : met (steppers r done_here) u ≡ u
+      met_well = ap (λ (xs : List Stepper). met xs u) steppers_here
+          ∙ met_same u u (map (λ (f : Stepper). f.end u) (each r ss (stepper_of t))) refl
+          (All-map (λ (x : ℕ). x ≡ u) (λ (f : Stepper). f.end u) (each r ss (stepper_of t)) (all_each r ss (stepper_of t) (λ (f : Stepper). f.end u ≡ u) ends_well))
+
+      pub step_well : first_unfit r.system r.plan (u - t) ≡ None → P.IsStep r done_here (kept_to u) u
+      step_well fit = record {
+        before_stop = before_here u bound;
+        bound = u;
+        is_bound = bound_here u bound;
+        agree = AllMeet u (kept_to u) u (may_here u fit) met_well refl refl;
       }
 
-  -- the put of the instant failed: what stands is a front of the whole trace
-  pub front_of_trace : (m : Machine) (pr : Progress (run_of system plan m) m v t so.done) (values : List (Option ℤ)) → ShowsValues v system.ports values → WellBehaved (run_of system plan m) →
-      plan.start ≤ t → t ≤ plan.stop → AddsPart a b (instant_text t 0 values) → (c d : ℕ) → Completes (run_of system plan m) WriteFault o b c d
-  front_of_trace m pr values shows well begun within part c d =
-      let r = run_of system plan m in
-      let whole = goes_on system plan m shape alone plan.stop pr.situation pr.state t (omega arith) pr.stands begun within well p in
-      let is = so.done ++ one values ∷ whole.rest in
-      let trace : IsTrace r is whole.kind whole.end =
-      subst (λ i. IsTrace r (so.done ++ i ∷ whole.rest) whole.kind whole.end) (one_is m pr values shows) (pr.onward _ whole.kind whole.end whole.on) in
-      let rest = instants_text whole.rest ++ end_text whole.kind whole.end in
-      let text : instants_text so.done ++ (instant_text t 0 values ++ rest) ≡ instants_text is ++ end_text whole.kind whole.end =
-      ap (λ x. instants_text so.done ++ x) (sym (append_assoc (instant_text t 0 values) (instants_text whole.rest) (end_text whole.kind whole.end)))
-      ∙ sym (append_assoc (instants_text so.done) (instants_text (one values ∷ whole.rest)) (end_text whole.kind whole.end))
-      ∙ ap (λ x. x ++ end_text whole.kind whole.end) (sym (instants_text-append so.done (one values ∷ whole.rest))) in
-      inr (is, whole.kind, whole.end, trace, subst (AddsPart o b) text (part_behind o a b (instants_text so.done) (instant_text t 0 values ++ rest) so.text (part_more a b (instant_text t 0 values) rest part)))
+    -- behind it the run stands at the next point
+    pub next_is : (u : ℕ) → IsHere r u (each r ss (λ i c m state. after m state (C.DoStep t (u - t)))) (next_here u)
+    next_is u = record { point = refl; first = refl; never = done_never; states = next_states u; all = all_on r ss here.all _ }
+
+    module _ (u : ℕ) (bound : IsBoundOf r.plan t u) (steps : List Sent) (answered : IsAnswered (shapes_of r.system) (stepping r.system t u) steps) (replies : AreReplies r ss steps) where
+      pub step_here : first_unfit r.system r.plan (u - t) ≡ None → P.IsStep r done_here (kept_to u) u
+      step_here fit = step_well u bound (λ i c m state fmu. let one = one_of r ss (λ (shape : Shape). C.DoStep t (u - t)) steps answered replies i c m state fmu in one.good) fit
+
+      -- an answer asks for the end in both
+      pub asks_here : any_asks_to_end steps ≡ asks_to_end r done_here (kept_to u)
+      asks_here = any_asks r ss here.all (λ (shape : Shape). C.DoStep t (u - t)) steps answered replies
+          ∙ sym (ap (list_any (λ b. b)) (
+          ap (λ (xs : List MachineState). each r xs (λ i c m state. is_terminating (m.look state (step_to done_here.t (kept_at (kept_to u) i))))) departing_here
+          ∙ each_same r ss (λ i c m state. is_terminating (m.look state (step_to done_here.t (kept_at (kept_to u) i)))) (λ i c m state. is_terminating (m.look state (C.DoStep t (u - t))))
+          (λ i c m state fmu. ap (λ call. is_terminating (m.look state call)) (call_is u i c fmu.component))))
+
+      -- the run stands at the next point
+      pub goes_here : IsHere r u (states_by r ss steps) (next_here u)
+      goes_here = subst (λ (xs : List MachineState). IsHere r u xs (next_here u)) (sym (stage_states r ss (λ (shape : Shape). C.DoStep t (u - t)) steps answered replies)) (next_is u)

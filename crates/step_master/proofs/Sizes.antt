@@ -1,107 +1,68 @@
--- The closing leaves the sizes of the steps that were made.
-use Rattle.std.proofs.Common.{◌≡◌, false, List, [], ◌∷◌, Ok, Err, refl, sym, ap, ◌∙◌, subst}
-use Rattle.std.specs.Prelude.{All}
-use Rattle.std.proofs.lemmas.List.Elements.{All-head, All-tail}
+-- Steps of a size that each takes.
+use Rattle.std.proofs.Common.{◌≡◌, ℕ, zero, suc, ◌-◌, ◌<◌, ◌≤◌, ◌==◌, Bool, true, false, List, [], ◌∷◌, Some, None, refl, sym, ap, ◌∙◌, subst, arith, length, get_or, map, not}
+use Rattle.std.specs.Prelude.{All, ◌||◌, if◌then◌else◌, position, nat_lt}
+use Rattle.std.specs.List.{position_or_len, prefix_len}
+use Rattle.std.proofs.lemmas.List.{length-map, get_or_default}
+use Rattle.std.proofs.lemmas.List.Sums.{prefix_len_passes}
+use Rattle.std.proofs.lemmas.Bool.Decides.{nat_tests}
 use Rattle.value_types.specs.declared.shape.Shape.{Shape}
-use Rattle.fmi_calls.specs.declared.call.Call.{Call}
-use Rattle.fmi_calls.specs.declared.call.Call.TheVariants as C
-use Rattle.fmi_calls.specs.declared.call.Reply.{Reply}
-use Rattle.fmi_calls.specs.declared.call.Grade.{Grade}
-use Rattle.fmi_calls.specs.declared.call.Grade.TheVariants as G
-use Rattle.fmi_calls.specs.Worth.{grade_of}
-use Rattle.fmi_calls.specs.declared.phase.Phase.{Phase}
-use Rattle.fmi_calls.specs.Next.{graded, counted, entered, fresh}
-use Rattle.fmu_peer.specs.declared.peer.Exchange.{Exchange}
-use Rattle.fmu_peer.specs.Answer.{Answered, Failed}
-use Rattle.fmu_peer.specs.declared.ended.Why.{Why}
-use Rattle.fmu_peer.specs.Mode.{instantiate_of}
-use Rattle.fmu_peer.specs.Close.{IsClosed}
-use Rattle.fmu_peer.specs.Talk as T
-use Rattle.fmu_peer.specs.View.{View, Fixed}
-use Rattle.run_model.specs.declared.plan.Plan.{Plan}
-use Rattle.step_master.specs.declared.run_end.RunEnd.{RunEnd}
-use Rattle.step_master.specs.declared.run_end.RunEnd.TheVariants.{Stop, Asked, FixedStep, Bad, WriteFault}
-use Rattle.step_master.specs.Follow.{IsClosable, IsMade, calls_in}
-use Rattle.step_master.specs.Initial.{enter_of}
-use Rattle.step_master.specs.Whole.{IsClosingCall}
-use Rattle.step_master.specs.Size.{StepsByPlan, EndsAt, KeepsSize}
-use Rattle.step_master.specs.End.{bad_end, current_point}
-use Rattle.step_master.proofs.Calls.{broke_by, phase_by_good, first_size_after_bad}
-use Rattle.step_master.proofs.Closing.{sent_closing, point_closed, point_same, closable_left, headless, nothing_sent}
-use Rattle.step_master.proofs.Exits.{sizes_stay, sizes_unstepped}
+use Rattle.fmu_peer.specs.CloseAll.{Instance}
+use Rattle.system_model.specs.declared.plan.Plan.{Plan}
+use Rattle.system_model.specs.declared.system.Component.{Component}
+use Rattle.system_model.specs.declared.system.System.{System}
+use Rattle.step_master.specs.Course.{first_unfit}
+use Rattle.step_master.specs.Place.{IsAt, TakesSize}
+use Rattle.step_master.specs.Stage.{shapes}
+use Rattle.step_master.specs.System.{shapes_of}
+use Rattle.step_master.proofs.Answered.{map_at, shape_of}
+use Rattle.step_master.proofs.Phases.{CanStep}
 
-by_grade : (shape : Shape) (p : Phase) (c : Call) (reply : Reply) (g : Grade) → IsClosingCall c → (graded shape p c reply g).first_size ≡ p.first_size
-by_grade shape p C.Terminate reply G.Good k = refl
-by_grade shape p C.Terminate reply G.Refused k = refl
-by_grade shape p C.Terminate reply G.Misreply k = refl
-by_grade shape p C.FreeInstance reply G.Good k = refl
-by_grade shape p C.FreeInstance reply G.Refused k = refl
-by_grade shape p C.FreeInstance reply G.Misreply k = refl
-by_grade shape p (C.Instantiate event_mode early_return) reply g k = absurd k
-by_grade shape p (C.EnterInitialization start stop) reply g k = absurd k
-by_grade shape p C.ExitInitialization reply g k = absurd k
-by_grade shape p (C.DoStep at size) reply g k = absurd k
-by_grade shape p (C.Get kind reference) reply g k = absurd k
-by_grade shape p (C.Set kind reference value) reply g k = absurd k
-by_grade shape p C.Save reply g k = absurd k
-by_grade shape p C.Restore reply g k = absurd k
-by_grade shape p C.Free reply g k = absurd k
+-- an element at a place
+pub there_is : {A : Type 0} (xs : List A) (i : ℕ) → i < length xs → (x : A) × (x ≡ get_or xs i x)
+there_is [] i w = absurd (omega (arith, w))
+there_is (x ∷ xs) zero w = (x, refl)
+there_is (x ∷ xs) (suc i) w = there_is xs i (omega (arith, w))
 
-by_exchange : (shape : Shape) (p : Phase) (e : Exchange) → IsClosingCall e.call → (T.next_by shape p e).first_size ≡ p.first_size
-by_exchange shape p e k = elim e.result as (λ result. (T.next_by shape p (record { call = e.call; result = result })).first_size ≡ p.first_size) [
-  | Ok reply ↦ by_grade shape (counted p e.call) e.call reply (grade_of shape e.call reply) k
-  | Err fault ↦ refl
-]
+abbrev shape_in : Component → Shape
+shape_in c = c.shape
 
-by_closing : (shape : Shape) (p : Phase) (es : List Exchange) → All IsClosingCall (calls_in es) → (T.phase_from shape p es).first_size ≡ p.first_size
-by_closing shape p [] k = refl
-by_closing shape p (e ∷ es) k =
-    by_closing shape (T.next_by shape p e) es (All-tail IsClosingCall e.call (calls_in es) k) ∙ by_exchange shape p e (All-head IsClosingCall e.call (calls_in es) k)
+abbrev unvaried : Component → Bool
+unvaried c = not c.shape.has_variable_steps
 
-ends_same : (plan : Plan) (e : RunEnd) (u w : View) → w.fixed ≡ u.fixed → current_point plan w ≡ current_point plan u → EndsAt plan e u → EndsAt plan e w
-ends_same plan Stop u w fixed point h = point ∙ h
-ends_same plan (Asked at) u w fixed point h = point ∙ h
-ends_same plan (FixedStep component at end) u w fixed point h = record {
-  only = h.only;
-  here = h.here ∙ sym point;
-  bound = h.bound;
-  fixed = ap (λ (f : Fixed). f.shape.has_variable_steps) fixed ∙ h.fixed;
-  other = h.other;
-}
-ends_same plan (Bad component why) u w fixed point h = h
-ends_same plan WriteFault u w fixed point h = h
+or_second : (a b : Bool) → b ≡ true → (a || b) ≡ true
+or_second true b h = refl
+or_second false b h = h
 
-pub keeps_closed : (plan : Plan) (e : RunEnd) (u w : View) → IsClosable u → IsClosed false u w → KeepsSize plan e u → KeepsSize plan e w
-keeps_closed plan e u w closable closed h =
-    let sent = sent_closing u w closable closed in
-    let size : w.phase.first_size ≡ u.phase.first_size = ap (λ (p : Phase). p.first_size) sent.1.phase ∙ by_closing u.fixed.shape u.phase sent.0 sent.2 in
-    record {
-      made = sizes_stay plan u w sent.1.fixed size h.made;
-      next = ends_same plan e u w sent.1.fixed (point_same plan u w (point_closed u w closable closed)) h.next;
-    }
+or_first : (a b : Bool) → not (not a) ≡ true → (a || b) ≡ true
+or_first true b h = refl
+or_first false b h = absurd (cc)
 
--- ---- before Step Mode
+none_at : (n m : ℕ) (b : Bool) → nat_lt n m ≡ b → (if b then Some n else None) ≡ None → m ≤ n
+none_at n m true e h = absurd (cc)
+none_at n m false e h = grind (arith, nat_tests)
 
-pub enter_sizes : (plan : Plan) (v u : View) (why : Why) → IsMade v → Failed v (enter_of plan) why u → StepsByPlan plan u
-enter_sizes plan v u why made f =
-    let b = broke_by v u (enter_of plan) why f tt refl in
-    sizes_unstepped plan u (b.first_size ∙ made.unstepped)
+fit_by : (b : Bool) (cs : List Component) (size step : ℕ) → (size == step) ≡ b → (if b then None else position unvaried cs) ≡ None →
+    (i : ℕ) (d : Component) → i < length cs → TakesSize step size (get_or cs i d).shape
+fit_by true cs size step e h i d w = or_second (get_or cs i d).shape.has_variable_steps (size == step) e
+fit_by false cs size step e h i d w =
+    let all : length cs ≤ prefix_len (λ c. not (unvaried c)) cs = none_at (position_or_len unvaried cs) (length cs) (nat_lt (position_or_len unvaried cs) (length cs)) refl h in
+    or_first (get_or cs i d).shape.has_variable_steps (size == step) (prefix_len_passes (λ c. not (unvaried c)) cs i d (omega (arith, all, w)))
 
-pub exit_sizes : (plan : Plan) (v u w : View) (first : Reply) (why : Why) → IsMade v → Answered v (enter_of plan) first u → Failed u C.ExitInitialization why w → StepsByPlan plan w
-exit_sizes plan v u w first why made a f =
-    let b = broke_by u w C.ExitInitialization why f tt refl in
-    let into : u.phase ≡ entered v.fixed.shape (counted v.phase (enter_of plan)) (enter_of plan) first = phase_by_good v u (enter_of plan) first a in
-    sizes_unstepped plan w (b.first_size ∙ ap (λ (p : Phase). p.first_size) into ∙ made.unstepped)
+module _ {A : Type 0} (f : A → Instance) (slots : List A) (system : System) (plan : Plan) (fits : shapes (map f slots) ≡ shapes_of system) where
+  pub same_length : length slots ≡ length system.components
+  same_length =
+      sym (length-map (map f slots) shape_of ∙ length-map slots f) ∙ ap length fits ∙ length-map system.components shape_in
 
--- the header's put failed
-pub headless_keeps : (plan : Plan) (v w : View) → IsMade v → IsClosed false v w → KeepsSize plan WriteFault w
-headless_keeps plan v w made closed =
-    keeps_closed plan WriteFault v w (closable_left [] WriteFault v v (headless [] v made)) closed (record { made = sizes_unstepped plan v made.unstepped; next = tt })
-
--- no instance was made
-pub unmade_keeps : (plan : Plan) (v u w : View) (why : Why) → v.phase ≡ fresh v.fixed.shape → Failed v (instantiate_of v.fixed.shape) why u → IsClosed false u w → KeepsSize plan (bad_end why) w
-unmade_keeps plan v u w why is_fresh f closed = record {
-  made = subst (StepsByPlan plan) (sym (nothing_sent v u w why f closed))
-      (sizes_unstepped plan u (first_size_after_bad v u (instantiate_of v.fixed.shape) why f ∙ ap (λ (p : Phase). p.first_size) is_fresh));
-  next = tt;
-}
+  pub can_step : (t b : ℕ) → first_unfit system plan (b - t) ≡ None → All (λ (a : A). IsAt t plan.stop plan.step (f a).view) slots → All (λ (a : A). CanStep t b plan.stop plan.step (f a).view) slots
+  can_step t b fit at = λ k d w.
+      let w_there : k < length system.components = let l = same_length in omega (arith, l, w) in
+      let c = there_is system.components k w_there in
+      let x : Instance = f (get_or slots k d) in
+      let in_slots : k < length (map f slots) = let m = length-map slots f in omega (arith, m, w) in
+      let own : x.view.fixed.shape ≡ get_or (shapes (map f slots)) k c.0.shape = map_at shape_of (map f slots) k x c.0.shape in_slots (map_at f slots k (get_or slots k d) x w (get_or_default slots k d (get_or slots k d) w)) in
+      let shape_is : x.view.fixed.shape ≡ c.0.shape = own ∙ ap (λ (ss : List Shape). get_or ss k c.0.shape) fits ∙ sym (map_at shape_in system.components k c.0 c.0.shape w_there c.1) in
+      let takes : TakesSize plan.step (b - t) (get_or system.components k c.0).shape = fit_by ((b - t) == plan.step) system.components (b - t) plan.step refl fit k c.0 w_there in
+      record {
+        at = at k d w;
+        takes = subst (TakesSize plan.step (b - t)) (sym (shape_is ∙ ap shape_in c.1)) takes;
+      }

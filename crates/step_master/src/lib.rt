@@ -1,17 +1,25 @@
-//! The master: it drives an FMU through its states, and puts the trace.
+//! The master: it drives the FMUs of a system through the calling sequence, and puts the trace.
 #![tactic(auto)]
 
-mod bound;
-mod instant;
-mod outputs;
+mod advancing;
+mod ask;
+mod bad_answer;
+mod ending;
+mod laws;
+mod master;
+mod prepare_end;
+mod reading;
 mod room;
 mod run;
 mod run_end;
-mod steps;
+mod seats;
+mod stage;
+mod taking;
 
-pub use room::Room;
-pub use run::{Finished, run_alone};
+use ask::Ask;
+pub use bad_answer::BadAnswer;
+use ending::{Break, Ending};
+pub use laws::{lives_of_peers, runs_of_machines};
+pub use master::Master;
+pub use prepare_end::{PrepareEnd, PrepareFault};
 pub use run_end::RunEnd;
-
-#[cfg(test)]
-mod tests;

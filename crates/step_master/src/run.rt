@@ -1,228 +1,254 @@
-ghost use Rattle.std.specs.Prelude.{◌≡◌, ◌≤◌, [], ◌∷◌, IfOk, IfErr, OnOk, OnErr, false, length};
-ghost use Rattle.sim_base.specs.Causes.{HasCause};
-ghost use Rattle.sim_base.specs.Told.{added, AddsPart};
-ghost use Rattle.fmi_calls.specs.Next.{fresh};
-ghost use Rattle.fmi_calls.specs.declared.call.Call.TheVariants as C;
-ghost use Rattle.fmu_peer.specs.Close.{IsClosed};
-ghost use Rattle.fmu_peer.specs.Mode.{instantiate_of};
-ghost use Rattle.run_model.specs.declared.plan.EndKind.TheVariants as K;
-ghost use Rattle.fmu_peer.specs.Machine.{Machine};
-ghost use Rattle.fmu_peer.specs.Running.{peer_of};
-ghost use Rattle.run_model.specs.Behaved.{WellBehaved};
-ghost use Rattle.run_model.specs.Text.{header_text};
+ghost use Rattle.std.specs.Prelude.{◌≡◌, ◌≤◌, ◌<◌, ◌^◌, ◌+◌, [], OnOk, IfErr, IfSome, All, length, not, option_map, position};
+ghost use Rattle.sim_base.specs.Sink.{with_piece};
+ghost use Rattle.run_model.specs.Steps.{IsBound};
 ghost use Rattle.trace_text.specs.Room.{HoldsEach};
-ghost use Rattle.step_master.specs.Alone.{IsPlan, IsAlone};
-ghost use Rattle.step_master.specs.Room.{HasRoom};
-ghost use Rattle.step_master.specs.Follow.{Tells, IsAt, IsMade, IsClosable, GivesUp};
-ghost use Rattle.step_master.specs.Progress.{BeginsAt, run_of};
-ghost use Rattle.step_master.specs.End.{TellsWrite, Writes, Completes, PutsEnd, bad_end, current_point};
-ghost use Rattle.step_master.specs.Size.{KeepsSize, StepsByPlan};
-ghost use Rattle.step_master.specs.Whole.{EndsClosed, EndsShut, WritesWhole, CompletesWhole};
-ghost use Rattle.step_master.specs.Initial.{LeadsIn, StopsLeading, GoodLead, IsInstantiatedAs};
+ghost use Rattle.step_master.specs.declared.ending.Break.TheVariants as Break;
+ghost use Rattle.step_master.specs.Course.{first_unfit, header_of, kind_of_end};
+ghost use Rattle.step_master.specs.Place.{CanRead, IsAt, IsMade, IsPortOf};
+ghost use Rattle.step_master.specs.Puts.{CutsPiece};
+ghost use Rattle.step_master.specs.Slots.{LiveSlot, Stands, instances};
+ghost use Rattle.step_master.specs.Stage.{Stage, shapes};
+ghost use Rattle.step_master.specs.Steps.{Concludes, Follows, HoldsEnds, PutsEnd, RunsSlots, Shows, at_point, initializing_all, nothing, written};
+ghost use Rattle.step_master.specs.System.{IsPlan, shapes_of};
 
-use crate::instant::{bad_end, finish};
-use crate::steps::steps;
-use crate::{Room, RunEnd};
-use fmu_peer::{Ended, Fmu, Instantiated, Peer, Running, Stepping};
-use run_model::{EndKind, Plan, System};
-use sim_base::{Sink, SinkFault};
-use trace_text::put_header;
+use crate::reading::read_ports;
+use crate::stage::{each, round};
+use crate::{Ask, BadAnswer, Break, Ending, RunEnd};
+use fmu_peer::{Peer, Slot};
+use sim_base::{CompId, Sink};
+use system_model::{Component, EndKind, Plan, System};
+use trace_text::{put_end, put_header, put_instant};
 
-/// A peer after its run, and how the run ended. It can't be let go.
-pub struct Finished<L: Peer> {
-    pub peer: L,
-    pub end: RunEnd,
-}
-
-/// Runs a system of one component from the peer's first call to its closing, and puts its trace.
-pub fn run_alone<L: Peer, O: Sink>(
-    peer: L,
+/// Follows the calling sequence from instances that were made to the end of the run, and puts all but the end line. It
+/// counts the instants that were put.
+pub(crate) fn follow<L: Peer, O: Sink>(
+    slots: &mut [Slot<L>],
     system: &System,
     plan: &Plan,
-    room: &mut Room,
+    values: &mut [Option<i128>],
+    text: &mut [u8],
+    instants: &mut u128,
     out: &mut O,
-) -> Finished<L>
-    requires fresh { (L.view peer).phase ≡ fresh (L.view peer).fixed.shape }
-    requires alone { IsAlone (L.view peer).fixed.shape system.now }
+) -> Result<Ending, Break>
+    requires few { length slots.old ≤ 2 ^ 32 }
+    requires shapes { shapes (instances L.view slots.old) ≡ shapes_of system.now }
     requires plan { IsPlan plan.now }
-    requires room { HasRoom system.now room.old }
-    ensures fixed { (L.view result.peer).fixed ≡ (L.view peer).fixed }
-    ensures peer { EndsClosed (L.view peer) result.end (L.view result.peer) }
-    ensures size { KeepsSize plan.now result.end (L.view result.peer) }
-    ensures told { TellsWrite result.end (O.faults out.old) (O.faults out.new) }
-    ensures writes { WritesWhole system.now plan.now result.end (current_point plan.now (L.view result.peer)) (O.content out.old) (O.content out.new) }
-    ensures trace { (m : Machine) → Tells (L.view peer) m m.first → WellBehaved (run_of system.now plan.now m) →
-        CompletesWhole (run_of system.now plan.now m) result.end (O.content out.old) (O.content out.new) (L.view peer).faults (L.view result.peer).faults }
+    requires live { All (LiveSlot L.view) slots.old }
+    requires made { All (Stands IsMade L.view) slots.old }
+    requires ports { All (IsPortOf (instances L.view slots.old)) system.now.ports }
+    requires places { length values.old ≡ length system.now.ports }
+    requires room { HoldsEach system.now (length text.old) }
+    requires none { instants.old ≡ 0 }
+    ensures { Follows system.now plan.now (instances L.view slots.old) (instances L.view slots.new) (O.view out.old) (O.view out.new) instants.new result }
 {
-    match Fmu::new(peer).instantiate() {
-        Ok(fmu) => run_instance(fmu, system, plan, room, out),
-        Err(ended) => give_up(ended),
+    put_head(system, plan, text, out)?;
+    at_point(initialize(slots, plan), plan.start)?;
+    let mut t = plan.start;
+    'points: loop {
+        show(slots, system, t, values, text, instants, out)?;
+        if t == plan.stop {
+            return Ok(Ending {
+                end: RunEnd::Stop,
+                point: t,
+            });
+        }
+        let bound = next_bound(plan, t);
+        if let Some(component) = first_unfit(system, plan, bound - t) {
+            return Ok(Ending {
+                end: RunEnd::FixedStep {
+                    component,
+                    at: t,
+                    end: bound,
+                },
+                point: t,
+            });
+        }
+        let size = bound - t;
+        let is_asked = at_point(round(slots, Ask::DoStep { at: t, size }), t)?;
+        t = bound;
+        if is_asked {
+            return Ok(Ending {
+                end: RunEnd::Asked { point: t },
+                point: t,
+            });
+        }
     }
 }
 
-// From the instance on: the header, Initialization Mode, and the points.
-fn run_instance<L: Peer, O: Sink>(
-    fmu: Fmu<L, Instantiated>,
+/// The same, and puts the end line.
+pub(crate) fn run_slots<L: Peer, O: Sink>(
+    slots: &mut [Slot<L>],
     system: &System,
     plan: &Plan,
-    room: &mut Room,
+    values: &mut [Option<i128>],
+    text: &mut [u8],
+    instants: &mut u128,
     out: &mut O,
-) -> Finished<L>
-    requires made { IsMade (L.view fmu.peer) }
-    requires alone { IsAlone (L.view fmu.peer).fixed.shape system.now }
+) -> RunEnd
+    requires few { length slots.old ≤ 2 ^ 32 }
+    requires shapes { shapes (instances L.view slots.old) ≡ shapes_of system.now }
     requires plan { IsPlan plan.now }
-    requires room { HasRoom system.now room.old }
-    ensures fixed { (L.view result.peer).fixed ≡ (L.view fmu.peer).fixed }
-    ensures peer { EndsShut (instantiate_of (L.view fmu.peer).fixed.shape ∷ []) (L.view fmu.peer) result.end (L.view result.peer) }
-    ensures size { KeepsSize plan.now result.end (L.view result.peer) }
-    ensures told { TellsWrite result.end (O.faults out.old) (O.faults out.new) }
-    ensures writes { WritesWhole system.now plan.now result.end (current_point plan.now (L.view result.peer)) (O.content out.old) (O.content out.new) }
-    ensures trace { (m : Machine) → IsInstantiatedAs (run_of system.now plan.now m) m (L.view fmu.peer) → WellBehaved (run_of system.now plan.now m) →
-        CompletesWhole (run_of system.now plan.now m) result.end (O.content out.old) (O.content out.new) (L.view fmu.peer).faults (L.view result.peer).faults }
+    requires live { All (LiveSlot L.view) slots.old }
+    requires made { All (Stands IsMade L.view) slots.old }
+    requires ports { All (IsPortOf (instances L.view slots.old)) system.now.ports }
+    requires places { length values.old ≡ length system.now.ports }
+    requires room { HoldsEach system.now (length text.old) }
+    requires none { instants.old ≡ 0 }
+    ensures { RunsSlots system.now plan.now (instances L.view slots.old) (instances L.view slots.new) (O.view out.old) (O.view out.new) instants.new result }
 {
-    match put_head(system, plan, &mut room.text, out) {
-        Ok(()) => run_headed(fmu, system, plan, room, out),
-        Err(_) => Finished {
-            peer: fmu.close(false),
-            end: RunEnd::WriteFault,
-        },
+    let outcome = follow(slots, system, plan, values, text, instants, out);
+    conclude(outcome, text, out)
+}
+
+// Puts the end line, but behind a put that failed.
+fn conclude<O: Sink>(outcome: Result<Ending, Break>, text: &mut [u8], out: &mut O) -> RunEnd
+    requires { HoldsEnds (length text.old) }
+    ensures { Concludes outcome result (O.view out.old) (O.view out.new) }
+{
+    match outcome {
+        Ok(ending) | Err(Break::Ends(ending)) => finish(ending, text, out),
+        Err(Break::Write) => RunEnd::WriteFault,
     }
 }
 
-// Puts the header.
+fn finish<O: Sink>(ending: Ending, text: &mut [u8], out: &mut O) -> RunEnd
+    requires { HoldsEnds (length text.old) }
+    ensures { PutsEnd ending result (O.view out.old) (O.view out.new) }
+{
+    let length = put_end(kind_of_end(ending.end), ending.point, text);
+    match out.put(&text[..length]) {
+        Ok(()) => ending.end,
+        Err(_) => RunEnd::WriteFault,
+    }
+}
+
+// The kind of the end line.
+fn kind_of_end(end: RunEnd) -> EndKind
+    ensures { result ≡ kind_of_end end }
+{
+    match end {
+        RunEnd::Stop => EndKind::Stop,
+        RunEnd::Asked { .. } => EndKind::Asked,
+        RunEnd::EventLimit { .. } => EndKind::Limit,
+        RunEnd::FixedStep { .. } => EndKind::Fixed,
+        RunEnd::Bad(_) | RunEnd::WriteFault => EndKind::Fault,
+    }
+}
+
 fn put_head<O: Sink>(
     system: &System,
     plan: &Plan,
     text: &mut [u8],
     out: &mut O,
-) -> Result<(), SinkFault>
+) -> Result<(), Break>
     requires { HoldsEach system.now (length text.old) }
-    ensures ok { OnOk result (O.content out.new ≡ added (O.content out.old) (header_text system.now plan.now.resolution plan.now.start plan.now.stop)) }
-    ensures err { OnErr result (AddsPart (O.content out.old) (O.content out.new) (header_text system.now plan.now.resolution plan.now.start plan.now.stop)) }
-    ensures cause { HasCause (O.faults out.old) (O.faults out.new) result }
+    ensures ok { OnOk result (O.view out.new ≡ with_piece (O.view out.old) (header_of system.now plan.now)) }
+    ensures err { IfErr result (λ b. (b ≡ Break.Write) × CutsPiece (O.view out.old) (header_of system.now plan.now) (O.view out.new)) }
 {
     let length = put_header(system, plan.resolution, plan.start, plan.stop, text);
-    out.put(&text[..length])
-}
-
-// Behind the header: Initialization Mode, and the points.
-fn run_headed<L: Peer, O: Sink>(
-    fmu: Fmu<L, Instantiated>,
-    system: &System,
-    plan: &Plan,
-    room: &mut Room,
-    out: &mut O,
-) -> Finished<L>
-    requires made { IsMade (L.view fmu.peer) }
-    requires alone { IsAlone (L.view fmu.peer).fixed.shape system.now }
-    requires plan { IsPlan plan.now }
-    requires room { HasRoom system.now room.old }
-    ensures fixed { (L.view result.peer).fixed ≡ (L.view fmu.peer).fixed }
-    ensures peer { EndsShut (instantiate_of (L.view fmu.peer).fixed.shape ∷ []) (L.view fmu.peer) result.end (L.view result.peer) }
-    ensures size { KeepsSize plan.now result.end (L.view result.peer) }
-    ensures told { TellsWrite result.end (O.faults out.old) (O.faults out.new) }
-    ensures writes { Writes plan.now result.end (current_point plan.now (L.view result.peer)) (O.content out.old) (O.content out.new) }
-    ensures trace { (m : Machine) → IsInstantiatedAs (run_of system.now plan.now m) m (L.view fmu.peer) → WellBehaved (run_of system.now plan.now m) →
-        Completes (run_of system.now plan.now m) result.end (O.content out.old) (O.content out.new) (L.view fmu.peer).faults (L.view result.peer).faults }
-{
-    match initialize(fmu, plan) {
-        Ok(fmu) => run_stepping(fmu, system, plan, room, out),
-        Err(ended) => stop_early(ended, system, plan, &mut room.text, out),
+    match out.put(&text[..length]) {
+        Ok(()) => Ok(()),
+        Err(_) => Err(Break::Write),
     }
 }
 
-// Through Initialization Mode into Step Mode.
-fn initialize<L: Peer>(fmu: Fmu<L, Instantiated>, plan: &Plan) -> Result<Fmu<L, Stepping>, Ended<L>>
-    requires made { IsMade (L.view fmu.peer) }
-    requires no_event { (L.view fmu.peer).fixed.shape.has_event_mode ≡ false }
+// Leads each FMU into Step Mode through Initialization Mode.
+fn initialize<L: Peer>(slots: &mut [Slot<L>], plan: &Plan) -> Result<(), BadAnswer>
+    requires few { length slots.old ≤ 2 ^ 32 }
     requires plan { plan.now.start ≤ plan.now.stop }
-    ensures ok { IfOk result (λ next. LeadsIn plan.now (L.view fmu.peer) (L.view next.peer)) }
-    ensures stops { IfErr result (λ ended. StopsLeading plan.now (L.view fmu.peer) ended.why (L.view ended.peer)) }
-    ensures closable { IfErr result (λ ended. IsClosable (L.view ended.peer)) }
-    ensures sizes { IfErr result (λ ended. StepsByPlan plan.now (L.view ended.peer)) }
-    ensures current { IfErr result (λ ended. current_point plan.now (L.view ended.peer) ≡ plan.now.start) }
-    ensures err { IfErr result (λ ended. GivesUp (L.view fmu.peer) ended.why (L.view ended.peer) (GoodLead plan.now (L.view fmu.peer).fixed.shape)) }
+    requires live { All (LiveSlot L.view) slots.old }
+    requires made { All (Stands IsMade L.view) slots.old }
+    ensures live { OnOk result (All (LiveSlot L.view) slots.new) }
+    ensures at { OnOk result (All (Stands (IsAt plan.now.start plan.now.stop plan.now.step) L.view) slots.new) }
+    ensures stage { Stage (initializing_all plan.now (shapes (instances L.view slots.old))) nothing (instances L.view slots.old) (instances L.view slots.new) result }
 {
-    match fmu.enter_initialization(plan.start, plan.stop) {
-        Ok(fmu) => match fmu.exit_initialization() {
-            Ok(running) => Ok(stepping(running)),
-            Err(ended) => Err(ended),
+    each(
+        slots,
+        Ask::EnterInitialization {
+            start: plan.start,
+            stop: plan.stop,
         },
-        Err(ended) => Err(ended),
-    }
+    )?;
+    each(slots, Ask::ExitInitialization)?;
+    Ok(())
 }
 
-fn stepping<L: Peer>(running: Running<L>) -> Fmu<L, Stepping>
-    ensures { result.peer ≡ peer_of running }
-{
-    match running {
-        Running::Step(fmu) => fmu,
-    }
-}
-
-// The points, and the closing.
-fn run_stepping<L: Peer, O: Sink>(
-    fmu: Fmu<L, Stepping>,
+// Reads the outputs at a point, and puts the instant.
+fn show<L: Peer, O: Sink>(
+    slots: &mut [Slot<L>],
     system: &System,
-    plan: &Plan,
-    room: &mut Room,
-    out: &mut O,
-) -> Finished<L>
-    requires alone { IsAlone (L.view fmu.peer).fixed.shape system.now }
-    requires plan { IsPlan plan.now }
-    requires at { IsAt (L.view fmu.peer) plan.now.start plan.now.stop }
-    requires sizes { StepsByPlan plan.now (L.view fmu.peer) }
-    requires room { HasRoom system.now room.old }
-    ensures fixed { (L.view result.peer).fixed ≡ (L.view fmu.peer).fixed }
-    ensures peer { EndsShut (C.ExitInitialization ∷ []) (L.view fmu.peer) result.end (L.view result.peer) }
-    ensures size { KeepsSize plan.now result.end (L.view result.peer) }
-    ensures told { TellsWrite result.end (O.faults out.old) (O.faults out.new) }
-    ensures writes { Writes plan.now result.end (current_point plan.now (L.view result.peer)) (O.content out.old) (O.content out.new) }
-    ensures trace { (m : Machine) → BeginsAt (run_of system.now plan.now m) m (L.view fmu.peer) → WellBehaved (run_of system.now plan.now m) →
-        Completes (run_of system.now plan.now m) result.end (O.content out.old) (O.content out.new) (L.view fmu.peer).faults (L.view result.peer).faults }
-{
-    let mut fmu = fmu;
-    let end = steps(
-        &mut fmu,
-        system,
-        plan,
-        &mut room.values,
-        &mut room.text,
-        out,
-    );
-    let peer = fmu.close(false);
-    Finished { peer, end }
-}
-
-// Closes an instance that an answer broke off in Initialization Mode, and puts the end line.
-fn stop_early<L: Peer, O: Sink>(
-    ended: Ended<L>,
-    system: &System,
-    plan: &Plan,
+    t: u64,
+    values: &mut [Option<i128>],
     text: &mut [u8],
+    instants: &mut u128,
     out: &mut O,
-) -> Finished<L>
-    requires closable { IsClosable (L.view ended.peer) }
+) -> Result<(), Break>
+    requires live { All (LiveSlot L.view) slots.old }
+    requires readable { All (Stands CanRead L.view) slots.old }
+    requires ports { All (IsPortOf (instances L.view slots.old)) system.now.ports }
+    requires places { length values.old ≡ length system.now.ports }
     requires room { HoldsEach system.now (length text.old) }
-    ensures closed { IsClosed false (L.view ended.peer) (L.view result.peer) }
-    ensures end { PutsEnd K.Fault plan.now.start (bad_end ended.why) result.end (O.content out.old) (O.content out.new) (O.faults out.old) (O.faults out.new) }
+    requires counts { instants.old < 2 ^ 127 }
+    ensures live { OnOk result (All (LiveSlot L.view) slots.new) }
+    ensures shows { Shows system.now t (instances L.view slots.old) (instances L.view slots.new) (written (O.view out.old) instants.old) (written (O.view out.new) instants.new) result }
+    ensures kept { length values.new ≡ length values.old }
 {
-    let why = ended.why;
-    let peer = ended.close(false);
-    let end = finish(system, EndKind::Fault, plan.start, bad_end(why), text, out);
-    Finished { peer, end }
+    at_point(read_ports(slots, system.ports.as_slice(), values), t)?;
+    let length = put_instant(system, t, 0, values, text);
+    match out.put(&text[..length]) {
+        Ok(()) => {
+            *instants += 1;
+            Ok(())
+        }
+        Err(_) => Err(Break::Write),
+    }
 }
 
-// Gives back a peer that no instance was made of. The closing sends it nothing.
-fn give_up<L: Peer>(ended: Ended<L>) -> Finished<L>
-    requires { (L.view ended.peer).phase.slot.is_full ≡ false }
-    ensures closed { IsClosed false (L.view ended.peer) (L.view result.peer) }
-    ensures end { result.end ≡ bad_end ended.why }
+// A result at a point, where a bad answer is the end.
+fn at_point<T>(answer: Result<T, BadAnswer>, point: u64) -> Result<T, Break>
+    ensures { result ≡ at_point answer point }
 {
-    let why = ended.why;
-    let peer = ended.close(false);
-    Finished {
-        peer,
-        end: bad_end(why),
+    match answer {
+        Ok(value) => Ok(value),
+        Err(bad) => Err(Break::Ends(Ending {
+            end: RunEnd::Bad(bad),
+            point,
+        })),
     }
+}
+
+// The bound of the step from a point before the stop, in counts: the next grid point or the stop.
+fn next_bound(plan: &Plan, t: u64) -> u64
+    requires plan { IsPlan plan.now }
+    requires begun { plan.now.start ≤ t }
+    requires before { t < plan.now.stop }
+    ensures { IsBound plan.now [] t result }
+{
+    let steps = (t - plan.start) / plan.step + 1;
+    let grid = plan.start + steps * plan.step;
+    plan.stop.min(grid)
+}
+
+// The least component that takes no step of this size.
+fn first_unfit(system: &System, plan: &Plan, size: u64) -> Option<CompId>
+    requires { length system.now.components ≤ 2 ^ 32 }
+    ensures { option_map (λ c. c.0) result ≡ first_unfit system.now plan.now size }
+{
+    if size == plan.step {
+        return None;
+    }
+    match first_unvaried(system.components.as_slice()) {
+        Some(place) => Some(CompId(place as u32)),
+        None => None,
+    }
+}
+
+// The place of the first component without variable steps.
+fn first_unvaried(components: &[Component]) -> Option<usize>
+    ensures place { result ≡ position (λ c. not c.shape.has_variable_steps) components.now }
+    ensures within { IfSome result (λ place. place < length components.now) }
+{
+    components
+        .iter()
+        .position(|component| !component.shape.has_variable_steps)
 }

@@ -1,4 +1,4 @@
-use fmu_peer::Why;
+use crate::BadAnswer;
 use sim_base::CompId;
 
 /// How a run ends. Points are counts.
@@ -6,28 +6,22 @@ use sim_base::CompId;
 pub enum RunEnd {
     /// at the stop
     Stop,
-    /// at a point that a step reached, where an FMU asked for the end
+    /// at the point that a step reached in which an FMU asked for the end
     Asked {
         point: u64,
     },
-    /// at a point, before the step to an end: its size isn't the plan's, and this component takes no other
+    /// at a point whose instants reach their limit
+    EventLimit {
+        point: u64,
+    },
+    /// before a step from `at` to `end`, whose size the component can't take, the least of those
     FixedStep {
         component: CompId,
         at: u64,
         end: u64,
     },
-    /// by the first answer that isn't good, of this component
-    Bad {
-        component: CompId,
-        why: Why,
-    },
+    /// by the first answer that isn't good
+    Bad(BadAnswer),
     /// by a put that failed
     WriteFault,
-}
-
-/// What breaks a run off.
-#[derive(Clone, Copy, Debug, PartialEq, Eq)]
-pub(crate) enum Break {
-    Answer(Why),
-    Write,
 }

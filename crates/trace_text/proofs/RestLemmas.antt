@@ -1,9 +1,9 @@
 -- A text whose front stands in a buffer, and whose rest is still to be put.
 use Rattle.std.proofs.Common.{◌≡◌, ℕ, ◌+◌, ◌<◌, ◌≤◌, List, ◌++◌, length, take, drop, get_or, subst, arith}
 use Rattle.std.proofs.lemmas.Grind.{common_steps}
-use Rattle.run_model.specs.declared.system.Component.{Component}
-use Rattle.run_model.specs.declared.system.Port.{Port}
-use Rattle.run_model.specs.Text.{port_line, port_lines_from}
+use Rattle.system_model.specs.declared.system.Component.{Component}
+use Rattle.system_model.specs.declared.system.Port.{Port}
+use Rattle.system_model.specs.Text.{port_line, port_lines_from}
 
 -- what stands up to `at`, with the rest behind it, is the whole text
 pub record StandsBut (rest : List ℕ) (at : ℕ) (out whole : List ℕ) : Type 0 where

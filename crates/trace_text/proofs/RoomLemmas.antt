@@ -7,12 +7,12 @@ use Rattle.std.proofs.lemmas.Grind.{common_steps}
 use Rattle.sim_base.specs.Escape.{escaped, escaped_byte}
 use Rattle.value_types.specs.declared.values.PortType.{PortType}
 use Rattle.value_types.specs.declared.values.PortType.TheVariants.{Int8, UInt8, Int16, UInt16, Int32, UInt32, Int64, UInt64, Boolean, Enumeration, Clock}
-use Rattle.run_model.specs.declared.system.Component.{Component}
-use Rattle.run_model.specs.declared.system.Port.{Port}
-use Rattle.run_model.specs.declared.system.System.{System}
-use Rattle.run_model.specs.declared.plan.EndKind.{EndKind}
-use Rattle.run_model.specs.declared.plan.EndKind.TheVariants.{Stop, Asked, Fixed, Fault}
-use Rattle.run_model.specs.Text.{end_text, type_name, component_name, port_line, port_lines_from, value_line, value_lines_from}
+use Rattle.system_model.specs.declared.system.Component.{Component}
+use Rattle.system_model.specs.declared.system.Port.{Port}
+use Rattle.system_model.specs.declared.system.System.{System}
+use Rattle.system_model.specs.declared.plan.EndKind.{EndKind}
+use Rattle.system_model.specs.declared.plan.EndKind.TheVariants.{Stop, Asked, Limit, Fixed, Fault}
+use Rattle.system_model.specs.Text.{end_text, type_name, component_name, port_line, port_lines_from, value_line, value_lines_from}
 use Rattle.trace_text.specs.Lines.{first_line, instant_line}
 use Rattle.trace_text.specs.Room.{port_room, room_of, IsCount, AreValues, HoldsEach}
 
@@ -84,6 +84,7 @@ length-instant_line t n is_t is_n =
 pub length-end_text : (kind : EndKind) (t : ℕ) → IsCount t → length (end_text kind t) ≤ 128
 length-end_text Stop t is_t = let number = length-decimal t is_t in grind (arith, common_steps)
 length-end_text Asked t is_t = let number = length-decimal t is_t in grind (arith, common_steps)
+length-end_text Limit t is_t = let number = length-decimal t is_t in grind (arith, common_steps)
 length-end_text Fixed t is_t = let number = length-decimal t is_t in grind (arith, common_steps)
 length-end_text Fault t is_t = let number = length-decimal t is_t in grind (arith, common_steps)
 

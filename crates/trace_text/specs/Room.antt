@@ -1,11 +1,11 @@
 -- How many bytes hold each text of a trace of a system.
 use Rattle.std.specs.Prelude.{ℕ, ◌+◌, ◌*◌, ◌^◌, ◌<◌, ◌≤◌, ℤ, FitsSigned, List, length, All, sum_by, Option, IfSome}
 use Rattle.std.specs.Int.{w128}
-use Rattle.run_model.specs.declared.system.Component.{Component}
-use Rattle.run_model.specs.declared.system.Port.{Port}
-use Rattle.run_model.specs.declared.system.System.{System}
-use Rattle.run_model.specs.declared.plan.EndKind.{EndKind}
-use Rattle.run_model.specs.Text.{component_name, header_text, instant_text, end_text}
+use Rattle.system_model.specs.declared.system.Component.{Component}
+use Rattle.system_model.specs.declared.system.Port.{Port}
+use Rattle.system_model.specs.declared.system.System.{System}
+use Rattle.system_model.specs.declared.plan.EndKind.{EndKind}
+use Rattle.system_model.specs.Text.{component_name, header_text, instant_text, end_text}
 
 -- for a line of a port: in a header its number, type and names, whose bytes take three each where they are escaped, and in an instant its number and value
 abbrev pub port_room : List Component → Port → ℕ

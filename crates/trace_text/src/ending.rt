@@ -1,8 +1,8 @@
 ghost use Rattle.std.specs.Prelude.{◌≡◌, ◌≤◌, length, take};
-ghost use Rattle.run_model.specs.Text.{end_text, kind_text};
+ghost use Rattle.system_model.specs.Text.{end_text, kind_text};
 
 use crate::append::{append, append_number};
-use run_model::EndKind;
+use system_model::EndKind;
 
 /// Puts the end of a trace at the point `t` to the front of `out`, and answers the length of its text.
 pub fn put_end(kind: EndKind, t: u64, out: &mut [u8]) -> usize
@@ -23,6 +23,7 @@ fn kind_text(kind: EndKind) -> &'static str
     match kind {
         EndKind::Stop => "stop",
         EndKind::Asked => "asked",
+        EndKind::Limit => "limit",
         EndKind::Fixed => "fixed",
         EndKind::Fault => "fault",
     }

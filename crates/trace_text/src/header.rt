@@ -1,10 +1,10 @@
 ghost use Rattle.std.specs.Prelude.{◌≡◌, ◌+◌, ◌≤◌, ◌++◌, length, take};
-ghost use Rattle.run_model.specs.Text.{header_text, port_line, component_name, type_name};
+ghost use Rattle.system_model.specs.Text.{header_text, port_line, component_name, type_name};
 ghost use Rattle.trace_text.specs.Lines.{first_line};
 
 use crate::append::{append, append_name, append_number};
-use run_model::{Component, Port, System};
 use sim_base::CompId;
+use system_model::{Component, Port, System};
 use value_types::PortType;
 
 /// Puts the header of a trace to the front of `out`, and answers its length.

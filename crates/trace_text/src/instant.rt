@@ -1,9 +1,9 @@
 ghost use Rattle.std.specs.Prelude.{◌≡◌, ◌+◌, ◌≤◌, ◌++◌, length, take};
-ghost use Rattle.run_model.specs.Text.{instant_text, value_line};
+ghost use Rattle.system_model.specs.Text.{instant_text, value_line};
 ghost use Rattle.trace_text.specs.Lines.{instant_line};
 
 use crate::append::{append, append_number, append_value};
-use run_model::System;
+use system_model::System;
 
 /// Puts the n-th instant at the point `t` to the front of `out`, and answers the length of its text. The values are
 /// those of the system's ports, in order.

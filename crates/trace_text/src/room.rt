@@ -2,7 +2,7 @@ ghost use Rattle.std.specs.Prelude.{◌≡◌, ◌↔◌, ◌^◌, ◌<◌, IsSo
 ghost use Rattle.trace_text.specs.Room.{port_room, room_of, HoldsEach};
 
 use crate::header::component_name;
-use run_model::{Component, Port, System};
+use system_model::{Component, Port, System};
 
 // The room for a line that has no name in it.
 const FIRST_LINE_ROOM: usize = 128;

@@ -1,13 +1,13 @@
 ghost use Rattle.std.specs.Prelude.{◌≡◌, ◌≤◌, ◌+◌, IfOk, OnOk, length, vec_len};
-ghost use Rattle.run_model.specs.Text.{end_text};
+ghost use Rattle.system_model.specs.Text.{end_text};
 ghost use Rattle.trace_text.specs.Room.{AreValues, HoldsEach};
 
 use crate::{put_end, put_header, put_instant, room_for};
-use run_model::{Component, EndKind, Port, System};
-use sim_base::{CompId, Items, Text};
+use sim_base::{CompId, Items, SourceId, Text};
 use std::alloc::{AllocError, Global};
 use std::test::Fail;
-use value_types::{PortType, Shape};
+use system_model::{Component, EndKind, Port, Role, System};
+use value_types::{ByReference, PortType, Shape};
 
 // A port by its name and type, with its value in the instant.
 type Row = (&'static str, PortType, Option<i128>);
@@ -91,6 +91,7 @@ fn system_of(alloc: Global, component: &str, rows: &[Row]) -> Result<System, All
     let mut components = Vec::new(alloc);
     components.push(Component {
         name: Text::from_str(alloc, component)?,
+        source: SourceId(0),
         shape: empty_shape(alloc)?,
     })?;
     let mut ports = Vec::new(alloc);
@@ -100,11 +101,15 @@ fn system_of(alloc: Global, component: &str, rows: &[Row]) -> Result<System, All
             name: Text::from_str(alloc, name)?,
             kind: *kind,
             reference: 1,
+            role: Role::Output,
+            clocks: Items::from_vec(Vec::new(alloc)),
         })?;
     }
     Ok(System {
         components: Items::from_vec(components),
         ports: Items::from_vec(ports),
+        instant_order: Items::from_vec(Vec::new(alloc)),
+        initial_order: Items::from_vec(Vec::new(alloc)),
     })
 }
 
@@ -139,9 +144,9 @@ fn empty_shape(alloc: Global) -> Result<Shape, AllocError> {
         has_variable_steps: false,
         can_save_state: false,
         can_serialize_state: false,
-        variables: Items::from_vec(Vec::new(alloc)),
-        clocks: Items::from_vec(Vec::new(alloc)),
-        dependencies: Items::from_vec(Vec::new(alloc)),
-        initial_dependencies: Items::from_vec(Vec::new(alloc)),
+        variables: ByReference::new(alloc, Vec::new(alloc))?,
+        clocks: ByReference::new(alloc, Vec::new(alloc))?,
+        dependencies: ByReference::new(alloc, Vec::new(alloc))?,
+        initial_dependencies: ByReference::new(alloc, Vec::new(alloc))?,
     })
 }

@@ -1,4 +1,5 @@
 pub mod Values
+pub mod Index
 pub mod Shape
 pub mod Reading
 pub mod Joint

@@ -1,6 +1,7 @@
 //! Types of variables, their values and words, and what a description says of an FMU.
 #![tactic(auto)]
 
+mod by_reference;
 mod joint;
 mod reading;
 mod shape;
@@ -8,6 +9,7 @@ mod shape;
 mod tests;
 mod values;
 
+pub use by_reference::{ByReference, Referenced};
 pub use clock_fraction::Fraction;
 pub use joint::{Class, Joint, class_of, connectable};
 pub use reading::read_value;

@@ -1,6 +1,6 @@
 ghost use Rattle.std.specs.Prelude.{◌≡◌, IfOk, take};
 
-use crate::PortType;
+use crate::{ByReference, PortType, Referenced};
 use clock_fraction::Fraction;
 use sim_base::{Items, Text};
 use std::alloc::{AllocError, Global};
@@ -98,20 +98,69 @@ pub struct Shape {
     /// canSerializeFMUState
     pub can_serialize_state: bool,
     /// in the order of the description
-    pub variables: Items<Variable>,
+    pub variables: ByReference<Variable>,
     /// of each variable of type Clock, in the order of the description
-    pub clocks: Items<ClockTiming>,
+    pub clocks: ByReference<ClockTiming>,
     /// what each output depends on
-    pub dependencies: Items<Dependency>,
+    pub dependencies: ByReference<Dependency>,
     /// what each output depends on in Initialization Mode
-    pub initial_dependencies: Items<Dependency>,
+    pub initial_dependencies: ByReference<Dependency>,
 }
 
 impl Variable {
-    /// Another variable that is the same.
-    pub fn copy(&self, alloc: Global) -> Result<Variable, AllocError>
-        ensures { IfOk result (λ v. v ≡ self.now) }
+    ghost use Rattle.value_types.specs.Shape.{is_clock, is_input_port, is_output_port, is_parameter, is_port, is_unclocked};
+
+    /// Whether it is a parameter.
+    pub fn is_parameter(&self) -> bool
+        ensures { result ≡ is_parameter self.now.causality }
     {
+        self.causality == Causality::Parameter
+    }
+
+    /// Whether it is an input that isn't foreign.
+    pub fn is_input_port(&self) -> bool
+        ensures { result ≡ is_input_port self.now }
+    {
+        self.causality == Causality::Input && self.kind.is_some()
+    }
+
+    /// Whether it is an output that isn't foreign.
+    pub fn is_output_port(&self) -> bool
+        ensures { result ≡ is_output_port self.now }
+    {
+        self.causality == Causality::Output && self.kind.is_some()
+    }
+
+    /// Whether it is an input or output that isn't foreign.
+    pub fn is_port(&self) -> bool
+        ensures { result ≡ is_port self.now }
+    {
+        self.is_input_port() || self.is_output_port()
+    }
+
+    /// Whether it is a Clock that isn't foreign.
+    pub fn is_clock(&self) -> bool
+        ensures { result ≡ is_clock self.now }
+    {
+        self.kind == Some(PortType::Clock)
+    }
+
+    /// Whether it has a value at every instant, and not at the ticks of Clocks alone.
+    pub fn is_unclocked(&self) -> bool
+        ensures { result ≡ is_unclocked self.now }
+    {
+        self.clocks.len() == 0
+    }
+}
+
+impl Referenced for Variable {
+    ghost reference = { λ v. v.reference };
+
+    fn reference(&self) -> u32 {
+        self.reference
+    }
+
+    fn copy(&self, alloc: Global) -> Result<Variable, AllocError> {
         Ok(Variable {
             name: self.name.copy(alloc)?,
             aliases: copy_texts(alloc, self.aliases.as_slice())?,
@@ -122,6 +171,28 @@ impl Variable {
             start: self.start,
             can_be_set_again: self.can_be_set_again,
         })
+    }
+}
+
+fn copy_texts(alloc: Global, texts: &[Text]) -> Result<Items<Text>, AllocError>
+    ensures { IfOk result (λ copies. copies ≡ texts.now) }
+{
+    let mut copies = Vec::new(alloc);
+    for text in texts {
+        copies.push(text.copy(alloc)?)?;
+    }
+    Ok(Items::from_vec(copies))
+}
+
+impl Referenced for ClockTiming {
+    ghost reference = { λ c. c.reference };
+
+    fn reference(&self) -> u32 {
+        self.reference
+    }
+
+    fn copy(&self, _alloc: Global) -> Result<ClockTiming, AllocError> {
+        Ok(*self)
     }
 }
 
@@ -137,11 +208,14 @@ impl Knowns {
     }
 }
 
-impl Dependency {
-    /// Another dependency that is the same.
-    pub fn copy(&self, alloc: Global) -> Result<Dependency, AllocError>
-        ensures { IfOk result (λ d. d ≡ self.now) }
-    {
+impl Referenced for Dependency {
+    ghost reference = { λ d. d.output };
+
+    fn reference(&self) -> u32 {
+        self.output
+    }
+
+    fn copy(&self, alloc: Global) -> Result<Dependency, AllocError> {
         Ok(Dependency {
             output: self.output,
             on: self.on.copy(alloc)?,
@@ -163,43 +237,10 @@ impl Shape {
             has_variable_steps: self.has_variable_steps,
             can_save_state: self.can_save_state,
             can_serialize_state: self.can_serialize_state,
-            variables: copy_variables(alloc, self.variables.as_slice())?,
-            clocks: Items::from_vec(self.clocks.as_slice().to_vec(alloc)?),
-            dependencies: copy_dependencies(alloc, self.dependencies.as_slice())?,
-            initial_dependencies: copy_dependencies(alloc, self.initial_dependencies.as_slice())?,
+            variables: self.variables.copy(alloc)?,
+            clocks: self.clocks.copy(alloc)?,
+            dependencies: self.dependencies.copy(alloc)?,
+            initial_dependencies: self.initial_dependencies.copy(alloc)?,
         })
     }
-}
-
-fn copy_texts(alloc: Global, texts: &[Text]) -> Result<Items<Text>, AllocError>
-    ensures { IfOk result (λ copies. copies ≡ texts.now) }
-{
-    let mut copies = Vec::new(alloc);
-    for text in texts {
-        copies.push(text.copy(alloc)?)?;
-    }
-    Ok(Items::from_vec(copies))
-}
-
-fn copy_variables(alloc: Global, variables: &[Variable]) -> Result<Items<Variable>, AllocError>
-    ensures { IfOk result (λ copies. copies ≡ variables.now) }
-{
-    let mut copies = Vec::new(alloc);
-    for variable in variables {
-        copies.push(variable.copy(alloc)?)?;
-    }
-    Ok(Items::from_vec(copies))
-}
-
-fn copy_dependencies(
-    alloc: Global,
-    dependencies: &[Dependency],
-) -> Result<Items<Dependency>, AllocError>
-    ensures { IfOk result (λ copies. copies ≡ dependencies.now) }
-{
-    let mut copies = Vec::new(alloc);
-    for dependency in dependencies {
-        copies.push(dependency.copy(alloc)?)?;
-    }
-    Ok(Items::from_vec(copies))
 }

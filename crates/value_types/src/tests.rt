@@ -1,7 +1,7 @@
 use crate::{
-    Causality, Class, ClockTiming, Dependency, Fraction, IntervalVariability, Joint, Knowns,
-    PortType, Shape, Variable, class_of, connectable, fits, from_word, greatest, least, read_value,
-    to_word,
+    ByReference, Causality, Class, ClockTiming, Dependency, Fraction, IntervalVariability, Joint,
+    Knowns, PortType, Shape, Variable, class_of, connectable, fits, from_word, greatest, least,
+    read_value, to_word,
 };
 use sim_base::{Items, Text};
 use std::alloc::{AllocError, Global};
@@ -180,10 +180,10 @@ fn shape(alloc: Global) -> Result<Shape, AllocError> {
         has_variable_steps: true,
         can_save_state: false,
         can_serialize_state: true,
-        variables: Items::from_vec(vec![in alloc; variable]?),
-        clocks: Items::from_vec(vec![in alloc; clock]?),
-        dependencies: Items::from_vec(vec![in alloc; dependency]?),
-        initial_dependencies: Items::from_vec(vec![in alloc; initial_dependency]?),
+        variables: ByReference::new(alloc, vec![in alloc; variable]?)?,
+        clocks: ByReference::new(alloc, vec![in alloc; clock]?)?,
+        dependencies: ByReference::new(alloc, vec![in alloc; dependency]?)?,
+        initial_dependencies: ByReference::new(alloc, vec![in alloc; initial_dependency]?)?,
     })
 }
 
@@ -195,5 +195,55 @@ fn a_copy_shows_the_same(rt: HostRuntime) -> Result<(), Fail> {
     let shown = format!(in alloc; "{shape:?}")?;
     assert!(rt; shown.len() > 100);
     assert_eq!(rt; format!(in alloc; "{copy:?}")?.as_str(), shown.as_str());
+    Ok(())
+}
+
+#[test]
+fn the_first_of_a_reference_is_found(rt: HostRuntime) -> Result<(), Fail> {
+    let alloc = rt.alloc();
+    let mut clocks = Vec::new(alloc);
+    for reference in [9, 2, 9, 4_294_967_295, 0, 2] {
+        clocks.push(ClockTiming {
+            reference,
+            variability: IntervalVariability::Triggered,
+            supports_fraction: false,
+            interval: None,
+            shift: None,
+        })?;
+    }
+    let clocks = ByReference::new(alloc, clocks)?.copy(alloc)?;
+    for (reference, place) in [
+        (0, Some(4)),
+        (1, None),
+        (2, Some(1)),
+        (9, Some(0)),
+        (10, None),
+        (4_294_967_295, Some(3)),
+    ] {
+        assert_eq!(rt; clocks.place_of(reference), place, "{reference}");
+        assert_eq!(rt;
+            clocks.find(reference).is_some(),
+            place.is_some(),
+            "{reference}"
+        );
+    }
+    Ok(())
+}
+
+#[test]
+fn a_variable_tells_what_it_is(rt: HostRuntime) -> Result<(), Fail> {
+    let alloc = rt.alloc();
+    let shape = shape(alloc)?;
+    let Some(y) = shape.variables.find(7) else {
+        return Err(Fail::from("no variable 7"));
+    };
+    assert_eq!(rt;
+        (y.is_output_port(), y.is_port(), y.is_input_port()),
+        (true, true, false)
+    );
+    assert_eq!(rt;
+        (y.is_parameter(), y.is_clock(), y.is_unclocked()),
+        (false, false, false)
+    );
     Ok(())
 }

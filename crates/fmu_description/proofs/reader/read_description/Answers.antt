@@ -1,4 +1,4 @@
-use Rattle.std.proofs.Common.{◌≡◌, subst, ℕ, List}
+use Rattle.std.proofs.Common.{subst, ℕ, List}
 use Rattle.doc_grammar.specs.Nodes.{Node}
 use Rattle.fmu_description.specs.Description.{Describes}
 use Rattle.fmu_description.proofs.reader.read_description.Goals as goal

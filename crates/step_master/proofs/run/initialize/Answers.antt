@@ -1,21 +1,49 @@
-use Rattle.std.proofs.Common.{subst, sym}
-use Rattle.step_master.specs.Initial.{LeadsIn}
-use Rattle.step_master.proofs.Closing.{leads_in, enter_stops, exit_stops, exit_gives_up}
+use Rattle.std.proofs.Common.{refl, subst, List, Ok, Err}
+use Rattle.core.proofs.result.Match.{err_is}
+use Rattle.value_types.specs.declared.shape.Shape.{Shape}
+use Rattle.fmi_calls.specs.declared.call.Call.TheVariants as C
+use Rattle.fmu_peer.specs.CloseAll.{instance_in}
+use Rattle.step_master.specs.Place.{IsAt, IsInitializing, IsMade}
+use Rattle.step_master.specs.Slots.{instances}
+use Rattle.step_master.specs.Stage.{Stage, to_each}
+use Rattle.step_master.specs.Steps.{nothing}
+use Rattle.step_master.proofs.Answered.{stage_cut, stage_cut_later, stage_on, shapes_same}
+use Rattle.step_master.proofs.Chains.{stage_all}
+use Rattle.step_master.proofs.Phases.{enter_leads, exit_leads}
 use Rattle.step_master.proofs.run.initialize.Goals as goal
 
-pub returns-in-Ok-exit_initialization-clause-ok : goal.returns-in-Ok-exit_initialization-clause-ok
-returns-in-Ok-exit_initialization-clause-ok g c =
-    subst (λ p. LeadsIn c.args.plan.now (g.L.Peer.view c.args.fmu.peer) (g.L.Peer.view p)) (sym c.stepping.ensures)
-    (leads_in c.args.plan.now (g.L.Peer.view c.args.fmu.peer) (g.L.Peer.view c.in-Ok.fmu.peer) _ c.in-Ok.ensures.ok.0 c.in-Ok-exit_initialization.ensures.ok.0 c.requires.made c.in-Ok.ensures.ok.1 c.in-Ok-exit_initialization.ensures.ok.1)
+pub returns-in_err-each-clause-stage : goal.returns-in_err-each-clause-stage
+returns-in_err-each-clause-stage g c =
+    stage_cut _ _ nothing nothing _ (instances g.L.Peer.view c.args.slots.now) _ _ _ (err_is _ _ c.from_residual.ensures.1) c.in_err-each.ensures.stage
 
-pub returns-in-Err-exit_initialization-clause-stops : goal.returns-in-Err-exit_initialization-clause-stops
-returns-in-Err-exit_initialization-clause-stops g c =
-    exit_stops c.args.plan.now (g.L.Peer.view c.args.fmu.peer) (g.L.Peer.view c.in-Ok.fmu.peer) (g.L.Peer.view c.in-Err-exit_initialization.ended.peer) c.in-Ok.ensures.ok.0 c.in-Err-exit_initialization.ended.why c.in-Ok.ensures.ok.1 c.in-Err-exit_initialization.ensures.err
+pub each-requires-2-clause-permitted : goal.each-requires-2-clause-permitted
+each-requires-2-clause-permitted g c κs within =
+    let plan = c.args.plan.now in
+    let stage = c.in_ok-each.ensures.stage in
+    let in_mode = stage_all (λ s. instance_in g.L.Peer.view s) (λ s. C.EnterInitialization plan.start plan.stop) IsMade (IsInitializing plan.start plan.stop) (enter_leads plan.start plan.stop)
+    c.args.slots.now c.each.new.slots stage.log stage.told stage.says.0 c.requires.made in
+    λ k d w. ((in_mode k d w).state, (in_mode k d w).plain.no_event)
 
-pub returns-in-Err-exit_initialization-clause-err : goal.returns-in-Err-exit_initialization-clause-err
-returns-in-Err-exit_initialization-clause-err g c =
-    exit_gives_up c.args.plan.now (g.L.Peer.view c.args.fmu.peer) (g.L.Peer.view c.in-Ok.fmu.peer) (g.L.Peer.view c.in-Err-exit_initialization.ended.peer) c.in-Ok.ensures.ok.0 c.in-Err-exit_initialization.ended.why c.in-Ok.ensures.ok.1 c.in-Err-exit_initialization.ensures.err
+pub returns-clause-at : goal.returns-clause-at
+returns-clause-at g c =
+    let plan = c.args.plan.now in
+    let stage = c.in_ok-each.ensures.stage in
+    let second = c.in_ok-each-2.ensures.stage in
+    let in_mode = stage_all (λ s. instance_in g.L.Peer.view s) (λ s. C.EnterInitialization plan.start plan.stop) IsMade (IsInitializing plan.start plan.stop) (enter_leads plan.start plan.stop)
+    c.args.slots.now c.each.new.slots stage.log stage.told stage.says.0 c.requires.made in
+    stage_all (λ s. instance_in g.L.Peer.view s) (λ s. C.ExitInitialization) (IsInitializing plan.start plan.stop) (IsAt plan.start plan.stop plan.step) (exit_leads plan.start plan.stop plan.step)
+    c.each.new.slots c.each-2.new.slots second.log second.told second.says.0 in_mode
 
-pub returns-in-Err-clause-stops : goal.returns-in-Err-clause-stops
-returns-in-Err-clause-stops g c =
-    enter_stops c.args.plan.now (g.L.Peer.view c.args.fmu.peer) (g.L.Peer.view c.in-Err.ended.peer) c.in-Err.ended.why c.in-Err.ensures.err
+pub returns-in_err-each-2-clause-stage : goal.returns-in_err-each-2-clause-stage
+returns-in_err-each-2-clause-stage g c =
+    let first = c.in_ok-each.ensures.stage in
+    let same = shapes_same first.log _ _ first.told in
+    stage_cut_later _ _ nothing nothing _ _ _ _ _ (err_is _ _ c.from_residual-in_err-each-2.ensures.1) _ first nothing
+    (subst (λ (ss : List Shape). Stage (to_each (λ s. C.ExitInitialization) ss) nothing (instances g.L.Peer.view c.each.new.slots) (instances g.L.Peer.view c.each-2.new.slots) (Err c.in_err-each-2.field-0.0)) same c.in_err-each-2.ensures.stage)
+
+pub returns-clause-stage : goal.returns-clause-stage
+returns-clause-stage g c =
+    let first = c.in_ok-each.ensures.stage in
+    let same = shapes_same first.log _ _ first.told in
+    stage_on _ _ nothing nothing nothing _ _ _ _ _ _ first
+    (subst (λ (ss : List Shape). Stage (to_each (λ s. C.ExitInitialization) ss) nothing (instances g.L.Peer.view c.each.new.slots) (instances g.L.Peer.view c.each-2.new.slots) (Ok c.in_ok-each-2.field-0)) same c.in_ok-each-2.ensures.stage) refl

@@ -1,5 +1,5 @@
 use Rattle.std.proofs.Common.{◌+◌, drop, arith}
-use Rattle.run_model.specs.Text.{port_line, port_lines_from}
+use Rattle.system_model.specs.Text.{port_line, port_lines_from}
 use Rattle.trace_text.proofs.RestLemmas.{room_next, stands_more, next_port}
 use Rattle.trace_text.proofs.header.put_header.Goals as goal
 

@@ -1,5 +1,5 @@
 use Rattle.std.proofs.Common.{drop}
-use Rattle.run_model.specs.Text.{header_text, port_lines_from}
+use Rattle.system_model.specs.Text.{header_text, port_lines_from}
 use Rattle.trace_text.proofs.RestLemmas.{StandsBut}
 use Rattle.trace_text.proofs.header.put_header.Given as goal
 

@@ -1,4 +1,4 @@
-use Rattle.std.proofs.Common.{◌≡◌, ◌∙◌, ◌+◌, ◌<◌, ap, sym, length, arith}
+use Rattle.std.proofs.Common.{◌∙◌, ◌+◌, ◌<◌, ap, sym, length, arith}
 use Rattle.doc_tree.proofs.PathLemmas.{counts_yes, counts_no}
 use Rattle.doc_tree.proofs.tree.Tree.place_at.Goals as goal
 use Rattle.doc_tree.proofs.tree.Tree.place_at.Goals.{then-is_same, else-is_same, then-node-count, else-node-count}

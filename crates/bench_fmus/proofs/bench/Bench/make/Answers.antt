@@ -1,0 +1,13 @@
+use Rattle.std.proofs.Common.{◌≡◌, ap, ◌∙◌, sym, subst, Option, []}
+use Rattle.std.specs.Prelude.{IfSome}
+use Rattle.fmu_peer.specs.declared.talk_room.TalkRoom.{TalkRoom}
+use Rattle.bench_fmus.specs.Told.{origin_in}
+use Rattle.bench_fmus.proofs.BuiltInLemmas.{is_started}
+use Rattle.bench_fmus.proofs.bench.Bench.make.Goals as goal
+
+pub returns-clause-fresh : goal.returns-clause-fresh
+returns-clause-fresh c =
+    let made = c.in_ok-peer.ensures in
+    is_started c.args.host.now c.args.name.now c.args.directory.now c.args.shape.now c.in_ok-peer.peer
+    (ap origin_in (made.origin ∙ c.in_ok-origin.ensures)) made.shape made.phase
+    (subst (λ (t : Option TalkRoom). IfSome t (λ (r : TalkRoom). r.exchanges.items ≡ [])) (sym made.talk) c.in_ok-talk.ensures.empty) made.faults made.state

@@ -1,0 +1,226 @@
+ghost use Rattle.std.specs.Prelude.{◌≡◌, ◌+◌, ◌<◌, ◌≤◌, IfOk, if◌then◌else◌, length, map, pos, set, slice_get, true, unwrap_or};
+ghost use Rattle.fmi_calls.specs.Permission.{Permitted};
+ghost use Rattle.fmu_peer.specs.Machine.{after, written};
+ghost use Rattle.bench_fmus.specs.BuiltIn.{spread, start_of};
+
+use crate::wrap::wrapped_word;
+use crate::{Model, SavedState};
+use fmi_calls::{Call, Content, Phase};
+use std::alloc::{AllocError, Global};
+use value_types::{ByReference, Shape, Variable};
+
+/// The numbers of a built-in machine's own.
+#[derive(Clone, Copy, Debug, PartialEq, Eq)]
+pub struct Numbers {
+    /// whether the machine is in Initialization Mode
+    pub is_initializing: bool,
+    pub count: i64,
+}
+
+impl Numbers {
+    ghost use Rattle.bench_fmus.specs.BuiltIn.{at_first};
+    ghost use Rattle.bench_fmus.specs.Told.{told};
+
+    /// The numbers before the first call.
+    pub fn at_first() -> Numbers
+        ensures { told result ≡ at_first }
+    {
+        Numbers {
+            is_initializing: false,
+            count: 0,
+        }
+    }
+}
+
+/// The state of a built-in machine: its numbers, the value under each reference at the place of the first variable that
+/// has it, and what Save keeps of both.
+#[derive(Debug, Drop)]
+pub struct BuiltInState {
+    pub numbers: Numbers,
+    pub values: Vec<i128>,
+    pub saved: SavedState,
+}
+
+impl BuiltInState {
+    ghost use Rattle.bench_fmus.specs.BuiltIn.{content_of, first_state, machine_of, numbers_after, value_of};
+    ghost use Rattle.bench_fmus.specs.Models.{behaviour_of};
+    ghost use Rattle.bench_fmus.specs.Told.{HasRoom, state_in, told, values_in};
+
+    /// The state before the first call.
+    pub fn at_first(alloc: Global, shape: &Shape) -> Result<BuiltInState, AllocError>
+        ensures first { IfOk result (λ s. state_in shape.now.variables s ≡ first_state shape.now.variables) }
+        ensures room { IfOk result (HasRoom shape.now) }
+    {
+        Ok(BuiltInState {
+            numbers: Numbers::at_first(),
+            values: first_values(alloc, shape.variables.as_slice())?,
+            saved: SavedState::none(alloc, shape.variables.len())?,
+        })
+    }
+
+    /// The value under a reference, or 0 where no variable has it.
+    #[tactic(auto, using(crate::proofs::ValueLemmas::value_of_missing))]
+    pub(crate) fn value(&self, variables: &ByReference<Variable>, reference: u32) -> i128
+        ensures { result ≡ value_of variables.now (values_in variables.now self.now) reference }
+    {
+        match variables.place_of(reference) {
+            Some(place) => number_at(self.values.as_slice(), place),
+            None => 0,
+        }
+    }
+
+    /// What a good reply to a call carries.
+    pub(crate) fn content(&self, model: Model, shape: &Shape, phase: &Phase, call: &Call) -> Content
+        requires { Permitted shape.now phase.now call.now }
+        ensures { result ≡ content_of (behaviour_of model) shape.now (told self.now.numbers) (values_in shape.now.variables self.now) call.now }
+    {
+        match *call {
+            Call::Instantiate { .. } => Content::Instantiate,
+            Call::EnterInitialization { .. } => Content::EnterInitialization,
+            Call::ExitInitialization => Content::ExitInitialization,
+            Call::DoStep { at, size } => Content::DoStep {
+                event_needed: false,
+                terminate: model.asks_to_end(&shape.variables, self, size),
+                early: false,
+                end: step_end(phase.stop, at, size),
+            },
+            Call::Get { kind, reference } => Content::Get {
+                word: wrapped_word(kind, model.shown(&shape.variables, self, reference)),
+            },
+            Call::Set { .. } => Content::Set,
+            Call::Save => Content::Save,
+            Call::Restore => Content::Restore,
+            Call::Free => Content::Free,
+            Call::Terminate => Content::Terminate,
+            Call::FreeInstance => Content::FreeInstance,
+            Call::EnterEvent
+            | Call::EnterStep
+            | Call::Update
+            | Call::GetClock { .. }
+            | Call::SetClock { .. }
+            | Call::GetInterval { .. }
+            | Call::GetShift { .. } => unreachable!("no phase permits it yet"),
+        }
+    }
+
+    fn next_numbers(&self, model: Model, variables: &ByReference<Variable>, call: &Call) -> Numbers
+        ensures { told result ≡ numbers_after (behaviour_of model) variables.now (told self.now.numbers) (values_in variables.now self.now) call.now }
+    {
+        match *call {
+            Call::EnterInitialization { .. } => Numbers {
+                is_initializing: true,
+                ..self.numbers
+            },
+            Call::ExitInitialization => Numbers {
+                is_initializing: false,
+                ..self.numbers
+            },
+            Call::DoStep { .. } => Numbers {
+                count: model.counted(variables, self),
+                ..self.numbers
+            },
+            _ => self.numbers,
+        }
+    }
+
+    /// Goes on to the state after a call.
+    pub(crate) fn change(&mut self, model: Model, shape: &Shape, phase: &Phase, call: &Call)
+        requires permitted { Permitted shape.now phase.now call.now }
+        requires room { HasRoom shape.now self.old }
+        ensures state { state_in shape.now.variables self.new ≡ after (machine_of (behaviour_of model) shape.now) (state_in shape.now.variables self.old) call.now }
+        ensures room { HasRoom shape.now self.new }
+    {
+        match *call {
+            Call::Get { .. } => {}
+            Call::Set {
+                reference,
+                value,
+                ..
+            } => write_value(&shape.variables, &mut self.values, reference, value),
+            Call::Save => self.save(),
+            Call::Restore => self.restore(),
+            Call::Free => self.saved.is_full = false,
+            Call::Instantiate { .. }
+            | Call::EnterInitialization { .. }
+            | Call::ExitInitialization
+            | Call::DoStep { .. }
+            | Call::Terminate
+            | Call::FreeInstance => {
+                self.numbers = self.next_numbers(model, &shape.variables, call);
+            }
+            Call::EnterEvent
+            | Call::EnterStep
+            | Call::Update
+            | Call::GetClock { .. }
+            | Call::SetClock { .. }
+            | Call::GetInterval { .. }
+            | Call::GetShift { .. } => unreachable!("no phase permits it yet"),
+        }
+    }
+
+    fn save(&mut self)
+        requires { length self.old.saved.values.items ≡ length self.old.values.items }
+        ensures full { self.new.saved.is_full ≡ true }
+        ensures kept { (self.new.saved.numbers ≡ self.old.numbers) × (self.new.saved.values.items ≡ self.old.values.items) }
+        ensures same { (self.new.numbers ≡ self.old.numbers) × (self.new.values.items ≡ self.old.values.items) }
+    {
+        self.saved.is_full = true;
+        self.saved.numbers = self.numbers;
+        self.saved.values.copy_from_slice(self.values.as_slice());
+    }
+
+    fn restore(&mut self)
+        requires { length self.old.saved.values.items ≡ length self.old.values.items }
+        ensures numbers { self.new.numbers ≡ (if self.old.saved.is_full then self.old.saved.numbers else self.old.numbers) }
+        ensures values { self.new.values.items ≡ (if self.old.saved.is_full then self.old.saved.values.items else self.old.values.items) }
+        ensures same { self.new.saved ≡ self.old.saved }
+    {
+        if self.saved.is_full {
+            self.numbers = self.saved.numbers;
+            self.values.copy_from_slice(self.saved.values.as_slice());
+        }
+    }
+}
+
+// The stop shows that the sum fits.
+fn step_end(_stop: u64, at: u64, size: u64) -> u64
+    requires { at + size ≤ _stop }
+    ensures { result ≡ at + size }
+{
+    at + size
+}
+
+fn number_at(values: &[i128], place: usize) -> i128
+    ensures { result ≡ unwrap_or (slice_get values.now place) (pos 0) }
+{
+    values.get(place).copied().unwrap_or(0)
+}
+
+fn first_values(alloc: Global, variables: &[Variable]) -> Result<Vec<i128>, AllocError>
+    ensures { IfOk result (λ values. values.items ≡ map start_of variables.now) }
+{
+    let mut values = Vec::with_capacity(alloc, variables.len())?;
+    for variable in variables {
+        values.push(variable.start.unwrap_or(0))?;
+    }
+    Ok(values)
+}
+
+// Writes the value under a reference.
+fn write_value(variables: &ByReference<Variable>, values: &mut [i128], reference: u32, value: i128)
+    requires { length values.old ≡ length variables.now }
+    ensures values { spread variables.now values.new ≡ written (map (λ v. v.reference) variables.now) (spread variables.now values.old) reference value }
+    ensures room { length values.new ≡ length values.old }
+{
+    match variables.place_of(reference) {
+        Some(place) => put(values, place, value),
+        None => {}
+    }
+}
+
+fn put(values: &mut [i128], place: usize, value: i128)
+    requires { place < length values.old }
+    ensures { values.new ≡ set values.old place value }
+{
+    values[place] = value;
+}

@@ -1,0 +1,2 @@
+mod MarkLemmas
+pub mod KindLemmas

@@ -1,0 +1,5 @@
+use Rattle.run_model.proofs.Behaves as B
+use Rattle.run_model.proofs.laws.always_behaves.Goals as goal
+
+pub returns : goal.returns
+returns c = B.always_behaves

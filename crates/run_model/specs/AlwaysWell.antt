@@ -1,0 +1,59 @@
+-- FMUs that answer each call of a run well, in whatever state they are (FMI 3.0, 4.2.1: Co-Simulation).
+use Rattle.std.specs.Prelude.{◌≡◌, ◌⊎◌, ℕ, ◌<◌, true, length, Some, IsSomeAnd}
+use Rattle.std.specs.List.{slice_get}
+use Rattle.value_types.specs.Shape.{IsOutput, is_clock, timing_at, variable_at}
+use Rattle.value_types.specs.Values.{Fits}
+use Rattle.value_types.specs.declared.shape.Causality.TheVariants as V
+use Rattle.value_types.specs.declared.shape.IntervalVariability.TheVariants as T
+use Rattle.value_types.specs.declared.shape.ClockTiming.{ClockTiming}
+use Rattle.value_types.specs.declared.shape.Variable.{Variable}
+use Rattle.value_types.specs.declared.shape.Shape.{Shape}
+use Rattle.fmi_calls.specs.declared.call.Call.{Call}
+use Rattle.fmi_calls.specs.declared.call.Call.TheVariants as C
+use Rattle.fmi_calls.specs.Permission.{is_value_type}
+use Rattle.fmu_peer.specs.Machine.{MachineState, Machine, IsMachineOf}
+use Rattle.system_model.specs.declared.system.Component.{Component}
+use Rattle.system_model.specs.Sound.{IsSound}
+use Rattle.run_model.specs.Run.{Run}
+use Rattle.run_model.specs.Behaved.{IsAnsweredWell, BehavesWell}
+
+-- a fixed Clock whose FMU is asked for its interval and shift
+abbrev pub IsAskedFixed : ClockTiming → Type 0
+IsAskedFixed timing = (timing.variability ≡ T.Fixed) × (timing.supports_fraction ≡ true)
+
+-- a Clock of the shape
+abbrev pub IsClockOf : Shape → ℕ → (Variable → Type 0) → Type 0
+IsClockOf shape reference Is = IsSomeAnd (variable_at shape.variables reference) (λ (v : Variable). (is_clock v ≡ true) × Is v)
+
+-- a run sends the call to an FMU of the shape, in some state, before the closing
+abbrev pub RunSends : Shape → Call → Type 0
+RunSends shape (C.Instantiate event_mode early_return) = (event_mode ≡ shape.has_event_mode) × (early_return ≡ shape.might_return_early)
+RunSends shape (C.EnterInitialization start stop) = Unit {0}
+RunSends shape C.ExitInitialization = Unit {0}
+RunSends shape C.EnterEvent = shape.has_event_mode ≡ true
+RunSends shape C.EnterStep = shape.has_event_mode ≡ true
+RunSends shape (C.DoStep at size) = 0 < size
+RunSends shape C.Update = shape.has_event_mode ≡ true
+RunSends shape (C.Get kind reference) = (is_value_type kind ≡ true) × IsOutput shape kind reference
+RunSends shape (C.Set kind reference value) =
+    (is_value_type kind ≡ true) × Fits kind value
+    × IsSomeAnd (variable_at shape.variables reference) (λ (v : Variable). (v.kind ≡ Some kind) × ((v.causality ≡ V.Parameter) ⊎ (v.causality ≡ V.Input)))
+RunSends shape (C.GetClock reference) = IsClockOf shape reference (λ (v : Variable). v.causality ≡ V.Output)
+RunSends shape (C.SetClock reference) = IsClockOf shape reference (λ (v : Variable). v.causality ≡ V.Input)
+RunSends shape (C.GetInterval reference) = IsSomeAnd (timing_at shape.clocks reference) (λ (t : ClockTiming). (t.variability ≡ T.Countdown) ⊎ IsAskedFixed t)
+RunSends shape (C.GetShift reference) = IsSomeAnd (timing_at shape.clocks reference) IsAskedFixed
+RunSends shape C.Save = shape.can_save_state ≡ true
+RunSends shape C.Restore = shape.can_save_state ≡ true
+RunSends shape C.Free = shape.can_save_state ≡ true
+RunSends shape C.Terminate = ⊥
+RunSends shape C.FreeInstance = ⊥
+
+-- the machine answers each such call well in each state that has a value for each variable
+abbrev pub AlwaysWell : Shape → Machine → Type 0
+AlwaysWell shape m = (s : MachineState) (call : Call) → length s.values ≡ length shape.variables → RunSends shape call → IsAnsweredWell shape m s call
+
+-- such a machine behaves well as the i-th FMU of any run, whatever the others do
+abbrev pub AlwaysBehaves : Type 0
+AlwaysBehaves = (r : Run) → IsSound r.system → (i : ℕ) →
+    ((c : Component) (m : Machine) → slice_get r.system.components i ≡ Some c → slice_get r.machines i ≡ Some m → IsMachineOf c.shape m × AlwaysWell c.shape m) →
+    BehavesWell r i

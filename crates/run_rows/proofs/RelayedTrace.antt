@@ -1,0 +1,29 @@
+-- The trace of the counter, the relay and the sampler.
+use Rattle.std.proofs.Common.{ℤ, pos, List, [], ◌∷◌, refl, arith}
+use Rattle.std.specs.Prelude.{Option, Some, None}
+use Rattle.system_model.specs.declared.plan.EndKind.TheVariants.{Stop}
+use Rattle.run_model.specs.Run.{Situation}
+use Rattle.run_model.specs.Initial.{beginning}
+use Rattle.run_model.specs.AfterInstant.{updated}
+use Rattle.run_model.specs.Stepping.{stepped, AtStop}
+use Rattle.run_model.specs.Trace.{IsTrace, Runs, Last, Further}
+use Rattle.run_rows.specs.Relayed as row
+use Rattle.run_rows.proofs.Tools.{solves_by, initially_by, bound_10, bound_20, departs_by}
+
+abbrev w : List (Option ℤ)
+w = Some (pos 0) ∷ Some (pos 0) ∷ None ∷ None ∷ None ∷ None ∷ None ∷ []
+
+abbrev s0 : Situation
+s0 = beginning row.relayed_run w
+
+abbrev s10 : Situation
+s10 = stepped row.relayed_run (updated row.relayed_run s0 row.v0) (10 ∷ 10 ∷ 10 ∷ []) 10
+
+abbrev s20 : Situation
+s20 = stepped row.relayed_run (updated row.relayed_run s10 row.v10) (20 ∷ 20 ∷ 20 ∷ []) 20
+
+pub trace : IsTrace row.relayed_run row.relayed_instants Stop 20
+trace = Runs w (initially_by row.relayed_run w refl (refl, (refl, (refl, (refl, (refl, (refl, (refl, tt))))))))
+    (Further s0 row.v0 _ Stop 20 s10 _ (solves_by row.relayed_run s0 row.v0 refl (refl, (refl, (refl, (refl, (refl, (refl, (refl, tt)))))))) (departs_by row.relayed_run (updated row.relayed_run s0 row.v0) 10 (omega arith) (bound_10 100 _ (λ point later. (λ x. absurd x, (λ x. absurd x, (λ x. absurd x, (λ x. absurd x, (λ x. absurd x, (λ x. absurd x, (λ x. absurd x, tt))))))))) refl refl refl) refl
+    (Further s10 row.v10 _ Stop 20 s20 _ (solves_by row.relayed_run s10 row.v10 refl (refl, (refl, (refl, (refl, (refl, (refl, (refl, tt)))))))) (departs_by row.relayed_run (updated row.relayed_run s10 row.v10) 20 (omega arith) (bound_20 100 _ (λ point later. (λ x. absurd x, (λ x. absurd x, (λ x. absurd x, (λ x. absurd x, (λ x. absurd x, (λ x. absurd x, (λ x. absurd x, tt))))))))) refl refl refl) refl
+    (Last s20 row.v20 _ Stop 20 (solves_by row.relayed_run s20 row.v20 refl (refl, (refl, (refl, (refl, (refl, (refl, (refl, tt)))))))) (AtStop _ refl refl) refl)))

@@ -1,0 +1,214 @@
+-- A test of systems, which computes, and which sound systems pass alone: of systems at 1000 counts a second whose FMUs save their states, and whose connected ports have one type.
+use Rattle.std.proofs.Common.{◌≡◌, ℕ, ◌<◌, Bool, true, false, not, ◌&&◌, List, [], ◌∷◌, length, map, refl, sym, ◌∙◌, ap, arith, nat_lt, nat_le}
+use Rattle.std.specs.Prelude.{slice_get, ◌^◌, ◌==◌}
+use Rattle.std.proofs.lemmas.Bool.{eqb-true, ltb-true, leb-true}
+use Rattle.sim_base.specs.declared.numbers.PortId.{PortId}
+use Rattle.clock_fraction.specs.Counts.{IsCounts}
+use Rattle.clock_fraction.specs.declared.fraction.Fraction.{Fraction}
+use Rattle.value_types.specs.Joint.{Joins}
+use Rattle.value_types.specs.Shape.{is_clock, is_input, is_output, timing_at, variable_at}
+use Rattle.value_types.specs.declared.joint.Joint.TheVariants.{Fit}
+use Rattle.value_types.specs.declared.values.PortType.{PortType}
+use Rattle.value_types.specs.declared.values.PortType.TheVariants as T
+use Rattle.value_types.specs.declared.shape.IntervalVariability.{IntervalVariability}
+use Rattle.value_types.specs.declared.shape.IntervalVariability.TheVariants as v
+use Rattle.value_types.specs.declared.shape.ClockTiming.{ClockTiming}
+use Rattle.value_types.specs.declared.shape.Variable.{Variable}
+use Rattle.value_types.specs.declared.shape.Shape.{Shape}
+use Rattle.system_model.specs.declared.system.Component.{Component}
+use Rattle.system_model.specs.declared.system.Timing.{Timing}
+use Rattle.system_model.specs.declared.system.Timing.TheVariants.{Periodic, Answered, Countdown}
+use Rattle.system_model.specs.declared.system.Role.{Role}
+use Rattle.system_model.specs.declared.system.Role.TheVariants.{Input, Output, ClockInput, ClockOutput, TimeClock}
+use Rattle.system_model.specs.declared.system.Port.{Port}
+use Rattle.system_model.specs.declared.system.System.{System}
+use Rattle.system_model.specs.Ports.{source_of, is_output_role, label_of, labels_from}
+use Rattle.system_model.specs.Shapes.{IsSoundShape, is_described}
+use Rattle.system_model.specs.Sound.{IsPort, IsRole, IsTiming, IsUnder, IsFeed, HasSoundComponents, HasSoundPorts, HasSoundFeeds}
+use Rattle.system_model.proofs.Lists.{all_at, all_by_place}
+use Rattle.run_rows.proofs.Tests.{true_false, left, right, holds, parts, every, all_by, zips, zip_by, if_some, is_some_and, is_some_and_by, are_counts, counts_by}
+use Rattle.run_rows.proofs.ShapeTests.{input_by, output_by, is_sound_shape, shape_by}
+
+-- ---- components
+
+abbrev pub component_parts : Component → List Bool
+component_parts c = nat_lt 0 (length c.name) ∷ is_sound_shape c.shape ∷ (c.shape.resolution == 1000) ∷ c.shape.can_save_state ∷ []
+
+pub components_by : (system : System) → nat_le (length system.components) 256 ≡ true → every (λ c. holds (component_parts c)) system.components ≡ true → HasSoundComponents system
+components_by system few e =
+    let all = all_by (λ c. holds (component_parts c)) (λ (c : Component). holds (component_parts c) ≡ true) (λ c h. h) system.components e in
+    record {
+      few = leb-true (length system.components) 256 few;
+      named = all_by_place (λ (c : Component). 0 < length c.name) system.components (λ k c at. ltb-true 0 (length c.name) (parts (component_parts c) (all_at (λ (x : Component). holds (component_parts x) ≡ true) system.components k c all at)).0);
+      shapes = all_by_place (λ (c : Component). IsSoundShape c.shape) system.components (λ k c at. shape_by c.shape (parts (component_parts c) (all_at (λ (x : Component). holds (component_parts x) ≡ true) system.components k c all at)).1.0);
+      per_second = 1000;
+      above = omega arith;
+      within = omega arith;
+      resolutions = all_by_place (λ (c : Component). c.shape.resolution ≡ 1000) system.components (λ k c at. eqb-true c.shape.resolution 1000 (parts (component_parts c) (all_at (λ (x : Component). holds (component_parts x) ≡ true) system.components k c all at)).1.1.0);
+      saved = λ i j early other at_i at_j apart early_is. (parts (component_parts other) (all_at (λ (x : Component). holds (component_parts x) ≡ true) system.components j other all at_j)).1.1.1.0;
+    }
+
+-- ---- roles
+
+abbrev pub is_fixed : IntervalVariability → Bool
+is_fixed v.Fixed = true
+is_fixed v.Constant = false
+is_fixed v.Tunable = false
+is_fixed v.Changing = false
+is_fixed v.Countdown = false
+is_fixed v.Triggered = false
+
+fixed_by : (x : IntervalVariability) → is_fixed x ≡ true → x ≡ v.Fixed
+fixed_by v.Fixed e = refl
+fixed_by v.Constant e = absurd (true_false (sym e))
+fixed_by v.Tunable e = absurd (true_false (sym e))
+fixed_by v.Changing e = absurd (true_false (sym e))
+fixed_by v.Countdown e = absurd (true_false (sym e))
+fixed_by v.Triggered e = absurd (true_false (sym e))
+
+abbrev is_countdown : IntervalVariability → Bool
+is_countdown v.Countdown = true
+is_countdown v.Constant = false
+is_countdown v.Fixed = false
+is_countdown v.Tunable = false
+is_countdown v.Changing = false
+is_countdown v.Triggered = false
+
+countdown_by : (x : IntervalVariability) → is_countdown x ≡ true → x ≡ v.Countdown
+countdown_by v.Countdown e = refl
+countdown_by v.Constant e = absurd (true_false (sym e))
+countdown_by v.Fixed e = absurd (true_false (sym e))
+countdown_by v.Tunable e = absurd (true_false (sym e))
+countdown_by v.Changing e = absurd (true_false (sym e))
+countdown_by v.Triggered e = absurd (true_false (sym e))
+
+abbrev is_triggered : IntervalVariability → Bool
+is_triggered v.Triggered = true
+is_triggered v.Constant = false
+is_triggered v.Fixed = false
+is_triggered v.Tunable = false
+is_triggered v.Changing = false
+is_triggered v.Countdown = false
+
+triggered_by : (x : IntervalVariability) → is_triggered x ≡ true → x ≡ v.Triggered
+triggered_by v.Triggered e = refl
+triggered_by v.Constant e = absurd (true_false (sym e))
+triggered_by v.Fixed e = absurd (true_false (sym e))
+triggered_by v.Tunable e = absurd (true_false (sym e))
+triggered_by v.Changing e = absurd (true_false (sym e))
+triggered_by v.Countdown e = absurd (true_false (sym e))
+
+abbrev periodic_parts : ℕ → ClockTiming → ℕ → ℕ → List Bool
+periodic_parts per_second clock interval shift =
+    is_described clock.variability clock.supports_fraction ∷ is_some_and (are_counts per_second interval) clock.interval ∷ is_some_and (are_counts per_second shift) clock.shift
+    ∷ nat_lt 0 interval ∷ nat_le interval (2 ^ 126) ∷ nat_le shift (2 ^ 126) ∷ []
+
+abbrev is_timing : ℕ → ClockTiming → Timing → Bool
+is_timing per_second clock (Periodic interval shift) = holds (periodic_parts per_second clock interval shift)
+is_timing per_second clock Answered = is_fixed clock.variability && clock.supports_fraction
+is_timing per_second clock Countdown = is_countdown clock.variability
+
+timing_by : (per_second : ℕ) (clock : ClockTiming) (timing : Timing) → is_timing per_second clock timing ≡ true → IsTiming per_second clock timing
+timing_by per_second clock (Periodic interval shift) e = let p = parts (periodic_parts per_second clock interval shift) e in
+    record {
+      described = p.0;
+      interval_counts = is_some_and_by (are_counts per_second interval) (λ (f : Fraction). IsCounts f per_second interval) (λ f h. counts_by per_second interval f h) clock.interval p.1.0;
+      shift_counts = is_some_and_by (are_counts per_second shift) (λ (f : Fraction). IsCounts f per_second shift) (λ f h. counts_by per_second shift f h) clock.shift p.1.1.0;
+      interval_above = ltb-true 0 interval p.1.1.1.0;
+      interval_within = leb-true interval (2 ^ 126) p.1.1.1.1.0;
+      shift_within = leb-true shift (2 ^ 126) p.1.1.1.1.1.0;
+    }
+timing_by per_second clock Answered e = (fixed_by clock.variability (left (is_fixed clock.variability) clock.supports_fraction e), right (is_fixed clock.variability) clock.supports_fraction e)
+timing_by per_second clock Countdown e = countdown_by clock.variability e
+
+not_by : (b : Bool) → not b ≡ true → b ≡ false
+not_by true e = absurd (true_false (sym e))
+not_by false e = refl
+
+abbrev is_role : Shape → Variable → Role → Bool
+is_role shape x (Input feed) = is_input x.causality && not (is_clock x)
+is_role shape x Output = is_output x.causality && not (is_clock x)
+is_role shape x (ClockInput feed) = is_input x.causality && (is_clock x && is_some_and (λ (t : ClockTiming). is_triggered t.variability) (timing_at shape.clocks x.reference))
+is_role shape x ClockOutput = is_output x.causality && is_clock x
+is_role shape x (TimeClock timing) = is_input x.causality && (is_clock x && is_some_and (λ (t : ClockTiming). is_timing shape.resolution t timing) (timing_at shape.clocks x.reference))
+
+role_by : (shape : Shape) (x : Variable) (role : Role) → is_role shape x role ≡ true → IsRole shape x role
+role_by shape x (Input feed) e = (input_by x.causality (left (is_input x.causality) (not (is_clock x)) e), not_by (is_clock x) (right (is_input x.causality) (not (is_clock x)) e))
+role_by shape x Output e = (output_by x.causality (left (is_output x.causality) (not (is_clock x)) e), not_by (is_clock x) (right (is_output x.causality) (not (is_clock x)) e))
+role_by shape x (ClockInput feed) e =
+    let clock = is_some_and (λ (t : ClockTiming). is_triggered t.variability) (timing_at shape.clocks x.reference) in
+    let more = right (is_input x.causality) (is_clock x && clock) e in (
+      input_by x.causality (left (is_input x.causality) (is_clock x && clock) e),
+      left (is_clock x) clock more,
+      is_some_and_by (λ (t : ClockTiming). is_triggered t.variability) (λ (t : ClockTiming). t.variability ≡ v.Triggered) (λ t h. triggered_by t.variability h) (timing_at shape.clocks x.reference) (right (is_clock x) clock more),
+    )
+role_by shape x ClockOutput e = (output_by x.causality (left (is_output x.causality) (is_clock x) e), right (is_output x.causality) (is_clock x) e)
+role_by shape x (TimeClock timing) e =
+    let clock = is_some_and (λ (t : ClockTiming). is_timing shape.resolution t timing) (timing_at shape.clocks x.reference) in
+    let more = right (is_input x.causality) (is_clock x && clock) e in (
+      input_by x.causality (left (is_input x.causality) (is_clock x && clock) e),
+      left (is_clock x) clock more,
+      is_some_and_by (λ (t : ClockTiming). is_timing shape.resolution t timing) (λ (t : ClockTiming). IsTiming shape.resolution t timing) (λ t h. timing_by shape.resolution t timing h) (timing_at shape.clocks x.reference) (right (is_clock x) clock more),
+    )
+
+-- ---- ports
+
+abbrev is_under : System → ℕ → ℕ → PortId → Bool
+is_under system i reference p = is_some_and (λ (port : Port). (port.component.0 == i) && (port.reference == reference)) (slice_get system.ports p.0)
+
+under_by : (system : System) (i reference : ℕ) (p : PortId) → is_under system i reference p ≡ true → IsUnder system i reference p
+under_by system i reference p e = is_some_and_by (λ (port : Port). (port.component.0 == i) && (port.reference == reference)) (λ (port : Port). (port.component.0 ≡ i) × (port.reference ≡ reference))
+    (λ port h. (eqb-true port.component.0 i (left (port.component.0 == i) (port.reference == reference) h), eqb-true port.reference reference (right (port.component.0 == i) (port.reference == reference) h)))
+    (slice_get system.ports p.0) e
+
+-- a port by its component and its variable, where they are there
+abbrev pub is_sound_port : System → Port → Bool
+is_sound_port system port =
+    if_some (λ (c : Component). if_some (λ (x : Variable). is_role c.shape x port.role && zips (is_under system port.component.0) x.clocks port.clocks) (variable_at c.shape.variables port.reference))
+    (slice_get system.components port.component.0)
+
+port_by : (system : System) → every (is_sound_port system) system.ports ≡ true → (p : ℕ) (port : Port) (c : Component) (x : Variable) → IsPort system p port c x →
+    (is_role c.shape x port.role && zips (is_under system port.component.0) x.clocks port.clocks) ≡ true
+port_by system e p port c x is =
+    let here : is_sound_port system port ≡ true = all_at (λ (y : Port). is_sound_port system y ≡ true) system.ports p port (all_by (is_sound_port system) (λ (y : Port). is_sound_port system y ≡ true) (λ y h. h) system.ports e) is.at in
+    let test = λ (d : Component) (y : Variable). is_role d.shape y port.role && zips (is_under system port.component.0) y.clocks port.clocks in
+    sym (ap (λ o. if_some (test c) o) is.there) ∙ sym (ap (λ o. if_some (λ (d : Component). if_some (test d) (variable_at d.shape.variables port.reference)) o) is.of) ∙ here
+
+pub ports_by : (system : System) → nat_le (length system.ports) 65536 ≡ true → map label_of system.ports ≡ labels_from 0 system.components → every (is_sound_port system) system.ports ≡ true → HasSoundPorts system
+ports_by system few numbered e = record {
+  few = leb-true (length system.ports) 65536 few;
+  numbered = numbered;
+  roles = λ p port c x is. role_by c.shape x port.role (left (is_role c.shape x port.role) (zips (is_under system port.component.0) x.clocks port.clocks) (port_by system e p port c x is));
+  clocks = λ p port c x is. zip_by (is_under system port.component.0) (IsUnder system port.component.0) (under_by system port.component.0) x.clocks port.clocks
+      (right (is_role c.shape x port.role) (zips (is_under system port.component.0) x.clocks port.clocks) (port_by system e p port c x is));
+}
+
+-- ---- connections
+
+abbrev same_type : PortType → PortType → Bool
+same_type T.Int32 T.Int32 = true
+same_type T.Clock T.Clock = true
+same_type _ _ = false
+
+same_type_by : (a b : PortType) → same_type a b ≡ true → Joins a b Fit
+same_type_by T.Int32 T.Int32 e = (refl, λ x h. h)
+same_type_by T.Clock T.Clock e = (refl, λ x h. h)
+same_type_by a b e = absurd (true_false (sym e))
+
+abbrev is_feed : Port → Port → Bool
+is_feed source target = is_output_role source.role && same_type source.kind target.kind
+
+feed_by : (source target : Port) → is_feed source target ≡ true → IsFeed source target
+feed_by source target e = record {
+  output = left (is_output_role source.role) (same_type source.kind target.kind) e;
+  types = same_type_by source.kind target.kind (right (is_output_role source.role) (same_type source.kind target.kind) e);
+}
+
+abbrev pub is_fed : System → Port → Bool
+is_fed system port = if_some (λ q. is_some_and (λ (source : Port). is_feed source port) (slice_get system.ports q)) (source_of port.role)
+
+pub feeds_by : (system : System) → every (is_fed system) system.ports ≡ true → HasSoundFeeds system
+feeds_by system e p q port is from =
+    let here : is_fed system port ≡ true = all_at (λ (y : Port). is_fed system y ≡ true) system.ports p port (all_by (is_fed system) (λ (y : Port). is_fed system y ≡ true) (λ y h. h) system.ports e) is in
+    is_some_and_by (λ (source : Port). is_feed source port) (λ (source : Port). IsFeed source port) (λ source h. feed_by source port h) (slice_get system.ports q)
+    (sym (ap (λ o. if_some (λ k. is_some_and (λ (source : Port). is_feed source port) (slice_get system.ports k)) o) from) ∙ here)

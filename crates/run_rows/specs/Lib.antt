@@ -1,0 +1,15 @@
+pub mod Parts
+pub mod Machines
+pub mod Row
+pub mod Timer
+pub mod Limit
+pub mod CounterGain
+pub mod Samplers
+pub mod Relayed
+pub mod Gains
+pub mod Ticks
+pub mod Counted
+pub mod Calls
+pub mod FixedClock
+pub mod Alarmed
+pub mod Quiet

@@ -1,3 +1,0 @@
-pub mod SystemLemmas
-pub mod TakenLemmas
-pub mod AloneLemmas

@@ -1,0 +1,130 @@
+-- The trace, where the file is taken and the identifier is known.
+use Rattle.std.proofs.Common.{◌≡◌, ◌⊎◌, inl, inr, ℕ, true, List, Some, sym, ap, ◌∙◌, subst, arith}
+use Rattle.std.specs.Prelude.{All}
+use Rattle.sim_base.specs.Causes.{Rose}
+use Rattle.sim_base.specs.Sink.{SinkView}
+use Rattle.value_types.specs.declared.shape.Shape.{Shape}
+use Rattle.fmu_peer.specs.View.{View}
+use Rattle.system_model.specs.declared.plan.Plan.{Plan}
+use Rattle.system_model.specs.declared.plan.EndKind.{EndKind}
+use Rattle.system_model.specs.declared.plan.EndKind.TheVariants as K
+use Rattle.system_model.specs.declared.system.Component.{Component}
+use Rattle.system_model.specs.declared.system.System.{System}
+use Rattle.run_model.specs.Run.{Run}
+use Rattle.step_master.specs.declared.run_end.RunEnd.{RunEnd}
+use Rattle.step_master.specs.declared.run_end.RunEnd.TheVariants as E
+use Rattle.step_master.specs.Course.{IsBoundOf, trace_pieces}
+use Rattle.step_master.specs.Ends.{EndsBy}
+use Rattle.step_master.specs.Lived.{Account}
+use Rattle.step_master.specs.Puts.{CutsPiece, with_pieces}
+use Rattle.step_master.specs.Traced.{CutsTrace, PutsTrace, SomeRose, TracesWell}
+use Rattle.command_line.specs.Line.{Line, plan_of}
+use Rattle.ssprun.specs.declared.outcome.Outcome.{Outcome}
+use Rattle.ssprun.specs.declared.outcome.Outcome.TheVariants.{Words, Memory, File, Start, Ran}
+use Rattle.ssprun.specs.declared.outcome.StartCause.TheVariants.{Failed, Unknown}
+use Rattle.ssprun.specs.declared.outcome.End.{End}
+use Rattle.ssprun.specs.declared.outcome.End.TheVariants as O
+use Rattle.ssprun.specs.Message.{Reports, end_message, end_status, fixed_message}
+use Rattle.ssprun.specs.Facts.{LineFacts, ShapeFacts, system_for, task_of}
+use Rattle.ssprun.specs.Happened.{Happened}
+use Rattle.ssprun.specs.Rows.{Front, IsIdle, ReportsEnd, Says, Traces, Whole, WritesTrace}
+use Rattle.ssprun.specs.Runs.{Broke, Goes, HasRun, IsEndOf, Went, names_of}
+use Rattle.ssprun.proofs.Exactly.{known_unknown, only_one}
+use Rattle.ssprun.proofs.PeerLemmas.{all_got}
+use Rattle.ssprun.proofs.When.{HasPut, cut_short_rose, start_rose, taken_idle, wants_idle}
+
+-- ---- 11
+
+memory_status : (h : Happened) → HasPut Memory h → (Rose h.err.faults h.err_after.faults → ⊥) → h.status ≡ 11
+memory_status h (inl p) quiet = p.0
+memory_status h (inr p) quiet = absurd (quiet (cut_short_rose _ h.err h.err_after p.1))
+
+-- ---- the trace
+
+none_rose : {A : Type 0} (olds news : List View) → All (λ (v : View). v.faults ≡ 0) news → SomeRose olds news → A
+none_rose olds news none some = absurd (zero_rose some.old.faults some.new.faults (all_got (λ (v : View). v.faults ≡ 0) news some.place some.new none some.after) some.rose)
+  where
+    zero_rose : (a b : ℕ) → b ≡ 0 → Rose a b → ⊥
+    zero_rose a b e r = omega (arith, e, r)
+
+-- where err's count didn't rise, the line is there
+put_line : (text : List ℕ) (w : ℕ) (h : Happened) → Reports (Some text) w h.status h.err h.err_after → (Rose h.err.faults h.err_after.faults → ⊥) → (h.status ≡ w) × Says h text
+put_line text w h (inl p) quiet = p
+put_line text w h (inr p) quiet = absurd (quiet (cut_short_rose text h.err h.err_after p.1))
+
+module _ (h : Happened) (line : Line) (system : System) (quiet : Rose h.err.faults h.err_after.faults → ⊥) (r : Run) (of : r.system ≡ system) (planned : r.plan ≡ (plan_of line)) where
+  -- the whole text
+  whole : (a : Account) (kind : EndKind) (point : ℕ) → a.system ≡ system → a.plan ≡ plan_of line → a.before ≡ h.old.run.out → a.after ≡ h.new.run.out → PutsTrace a r kind point → ReportsEnd h system (plan_of line) kind point → WritesTrace h r
+  whole a kind point s p b n t ends =
+      Whole t.is kind point t.trace
+      (subst (λ (x : System). ReportsEnd h x r.plan kind point) (sym of) (subst (λ (x : Plan). ReportsEnd h system x kind point) (sym planned) ends))
+      (sym n ∙ t.text.put ∙ ap (λ (v : SinkView). with_pieces v (trace_pieces a.system a.plan t.is kind point)) b
+      ∙ ap (λ (x : System). with_pieces h.old.run.out (trace_pieces x a.plan t.is kind point)) (s ∙ sym of)
+      ∙ ap (λ (x : Plan). with_pieces h.old.run.out (trace_pieces r.system x t.is kind point)) (p ∙ sym planned))
+
+  -- a front of it
+  front : (a : Account) → a.system ≡ system → a.plan ≡ plan_of line → a.before ≡ h.old.run.out → a.after ≡ h.new.run.out → CutsTrace a r → h.status ≡ 10 → WritesTrace h r
+  front a s p b n t status =
+      Front t.is t.kind t.point t.pieces t.piece t.rest t.trace status
+      (sym (ap (λ (x : System). trace_pieces x a.plan t.is t.kind t.point) (s ∙ sym of) ∙ ap (λ (x : Plan). trace_pieces r.system x t.is t.kind t.point) (p ∙ sym planned)) ∙ t.are)
+      (subst (λ (v : SinkView). CutsPiece (with_pieces v t.pieces) t.piece h.new.run.out) b (subst (CutsPiece (with_pieces a.before t.pieces) t.piece) n t.cut))
+
+  -- by the end
+  ended : (end : RunEnd) (e : End) (g : Goes (task_of line) system end h.old.run h.new.run) → IsEndOf (names_of system) end e → Reports (end_message e) (end_status e) h.status h.err h.err_after →
+      All (λ (v : View). v.faults ≡ 0) g.account.news → TracesWell g.account r end → EndsBy g.account.system g.account.plan g.lived.log g.lived.is end g.account.before g.account.after → WritesTrace h r
+  ended E.Stop e g named p none t by =
+      let put : Reports (end_message O.Stop) (end_status O.Stop) h.status h.err h.err_after = subst (λ (x : End). Reports (end_message x) (end_status x) h.status h.err h.err_after) named p in
+      whole g.account K.Stop g.account.plan.stop g.system_is g.plan_is g.before_is g.after_is t put
+  ended (E.Asked point) e g named p none t by =
+      let put : Reports (end_message O.Asked) (end_status O.Asked) h.status h.err h.err_after = subst (λ (x : End). Reports (end_message x) (end_status x) h.status h.err h.err_after) named p in
+      whole g.account K.Asked point g.system_is g.plan_is g.before_is g.after_is t put
+  ended (E.EventLimit point) e g named p none t by = absurd named
+  ended (E.FixedStep component at end) e g named p none t by =
+      let put : Reports (Some (fixed_message named.0 at end)) 9 h.status h.err h.err_after = subst (λ (x : End). Reports (end_message x) (end_status x) h.status h.err h.err_after) named.2 p in
+      let said = put_line (fixed_message named.0 at end) 9 h put quiet in
+      let bound : IsBoundOf (plan_of line) at end = subst (λ (x : Plan). IsBoundOf x at end) g.plan_is by.1.1.bound in
+      whole g.account K.Fixed at g.system_is g.plan_is g.before_is g.after_is t (said.0, component.0, named.0, end, named.1, bound, said.1)
+  ended (E.Bad bad) e g named p none t by = none_rose g.account.olds g.account.news none t.1
+  ended E.WriteFault e g named p none t by = choose t
+    where
+      status : Reports (end_message O.WriteFault) (end_status O.WriteFault) h.status h.err h.err_after → h.status ≡ 10
+      status (inl q) = q.0
+      status (inr q) = q.0
+
+      choose : SomeRose g.account.olds g.account.news ⊎ CutsTrace g.account r → WritesTrace h r
+      choose (inl some) = none_rose g.account.olds g.account.news none some
+      choose (inr cut) = front g.account g.system_is g.plan_is g.before_is g.after_is cut (status (subst (λ (x : End). Reports (end_message x) (end_status x) h.status h.err h.err_after) named p))
+
+run_traces : (end : RunEnd) (e : End) (line : Line) (system : System) (h : Happened) → IsEndOf (names_of system) end e → HasRun (task_of line) system end h.old.run h.new.run → HasPut (Ran e) h →
+    (Rose h.err.faults h.err_after.faults → ⊥) → Traces h line system
+run_traces end e line system h named (Went g) p quiet = record {
+  olds = g.account.olds;
+  news = g.account.news;
+  peers = g.peers;
+  writes = λ r of planned well none. ended h line system quiet r of.system_is planned end e g named p none (g.well r of planned well)
+      (subst (λ (x : RunEnd). EndsBy g.account.system g.account.plan g.lived.log g.lived.is x g.account.before g.account.after) g.end_is g.lived.text);
+}
+run_traces end e line system h named (Broke bad is f) p quiet = record {
+  olds = f.olds;
+  news = f.news;
+  peers = f.peers;
+  writes = λ r of planned well none. none_rose f.olds f.news none (f.well r of well).1;
+}
+
+shape_trace : (o : Outcome) (line : Line) (shape : Shape) (h : Happened) → ShapeFacts o line shape h.old.run h.new.run → HasPut o h → h.old.run.spawner.knows shape.identifier ≡ true →
+    (Rose h.old.run.spawner.faults h.new.run.spawner.faults → ⊥) → (Rose h.err.faults h.err_after.faults → ⊥) → ((h.status ≡ 11) × IsIdle h) ⊎ Traces h line (system_for shape)
+shape_trace Words line shape h f p knows calm quiet = absurd f
+shape_trace Memory line shape h f p knows calm quiet = inl (memory_status h p quiet, taken_idle (task_of line) (system_for shape) h f)
+shape_trace (File path fault) line shape h f p knows calm quiet = absurd f
+shape_trace (Start name Failed) line shape h f p knows calm quiet = absurd (calm (start_rose (task_of line) (system_for shape) name h.old.run h.new.run f))
+shape_trace (Start name Unknown) line shape h f p knows calm quiet =
+    known_unknown (h.old.run.spawner.knows shape.identifier) knows
+    (ap (λ (c : Component). h.old.run.spawner.knows c.shape.identifier) (only_one _ f.component f.place f.here) ∙ f.noted.1)
+shape_trace (Ran e) line shape h f p knows calm quiet = inr (run_traces f.0 e line (system_for shape) h f.1 f.2 p quiet)
+
+pub trace_exact : (o : Outcome) (line : Line) (shape : Shape) (h : Happened) → LineFacts o line h.old h.new → HasPut o h →
+    h.old.run.spawner.knows shape.identifier ≡ true → (Rose h.old.run.spawner.faults h.new.run.spawner.faults → ⊥) → (Rose h.err.faults h.err_after.faults → ⊥) →
+    (o ≡ Memory) ⊎ ShapeFacts o line shape h.old.run h.new.run → ((h.status ≡ 11) × IsIdle h) ⊎ Traces h line (system_for shape)
+trace_exact o line shape h f p knows calm quiet (inl e) =
+    inl (memory_status h (subst (λ (x : Outcome). HasPut x h) e p) quiet, (wants_idle line h (subst (λ (x : Outcome). LineFacts x line h.old h.new) e f)).0)
+trace_exact o line shape h f p knows calm quiet (inr s) = shape_trace o line shape h s p knows calm quiet

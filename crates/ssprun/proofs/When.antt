@@ -1,0 +1,258 @@
+-- What holds of each status, from what holds of each outcome.
+use Rattle.std.proofs.Common.{◌≡◌, ◌⊎◌, inl, inr, ℕ, ◌+◌, List, [], ◌++◌, Option, Some, None, refl, sym, ap, ◌∙◌, subst, arith, codes}
+use Rattle.std.proofs.lemmas.List.{append-nil}
+use Rattle.std.proofs.lemmas.List.Elements.{All-nil}
+use Rattle.sim_base.specs.Causes.{Rose, one_more}
+use Rattle.sim_base.specs.Folder.{FolderView}
+use Rattle.sim_base.specs.Sink.{SinkView}
+use Rattle.value_types.specs.declared.shape.Shape.{Shape}
+use Rattle.fmu_peer.specs.declared.ended.Why.{Why}
+use Rattle.fmu_peer.specs.declared.ended.Why.TheVariants.{Refused, Misreply, Link}
+use Rattle.fmu_peer.specs.Start.{SpawnerView}
+use Rattle.fmu_peer.specs.View.{View}
+use Rattle.step_master.specs.declared.run_end.RunEnd.{RunEnd}
+use Rattle.step_master.specs.declared.run_end.RunEnd.TheVariants as E
+use Rattle.system_model.specs.declared.system.System.{System}
+use Rattle.command_line.specs.Line.{Line, IsLine}
+use Rattle.ssprun.specs.declared.outcome.Outcome.{Outcome}
+use Rattle.ssprun.specs.declared.outcome.Outcome.TheVariants.{Words, Memory, File, Start, Ran}
+use Rattle.ssprun.specs.declared.outcome.FileFault.{FileFault}
+use Rattle.ssprun.specs.declared.outcome.FileFault.TheVariants.{Unread, Missing, TooBig, Broken}
+use Rattle.ssprun.specs.declared.outcome.StartCause.{StartCause}
+use Rattle.ssprun.specs.declared.outcome.StartCause.TheVariants.{Failed, Unknown}
+use Rattle.ssprun.specs.declared.outcome.End.{End}
+use Rattle.ssprun.specs.declared.outcome.End.TheVariants as O
+use Rattle.ssprun.specs.Message.{Reports, CutsShort, message, status_of, file_message, start_message, end_message}
+use Rattle.ssprun.specs.Files.{files_of}
+use Rattle.ssprun.specs.Facts.{Calm, Loads, FileFacts, Facts, Reading, Running, WantsMemory, WithLine, WithoutLine, system_for, task_of}
+use Rattle.ssprun.specs.Happened.{Happened, Scene, Stage}
+use Rattle.ssprun.specs.Peers.{with_all_started}
+use Rattle.ssprun.specs.Rows.{Says, IsIdle, IsSilent, IsMute, memory_line, OnLine, IsNoLine, HasEnded, LacksFile, IsUnread, IsMissing, IsTooBig, BreaksRule, BreaksOffBy, LosesPeer, NotStarted, NotKnown, NotAnswering, IsRefusedWhy, IsMisreplyWhy, LacksSize}
+use Rattle.ssprun.specs.Runs.{FailsToStart, HasRun, IsEndOf, NotesUnstarted, TakesBack, Task, names_of}
+use Rattle.ssprun.proofs.FolderLemmas.{unfailed}
+use Rattle.ssprun.proofs.Outs.{tells_out}
+use Rattle.ssprun.proofs.PeerLemmas.{unasked}
+use Rattle.ssprun.proofs.Statuses.{Status, Done, WrongWords, NoFile, BrokenRule, NoPeer, Refusal, WrongReply, FixedSize, Unwritten, NoMemory, number, of_file, of_end, of_outcome, numbered, same_number}
+use Rattle.fmu_peer.specs.Answer.{IsLink}
+
+abbrev pub HasFacts : Outcome → Happened → Type 0
+HasFacts o h = Facts o h.words h.old h.new
+
+abbrev pub HasPut : Outcome → Happened → Type 0
+HasPut o h = Reports (message o) (status_of o) h.status h.err h.err_after
+
+-- err holds the line, if there is one
+abbrev pub Put : Happened → Option (List ℕ) → Type 0
+Put h None = IsSilent h
+Put h (Some text) = Says h text
+
+-- the status is the outcome's, with its line, or 10, and the line couldn't be put
+pub said : (m : Option (List ℕ)) (w : ℕ) (h : Happened) → Reports m w h.status h.err h.err_after → ((h.status ≡ w) × Put h m) ⊎ ((text : List ℕ) × IsMute h text)
+said None w h p = inl p
+said (Some text) w h (inl p) = inl p
+said (Some text) w h (inr p) = inr (text, p)
+
+-- a put that failed raised the count
+pub cut_short_rose : (text : List ℕ) (old new : SinkView) → CutsShort text old new → Rose old.faults new.faults
+cut_short_rose text old new c = raised old.faults new.faults (ap (λ (v : SinkView). v.faults) c.1)
+  where
+    raised : (before after : ℕ) → after ≡ one_more before → Rose before after
+    raised before after e = omega arith
+
+abbrev pub WhenIs : Status → Happened → Type 0
+WhenIs Done h = OnLine h (HasEnded h)
+WhenIs WrongWords h = IsNoLine h × (h.new ≡ h.old) × Says h (codes "words\n")
+WhenIs NoFile h = OnLine h (λ line. Calm h.old.run h.new.run × LacksFile h line)
+WhenIs BrokenRule h = OnLine h (λ line. Calm h.old.run h.new.run × BreaksRule h line)
+WhenIs NoPeer h = OnLine h (LosesPeer h)
+WhenIs Refusal h = OnLine h (λ line. BreaksOffBy h line IsRefusedWhy)
+WhenIs WrongReply h = OnLine h (λ line. BreaksOffBy h line IsMisreplyWhy)
+WhenIs FixedSize h = OnLine h (LacksSize h)
+WhenIs Unwritten h = Says h (codes "write\n") × Rose h.old.run.out.faults h.new.run.out.faults
+WhenIs NoMemory h = IsIdle h × (h.new.run.spawner.faults ≡ h.old.run.spawner.faults) × (h.new.folder.failed ≡ h.old.folder.failed) × Says h memory_line
+
+file_when : (fault : FileFault) (path : List ℕ) (line : Line) (h : Happened) → IsLine h.words line → Calm h.old.run h.new.run →
+    FileFacts fault line path h.old.folder h.new.folder → Says h (file_message path fault) → WhenIs (of_file fault) h
+file_when Unread path line h is calm f says = (line, is, (calm, IsUnread path f says))
+file_when Missing path line h is calm f says = (line, is, (calm, IsMissing path f says))
+file_when TooBig path line h is calm f says = (line, is, (calm, IsTooBig path f says))
+file_when (Broken rule place) path line h is calm f says = (line, is, (calm, (path, rule, place, f, says)))
+
+-- ---- peers that weren't called
+
+calm_idle : (h : Happened) → Calm h.old.run h.new.run → IsIdle h
+calm_idle h calm = record {
+  peers = [];
+  unasked = All-nil _;
+  started = ap (λ (s : Scene). s.spawner.started) calm ∙ omega arith;
+  retired = ap (λ (s : Scene). s.spawner.retired) calm ∙ sym (append-nil h.old.run.spawner.retired);
+  out = ap (λ (s : Scene). s.out) calm;
+}
+
+pub taken_idle : (task : Task) (system : System) (h : Happened) → TakesBack task system h.old.run h.new.run → IsIdle h
+taken_idle task system h t = record {
+  peers = t.peers;
+  unasked = unasked task.directory system.components t.peers t.are;
+  started = ap (λ (s : SpawnerView). s.started) t.told;
+  retired = ap (λ (s : SpawnerView). s.retired) t.told;
+  out = t.out;
+}
+
+pub noted_failure : (cause : StartCause) (c : _) (s t : SpawnerView) → NotesUnstarted cause c s t → (t.started ≡ s.started) × (t.retired ≡ s.retired)
+noted_failure Failed c s t n = (ap (λ (x : SpawnerView). x.started) n, ap (λ (x : SpawnerView). x.retired) n)
+noted_failure Unknown c s t n = (ap (λ (x : SpawnerView). x.started) n.0, ap (λ (x : SpawnerView). x.retired) n.0)
+
+pub unstarted_idle : (task : Task) (system : System) (name : List ℕ) (cause : StartCause) (h : Happened) → FailsToStart task system name cause h.old.run h.new.run → IsIdle h
+unstarted_idle task system name cause h f =
+    let n = noted_failure cause f.component (with_all_started h.old.run.spawner f.place) f.failed f.noted in
+    record {
+      peers = f.peers;
+      unasked = unasked task.directory system.components f.peers f.are;
+      started = ap (λ (s : SpawnerView). s.started) f.told ∙ n.0 ∙ ap (λ (k : ℕ). h.old.run.spawner.started + k) (sym f.each);
+      retired = ap (λ (s : SpawnerView). s.retired) f.told ∙ ap (λ (vs : List View). vs ++ f.peers) n.1;
+      out = f.out;
+    }
+
+pub wants_idle : (line : Line) (h : Happened) → WantsMemory line h.old h.new → IsIdle h × (h.new.run.spawner.faults ≡ h.old.run.spawner.faults) × (h.new.folder.failed ≡ h.old.folder.failed)
+wants_idle line h (Reading calm some) = (calm_idle h calm, ap (λ (s : Scene). s.spawner.faults) calm, unfailed (files_of line) h.old.folder h.new.folder some)
+wants_idle line h (Running shape loads back) = (
+  taken_idle (task_of line) (system_for shape) h back,
+  ap (λ (s : SpawnerView). s.faults) back.told,
+  ap (λ (v : FolderView). v.failed) loads.told,
+)
+
+pub same_idle : (h : Happened) → h.new ≡ h.old → IsIdle h
+same_idle h same = calm_idle h (ap (λ (s : Stage). s.run) same)
+
+pub line_idle : (h : Happened) → Calm h.old.run h.new.run → IsIdle h
+line_idle h calm = calm_idle h calm
+
+-- a start that failed raised the count
+pub start_rose : (task : Task) (system : System) (name : List ℕ) (old new : Scene) → FailsToStart task system name Failed old new → Rose old.spawner.faults new.spawner.faults
+start_rose task system name old new f = raised old.spawner.faults new.spawner.faults (ap (λ (s : SpawnerView). s.faults) f.told ∙ ap (λ (s : SpawnerView). s.faults) f.noted)
+  where
+    raised : (before after : ℕ) → after ≡ one_more before → Rose before after
+    raised before after e = omega arith
+
+-- ---- each outcome
+
+start_when : (cause : StartCause) (name : List ℕ) (line : Line) (shape : Shape) (h : Happened) → IsLine h.words line →
+    Loads line shape h.old.folder h.new.folder → FailsToStart (task_of line) (system_for shape) name cause h.old.run h.new.run →
+    Says h (start_message name cause) → WhenIs NoPeer h
+start_when Failed name line shape h is loads f says =
+    (line, is, NotStarted shape name loads f (start_rose (task_of line) (system_for shape) name h.old.run h.new.run f) says)
+start_when Unknown name line shape h is loads f says = (line, is, NotKnown shape name loads f says)
+
+bad_when : (why : Why) (line : Line) (h : Happened) → IsLine h.words line → BreaksOffBy h line (λ (w : Why). w ≡ why) → WhenIs (of_end (O.Bad [] why)) h
+bad_when (Refused call status) line h is b = (
+  line,
+  is,
+  record {
+    shape = b.shape;
+    loads = b.loads;
+    bad = b.bad;
+    so = subst IsRefusedWhy (sym b.so) tt;
+    name = b.name;
+    named = b.named;
+    says = b.says;
+    run = b.run;
+  },
+)
+bad_when (Misreply call reply) line h is b = (
+  line,
+  is,
+  record {
+    shape = b.shape;
+    loads = b.loads;
+    bad = b.bad;
+    so = subst IsMisreplyWhy (sym b.so) tt;
+    name = b.name;
+    named = b.named;
+    says = b.says;
+    run = b.run;
+  },
+)
+bad_when (Link call fault) line h is b = (
+  line,
+  is,
+  NotAnswering (record {
+    shape = b.shape;
+    loads = b.loads;
+    bad = b.bad;
+    so = subst IsLink (sym b.so) tt;
+    name = b.name;
+    named = b.named;
+    says = b.says;
+    run = b.run;
+  }),
+)
+
+run_when : (end : RunEnd) (e : End) (line : Line) (shape : Shape) (h : Happened) → IsLine h.words line → Loads line shape h.old.folder h.new.folder →
+    IsEndOf (names_of (system_for shape)) end e → HasRun (task_of line) (system_for shape) end h.old.run h.new.run → Put h (end_message e) → WhenIs (of_end e) h
+run_when E.Stop e line shape h is loads named run says =
+    subst (λ (x : End). WhenIs (of_end x) h) (sym named) (line, is, (E.Stop, tt, (shape, loads, run), subst (λ (x : End). Put h (end_message x)) named says))
+run_when (E.Asked point) e line shape h is loads named run says =
+    subst (λ (x : End). WhenIs (of_end x) h) (sym named) (line, is, (E.Asked point, tt, (shape, loads, run), subst (λ (x : End). Put h (end_message x)) named says))
+run_when (E.EventLimit point) e line shape h is loads named run says = absurd named
+run_when (E.FixedStep component at end) e line shape h is loads named run says =
+    subst (λ (x : End). WhenIs (of_end x) h) (sym named.2) (
+      line,
+      is,
+      record {
+        shape = shape;
+        loads = loads;
+        component = component;
+        at = at;
+        end = end;
+        name = named.0;
+        named = named.1;
+        says = subst (λ (x : End). Put h (end_message x)) named.2 says;
+        run = run;
+      },
+    )
+run_when (E.Bad bad) e line shape h is loads named run says =
+    subst (λ (x : End). WhenIs (of_end x) h) (sym named.2) (bad_when bad.why line h is (record {
+      shape = shape;
+      loads = loads;
+      bad = bad;
+      so = refl;
+      name = named.0;
+      named = named.1;
+      says = subst (λ (x : End). Put h (end_message x)) named.2 says;
+      run = run;
+    }))
+run_when E.WriteFault e line shape h is loads named run says =
+    subst (λ (x : End). WhenIs (of_end x) h) (sym named)
+    (subst (λ (x : End). Put h (end_message x)) named says, tells_out (task_of line) (system_for shape) E.WriteFault h.old.run h.new.run run)
+
+outcome_when : (o : Outcome) (h : Happened) → HasFacts o h → Put h (message o) → WhenIs (of_outcome o) h
+outcome_when Words h (WithLine r) says = absurd r.facts
+outcome_when Words h (WithoutLine w) says = (w.why, w.same, says)
+outcome_when Memory h (WithLine r) says = let i = wants_idle r.line h r.facts in (i.0, i.1, i.2, says)
+outcome_when Memory h (WithoutLine w) says =
+    (same_idle h w.same, ap (λ (s : Stage). s.run.spawner.faults) w.same, ap (λ (s : Stage). s.folder.failed) w.same, says)
+outcome_when (File path fault) h (WithLine r) says = file_when fault path r.line h r.is r.facts.0 r.facts.1 says
+outcome_when (File path fault) h (WithoutLine w) says = absurd w.why
+outcome_when (Start name cause) h (WithLine r) says = start_when cause name r.line r.facts.0 h r.is r.facts.1 r.facts.2 says
+outcome_when (Start name cause) h (WithoutLine w) says = absurd w.why
+outcome_when (Ran e) h (WithLine r) says =
+    let ends = r.facts.2 in run_when ends.0 e r.line r.facts.0 h r.is r.facts.1 ends.1 ends.2 says
+outcome_when (Ran e) h (WithoutLine w) says = absurd w.why
+
+-- a status other than 10 is the outcome's
+pub when_is : (s : Status) (o : Outcome) (h : Happened) → HasFacts o h → HasPut o h → (number s ≡ 10 → ⊥) → h.status ≡ number s → WhenIs s h
+when_is s o h f p other is = choose (said (message o) (status_of o) h p)
+  where
+    choose : ((h.status ≡ status_of o) × Put h (message o)) ⊎ ((text : List ℕ) × IsMute h text) → WhenIs s h
+    choose (inl q) =
+        subst (λ (c : Status). WhenIs c h) (same_number (of_outcome o) s (sym (numbered o) ∙ sym q.0 ∙ is)) (outcome_when o h f q.1)
+    choose (inr q) = absurd (other (sym is ∙ q.1.0))
+
+-- at 10 the text couldn't be put, or the line
+pub when_unwritten : (o : Outcome) (h : Happened) → HasFacts o h → HasPut o h → h.status ≡ 10 → WhenIs Unwritten h ⊎ ((text : List ℕ) × IsMute h text)
+when_unwritten o h f p is = choose (said (message o) (status_of o) h p)
+  where
+    choose : ((h.status ≡ status_of o) × Put h (message o)) ⊎ ((text : List ℕ) × IsMute h text) → WhenIs Unwritten h ⊎ ((text : List ℕ) × IsMute h text)
+    choose (inl q) =
+        inl (subst (λ (c : Status). WhenIs c h) (same_number (of_outcome o) Unwritten (sym (numbered o) ∙ sym q.0 ∙ is)) (outcome_when o h f q.1))
+    choose (inr q) = inr q

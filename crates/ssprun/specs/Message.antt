@@ -1,0 +1,154 @@
+-- The line on the error sink, and the status.
+use Rattle.std.specs.Prelude.{◌≡◌, ◌⊎◌, ℕ, ◌+◌, ◌*◌, List, ◌++◌, length, take, Option, Some, None, codes, decimal}
+use Rattle.hex.specs.Hex.{encode_lower}
+use Rattle.sim_base.specs.Escape.{escaped}
+use Rattle.sim_base.specs.Sink.{SinkView, with_piece, with_fault}
+use Rattle.doc_tree.specs.Rules.{number}
+use Rattle.doc_tree.specs.declared.place.Place.{Place}
+use Rattle.doc_tree.specs.declared.place.Place.TheVariants.{Byte, Element}
+use Rattle.fmi_calls.specs.KindFacts.{facts_of}
+use Rattle.fmi_calls.specs.Kinds.{kind_of, status_of_bad}
+use Rattle.fmi_calls.specs.declared.call.Call.{Call}
+use Rattle.fmi_calls.specs.declared.call.Status.{Status}
+use Rattle.fmi_calls.specs.declared.call.Status.TheVariants as S
+use Rattle.fmu_peer.specs.declared.ended.Why.{Why}
+use Rattle.fmu_peer.specs.declared.ended.Why.TheVariants.{Refused, Misreply, Link}
+use Rattle.ssprun.specs.declared.outcome.Outcome.{Outcome}
+use Rattle.ssprun.specs.declared.outcome.Outcome.TheVariants.{Words, Memory, File, Start, Ran}
+use Rattle.ssprun.specs.declared.outcome.FileFault.{FileFault}
+use Rattle.ssprun.specs.declared.outcome.FileFault.TheVariants.{Unread, Missing, TooBig, Broken}
+use Rattle.ssprun.specs.declared.outcome.StartCause.{StartCause}
+use Rattle.ssprun.specs.declared.outcome.StartCause.TheVariants.{Failed, Unknown}
+use Rattle.ssprun.specs.declared.outcome.End.{End}
+use Rattle.ssprun.specs.declared.outcome.End.TheVariants.{Stop, Asked, FixedStep, Bad, WriteFault}
+use Rattle.ssprun.specs.Frame.{reply_frame}
+
+-- a call's name
+abbrev pub call_name : Call → List ℕ
+call_name call = (facts_of (kind_of call)).name
+
+-- a status' name in FMI 3.0, without the prefix fmi3
+abbrev pub status_name : Status → List ℕ
+status_name S.Ok = codes "OK"
+status_name S.Warning = codes "Warning"
+status_name S.Discard = codes "Discard"
+status_name S.Error = codes "Error"
+status_name S.Fatal = codes "Fatal"
+
+-- ---- the lines
+
+abbrev pub place_text : Place → List ℕ
+place_text (Byte at) = codes "byte " ++ decimal at
+place_text (Element path) = path
+
+-- of a file that wasn't taken
+unfoldable pub file_message : List ℕ → FileFault → List ℕ
+file_message path Unread = codes "read " ++ escaped path ++ codes "\n"
+file_message path Missing = codes "missing " ++ escaped path ++ codes "\n"
+file_message path TooBig = codes "big " ++ escaped path ++ codes "\n"
+file_message path (Broken rule place) =
+    codes "refused " ++ decimal (number rule) ++ codes " " ++ escaped path ++ codes " " ++ place_text place ++ codes "\n"
+
+-- of a component whose peer wasn't started
+unfoldable pub start_message : List ℕ → StartCause → List ℕ
+start_message component Failed = codes "link " ++ escaped component ++ codes " start\n"
+start_message component Unknown = codes "unknown " ++ escaped component ++ codes "\n"
+
+-- of a step that a component can't make, from a point to an end
+unfoldable pub fixed_message : List ℕ → ℕ → ℕ → List ℕ
+fixed_message component at end =
+    codes "fixed " ++ escaped component ++ codes " " ++ decimal at ++ codes " " ++ decimal end ++ codes "\n"
+
+-- of a component's answer that isn't good
+unfoldable pub bad_message : List ℕ → Why → List ℕ
+bad_message component (Refused call status) =
+    codes "fmu " ++ escaped component ++ codes " " ++ call_name call ++ codes " " ++ status_name (status_of_bad status) ++ codes "\n"
+bad_message component (Misreply call reply) =
+    codes "misreply " ++ escaped component ++ codes " " ++ call_name call ++ codes " " ++ encode_lower (reply_frame reply) ++ codes "\n"
+bad_message component (Link call fault) = codes "link " ++ escaped component ++ codes " " ++ call_name call ++ codes "\n"
+
+-- of the end of a run: none at the stop and where a component asked for it
+abbrev pub end_message : End → Option (List ℕ)
+end_message Stop = None
+end_message Asked = None
+end_message (FixedStep component at end) = Some (fixed_message component at end)
+end_message (Bad component why) = Some (bad_message component why)
+end_message WriteFault = Some (codes "write\n")
+
+-- of an outcome
+abbrev pub message : Outcome → Option (List ℕ)
+message Words = Some (codes "words\n")
+message Memory = Some (codes "memory\n")
+message (File path fault) = Some (file_message path fault)
+message (Start component fault) = Some (start_message component fault)
+message (Ran end) = end_message end
+
+-- ---- the room for a line
+
+-- so many bytes hold each line that names a component or a path of so many bytes, but for a place in a file
+abbrev pub room_for : ℕ → ℕ
+room_for length = 3 * length + 128
+
+abbrev pub path_room : Place → ℕ
+path_room (Byte at) = 0
+path_room (Element path) = length path
+
+abbrev pub place_room : FileFault → ℕ
+place_room Unread = 0
+place_room Missing = 0
+place_room TooBig = 0
+place_room (Broken rule place) = path_room place
+
+abbrev pub end_room : End → ℕ
+end_room Stop = 0
+end_room Asked = 0
+end_room (FixedStep component at end) = room_for (length component)
+end_room (Bad component why) = room_for (length component)
+end_room WriteFault = 0
+
+-- so many bytes hold the line of an outcome, where it isn't the same for all
+abbrev pub message_room : Outcome → ℕ
+message_room Words = 0
+message_room Memory = 0
+message_room (File path fault) = room_for (length path) + place_room fault
+message_room (Start component fault) = room_for (length component)
+message_room (Ran end) = end_room end
+
+-- ---- the statuses
+
+abbrev pub file_status : FileFault → ℕ
+file_status Unread = 3
+file_status Missing = 3
+file_status TooBig = 3
+file_status (Broken rule place) = 4
+
+abbrev pub why_status : Why → ℕ
+why_status (Refused call status) = 6
+why_status (Misreply call reply) = 7
+why_status (Link call fault) = 5
+
+abbrev pub end_status : End → ℕ
+end_status Stop = 0
+end_status Asked = 0
+end_status (FixedStep component at end) = 9
+end_status (Bad component why) = why_status why
+end_status WriteFault = 10
+
+abbrev pub status_of : Outcome → ℕ
+status_of Words = 2
+status_of Memory = 11
+status_of (File path fault) = file_status fault
+status_of (Start component fault) = 5
+status_of (Ran end) = end_status end
+
+-- ---- what is put
+
+-- the put of a line failed, and a front of it is there
+abbrev pub CutsShort : List ℕ → SinkView → SinkView → Type 0
+CutsShort text old new = (n : ℕ) × (new ≡ with_fault old (take n text))
+
+-- the line is put in one piece and this is the status, or its put failed and the status is 10; with no line nothing is put
+abbrev pub Reports : Option (List ℕ) → ℕ → ℕ → SinkView → SinkView → Type 0
+Reports None wanted status old new = (status ≡ wanted) × (new ≡ old)
+Reports (Some text) wanted status old new =
+    ((status ≡ wanted) × (new ≡ with_piece old text)) ⊎ ((status ≡ 10) × CutsShort text old new)

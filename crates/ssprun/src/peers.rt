@@ -1,0 +1,64 @@
+ghost use Rattle.std.specs.Prelude.{◌≡◌, ◌+◌, ◌≤◌, [], All, IfErr, IfOk, length, map, vec_capacity};
+ghost use Rattle.ssprun.specs.Peers.{CanStart, StartsEach, StartsUpTo, with_all_retired};
+
+use fmu_peer::{Spawner, StartFault};
+use sim_base::CompId;
+use std::alloc::Global;
+use system_model::Component;
+
+/// The peers that were started before one that wasn't, of which component that is, and why.
+pub(crate) struct Unstarted<L> {
+    pub peers: Vec<L>,
+    pub component: CompId,
+    pub fault: StartFault,
+}
+
+/// Starts a peer for each of the components, in their order, and puts them into an empty list that has room for them.
+pub(crate) fn start_each<S: Spawner>(
+    alloc: Global,
+    directory: &str,
+    components: &[Component],
+    room: Vec<S::Link>,
+    spawner: &mut S,
+) -> Result<Vec<S::Link>, Unstarted<S::Link>>
+    requires empty { room.items ≡ [] }
+    requires room { length components.now ≤ vec_capacity room }
+    requires few { length components.now ≤ 256 }
+    requires each { All CanStart components.now }
+    ensures ok { IfOk result (λ peers. StartsEach directory.now components.now (map S.Link.view peers.items) (S.view spawner.old) (S.view spawner.new)) }
+    ensures err { IfErr result (λ e. StartsUpTo directory.now components.now e.component.0 e.fault (map S.Link.view e.peers.items) (S.view spawner.old) (S.view spawner.new)) }
+{
+    let mut peers = room;
+    for place in 0..components.len() {
+        let component = &components[place];
+        match spawner.start(
+            alloc,
+            "builtin",
+            component.name.as_str(),
+            directory,
+            &component.shape,
+        ) {
+            Ok(peer) => peers.push_reserved(peer),
+            Err(fault) => {
+                return Err(Unstarted {
+                    peers,
+                    component: CompId(place as u32),
+                    fault,
+                });
+            }
+        }
+    }
+    Ok(peers)
+}
+
+/// Takes the peers back, in their order.
+pub(crate) fn retire_each<S: Spawner>(peers: Vec<S::Link>, spawner: &mut S)
+    requires { length (S.view spawner.old).retired + length peers.items ≤ (S.view spawner.old).started }
+    ensures { S.view spawner.new ≡ with_all_retired (S.view spawner.old) (map S.Link.view peers.items) }
+{
+    let mut left = peers.into_iter();
+    while let Some(peer) = left.next() {
+        spawner.retire(peer);
+    }
+    left.destroy_empty();
+}

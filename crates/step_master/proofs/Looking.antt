@@ -1,0 +1,267 @@
+-- Logs of told machines: each reply is the machine's, in the state behind the exchanges before it.
+use Rattle.std.proofs.Common.{◌≡◌, ℕ, suc, ◌+◌, ◌<◌, ◌==◌, ℤ, Bool, true, false, List, [], ◌∷◌, ◌++◌, Option, Some, Result, Ok, Err, refl, sym, ap, ap₂, ◌∙◌, subst, arith, length, get_or, map}
+use Rattle.std.specs.Prelude.{All, ◌||◌, MatchResult, if◌then◌else◌, option_and_then}
+use Rattle.std.specs.List.{list_any, slice_get}
+use Rattle.std.proofs.lemmas.List.{get_or_default, length-map}
+use Rattle.std.proofs.lemmas.List.Elements.{All-cons, All-head, All-nil, All-tail}
+use Rattle.value_types.specs.declared.shape.Shape.{Shape}
+use Rattle.fmi_calls.specs.declared.call.Call.{Call}
+use Rattle.fmi_calls.specs.declared.call.Grade.TheVariants as G
+use Rattle.fmi_calls.specs.declared.call.Reply.{Reply}
+use Rattle.fmi_calls.specs.Worth.{grade_of}
+use Rattle.fmu_peer.specs.declared.ended.Why.{Why}
+use Rattle.fmu_peer.specs.declared.ended.Why.TheVariants.{Refused, Misreply, Link}
+use Rattle.fmu_peer.specs.declared.peer.Exchange.{Exchange}
+use Rattle.fmu_peer.specs.declared.peer.PeerFault.{PeerFault}
+use Rattle.fmu_peer.specs.Answer.{IsLink, IsWhy}
+use Rattle.fmu_peer.specs.Machine.{Machine, MachineState, after}
+use Rattle.fmu_peer.specs.Talk as T
+use Rattle.system_model.specs.declared.system.Component.{Component}
+use Rattle.system_model.specs.declared.system.Port.{Port}
+use Rattle.system_model.specs.Sound.{IsSound}
+use Rattle.system_model.proofs.SoundLemmas.{place_of}
+use Rattle.run_model.specs.Behaved.{IsAnsweredWell}
+use Rattle.run_model.specs.Equations.{shown}
+use Rattle.run_model.specs.Run.{IsFmu, Run, at_fmu, each, each_from}
+use Rattle.run_model.specs.Stepping.{is_terminating}
+use Rattle.run_model.proofs.States.{fmu_before}
+use Rattle.step_master.specs.Carried.{any_asks_to_end, ends_by, get_of, gets, value_by, value_of, values_of}
+use Rattle.step_master.specs.Lives.{RepliesBy}
+use Rattle.step_master.specs.Log.{Asking, Sent, asking_of, askings, part}
+use Rattle.step_master.specs.Stage.{IsAnswered, IsGoodOf, to_each, to_each_from}
+use Rattle.step_master.specs.System.{shapes_of}
+use Rattle.step_master.proofs.Answered.{map_at}
+use Rattle.step_master.proofs.Badly.{good_part}
+use Rattle.step_master.proofs.Chains.{IsGet, PartIs, each_part, first_same, gets_are, other, part_all, rest_same, same, skips, takes}
+use Rattle.step_master.proofs.Logs.{part_append}
+use Rattle.step_master.proofs.Prepared.{get_here, got, is_within}
+use Rattle.step_master.proofs.SideBySide.{AreAll, each_each, each_same, each_stays, fmu_at}
+
+-- ---- one machine
+
+-- its state behind exchanges
+abbrev pub state_by : Machine → MachineState → List Exchange → MachineState
+state_by m s [] = s
+state_by m s (e ∷ es) = state_by m (after m s e.call) es
+
+module _ (m : Machine) where
+  state_by_append : (s : MachineState) (es fs : List Exchange) → state_by m s (es ++ fs) ≡ state_by m (state_by m s es) fs
+  state_by_append s [] fs = refl
+  state_by_append s (e ∷ es) fs = state_by_append (after m s e.call) es fs
+
+  -- a good answer is the machine's
+  pub replied_good : (shape : Shape) (s : MachineState) (e : Exchange) (es : List Exchange) → T.IsGood shape e → RepliesBy m s (e ∷ es) → (e.result ≡ Ok (m.look s e.call)) × RepliesBy m (after m s e.call) es
+  replied_good shape s e es good h = by e.result good h where
+    by : (r : Result Reply PeerFault) → MatchResult r (λ reply. grade_of shape e.call reply ≡ G.Good) (λ fault. ⊥) →
+        MatchResult r (λ reply. (reply ≡ m.look s e.call) × RepliesBy m (after m s e.call) es) (λ fault. Unit {0}) → (r ≡ Ok (m.look s e.call)) × RepliesBy m (after m s e.call) es
+    by (Ok reply) g k = (ap Ok k.0, k.1)
+    by (Err fault) g k = absurd g
+
+  pub replies_front : (s : MachineState) (es fs : List Exchange) → RepliesBy m s (es ++ fs) → RepliesBy m s es
+  replies_front s [] fs h = tt
+  replies_front s (e ∷ es) fs h = by e.result h (λ k. replies_front (after m s e.call) es fs k) where
+    by : (r : Result Reply PeerFault) → MatchResult r (λ reply. (reply ≡ m.look s e.call) × RepliesBy m (after m s e.call) (es ++ fs)) (λ fault. Unit {0}) →
+        (RepliesBy m (after m s e.call) (es ++ fs) → RepliesBy m (after m s e.call) es) →
+        MatchResult r (λ reply. (reply ≡ m.look s e.call) × RepliesBy m (after m s e.call) es) (λ fault. Unit {0})
+    by (Ok reply) k on = (k.0, on k.1)
+    by (Err fault) k on = tt
+
+  -- behind good ones
+  pub replies_back : (shape : Shape) (s : MachineState) (es fs : List Exchange) → T.AllGood shape es → RepliesBy m s (es ++ fs) → RepliesBy m (state_by m s es) fs
+  replies_back shape s [] fs good h = h
+  replies_back shape s (e ∷ es) fs good h =
+      replies_back shape (after m s e.call) es fs (All-tail (T.IsGood shape) e es good) (replied_good shape s e (es ++ fs) (All-head (T.IsGood shape) e es good) h).1
+
+  -- Gets leave the state
+  state_stays_by : (s : MachineState) (es : List Exchange) → All IsGet es → state_by m s es ≡ s
+  state_stays_by s [] k = refl
+  state_stays_by s (e ∷ es) k =
+      let head = All-head IsGet e es k in ap (λ (z : MachineState). state_by m z es) (ap (after m s) head.2) ∙ state_stays_by s es (All-tail IsGet e es k)
+
+  gets_look : (shape : Shape) (s : MachineState) (es : List Exchange) → All IsGet es → T.AllGood shape es → RepliesBy m s es → All (λ (e : Exchange). e.result ≡ Ok (m.look s e.call)) es
+  gets_look shape s [] k good h = All-nil (λ (e : Exchange). e.result ≡ Ok (m.look s e.call))
+  gets_look shape s (e ∷ es) k good h =
+      let one = replied_good shape s e es (All-head (T.IsGood shape) e es good) h in
+      All-cons (λ (x : Exchange). x.result ≡ Ok (m.look s x.call)) e es one.0
+      (gets_look shape s es (All-tail IsGet e es k) (All-tail (T.IsGood shape) e es good) (subst (λ (z : MachineState). RepliesBy m z es) (ap (after m s) (All-head IsGet e es k).2) one.1))
+
+  -- a bad answer to a call that is answered well is none of the machine's
+  pub only_link : (shape : Shape) (s : MachineState) (e : Exchange) (es : List Exchange) (why : Why) (call : Call) → RepliesBy m s (e ∷ es) → e.call ≡ call → IsAnsweredWell shape m s call → IsWhy shape why e → IsLink why
+  only_link shape s e es (Link c fault) call h is well why = tt
+  only_link shape s e es (Refused c status) call h is well (reply, at, result, status_is, grade) = absurd (bad reply at result grade) where
+    bad : (reply : Reply) → e.call ≡ c → e.result ≡ Ok reply → grade_of shape c reply ≡ G.Refused → ⊥
+    bad reply at result grade =
+        let here : (reply ≡ m.look s e.call) × RepliesBy m (after m s e.call) es =
+        subst (λ (r : Result Reply PeerFault). MatchResult r (λ x. (x ≡ m.look s e.call) × RepliesBy m (after m s e.call) es) (λ fault. Unit {0})) result h in
+        let good : grade_of shape c reply ≡ G.Good = ap₂ (grade_of shape) (sym at ∙ is) (here.0 ∙ ap (m.look s) is) ∙ well in
+        absurd (let wrong = sym grade ∙ good in cc)
+  only_link shape s e es (Misreply c reply) call h is well (at, result, grade) = absurd (bad at result grade) where
+    bad : e.call ≡ c → e.result ≡ Ok reply → grade_of shape c reply ≡ G.Misreply → ⊥
+    bad at result grade =
+        let here : (reply ≡ m.look s e.call) × RepliesBy m (after m s e.call) es =
+        subst (λ (r : Result Reply PeerFault). MatchResult r (λ x. (x ≡ m.look s e.call) × RepliesBy m (after m s e.call) es) (λ fault. Unit {0})) result h in
+        let good : grade_of shape c reply ≡ G.Good = ap₂ (grade_of shape) (sym at ∙ is) (here.0 ∙ ap (m.look s) is) ∙ well in
+        absurd (let wrong = sym grade ∙ good in cc)
+
+-- a good reply of the machine's is one that it answers well
+well_by : (e : Exchange) (shape : Shape) (m : Machine) (s : MachineState) (call : Call) → e.call ≡ call → e.result ≡ Ok (m.look s call) → T.IsGood shape e → IsAnsweredWell shape m s call
+well_by e shape m s call call_is result_is good =
+    subst (λ (c : Call). grade_of shape c (m.look s call) ≡ G.Good) call_is
+    (subst (λ (x : Result Reply PeerFault). MatchResult x (λ reply. grade_of shape e.call reply ≡ G.Good) (λ fault. ⊥)) result_is good)
+
+-- ---- several machines
+
+-- the replies of each are its own
+abbrev pub AreReplies : Run → List MachineState → List Sent → Type 0
+AreReplies r ss log = (i : ℕ) (c : Component) (m : Machine) (s : MachineState) → IsFmu r ss i c m s → RepliesBy m s (part i log)
+
+-- their states behind a log
+abbrev pub states_by : Run → List MachineState → List Sent → List MachineState
+states_by r ss log = each r ss (λ i c m s. state_by m s (part i log))
+
+-- what holds of each part holds of the log
+head_of : (Q : ℕ → Exchange → Type 0) (s : Sent) (log : List Sent) → All (Q s.component) (part s.component (s ∷ log)) → Q s.component s.exchange
+head_of Q s log all = All-head (Q s.component) s.exchange (part s.component log) (subst (All (Q s.component)) (takes (s.component == s.component) s.exchange (part s.component log) (same s.component s.component refl)) all)
+
+tail_by : (Q : ℕ → Exchange → Type 0) (i : ℕ) (e : Exchange) (es : List Exchange) (b : Bool) → All (Q i) (if b then e ∷ es else es) → All (Q i) es
+tail_by Q i e es true all = All-tail (Q i) e es all
+tail_by Q i e es false all = all
+
+all_parts : (Q : ℕ → Exchange → Type 0) (log : List Sent) → ((i : ℕ) → All (Q i) (part i log)) → All (λ (s : Sent). Q s.component s.exchange) log
+all_parts Q [] h = All-nil (λ (s : Sent). Q s.component s.exchange)
+all_parts Q (s ∷ log) h =
+    All-cons (λ (x : Sent). Q x.component x.exchange) s log (head_of Q s log (h s.component)) (all_parts Q log (λ i. tail_by Q i s.exchange (part i log) (s.component == i) (h i)))
+
+module _ (r : Run) (ss : List MachineState) where
+  pub states_on : (a b : List Sent) → states_by r ss (a ++ b) ≡ states_by r (states_by r ss a) b
+  states_on a b =
+      each_same r ss (λ i c m s. state_by m s (part i (a ++ b))) (λ i c m s. state_by m (state_by m s (part i a)) (part i b))
+      (λ i c m s fmu. ap (state_by m s) (part_append i a b) ∙ state_by_append m s (part i a) (part i b))
+      ∙ sym (each_each (λ i c m s. state_by m s (part i a)) (λ i c m s. state_by m s (part i b)) 0 r.system.components r.machines ss)
+
+  pub replies_first : (a b : List Sent) → AreReplies r ss (a ++ b) → AreReplies r ss a
+  replies_first a b h i c m s fmu = replies_front m s (part i a) (part i b) (subst (RepliesBy m s) (part_append i a b) (h i c m s fmu))
+
+  pub replies_then : (a b : List Sent) → All (IsGoodOf (shapes_of r.system)) a → AreReplies r ss (a ++ b) → AreReplies r (states_by r ss a) b
+  replies_then a b good h i c m z fmu =
+      let old = fmu_before r ss (λ j d n s. state_by n s (part j a)) i c m z fmu in
+      subst (λ (x : MachineState). RepliesBy m x (part i b)) (sym old.is)
+      (replies_back m (get_or (shapes_of r.system) i c.shape) old.before (part i a) (part i b) (good_part (shapes_of r.system) a good i c.shape)
+      (subst (RepliesBy m old.before) (part_append i a b) (h i c m old.before old.fmu)))
+
+  pub shape_at : (i : ℕ) (c : Component) → slice_get r.system.components i ≡ Some c → (d : Shape) → c.shape ≡ get_or (shapes_of r.system) i d
+  shape_at i c at d = map_at (λ (x : Component). x.shape) r.system.components i c d (is_within r.system.components i c at) (get_here r.system.components i c at)
+
+  in_shapes : (i : ℕ) (c : Component) → slice_get r.system.components i ≡ Some c → i < length (shapes_of r.system)
+  in_shapes i c at = let e = length-map r.system.components (λ (x : Component). x.shape) in let w = is_within r.system.components i c at in omega (arith, e, w)
+
+  -- ---- one call to each
+
+  -- the one exchange with an FMU: a good reply of its machine
+  pub record IsOne (log : List Sent) (call : Call) (i : ℕ) (shape : Shape) (m : Machine) (s : MachineState) : Type 0 where
+    pub exchange : Exchange
+    pub is : part i log ≡ exchange ∷ []
+    pub call_is : exchange.call ≡ call
+    pub result_is : exchange.result ≡ Ok (m.look s call)
+    pub good : IsAnsweredWell shape m s call
+
+  module _ (call : Shape → Call) (log : List Sent) (answered : IsAnswered (shapes_of r.system) (to_each call (shapes_of r.system)) log) (replies : AreReplies r ss log) where
+    pub one_of : (i : ℕ) (c : Component) (m : Machine) (s : MachineState) → IsFmu r ss i c m s → IsOne log (call c.shape) i c.shape m s
+    one_of i c m s fmu =
+        let p = subst (λ (n : ℕ). PartIs (shapes_of r.system) n (call (get_or (shapes_of r.system) i c.shape)) log) (omega arith)
+        (each_part (shapes_of r.system) call 0 (shapes_of r.system) log answered.calls_are answered.good i c.shape (in_shapes i c fmu.component)) in
+        let call_is : p.exchange.call ≡ call c.shape = p.call_is ∙ ap call (sym (shape_at i c fmu.component c.shape)) in
+        let one = replied_good m (get_or (shapes_of r.system) i c.shape) s p.exchange [] (p.good c.shape) (subst (RepliesBy m s) p.is (replies i c m s fmu)) in
+        let result_is : p.exchange.result ≡ Ok (m.look s (call c.shape)) = one.0 ∙ ap (λ (x : Call). Ok (m.look s x)) call_is in
+        record { exchange = p.exchange; is = p.is; call_is = call_is; result_is = result_is; good = well_by p.exchange c.shape m s (call c.shape) call_is result_is (subst (λ (x : Shape). T.IsGood x p.exchange) (sym (shape_at i c fmu.component c.shape)) (p.good c.shape)) }
+
+    pub stage_states : states_by r ss log ≡ each r ss (λ i c m s. after m s (call c.shape))
+    stage_states = each_same r ss (λ i c m s. state_by m s (part i log)) (λ i c m s. after m s (call c.shape))
+        (λ i c m s fmu. let one = one_of i c m s fmu in ap (state_by m s) one.is ∙ ap (after m s) one.call_is)
+
+  any_from : (call : Shape → Call) (k : ℕ) (cs : List Component) (ms : List Machine) (zs : List MachineState) (log : List Sent) → askings log ≡ to_each_from k call (map (λ (c : Component). c.shape) cs) →
+      length ms ≡ length cs → length zs ≡ length cs →
+      ((i : ℕ) (c : Component) (m : Machine) (s : MachineState) → slice_get cs i ≡ Some c → slice_get ms i ≡ Some m → slice_get zs i ≡ Some s → IsOne log (call c.shape) (k + i) c.shape m s) →
+      any_asks_to_end log ≡ list_any (λ b. b) (each_from (λ i c m s. is_terminating (m.look s (call c.shape))) k cs ms zs)
+  any_from call k [] ms zs [] is e f h = refl
+  any_from call k [] ms zs (s ∷ log) is e f h = absurd (cc)
+  any_from call k (c ∷ cs) [] zs log is e f h = absurd (omega (arith, e))
+  any_from call k (c ∷ cs) (m ∷ ms) [] log is e f h = absurd (omega (arith, f))
+  any_from call k (c ∷ cs) (m ∷ ms) (z ∷ zs) [] is e f h = absurd (cc)
+  any_from call k (c ∷ cs) (m ∷ ms) (z ∷ zs) (s ∷ log) is e f h =
+      let first = first_same (asking_of s) (record { component = k; call = call c.shape }) (askings log) (to_each_from (k + 1) call (map (λ (x : Component). x.shape) cs)) is in
+      let rest = rest_same (asking_of s) (record { component = k; call = call c.shape }) (askings log) (to_each_from (k + 1) call (map (λ (x : Component). x.shape) cs)) is in
+      let at : s.component ≡ k = ap (λ (a : Asking). a.component) first in
+      let next : k + 1 ≡ suc k = omega arith in
+      let one = h 0 c m z refl refl refl in
+      let own : s.exchange ≡ one.exchange =
+      first_same s.exchange one.exchange (part (k + 0) log) [] (sym (takes (s.component == k + 0) s.exchange (part (k + 0) log) (same s.component (k + 0) (omega (arith, at)))) ∙ one.is) in
+      ap₂ (λ (a b : Bool). a || b) (ap ends_by (ap (λ (x : Exchange). x.result) own ∙ one.result_is))
+      (any_from call (suc k) cs ms zs log (rest ∙ ap (λ (n : ℕ). to_each_from n call (map (λ (x : Component). x.shape) cs)) next) (omega (arith, e)) (omega (arith, f))
+      (λ i d n y at_c at_m at_z.
+      let more = h (suc i) d n y at_c at_m at_z in
+      let skip : part (k + suc i) (s ∷ log) ≡ part (suc k + i) log = skips (s.component == k + suc i) s.exchange (part (k + suc i) log) (other s.component (k + suc i) (λ q. absurd (omega (arith, at, q)))) ∙ ap (λ (j : ℕ). part j log) (omega arith) in
+      record { exchange = more.exchange; is = sym skip ∙ more.is; call_is = more.call_is; result_is = more.result_is; good = more.good }))
+
+  module _ (all : AreAll r ss) where
+    -- whether one asks for the end
+    pub any_asks : (call : Shape → Call) (log : List Sent) → IsAnswered (shapes_of r.system) (to_each call (shapes_of r.system)) log → AreReplies r ss log →
+        any_asks_to_end log ≡ list_any (λ b. b) (each r ss (λ i c m s. is_terminating (m.look s (call c.shape))))
+    any_asks call log answered replies =
+        any_from call 0 r.system.components r.machines ss log answered.calls_are all.machines all.states
+        (λ i c m s at_c at_m at_s. subst (λ (n : ℕ). IsOne log (call c.shape) n c.shape m s) (omega arith) (one_of call log answered replies i c m s (record { component = at_c; machine = at_m; state = at_s })))
+
+    -- ---- Gets
+
+    abbrev ShowsOf : ℕ → Exchange → Type 0
+    ShowsOf i e = (c : Component) (m : Machine) (s : MachineState) → IsFmu r ss i c m s → e.result ≡ Ok (m.look s e.call)
+
+    module _ (sound : IsSound r.system) where
+      at_fmu_is : (i : ℕ) (c : Component) (m : Machine) (s : MachineState) → IsFmu r ss i c m s → (f : Component → Machine → MachineState → Option ℤ) → at_fmu r ss i f ≡ f c m s
+      at_fmu_is i c m s fmu f =
+          ap (λ o. option_and_then (λ d. option_and_then (λ n. option_and_then (λ z. f d n z) (slice_get ss i)) (slice_get r.machines i)) o) fmu.component
+          ∙ ap (λ o. option_and_then (λ n. option_and_then (λ z. f c n z) (slice_get ss i)) o) fmu.machine ∙ ap (λ o. option_and_then (λ z. f c m z) o) fmu.state
+
+      value_is : (port : Port) (e : Exchange) → port.component.0 < length r.system.components → e.call ≡ get_of port → ShowsOf port.component.0 e → value_of e ≡ at_fmu r ss port.component.0 (λ c m s. shown m s port)
+      value_is port e within call shows =
+          let x = fmu_at r ss all port.component.0 within in
+          ap₂ value_by call (shows x.0 x.1 x.2 x.3 ∙ ap (λ (c : Call). Ok (x.1.look x.2 c)) call)
+          ∙ sym (at_fmu_is port.component.0 x.0 x.1 x.2 x.3 (λ c m s. shown m s port))
+
+      values_from : (ports : List Port) (log : List Sent) → askings log ≡ gets ports → All (λ (port : Port). port.component.0 < length r.system.components) ports → All (λ (s : Sent). ShowsOf s.component s.exchange) log →
+          values_of log ≡ map (λ (port : Port). at_fmu r ss port.component.0 (λ c m s. shown m s port)) ports
+      values_from [] [] is within shows = refl
+      values_from [] (s ∷ log) is within shows = absurd (cc)
+      values_from (p ∷ ports) [] is within shows = absurd (cc)
+      values_from (p ∷ ports) (s ∷ log) is within shows =
+          let first = first_same (asking_of s) (record { component = p.component.0; call = get_of p }) (askings log) (gets ports) is in
+          let rest = rest_same (asking_of s) (record { component = p.component.0; call = get_of p }) (askings log) (gets ports) is in
+          ap₂ ◌∷◌
+          (value_is p s.exchange (All-head (λ (port : Port). port.component.0 < length r.system.components) p ports within) (ap (λ (a : Asking). a.call) first)
+          (subst (λ (n : ℕ). ShowsOf n s.exchange) (ap (λ (a : Asking). a.component) first) (All-head (λ (x : Sent). ShowsOf x.component x.exchange) s log shows)))
+          (values_from ports log rest (All-tail (λ (port : Port). port.component.0 < length r.system.components) p ports within) (All-tail (λ (x : Sent). ShowsOf x.component x.exchange) s log shows))
+
+      ports_within : All (λ (port : Port). port.component.0 < length r.system.components) r.system.ports
+      ports_within = λ k d w.
+          let x = got r.system.ports k w in
+          let placed = place_of r.system sound k x.0 x.1 in
+          subst (λ (port : Port). port.component.0 < length r.system.components) (get_here r.system.ports k x.0 x.1 ∙ get_or_default r.system.ports k x.0 d w)
+          (is_within r.system.components x.0.component.0 placed.component placed.is.of)
+
+      module _ (log : List Sent) (answered : IsAnswered (shapes_of r.system) (gets r.system.ports) log) (replies : AreReplies r ss log) where
+        shows_each : (i : ℕ) → All (ShowsOf i) (part i log)
+        shows_each i = λ k d w c m s fmu.
+            gets_look m (get_or (shapes_of r.system) i c.shape) s (part i log) (part_all (λ n e. IsGet e) i log (gets_are r.system.ports log answered.calls_are))
+            (good_part (shapes_of r.system) log answered.good i c.shape) (replies i c m s fmu) k d w
+
+        -- the answers carry what the outputs show
+        pub values_are : values_of log ≡ map (λ (port : Port). at_fmu r ss port.component.0 (λ c m s. shown m s port)) r.system.ports
+        values_are = values_from r.system.ports log answered.calls_are ports_within (all_parts ShowsOf log shows_each)
+
+        -- and the states stay
+        pub reading_stays : states_by r ss log ≡ ss
+        reading_stays = each_stays r ss all (λ i c m s. state_by m s (part i log)) (λ i c m s fmu. state_stays_by m s (part i log) (part_all (λ n e. IsGet e) i log (gets_are r.system.ports log answered.calls_are)))
+
+  -- Gets of a front leave the state too
+  pub gets_stay : (m : Machine) (s : MachineState) (es : List Exchange) → All IsGet es → state_by m s es ≡ s
+  gets_stay m s es all = state_stays_by m s es all

@@ -1,0 +1,175 @@
+-- A legal talk that is closed leaves its instance unmade, gone or lost, or keeping a state.
+use Rattle.std.proofs.Common.{◌≡◌, ◌⊎◌, inl, inr, Bool, true, List, [], ◌∷◌, ◌++◌, Result, Ok, Err, refl, sym, ap, ◌∙◌, subst}
+use Rattle.std.specs.Prelude.{MatchResult}
+use Rattle.std.specs.Result.{result_ok}
+use Rattle.value_types.specs.declared.shape.Shape.{Shape}
+use Rattle.fmi_calls.specs.declared.call.BadStatus.{BadStatus}
+use Rattle.fmi_calls.specs.declared.call.BadStatus.TheVariants as B
+use Rattle.fmi_calls.specs.declared.call.Call.{Call}
+use Rattle.fmi_calls.specs.declared.call.Call.TheVariants as C
+use Rattle.fmi_calls.specs.declared.call.Grade.{Grade}
+use Rattle.fmi_calls.specs.declared.call.Grade.TheVariants as G
+use Rattle.fmi_calls.specs.declared.call.Kind.TheVariants as K
+use Rattle.fmi_calls.specs.declared.call.Reply.{Reply}
+use Rattle.fmi_calls.specs.declared.call.Reply.TheVariants as R
+use Rattle.fmi_calls.specs.declared.phase.InstanceState.{InstanceState}
+use Rattle.fmi_calls.specs.declared.phase.InstanceState.TheVariants as P
+use Rattle.fmi_calls.specs.declared.phase.Phase.{Phase}
+use Rattle.fmi_calls.specs.Kinds.{bad_status_of}
+use Rattle.fmi_calls.specs.Next.{counted, fresh, graded, next_of, state_after_bad}
+use Rattle.fmi_calls.specs.Permission.{Permitted, can_be_freed, can_be_read, can_be_set}
+use Rattle.fmi_calls.specs.Worth.{grade_of}
+use Rattle.fmu_peer.specs.declared.peer.Exchange.{Exchange}
+use Rattle.fmu_peer.specs.declared.peer.PeerFault.{PeerFault}
+use Rattle.fmu_peer.specs.Talk.{Closed, EndsFreed, EndsKeeping, IsGood, Legal, LegalFrom, StartsBadly, next_by, phase_after, phase_from}
+use Rattle.fmu_peer.proofs.TalkLemmas.{phase_from-append}
+use Rattle.step_master.specs.Lives.{Freed, IsLife, IsOver, Keeping, Life, LostHere, Unasked, shape_in, talk_in}
+
+-- gone, or lost
+abbrev IsEnded : InstanceState → Type 0
+IsEnded state = (state ≡ P.Gone) ⊎ (state ≡ P.Lost)
+
+-- ---- no call is permitted of an instance that is gone or lost
+
+none_read : (state : InstanceState) (shape : Shape) (marks : List Bool) (reference : _) → IsEnded state → can_be_read state shape marks reference ≡ true → ⊥
+none_read state shape marks reference (inl gone) h = let k = ap (λ s. can_be_read s shape marks reference) (sym gone) ∙ h in absurd (cc)
+none_read state shape marks reference (inr lost) h = let k = ap (λ s. can_be_read s shape marks reference) (sym lost) ∙ h in absurd (cc)
+
+none_set : (state : InstanceState) (shape : Shape) (marks : List Bool) (reference : _) → IsEnded state → can_be_set state shape marks reference ≡ true → ⊥
+none_set state shape marks reference (inl gone) h = let k = ap (λ s. can_be_set s shape marks reference) (sym gone) ∙ h in absurd (cc)
+none_set state shape marks reference (inr lost) h = let k = ap (λ s. can_be_set s shape marks reference) (sym lost) ∙ h in absurd (cc)
+
+none_freed : (state : InstanceState) (full : Bool) → IsEnded state → can_be_freed state full ≡ true → ⊥
+none_freed state full (inl gone) h = let k = ap (λ s. can_be_freed s full) (sym gone) ∙ h in absurd (cc)
+none_freed state full (inr lost) h = let k = ap (λ s. can_be_freed s full) (sym lost) ∙ h in absurd (cc)
+
+other : (state wanted : InstanceState) → IsEnded state → state ≡ wanted → (P.Gone ≡ wanted → ⊥) → (P.Lost ≡ wanted → ⊥) → ⊥
+other state wanted (inl gone) is a b = a (sym gone ∙ is)
+other state wanted (inr lost) is a b = b (sym lost ∙ is)
+
+none_permitted : (shape : Shape) (phase : Phase) (call : Call) → IsEnded phase.state → Permitted shape phase call → ⊥
+none_permitted shape phase (C.Instantiate event_mode early_return) ended p = other phase.state P.Fresh ended p.0 (λ e. cc) (λ e. cc)
+none_permitted shape phase (C.EnterInitialization start stop) ended p = other phase.state P.Instantiated ended p.0 (λ e. cc) (λ e. cc)
+none_permitted shape phase C.ExitInitialization ended p = other phase.state P.Initialization ended p.0 (λ e. cc) (λ e. cc)
+none_permitted shape phase (C.DoStep at size) ended p = other phase.state P.Step ended p.0 (λ e. cc) (λ e. cc)
+none_permitted shape phase (C.Get kind reference) ended p = none_read phase.state shape phase.marks reference ended p.0
+none_permitted shape phase (C.Set kind reference value) ended p = none_set phase.state shape phase.marks reference ended p.0
+none_permitted shape phase C.Save ended p = other phase.state P.Step ended p.0 (λ e. cc) (λ e. cc)
+none_permitted shape phase C.Restore ended p = other phase.state P.Step ended p.0 (λ e. cc) (λ e. cc)
+none_permitted shape phase C.Free ended p = other phase.state P.Step ended p.0 (λ e. cc) (λ e. cc)
+none_permitted shape phase C.Terminate ended p = other phase.state P.Step ended p.0 (λ e. cc) (λ e. cc)
+none_permitted shape phase C.FreeInstance ended p = none_freed phase.state phase.slot.is_full ended p
+none_permitted shape phase C.EnterEvent ended p = p
+none_permitted shape phase C.EnterStep ended p = p
+none_permitted shape phase C.Update ended p = p
+none_permitted shape phase (C.GetClock reference) ended p = p
+none_permitted shape phase (C.SetClock reference) ended p = p
+none_permitted shape phase (C.GetInterval reference) ended p = p
+none_permitted shape phase (C.GetShift reference) ended p = p
+
+none_behind : (shape : Shape) (phase : Phase) (es : List Exchange) → IsEnded phase.state → LegalFrom shape phase es → es ≡ []
+none_behind shape phase [] ended legal = refl
+none_behind shape phase (e ∷ es) ended legal = absurd (none_permitted shape phase e.call ended legal.0)
+
+-- ---- an Instantiate that isn't good
+
+only_start : (shape : Shape) (call : Call) → Permitted shape (fresh shape) call → (event_mode early_return : Bool) × (call ≡ C.Instantiate event_mode early_return)
+only_start shape (C.Instantiate event_mode early_return) p = (event_mode, early_return, refl)
+only_start shape (C.EnterInitialization start stop) p = absurd (let e = p.0 in cc)
+only_start shape C.ExitInitialization p = absurd (let e = p.0 in cc)
+only_start shape (C.DoStep at size) p = absurd (let e = p.0 in cc)
+only_start shape (C.Get kind reference) p = absurd (let e = p.0 in cc)
+only_start shape (C.Set kind reference value) p = absurd (let e = p.0 in cc)
+only_start shape C.Save p = absurd (let e = p.0 in cc)
+only_start shape C.Restore p = absurd (let e = p.0 in cc)
+only_start shape C.Free p = absurd (let e = p.0 in cc)
+only_start shape C.Terminate p = absurd (let e = p.0 in cc)
+only_start shape C.FreeInstance p = absurd (cc)
+only_start shape C.EnterEvent p = absurd p
+only_start shape C.EnterStep p = absurd p
+only_start shape C.Update p = absurd p
+only_start shape (C.GetClock reference) p = absurd p
+only_start shape (C.SetClock reference) p = absurd p
+only_start shape (C.GetInterval reference) p = absurd p
+only_start shape (C.GetShift reference) p = absurd p
+
+bad_start : (shape : Shape) (phase : Phase) (a b : Bool) (reply : Reply) (g : Grade) → (g ≡ G.Good → ⊥) → IsEnded (graded shape phase (C.Instantiate a b) reply g).state
+bad_start shape phase a b reply G.Good bad = absurd (bad refl)
+bad_start shape phase a b reply G.Misreply bad = inl refl
+bad_start shape phase a b reply G.Refused bad = by (bad_status_of reply) refl
+  where
+    by : (status : BadStatus) → bad_status_of reply ≡ status → IsEnded (graded shape phase (C.Instantiate a b) reply G.Refused).state
+    by B.Discard is = inl (ap (λ (s : BadStatus). state_after_bad phase.state (C.Instantiate a b) s) is)
+    by B.Error is = inl (ap (λ (s : BadStatus). state_after_bad phase.state (C.Instantiate a b) s) is)
+    by B.Fatal is = inr (ap (λ (s : BadStatus). state_after_bad phase.state (C.Instantiate a b) s) is)
+
+-- the phase behind it
+start_ended : (shape : Shape) (phase : Phase) (a b : Bool) (e : Exchange) → e.call ≡ C.Instantiate a b → (IsGood shape e → ⊥) → IsEnded (next_by shape phase e).state
+start_ended shape phase a b e is bad =
+    subst (λ (c : Call). IsEnded (next_of shape phase c (result_ok e.result)).state) (sym is) (by e.result (subst (λ (c : Call). MatchResult e.result (λ reply. grade_of shape c reply ≡ G.Good) (λ fault. ⊥) → ⊥) is bad))
+  where
+    by : (r : Result Reply PeerFault) → (MatchResult r (λ reply. grade_of shape (C.Instantiate a b) reply ≡ G.Good) (λ fault. ⊥) → ⊥) → IsEnded (next_of shape phase (C.Instantiate a b) (result_ok r)).state
+    by (Err fault) h = inr refl
+    by (Ok reply) h = bad_start shape (counted phase (C.Instantiate a b)) a b reply (grade_of shape (C.Instantiate a b) reply) h
+
+-- ---- an instance that was freed
+
+freed_graded : (shape : Shape) (phase : Phase) (reply : Reply) (g : Grade) → (graded shape phase C.FreeInstance reply g).state ≡ P.Gone
+freed_graded shape phase reply G.Good = refl
+freed_graded shape phase reply G.Refused = refl
+freed_graded shape phase reply G.Misreply = refl
+
+freed_ended : (shape : Shape) (phase : Phase) (e : Exchange) → e.call ≡ C.FreeInstance → IsEnded (next_by shape phase e).state
+freed_ended shape phase e is = subst (λ (c : Call). IsEnded (next_of shape phase c (result_ok e.result)).state) (sym is) (by e.result)
+  where
+    by : (r : Result Reply PeerFault) → IsEnded (next_of shape phase C.FreeInstance (result_ok r)).state
+    by (Err fault) = inr refl
+    by (Ok reply) = inl (freed_graded shape (counted phase C.FreeInstance) reply (grade_of shape C.FreeInstance reply))
+
+-- ---- a state that is kept
+
+kept_full : (shape : Shape) (phase : Phase) (e : Exchange) → e.call ≡ C.Free → e.result ≡ Ok (R.Refused K.Free B.Discard) → Permitted shape phase e.call → (next_by shape phase e).slot.is_full ≡ true
+kept_full shape phase e is result may =
+    let full : phase.slot.is_full ≡ true = (subst (Permitted shape phase) is may).2 in
+    ap (λ (c : Call). (next_of shape phase c (result_ok e.result)).slot.is_full) is
+    ∙ ap (λ (r : Result Reply PeerFault). (next_of shape phase C.Free (result_ok r)).slot.is_full) result ∙ full
+
+legal_last : (shape : Shape) (phase : Phase) (front : List Exchange) (last : Exchange) → LegalFrom shape phase (front ++ last ∷ []) → Permitted shape (phase_from shape phase front) last.call
+legal_last shape phase [] last legal = legal.0
+legal_last shape phase (e ∷ front) last legal = legal_last shape (next_by shape phase e) front last legal.1
+
+-- ---- the whole
+
+module _ (life : Life) (is : IsLife life) where
+  ended_over : (talk : List Exchange) → talk_in life ≡ talk → IsEnded (phase_after (shape_in life) talk).state → IsOver life
+  ended_over talk same (inl gone) = Freed (ap (λ (p : Phase). p.state) (is.phase ∙ ap (phase_after (shape_in life)) same) ∙ gone)
+  ended_over talk same (inr lost) = LostHere (ap (λ (p : Phase). p.state) (is.phase ∙ ap (phase_after (shape_in life)) same) ∙ lost)
+
+  badly_over : StartsBadly (shape_in life) (talk_in life) → IsOver life
+  badly_over s =
+      let shape = shape_in life in
+      let legal : LegalFrom shape (fresh shape) (s.first ∷ s.rest) = subst (Legal shape) s.is is.legal in
+      let start = only_start shape s.first.call legal.0 in
+      let ended : IsEnded (next_by shape (fresh shape) s.first).state = start_ended shape (fresh shape) start.0 start.1 s.first start.2 s.bad in
+      let none : s.rest ≡ [] = none_behind shape (next_by shape (fresh shape) s.first) s.rest ended legal.1 in
+      ended_over (s.first ∷ []) (s.is ∙ ap (λ (es : List Exchange). s.first ∷ es) none) ended
+
+  freed_over : EndsFreed (shape_in life) (fresh (shape_in life)) (talk_in life) → IsOver life
+  freed_over f =
+      let shape = shape_in life in
+      ended_over (f.front ++ f.last ∷ []) f.is
+      (subst (λ (p : Phase). IsEnded p.state) (sym (phase_from-append shape (fresh shape) f.front f.last)) (freed_ended shape (phase_from shape (fresh shape) f.front) f.last f.frees))
+
+  keeping_over : EndsKeeping (talk_in life) → IsOver life
+  keeping_over k =
+      let shape = shape_in life in
+      let may = legal_last shape (fresh shape) k.front k.last (subst (Legal shape) k.is is.legal) in
+      Keeping (ap (λ (p : Phase). p.slot.is_full) (is.phase ∙ ap (phase_after shape) k.is ∙ phase_from-append shape (fresh shape) k.front k.last)
+      ∙ kept_full shape (phase_from shape (fresh shape) k.front) k.last k.frees k.discarded may) k
+
+  pub closed_over : Closed (shape_in life) (talk_in life) → IsOver life
+  closed_over (inl none) = Unasked (ap (λ (p : Phase). p.state) (is.phase ∙ ap (phase_after (shape_in life)) none))
+  closed_over (inr (inl badly)) = badly_over badly
+  closed_over (inr (inr (inl lost))) = LostHere (ap (λ (p : Phase). p.state) is.phase ∙ lost)
+  closed_over (inr (inr (inr (inl freed)))) = freed_over freed
+  closed_over (inr (inr (inr (inr keeping)))) = keeping_over keeping

@@ -1,0 +1,173 @@
+-- A system whose peers have their seats.
+use Rattle.std.proofs.Common.{◌≡◌, ℕ, zero, suc, ◌<◌, ◌≤◌, ◌^◌, false, List, [], ◌∷◌, Option, Some, refl, sym, ap, ap₂, ◌∙◌, subst, arith, length, get_or, map}
+use Rattle.std.specs.Prelude.{All, IsSomeAnd, true}
+use Rattle.std.specs.List.{slice_get}
+use Rattle.std.proofs.lemmas.List.{get_or_default, length-map}
+use Rattle.std.proofs.lemmas.List.Elements.{All-cons, All-nil}
+use Rattle.value_types.specs.declared.shape.Shape.{Shape}
+use Rattle.value_types.specs.Shape.{is_clock, is_clock_type}
+use Rattle.value_types.specs.declared.shape.Causality.TheVariants as V
+use Rattle.value_types.specs.declared.shape.Variable.{Variable}
+use Rattle.value_types.specs.declared.values.PortType.{PortType}
+use Rattle.value_types.specs.declared.values.PortType.TheVariants as T
+use Rattle.fmi_calls.specs.Permission.{IsReadable, is_value_type}
+use Rattle.fmi_calls.specs.declared.phase.Phase.{Phase}
+use Rattle.fmi_calls.specs.declared.phase.InstanceState.TheVariants as P
+use Rattle.fmi_calls.specs.Next.{fresh}
+use Rattle.fmu_peer.specs.CloseAll.{Instance}
+use Rattle.fmu_peer.specs.View.{View}
+use Rattle.system_model.specs.declared.system.Component.{Component}
+use Rattle.system_model.specs.declared.system.Port.{Port}
+use Rattle.system_model.specs.declared.system.Role.{Role}
+use Rattle.system_model.specs.declared.system.Role.TheVariants.{Input, Output, ClockInput, ClockOutput, TimeClock}
+use Rattle.system_model.specs.declared.system.System.{System}
+use Rattle.step_master.specs.Place.{IsFresh, IsPlain, IsPortOf}
+use Rattle.step_master.specs.Seats.{seated}
+use Rattle.step_master.specs.Stage.{shapes}
+use Rattle.system_model.specs.Ports.{is_clock_role, is_output_role}
+use Rattle.system_model.specs.Sound.{IsRole, IsSound}
+use Rattle.system_model.proofs.SoundLemmas.{Placed, events_of, is_output_of, place_of}
+use Rattle.step_master.specs.System.{ArePeersOf, IsBuilt, IsNew, shapes_of}
+use Rattle.step_master.proofs.Answered.{map_at, shape_of}
+use Rattle.step_master.proofs.SeatLemmas.{length_seated}
+
+pub get_here : {A : Type 0} (xs : List A) (i : ℕ) (x : A) → slice_get xs i ≡ Some x → x ≡ get_or xs i x
+get_here [] i x h = absurd (cc)
+get_here (y ∷ xs) zero x h = cc
+get_here (y ∷ xs) (suc i) x h = get_here xs i x h
+
+pub is_within : {A : Type 0} (xs : List A) (i : ℕ) (x : A) → slice_get xs i ≡ Some x → i < length xs
+is_within [] i x h = absurd (cc)
+is_within (y ∷ xs) zero x h = omega arith
+is_within (y ∷ xs) (suc i) x h = let w = is_within xs i x h in omega (arith, w)
+
+pub got : {A : Type 0} (xs : List A) (i : ℕ) → i < length xs → (x : A) × (slice_get xs i ≡ Some x)
+got [] i w = absurd (omega (arith, w))
+got (x ∷ xs) zero w = (x, refl)
+got (x ∷ xs) (suc i) w = got xs i (omega (arith, w))
+
+-- what holds of each component's peer holds of each instance
+all_seated : (P : View → Type 0) (cs : List Component) (vs : List View) → length vs ≡ length cs →
+    ((i : ℕ) (c : Component) (v : View) → slice_get cs i ≡ Some c → slice_get vs i ≡ Some v → P v) → All (λ (i : Instance). P i.view) (seated cs vs)
+all_seated P [] vs e h = All-nil (λ (i : Instance). P i.view)
+all_seated P (c ∷ cs) [] e h = absurd (omega (arith, e))
+all_seated P (c ∷ cs) (v ∷ vs) e h =
+    All-cons (λ (i : Instance). P i.view) _ (seated cs vs) (h 0 c v refl refl) (all_seated P cs vs (omega (arith, e)) (λ i d w at_d at_w. h (suc i) d w at_d at_w))
+
+shapes_seated : (cs : List Component) (vs : List View) → length vs ≡ length cs → ((i : ℕ) (c : Component) (v : View) → slice_get cs i ≡ Some c → slice_get vs i ≡ Some v → v.fixed.shape ≡ c.shape) →
+    shapes (seated cs vs) ≡ map (λ (c : Component). c.shape) cs
+shapes_seated [] vs e h = refl
+shapes_seated (c ∷ cs) [] e h = absurd (omega (arith, e))
+shapes_seated (c ∷ cs) (v ∷ vs) e h = ap₂ ◌∷◌ (h 0 c v refl refl) (shapes_seated cs vs (omega (arith, e)) (λ i d w at_d at_w. h (suc i) d w at_d at_w))
+
+-- through the instances of slots
+all_through : {S : Type 0} (f : S → Instance) (P : View → Type 0) (slots : List S) (is : List Instance) → map f slots ≡ is → All (λ (i : Instance). P i.view) is → All (λ (s : S). P (f s).view) slots
+all_through f P slots is same all = λ k d w.
+    let m = length-map slots f in
+    let x = get_or slots k d in
+    subst (λ (i : Instance). P i.view) (sym (map_at f slots k x (f x) w (get_or_default slots k d x w)))
+    (subst (All (λ (i : Instance). P i.view)) (sym same) all k (f x) (omega (arith, m, w)))
+
+module _ (system : System) (views : List View) (peers : ArePeersOf system views) where
+  pub seated_shapes : shapes (seated system.components views) ≡ shapes_of system
+  seated_shapes = shapes_seated system.components views peers.len (λ i c v at_c at_v. (peers.each i c v at_c at_v).shape_is)
+
+  pub slots_length : {S : Type 0} (f : S → Instance) (slots : List S) → map f slots ≡ seated system.components views → length slots ≡ length system.components
+  slots_length f slots same = sym (length-map slots f) ∙ ap length same ∙ length_seated system.components views (sym peers.len) ∙ peers.len
+
+  -- a new peer is in the state before its first call
+  new_state : (shape : Shape) (v : View) → IsNew shape v → v.phase.state ≡ P.Fresh
+  new_state shape v new = ap (λ (p : Phase). p.state) new.phase
+
+  pub peers_fresh : {L : Type 0} (view : L → View) (ps : List L) → views ≡ map view ps → All (λ (p : L). (view p).phase.state ≡ P.Fresh) ps
+  peers_fresh view ps same = λ k d w.
+      let m = length-map ps view in
+      let l = ap length same in
+      let k_views : k < length views = omega (arith, m, l, w) in
+      let v = got views k k_views in
+      let c = got system.components k (let e = peers.len in omega (arith, e, k_views)) in
+      let x = get_or ps k d in
+      let here : view x ≡ v.0 = map_at view ps k x v.0 w (get_or_default ps k d x w) ∙ ap (λ (l : List View). get_or l k v.0) (sym same) ∙ sym (get_here views k v.0 v.1) in
+      subst (λ (y : View). y.phase.state ≡ P.Fresh) (sym here) (new_state c.0.shape v.0 (peers.each k c.0 v.0 c.1 v.1))
+
+  module _ (built : IsBuilt system) where
+    new_is_fresh : (i : ℕ) (c : Component) (v : View) → slice_get system.components i ≡ Some c → slice_get views i ≡ Some v → IsFresh v
+    new_is_fresh i c v at_c at_v =
+        let new = peers.each i c v at_c at_v in
+        let within = is_within system.components i c at_c in
+        let here = get_here system.components i c at_c in
+        let no_event : c.shape.has_event_mode ≡ false = subst (λ (d : Component). d.shape.has_event_mode ≡ false) (sym here) (built.no_event i c within) in
+        let no_early : c.shape.might_return_early ≡ false = subst (λ (d : Component). d.shape.might_return_early ≡ false) (sym here) (built.no_early i c within) in
+        record {
+          plain = subst IsPlain (sym new.shape_is) (record { no_event = no_event; no_early = no_early });
+          phase = new.phase ∙ ap fresh (sym new.shape_is);
+        }
+
+    pub slots_fresh : {S : Type 0} (f : S → Instance) (slots : List S) → map f slots ≡ seated system.components views → All (λ (s : S). IsFresh (f s).view) slots
+    slots_fresh f slots same = all_through f IsFresh slots (seated system.components views) same (all_seated IsFresh system.components views peers.len new_is_fresh)
+
+pub components_few : (system : System) → IsSound system → length system.components ≤ 2 ^ 32
+components_few system sound = let few = sound.components.few in omega (arith, few)
+
+-- ---- ports
+
+-- the port is an output of one of the components
+pub record IsOutputOf (system : System) (port : Port) : Type 0 where
+  pub component : Component
+  pub there : slice_get system.components port.component.0 ≡ Some component
+  pub readable : IsReadable component.shape port.kind port.reference
+
+value_type : (kind : PortType) → is_clock_type (Some kind) ≡ false → is_value_type kind ≡ true
+value_type T.Clock h = absurd (cc)
+value_type kind h = refl
+
+-- an output without event mode is no Clock
+no_clock : (system : System) (p : ℕ) (port : Port) (placed : Placed system p port) (role : Role) → port.role ≡ role → is_output_role role ≡ true → IsRole placed.component.shape placed.variable role →
+    placed.component.shape.has_event_mode ≡ false → is_clock placed.variable ≡ false
+no_clock system p port placed Output is out has no_event = has.1
+no_clock system p port placed ClockOutput is out has no_event = absurd (let e = events_of system p port placed (ap is_clock_role is) in cc)
+no_clock system p port placed (Input feed) is out has no_event = absurd (cc)
+no_clock system p port placed (ClockInput feed) is out has no_event = absurd (cc)
+no_clock system p port placed (TimeClock timing) is out has no_event = absurd (cc)
+
+module _ (system : System) (sound : IsSound system) (built : IsBuilt system) where
+  pub output_at : (p : ℕ) (port : Port) → slice_get system.ports p ≡ Some port → IsOutputOf system port
+  output_at p port is =
+      let placed = place_of system sound p port is in
+      let out : is_output_role port.role ≡ true = subst (λ (q : Port). is_output_role q.role ≡ true) (sym (get_here system.ports p port is)) (built.outputs p port (is_within system.ports p port is)) in
+      let at = placed.is.of in
+      let no_event : placed.component.shape.has_event_mode ≡ false =
+      subst (λ (c : Component). c.shape.has_event_mode ≡ false) (sym (get_here system.components port.component.0 placed.component at)) (built.no_event port.component.0 placed.component (is_within system.components port.component.0 placed.component at)) in
+      let plain : is_clock placed.variable ≡ false = no_clock system p port placed port.role refl out placed.role no_event in
+      record {
+        component = placed.component;
+        there = at;
+        readable = (
+          value_type port.kind (ap is_clock_type (sym placed.kind) ∙ plain),
+          subst (λ (o : Option Variable). IsSomeAnd o (λ (v : Variable). (v.kind ≡ Some port.kind) × (v.causality ≡ V.Output))) (sym placed.is.there) (placed.kind, is_output_of system p port placed out),
+        );
+      }
+
+  pub outputs_of : All (IsOutputOf system) system.ports
+  outputs_of = λ k d w. let x = got system.ports k w in subst (IsOutputOf system) (get_here system.ports k x.0 x.1 ∙ get_or_default system.ports k x.0 d w) (output_at k x.0 x.1)
+
+-- where the shapes are those of the components, each port is one of the instances
+pub ports_all : (system : System) (is : List Instance) → shapes is ≡ shapes_of system → All (IsOutputOf system) system.ports → All (IsPortOf is) system.ports
+ports_all system is same all = λ k d w.
+    let port = get_or system.ports k d in
+    let out : IsOutputOf system port = all k d w in
+    let at = port.component.0 in
+    let a : length (shapes is) ≡ length is = length-map is shape_of in
+    let b : length (shapes_of system) ≡ length system.components = length-map system.components (λ (c : Component). c.shape) in
+    let e : length (shapes is) ≡ length (shapes_of system) = ap length same in
+    let in_components = is_within system.components at out.component out.there in
+    let within : at < length is = omega (arith, a, b, e, in_components) in
+    record {
+      within = within;
+      output = λ i.
+          let x = get_or is at i in
+          let shape_is : x.view.fixed.shape ≡ out.component.shape =
+          map_at shape_of is at x out.component.shape within (get_or_default is at i x within) ∙ ap (λ (ss : List Shape). get_or ss at out.component.shape) same
+          ∙ sym (map_at (λ (c : Component). c.shape) system.components at out.component out.component.shape in_components (get_here system.components at out.component out.there)) in
+          subst (λ (s : Shape). IsReadable s port.kind port.reference) (sym shape_is) out.readable;
+    }

@@ -1,0 +1,61 @@
+-- Peers in the slots of their components.
+use Rattle.std.proofs.Common.{◌≡◌, ℕ, suc, ◌+◌, ◌<◌, false, List, [], ◌∷◌, ◌++◌, refl, sym, ap, ap₂, ◌∙◌, subst, append_assoc, arith, length, get_or, map, take, drop, drop-cons, add-one}
+use Rattle.std.specs.Prelude.{All}
+use Rattle.std.proofs.lemmas.List.{get_or_default, length-map, map-append}
+use Rattle.std.proofs.lemmas.List.Elements.{All-cons, All-nil}
+use Rattle.std.proofs.Math.Seq.{take-append_seam}
+use Rattle.fmu_peer.specs.CloseAll.{Closing, ClosesAll, InOrder, Instance, afters}
+use Rattle.fmu_peer.specs.View.{View}
+use Rattle.system_model.specs.declared.system.Component.{Component}
+use Rattle.step_master.specs.Seats.{seat, seated, views_of}
+use Rattle.step_master.proofs.Answered.{map_at}
+
+-- one more is given, and one fewer is left
+pub given_more : {A B : Type 0} (f : A → B) (whole done more : List B) (left rest : List A) (x : A) (y : B) → whole ≡ done ++ map f left → left ≡ x ∷ rest → y ≡ f x → more ≡ done ++ y ∷ [] → whole ≡ more ++ map f rest
+given_more f whole done more left rest x y given is same pushed =
+    given ∙ ap (λ l. done ++ map f l) is ∙ ap (λ z. done ++ z ∷ map f rest) (sym same)
+    ∙ sym (append_assoc done (y ∷ []) (map f rest)) ∙ ap (λ l. l ++ map f rest) (sym pushed)
+
+next_at : (cs : List Component) (n : ℕ) (c : Component) → n < length cs → c ≡ get_or cs n c → drop n cs ≡ c ∷ drop (n + 1) cs
+next_at cs n c w is = drop-cons cs n c w ∙ ap₂ ◌∷◌ (sym is) (ap (λ k. drop k cs) (sym (add-one n)))
+
+-- one more has its seat
+pub seats_more : {S L : Type 0} (f : S → Instance) (view : L → View) (whole : List Instance) (slots more : List S) (cs : List Component) (n m : ℕ) (left rest : List L) (p : L) (c : Component) (s : S) →
+    map f slots ++ seated (drop n cs) (map view left) ≡ whole → left ≡ p ∷ rest → m ≡ n + 1 → n < length cs → c ≡ get_or cs n c → more ≡ slots ++ s ∷ [] → f s ≡ seat c (view p) →
+    map f more ++ seated (drop m cs) (map view rest) ≡ whole
+seats_more f view whole slots more cs n m left rest p c s given is next w at pushed seats =
+    ap₂ (λ xs k. xs ++ seated (drop k cs) (map view rest)) (ap (map f) pushed ∙ map-append f slots (s ∷ [])) next
+    ∙ append_assoc (map f slots) (f s ∷ []) (seated (drop (n + 1) cs) (map view rest))
+    ∙ ap (λ i. map f slots ++ i ∷ seated (drop (n + 1) cs) (map view rest)) seats
+    ∙ ap (λ ds. map f slots ++ seated ds (map view (p ∷ rest))) (sym (next_at cs n c w at))
+    ∙ ap (λ l. map f slots ++ seated (drop n cs) (map view l)) (sym is) ∙ given
+
+pub length_seated : (cs : List Component) (vs : List View) → length cs ≡ length vs → length (seated cs vs) ≡ length vs
+length_seated [] [] e = refl
+length_seated [] (v ∷ vs) e = absurd (omega (arith, e))
+length_seated (c ∷ cs) [] e = absurd (omega (arith, e))
+length_seated (c ∷ cs) (v ∷ vs) e = ap suc (length_seated cs vs (omega (arith, e)))
+
+-- ---- closing
+
+-- what a slice of a list's elements wrote is what the list has
+pub written_back : {A : Type 0} (items new : List A) (len : ℕ) → length items ≡ len → length new ≡ length items → take len (new ++ drop (length new) items) ≡ new
+written_back items new len e l = ap (λ (n : ℕ). take n (new ++ drop (length new) items)) (sym e ∙ sym l) ∙ take-append_seam new (drop (length new) items)
+
+spent_in_order : (closed : List Instance) (cs : List Closing) → InOrder closed cs → All (λ (i : Instance). i.has_saved ≡ false) (afters cs)
+spent_in_order closed [] order = All-nil (λ (i : Instance). i.has_saved ≡ false)
+spent_in_order closed (c ∷ cs) order = All-cons (λ (i : Instance). i.has_saved ≡ false) c.new (afters cs) order.0.spent (spent_in_order (closed ++ c.new ∷ []) cs order.1)
+
+module _ {S : Type 0} (f : S → Instance) (olds : List Instance) (slots : List S) (closes : ClosesAll olds (map f slots)) where
+  -- no closed instance keeps a state
+  pub spent_all : All (λ (s : S). (f s).has_saved ≡ false) slots
+  spent_all = λ k d w.
+      let m = length-map slots f in
+      let all : All (λ (i : Instance). i.has_saved ≡ false) (map f slots) = subst (All (λ (i : Instance). i.has_saved ≡ false)) (sym closes.new_is) (spent_in_order [] closes.closings closes.order) in
+      let x = get_or slots k d in
+      subst (λ (i : Instance). i.has_saved ≡ false) (sym (map_at f slots k x (f x) w (get_or_default slots k d x w))) (all k (f x) (omega (arith, m, w)))
+
+-- the views of peers
+pub views_same : {S L : Type 0} (view : L → View) (peer : S → L) (f : S → Instance) → ((s : S) → (f s).view ≡ view (peer s)) → (slots : List S) → map view (map peer slots) ≡ views_of (map f slots)
+views_same view peer f same [] = refl
+views_same view peer f same (s ∷ slots) = ap₂ ◌∷◌ (sym (same s)) (views_same view peer f same slots)

@@ -1,0 +1,207 @@
+-- The end of a run of told machines, whatever they answer.
+use Rattle.std.proofs.Common.{◌≡◌, ℕ, ◌<◌, List, [], ◌∷◌, ◌++◌, inl, inr, Some, refl, sym, ap, ap₂, ◌∙◌, subst, arith, length}
+use Rattle.std.specs.Prelude.{option_map}
+use Rattle.std.specs.List.{slice_get}
+use Rattle.std.proofs.lemmas.List.{length-map}
+use Rattle.std.proofs.lemmas.Option.{same_Some, slice_get-map}
+use Rattle.fmu_peer.specs.Machine.{Machine, MachineState}
+use Rattle.fmu_peer.specs.View.{View}
+use Rattle.system_model.specs.declared.plan.EndKind.TheVariants as K
+use Rattle.system_model.specs.declared.plan.Plan.{Plan}
+use Rattle.system_model.specs.declared.system.Component.{Component}
+use Rattle.system_model.specs.declared.system.System.{System}
+use Rattle.system_model.specs.Sound.{IsSound}
+use Rattle.system_model.specs.Text.{Instant}
+use Rattle.run_model.specs.Run.{Run}
+use Rattle.run_model.specs.Initial as I
+use Rattle.run_model.specs.Stepping as P
+use Rattle.run_model.specs.Stepping.{Ends}
+use Rattle.run_model.specs.Trace.{IsTrace}
+use Rattle.step_master.specs.declared.run_end.RunEnd.{RunEnd}
+use Rattle.step_master.specs.declared.run_end.RunEnd.TheVariants as E
+use Rattle.step_master.specs.Course.{Finishes, Interrupted, Seen, WhereAsked, WhereFixed, kind_of_end, read_at, trace_pieces}
+use Rattle.step_master.specs.Ends.{EndsBy, PutsWhole}
+use Rattle.step_master.specs.Lived.{Account, Lived}
+use Rattle.step_master.specs.Lives.{AreLives, IsLife, Life, RepliesBy}
+use Rattle.step_master.specs.Log.{Sent}
+use Rattle.step_master.specs.Puts.{CutsPiece, with_pieces}
+use Rattle.step_master.specs.System.{IsBuilt, IsUnbound}
+use Rattle.step_master.specs.Traced.{AtFirst, Before, CameTo, CutsFront, IsFront, PutsRun, PutsTrace, TellMachines, ToldRun}
+use Rattle.step_master.proofs.Begun.{made_states}
+use Rattle.step_master.proofs.Followed.{front_seen, reaches, sees_all, trace_seen}
+use Rattle.step_master.proofs.Looking.{AreReplies, replies_first, replies_front, replies_then, states_by}
+use Rattle.step_master.proofs.Onward.{asks_here, kept_to, lacks_here, step_here}
+use Rattle.step_master.proofs.Prepared.{get_here, got, is_within}
+use Rattle.step_master.proofs.Quiet.{nones, solves_initially}
+
+-- ---- lists
+
+-- all but the last
+abbrev front_of : {A : Type 0} → List A → List A
+front_of [] = []
+front_of (x ∷ []) = []
+front_of (x ∷ (y ∷ ys)) = x ∷ front_of (y ∷ ys)
+
+front_is : {A : Type 0} (xs : List A) (x : A) → front_of (xs ++ x ∷ []) ≡ xs
+front_is [] x = refl
+front_is (y ∷ []) x = refl
+front_is (y ∷ (z ∷ zs)) x = ap (λ (l : List _). y ∷ l) (front_is (z ∷ zs) x)
+
+same_front : {A : Type 0} (xs ys : List A) (x y : A) → xs ++ x ∷ [] ≡ ys ++ y ∷ [] → xs ≡ ys
+same_front xs ys x y e = sym (front_is xs x) ∙ ap front_of e ∙ front_is ys y
+
+-- ---- what the lives tell of the machines
+
+-- a machine for each component
+pub machines_of : (system : System) (olds news : List View) (log : List Sent) (lives : List Life) (machines : List Machine) → AreLives system olds news log lives → TellMachines olds machines → length machines ≡ length system.components
+machines_of system olds news log lives machines are tell =
+    tell.count ∙ sym (ap length are.olds_are) ∙ length-map lives (λ (l : Life). l.old)
+    ∙ sym (length-map lives (λ (l : Life). l.source)) ∙ ap length are.sources_are ∙ length-map system.components (λ (c : Component). c.source.0)
+
+-- the replies of each are its own
+pub replies_of : (r : Run) (olds news : List View) (log : List Sent) (lives : List Life) → AreLives r.system olds news log lives → TellMachines olds r.machines → AreReplies r (I.first_states r) log
+replies_of r olds news log lives are tell i c m s fmu =
+    let in_lives : i < length lives =
+    (let a = is_within r.system.components i c fmu.component in
+    let b : length lives ≡ length r.system.components = sym (length-map lives (λ (l : Life). l.source)) ∙ ap length are.sources_are ∙ length-map r.system.components (λ (d : Component). d.source.0) in
+    omega (arith, a, b)) in
+    let x = got lives i in_lives in
+    let is_life : IsLife x.0 = subst IsLife (sym (get_here lives i x.0 x.1)) (are.each i x.0 in_lives) in
+    let old : slice_get olds i ≡ Some x.0.old =
+    ap (λ (vs : List View). slice_get vs i) (sym are.olds_are) ∙ slice_get-map (λ (l : Life). l.old) lives i ∙ ap (option_map (λ (l : Life). l.old)) x.1 in
+    let told = tell.each i x.0.old m old fmu.machine in
+    let first : m.first ≡ s = same_Some m.first s (sym (slice_get-map (λ (n : Machine). n.first) r.machines i ∙ ap (option_map (λ (n : Machine). n.first)) fmu.machine) ∙ fmu.state) in
+    subst (RepliesBy m s) (are.runs_are i x.0 x.1)
+    (replies_front m s x.0.run x.0.closing (is_life.replies m s told.0 (told.1 ∙ ap Some first)))
+
+-- ---- the end
+
+module _ (r : Run) (sound : IsSound r.system) (built : IsBuilt r.system) (unbound : IsUnbound r.bound) (machines : length r.machines ≡ length r.system.components) where
+  abbrev first : List MachineState
+  first = I.instantiated r
+
+  -- before the first instant
+  pub front_none : IsFront r []
+  front_none = Before (I.beginning r (nones r sound built)) (AtFirst (I.beginning r (nones r sound built)) [] (nones r sound built) (solves_initially r sound built) refl refl)
+
+  seen_front : (t : ℕ) (log : List Sent) (is : List Instant) → Seen r.system r.plan t log is → AreReplies r first log → IsFront r is
+  seen_front t log is seen replies = front_seen r sound built t log is (sees_all r sound built unbound machines t log is seen replies)
+
+  -- in front of the last calls
+  front_replies : (log before more : List Sent) → log ≡ before ++ more → AreReplies r first log → AreReplies r first before
+  front_replies log before more is replies = replies_first r first before more (subst (AreReplies r first) is replies)
+
+  -- the instants so far are a front of the run
+  pub finish_front : (end : RunEnd) (point : ℕ) (log : List Sent) (is : List Instant) → Finishes r.system r.plan end point log is → AreReplies r first log → IsFront r is
+  finish_front E.Stop point log is f replies = seen_front r.plan.stop log is f.1 replies
+  finish_front (E.Asked at) point log is f replies = let w = f.1 in seen_front w.from w.before is w.seen (front_replies log w.before w.steps w.log_is replies)
+  finish_front (E.EventLimit at) point log is f replies = absurd f
+  finish_front (E.FixedStep component at end) point log is f replies = seen_front at log is f.1.seen replies
+  finish_front (E.Bad bad) point log is (inl w) replies = subst (IsFront r) (sym w.is_is) front_none
+  finish_front (E.Bad bad) point log is (inr (inl w)) replies =
+      let x = reaches r sound built unbound machines point w.before is w.came (front_replies log w.before w.reads w.log_is replies) in Before x.s x.came
+  finish_front (E.Bad bad) point log is (inr (inr w)) replies = seen_front point w.before is w.seen (front_replies log w.before w.steps w.log_is replies)
+  finish_front E.WriteFault point log is f replies = absurd f
+
+  -- at the stop
+  pub stop_trace : (log : List Sent) (is : List Instant) → Seen r.system r.plan r.plan.stop log is → AreReplies r first log → IsTrace r is K.Stop r.plan.stop
+  stop_trace log is seen replies =
+      let x = sees_all r sound built unbound machines r.plan.stop log is seen replies in
+      trace_seen r sound built r.plan.stop log is x K.Stop r.plan.stop (P.AtStop (Ends K.Stop r.plan.stop) x.here.point (ap (Ends K.Stop) (sym x.here.point)))
+
+  -- where an answer asked for it
+  pub asked_trace : (point : ℕ) (log : List Sent) (is : List Instant) → WhereAsked r.system r.plan point log is → AreReplies r first log → IsTrace r is K.Asked point
+  asked_trace point log is w replies =
+      let on = subst (AreReplies r first) w.log_is replies in
+      let x = sees_all r sound built unbound machines w.from w.before is w.seen (replies_first r first w.before w.steps on) in
+      let ss = states_by r first w.before in
+      let rest = replies_then r first w.before w.steps x.good on in
+      trace_seen r sound built w.from w.before is x K.Asked point
+      (P.WhereAsked (Ends K.Asked point) (kept_to r sound built w.from ss x.s x.here point) point
+      (step_here r sound built w.from ss x.s x.here point w.step.bound w.steps w.answered rest w.step.fit)
+      (sym (asks_here r sound built w.from ss x.s x.here point w.step.bound w.steps w.answered rest) ∙ w.asks) refl)
+
+  -- where a component takes no such step
+  pub fixed_trace : (component at end : ℕ) (log : List Sent) (is : List Instant) → WhereFixed r.system r.plan component at end log is → AreReplies r first log → IsTrace r is K.Fixed at
+  fixed_trace component at end log is w replies =
+      let x = sees_all r sound built unbound machines at log is w.seen replies in
+      trace_seen r sound built at log is x K.Fixed at
+      (P.WhereFixed (Ends K.Fixed at) component end (lacks_here r sound built at (states_by r first log) x.s x.here end component w.bound w.unfit) (ap (Ends K.Fixed) (sym x.here.point)))
+
+-- ---- the law
+
+-- an account of a run of this system and plan
+abbrev account : System → Plan → Account → Account
+account system plan a = record a { system = system; plan = plan }
+
+module _ (r : Run) (b : Account) (sound : IsSound r.system) (built : IsBuilt r.system) (unbound : IsUnbound r.bound) (tell : TellMachines b.olds r.machines) (lived : Lived (account r.system r.plan b)) where
+  abbrev a : Account
+  a = account r.system r.plan b
+
+  machines : length r.machines ≡ length r.system.components
+  machines = machines_of r.system b.olds b.news (lived.made ++ lived.log) lived.lives r.machines lived.are tell
+
+  all_replies : AreReplies r (I.first_states r) (lived.made ++ lived.log)
+  all_replies = replies_of r b.olds b.news (lived.made ++ lived.log) lived.lives lived.are tell
+
+  -- behind what was made
+  pub replies : AreReplies r (I.instantiated r) lived.log
+  replies = subst (λ (ss : List MachineState). AreReplies r ss lived.log)
+      (made_states r sound built unbound machines lived.made lived.making (replies_first r (I.first_states r) lived.made lived.log all_replies))
+      (replies_then r (I.first_states r) lived.made lived.log lived.making.good all_replies)
+
+  abbrev Text : RunEnd → Type 0
+  Text end = PutsWhole r.system r.plan lived.log lived.is end b.before b.after
+
+  puts_trace : (end : RunEnd) (point at : ℕ) → b.after ≡ with_pieces b.before (trace_pieces r.system r.plan lived.is (kind_of_end end) point) → point ≡ at → IsTrace r lived.is (kind_of_end end) at → PutsTrace a r (kind_of_end end) at
+  puts_trace end point at put same trace = record {
+    is = lived.is;
+    trace = trace;
+    text = record { counted = lived.counted; put = put ∙ ap (λ (n : ℕ). with_pieces b.before (trace_pieces r.system r.plan lived.is (kind_of_end end) n)) same };
+  }
+
+  cut_front : (pieces : List (List ℕ)) (piece : List ℕ) → CutsPiece (with_pieces b.before pieces) piece b.after → Interrupted r.system r.plan lived.log lived.is pieces piece → CutsFront a r
+  cut_front pieces piece cut (inl h) = record {
+    is = lived.is;
+    front = subst (IsFront r) (sym h.is_is) (front_none r sound built unbound machines);
+    counted = lived.counted;
+    cut = inl (subst (λ (p : List ℕ). CutsPiece b.before p b.after) h.piece_is (subst (λ (ps : List (List ℕ)). CutsPiece (with_pieces b.before ps) piece b.after) h.pieces_are cut));
+  }
+  cut_front pieces piece cut (inr (inl i)) =
+      let all = seen_front r sound built unbound machines i.t lived.log (lived.is ++ i.i ∷ []) i.seen replies in
+      let old = reaches r sound built unbound machines i.t i.seen.before i.seen.earlier i.seen.came (front_replies r sound built unbound machines lived.log i.seen.before i.seen.reads i.seen.log_is replies) in
+      record {
+        is = lived.is;
+        front = Before old.s (subst (CameTo r old.s) (sym (same_front lived.is i.seen.earlier i.i (read_at i.t i.seen.reads) i.seen.is_is)) old.came);
+        counted = lived.counted;
+        cut = inr (piece, inl (i.i, all, i.piece_is), subst (λ (ps : List (List ℕ)). CutsPiece (with_pieces b.before ps) piece b.after) i.pieces_are cut);
+      }
+  cut_front pieces piece cut (inr (inr e)) = record {
+    is = lived.is;
+    front = finish_front r sound built unbound machines e.end e.point lived.log lived.is e.finishes replies;
+    counted = lived.counted;
+    cut = inr (piece, inr (kind_of_end e.end, e.point, e.piece_is), subst (λ (ps : List (List ℕ)). CutsPiece (with_pieces b.before ps) piece b.after) e.pieces_are cut);
+  }
+
+  puts_run : (end : RunEnd) → EndsBy r.system r.plan lived.log lived.is end b.before b.after → PutsRun a r end
+  puts_run E.Stop (point, f, put) = puts_trace E.Stop point r.plan.stop put f.0 (stop_trace r sound built unbound machines lived.log lived.is f.1 replies)
+  puts_run (E.Asked at) (point, f, put) = puts_trace (E.Asked at) point at put f.0 (asked_trace r sound built unbound machines at lived.log lived.is f.1 replies)
+  puts_run (E.EventLimit at) (point, f, put) = absurd f
+  puts_run (E.FixedStep component at end) (point, f, put) =
+      puts_trace (E.FixedStep component at end) point at put f.0 (fixed_trace r sound built unbound machines component.0 at end lived.log lived.is f.1 replies)
+  puts_run (E.Bad bad) (point, f, put) = record {
+    is = lived.is;
+    point = point;
+    front = finish_front r sound built unbound machines (E.Bad bad) point lived.log lived.is f replies;
+    text = record { counted = lived.counted; put = put };
+  }
+  puts_run E.WriteFault w = cut_front w.pieces w.piece w.cuts w.interrupted
+
+  pub puts : PutsRun a r b.end
+  puts = puts_run b.end lived.text
+
+pub told_run : ToldRun
+told_run a r sound built run plan_is lived =
+    let e : a ≡ account r.system r.plan a = ap₂ (λ (s : System) (p : Plan). account s p a) (sym run.system_is) (sym plan_is) in
+    subst (λ (x : Account). PutsRun x r x.end) (sym e)
+    (puts r a (subst IsSound (sym run.system_is) sound) (subst IsBuilt (sym run.system_is) built) run.unbound run.tell (subst Lived e lived))

@@ -1,0 +1,76 @@
+use Rattle.std.proofs.Common.{◌≤◌, ◌^◌, List, refl, sym, ap, ◌∙◌, subst, map}
+use Rattle.fmu_peer.specs.CloseAll.{Instance, instance_in}
+use Rattle.fmu_peer.specs.Mode.{instantiate_of}
+use Rattle.value_types.specs.declared.shape.Shape.{Shape}
+use Rattle.step_master.specs.Log.{Told}
+use Rattle.step_master.specs.Seats.{seated}
+use Rattle.step_master.specs.Slots.{instances}
+use Rattle.step_master.specs.Stage.{IsAnswered, StopsAt, shapes, to_each}
+use Rattle.step_master.proofs.Answered.{shapes_same}
+use Rattle.step_master.proofs.Prepared.{components_few, outputs_of, peers_fresh, ports_all, seated_shapes, slots_fresh, slots_length}
+use Rattle.step_master.proofs.Sizes.{same_length}
+use Rattle.step_master.proofs.master.Master.prepare.Goals as goal
+
+pub new-requires-2-clause-fresh : goal.new-requires-2-clause-fresh
+new-requires-2-clause-fresh g c κs within = peers_fresh c.args.system (map g.L.Peer.view c.args.peers.items) c.requires.peers g.L.Peer.view c.args.peers.items refl
+
+pub make-requires-clause-few : goal.make-requires-clause-few
+make-requires-clause-few g c κs within =
+    let same = c.in-Ok-new.ensures.ok ∙ ap (λ cs. seated cs (map g.L.Peer.view c.args.peers.items)) c.as_slice.ensures in
+    subst (λ n. n ≤ 2 ^ 32) (sym (slots_length c.args.system (map g.L.Peer.view c.args.peers.items) c.requires.peers (λ s. instance_in g.L.Peer.view s) c.in-Ok-new.seats.slots.items same)) (components_few c.args.system c.requires.sound)
+
+pub make-requires-clause-fresh : goal.make-requires-clause-fresh
+make-requires-clause-fresh g c κs within =
+    let same = c.in-Ok-new.ensures.ok ∙ ap (λ cs. seated cs (map g.L.Peer.view c.args.peers.items)) c.as_slice.ensures in
+    slots_fresh c.args.system (map g.L.Peer.view c.args.peers.items) c.requires.peers c.requires.built (λ s. instance_in g.L.Peer.view s) c.in-Ok-new.seats.slots.items same
+
+pub returns-in-Ok-make-clause-ready : goal.returns-in-Ok-make-clause-ready
+returns-in-Ok-make-clause-ready g c =
+    let view = g.L.Peer.view in
+    let same = c.in-Ok-new.ensures.ok ∙ ap (λ cs. seated cs (map view c.args.peers.items)) c.as_slice.ensures in
+    let stage = c.in-Ok-make.ensures.stage in
+    let news = c.make.new.self.slots.items in
+    let fits = shapes_same stage.log _ (instances view news) stage.told ∙ ap shapes same ∙ seated_shapes c.args.system (map view c.args.peers.items) c.requires.peers in
+    record {
+      unrun = refl;
+      plan = c.requires.plan;
+      slots = record {
+        few = subst (λ n. n ≤ 2 ^ 32) (sym (same_length (λ s. instance_in view s) news c.args.system c.args.plan fits)) (components_few c.args.system c.requires.sound);
+        shapes_are = fits;
+        ports = ports_all c.args.system (instances view news) fits (outputs_of c.args.system c.requires.sound c.requires.built);
+      };
+      room = c.in-Ok.ensures;
+      made = record { live = c.in-Ok-make.ensures.live; made = c.in-Ok-make.ensures.made; none = refl };
+    }
+
+pub returns-in-Ok-make-clause-ok : goal.returns-in-Ok-make-clause-ok
+returns-in-Ok-make-clause-ok g c =
+    let view = g.L.Peer.view in
+    let views = map view c.args.peers.items in
+    let same = c.in-Ok-new.ensures.ok ∙ ap (λ cs. seated cs views) c.as_slice.ensures in
+    let stage = c.in-Ok-make.ensures.stage in
+    let fits = ap shapes same ∙ seated_shapes c.args.system views c.requires.peers in
+    record {
+      log = stage.log;
+      told = subst (λ (is : List Instance). Told stage.log is (instances view c.make.new.self.slots.items)) same stage.told;
+      answered = subst (λ (ss : List Shape). IsAnswered ss (to_each instantiate_of ss) stage.log) fits stage.says.0;
+      system_is = refl;
+      plan_is = refl;
+      unrun = refl;
+      none = refl;
+    }
+
+pub returns-in-Err-make-clause-err : goal.returns-in-Err-make-clause-err
+returns-in-Err-make-clause-err g c =
+    let view = g.L.Peer.view in
+    let views = map view c.args.peers.items in
+    let same = c.in-Ok-new.ensures.ok ∙ ap (λ cs. seated cs views) c.as_slice.ensures in
+    let stage = c.in-Err-make.ensures.stage in
+    let fits = ap shapes same ∙ seated_shapes c.args.system views c.requires.peers in
+    record {
+      log = stage.log;
+      mids = instances view c.make.new.self.slots.items;
+      told = subst (λ (is : List Instance). Told stage.log is (instances view c.make.new.self.slots.items)) same stage.told;
+      stops = subst (λ (ss : List Shape). StopsAt ss (to_each instantiate_of ss) c.in-Err-make.bad stage.log) fits stage.says;
+      closes = c.close.ensures;
+    }

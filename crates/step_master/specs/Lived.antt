@@ -1,0 +1,63 @@
+-- A system from the first call of its peers to the last, as prepare, run and close leave it (FMI 3.0, 4.2.1).
+use Rattle.std.specs.Prelude.{◌≡◌, ℕ, List, ◌++◌, length}
+use Rattle.sim_base.specs.Sink.{SinkView}
+use Rattle.fmu_peer.specs.View.{View}
+use Rattle.system_model.specs.declared.plan.Plan.{Plan}
+use Rattle.system_model.specs.declared.system.System.{System}
+use Rattle.system_model.specs.Sound.{IsSound}
+use Rattle.system_model.specs.Text.{Instant}
+use Rattle.step_master.specs.declared.bad_answer.BadAnswer.{BadAnswer}
+use Rattle.step_master.specs.declared.run_end.RunEnd.{RunEnd}
+use Rattle.step_master.specs.Course.{making}
+use Rattle.step_master.specs.Ends.{EndsBy}
+use Rattle.step_master.specs.Lives.{AreLives, AreOver, EndsLives, IsLeastBad, Life}
+use Rattle.step_master.specs.Log.{Sent}
+use Rattle.step_master.specs.Master.{Closes, IsUnmade, Prepares, Runs, Standing}
+use Rattle.step_master.specs.Stage.{IsAnswered, StopsAt}
+use Rattle.step_master.specs.System.{ArePeersOf, shapes_of}
+
+-- a run: what was run, its peers and its sink before and after, the number of instants that were put, and how it ended
+pub record Account : Type 0 where
+  pub system : System
+  pub plan : Plan
+  pub olds : List View
+  pub news : List View
+  pub before : SinkView
+  pub after : SinkView
+  pub instants : ℕ
+  pub end : RunEnd
+
+-- each was made, then the run went on by its log, and all were closed
+pub record Lived (a : Account) : Type 0 where
+  pub made : List Sent
+  pub log : List Sent
+  pub is : List Instant
+  pub lives : List Life
+  pub making : IsAnswered (shapes_of a.system) (making a.system) made
+  pub are : AreLives a.system a.olds a.news (made ++ log) lives
+  pub text : EndsBy a.system a.plan log is a.end a.before a.after
+  pub counted : a.instants ≡ length is
+  pub ends : EndsLives a.end lives
+
+-- the answer to an Instantiate wasn't good, and all were closed
+pub record Unmade (system : System) (olds : List View) (bad : BadAnswer) (news : List View) : Type 0 where
+  pub log : List Sent
+  pub lives : List Life
+  pub stops : StopsAt (shapes_of system) (making system) bad log
+  pub are : AreLives system olds news log lives
+  pub least : IsLeastBad bad lives
+
+-- ---- laws
+
+-- a system that was prepared, run and closed
+abbrev pub RunIsLived : Type 0
+RunIsLived = (a : Account) (ready done : Standing) → IsSound a.system → ArePeersOf a.system a.olds →
+    Prepares a.system a.plan a.olds ready → Runs ready done a.before a.after a.end → Closes done.instances a.news → a.instants ≡ done.instants → Lived a
+
+-- a system that couldn't be prepared
+abbrev pub UnmadeIsClosed : Type 0
+UnmadeIsClosed = (system : System) (olds news : List View) (bad : BadAnswer) → IsSound system → ArePeersOf system olds → IsUnmade system olds bad news → Unmade system olds bad news
+
+-- of a system's peers each that isn't spared is over
+abbrev pub LivesAreOver : Type 0
+LivesAreOver = (system : System) (olds news : List View) (log : List Sent) (lives : List Life) → AreLives system olds news log lives → AreOver lives

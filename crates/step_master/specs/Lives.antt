@@ -1,0 +1,131 @@
+-- The lives of a system's peers, each from before its first call through the run to its closing (FMI 3.0, 4.2.1; 2.2.3: Fatal).
+use Rattle.std.specs.Prelude.{◌≡◌, ◌⊎◌, ℕ, ◌≤◌, ◌==◌, Bool, true, false, ◌&&◌, ◌||◌, List, [], ◌∷◌, ◌++◌, map, take, All, Some, IfSome, MatchResult}
+use Rattle.std.specs.List.{list_any, slice_get}
+use Rattle.std.specs.Result.{is_err}
+use Rattle.sim_base.specs.Causes.{Rose}
+use Rattle.value_types.specs.declared.shape.Shape.{Shape}
+use Rattle.fmi_calls.specs.declared.call.Call.{Call}
+use Rattle.fmi_calls.specs.KindFacts.{IsClosingCall, IsRunCall}
+use Rattle.fmi_calls.specs.declared.phase.InstanceState.TheVariants as P
+use Rattle.fmu_peer.specs.declared.peer.Exchange.{Exchange}
+use Rattle.fmu_peer.specs.Answer.{IsFirstBad, IsLink}
+use Rattle.fmu_peer.specs.Close.{any_fatal}
+use Rattle.fmu_peer.specs.Lean.{IsLean}
+use Rattle.fmu_peer.specs.Machine.{Machine, MachineState, after}
+use Rattle.fmu_peer.specs.Siblings.{Member, Siblings}
+use Rattle.fmu_peer.specs.Talk as T
+use Rattle.fmu_peer.specs.View.{View}
+use Rattle.system_model.specs.declared.system.Component.{Component}
+use Rattle.system_model.specs.declared.system.System.{System}
+use Rattle.step_master.specs.declared.bad_answer.BadAnswer.{BadAnswer}
+use Rattle.step_master.specs.declared.run_end.RunEnd.{RunEnd}
+use Rattle.step_master.specs.declared.run_end.RunEnd.TheVariants as E
+use Rattle.step_master.specs.Log.{Sent, part}
+
+-- ---- one life
+
+-- the number of the peer's source, what it was before its first call, its exchanges of the run and those of the closing, and what it is at the end
+pub record Life : Type 0 where
+  pub source : ℕ
+  pub old : View
+  pub run : List Exchange
+  pub closing : List Exchange
+  pub new : View
+
+abbrev pub shape_in : Life → Shape
+shape_in life = life.old.fixed.shape
+
+-- all of its exchanges
+abbrev pub talk_in : Life → List Exchange
+talk_in life = life.run ++ life.closing
+
+abbrev pub calls_in : List Exchange → List Call
+calls_in es = map (λ (e : Exchange). e.call) es
+
+-- a fault came in the reply's place
+abbrev pub is_unanswered : Exchange → Bool
+is_unanswered e = is_err e.result
+
+-- a count of faults never falls: it rises where one of the calls is unanswered, and else it stays
+pub record Counts (before after : ℕ) (es : List Exchange) : Type 0 where
+  pub later : before ≤ after
+  pub quiet : list_any is_unanswered es ≡ false → after ≡ before
+  pub rose : list_any is_unanswered es ≡ true → Rose before after
+
+-- from this state on each reply is the machine's, up to a call that had none
+abbrev pub RepliesBy : Machine → MachineState → List Exchange → Type 0
+RepliesBy m s [] = Unit {0}
+RepliesBy m s (e ∷ es) = MatchResult e.result (λ reply. (reply ≡ m.look s e.call) × RepliesBy m (after m s e.call) es) (λ fault. Unit {0})
+
+-- what stays has stayed; the calls of the run are all needed, and those of the closing follow; all of them are legal and lead to the phase, and a told talk has them and no others; a told machine's replies are those to them
+pub record IsLife (life : Life) : Type 0 where
+  pub fixed : life.new.fixed ≡ life.old.fixed
+  pub run_calls : All IsRunCall (calls_in life.run)
+  pub lean : IsLean (calls_in life.run)
+  pub closing_calls : All IsClosingCall (calls_in life.closing)
+  pub legal : T.Legal (shape_in life) (talk_in life)
+  pub phase : life.new.phase ≡ T.phase_after (shape_in life) (talk_in life)
+  pub talk : IfSome life.new.talk (λ es. es ≡ talk_in life)
+  pub counts : Counts life.old.faults life.new.faults (talk_in life)
+  pub replies : (m : Machine) (s : MachineState) → life.old.fixed.machine ≡ Some m → life.old.state ≡ Some s → RepliesBy m s (talk_in life)
+
+-- how its closing leaves a peer: it was never asked, its instance is gone or lost, or it keeps a state that Free was answered Discard for
+pub data IsOver (life : Life) : Type 0 where
+  Unasked : life.new.phase.state ≡ P.Fresh → IsOver life
+  Freed : life.new.phase.state ≡ P.Gone → IsOver life
+  LostHere : life.new.phase.state ≡ P.Lost → IsOver life
+  Keeping : life.new.phase.slot.is_full ≡ true → T.EndsKeeping (talk_in life) → IsOver life
+
+-- ---- the lives of all
+
+-- one of these, of the source, had a call of its run that was refused with Fatal
+abbrev pub any_fatal_run : ℕ → List Life → Bool
+any_fatal_run source lives = list_any (λ (l : Life). any_fatal (shape_in l) l.run && l.source == source) lives
+
+-- likewise one of its closing
+abbrev pub any_fatal_closing : ℕ → List Life → Bool
+any_fatal_closing source lives = list_any (λ (l : Life). any_fatal (shape_in l) l.closing && l.source == source) lives
+
+-- the peer at this place is spared: one of its source had a Fatal in a run, or one before it in the closing
+abbrev pub is_spared : List Life → ℕ → Life → Bool
+is_spared lives place life = any_fatal_run life.source lives || any_fatal_closing life.source (take place lives)
+
+abbrev pub member_in : Life → Member
+member_in life = record { source = life.source; shape = shape_in life; run = life.run; closing = life.closing }
+
+-- the lives of a system's peers, in the order of the components: each has its part of the log, those behind a Fatal of their source have no closing, and each other is closed
+pub record AreLives (system : System) (olds news : List View) (log : List Sent) (lives : List Life) : Type 0 where
+  pub olds_are : map (λ (l : Life). l.old) lives ≡ olds
+  pub news_are : map (λ (l : Life). l.new) lives ≡ news
+  pub sources_are : map (λ (l : Life). l.source) lives ≡ map (λ (c : Component). c.source.0) system.components
+  pub runs_are : (k : ℕ) (life : Life) → slice_get lives k ≡ Some life → life.run ≡ part k log
+  pub each : All IsLife lives
+  pub siblings : Siblings (map member_in lives)
+  pub closed : (k : ℕ) (life : Life) → slice_get lives k ≡ Some life → is_spared lives k life ≡ false → T.Closed (shape_in life) (talk_in life)
+
+-- each of them is over, or spared
+abbrev pub AreOver : List Life → Type 0
+AreOver lives = (k : ℕ) (life : Life) → slice_get lives k ≡ Some life → is_spared lives k life ≡ false → IsOver life
+
+-- ---- how they end
+
+-- each answer of the runs is good
+abbrev pub AreGood : List Life → Type 0
+AreGood lives = All (λ (l : Life). T.AllGood (shape_in l) l.run) lives
+
+-- the component's run ends with its first answer that isn't good, and those of the components before it have good ones alone
+pub record IsLeastBad (bad : BadAnswer) (lives : List Life) : Type 0 where
+  pub life : Life
+  pub here : slice_get lives bad.component.0 ≡ Some life
+  pub first : IsFirstBad (shape_in life) bad.why life.run
+  pub before : AreGood (take bad.component.0 lives)
+  pub rose : IsLink bad.why → Rose life.old.faults life.new.faults
+
+-- the answers of the runs by the end
+abbrev pub EndsLives : RunEnd → List Life → Type 0
+EndsLives E.Stop lives = AreGood lives
+EndsLives (E.Asked point) lives = AreGood lives
+EndsLives (E.EventLimit point) lives = AreGood lives
+EndsLives (E.FixedStep component at end) lives = AreGood lives
+EndsLives (E.Bad bad) lives = IsLeastBad bad lives
+EndsLives E.WriteFault lives = AreGood lives ⊎ ((bad : BadAnswer) × IsLeastBad bad lives)

@@ -1,0 +1,72 @@
+-- What a master is to its callers, and what its calls make of it and of its peers, for any replies (FMI 3.0, 4.2.1).
+use Rattle.std.specs.Prelude.{◌≡◌, ℕ, Bool, true, false, List, length}
+use Rattle.sim_base.specs.Sink.{SinkView}
+use Rattle.fmu_peer.specs.CloseAll.{ClosesAll, Instance}
+use Rattle.fmu_peer.specs.View.{View}
+use Rattle.system_model.specs.declared.plan.Plan.{Plan}
+use Rattle.system_model.specs.declared.system.System.{System}
+use Rattle.system_model.specs.Text.{Instant}
+use Rattle.step_master.specs.declared.bad_answer.BadAnswer.{BadAnswer}
+use Rattle.step_master.specs.declared.prepare_end.PrepareFault.{PrepareFault}
+use Rattle.step_master.specs.declared.prepare_end.PrepareFault.TheVariants as F
+use Rattle.step_master.specs.declared.run_end.RunEnd.{RunEnd}
+use Rattle.step_master.specs.Course.{making}
+use Rattle.step_master.specs.Ends.{EndsBy}
+use Rattle.step_master.specs.Log.{Sent, Told}
+use Rattle.step_master.specs.Seats.{seated, views_of}
+use Rattle.step_master.specs.Stage.{IsAnswered, StopsAt}
+use Rattle.step_master.specs.System.{shapes_of}
+
+-- what it runs, its instances in the order of the components, whether it was run, and how many instants it put
+pub record Standing : Type 0 where
+  pub system : System
+  pub plan : Plan
+  pub instances : List Instance
+  pub was_run : Bool
+  pub instants : ℕ
+
+-- ---- closing
+
+-- the instances were closed in their order, and these are their peers
+pub record Closes (olds : List Instance) (news : List View) : Type 0 where
+  pub ends : List Instance
+  pub closes : ClosesAll olds ends
+  pub news_are : news ≡ views_of ends
+
+-- ---- preparing
+
+-- each instance was made, and nothing else was sent
+pub record Prepares (system : System) (plan : Plan) (views : List View) (new : Standing) : Type 0 where
+  pub log : List Sent
+  pub told : Told log (seated system.components views) new.instances
+  pub answered : IsAnswered (shapes_of system) (making system) log
+  pub system_is : new.system ≡ system
+  pub plan_is : new.plan ≡ plan
+  pub unrun : new.was_run ≡ false
+  pub none : new.instants ≡ 0
+
+-- the answer to an Instantiate isn't good: no further was sent, and all were closed
+pub record IsUnmade (system : System) (views : List View) (bad : BadAnswer) (news : List View) : Type 0 where
+  pub log : List Sent
+  pub mids : List Instance
+  pub told : Told log (seated system.components views) mids
+  pub stops : StopsAt (shapes_of system) (making system) bad log
+  pub closes : Closes mids news
+
+-- where memory is wanting, nothing was sent
+abbrev pub FailsToPrepare : System → List View → PrepareFault → List View → Type 0
+FailsToPrepare system views F.Memory news = news ≡ views
+FailsToPrepare system views (F.Bad bad) news = IsUnmade system views bad news
+
+-- ---- running
+
+-- a run: its log, the instants that were put, and how it ended
+pub record Runs (old new : Standing) (before after : SinkView) (end : RunEnd) : Type 0 where
+  pub log : List Sent
+  pub is : List Instant
+  pub told : Told log old.instances new.instances
+  pub ends : EndsBy old.system old.plan log is end before after
+  pub system_is : new.system ≡ old.system
+  pub plan_is : new.plan ≡ old.plan
+  pub run : new.was_run ≡ true
+  pub counted : new.instants ≡ length is

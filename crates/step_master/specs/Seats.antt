@@ -1,0 +1,17 @@
+-- The instances of peers before their first calls.
+use Rattle.std.specs.Prelude.{false, List, [], ◌∷◌, map}
+use Rattle.fmu_peer.specs.CloseAll.{Instance}
+use Rattle.fmu_peer.specs.View.{View}
+use Rattle.system_model.specs.declared.system.Component.{Component}
+
+-- the instance of a peer before its first call, of its component's source
+abbrev pub seat : Component → View → Instance
+seat c v = record { source = c.source.0; view = v; has_saved = false; is_fatal = false; is_closed = false }
+
+abbrev pub seated : List Component → List View → List Instance
+seated (c ∷ cs) (v ∷ vs) = seat c v ∷ seated cs vs
+seated [] vs = []
+seated (c ∷ cs) [] = []
+
+abbrev pub views_of : List Instance → List View
+views_of is = map (λ (i : Instance). i.view) is

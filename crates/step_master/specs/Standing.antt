@@ -1,0 +1,25 @@
+-- What a master is to its callers, by its fields.
+use Rattle.fmu_peer.specs.View.{View}
+use Rattle.step_master.specs.declared.master.Master.{Master}
+use Rattle.step_master.specs.Kept.{AreMade, AreSlots, HasRoom}
+use Rattle.step_master.specs.Master.{Standing}
+use Rattle.step_master.specs.Slots.{instances}
+use Rattle.step_master.specs.System.{IsPlan}
+use Rattle.std.specs.Prelude.{◌≡◌, false}
+
+abbrev pub standing : {L : Type 0} {g : _} → (L → View) → Master L g → Standing
+standing view m = record {
+  system = m.system;
+  plan = m.plan;
+  instances = instances view m.seats.slots.items;
+  was_run = m.was_run;
+  instants = m.instants;
+}
+
+-- prepared, and not run yet: each instance was made, and there is room for each value and each text
+pub record IsReady {L : Type 0} {g : _} (view : L → View) (m : Master L g) : Type 0 where
+  pub unrun : m.was_run ≡ false
+  pub plan : IsPlan m.plan
+  pub slots : AreSlots view m.system m.seats.slots.items
+  pub room : HasRoom m.system m.room.values.items m.room.text.items
+  pub made : AreMade view m.seats.slots.items m.instants

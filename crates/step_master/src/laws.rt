@@ -1,0 +1,20 @@
+ghost use Rattle.step_master.specs.Lived.{LivesAreOver, RunIsLived, UnmadeIsClosed};
+ghost use Rattle.step_master.specs.Traced.{ToldRun, ToldTrace, ToldUnmade};
+
+/// Laws: of a system that was prepared, run and closed, and of one that couldn't be prepared, the talk of each peer is
+/// legal, lean and closed, the end is told by the first bad answer of the least component, and each peer that isn't spared
+/// behind a Fatal of its source is over: it was never asked, its instance is gone or lost, or it keeps a state that Free was
+/// answered Discard for.
+pub fn lives_of_peers()
+    ensures run { RunIsLived }
+    ensures unmade { UnmadeIsClosed }
+    ensures over { LivesAreOver }
+{}
+
+/// Laws: where the peers tell machines, the instants that were put are those of their run, and where the machines behave
+/// well, the text is that of their trace, but for a call or a put that failed.
+pub fn runs_of_machines()
+    ensures run { ToldRun }
+    ensures trace { ToldTrace }
+    ensures unmade { ToldUnmade }
+{}

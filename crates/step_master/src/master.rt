@@ -1,0 +1,123 @@
+ghost use Rattle.std.specs.Prelude.{◌≡◌, IfOk, IfErr, map};
+ghost use Rattle.system_model.specs.Sound.{IsSound};
+ghost use Rattle.step_master.specs.System.{ArePeersOf, IsBuilt, IsPlan, IsUnbound};
+
+use crate::room::Room;
+use crate::run::run_slots;
+use crate::seats::Seats;
+use crate::{PrepareEnd, PrepareFault, RunEnd};
+use fmu_peer::Peer;
+use sim_base::Sink;
+use std::alloc::Global;
+use std::thread::Threads;
+use system_model::{Bound, Plan, System};
+
+/// The FMUs of a system with all memory of their run. It can't be let go: it is closed.
+pub struct Master<L: Peer> {
+    system: System,
+    plan: Plan,
+    seats: Seats<L>,
+    room: Room,
+    instants: u128,
+    was_run: bool,
+}
+
+impl<L: Peer> Master<L> {
+    ghost use Rattle.step_master.specs.Master.{Closes, FailsToPrepare, Prepares, Runs};
+    ghost use Rattle.step_master.specs.Standing.{IsReady, standing};
+
+    /// Takes all memory of a run, and makes each instance in order. Where an answer isn't good, or memory is wanting, it
+    /// closes the peers and gives them back.
+    pub fn prepare(
+        alloc: Global,
+        system: System,
+        _bound: Bound,
+        peers: Vec<L>,
+        plan: Plan,
+    ) -> Result<Master<L>, PrepareEnd<L>>
+        requires sound { IsSound system }
+        requires built { IsBuilt system }
+        requires unbound { IsUnbound _bound }
+        requires peers { ArePeersOf system (map L.view peers.items) }
+        requires plan { IsPlan plan }
+        ensures ready { IfOk result (IsReady L.view) }
+        ensures ok { IfOk result (λ master. Prepares system plan (map L.view peers.items) (standing L.view master)) }
+        ensures err { IfErr result (λ end. FailsToPrepare system (map L.view peers.items) end.fault (map L.view end.peers.items)) }
+    {
+        let Ok(room) = Room::new(alloc, &system) else {
+            return Err(PrepareEnd {
+                peers,
+                fault: PrepareFault::Memory,
+            });
+        };
+        match Seats::new(alloc, system.components.as_slice(), peers) {
+            Ok(mut seats) => match seats.make() {
+                Ok(()) => Ok(Master {
+                    system,
+                    plan,
+                    seats,
+                    room,
+                    instants: 0,
+                    was_run: false,
+                }),
+                Err(bad) => Err(PrepareEnd {
+                    peers: seats.close(),
+                    fault: PrepareFault::Bad(bad),
+                }),
+            },
+            Err(peers) => Err(PrepareEnd {
+                peers,
+                fault: PrepareFault::Memory,
+            }),
+        }
+    }
+
+    /// Runs the system by its plan: the header, Initialization Mode, and then an instant and a step from one point to the
+    /// next, until the run ends. It puts the trace, one piece for the header, one for each instant, and one for the end.
+    /// It takes no memory.
+    pub fn run<R: Threads + Sync, O: Sink>(&mut self, _rt: &R, out: &mut O) -> RunEnd
+        requires { IsReady L.view self.old }
+        ensures { Runs (standing L.view self.old) (standing L.view self.new) (O.view out.old) (O.view out.new) result }
+    {
+        self.was_run = true;
+        run_slots(
+            &mut self.seats.slots,
+            &self.system,
+            &self.plan,
+            &mut self.room.values,
+            &mut self.room.text,
+            &mut self.instants,
+            out,
+        )
+    }
+
+    /// Closes the instances in order, each by the calls that it still may be sent, and gives the peers back. After a
+    /// refusal with Fatal the instances of that source are sent nothing more. It takes no memory.
+    pub fn close(self) -> Vec<L>
+        ensures { Closes (standing L.view self).instances (map L.view result.items) }
+    {
+        let Master {
+            system: _,
+            plan: _,
+            seats,
+            room: _,
+            instants: _,
+            was_run: _,
+        } = self;
+        seats.close()
+    }
+
+    /// The number of instants that were put.
+    pub fn instants(&self) -> u128
+        ensures { result ≡ self.now.instants }
+    {
+        self.instants
+    }
+
+    /// Whether it was run.
+    pub fn was_run(&self) -> bool
+        ensures { result ≡ self.now.was_run }
+    {
+        self.was_run
+    }
+}

@@ -1,0 +1,71 @@
+ghost use Rattle.std.specs.Prelude.{◌≡◌, ◌≤◌, length, vec_len, vec_capacity};
+
+use crate::BadAnswer;
+use crate::taking::{give_back, make, take_seats};
+use fmu_peer::{Peer, Slot, close_all};
+use std::alloc::Global;
+use system_model::Component;
+
+/// The slots of the components, and an empty list with room for each peer.
+pub(crate) struct Seats<L: Peer> {
+    pub slots: Vec<Slot<L>>,
+    pub places: Vec<L>,
+    ghost empty: { vec_len places ≡ 0 },
+    ghost room: { length slots.items ≤ vec_capacity places },
+}
+
+impl<L: Peer> Seats<L> {
+    ghost use Rattle.std.specs.Prelude.{◌^◌, All, IfOk, IfErr, OnOk, map};
+    ghost use Rattle.fmi_calls.specs.declared.phase.InstanceState.TheVariants as P;
+    ghost use Rattle.fmu_peer.specs.Mode.{instantiate_of};
+    ghost use Rattle.step_master.specs.Master.{Closes};
+    ghost use Rattle.step_master.specs.Place.{IsFresh, IsMade};
+    ghost use Rattle.step_master.specs.Seats.{seated};
+    ghost use Rattle.step_master.specs.Slots.{LiveSlot, Stands, instances};
+    ghost use Rattle.step_master.specs.Stage.{Stage, shapes, to_each};
+    ghost use Rattle.step_master.specs.Steps.{nothing};
+
+    /// Puts each peer into the slot of its component. Where memory is wanting it gives the peers back.
+    pub fn new(alloc: Global, components: &[Component], peers: Vec<L>) -> Result<Seats<L>, Vec<L>>
+        requires each { length components.now ≡ vec_len peers }
+        requires fresh { All (λ p. (L.view p).phase.state ≡ P.Fresh) peers.items }
+        ensures ok { IfOk result (λ seats. instances L.view seats.slots.items ≡ seated components.now (map L.view peers.items)) }
+        ensures live { IfOk result (λ seats. All (LiveSlot L.view) seats.slots.items) }
+        ensures err { IfErr result (λ left. left.items ≡ peers.items) }
+    {
+        let Ok(places) = Vec::with_capacity(alloc, peers.len()) else {
+            return Err(peers);
+        };
+        match Vec::with_capacity(alloc, peers.len()) {
+            Ok(slots) => Ok(Seats {
+                slots: take_seats(slots, components, peers),
+                places,
+            }),
+            Err(_) => {
+                places.destroy_empty();
+                Err(peers)
+            }
+        }
+    }
+
+    /// Makes each instance, up to the first answer that isn't good.
+    pub fn make(&mut self) -> Result<(), BadAnswer>
+        requires few { length self.old.slots.items ≤ 2 ^ 32 }
+        requires live { All (LiveSlot L.view) self.old.slots.items }
+        requires fresh { All (Stands IsFresh L.view) self.old.slots.items }
+        ensures live { OnOk result (All (LiveSlot L.view) self.new.slots.items) }
+        ensures made { OnOk result (All (Stands IsMade L.view) self.new.slots.items) }
+        ensures stage { Stage (to_each instantiate_of (shapes (instances L.view self.old.slots.items))) nothing (instances L.view self.old.slots.items) (instances L.view self.new.slots.items) result }
+    {
+        make(&mut self.slots)
+    }
+
+    /// Closes the instances in order, and gives the peers back.
+    pub fn close(self) -> Vec<L>
+        ensures { Closes (instances L.view self.slots.items) (map L.view result.items) }
+    {
+        let Seats { mut slots, places } = self;
+        close_all(&mut slots);
+        give_back(slots, places)
+    }
+}

@@ -1,0 +1,95 @@
+ghost use Rattle.std.specs.Prelude.{◌≡◌, ◌≤◌, ◌^◌, [], false, is_some, All, OnOk, length, map, vec_len, vec_capacity};
+ghost use Rattle.fmi_calls.specs.declared.phase.InstanceState.TheVariants as P;
+ghost use Rattle.fmu_peer.specs.CloseAll.{instance_in, peer_in};
+ghost use Rattle.step_master.specs.Seats.{seat, seated};
+ghost use Rattle.fmu_peer.specs.Mode.{instantiate_of};
+ghost use Rattle.step_master.specs.Place.{IsFresh, IsMade};
+ghost use Rattle.step_master.specs.Slots.{LiveSlot, Stands, instances};
+ghost use Rattle.step_master.specs.Stage.{Stage, shapes, to_each};
+ghost use Rattle.step_master.specs.Steps.{nothing};
+
+use crate::stage::each;
+use crate::{Ask, BadAnswer};
+use fmu_peer::{Fmu, Held, Peer, Slot};
+use system_model::Component;
+
+/// Puts each peer into the slot of its component.
+pub(crate) fn take_seats<L: Peer>(
+    empty: Vec<Slot<L>>,
+    components: &[Component],
+    peers: Vec<L>,
+) -> Vec<Slot<L>>
+    requires empty { empty.items ≡ [] }
+    requires room { vec_len peers ≤ vec_capacity empty }
+    requires each { length components.now ≡ vec_len peers }
+    requires fresh { All (λ p. (L.view p).phase.state ≡ P.Fresh) peers.items }
+    ensures slots { instances L.view result.items ≡ seated components.now (map L.view peers.items) }
+    ensures live { All (LiveSlot L.view) result.items }
+{
+    let mut slots = empty;
+    let mut left = peers.into_iter();
+    while let Some(peer) = left.next() {
+        let component = &components[slots.len()];
+        slots.push_reserved(take_seat(component, peer));
+    }
+    left.destroy_empty();
+    slots
+}
+
+fn take_seat<L: Peer>(component: &Component, peer: L) -> Slot<L>
+    requires { (L.view peer).phase.state ≡ P.Fresh }
+    ensures slot { instance_in L.view result ≡ seat component.now (L.view peer) }
+    ensures live { LiveSlot L.view result }
+{
+    Slot {
+        source: component.source,
+        held: Held::Fresh(Fmu::new(peer)),
+        saved: None,
+        is_fatal: false,
+    }
+}
+
+/// The peers of slots that keep no saved state, put into an empty list that has room for them.
+pub(crate) fn give_back<L: Peer>(slots: Vec<Slot<L>>, places: Vec<L>) -> Vec<L>
+    requires empty { vec_len places ≡ 0 }
+    requires room { length slots.items ≤ vec_capacity places }
+    requires spent { All (λ s. is_some s.saved ≡ false) slots.items }
+    ensures { result.items ≡ map (λ s. peer_in s.held) slots.items }
+{
+    let mut peers = places;
+    let mut left = slots.into_iter();
+    while let Some(slot) = left.next() {
+        peers.push_reserved(peer_of(slot));
+    }
+    left.destroy_empty();
+    peers
+}
+
+fn peer_of<L: Peer>(slot: Slot<L>) -> L
+    requires { is_some slot.saved ≡ false }
+    ensures { result ≡ peer_in slot.held }
+{
+    let Slot {
+        source: _,
+        held,
+        saved,
+        is_fatal: _,
+    } = slot;
+    match saved {
+        None => held.into_peer(),
+        Some(_) => unreachable!(),
+    }
+}
+
+/// Makes each instance, up to the first answer that isn't good.
+pub(crate) fn make<L: Peer>(slots: &mut [Slot<L>]) -> Result<(), BadAnswer>
+    requires few { length slots.old ≤ 2 ^ 32 }
+    requires live { All (LiveSlot L.view) slots.old }
+    requires fresh { All (Stands IsFresh L.view) slots.old }
+    ensures live { OnOk result (All (LiveSlot L.view) slots.new) }
+    ensures made { OnOk result (All (Stands IsMade L.view) slots.new) }
+    ensures stage { Stage (to_each instantiate_of (shapes (instances L.view slots.old))) nothing (instances L.view slots.old) (instances L.view slots.new) result }
+{
+    each(slots, Ask::Instantiate)?;
+    Ok(())
+}

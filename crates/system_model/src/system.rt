@@ -1,0 +1,66 @@
+use sim_base::{CompId, Items, PortId, SourceId, Text};
+use value_types::{PortType, Shape};
+
+/// A component: one FMU instance under its full name.
+#[derive(Debug, Drop)]
+pub struct Component {
+    pub name: Text,
+    pub source: SourceId,
+    pub shape: Shape,
+}
+
+/// Where an input has its value from: a path of connections leads to it from this output.
+#[derive(Clone, Copy, Debug, PartialEq, Eq)]
+pub struct Feed {
+    pub from: PortId,
+}
+
+/// When a time-based Clock ticks, as far as its description says it. Interval and shift are counts.
+#[derive(Clone, Copy, Debug, PartialEq, Eq)]
+pub enum Timing {
+    /// from the shift on, at the interval
+    Periodic { interval: u128, shift: u128 },
+    /// as the FMU answers in Initialization Mode
+    Answered,
+    /// once, after an interval that the FMU answers in Event Mode
+    Countdown,
+}
+
+/// What a port is, and where its value comes from.
+#[derive(Clone, Copy, Debug, PartialEq, Eq)]
+pub enum Role {
+    /// an input that is no Clock
+    Input { feed: Option<Feed> },
+    /// an output that is no Clock
+    Output,
+    /// a triggered Clock that is an input
+    ClockInput { feed: Option<Feed> },
+    /// a triggered Clock that is an output
+    ClockOutput,
+    /// a time-based Clock, which is an input
+    TimeClock { timing: Timing },
+}
+
+/// A port: an input or output of a component, by its name and value reference there.
+#[derive(Debug, Drop)]
+pub struct Port {
+    pub component: CompId,
+    pub name: Text,
+    pub kind: PortType,
+    pub reference: u32,
+    pub role: Role,
+    /// The Clocks that its variable names. It has a value at their ticks alone; without any it always has one, and so
+    /// has each Clock, whatever it names.
+    pub clocks: Items<PortId>,
+}
+
+/// A system: its components in document order, and its ports by component and place in the description. Each order has
+/// each of its ports after those that it needs: in instants all ports, in Initialization those that have no clocks and
+/// are no Clocks.
+#[derive(Debug, Drop)]
+pub struct System {
+    pub components: Items<Component>,
+    pub ports: Items<Port>,
+    pub instant_order: Items<PortId>,
+    pub initial_order: Items<PortId>,
+}

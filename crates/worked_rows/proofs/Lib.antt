@@ -1,0 +1,3 @@
+mod WellLemmas
+mod BuiltInRuns
+mod TrioSound

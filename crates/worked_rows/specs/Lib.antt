@@ -1,0 +1,2 @@
+pub mod BuiltInRuns
+pub mod Trio

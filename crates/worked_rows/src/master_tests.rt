@@ -1,0 +1,485 @@
+use crate::closing::assert_talk;
+use crate::exchanges::{
+    ENTERED, EXITED, FREED, GET, STEP, TERMINATED, WRONG, failed, good, refused, wrong,
+};
+use crate::trio::{Ran, run_trio};
+use bench_fmus::{Bench, Script, Scripts};
+use fmi_calls::{BadStatus, Call, Content, Kind, Reply};
+use fmu_peer::{Exchange, PeerFault, Why};
+use sim_base::{CompId, Items, MemSink};
+use std::alloc::{AllocError, Global};
+use std::process::Abort;
+use std::test::Fail;
+use step_master::{BadAnswer, PrepareFault, RunEnd};
+
+const MAKE: Call = Call::Instantiate {
+    event_mode: false,
+    early_return: false,
+};
+
+const MADE: Exchange = good!(MAKE, Content::Instantiate);
+
+macro_rules! read {
+    ($word:expr) => {
+        good!(GET, Content::Get { word: $word })
+    };
+}
+
+macro_rules! stepped {
+    ($at:expr, $end:expr, $terminate:expr) => {
+        good!(
+            Call::DoStep {
+                at: $at,
+                size: 10,
+            },
+            Content::DoStep {
+                event_needed: false,
+                terminate: $terminate,
+                early: false,
+                end: $end,
+            },
+        )
+    };
+}
+
+const FIRST_STEP: Exchange = stepped!(0, 10, false);
+
+const SECOND_STEP: Exchange = stepped!(10, 20, false);
+
+// A run from 0 to 20 in two steps, in which the output shows these words.
+macro_rules! whole {
+    ($first:expr, $second:expr, $third:expr) => {
+        &[
+            MADE,
+            ENTERED,
+            EXITED,
+            read!($first),
+            FIRST_STEP,
+            read!($second),
+            SECOND_STEP,
+            read!($third),
+            TERMINATED,
+            FREED,
+        ]
+    };
+}
+
+macro_rules! bad {
+    ($component:expr, $why:expr) => {
+        BadAnswer {
+            component: CompId($component),
+            why: $why,
+        }
+    };
+}
+
+// Three talks, the second with the first of one source, and the puts that fail; how the run ends or why it isn't
+// prepared, how many instants and pieces are put or fail, and the text.
+struct Case {
+    talks: [&'static [Exchange]; 3],
+    failing: &'static [u64],
+    end: Result<RunEnd, PrepareFault>,
+    instants: u128,
+    puts: u64,
+    text: &'static str,
+}
+
+static CASES: [Case; 12] = [
+    Case {
+        talks: [
+            whole!(3, 4, 5),
+            whole!(18_446_744_073_709_551_614, 0, 1),
+            whole!(7, 2_147_483_647, 8),
+        ],
+        failing: &[],
+        end: Ok(RunEnd::Stop),
+        instants: 3,
+        puts: 5,
+        text: "trace 1 1000 0 20\nport 0 Int32 first y\nport 1 Int32 second y\nport 2 Int32 third y\nat 0 0\n0 3\n1 -2\n2 7\nat 10 0\n0 4\n1 0\n2 2147483647\nat 20 0\n0 5\n1 1\n2 8\nend stop 20\n",
+    },
+    // Each has stepped before the end that the second asks for.
+    Case {
+        talks: [
+            &[
+                MADE,
+                ENTERED,
+                EXITED,
+                read!(3),
+                FIRST_STEP,
+                TERMINATED,
+                FREED,
+            ],
+            &[
+                MADE,
+                ENTERED,
+                EXITED,
+                read!(4),
+                stepped!(0, 10, true),
+                TERMINATED,
+                FREED,
+            ],
+            &[
+                MADE,
+                ENTERED,
+                EXITED,
+                read!(5),
+                FIRST_STEP,
+                TERMINATED,
+                FREED,
+            ],
+        ],
+        failing: &[],
+        end: Ok(RunEnd::Asked { point: 10 }),
+        instants: 1,
+        puts: 3,
+        text: "trace 1 1000 0 20\nport 0 Int32 first y\nport 1 Int32 second y\nport 2 Int32 third y\nat 0 0\n0 3\n1 4\n2 5\nend asked 10\n",
+    },
+    // A Get of the second: the third isn't read, and the point has no instant.
+    Case {
+        talks: [
+            &[
+                MADE,
+                ENTERED,
+                EXITED,
+                read!(3),
+                FIRST_STEP,
+                read!(4),
+                TERMINATED,
+                FREED,
+            ],
+            &[
+                MADE,
+                ENTERED,
+                EXITED,
+                read!(3),
+                FIRST_STEP,
+                refused!(GET, Kind::Get, BadStatus::Error),
+                FREED,
+            ],
+            &[
+                MADE,
+                ENTERED,
+                EXITED,
+                read!(5),
+                FIRST_STEP,
+                TERMINATED,
+                FREED,
+            ],
+        ],
+        failing: &[],
+        end: Ok(RunEnd::Bad(bad!(
+            1,
+            Why::Refused {
+                call: GET,
+                status: BadStatus::Error,
+            }
+        ))),
+        instants: 1,
+        puts: 3,
+        text: "trace 1 1000 0 20\nport 0 Int32 first y\nport 1 Int32 second y\nport 2 Int32 third y\nat 0 0\n0 3\n1 3\n2 5\nend fault 10\n",
+    },
+    // A step of the second and of the third: all were asked, and the second is told.
+    Case {
+        talks: [
+            &[
+                MADE,
+                ENTERED,
+                EXITED,
+                read!(3),
+                FIRST_STEP,
+                TERMINATED,
+                FREED,
+            ],
+            &[
+                MADE,
+                ENTERED,
+                EXITED,
+                read!(4),
+                refused!(STEP, Kind::DoStep, BadStatus::Discard),
+                TERMINATED,
+                FREED,
+            ],
+            &[MADE, ENTERED, EXITED, read!(5), wrong!(STEP), FREED],
+        ],
+        failing: &[],
+        end: Ok(RunEnd::Bad(bad!(
+            1,
+            Why::Refused {
+                call: STEP,
+                status: BadStatus::Discard,
+            }
+        ))),
+        instants: 1,
+        puts: 3,
+        text: "trace 1 1000 0 20\nport 0 Int32 first y\nport 1 Int32 second y\nport 2 Int32 third y\nat 0 0\n0 3\n1 4\n2 5\nend fault 0\n",
+    },
+    // Fatal in a step of the first: its sibling is sent nothing more, the third is closed.
+    Case {
+        talks: [
+            &[
+                MADE,
+                ENTERED,
+                EXITED,
+                read!(3),
+                refused!(STEP, Kind::DoStep, BadStatus::Fatal),
+            ],
+            &[MADE, ENTERED, EXITED, read!(4), FIRST_STEP],
+            &[
+                MADE,
+                ENTERED,
+                EXITED,
+                read!(5),
+                FIRST_STEP,
+                TERMINATED,
+                FREED,
+            ],
+        ],
+        failing: &[],
+        end: Ok(RunEnd::Bad(bad!(
+            0,
+            Why::Refused {
+                call: STEP,
+                status: BadStatus::Fatal,
+            }
+        ))),
+        instants: 1,
+        puts: 3,
+        text: "trace 1 1000 0 20\nport 0 Int32 first y\nport 1 Int32 second y\nport 2 Int32 third y\nat 0 0\n0 3\n1 4\n2 5\nend fault 0\n",
+    },
+    // No answer of the third: it is sent nothing more, the others are closed.
+    Case {
+        talks: [
+            &[
+                MADE,
+                ENTERED,
+                EXITED,
+                read!(3),
+                FIRST_STEP,
+                TERMINATED,
+                FREED,
+            ],
+            &[
+                MADE,
+                ENTERED,
+                EXITED,
+                read!(4),
+                FIRST_STEP,
+                TERMINATED,
+                FREED,
+            ],
+            &[MADE, ENTERED, EXITED, read!(5), failed!(STEP)],
+        ],
+        failing: &[],
+        end: Ok(RunEnd::Bad(bad!(
+            2,
+            Why::Link {
+                call: STEP,
+                fault: PeerFault::Failed,
+            }
+        ))),
+        instants: 1,
+        puts: 3,
+        text: "trace 1 1000 0 20\nport 0 Int32 first y\nport 1 Int32 second y\nport 2 Int32 third y\nat 0 0\n0 3\n1 4\n2 5\nend fault 0\n",
+    },
+    // On the way into Step Mode: each has entered Initialization Mode before the first leaves it.
+    Case {
+        talks: [
+            &[MADE, ENTERED, EXITED, TERMINATED, FREED],
+            &[
+                MADE,
+                ENTERED,
+                refused!(
+                    Call::ExitInitialization,
+                    Kind::ExitInitialization,
+                    BadStatus::Error
+                ),
+                FREED,
+            ],
+            &[MADE, ENTERED, FREED],
+        ],
+        failing: &[],
+        end: Ok(RunEnd::Bad(bad!(
+            1,
+            Why::Refused {
+                call: Call::ExitInitialization,
+                status: BadStatus::Error,
+            }
+        ))),
+        instants: 0,
+        puts: 2,
+        text: "trace 1 1000 0 20\nport 0 Int32 first y\nport 1 Int32 second y\nport 2 Int32 third y\nend fault 0\n",
+    },
+    // An instance that isn't made: the third isn't asked, and nothing is put.
+    Case {
+        talks: [
+            &[MADE, FREED],
+            &[refused!(MAKE, Kind::Instantiate, BadStatus::Discard)],
+            &[],
+        ],
+        failing: &[],
+        end: Err(PrepareFault::Bad(bad!(
+            1,
+            Why::Refused {
+                call: MAKE,
+                status: BadStatus::Discard,
+            }
+        ))),
+        instants: 0,
+        puts: 0,
+        text: "",
+    },
+    // The put of the header fails: no call follows but those of the closing.
+    Case {
+        talks: [&[MADE, FREED], &[MADE, FREED], &[MADE, FREED]],
+        failing: &[0],
+        end: Ok(RunEnd::WriteFault),
+        instants: 0,
+        puts: 1,
+        text: "",
+    },
+    // The put of the second instant fails.
+    Case {
+        talks: [
+            &[
+                MADE,
+                ENTERED,
+                EXITED,
+                read!(3),
+                FIRST_STEP,
+                read!(4),
+                TERMINATED,
+                FREED,
+            ],
+            &[
+                MADE,
+                ENTERED,
+                EXITED,
+                read!(5),
+                FIRST_STEP,
+                read!(6),
+                TERMINATED,
+                FREED,
+            ],
+            &[
+                MADE,
+                ENTERED,
+                EXITED,
+                read!(7),
+                FIRST_STEP,
+                read!(8),
+                TERMINATED,
+                FREED,
+            ],
+        ],
+        failing: &[2],
+        end: Ok(RunEnd::WriteFault),
+        instants: 1,
+        puts: 3,
+        text: "trace 1 1000 0 20\nport 0 Int32 first y\nport 1 Int32 second y\nport 2 Int32 third y\nat 0 0\n0 3\n1 5\n2 7\n",
+    },
+    // The put of the end line fails.
+    Case {
+        talks: [whole!(1, 1, 1), whole!(2, 2, 2), whole!(3, 3, 3)],
+        failing: &[4],
+        end: Ok(RunEnd::WriteFault),
+        instants: 3,
+        puts: 5,
+        text: "trace 1 1000 0 20\nport 0 Int32 first y\nport 1 Int32 second y\nport 2 Int32 third y\nat 0 0\n0 1\n1 2\n2 3\nat 10 0\n0 1\n1 2\n2 3\nat 20 0\n0 1\n1 2\n2 3\n",
+    },
+    // Fatal at a Get of the second and then a put that fails: the closing is that behind Fatal.
+    Case {
+        talks: [
+            &[MADE, ENTERED, EXITED, read!(3)],
+            &[
+                MADE,
+                ENTERED,
+                EXITED,
+                refused!(GET, Kind::Get, BadStatus::Fatal),
+            ],
+            &[MADE, ENTERED, EXITED, TERMINATED, FREED],
+        ],
+        failing: &[1],
+        end: Ok(RunEnd::WriteFault),
+        instants: 0,
+        puts: 2,
+        text: "trace 1 1000 0 20\nport 0 Int32 first y\nport 1 Int32 second y\nport 2 Int32 third y\n",
+    },
+];
+
+// The answers of the talks.
+fn make_scripts(alloc: Global, talks: &[&'static [Exchange]; 3]) -> Result<Scripts, AllocError> {
+    let mut lists = Vec::new(alloc);
+    for talk in talks {
+        let mut answers = Vec::new(alloc);
+        for exchange in *talk {
+            answers.push(exchange.result)?;
+        }
+        lists.push(Items::from_vec(answers))?;
+    }
+    Ok(Scripts::new(alloc, lists, Vec::new(alloc)))
+}
+
+fn assert_talks(rt: &impl Abort, scripts: &[Script], talks: &[&'static [Exchange]; 3]) {
+    assert_eq!(rt; scripts.len(), talks.len());
+    for (script, talk) in scripts.iter().zip(talks) {
+        assert_talk(rt, script.talk(), talk);
+    }
+}
+
+#[test]
+fn a_run_by_scripts_has_its_text_its_end_and_its_talks(rt: HostRuntime) -> Result<(), Fail> {
+    let alloc = rt.alloc();
+    for case in &CASES {
+        let mut scripts = make_scripts(alloc, &case.talks)?;
+        let mut out = MemSink::with_room(alloc, 400, 8, case.failing.to_vec(alloc)?)?;
+        let Ran {
+            end,
+            instants,
+            peers,
+        } = run_trio(&rt, alloc, 20, &mut scripts, &mut out)?;
+        assert_eq!(rt; out.bytes.as_slice(), case.text.as_bytes(), "{}", case.text);
+        assert_eq!(rt; end, case.end, "{}", case.text);
+        assert_eq!(rt; instants, case.instants, "{}", case.text);
+        assert_eq!(rt; out.puts, case.puts, "{}", case.text);
+        assert_talks(&rt, peers.as_slice(), &case.talks);
+    }
+    Ok(())
+}
+
+// The stop of a run of three counters, how it ends, and its text.
+static COUNTS: [(u64, RunEnd, &str); 3] = [
+    (
+        20,
+        RunEnd::Stop,
+        "trace 1 1000 0 20\nport 0 Int32 first y\nport 1 Int32 second y\nport 2 Int32 third y\nat 0 0\n0 0\n1 0\n2 0\nat 10 0\n0 2\n1 2\n2 5\nat 20 0\n0 4\n1 4\n2 10\nend stop 20\n",
+    ),
+    (
+        0,
+        RunEnd::Stop,
+        "trace 1 1000 0 0\nport 0 Int32 first y\nport 1 Int32 second y\nport 2 Int32 third y\nat 0 0\n0 0\n1 0\n2 0\nend stop 0\n",
+    ),
+    // The last step would be shorter, which the third doesn't take.
+    (
+        15,
+        RunEnd::FixedStep {
+            component: CompId(2),
+            at: 10,
+            end: 15,
+        },
+        "trace 1 1000 0 15\nport 0 Int32 first y\nport 1 Int32 second y\nport 2 Int32 third y\nat 0 0\n0 0\n1 0\n2 0\nat 10 0\n0 2\n1 2\n2 5\nend fixed 10\n",
+    ),
+];
+
+#[test]
+fn counters_side_by_side_have_their_text(rt: HostRuntime) -> Result<(), Fail> {
+    let alloc = rt.alloc();
+    for (stop, wanted, text) in COUNTS {
+        let mut bench = Bench::new(alloc, None, Vec::new(alloc));
+        let mut out = MemSink::with_room(alloc, 400, 8, Vec::new(alloc))?;
+        assert!(rt; stop <= 1 << 62);
+        let Ran { end, .. } = run_trio(&rt, alloc, stop, &mut bench, &mut out)?;
+        assert_eq!(rt; out.bytes.as_slice(), text.as_bytes(), "{text}");
+        assert_eq!(rt; end, Ok(wanted), "{text}");
+    }
+    Ok(())
+}

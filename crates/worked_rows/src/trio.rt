@@ -1,0 +1,213 @@
+//! Three FMUs side by side, the first two of one source: their system, their peers, and a run of them.
+ghost use Rattle.std.specs.Prelude.{◌≡◌, ◌≤◌, ◌^◌, [], ◌∷◌, IfOk, map};
+ghost use Rattle.step_master.specs.System.{ArePeersOf, IsNew};
+ghost use Rattle.worked_rows.specs.Trio.{component, counting, in_turn, number, on_nothing, port, trio};
+
+use fmu_peer::{Peer, Spawner, StartFault};
+use sim_base::{CompId, Items, MemSink, PortId, SourceId, Text};
+use std::alloc::{AllocError, Global};
+use std::process::Abort;
+use std::thread::Threads;
+use step_master::{Master, PrepareEnd, PrepareFault, RunEnd};
+use system_model::{Bound, Component, Plan, Port, Role, System};
+use value_types::{ByReference, Causality, Dependency, Knowns, PortType, Shape, Variable};
+
+fn make_number(
+    alloc: Global,
+    name: &str,
+    reference: u32,
+    causality: Causality,
+    start: Option<i128>,
+) -> Result<Variable, AllocError>
+    ensures { IfOk result (λ v. v ≡ number name.now reference causality start) }
+{
+    Ok(Variable {
+        name: Text::from_str(alloc, name)?,
+        aliases: Items::from_vec(Vec::new(alloc)),
+        reference,
+        kind: Some(PortType::Int32),
+        causality,
+        clocks: Items::from_vec(Vec::new(alloc)),
+        start,
+        can_be_set_again: true,
+    })
+}
+
+// The output depends on nothing.
+fn make_dependencies(alloc: Global) -> Result<ByReference<Dependency>, AllocError>
+    ensures { IfOk result (λ list. list ≡ on_nothing ∷ []) }
+{
+    let on = Knowns::Listed(Items::from_vec(Vec::new(alloc)));
+    ByReference::new(alloc, vec![in alloc; Dependency { output: 2, on }]?)
+}
+
+fn make_counting(alloc: Global, by: i128, has_variable_steps: bool) -> Result<Shape, AllocError>
+    ensures { IfOk result (λ shape. shape ≡ counting by has_variable_steps) }
+{
+    let variables = vec![in alloc;
+        make_number(alloc, "inc", 1, Causality::Parameter, Some(by))?,
+        make_number(alloc, "y", 2, Causality::Output, None)?,
+    ]?;
+    Ok(Shape {
+        identifier: Text::from_str(alloc, "counter")?,
+        token: Text::from_str(alloc, "{1}")?,
+        resolution: 1000,
+        has_event_mode: false,
+        might_return_early: false,
+        has_variable_steps,
+        can_save_state: false,
+        can_serialize_state: false,
+        variables: ByReference::new(alloc, variables)?,
+        clocks: ByReference::new(alloc, Vec::new(alloc))?,
+        dependencies: make_dependencies(alloc)?,
+        initial_dependencies: make_dependencies(alloc)?,
+    })
+}
+
+fn make_component(
+    alloc: Global,
+    name: &str,
+    source: u32,
+    shape: Shape,
+) -> Result<Component, AllocError>
+    ensures { IfOk result (λ c. c ≡ component name.now source shape) }
+{
+    Ok(Component {
+        name: Text::from_str(alloc, name)?,
+        source: SourceId(source),
+        shape,
+    })
+}
+
+fn make_port(alloc: Global, component: u32) -> Result<Port, AllocError>
+    ensures { IfOk result (λ made. made ≡ port component) }
+{
+    Ok(Port {
+        component: CompId(component),
+        name: Text::from_str(alloc, "y")?,
+        kind: PortType::Int32,
+        reference: 2,
+        role: Role::Output,
+        clocks: Items::from_vec(Vec::new(alloc)),
+    })
+}
+
+fn make_order(alloc: Global) -> Result<Items<PortId>, AllocError>
+    ensures { IfOk result (λ order. order ≡ in_turn) }
+{
+    Ok(Items::from_vec(vec![in alloc; PortId(0), PortId(1), PortId(2)]?))
+}
+
+// The first and the second count by 2 and take steps of any size, the third counts by 5 and takes those of the plan
+// alone.
+fn make_trio(alloc: Global) -> Result<System, AllocError>
+    ensures { IfOk result (λ system. system ≡ trio) }
+{
+    let components = vec![in alloc;
+        make_component(alloc, "first", 0, make_counting(alloc, 2, true)?)?,
+        make_component(alloc, "second", 0, make_counting(alloc, 2, true)?)?,
+        make_component(alloc, "third", 1, make_counting(alloc, 5, false)?)?,
+    ]?;
+    let ports = vec![in alloc;
+        make_port(alloc, 0)?,
+        make_port(alloc, 1)?,
+        make_port(alloc, 2)?,
+    ]?;
+    Ok(System {
+        components: Items::from_vec(components),
+        ports: Items::from_vec(ports),
+        instant_order: make_order(alloc)?,
+        initial_order: make_order(alloc)?,
+    })
+}
+
+fn start<S: Spawner>(
+    rt: &impl Abort,
+    alloc: Global,
+    spawner: &mut S,
+    component: &Component,
+) -> Result<S::Link, StartFault>
+    ensures { IfOk result (λ link. IsNew component.now.shape (S.Link.view link)) }
+{
+    let name = component.name.as_str();
+    let shape = &component.shape;
+    assert!(rt; name.len() >= 1 && name.len() <= 1 << 24);
+    assert!(rt; shape.token.as_str().len() <= 1 << 24);
+    spawner.start(alloc, "host", name, "fmus/c", shape)
+}
+
+// A peer for each component.
+#[tactic(auto, using(crate::proofs::TrioSound::trio_peers))]
+fn start_trio<S: Spawner>(
+    rt: &impl Abort,
+    alloc: Global,
+    spawner: &mut S,
+    system: &System,
+) -> Result<Vec<S::Link>, StartFault>
+where
+    S::Link: Drop,
+    requires { system.now ≡ trio }
+    ensures { IfOk result (λ peers. ArePeersOf trio (map S.Link.view peers.items)) }
+{
+    let Ok(mut peers) = Vec::with_capacity(alloc, 3) else {
+        return Err(StartFault::Memory);
+    };
+    let components = system.components.as_slice();
+    peers.push_reserved(start(rt, alloc, spawner, &components[0])?);
+    peers.push_reserved(start(rt, alloc, spawner, &components[1])?);
+    peers.push_reserved(start(rt, alloc, spawner, &components[2])?);
+    Ok(peers)
+}
+
+/// How a run ended or wasn't prepared, how many instants were put, and the peers.
+#[derive(Drop)]
+pub(crate) struct Ran<L: Peer> {
+    pub(crate) end: Result<RunEnd, PrepareFault>,
+    pub(crate) instants: u128,
+    pub(crate) peers: Vec<L>,
+}
+
+/// Runs the three FMUs from 0 to the stop by steps of 10, and closes them.
+#[tactic(auto, using(crate::proofs::TrioSound::trio_built))]
+pub(crate) fn run_trio<R: Abort + Threads + Sync, S: Spawner>(
+    rt: &R,
+    alloc: Global,
+    stop: u64,
+    spawner: &mut S,
+    out: &mut MemSink,
+) -> Result<Ran<S::Link>, StartFault>
+where
+    S::Link: Drop,
+    requires { stop ≤ 2 ^ 62 }
+{
+    let Ok(system) = make_trio(alloc) else {
+        return Err(StartFault::Memory);
+    };
+    let peers = start_trio(rt, alloc, spawner, &system)?;
+    let bound = Bound {
+        components: Items::from_vec(Vec::new(alloc)),
+        unreached: 0,
+    };
+    let plan = Plan {
+        resolution: 1000,
+        start: 0,
+        step: 10,
+        stop,
+        limit: 1,
+    };
+    match Master::prepare(alloc, system, bound, peers, plan) {
+        Ok(mut master) => {
+            let end = master.run(rt, out);
+            Ok(Ran {
+                end: Ok(end),
+                instants: master.instants(),
+                peers: master.close(),
+            })
+        }
+        Err(PrepareEnd { peers, fault }) => Ok(Ran {
+            end: Err(fault),
+            instants: 0,
+            peers,
+        }),
+    }
+}
