@@ -12,6 +12,7 @@ use Rattle.value_types.specs.declared.shape.Variable.{Variable}
 use Rattle.value_types.proofs.IndexLemmas.{placed_within}
 use Rattle.fmu_peer.specs.Machine.{written}
 use Rattle.bench_fmus.specs.BuiltIn.{spread, value_of}
+use Rattle.bench_fmus.specs.Laws.{none_within}
 
 -- ---- places
 
@@ -47,11 +48,6 @@ placed variables reference k v there is =
 -- the value at a place
 abbrev value_in : List ℤ → Option ℕ → ℤ
 value_in values place = unwrap_or (option_and_then (slice_get values) place) (pos 0)
-
-none_within : (vs : List Variable) (i : ℕ) → i < length vs → slice_get vs i ≡ None → ⊥
-none_within [] i within none = omega arith
-none_within (w ∷ ws) zero within none = cc
-none_within (w ∷ ws) (suc i) within none = none_within ws i (omega arith) none
 
 spread_at : (variables : List Variable) (values : List ℤ) (reference : ℕ) (o : Option ℕ) → place_of variables reference ≡ o → value_in (spread variables values) o ≡ value_in values o
 spread_at variables values reference None none = refl

@@ -1,5 +1,5 @@
 -- Wrapping twice is wrapping once.
-use Rattle.std.proofs.Common.{◌≡◌, ℕ, suc, ◌+◌, ◌-◌, ◌*◌, ◌/◌, ◌%◌, ◌<◌, ◌≤◌, ℤ, pos, negsuc, ◌+ℤ◌, ◌-ℤ◌, ◌≤ℤ◌, refl, sym, ap, ap₂, ◌∙◌, ◌^◌, arith}
+use Rattle.std.proofs.Common.{◌≡◌, ℕ, suc, ◌+◌, ◌-◌, ◌*◌, ◌/◌, ◌%◌, ◌<◌, ◌≤◌, ℤ, pos, negsuc, ◌+ℤ◌, ◌-ℤ◌, ◌*ℤ◌, ◌≤ℤ◌, refl, sym, ap, ap₂, ◌∙◌, ◌^◌, arith}
 use Rattle.std.proofs.lemmas.Int.{ints, int_rem_euclid_is}
 use Rattle.std.proofs.Math.Nat.{add-mul, mul-le-mul_left, div-add-mod', mod-lt}
 use Rattle.std.specs.Int.{int_rem_euclid}
@@ -7,7 +7,8 @@ use Rattle.value_types.specs.Values.{least_of, greatest_of}
 use Rattle.value_types.specs.declared.values.PortType.{PortType}
 use Rattle.value_types.specs.declared.values.PortType.TheVariants.{Int8, UInt8, Int16, UInt16, Int32, UInt32, Int64, UInt64, Boolean, Enumeration, Clock}
 use Rattle.bench_fmus.specs.Wrapping.{wrapped_between, wrapped_int64}
-use borrow.Author.Differences.{up, down}
+use Rattle.std.proofs.Math.IntN.{*ℤ_comm}
+use borrow.Author.Differences.{up, down, same_in, same_out, sum_is_lem, product_is}
 
 -- the numbers differ by a multiple of n
 pub record Congruent (n : ℕ) (a b : ℤ) : Type 0 where
@@ -67,6 +68,58 @@ wrapped_sum least greatest a b n size =
     wrapped_is least greatest (a +ℤ w) n size
     ∙ ap (λ (x : ℤ). least +ℤ x) (congruent_rem ((a +ℤ w) -ℤ least) ((a +ℤ b) -ℤ least) n size.0 shifted)
     ∙ sym (wrapped_is least greatest (a +ℤ b) n size)
+
+-- ---- products
+
+-- a factor may be another that differs by a multiple
+times_congruent : (n : ℕ) (a b c : ℤ) → Congruent n a b → Congruent n (a *ℤ c) (b *ℤ c)
+times_congruent n a b c same =
+    let e = same.meets in
+    let sum : up a + same.above * n + down b ≡ up b + same.below * n + down a = omega (arith, same_out, sum_is_lem) in
+    let above = ap (λ x. x * up c) sum in
+    let below = ap (λ x. x * down c) sum in
+    record {
+      above = same.above * up c + same.below * down c;
+      below = same.below * up c + same.above * down c;
+      meets = omega (arith, same_in, sum_is_lem, product_is);
+    }
+
+-- what a number is wrapped to differs by a multiple
+wrapped_congruent : (least greatest z : ℤ) (n : ℕ) → HasSize least greatest n → Congruent n (wrapped_between least greatest z) z
+wrapped_congruent least greatest z n size =
+    let is : wrapped_between least greatest z ≡ least +ℤ int_rem_euclid (z -ℤ least) (pos n) = wrapped_is least greatest z n size in
+    let same = rem_congruent (z -ℤ least) n size.0 in
+    let e = same.meets in
+    record { above = same.below; below = same.above; meets = omega (arith, ints) }
+
+-- numbers that differ by a multiple are wrapped to one
+wrapped_same : (least greatest y z : ℤ) (n : ℕ) → HasSize least greatest n → Congruent n y z → wrapped_between least greatest y ≡ wrapped_between least greatest z
+wrapped_same least greatest y z n size same =
+    let e = same.meets in
+    let shifted : Congruent n (y -ℤ least) (z -ℤ least) = record { above = same.above; below = same.below; meets = omega (arith, ints) } in
+    wrapped_is least greatest y n size ∙ ap (λ (x : ℤ). least +ℤ x) (congruent_rem (y -ℤ least) (z -ℤ least) n size.0 shifted) ∙ sym (wrapped_is least greatest z n size)
+
+-- both factors may be wrapped first
+pub wrapped_product : (a b : ℤ) → wrapped_int64 (wrapped_int64 a *ℤ wrapped_int64 b) ≡ wrapped_int64 (a *ℤ b)
+wrapped_product a b =
+    first a (wrapped_int64 b)
+    ∙ ap (λ (x : ℤ). wrapped_int64 x) (*ℤ_comm a (wrapped_int64 b))
+    ∙ first b a
+    ∙ ap (λ (x : ℤ). wrapped_int64 x) (*ℤ_comm b a)
+  where
+    size : HasSize (negsuc (2 ^ 63 - 1)) (pos (2 ^ 63 - 1)) (2 ^ 64)
+    size = (omega arith, refl)
+
+    first : (x y : ℤ) → wrapped_int64 (wrapped_int64 x *ℤ y) ≡ wrapped_int64 (x *ℤ y)
+    first x y =
+        wrapped_same (negsuc (2 ^ 63 - 1)) (pos (2 ^ 63 - 1)) (wrapped_int64 x *ℤ y) (x *ℤ y) (2 ^ 64) size
+        (times_congruent (2 ^ 64) (wrapped_int64 x) x y (wrapped_congruent (negsuc (2 ^ 63 - 1)) (pos (2 ^ 63 - 1)) x (2 ^ 64) size))
+
+-- the same of numbers that are written in other ways
+pub wrapped_product_by : (a b first second product product_again : ℤ) →
+    first ≡ wrapped_int64 a → second ≡ wrapped_int64 b → product_again ≡ first *ℤ second → product ≡ wrapped_int64 product_again → product ≡ wrapped_int64 (a *ℤ b)
+wrapped_product_by a b first second product product_again first_is second_is again is =
+    is ∙ ap (λ (x : ℤ). wrapped_int64 x) (again ∙ ap₂ (λ (x y : ℤ). x *ℤ y) first_is second_is) ∙ wrapped_product a b
 
 -- what a remainder of a remainder gives; its numbers may be written in other ways
 pub wrapped_by : (least greatest z value count rest less last sum : ℤ) → least ≤ℤ greatest →

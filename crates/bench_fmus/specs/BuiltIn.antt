@@ -1,5 +1,6 @@
 -- What the built-in machines have in common: the numbers of a state, the values under references, and the machine that a behaviour makes.
-use Rattle.std.specs.Prelude.{ℕ, ◌+◌, ℤ, pos, int_lt, Bool, false, List, [], ◌∷◌, slice_index_or, filter, map, Option, Some, None, unwrap_or}
+use Rattle.std.specs.Prelude.{ℕ, ◌+◌, ℤ, pos, int_lt, Bool, false, List, [], ◌∷◌, slice_index_or, filter, map, Option, Some, None, unwrap_or, if◌then◌else◌}
+use Rattle.value_types.specs.Shape.{is_at, is_declared}
 use Rattle.value_types.specs.Values.{word_of}
 use Rattle.value_types.specs.declared.values.PortType.TheVariants.{Clock}
 use Rattle.value_types.specs.declared.shape.IntervalVariability.{IntervalVariability}
@@ -19,22 +20,23 @@ use Rattle.bench_fmus.specs.Wrapping.{wrapped}
 
 -- ---- a state
 
--- the mark of Initialization Mode, and a count
+-- the mark of Initialization Mode, a value that is held, and a count
 pub record Numbers : Type 0 where
   pub mark : ℤ
+  pub held : ℤ
   pub count : ℤ
 
 -- the numbers as a state has them
 abbrev pub listed : Numbers → List ℤ
-listed n = n.mark ∷ n.count ∷ []
+listed n = n.mark ∷ n.held ∷ n.count ∷ []
 
 -- the numbers that a state has; one that is missing is 0
 abbrev pub numbers_in : List ℤ → Numbers
-numbers_in xs = record { mark = slice_index_or xs 0 (pos 0); count = slice_index_or xs 1 (pos 0) }
+numbers_in xs = record { mark = slice_index_or xs 0 (pos 0); held = slice_index_or xs 1 (pos 0); count = slice_index_or xs 2 (pos 0) }
 
 -- before the first call
 abbrev pub at_first : Numbers
-at_first = record { mark = pos 0; count = pos 0 }
+at_first = record { mark = pos 0; held = pos 0; count = pos 0 }
 
 -- the state is in Initialization Mode
 abbrev pub is_marked : Numbers → Bool
@@ -58,11 +60,19 @@ first_state variables = record { numbers = listed at_first; values = spread vari
 
 -- ---- a machine
 
--- how a machine behaves: what a reference shows, whether a step of a size asks to end the simulation, and the count after a step; each by the variables, the count and the values
+-- how a machine behaves: what a reference shows, whether a step of a size asks to end the simulation, and the numbers after a call, the mark aside; each by the numbers and the values
 pub record Behaviour : Type 0 where
-  pub shown : List Variable → ℤ → List ℤ → ℕ → ℤ
+  pub shown : Shape → Numbers → List ℤ → ℕ → ℤ
   pub asks_to_end : List Variable → List ℤ → ℕ → Bool
-  pub counted : List Variable → ℤ → List ℤ → ℤ
+  pub changed : List Variable → Numbers → List ℤ → Call → Numbers
+
+-- the output declares to depend on the variable under a reference, by the list of the mode
+abbrev pub is_declared_at : Shape → Numbers → ℕ → ℕ → Bool
+is_declared_at shape n output reference = is_at (is_declared shape (is_marked n) output) shape.variables reference
+
+-- what an output sees of the variable under a reference: its value where the output declares to depend on it, else the value that is held
+abbrev pub seen_by : Shape → Numbers → List ℤ → ℕ → ℕ → ℤ
+seen_by shape n values output reference = if is_declared_at shape n output reference then value_of shape.variables values reference else n.held
 
 -- a countdown Clock isn't armed, and any other ticks each second
 abbrev pub interval_of : Option IntervalVariability → Interval
@@ -72,8 +82,8 @@ interval_of _ = Changed (record { counter = 1; resolution = 1 })
 -- what a reply carries
 abbrev pub content_of : Behaviour → Shape → Numbers → List ℤ → Call → Content
 content_of b shape n values (C.DoStep at size) = A.DoStep false (b.asks_to_end shape.variables values size) false (at + size)
-content_of b shape n values (C.Get kind reference) = A.Get (word_of (wrapped kind (b.shown shape.variables n.count values reference)))
-content_of b shape n values (C.GetClock reference) = A.GetClock (word_of (wrapped Clock (b.shown shape.variables n.count values reference)))
+content_of b shape n values (C.Get kind reference) = A.Get (word_of (wrapped kind (b.shown shape n values reference)))
+content_of b shape n values (C.GetClock reference) = A.GetClock (word_of (wrapped Clock (b.shown shape n values reference)))
 content_of b shape n values (C.GetInterval reference) = A.GetInterval (interval_of (variability_at shape reference))
 content_of b shape n values (C.GetShift reference) = A.GetShift (record { counter = 0; resolution = 1 })
 content_of b shape n values C.Update = A.Update false false None
@@ -90,12 +100,15 @@ content_of b shape n values C.Free = A.Free
 content_of b shape n values C.Terminate = A.Terminate
 content_of b shape n values C.FreeInstance = A.FreeInstance
 
+-- Initialization Mode begins with EnterInitialization and ends with ExitInitialization
+abbrev pub mark_after : ℤ → Call → ℤ
+mark_after mark (C.EnterInitialization start stop) = pos 1
+mark_after mark C.ExitInitialization = pos 0
+mark_after mark _ = mark
+
 -- the numbers after a call; what Set, Save, Restore and Free do is the same for every machine
 abbrev pub numbers_after : Behaviour → List Variable → Numbers → List ℤ → Call → Numbers
-numbers_after b variables n values (C.EnterInitialization start stop) = record n { mark = pos 1 }
-numbers_after b variables n values C.ExitInitialization = record n { mark = pos 0 }
-numbers_after b variables n values (C.DoStep at size) = record n { count = b.counted variables n.count values }
-numbers_after b variables n values _ = n
+numbers_after b variables n values call = record (b.changed variables n values call) { mark = mark_after n.mark call }
 
 abbrev pub machine_of : Behaviour → Shape → Machine
 machine_of b shape = record {

@@ -1,28 +1,34 @@
 -- The built-in machines meet the laws of a peer.
-use Rattle.std.proofs.Common.{◌≡◌, ℕ, ◌==◌, Bool, false, List, Option, Some, None, IsSomeAnd, ℤ, pos, unwrap_or, option_and_then, if◌then◌else◌, refl, sym, ap, ◌∙◌, subst}
+use Rattle.std.proofs.Common.{◌≡◌, ℕ, zero, suc, ◌<◌, ◌==◌, Bool, true, false, List, [], ◌∷◌, length, Option, Some, None, IsSomeAnd, ℤ, pos, ◌*ℤ◌, unwrap_or, option_and_then, if◌then◌else◌, refl, sym, ap, ap₂, ◌∙◌, subst, arith}
 use Rattle.std.specs.List.{slice_get}
+use Rattle.std.specs.Option.{option_map_or}
 use Rattle.std.specs.Prelude.{◌&&◌, not}
+use Rattle.std.proofs.lemmas.Bool.{eqb-true}
 use Rattle.std.proofs.lemmas.List.{length-map}
 use Rattle.std.proofs.lemmas.Option.{same_Some}
-use Rattle.value_types.specs.Shape.{AgreeFor, is_declared, is_input, place_of, variable_at}
-use Rattle.value_types.specs.declared.shape.Causality.{Causality}
+use Rattle.value_types.specs.Shape.{AgreeFor, is_at, is_declared, is_input, is_undeclared, place_of, variable_at}
 use Rattle.value_types.specs.declared.shape.Causality.TheVariants.{Output}
 use Rattle.value_types.specs.declared.shape.Variable.{Variable}
 use Rattle.value_types.specs.declared.shape.Shape.{Shape}
-use Rattle.value_types.proofs.IndexLemmas.{find_placed}
+use Rattle.value_types.proofs.IndexLemmas.{find_placed, placed_within}
 use Rattle.fmi_calls.specs.declared.call.Call.{Call}
 use Rattle.fmi_calls.specs.declared.call.Call.TheVariants as C
 use Rattle.fmi_calls.specs.declared.call.Content.TheVariants as A
 use Rattle.fmi_calls.specs.declared.call.Reply.TheVariants.{Done}
 use Rattle.fmu_peer.specs.Machine.{IgnoresSlot, IsLawful, IsMachineOf, MachineState, changes_mode}
 use Rattle.bench_fmus.specs.declared.model.Model.{Model}
-use Rattle.bench_fmus.specs.declared.model.Model.TheVariants.{Counter}
-use Rattle.bench_fmus.specs.BuiltIn.{Behaviour, is_marked, machine_of, numbers_after, numbers_in, value_of}
+use Rattle.bench_fmus.specs.declared.model.Model.TheVariants.{Counter, Gain}
+use Rattle.bench_fmus.specs.BuiltIn.{Behaviour, Numbers, is_declared_at, is_marked, machine_of, numbers_after, numbers_in, seen_by, value_of}
 use Rattle.bench_fmus.specs.Counter.{counter}
+use Rattle.bench_fmus.specs.Gain.{factor, gain, product}
 use Rattle.bench_fmus.specs.Models.{behaviour_of}
-use Rattle.bench_fmus.specs.Wrapping.{wrapped}
+use Rattle.bench_fmus.specs.Wrapping.{wrapped, wrapped_int64}
 use Rattle.value_types.specs.Values.{word_of}
 use Rattle.value_types.specs.declared.values.PortType.TheVariants.{Clock}
+
+and_false : (b : Bool) → (b && false) ≡ false
+and_false true = refl
+and_false false = refl
 
 -- ---- every machine that a behaviour makes
 
@@ -69,36 +75,64 @@ answers_alike model shape = record { looks = λ call s slot other. refl; changes
 
 -- ---- what outputs show
 
+pub none_within : {X : Type 0} (xs : List X) (k : ℕ) → k < length xs → slice_get xs k ≡ None → ⊥
+none_within [] k within none = omega arith
+none_within (x ∷ xs) zero within none = cc
+none_within (x ∷ xs) (suc k) within none = none_within xs k (omega arith) none
+
+module _ (shape : Shape) (initializing : Bool) (output : ℕ) where
+  at_place : (xs ys : List ℤ) → AgreeFor shape initializing output xs ys → (k : ℕ) (o : Option Variable) → slice_get shape.variables k ≡ o → k < length shape.variables →
+      option_map_or (is_undeclared shape initializing output) o false ≡ false → slice_get xs k ≡ slice_get ys k
+  at_place xs ys agree k (Some v) there within known = agree.each k v there known
+  at_place xs ys agree k None none within known = absurd (none_within shape.variables k within none)
+
+  -- values that agree at an output are one under each reference that isn't an undeclared input's
+  reference_same : (reference : ℕ) (xs ys : List ℤ) → AgreeFor shape initializing output xs ys →
+      is_at (is_undeclared shape initializing output) shape.variables reference ≡ false → value_of shape.variables xs reference ≡ value_of shape.variables ys reference
+  reference_same reference xs ys agree known = at (place_of shape.variables reference) refl
+    where
+      at : (o : Option ℕ) → place_of shape.variables reference ≡ o → value_of shape.variables xs reference ≡ value_of shape.variables ys reference
+      at None none = ap (λ (o : Option ℕ). unwrap_or (option_and_then (slice_get xs) o) (pos 0)) none ∙ sym (ap (λ (o : Option ℕ). unwrap_or (option_and_then (slice_get ys) o) (pos 0)) none)
+      at (Some k) there =
+          ap (λ (o : Option ℕ). unwrap_or (option_and_then (slice_get xs) o) (pos 0)) there
+          ∙ ap (λ (o : Option ℤ). unwrap_or o (pos 0)) (at_place xs ys agree k (slice_get shape.variables k) refl (placed_within (λ (v : Variable). v.reference == reference) shape.variables k there)
+          (sym (ap (λ (o : Option Variable). option_map_or (is_undeclared shape initializing output) o false) (find_placed (λ (v : Variable). v.reference == reference) shape.variables k there)) ∙ known))
+          ∙ sym (ap (λ (o : Option ℕ). unwrap_or (option_and_then (slice_get ys) o) (pos 0)) there)
+
+  -- what isn't an input is none that the output doesn't declare
+  no_input : (o : Option Variable) → option_map_or (λ (v : Variable). is_input v.causality) o false ≡ false → option_map_or (is_undeclared shape initializing output) o false ≡ false
+  no_input None e = refl
+  no_input (Some v) e = ap (λ (q : Bool). q && not (is_declared shape initializing output v)) e
+
+  -- nor is what the output declares
+  declared_known : (o : Option Variable) → option_map_or (is_declared shape initializing output) o false ≡ true → option_map_or (is_undeclared shape initializing output) o false ≡ false
+  declared_known None e = refl
+  declared_known (Some v) e = ap (λ (q : Bool). is_input v.causality && not q) e ∙ and_false (is_input v.causality)
+
+-- an output isn't an input
+no_output_input : (o : Option Variable) → IsSomeAnd o (λ (v : Variable). v.causality ≡ Output) → option_map_or (λ (v : Variable). is_input v.causality) o false ≡ false
+no_output_input (Some v) is = ap is_input is
+no_output_input None is = refl
+
 -- values that agree at an output are one there
 value_same : (shape : Shape) (initializing : Bool) (output : ℕ) (xs ys : List ℤ) → AgreeFor shape initializing output xs ys →
     IsSomeAnd (variable_at shape.variables output) (λ (v : Variable). v.causality ≡ Output) → value_of shape.variables xs output ≡ value_of shape.variables ys output
-value_same shape initializing output xs ys agree found = at (place_of shape.variables output) refl
-  where
-    at_variable : (k : ℕ) (o : Option Variable) → slice_get shape.variables k ≡ o → IsSomeAnd o (λ (v : Variable). v.causality ≡ Output) → slice_get xs k ≡ slice_get ys k
-    at_variable k (Some v) there is = agree.each k v there (ap (λ (c : Causality). is_input c && not (is_declared shape initializing output v)) is)
-    at_variable k None there is = absurd is
+value_same shape initializing output xs ys agree found =
+    reference_same shape initializing output output xs ys agree (no_input shape initializing output (variable_at shape.variables output) (no_output_input (variable_at shape.variables output) found))
 
-    at : (o : Option ℕ) → place_of shape.variables output ≡ o → value_of shape.variables xs output ≡ value_of shape.variables ys output
-    at None none = ap (λ (o : Option ℕ). unwrap_or (option_and_then (slice_get xs) o) (pos 0)) none ∙ sym (ap (λ (o : Option ℕ). unwrap_or (option_and_then (slice_get ys) o) (pos 0)) none)
-    at (Some k) there =
-        ap (λ (o : Option ℕ). unwrap_or (option_and_then (slice_get xs) o) (pos 0)) there
-        ∙ ap (λ (o : Option ℤ). unwrap_or o (pos 0)) (at_variable k (slice_get shape.variables k) refl
-        (subst (λ (o : Option Variable). IsSomeAnd o (λ (v : Variable). v.causality ≡ Output)) (find_placed (λ (v : Variable). v.reference == output) shape.variables k there) found))
-        ∙ sym (ap (λ (o : Option ℕ). unwrap_or (option_and_then (slice_get ys) o) (pos 0)) there)
+-- what a behaviour shows at an output doesn't depend on an input that the output doesn't declare
+abbrev pub ShowsDeclared : Behaviour → Type 0
+ShowsDeclared b = (shape : Shape) (n : Numbers) (output : ℕ) (xs ys : List ℤ) →
+    IsSomeAnd (variable_at shape.variables output) (λ (v : Variable). v.causality ≡ Output) → AgreeFor shape (is_marked n) output xs ys →
+    b.shown shape n xs output ≡ b.shown shape n ys output
 
--- what a behaviour shows at an output doesn't depend on other values
-abbrev pub ShowsItsOwn : Behaviour → Type 0
-ShowsItsOwn b = (variables : List Variable) (count : ℤ) (xs ys : List ℤ) (output : ℕ) → value_of variables xs output ≡ value_of variables ys output →
-    b.shown variables count xs output ≡ b.shown variables count ys output
-
-shown_same : (b : Behaviour) (shape : Shape) → ShowsItsOwn b → (reference output : ℕ) (s : MachineState) (xs ys : List ℤ) → reference ≡ output →
+shown_same : (b : Behaviour) (shape : Shape) → ShowsDeclared b → (reference output : ℕ) (s : MachineState) (xs ys : List ℤ) → reference ≡ output →
     IsSomeAnd (variable_at shape.variables output) (λ (v : Variable). v.causality ≡ Output) → AgreeFor shape ((machine_of b shape).initializing s.numbers) output xs ys →
-    b.shown shape.variables (numbers_in s.numbers).count xs reference ≡ b.shown shape.variables (numbers_in s.numbers).count ys reference
-shown_same b shape own reference output s xs ys is found agree =
-    let values : value_of shape.variables xs output ≡ value_of shape.variables ys output = value_same shape ((machine_of b shape).initializing s.numbers) output xs ys agree found in
-    own shape.variables (numbers_in s.numbers).count xs ys reference (ap (value_of shape.variables xs) is ∙ values ∙ sym (ap (value_of shape.variables ys) is))
+    b.shown shape (numbers_in s.numbers) xs reference ≡ b.shown shape (numbers_in s.numbers) ys reference
+shown_same b shape declared reference output s xs ys is found agree =
+    ap (b.shown shape (numbers_in s.numbers) xs) is ∙ declared shape (numbers_in s.numbers) output xs ys found agree ∙ sym (ap (b.shown shape (numbers_in s.numbers) ys) is)
 
-own_is_lawful : (b : Behaviour) (shape : Shape) → ShowsItsOwn b → IsLawful shape (machine_of b shape)
+own_is_lawful : (b : Behaviour) (shape : Shape) → ShowsDeclared b → IsLawful shape (machine_of b shape)
 own_is_lawful b shape own (C.Get kind reference) output s xs ys looked found mode agree =
     ap (λ (x : ℤ). Done false (A.Get (word_of (wrapped kind x)))) (shown_same b shape own reference output s xs ys (same_Some reference output looked) found agree)
 own_is_lawful b shape own (C.GetClock reference) output s xs ys looked found mode agree =
@@ -120,5 +154,38 @@ own_is_lawful b shape own C.Free output s xs ys looked found mode agree = refl
 own_is_lawful b shape own C.Terminate output s xs ys looked found mode agree = refl
 own_is_lawful b shape own C.FreeInstance output s xs ys looked found mode agree = refl
 
+-- ---- each machine
+
+counter_declared : ShowsDeclared counter
+counter_declared shape n output xs ys found agree = ap (λ (x : ℤ). if output == 2 then n.count else x) (value_same shape (is_marked n) output xs ys agree found)
+
+module _ (shape : Shape) (n : Numbers) (xs ys : List ℤ) (agree : AgreeFor shape (is_marked n) 3 xs ys) where
+  seen_same : (reference : ℕ) → seen_by shape n xs 3 reference ≡ seen_by shape n ys 3 reference
+  seen_same reference = by (is_declared_at shape n 3 reference) refl
+    where
+      by : (q : Bool) → is_declared_at shape n 3 reference ≡ q →
+          (if q then value_of shape.variables xs reference else n.held) ≡ (if q then value_of shape.variables ys reference else n.held)
+      by true is = reference_same shape (is_marked n) 3 reference xs ys agree (declared_known shape (is_marked n) 3 (variable_at shape.variables reference) is)
+      by false other = refl
+
+  factor_same : factor shape n xs ≡ factor shape n ys
+  factor_same = by (is_at (λ (v : Variable). is_input v.causality) shape.variables 1) refl
+    where
+      by : (q : Bool) → is_at (λ (v : Variable). is_input v.causality) shape.variables 1 ≡ q →
+          (if q then seen_by shape n xs 3 1 else value_of shape.variables xs 1) ≡ (if q then seen_by shape n ys 3 1 else value_of shape.variables ys 1)
+      by true is = seen_same 1
+      by false other = reference_same shape (is_marked n) 3 1 xs ys agree (no_input shape (is_marked n) 3 (variable_at shape.variables 1) other)
+
+  product_same : product shape n xs ≡ product shape n ys
+  product_same = ap₂ (λ (a b : ℤ). wrapped_int64 (a *ℤ b)) factor_same (seen_same 2)
+
+gain_declared : ShowsDeclared gain
+gain_declared shape n output xs ys found agree = by (output == 3) refl
+  where
+    by : (q : Bool) → (output == 3) ≡ q → (if q then product shape n xs else value_of shape.variables xs output) ≡ (if q then product shape n ys else value_of shape.variables ys output)
+    by true is = product_same shape n xs ys (subst (λ (o : ℕ). AgreeFor shape (is_marked n) o xs ys) (eqb-true output 3 is) agree)
+    by false other = value_same shape (is_marked n) output xs ys agree found
+
 pub is_lawful : (model : Model) (shape : Shape) → IsLawful shape (machine_of (behaviour_of model) shape)
-is_lawful Counter shape = own_is_lawful counter shape (λ variables count xs ys output same. ap (λ (x : ℤ). if output == 2 then count else x) same)
+is_lawful Counter shape = own_is_lawful counter shape counter_declared
+is_lawful Gain shape = own_is_lawful gain shape gain_declared

@@ -1,6 +1,7 @@
 pub mod Wrapping
 pub mod BuiltIn
 pub mod Counter
+pub mod Gain
 pub mod Models
 pub mod Told
 pub mod Laws

@@ -1,19 +1,24 @@
-ghost use Rattle.std.specs.Prelude.{◌≡◌, ◌+◌, ◌<◌, ◌≤◌, IfOk, if◌then◌else◌, length, map, pos, set, slice_get, true, unwrap_or};
+ghost use Rattle.std.specs.Prelude.{◌≡◌, ◌+◌, ◌<◌, ◌≤◌, IfOk, false, if◌then◌else◌, int_lt, length, map, pos, set, slice_get, true, unwrap_or};
+ghost use Rattle.std.specs.Option.{option_map_or};
 ghost use Rattle.fmi_calls.specs.Permission.{Permitted};
 ghost use Rattle.fmu_peer.specs.Machine.{after, written};
-ghost use Rattle.bench_fmus.specs.BuiltIn.{spread, start_of};
+ghost use Rattle.value_types.specs.Shape.{dependency_at, is_known};
+ghost use Rattle.bench_fmus.specs.BuiltIn.{mark_after, spread, start_of};
+ghost use Rattle.bench_fmus.specs.Told.{number_of_flag};
 
 use crate::wrap::wrapped_word;
 use crate::{Model, SavedState};
 use fmi_calls::{Call, Content, Phase};
 use std::alloc::{AllocError, Global};
-use value_types::{ByReference, Shape, Variable};
+use value_types::{ByReference, Dependency, Knowns, Shape, Variable};
 
 /// The numbers of a built-in machine's own.
 #[derive(Clone, Copy, Debug, PartialEq, Eq)]
 pub struct Numbers {
     /// whether the machine is in Initialization Mode
     pub is_initializing: bool,
+    /// what a machine holds of its inputs
+    pub held: i64,
     pub count: i64,
 }
 
@@ -27,6 +32,7 @@ impl Numbers {
     {
         Numbers {
             is_initializing: false,
+            held: 0,
             count: 0,
         }
     }
@@ -42,7 +48,7 @@ pub struct BuiltInState {
 }
 
 impl BuiltInState {
-    ghost use Rattle.bench_fmus.specs.BuiltIn.{content_of, first_state, machine_of, numbers_after, value_of};
+    ghost use Rattle.bench_fmus.specs.BuiltIn.{content_of, first_state, is_declared_at, machine_of, numbers_after, seen_by, value_of};
     ghost use Rattle.bench_fmus.specs.Models.{behaviour_of};
     ghost use Rattle.bench_fmus.specs.Told.{HasRoom, state_in, told, values_in};
 
@@ -69,6 +75,29 @@ impl BuiltInState {
         }
     }
 
+    /// What an output sees of the variable under a reference: its value where the output declares to depend on it, else
+    /// what is held.
+    pub(crate) fn seen_by(&self, shape: &Shape, output: u32, reference: u32) -> i128
+        ensures { result ≡ seen_by shape.now (told self.now.numbers) (values_in shape.now.variables self.now) output reference }
+    {
+        if self.is_declared_at(shape, output, reference) {
+            self.value(&shape.variables, reference)
+        } else {
+            i128::from(self.numbers.held)
+        }
+    }
+
+    // Whether the output declares to depend on the variable under a reference, by the list of the mode.
+    fn is_declared_at(&self, shape: &Shape, output: u32, reference: u32) -> bool
+        ensures { result ≡ is_declared_at shape.now (told self.now.numbers) output reference }
+    {
+        let dependencies = dependencies_in(shape, self.numbers.is_initializing);
+        match shape.variables.find(reference) {
+            Some(variable) => declares(dependencies, output, variable),
+            None => false,
+        }
+    }
+
     /// What a good reply to a call carries.
     pub(crate) fn content(&self, model: Model, shape: &Shape, phase: &Phase, call: &Call) -> Content
         requires { Permitted shape.now phase.now call.now }
@@ -85,7 +114,7 @@ impl BuiltInState {
                 end: step_end(phase.stop, at, size),
             },
             Call::Get { kind, reference } => Content::Get {
-                word: wrapped_word(kind, model.shown(&shape.variables, self, reference)),
+                word: wrapped_word(kind, model.shown(shape, self, reference)),
             },
             Call::Set { .. } => Content::Set,
             Call::Save => Content::Save,
@@ -106,20 +135,9 @@ impl BuiltInState {
     fn next_numbers(&self, model: Model, variables: &ByReference<Variable>, call: &Call) -> Numbers
         ensures { told result ≡ numbers_after (behaviour_of model) variables.now (told self.now.numbers) (values_in variables.now self.now) call.now }
     {
-        match *call {
-            Call::EnterInitialization { .. } => Numbers {
-                is_initializing: true,
-                ..self.numbers
-            },
-            Call::ExitInitialization => Numbers {
-                is_initializing: false,
-                ..self.numbers
-            },
-            Call::DoStep { .. } => Numbers {
-                count: model.counted(variables, self),
-                ..self.numbers
-            },
-            _ => self.numbers,
+        Numbers {
+            is_initializing: is_initializing_after(self.numbers.is_initializing, call),
+            ..model.changed(variables, self, call)
         }
     }
 
@@ -223,4 +241,46 @@ fn put(values: &mut [i128], place: usize, value: i128)
     ensures { values.new ≡ set values.old place value }
 {
     values[place] = value;
+}
+
+// Initialization Mode begins with EnterInitialization and ends with ExitInitialization.
+fn is_initializing_after(is_initializing: bool, call: &Call) -> bool
+    ensures { number_of_flag result ≡ mark_after (number_of_flag is_initializing) call.now }
+{
+    match *call {
+        Call::EnterInitialization { .. } => true,
+        Call::ExitInitialization => false,
+        _ => is_initializing,
+    }
+}
+
+// What the outputs depend on, in Initialization Mode or behind it.
+fn dependencies_in(shape: &Shape, is_initializing: bool) -> &ByReference<Dependency>
+    ensures { result.now ≡ (if int_lt (pos 0) (number_of_flag is_initializing) then shape.now.initial_dependencies else shape.now.dependencies) }
+{
+    if is_initializing {
+        &shape.initial_dependencies
+    } else {
+        &shape.dependencies
+    }
+}
+
+// Whether the output declares by this list to depend on the variable.
+fn declares(dependencies: &ByReference<Dependency>, output: u32, variable: &Variable) -> bool
+    ensures { result ≡ option_map_or (λ d. is_known d.on variable.now) (dependency_at dependencies.now output) false }
+{
+    match dependencies.find(output) {
+        Some(dependency) => is_known(&dependency.on, variable),
+        None => false,
+    }
+}
+
+// Whether the variable is among the knowns of an output.
+fn is_known(knowns: &Knowns, variable: &Variable) -> bool
+    ensures { result ≡ is_known knowns.now variable.now }
+{
+    match knowns {
+        Knowns::AllInputs => variable.is_input_port(),
+        Knowns::Listed(on) => on.as_slice().contains(&variable.reference),
+    }
 }

@@ -1,11 +1,12 @@
 //! The machine `counter`: each step adds its increment to a count, which is its output.
 ghost use Rattle.std.specs.Prelude.{◌≡◌};
-ghost use Rattle.bench_fmus.specs.Counter.{counter};
-ghost use Rattle.bench_fmus.specs.Told.{values_in};
+ghost use Rattle.bench_fmus.specs.Counter.{counted, counter};
+ghost use Rattle.bench_fmus.specs.Told.{told, values_in};
 
-use crate::BuiltInState;
 use crate::wrap::wrapping_sum;
-use value_types::{ByReference, Variable};
+use crate::{BuiltInState, Numbers};
+use fmi_calls::Call;
+use value_types::{ByReference, Shape, Variable};
 
 /// What a step adds, a parameter.
 const INCREMENT: u32 = 1;
@@ -16,13 +17,13 @@ const OUTPUT: u32 = 2;
 /// The size from which a step asks to end the simulation, a parameter; none does where it isn't above 0.
 const LONG: u32 = 3;
 
-pub(crate) fn shown(variables: &ByReference<Variable>, state: &BuiltInState, reference: u32) -> i128
-    ensures { result ≡ counter.shown variables.now state.now.numbers.count (values_in variables.now state.now) reference }
+pub(crate) fn shown(shape: &Shape, state: &BuiltInState, reference: u32) -> i128
+    ensures { result ≡ counter.shown shape.now (told state.now.numbers) (values_in shape.now.variables state.now) reference }
 {
     if reference == OUTPUT {
         i128::from(state.numbers.count)
     } else {
-        state.value(variables, reference)
+        state.value(&shape.variables, reference)
     }
 }
 
@@ -37,8 +38,19 @@ pub(crate) fn asks_to_end(
     0 < long && long <= i128::from(size)
 }
 
-pub(crate) fn counted(variables: &ByReference<Variable>, state: &BuiltInState) -> i64
-    ensures { result ≡ counter.counted variables.now state.now.numbers.count (values_in variables.now state.now) }
+/// The numbers after a call: a step counts.
+pub(crate) fn changed(
+    variables: &ByReference<Variable>,
+    state: &BuiltInState,
+    call: &Call,
+) -> Numbers
+    ensures { told result ≡ counted variables.now (told state.now.numbers) (values_in variables.now state.now) call.now }
 {
-    wrapping_sum(state.numbers.count, state.value(variables, INCREMENT))
+    match *call {
+        Call::DoStep { .. } => Numbers {
+            count: wrapping_sum(state.numbers.count, state.value(variables, INCREMENT)),
+            ..state.numbers
+        },
+        _ => state.numbers,
+    }
 }

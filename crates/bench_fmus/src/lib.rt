@@ -5,6 +5,7 @@ mod bench;
 mod built_in;
 mod built_in_state;
 mod counter;
+mod gain;
 mod model;
 mod origin;
 mod retired;

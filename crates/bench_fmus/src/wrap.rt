@@ -1,4 +1,4 @@
-ghost use Rattle.std.specs.Prelude.{◌≡◌, ◌-◌, ◌^◌, pos, negsuc, ◌+ℤ◌, ◌≤ℤ◌};
+ghost use Rattle.std.specs.Prelude.{◌≡◌, ◌-◌, ◌^◌, pos, negsuc, ◌+ℤ◌, ◌*ℤ◌, ◌≤ℤ◌};
 ghost use Rattle.value_types.specs.Values.{word_of};
 ghost use Rattle.bench_fmus.specs.Wrapping.{wrapped_between, wrapped, wrapped_int64};
 
@@ -29,10 +29,26 @@ pub(crate) fn wrapped_word(kind: PortType, value: i128) -> u64
     to_word(kind, wrap_between(least(kind), greatest(kind), value))
 }
 
+/// A number wrapped into Int64.
+pub(crate) fn wrapping_value(value: i128) -> i64
+    ensures { result ≡ wrapped_int64 value }
+{
+    wrap_between(LEAST_INT64, GREATEST_INT64, value) as i64
+}
+
 /// A sum wrapped into Int64.
 pub(crate) fn wrapping_sum(a: i64, b: i128) -> i64
     ensures { result ≡ wrapped_int64 (a +ℤ b) }
 {
     let b = wrap_between(LEAST_INT64, GREATEST_INT64, b);
     wrap_between(LEAST_INT64, GREATEST_INT64, i128::from(a) + b) as i64
+}
+
+/// A product wrapped into Int64.
+pub(crate) fn wrapping_product(a: i128, b: i128) -> i64
+    ensures { result ≡ wrapped_int64 (a *ℤ b) }
+{
+    let first = i128::from(wrapping_value(a));
+    let second = i128::from(wrapping_value(b));
+    wrapping_value(first * second)
 }

@@ -1,12 +1,15 @@
 -- The children of nodes, where one node more stands behind.
-use Rattle.std.proofs.Common.{◌≡◌, ℕ, zero, suc, ◌+◌, ◌<◌, Bool, true, false, ◌==◌, List, [], ◌∷◌, ◌++◌, length, map, get_or, set, Some, None, refl, sym, ap, ◌∙◌, subst, arith, length-append}
+use Rattle.std.proofs.Common.{◌≡◌, ℕ, zero, suc, ◌+◌, ◌<◌, Bool, true, false, ◌==◌, List, [], ◌∷◌, ◌++◌, length, map, get_or, set, Option, Some, None, IfSome, slice_get, refl, sym, ap, ◌∙◌, subst, arith, zero-add, length-append}
+use Rattle.std.specs.Option.{option_and_then, option_map}
+use Rattle.std.proofs.lemmas.Option.{slice_get-map, slice_get_read}
 use Rattle.std.proofs.lemmas.List.{append-nil, map-append, get_or-set_same, get_or-set_other, length-map, map-set}
 use Rattle.std.proofs.lemmas.Bool.{eqb-true, eqb-false}
 use Rattle.std.specs.declared.vec.Vec.{Vec}
 use Rattle.std.specs.declared.alloc.Global.{Global}
 use Rattle.doc_grammar.specs.Nodes.{Node}
 use Rattle.doc_tree.specs.declared.tree.Element.{Element}
-use Rattle.doc_tree.specs.Elements.{is_parent, child_if, children_from, children_of, node_of, items_of, with_child, Adopts, Keeps}
+use Rattle.doc_tree.specs.Elements.{is_parent, child_if, children_from, children_of, node_of, items_of, with_child, Adopts, IsBelow, IsInOrder, Keeps}
+use Rattle.doc_tree.specs.Path.{parent_at}
 
 child_if_append : (b : Bool) (i : ℕ) (xs ys : List ℕ) → child_if b i (xs ++ ys) ≡ child_if b i xs ++ ys
 child_if_append true i xs ys = refl
@@ -42,9 +45,37 @@ adopts_some lists new parent child h e k = ap (λ z. get_or z k []) e ∙ at (pa
     at false f =
         get_or-set_other lists parent k (get_or lists parent [] ++ child ∷ []) [] (λ q. eqb-false parent k f (sym q)) ∙ sym (append-nil (get_or lists k []))
 
+-- ---- each node behind its parent
+
+order_from : (i : ℕ) (ns : List Node) (n : Node) → ((k : ℕ) → IsBelow (i + k) (parent_at ns k)) → IsBelow (i + length ns) n.parent → (k : ℕ) → IsBelow (i + k) (parent_at (ns ++ n ∷ []) k)
+order_from i [] n h b zero = b
+order_from i [] n h b (suc k) = tt
+order_from i (m ∷ ns) n h b zero = h 0
+order_from i (m ∷ ns) n h b (suc k) =
+    subst (λ z. IsBelow z (parent_at (ns ++ n ∷ []) k)) (next k)
+    (order_from (i + 1) ns n (λ j. subst (λ z. IsBelow z (parent_at ns j)) (sym (next j)) (h (suc j))) (subst (λ z. IsBelow z n.parent) (sym (next (length ns))) b) k)
+  where
+    next : (j : ℕ) → i + 1 + j ≡ i + suc j
+    next j = omega arith
+
+order_snoc : (ns : List Node) (n : Node) → IsInOrder ns → IsBelow (length ns) n.parent → IsInOrder (ns ++ n ∷ [])
+order_snoc ns n h b k =
+    subst (λ z. IsBelow z (parent_at (ns ++ n ∷ []) k)) (zero-add k)
+    (order_from 0 ns n (λ j. subst (λ z. IsBelow z (parent_at ns j)) (sym (zero-add j)) (h j)) (subst (λ z. IsBelow z n.parent) (sym (zero-add (length ns))) b) k)
+
+pub parent_before : (elements : List Element) (k : ℕ) (e : Element) → IsInOrder (map node_of elements) → k < length elements → e ≡ get_or elements k e → IfSome e.parent (λ p. p < k)
+parent_before elements k e order within at_k =
+    let is : slice_get elements k ≡ Some e = slice_get_read elements (length elements) k e refl within at_k in
+    at e.parent (subst (IsBelow k) (ap (option_and_then (λ (n : Node). n.parent)) (slice_get-map node_of elements k ∙ ap (option_map node_of) is)) (order k))
+  where
+    at : (o : Option ℕ) → IsBelow k o → IfSome o (λ p. p < k)
+    at None b = tt
+    at (Some p) b = b
+
 pub keeps_more : (elements all : List Element) (children one two : List (Vec ℕ Global)) (element : Element) (fresh : Vec ℕ Global) (node : ℕ) → Keeps (map node_of elements) children
-    → node ≡ length elements → Adopts (map items_of children) (map items_of one) element.parent node → length one ≡ length children → fresh.items ≡ [] → two ≡ one ++ fresh ∷ [] → all ≡ elements ++ element ∷ [] → Keeps (map node_of all) two
-keeps_more elements all children one two element fresh node k m a n f g h =
+    → node ≡ length elements → Adopts (map items_of children) (map items_of one) element.parent node → length one ≡ length children → fresh.items ≡ [] → two ≡ one ++ fresh ∷ [] → all ≡ elements ++ element ∷ []
+    → IsBelow (length (map node_of elements)) element.parent → Keeps (map node_of all) two
+keeps_more elements all children one two element fresh node k m a n f g h b =
     let p = ap length g in
     let q = ap length h in
     let s = k.same in
@@ -58,6 +89,7 @@ keeps_more elements all children one two element fresh node k m a n f g h =
           ∙ ap (λ z. z ++ child_if (is_parent element.parent i) node []) (k.each i)
           ∙ ap (λ z. children_of (map node_of elements) i ++ child_if (is_parent element.parent i) z []) size
           ∙ sym (children_snoc 0 (map node_of elements) (node_of element) i) ∙ sym (ap (λ z. children_of z i) whole);
+      in_order = subst IsInOrder (sym whole) (order_snoc (map node_of elements) (node_of element) k.in_order b);
     }
 
 pub with_child_is : (lists : List (Vec ℕ Global)) (parent child : ℕ) (old new : Vec ℕ Global) → parent < length lists → old ≡ get_or lists parent old → new.items ≡ old.items ++ child ∷ [] → map items_of (set lists parent new) ≡ with_child (map items_of lists) parent child

@@ -7,6 +7,7 @@ use Rattle.doc_grammar.specs.Grammar.{Pair}
 use Rattle.doc_grammar.specs.Nodes.{Node}
 use Rattle.doc_tree.specs.declared.tree.Named.{Named}
 use Rattle.doc_tree.specs.declared.tree.Element.{Element}
+use Rattle.doc_tree.specs.Path.{parent_at}
 
 abbrev pub is_parent : Option ℕ → ℕ → Bool
 is_parent None k = false
@@ -52,7 +53,12 @@ abbrev pub IsBelow : ℕ → Option ℕ → Type 0
 IsBelow n None = Unit {0}
 IsBelow n (Some p) = p < n
 
--- each node's list has its children
+-- each node stands behind its parent
+abbrev pub IsInOrder : List Node → Type 0
+IsInOrder nodes = (k : ℕ) → IsBelow k (parent_at nodes k)
+
+-- each node's list has its children, and no node stands before its parent
 pub record Keeps (nodes : List Node) (children : List (Vec ℕ Global)) : Type 0 where
   pub same : length children ≡ length nodes
   pub each : (k : ℕ) → get_or (map items_of children) k [] ≡ children_of nodes k
+  pub in_order : IsInOrder nodes

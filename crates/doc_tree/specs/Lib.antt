@@ -1,5 +1,5 @@
+pub mod Path
 pub mod Elements
 pub mod Answers
 pub mod Building
-pub mod Path
 pub mod Rules

@@ -3,9 +3,13 @@ use Rattle.std.specs.Prelude.{ℕ}
 use Rattle.doc_grammar.specs.declared.reasons.Rule as grammar
 use Rattle.doc_grammar.specs.declared.reasons.Rule.TheVariants.{NotUtf8, Malformed, Doctype, TooDeep, AttributeTwice}
 use Rattle.doc_tree.specs.declared.rule.Rule.{Rule}
-use Rattle.doc_tree.specs.declared.rule.Rule.TheVariants.{Document, Description, Unbuilt, TooManyPorts}
+use Rattle.doc_tree.specs.declared.rule.Rule.TheVariants.{Document, Description, Unbuilt, System, Flattening, Loop, TooManyPorts}
 use Rattle.doc_tree.specs.declared.rule.DescriptionRule.{DescriptionRule}
 use Rattle.doc_tree.specs.declared.rule.DescriptionRule.TheVariants as d
+use Rattle.doc_tree.specs.declared.rule.SystemRule.{SystemRule}
+use Rattle.doc_tree.specs.declared.rule.SystemRule.TheVariants as s
+use Rattle.doc_tree.specs.declared.rule.FlatteningRule.{FlatteningRule}
+use Rattle.doc_tree.specs.declared.rule.FlatteningRule.TheVariants as f
 
 -- of documents: the text is one of the subset of XML 1.0
 abbrev pub document_number : grammar.Rule → ℕ
@@ -33,9 +37,34 @@ description_number d.SerializesUnsaved = 22
 description_number d.LeftOut = 23
 description_number d.ClockWithoutEvents = 24
 
+-- of system structure descriptions (SSP 1.0: SystemStructure.ssd)
+abbrev pub system_number : SystemRule → ℕ
+system_number s.Structure = 30
+system_number s.ElementTwice = 31
+system_number s.OtherType = 32
+system_number s.NoSource = 33
+system_number s.ModelExchange = 34
+system_number s.Incomplete = 35
+system_number s.Transformation = 36
+system_number s.NoEnd = 37
+system_number s.WrongEnd = 38
+system_number s.TooManyComponents = 48
+
+-- of connectors and connections together with the variables that they name (SSP 1.0, 5.3.3)
+abbrev pub flattening_number : FlatteningRule → ℕ
+flattening_number f.NoSuchVariable = 40
+flattening_number f.OtherCausality = 41
+flattening_number f.OtherClass = 42
+flattening_number f.EndTwice = 43
+flattening_number f.TooWide = 44
+flattening_number f.FedClock = 45
+
 -- of all
 abbrev pub number : Rule → ℕ
 number (Document rule) = document_number rule
 number (Description rule) = description_number rule
 number Unbuilt = 29
+number (System rule) = system_number rule
+number (Flattening rule) = flattening_number rule
+number Loop = 46
 number TooManyPorts = 49

@@ -15,5 +15,7 @@ pub use builder::read_tree;
 pub use doc_events::{DocError, Rule as DocumentRule};
 pub use place::Place;
 pub use refusal::Refusal;
-pub use rule::{DESCRIPTION_RULES, DescriptionRule, Rule};
+pub use rule::{
+    DESCRIPTION_RULES, DescriptionRule, FlatteningRule, Rule, SYSTEM_RULES, SystemRule,
+};
 pub use tree::Tree;

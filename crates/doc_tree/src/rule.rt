@@ -1,5 +1,5 @@
 ghost use Rattle.std.specs.Prelude.{◌≡◌};
-ghost use Rattle.doc_tree.specs.Rules.{description_number, document_number, number};
+ghost use Rattle.doc_tree.specs.Rules.{description_number, document_number, flattening_number, number, system_number};
 
 use crate::DocumentRule;
 
@@ -12,6 +12,12 @@ pub enum Rule {
     Description(DescriptionRule),
     /// 29: an FMU asks for a part that isn't built yet
     Unbuilt,
+    /// 30 to 38 and 48: a rule of system structure descriptions, at an element
+    System(SystemRule),
+    /// 40 to 45: a rule of connectors and connections together with the variables that they name, at an element
+    Flattening(FlatteningRule),
+    /// 46: ports need each other in a loop, which is told with it
+    Loop,
     /// 49: the ports are more than a system may have
     TooManyPorts,
 }
@@ -70,6 +76,62 @@ pub const DESCRIPTION_RULES: [DescriptionRule; 15] = [
     DescriptionRule::ClockWithoutEvents,
 ];
 
+/// The rules of a system structure description, in the order of their numbers.
+#[derive(Clone, Copy, Debug, PartialEq, Eq)]
+pub enum SystemRule {
+    /// 30: the root is no `SystemStructureDescription` of version 1.0 with one System
+    Structure,
+    /// 31: a name stands twice among the elements of a system
+    ElementTwice,
+    /// 32: a component or a binding is of another type
+    OtherType,
+    /// 33: a `source` leads nowhere
+    NoSource,
+    /// 34: a component is for Model Exchange
+    ModelExchange,
+    /// 35: something required is absent, or a connector has another kind or the name of one before it
+    Incomplete,
+    /// 36: a connection has a transformation
+    Transformation,
+    /// 37: an end of a connection names no connector
+    NoEnd,
+    /// 38: a connection begins or ends at a connector of the wrong kind
+    WrongEnd,
+    /// 48: a component is the 257th
+    TooManyComponents,
+}
+
+/// The rules of a system structure description, in the order of their numbers.
+pub const SYSTEM_RULES: [SystemRule; 10] = [
+    SystemRule::Structure,
+    SystemRule::ElementTwice,
+    SystemRule::OtherType,
+    SystemRule::NoSource,
+    SystemRule::ModelExchange,
+    SystemRule::Incomplete,
+    SystemRule::Transformation,
+    SystemRule::NoEnd,
+    SystemRule::WrongEnd,
+    SystemRule::TooManyComponents,
+];
+
+/// The rules of connectors and connections together with the variables of the FMUs, in the order of their numbers.
+#[derive(Clone, Copy, Debug, PartialEq, Eq)]
+pub enum FlatteningRule {
+    /// 40: a connector of a component names no variable
+    NoSuchVariable,
+    /// 41: a connector is an input or output and its variable isn't
+    OtherCausality,
+    /// 42: a connector, or an end of a path of connections, is of another class
+    OtherClass,
+    /// 43: a connection ends where one before it does
+    EndTwice,
+    /// 44: a path of connections leads to an input that can't hold each value of the output
+    TooWide,
+    /// 45: a path of connections leads to a time-based Clock
+    FedClock,
+}
+
 impl Rule {
     /// The number of the rule.
     pub fn number(self) -> u32
@@ -79,6 +141,9 @@ impl Rule {
             Rule::Document(rule) => document_number(rule),
             Rule::Description(rule) => rule.number(),
             Rule::Unbuilt => 29,
+            Rule::System(rule) => rule.number(),
+            Rule::Flattening(rule) => rule.number(),
+            Rule::Loop => 46,
             Rule::TooManyPorts => 49,
         }
     }
@@ -104,6 +169,40 @@ impl DescriptionRule {
             DescriptionRule::SerializesUnsaved => 22,
             DescriptionRule::LeftOut => 23,
             DescriptionRule::ClockWithoutEvents => 24,
+        }
+    }
+}
+
+impl SystemRule {
+    fn number(self) -> u32
+        ensures { result ≡ system_number self }
+    {
+        match self {
+            SystemRule::Structure => 30,
+            SystemRule::ElementTwice => 31,
+            SystemRule::OtherType => 32,
+            SystemRule::NoSource => 33,
+            SystemRule::ModelExchange => 34,
+            SystemRule::Incomplete => 35,
+            SystemRule::Transformation => 36,
+            SystemRule::NoEnd => 37,
+            SystemRule::WrongEnd => 38,
+            SystemRule::TooManyComponents => 48,
+        }
+    }
+}
+
+impl FlatteningRule {
+    fn number(self) -> u32
+        ensures { result ≡ flattening_number self }
+    {
+        match self {
+            FlatteningRule::NoSuchVariable => 40,
+            FlatteningRule::OtherCausality => 41,
+            FlatteningRule::OtherClass => 42,
+            FlatteningRule::EndTwice => 43,
+            FlatteningRule::TooWide => 44,
+            FlatteningRule::FedClock => 45,
         }
     }
 }

@@ -136,10 +136,11 @@ impl Tree {
         self.children[node].as_slice()
     }
 
-    /// The element that this one stands directly in.
+    /// The element that this one stands directly in, which is before it.
     pub fn parent(&self, node: usize) -> Option<usize>
         requires { node < length self.now }
-        ensures { IfSome (slice_get self.now node) (λ n. result ≡ n.parent) }
+        ensures parent { IfSome (slice_get self.now node) (λ n. result ≡ n.parent) }
+        ensures before { IfSome result (λ p. p < node) }
     {
         self.elements[node].parent
     }

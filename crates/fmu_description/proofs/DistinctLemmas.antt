@@ -7,7 +7,8 @@ use Rattle.std.proofs.lemmas.Map.Keys.{IsDistinct-cons}
 use Rattle.value_types.specs.declared.shape.Variable.{Variable}
 use Rattle.doc_grammar.specs.Nodes.{Node}
 use Rattle.doc_tree.specs.declared.rule.DescriptionRule.TheVariants as r
-use Rattle.fmu_description.specs.Elements.{is_variable, reference_of, variable_key, key_if}
+use Rattle.doc_tables.specs.Elements.{key_if}
+use Rattle.fmu_description.specs.Elements.{is_variable, reference_of, variable_key}
 use Rattle.fmu_description.specs.Rules.{IsSound}
 use Rattle.fmu_description.specs.Description.{IsVariable, variables_in}
 

@@ -7,7 +7,8 @@ use Rattle.std.proofs.lemmas.List.{take_more, get_or_default}
 use Rattle.std.proofs.lemmas.List.Elements.{Contains-append_left, Contains-append_right, Contains-append_cases, Contains-push, Contains-push_cases, Contains-get_or}
 use Rattle.doc_grammar.specs.Nodes.{Node}
 use Rattle.doc_tree.specs.Elements.{is_parent, child_if, children_from, children_of}
-use Rattle.fmu_description.specs.Elements.{parent, is_variable, is_dimension}
+use Rattle.doc_tables.specs.Elements.{parent}
+use Rattle.fmu_description.specs.Elements.{is_variable, is_dimension}
 use Rattle.fmu_description.specs.Clocks.{clocks_of}
 use Rattle.fmu_description.specs.Marks.{Follows, ListsBelow, ListsFollowers, PutsUnder}
 use Rattle.fmu_description.proofs.TableLemmas.{is_variable_within}

@@ -6,7 +6,7 @@ use Rattle.std.proofs.lemmas.Option.{same_Some, none-some, IfSome_then}
 use Rattle.clock_fraction.specs.declared.fraction.Fraction.{Fraction}
 use Rattle.clock_fraction.specs.Decimal.{Denotes}
 use Rattle.doc_grammar.specs.Nodes.{Node}
-use Rattle.fmu_description.specs.Elements.{attribute}
+use Rattle.doc_tables.specs.Elements.{attribute}
 use Rattle.fmu_description.specs.Texts.{counter}
 use Rattle.fmu_description.specs.Clocks.{counter_of, is_by_counters, IsInterval, ByCounters, ByDecimal, IsShift, Counters, NoCounter, Decimal, NoDecimal}
 

@@ -3,7 +3,7 @@ use Rattle.std.proofs.Common.{◌≡◌, ◌↔◌, ℕ, ℤ, Bool, true, false,
 use Rattle.value_types.specs.declared.values.PortType.{PortType}
 use Rattle.doc_grammar.specs.Nodes.{Node}
 use Rattle.fmu_description.specs.Texts.{port_type}
-use Rattle.fmu_description.specs.Elements.{name_of, attribute}
+use Rattle.doc_tables.specs.Elements.{name_of, attribute}
 use Rattle.fmu_description.specs.Clocks.{IsForeign}
 use Rattle.fmu_description.specs.Description.{IsKind, IsStart}
 

@@ -9,7 +9,6 @@ pub mod FollowLemmas
 mod IntervalLemmas
 mod MisreadLemmas
 mod PastLemmas
-mod ReadLemmas
 mod RuleLemmas
 mod TableUse
 pub mod DistinctLemmas

@@ -5,7 +5,7 @@ use Rattle.std.proofs.lemmas.Option.{same_Some, none-some}
 use Rattle.clock_fraction.specs.declared.fraction.Fraction.{Fraction}
 use Rattle.clock_fraction.specs.Decimal.{Denotes}
 use Rattle.doc_grammar.specs.Nodes.{Node}
-use Rattle.fmu_description.specs.Elements.{attribute}
+use Rattle.doc_tables.specs.Elements.{attribute}
 use Rattle.fmu_description.specs.Rules.{MisreadsDecimal}
 
 -- the rest of a choice, where its first part doesn't hold

@@ -15,7 +15,8 @@ use Rattle.clock_fraction.specs.declared.fraction.Fraction.{Fraction}
 use Rattle.clock_fraction.specs.Decimal.{Denotes}
 use Rattle.doc_grammar.specs.Nodes.{Node}
 use Rattle.fmu_description.specs.Texts.{counter}
-use Rattle.fmu_description.specs.Elements.{attribute, output_key, initial_key}
+use Rattle.doc_tables.specs.Elements.{attribute}
+use Rattle.fmu_description.specs.Elements.{output_key, initial_key}
 use Rattle.fmu_description.specs.Clocks.{counter_of, is_by_counters, IsInterval, ByCounters, ByDecimal, IsShift, Counters, NoCounter, Decimal, NoDecimal}
 use Rattle.fmu_description.specs.Rules.{IsSound}
 use Rattle.fmu_description.specs.Description.{IsSoundTree, IsStart, IsKind, IsVariable, IsTold, IsShiftTold, IsTiming, IsTimingOf, DependsOn, DependsInitiallyOn, IsDependency, IsInitialDependency, SaysOf, Describes, clocks_among, listed, outputs_among, variables_in}

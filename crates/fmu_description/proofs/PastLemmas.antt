@@ -4,7 +4,8 @@ use Rattle.std.specs.Prelude.{slice_get}
 use Rattle.std.proofs.lemmas.Bool.{both_ways}
 use Rattle.std.proofs.lemmas.Option.{none-some}
 use Rattle.doc_grammar.specs.Nodes.{Node}
-use Rattle.fmu_description.specs.Elements.{is_co_simulation, is_variable, is_clock, is_alias, is_output, is_initial_unknown, variable_key, name_key, IsUnknown, IsRepeated}
+use Rattle.doc_tables.specs.Tables.{IsRepeated}
+use Rattle.fmu_description.specs.Elements.{is_co_simulation, is_variable, is_clock, is_alias, is_output, is_initial_unknown, variable_key, name_key, IsUnknown}
 use Rattle.doc_tree.specs.declared.rule.DescriptionRule.{DescriptionRule}
 use Rattle.doc_tree.specs.declared.rule.DescriptionRule.TheVariants as r
 use Rattle.fmu_description.specs.Rules.{Violates, LacksSomething, MisreadsSomething}
@@ -55,7 +56,7 @@ module _ (t : List Node) (k : ℕ) (past : slice_get t k ≡ None) where
   misreads_past (inr (inr (inl a))) = clock_past a.0
   misreads_past (inr (inr (inr a))) = unknown_past a.0
 
-  pub breaks_none : (per_second : ℕ) → (k ≡ 0 → ⊥) → (rule : DescriptionRule) → Violates rule t per_second k → ⊥
+  pub breaks_none : (per_second : ℕ) → (k ≡ 0 → ⊥) → (rule : DescriptionRule) → Violates t per_second rule k → ⊥
   breaks_none n inside r.RootName h = inside h.0
   breaks_none n inside r.Version h = inside h.0
   breaks_none n inside r.NoCoSimulation h = inside h.0

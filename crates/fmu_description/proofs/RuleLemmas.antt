@@ -1,12 +1,19 @@
--- The rules by their numbers, and that there is one first violation.
-use Rattle.std.proofs.Common.{◌≡◌, ℕ, ◌+◌, ◌-◌, ◌<◌, ◌≤◌, zero, suc, List, get_or, length, sym, ap, ◌∙◌, refl, arith, inl, inr, subst}
-use Rattle.std.proofs.lemmas.Bool.{cases_order, cases_lt}
+-- The rules by their numbers, and what follows of the first violation.
+use Rattle.std.proofs.Common.{◌≡◌, ℕ, ◌+◌, ◌-◌, ◌<◌, ◌≤◌, zero, suc, List, Err, get_or, length, sym, ap, ◌∙◌, refl, arith}
 use Rattle.std.proofs.lemmas.Option.{slice_get_past}
+use Rattle.value_types.specs.declared.shape.Shape.{Shape}
 use Rattle.doc_grammar.specs.Nodes.{Node}
+use Rattle.doc_tree.specs.declared.refusal.Refusal.{Refusal}
 use Rattle.doc_tree.specs.declared.rule.DescriptionRule.{DescriptionRule}
 use Rattle.doc_tree.specs.declared.rule.DescriptionRule.TheVariants as r
+use Rattle.doc_tree.specs.declared.rule.Rule.TheVariants.{Description}
 use Rattle.doc_tree.specs.declared.rule.TheConstants.{DESCRIPTION_RULES}
 use Rattle.doc_tree.specs.Rules.{description_number}
+use Rattle.doc_tables.specs.Answers.{IsRefusal, Refuses}
+use Rattle.doc_tables.proofs.AnswerLemmas as answers
+use Rattle.doc_tables.proofs.ViolationLemmas as violations
+use Rattle.doc_tables.proofs.ViolationLemmas.{IsListed}
+use Rattle.fmu_description.specs.Answers.{Faults}
 use Rattle.fmu_description.specs.Rules.{Violates, BreaksNoRule, IsLeast, IsFirstViolation, IsSound}
 use Rattle.fmu_description.proofs.PastLemmas.{breaks_none}
 
@@ -63,51 +70,46 @@ numbered (suc (suc (suc (suc (suc (suc (suc (suc (suc (suc (suc (suc (suc zero))
 numbered (suc (suc (suc (suc (suc (suc (suc (suc (suc (suc (suc (suc (suc (suc zero)))))))))))))) h = refl
 numbered (suc (suc (suc (suc (suc (suc (suc (suc (suc (suc (suc (suc (suc (suc (suc i))))))))))))))) h = absurd (omega arith)
 
+same_number : (one other : DescriptionRule) → description_number one ≡ description_number other → one ≡ other
+same_number one other e = sym (listed one) ∙ ap (λ x. get_or DESCRIPTION_RULES (x - 10) r.RootName) e ∙ listed other
+
+rules_listed : IsListed description_number DESCRIPTION_RULES r.RootName
+rules_listed = record {
+  place = λ rule. description_number rule - 10;
+  within = λ rule. omega (arith, (bounds rule).0, (bounds rule).1);
+  is = listed;
+  lower = λ rule i within below. omega (arith, (bounds rule).0, numbered i within, below);
+}
+
 module _ (t : List Node) (n k : ℕ) where
   -- none of the first i rules is broken
   abbrev pub KeepsBelow : ℕ → Type 0
-  KeepsBelow i = (j : ℕ) → j < i → Violates (get_or DESCRIPTION_RULES j r.RootName) t n k → ⊥
+  KeepsBelow i = violations.KeepsBelow description_number (Violates t n) DESCRIPTION_RULES r.RootName k i
 
   pub keeps_all : KeepsBelow 15 → BreaksNoRule t n k
-  keeps_all keeps rule h =
-      keeps (description_number rule - 10) (omega (arith, (bounds rule).0, (bounds rule).1)) (subst (λ x. Violates x t n k) (sym (listed rule)) h)
+  keeps_all keeps = violations.keeps_all description_number (Violates t n) DESCRIPTION_RULES r.RootName k rules_listed keeps
 
-  pub keeps_lower : (i : ℕ) → i < 15 → KeepsBelow i → (other : DescriptionRule) → description_number other < description_number (get_or DESCRIPTION_RULES i r.RootName) → Violates other t n k → ⊥
-  keeps_lower i h keeps other lower broken =
-      keeps (description_number other - 10) (omega (arith, (bounds other).0, numbered i h, lower)) (subst (λ x. Violates x t n k) (sym (listed other)) broken)
+  pub least_at : (i : ℕ) → i < 15 → KeepsBelow i → (rule : DescriptionRule) → rule ≡ get_or DESCRIPTION_RULES i r.RootName → Violates t n rule k → IsLeast t n k rule
+  least_at i h keeps rule is broken = violations.least_at description_number (Violates t n) DESCRIPTION_RULES r.RootName k rules_listed i h keeps rule is broken
 
-  pub least_at : (i : ℕ) → i < 15 → KeepsBelow i → (rule : DescriptionRule) → rule ≡ get_or DESCRIPTION_RULES i r.RootName → Violates rule t n k → IsLeast t n k rule
-  least_at i h keeps rule is broken = record {
-    broken = broken;
-    least = λ other lower b. keeps_lower i h keeps other (subst (λ x. description_number other < description_number x) is lower) b;
-  }
+-- what a refusal says of the first violation
+pub faults : (t : List Node) (n : ℕ) (e : Refusal) (a : DescriptionRule) (j : ℕ) → IsRefusal e (Description a) j → IsFirstViolation t n j a → Faults t n e
+faults t n e a j is first = answers.faults (λ (rule : DescriptionRule). Description rule) (IsFirstViolation t n) e a j is first
 
-same_number : (a b : DescriptionRule) → description_number a ≡ description_number b → a ≡ b
-same_number a b e = sym (listed a) ∙ ap (λ x. get_or DESCRIPTION_RULES (x - 10) r.RootName) e ∙ listed b
+pub exact_at : (t : List Node) (n : ℕ) (e : Refusal) (a : DescriptionRule) (j : ℕ) → IsRefusal e (Description a) j → IsFirstViolation t n j a
+    → (rule : DescriptionRule) (node : ℕ) → IsFirstViolation t n node rule → Refuses {A = Shape} (Err e) (Description rule) node
+exact_at t n e a j is first rule node other =
+    answers.refuses_first Shape (λ (rule : DescriptionRule). Description rule) description_number (Violates t n) same_number e a j is first rule node other
 
-same_node : (t : List Node) (n j k : ℕ) (a b : DescriptionRule) → IsFirstViolation t n j a → IsFirstViolation t n k b → j ≡ k
-same_node t n j k a b x y = elim (cases_order j k) [
-  | inl e ↦ e
-  | inr (inl lower) ↦ absurd (y.first j a lower x.is.broken)
-  | inr (inr lower) ↦ absurd (x.first k b lower y.is.broken)
-]
+pub none_described : (t : List Node) (n : ℕ) (a : DescriptionRule) (j : ℕ) → IsFirstViolation t n j a → IsSound t n → ⊥
+none_described t n a j first sound = sound a j first.is.broken
 
-same_least : (t : List Node) (n k : ℕ) (a b : DescriptionRule) → IsLeast t n k a → IsLeast t n k b → description_number a ≡ description_number b
-same_least t n k a b x y = elim (cases_order (description_number a) (description_number b)) [
-  | inl e ↦ e
-  | inr (inl lower) ↦ absurd (y.least a lower x.broken)
-  | inr (inr lower) ↦ absurd (x.least b lower y.broken)
-]
-
--- there is one first violation
-pub one_violation : (t : List Node) (n j k : ℕ) (a b : DescriptionRule) → IsFirstViolation t n j a → IsFirstViolation t n k b → (j ≡ k) × (a ≡ b)
-one_violation t n j k a b x y =
-    let e = same_node t n j k a b x y in
-    (e, same_number a b (same_least t n k a b (subst (λ m. IsLeast t n m a) e x.is) y.is))
+pub none_violated : (t : List Node) (n : ℕ) → IsSound t n → (rule : DescriptionRule) (node : ℕ) → IsFirstViolation t n node rule → ⊥
+none_violated t n sound rule node first = sound rule node first.is.broken
 
 -- where the elements keep all rules, and at least the root was tested, the tree is sound
 pub all_sound : (t : List Node) (n end : ℕ) → length t ≤ end → 0 < end → ((k : ℕ) → k < end → BreaksNoRule t n k) → IsSound t n
-all_sound t n end within some below rule k h = elim (cases_lt k end) [
-  | inl lower ↦ below k lower rule h
-  | inr past ↦ breaks_none t k (slice_get_past t k (omega arith)) n (λ e. omega arith) rule h
-]
+all_sound t n end within some below = violations.all_sound description_number (Violates t n) end past below
+  where
+    past : (k : ℕ) → end ≤ k → BreaksNoRule t n k
+    past k behind rule h = breaks_none t k (slice_get_past t k (omega arith)) n (λ e. omega arith) rule h

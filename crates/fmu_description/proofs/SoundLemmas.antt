@@ -10,7 +10,9 @@ use Rattle.clock_fraction.specs.declared.fraction.Fraction.{Fraction}
 use Rattle.doc_grammar.specs.Nodes.{Node}
 use Rattle.doc_tree.specs.declared.rule.DescriptionRule.TheVariants as r
 use Rattle.fmu_description.specs.Texts.{reference, counter, variability, port_type}
-use Rattle.fmu_description.specs.Elements.{name_of, is_named, attribute, is_variable, is_clock, is_co_simulation, reference_of, variable_key, key_if, IsFirstWith, IsCoSimulation}
+use Rattle.doc_tables.specs.Elements.{name_of, is_named, attribute, key_if}
+use Rattle.doc_tables.specs.Tables.{IsFirstWith}
+use Rattle.fmu_description.specs.Elements.{is_variable, is_clock, is_co_simulation, reference_of, variable_key, IsCoSimulation}
 use Rattle.fmu_description.specs.Clocks.{IsForeign, OfItself, IsTimed, variability_of, IsInterval, ByCounters, ByDecimal, IsShift, Counters, NoCounter, Decimal, NoDecimal}
 use Rattle.fmu_description.specs.Places.{FindsCoSimulation}
 use Rattle.fmu_description.specs.Rules.{IsSound}

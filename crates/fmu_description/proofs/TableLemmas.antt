@@ -1,85 +1,9 @@
--- Tables of the first elements, one element after another, and elements past the end, which have no key.
-use Rattle.std.proofs.Common.{◌≡◌, ◌⊎◌, ℕ, ◌+◌, ◌<◌, Bool, true, false, ◌&&◌, ◌||◌, cond, List, length, Option, Some, None, refl, sym, ap, ◌∙◌, subst, inl, inr, arith, below_more}
-use Rattle.std.specs.List.{slice_get}
-use Rattle.std.specs.Map.{update}
-use Rattle.std.specs.Option.{is_some, option_and_then, option_map_or}
-use Rattle.std.specs.Str.{bytes_eq}
-use Rattle.std.proofs.lemmas.Slice.Eq.{bytes_eq-Decides}
-use Rattle.std.proofs.lemmas.Option.{slice_get_within}
+-- Elements past the end, which are of no sort and have no key.
+use Rattle.std.proofs.Common.{◌≡◌, ◌⊎◌, ℕ, ◌<◌, true, List, length, inl, inr}
 use Rattle.doc_grammar.specs.Nodes.{Node}
-use Rattle.fmu_description.specs.Elements.{is_in, is_root, is_variable_list, is_structure, is_variable, is_alias, is_co_simulation, key_if, variable_key, clock_key, output_key, initial_key, name_key}
-use Rattle.fmu_description.specs.Places.{Finds, FindsBelow, IsTable, IsTableBelow}
-
--- ---- one element more
-
-finds_more : {A : Type 0} (key : ℕ → Option A) (n : ℕ) (x : A) (o : Option ℕ) → FindsBelow key n x o → (o ≡ None → key n ≡ Some x → ⊥) → FindsBelow key (n + 1) x o
-finds_more key n x None below here = below_more (λ k. key k ≡ Some x → ⊥) n below (here refl)
-finds_more key n x (Some k) below here = below
-
--- the element has no key
-pub table_past : {A : Type 0} (key : ℕ → Option A) (n : ℕ) (found : A → Option ℕ) → key n ≡ None → IsTableBelow key n found → IsTableBelow key (n + 1) found
-table_past key n found none table = λ x. finds_more key n x (found x) (table x) (λ _ some. cc)
-
--- an element before it has its key
-pub table_held : {A : Type 0} (key : ℕ → Option A) (n : ℕ) (found : A → Option ℕ) (y : A) (k : ℕ) → key n ≡ Some y → found y ≡ Some k → IsTableBelow key n found → IsTableBelow key (n + 1) found
-table_held key n found y k is held table = λ x. finds_more key n x (found x) (table x) (λ nothing some.
-    let same : y ≡ x = cc in
-    let here : found y ≡ None = ap found same ∙ nothing in
-    cc)
-
--- it is the first with its key
-pub table_put : {A : Type 0} (key : ℕ → Option A) (n : ℕ) (old new : A → Option ℕ) (y : A) → key n ≡ Some y → old y ≡ None
-    → ((x : A) → ((x ≡ y) × (new x ≡ Some n)) ⊎ ((x ≡ y → ⊥) × (new x ≡ old x))) → IsTableBelow key n old → IsTableBelow key (n + 1) new
-table_put {A} key n old new y is free each table = λ x. at x (each x)
-  where
-    first : FindsBelow key n y None
-    first = subst (FindsBelow key n y) free (table y)
-
-    at : (x : A) → ((x ≡ y) × (new x ≡ Some n)) ⊎ ((x ≡ y → ⊥) × (new x ≡ old x)) → FindsBelow key (n + 1) x (new x)
-    at x (inl here) =
-        subst (FindsBelow key (n + 1) x) (sym here.1) (is ∙ ap Some (sym here.0), λ k below some. first k below (some ∙ ap Some here.0))
-    at x (inr other) =
-        subst (FindsBelow key (n + 1) x) (sym other.1) (finds_more key n x (old x) (table x) (λ _ some.
-        let same : x ≡ y = cc in
-        other.0 same))
-
--- nothing is found as long as no element is looked at
-pub table_empty : {A : Type 0} (key : ℕ → Option A) (found : A → Option ℕ) → ((x : A) → found x ≡ None) → IsTableBelow key 0 found
-table_empty key found none = λ x. subst (FindsBelow key 0 x) (sym (none x)) (λ k below. absurd (omega (arith, below)))
-
--- ---- all elements
-
--- each element with a key is among so many
-abbrev pub IsWithin : {A : Type 0} → (ℕ → Option A) → ℕ → Type 0
-IsWithin {A} key n = (k : ℕ) (x : A) → key k ≡ Some x → k < n
-
-finds_whole : {A : Type 0} (key : ℕ → Option A) (n : ℕ) (x : A) (o : Option ℕ) → IsWithin key n → FindsBelow key n x o → Finds key x o
-finds_whole key n x None within below = λ held. below held.0 (within held.0 x held.1) held.1
-finds_whole key n x (Some k) within below = below
-
-pub table_whole : {A : Type 0} (key : ℕ → Option A) (n : ℕ) (found : A → Option ℕ) → IsWithin key n → IsTableBelow key n found → IsTable key found
-table_whole key n found within table = λ x. finds_whole key n x (found x) within (table x)
-
--- ---- elements past the end
-
-is_in_within : (sort : List Node → ℕ → Bool) (t : List Node) (k : ℕ) → is_in sort t k ≡ true → k < length t
-is_in_within sort t k h = at (slice_get t k) refl h
-  where
-    at : (o : Option Node) → slice_get t k ≡ o → option_map_or (sort t) (option_and_then (λ (n : Node). n.parent) o) false ≡ true → k < length t
-    at None e f = cc
-    at (Some n) e f = slice_get_within t k n e
-
-and_right : (a b : Bool) → a && b ≡ true → b ≡ true
-and_right true b h = h
-and_right false b h = cc
-
-or_cases : (a b : Bool) → a || b ≡ true → (a ≡ true) ⊎ (b ≡ true)
-or_cases true b h = inl refl
-or_cases false b h = inr h
-
-key_if_true : {A : Type 0} (b : Bool) (o : Option A) (x : A) → key_if b o ≡ Some x → b ≡ true
-key_if_true true o x h = refl
-key_if_true false o x h = cc
+use Rattle.doc_tables.proofs.TableLemmas.{IsWithin, is_in_within, and_right, or_cases, key_if_true}
+use Rattle.fmu_description.specs.Elements.{is_variable_list, is_structure, is_variable, is_alias, is_co_simulation, variable_key, clock_key, output_key, initial_key, name_key}
+use Rattle.doc_tables.specs.Elements.{is_root}
 
 pub is_variable_within : (t : List Node) (k : ℕ) → is_variable t k ≡ true → k < length t
 is_variable_within t k h = is_in_within is_variable_list t k (and_right _ _ h)
@@ -108,17 +32,3 @@ name_key_within t k x h = at (or_cases _ _ (key_if_true _ _ x h))
     at : (is_variable t k ≡ true) ⊎ (is_alias t k ≡ true) → k < length t
     at (inl e) = is_variable_within t k e
     at (inr e) = is_alias_within t k e
-
--- ---- a table by texts
-
-pub name_each : (y : List ℕ) (n : ℕ) (old new : List ℕ → Option ℕ) → ((x : List ℕ) → new x ≡ update bytes_eq old y (Some n) x)
-    → (x : List ℕ) → ((x ≡ y) × (new x ≡ Some n)) ⊎ ((x ≡ y → ⊥) × (new x ≡ old x))
-name_each y n old new each x = at (bytes_eq y x) refl
-  where
-    at : (b : Bool) → bytes_eq y x ≡ b → ((x ≡ y) × (new x ≡ Some n)) ⊎ ((x ≡ y → ⊥) × (new x ≡ old x))
-    at true e = inl (sym ((bytes_eq-Decides y x).0 e), each x ∙ ap (λ z. cond z (Some n) (old x)) e)
-    at false e = inr (λ same. let is : bytes_eq y x ≡ true = (bytes_eq-Decides y x).1 (sym same) in cc, each x ∙ ap (λ z. cond z (Some n) (old x)) e)
-
-pub free_from : {A : Type 0} (o : Option A) (b : Bool) → b ≡ is_some o → b ≡ false → o ≡ None
-free_from None b e f = refl
-free_from (Some x) b e f = cc

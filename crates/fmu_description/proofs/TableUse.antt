@@ -3,7 +3,7 @@ use Rattle.std.proofs.Common.{◌≡◌, ℕ, ◌<◌, Bool, true, false, not, i
 use Rattle.std.proofs.lemmas.Bool.{both_ways}
 use Rattle.std.proofs.lemmas.List.{get_or_read}
 use Rattle.std.proofs.lemmas.List.Elements.{Contains-get_or}
-use Rattle.fmu_description.specs.Places.{Finds, IsTable}
+use Rattle.doc_tables.specs.Tables.{Finds, IsTable}
 use Rattle.fmu_description.specs.Rules.{NamesNone}
 
 pub one_missing : (p : ℕ → Option ℕ) (refs : List ℕ) (i : ℕ) → i < length refs → p (get_or refs i 0) ≡ None

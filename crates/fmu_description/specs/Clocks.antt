@@ -6,7 +6,8 @@ use Rattle.clock_fraction.specs.declared.fraction.Fraction.{Fraction}
 use Rattle.clock_fraction.specs.Decimal.{Denotes}
 use Rattle.doc_grammar.specs.Nodes.{Node}
 use Rattle.fmu_description.specs.Texts.{counter, variability, is_foreign_type}
-use Rattle.fmu_description.specs.Elements.{attribute, parent, name_of, is_variable, is_clock, is_dimension, references_of, causality_of, has_flag, clock_key}
+use Rattle.doc_tables.specs.Elements.{attribute, parent, name_of}
+use Rattle.fmu_description.specs.Elements.{is_variable, is_clock, is_dimension, references_of, causality_of, has_flag, clock_key}
 
 -- ---- foreign variables, which are never set, read, bound or traced (a narrowing of this profile)
 

@@ -14,17 +14,15 @@ use Rattle.clock_fraction.specs.declared.fraction.Fraction.{Fraction}
 use Rattle.doc_grammar.specs.Nodes.{Node}
 use Rattle.doc_tree.specs.Elements.{children_of}
 use Rattle.fmu_description.specs.Texts.{flag_or, references, port_type}
-use Rattle.fmu_description.specs.Elements.{name_of, attribute, is_variable, is_alias, reference_of, causality_of, has_flag, variable_key, output_key, initial_key, IsCoSimulation, IsFirstWith, IsHeld}
+use Rattle.doc_tables.specs.Elements.{name_of, attribute, text_of}
+use Rattle.doc_tables.specs.Tables.{IsFirstWith, IsHeld}
+use Rattle.fmu_description.specs.Elements.{is_variable, is_alias, reference_of, causality_of, has_flag, variable_key, output_key, initial_key, IsCoSimulation}
 use Rattle.fmu_description.specs.Clocks.{IsForeign, IsTimed, variability_of, clocks_of, IsInterval, IsShift}
 use Rattle.fmu_description.specs.Rules.{IsSound}
 
 -- the tree is sound at some resolution, of which only the rule on whole counts speaks
 abbrev pub IsSoundTree : List Node → Type 0
 IsSoundTree t = (per_second : ℕ) × IsSound t per_second
-
--- the text of an attribute, empty where it is absent
-abbrev pub text_of : List Node → ℕ → List ℕ → List ℕ
-text_of t k name = unwrap_or (attribute t k name) []
 
 -- ---- variables (2.4.7)
 

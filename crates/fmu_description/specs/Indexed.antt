@@ -1,7 +1,9 @@
 -- A tree with the tables of what its elements name.
 use Rattle.fmu_description.specs.declared.indexed.IndexedTree.{IndexedTree}
 use Rattle.fmu_description.specs.Elements.{variable_key, clock_key, output_key, initial_key, name_key}
-use Rattle.fmu_description.specs.Places.{IsTable, FindsCoSimulation, MarksForeign, found, found_name, is_foreign}
+use Rattle.doc_tables.specs.Tables.{IsTable}
+use Rattle.doc_tables.specs.Places.{found_name}
+use Rattle.fmu_description.specs.Places.{FindsCoSimulation, MarksForeign, found, is_foreign}
 
 -- the tables are those of the tree
 pub record IsIndexed (d : IndexedTree) : Type 0 where

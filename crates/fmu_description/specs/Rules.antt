@@ -1,5 +1,5 @@
 -- The rules of a model description (FMI 3.0, 2.4; 2.2.8 for clocks), each a statement about one tree and one of its elements.
-use Rattle.std.specs.Prelude.{◌≡◌, ◌≢◌, ◌⊎◌, ℕ, ℤ, ◌<◌, true, false, List, Option, Some, None, is_some, Contains, codes, nat_eq}
+use Rattle.std.specs.Prelude.{◌≡◌, ◌≢◌, ◌⊎◌, ℕ, ℤ, true, false, List, Option, Some, None, is_some, Contains, codes, nat_eq}
 use Rattle.std.specs.List.{starts_with}
 use Rattle.value_types.specs.declared.values.PortType.{PortType}
 use Rattle.value_types.specs.Reading.{Reads}
@@ -14,17 +14,17 @@ use Rattle.doc_tree.specs.Rules.{description_number}
 use Rattle.doc_tree.specs.declared.rule.DescriptionRule.{DescriptionRule}
 use Rattle.doc_tree.specs.declared.rule.DescriptionRule.TheVariants as r
 use Rattle.fmu_description.specs.Texts.{reference, references, counter, variability, port_type}
-use Rattle.fmu_description.specs.Elements.{name_of, is_named, attribute, is_co_simulation, is_variable, is_clock, is_alias, reference_of, references_of, causality_of, flag_of, has_flag, filled, variable_key, clock_key, name_key, IsRepeated, IsHeld, IsCoSimulation, IsUnknown}
+use Rattle.doc_tables.specs.Elements.{name_of, is_named, attribute, Lacks, LacksText, Misreads}
+use Rattle.doc_tables.specs.Tables.{IsRepeated, IsHeld}
+use Rattle.doc_tables.specs.Violations as first
+use Rattle.fmu_description.specs.Elements.{is_co_simulation, is_variable, is_clock, is_alias, reference_of, references_of, causality_of, flag_of, has_flag, variable_key, clock_key, name_key, IsCoSimulation, IsUnknown}
 use Rattle.fmu_description.specs.Clocks.{IsForeign, IsTimed, variability_of, counter_of, clocks_of, is_by_counters, IsInterval, IsShift}
 
 -- ---- what is absent
 
-abbrev pub Lacks : List Node → ℕ → List ℕ → Type 0
-Lacks t k name = attribute t k name ≡ None
-
 -- an empty name counts as absent
 abbrev pub LacksName : List Node → ℕ → Type 0
-LacksName t k = filled (attribute t k (codes "name")) ≡ None
+LacksName t k = LacksText t k (codes "name")
 
 abbrev pub LacksOfRoot : List Node → ℕ → Type 0
 LacksOfRoot t k =
@@ -44,10 +44,6 @@ abbrev pub LacksOfCoSimulation : List Node → ℕ → Type 0
 LacksOfCoSimulation t k = IsCoSimulation t k × Lacks t k (codes "modelIdentifier")
 
 -- ---- what doesn't read
-
--- the attribute is there, and the reading answers nothing
-abbrev pub Misreads : {A : Type 0} → (List ℕ → Option A) → List Node → ℕ → List ℕ → Type 0
-Misreads read t k name = (text : List ℕ) × (attribute t k name ≡ Some text) × (read text ≡ None)
 
 abbrev pub MisreadsFlag : List Node → ℕ → List ℕ → Type 0
 MisreadsFlag t k name = flag_of t k name ≡ None
@@ -214,51 +210,49 @@ abbrev pub HasNoEvents : List Node → ℕ → Type 0
 HasNoEvents t k = IsTimed t k × HasNoEventMode t
 
 -- the element breaks the rule, where a second has so many counts
-abbrev pub Violates : DescriptionRule → List Node → ℕ → ℕ → Type 0
+abbrev pub Violates : List Node → ℕ → DescriptionRule → ℕ → Type 0
 -- 10: the root is no `fmiModelDescription` (2.4.1)
-Violates r.RootName t per_second k = HasOtherName t k
+Violates t per_second r.RootName k = HasOtherName t k
 -- 11: another version than 3.0 (2.4.1)
-Violates r.Version t per_second k = HasOtherVersion t k
+Violates t per_second r.Version k = HasOtherVersion t k
 -- 12: no CoSimulation (4.4; Model Exchange and Scheduled Execution are left out)
-Violates r.NoCoSimulation t per_second k = LacksCoSimulation t k
+Violates t per_second r.NoCoSimulation k = LacksCoSimulation t k
 -- 13: a required attribute is absent (2.4)
-Violates r.Absent t per_second k = LacksSomething t k
+Violates t per_second r.Absent k = LacksSomething t k
 -- 14: an attribute doesn't read as its type (2.4)
-Violates r.Misread t per_second k = MisreadsSomething t k
+Violates t per_second r.Misread k = MisreadsSomething t k
 -- 15: a value reference twice (2.4.7: value references are unique in this profile)
-Violates r.ReferenceTwice t per_second k = IsRepeated (variable_key t) k
+Violates t per_second r.ReferenceTwice k = IsRepeated (variable_key t) k
 -- 16: a name twice, those of aliases included (2.4.7.4)
-Violates r.NameTwice t per_second k = IsRepeated (name_key t) k
+Violates t per_second r.NameTwice k = IsRepeated (name_key t) k
 -- 17: a clock has no interval (2.4.7.5)
-Violates r.NoInterval t per_second k = LacksInterval t k
+Violates t per_second r.NoInterval k = LacksInterval t k
 -- 18: a time-based clock is an input, a triggered one an input or an output (2.2.8)
-Violates r.ClockCausality t per_second k = IsTimed t k × HasWrongCausality t k
+Violates t per_second r.ClockCausality k = IsTimed t k × HasWrongCausality t k
 -- 19: an interval is above 0, and it and its shift are whole counts (a narrowing of this profile)
-Violates r.Uneven t per_second k = IsTimed t k × IsUneven t per_second k
+Violates t per_second r.Uneven k = IsTimed t k × IsUneven t per_second k
 -- 20: what `clocks` names is no Clock (2.4.7.4)
-Violates r.NoClock t per_second k = NamesNoClockAt t k
+Violates t per_second r.NoClock k = NamesNoClockAt t k
 -- 21: what an Output or InitialUnknown names is no variable (2.4.9)
-Violates r.NoVariable t per_second k = NamesNoVariableAt t k
+Violates t per_second r.NoVariable k = NamesNoVariableAt t k
 -- 22: a state is serialized only where it can be saved (2.2.6)
-Violates r.SerializesUnsaved t per_second k = SerializesUnsaved t k
+Violates t per_second r.SerializesUnsaved k = SerializesUnsaved t k
 -- 23: tunable and changing clocks are left out of this profile
-Violates r.LeftOut t per_second k = IsTimed t k × IsLeftOut t k
+Violates t per_second r.LeftOut k = IsTimed t k × IsLeftOut t k
 -- 24: a Clock asks for event mode (2.2.8)
-Violates r.ClockWithoutEvents t per_second k = HasNoEvents t k
+Violates t per_second r.ClockWithoutEvents k = HasNoEvents t k
 
 abbrev pub BreaksNoRule : List Node → ℕ → ℕ → Type 0
-BreaksNoRule t per_second k = (rule : DescriptionRule) → Violates rule t per_second k → ⊥
+BreaksNoRule t per_second k = first.BreaksNoRule (Violates t per_second) k
 
 -- the least number of a rule that the element breaks
-pub record IsLeast (t : List Node) (per_second k : ℕ) (rule : DescriptionRule) : Type 0 where
-  pub broken : Violates rule t per_second k
-  pub least : (other : DescriptionRule) → description_number other < description_number rule → Violates other t per_second k → ⊥
+abbrev pub IsLeast : List Node → ℕ → ℕ → DescriptionRule → Type 0
+IsLeast t per_second k rule = first.IsLeast description_number (Violates t per_second) k rule
 
 -- the first violation: at the first element that breaks a rule, the one of the least number
-pub record IsFirstViolation (t : List Node) (per_second k : ℕ) (rule : DescriptionRule) : Type 0 where
-  pub is : IsLeast t per_second k rule
-  pub first : (j : ℕ) (other : DescriptionRule) → j < k → Violates other t per_second j → ⊥
+abbrev pub IsFirstViolation : List Node → ℕ → ℕ → DescriptionRule → Type 0
+IsFirstViolation t per_second k rule = first.IsFirstViolation description_number (Violates t per_second) k rule
 
 -- no element breaks a rule
 abbrev pub IsSound : List Node → ℕ → Type 0
-IsSound t per_second = (rule : DescriptionRule) (k : ℕ) → Violates rule t per_second k → ⊥
+IsSound t per_second = first.IsSound (Violates t per_second)

@@ -1,25 +1,10 @@
 ghost use Rattle.std.specs.Prelude.{◌≡◌, ◌↔◌, IsTrue};
-ghost use Rattle.fmu_description.specs.Rules.{Lacks, LacksName, LacksOfRoot, LacksOfVariable, LacksOfAlias};
+ghost use Rattle.fmu_description.specs.Rules.{LacksOfRoot, LacksOfVariable, LacksOfAlias};
 
 use crate::clock_rules::is_timed;
-use crate::elements::{attribute, is_alias, is_variable};
+use crate::elements::{is_alias, is_variable};
+use doc_tables::{lacks, lacks_text};
 use doc_tree::Tree;
-
-/// The attribute isn't there.
-pub(crate) fn lacks(tree: &Tree, node: usize, name: &str) -> bool
-    ensures { IsTrue result ↔ Lacks tree.now node name.now }
-{
-    attribute(tree, node, name).is_none()
-}
-
-fn lacks_name(tree: &Tree, node: usize) -> bool
-    ensures { IsTrue result ↔ LacksName tree.now node }
-{
-    match attribute(tree, node, "name") {
-        Some(name) => name.is_empty(),
-        None => true,
-    }
-}
 
 /// The root lacks an attribute.
 pub(crate) fn lacks_of_root(tree: &Tree, node: usize) -> bool
@@ -36,7 +21,7 @@ pub(crate) fn lacks_of_variable(tree: &Tree, node: usize) -> bool
     ensures { IsTrue result ↔ LacksOfVariable tree.now node }
 {
     is_variable(tree, node)
-        && (lacks_name(tree, node)
+        && (lacks_text(tree, node, "name")
             || lacks(tree, node, "valueReference")
             || (is_timed(tree, node) && lacks(tree, node, "intervalVariability")))
 }
@@ -45,5 +30,5 @@ pub(crate) fn lacks_of_variable(tree: &Tree, node: usize) -> bool
 pub(crate) fn lacks_of_alias(tree: &Tree, node: usize) -> bool
     ensures { IsTrue result ↔ LacksOfAlias tree.now node }
 {
-    is_alias(tree, node) && lacks_name(tree, node)
+    is_alias(tree, node) && lacks_text(tree, node, "name")
 }

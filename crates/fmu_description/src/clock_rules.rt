@@ -4,9 +4,10 @@ ghost use Rattle.value_types.specs.declared.shape.IntervalVariability.{IntervalV
 ghost use Rattle.fmu_description.specs.Clocks.{IsTimed};
 ghost use Rattle.fmu_description.specs.Rules.{IsOf, NeedsInterval, HasInterval, IsTimeBased, HasWrongCausality, IsLeftOut, IsWhole, IsUneven, HasUnevenShift, LacksInterval};
 
-use crate::elements::{attribute, causality_of, has_flag, is_clock, variability_of};
+use crate::elements::{causality_of, has_flag, is_clock, variability_of};
 use crate::intervals::{interval, is_by_counters, shift};
 use clock_fraction::{Fraction, to_counts};
+use doc_tables::attribute;
 use doc_tree::Tree;
 use value_types::{Causality, IntervalVariability};
 

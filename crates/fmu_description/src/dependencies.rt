@@ -2,11 +2,14 @@
 ghost use Rattle.std.specs.Prelude.{◌≡◌, ◌↔◌, Some, codes, filter, IfOk, IsTrue};
 ghost use Rattle.std.specs.List.{AllZip};
 ghost use Rattle.fmu_description.specs.Description.{DependsInitiallyOn, DependsOn, IsDependency, IsExact, IsInitialDependency, IsSoundTree, is_port_at, listed, outputs_among};
-ghost use Rattle.fmu_description.specs.Elements.{attribute, initial_key, output_key, references_of, variable_key};
-ghost use Rattle.fmu_description.specs.Places.{IsTable, found};
+ghost use Rattle.doc_tables.specs.Elements.{attribute};
+ghost use Rattle.fmu_description.specs.Elements.{initial_key, output_key, references_of, variable_key};
+ghost use Rattle.doc_tables.specs.Tables.{IsTable};
+ghost use Rattle.fmu_description.specs.Places.{found};
 
-use crate::elements::{attribute, references_of};
+use crate::elements::references_of;
 use crate::places::Places;
+use doc_tables::attribute;
 use doc_tree::Tree;
 use sim_base::Items;
 use std::alloc::{AllocError, Global};

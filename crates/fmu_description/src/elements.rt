@@ -1,59 +1,14 @@
 //! What the elements of a description are, and what they say.
 ghost use Rattle.std.specs.Prelude.{◌≡◌, IfOk, option_copied};
-ghost use Rattle.fmu_description.specs.Elements.{attribute, causality_of, clock_key, filled, flag_of, has_flag, initial_key, is_alias, is_clock, is_co_simulation, is_dimension, is_in, is_initial_unknown, is_named, is_output, is_root, is_structure, is_type, is_variable, is_variable_list, name_key, name_of, output_key, parent, reference_of, references_of, variable_key};
+ghost use Rattle.doc_tables.specs.Elements.{is_in};
+ghost use Rattle.fmu_description.specs.Elements.{causality_of, clock_key, flag_of, has_flag, initial_key, is_alias, is_clock, is_co_simulation, is_dimension, is_initial_unknown, is_output, is_structure, is_type, is_variable, is_variable_list, name_key, output_key, reference_of, references_of, variable_key};
 ghost use Rattle.fmu_description.specs.Clocks.{counter_of, variability_of};
 
 use crate::texts;
+use doc_tables::{attribute, filled, is_in_root, is_named, name, parent};
 use doc_tree::Tree;
 use std::alloc::{AllocError, Global};
 use value_types::{Causality, IntervalVariability};
-
-/// The element's name, empty where there is no such element.
-pub(crate) fn name(tree: &Tree, node: usize) -> &str
-    ensures { result.now ≡ name_of tree.now node }
-{
-    if node < tree.len() {
-        tree.name(node)
-    } else {
-        ""
-    }
-}
-
-/// The value of an attribute.
-pub(crate) fn attribute<'a>(tree: &'a Tree, node: usize, name: &str) -> Option<&'a str>
-    ensures { option_copied result ≡ attribute tree.now node name.now }
-{
-    if node < tree.len() {
-        tree.attribute(node, name)
-    } else {
-        None
-    }
-}
-
-fn parent(tree: &Tree, node: usize) -> Option<usize>
-    ensures { result ≡ parent tree.now node }
-{
-    if node < tree.len() {
-        tree.parent(node)
-    } else {
-        None
-    }
-}
-
-fn is_named(tree: &Tree, node: usize, wanted: &str) -> bool
-    ensures { result ≡ is_named tree.now node wanted.now }
-{
-    name(tree, node) == wanted
-}
-
-fn is_in_root(tree: &Tree, node: usize) -> bool
-    ensures { result ≡ is_in is_root tree.now node }
-{
-    match parent(tree, node) {
-        Some(parent) => parent == 0,
-        None => false,
-    }
-}
 
 fn is_in_variable_list(tree: &Tree, node: usize) -> bool
     ensures { result ≡ is_in is_variable_list tree.now node }
@@ -270,15 +225,5 @@ pub(crate) fn name_key(tree: &Tree, node: usize) -> Option<&str>
         filled(attribute(tree, node, "name"))
     } else {
         None
-    }
-}
-
-// A text that isn't empty.
-fn filled(text: Option<&str>) -> Option<&str>
-    ensures { option_copied result ≡ filled (option_copied text.entry) }
-{
-    match text {
-        Some(text) if !text.is_empty() => Some(text),
-        _ => None,
     }
 }

@@ -1,11 +1,13 @@
 //! Which variables are foreign.
 ghost use Rattle.std.specs.Prelude.{◌≡◌, ◌↔◌, ℕ, ◌<◌, ◌∷◌, [], ◌++◌, if◌then◌else◌, ◌==◌, true, false, Contains, IfOk, IsTrue, OnOk, length, replicate};
-ghost use Rattle.fmu_description.specs.Elements.{causality_of, is_clock, is_dimension, parent};
+ghost use Rattle.doc_tables.specs.Elements.{parent};
+ghost use Rattle.fmu_description.specs.Elements.{causality_of, is_clock, is_dimension};
 ghost use Rattle.fmu_description.specs.Clocks.{IsForeignItself};
 ghost use Rattle.fmu_description.specs.Places.{is_foreign, MarksForeign};
 ghost use Rattle.fmu_description.specs.Marks.{IsSource, ListsFollowers, Marks, PutsUnder, listed_at};
 
 use crate::{elements, texts};
+use doc_tables::name;
 use doc_tree::Tree;
 use std::alloc::{AllocError, Global};
 use std::collections::BTreeMap;
@@ -49,7 +51,7 @@ fn is_foreign_itself(tree: &Tree, node: usize) -> bool
     requires { node < length tree.now }
     ensures { IsTrue result ↔ IsForeignItself tree.now node }
 {
-    texts::is_foreign_type(elements::name(tree, node))
+    texts::is_foreign_type(name(tree, node))
         || is_local_clock(tree, node)
         || has_dimension(tree, node)
         || elements::causality_of(tree, node) == Causality::Other

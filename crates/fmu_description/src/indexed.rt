@@ -1,8 +1,9 @@
 //! A tree with the tables of what its elements name.
 ghost use Rattle.std.specs.Prelude.{◌≡◌, ◌↔◌, IsTrue, IfOk, ℕ, Option};
 ghost use Rattle.fmu_description.specs.Clocks.{IsForeign};
-ghost use Rattle.fmu_description.specs.Elements.{IsCoSimulation, IsFirstInitial, IsFirstOutput, IsRepeated, IsUnknown, name_key, variable_key};
-ghost use Rattle.fmu_description.specs.Places.{IsTable, found};
+ghost use Rattle.doc_tables.specs.Tables.{IsRepeated, IsTable};
+ghost use Rattle.fmu_description.specs.Elements.{IsCoSimulation, IsFirstInitial, IsFirstOutput, IsUnknown, name_key, variable_key};
+ghost use Rattle.fmu_description.specs.Places.{found};
 ghost use Rattle.fmu_description.specs.Indexed.{IsIndexed};
 ghost use Rattle.fmu_description.specs.Rules.{DependsOnNothing, HasNoCoSimulation, HasNoEventMode, NamesNoClock, NamesNone, NamesNoVariable, RefersToNothing};
 
@@ -12,9 +13,10 @@ use crate::elements::{
 };
 use crate::foreign::{Foreign, foreign_variables};
 use crate::places::{
-    NamePlaces, Places, clock_places, co_simulation, initial_places, name_places, output_places,
+    Places, clock_places, co_simulation, initial_places, name_places, output_places,
     variable_places,
 };
+use doc_tables::NamePlaces;
 use doc_tree::Tree;
 use std::alloc::{AllocError, Global};
 

@@ -3,9 +3,10 @@ ghost use Rattle.std.specs.Prelude.{◌≡◌, Some, IfSome};
 ghost use Rattle.clock_fraction.specs.declared.fraction.Fraction.{Fraction};
 ghost use Rattle.fmu_description.specs.Clocks.{IsInterval, IsShift, is_by_counters};
 
-use crate::elements::{attribute, counter_of, has_flag};
+use crate::elements::{counter_of, has_flag};
 use crate::texts;
 use clock_fraction::{Fraction, from_decimal};
+use doc_tables::attribute;
 use doc_tree::Tree;
 
 /// The counters count where fractions are supported and both are given.

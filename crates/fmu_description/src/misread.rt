@@ -2,11 +2,13 @@
 ghost use Rattle.std.specs.Prelude.{◌↔◌, IsTrue, IfOk, codes};
 ghost use Rattle.fmu_description.specs.Clocks.{IsForeign};
 ghost use Rattle.fmu_description.specs.Texts.{counter, reference, references, variability};
-ghost use Rattle.fmu_description.specs.Rules.{HasNoResolution, Misreads, MisreadsCounters, MisreadsDecimal, MisreadsDecimals, MisreadsFlag, MisreadsOfClock, MisreadsStart, MisreadsTicks, MisreadsTime, MisreadsValue};
+ghost use Rattle.doc_tables.specs.Elements.{Misreads};
+ghost use Rattle.fmu_description.specs.Rules.{HasNoResolution, MisreadsCounters, MisreadsDecimal, MisreadsDecimals, MisreadsFlag, MisreadsOfClock, MisreadsStart, MisreadsTicks, MisreadsTime, MisreadsValue};
 
-use crate::elements::{attribute, counter_of, flag_of, is_clock, name};
+use crate::elements::{counter_of, flag_of, is_clock};
 use crate::texts;
 use clock_fraction::from_decimal;
+use doc_tables::{attribute, name};
 use doc_tree::Tree;
 use std::alloc::{AllocError, Global};
 use value_types::read_value;

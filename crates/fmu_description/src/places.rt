@@ -1,9 +1,12 @@
 //! Where the elements with keys stand.
-ghost use Rattle.std.specs.Prelude.{◌≡◌, ◌↔◌, ℕ, ◌+◌, List, Option, IfOk, IsTrue, OnOk, option_copied};
-ghost use Rattle.fmu_description.specs.Elements.{clock_key, initial_key, IsRepeated, name_key, output_key, variable_key};
-ghost use Rattle.fmu_description.specs.Places.{FindsCoSimulation, found, found_name, IsTable, IsTableBelow};
+ghost use Rattle.std.specs.Prelude.{◌≡◌, ◌↔◌, ℕ, ◌+◌, Option, IfOk, IsTrue, OnOk};
+ghost use Rattle.doc_tables.specs.Tables.{IsRepeated, IsTable, IsTableBelow};
+ghost use Rattle.fmu_description.specs.Elements.{clock_key, initial_key, name_key, output_key, variable_key};
+ghost use Rattle.doc_tables.specs.Places.{found_name};
+ghost use Rattle.fmu_description.specs.Places.{FindsCoSimulation, found};
 
 use crate::elements;
+use doc_tables::NamePlaces;
 use doc_tree::Tree;
 use std::alloc::{AllocError, Global};
 use std::collections::BTreeMap;
@@ -51,55 +54,6 @@ impl Places {
             return false;
         };
         match self.find(reference) {
-            Some(first) => first < node,
-            None => false,
-        }
-    }
-}
-
-/// The first element of each name.
-#[derive(Drop)]
-pub(crate) struct NamePlaces<'a> {
-    first: BTreeMap<&'a str, usize>,
-}
-
-impl<'a> NamePlaces<'a> {
-    fn new(alloc: Global) -> NamePlaces<'a>
-        ensures { (name : List ℕ) → found_name result name ≡ None }
-    {
-        NamePlaces {
-            first: BTreeMap::new(alloc),
-        }
-    }
-
-    // Puts in an element, unless one with its name is there.
-    fn put(&mut self, name: Option<&'a str>, node: usize) -> Result<(), AllocError>
-        ensures { OnOk result ((key : ℕ → Option (List ℕ)) → option_copied name.entry ≡ key node → IsTableBelow key node (found_name self.old) → IsTableBelow key (node + 1) (found_name self.new)) }
-    {
-        let Some(name) = name else {
-            return Ok(());
-        };
-        if !self.first.contains_key(name) {
-            self.first.insert(name, node)?;
-        }
-        Ok(())
-    }
-
-    /// The first element with the name.
-    pub(crate) fn find(&self, name: &str) -> Option<usize>
-        ensures { result ≡ found_name self.now name.now }
-    {
-        self.first.get(name).copied()
-    }
-
-    /// Whether an element before this one has its name, where it has one.
-    pub(crate) fn is_repeated(&self, name: Option<&str>, node: usize) -> bool
-        ensures { (key : ℕ → Option (List ℕ)) → IsTable key (found_name self.now) → option_copied name.entry ≡ key node → (IsTrue result ↔ IsRepeated key node) }
-    {
-        let Some(name) = name else {
-            return false;
-        };
-        match self.find(name) {
             Some(first) => first < node,
             None => false,
         }

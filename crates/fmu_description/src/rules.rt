@@ -5,15 +5,16 @@ ghost use Rattle.fmu_description.specs.Indexed.{IsIndexed};
 ghost use Rattle.fmu_description.specs.Rules.{BreaksNoRule, HasNoEvents, HasOtherName, HasOtherVersion, IsFirstViolation, IsLeast, IsSound, IsVersion, LacksCoSimulation, LacksOfCoSimulation, LacksOfUnknown, LacksSomething, MisreadsOfCoSimulation, MisreadsOfUnknown, MisreadsOfVariable, MisreadsSetting, MisreadsSomething, NamesNoClockAt, NamesNoVariableAt, NamesOtherVersion, SerializesUnsaved, Violates};
 ghost use Rattle.doc_tree.specs.declared.rule.DescriptionRule.{DescriptionRule};
 
-use crate::absent::{lacks, lacks_of_alias, lacks_of_root, lacks_of_variable};
+use crate::absent::{lacks_of_alias, lacks_of_root, lacks_of_variable};
 use crate::clock_rules::{
     breaks_causality, breaks_counts, breaks_profile, is_timed, lacks_interval,
 };
-use crate::elements::{attribute, has_flag, is_variable, name};
+use crate::elements::{has_flag, is_variable};
 use crate::indexed::IndexedTree;
 use crate::misread::{
     misreads_flag, misreads_of_clock, misreads_reference, misreads_references, misreads_start,
 };
+use doc_tables::{attribute, lacks, name};
 use doc_tree::{DESCRIPTION_RULES, DescriptionRule, Tree};
 use std::alloc::{AllocError, Global};
 
@@ -171,7 +172,7 @@ impl IndexedTree<'_> {
     /// Whether an element breaks a rule.
     fn breaks(&self, alloc: Global, rule: DescriptionRule, node: usize) -> Result<bool, AllocError>
         requires { IsIndexed self.now }
-        ensures { IfOk result (λ b. IsTrue b ↔ Violates rule self.now.tree.now self.now.resolution node) }
+        ensures { IfOk result (λ b. IsTrue b ↔ Violates self.now.tree.now self.now.resolution rule node) }
     {
         match rule {
             DescriptionRule::RootName => Ok(has_other_name(self.tree, node)),

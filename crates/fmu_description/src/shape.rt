@@ -2,7 +2,8 @@
 ghost use Rattle.std.specs.Prelude.{IfOk};
 ghost use Rattle.fmu_description.specs.Description.{Describes};
 ghost use Rattle.fmu_description.specs.Elements.{initial_key, output_key, variable_key};
-ghost use Rattle.fmu_description.specs.Places.{IsTable, MarksForeign, found, is_foreign};
+ghost use Rattle.doc_tables.specs.Tables.{IsTable};
+ghost use Rattle.fmu_description.specs.Places.{MarksForeign, found, is_foreign};
 ghost use Rattle.fmu_description.specs.Rules.{IsSound};
 
 use crate::dependencies::{dependencies, initial_dependencies};
@@ -10,7 +11,8 @@ use crate::elements::has_flag;
 use crate::foreign::Foreign;
 use crate::places::{Places, co_simulation};
 use crate::timings::timings;
-use crate::variables::{text_of, variables};
+use crate::variables::variables;
+use doc_tables::text_of;
 use doc_tree::Tree;
 use sim_base::Text;
 use std::alloc::{AllocError, Global};

@@ -4,7 +4,8 @@ ghost use Rattle.std.specs.List.{AllZip};
 ghost use Rattle.fmu_description.specs.Clocks.{IsTimed};
 ghost use Rattle.fmu_description.specs.Description.{HasShift, IsShiftTold, IsSoundTree, IsTimedAt, IsTiming, IsTimingOf, IsVariable, clocks_among, variables_in};
 ghost use Rattle.fmu_description.specs.Elements.{variable_key};
-ghost use Rattle.fmu_description.specs.Places.{IsTable, found};
+ghost use Rattle.doc_tables.specs.Tables.{IsTable};
+ghost use Rattle.fmu_description.specs.Places.{found};
 
 use crate::elements::{has_flag, reference_of, variability_of};
 use crate::intervals;

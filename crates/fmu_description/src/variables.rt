@@ -2,16 +2,16 @@
 ghost use Rattle.std.specs.Prelude.{◌≡◌, ◌↔◌, true, codes, IfOk, IsTrue};
 ghost use Rattle.std.specs.List.{AllZip};
 ghost use Rattle.fmu_description.specs.Clocks.{IsForeign};
-ghost use Rattle.fmu_description.specs.Description.{IsSoundTree, IsStart, IsVariable, ReadsStart, aliases_of, is_kept_on, text_of, variables_in};
-ghost use Rattle.fmu_description.specs.Elements.{attribute, is_variable, name_of};
+ghost use Rattle.doc_tables.specs.Elements.{attribute, name_of};
+ghost use Rattle.fmu_description.specs.Description.{IsSoundTree, IsStart, IsVariable, ReadsStart, aliases_of, is_kept_on, variables_in};
+ghost use Rattle.fmu_description.specs.Elements.{is_variable};
 ghost use Rattle.fmu_description.specs.Places.{MarksForeign, is_foreign};
 ghost use Rattle.fmu_description.specs.Texts.{port_type};
 
-use crate::elements::{
-    attribute, causality_of, is_alias, is_variable, name, reference_of, references_of,
-};
+use crate::elements::{causality_of, is_alias, is_variable, reference_of, references_of};
 use crate::foreign::Foreign;
 use crate::texts::{flag_or, port_type};
+use doc_tables::{attribute, name, text_of};
 use doc_tree::Tree;
 use sim_base::{Items, Text};
 use std::alloc::{AllocError, Global};
@@ -61,13 +61,6 @@ fn variable(
         start,
         can_be_set_again: is_kept_on(tree, node, "canHandleMultipleSetPerTimeInstant"),
     })
-}
-
-/// The text of an attribute, empty where it is absent.
-pub(crate) fn text_of<'a>(tree: &'a Tree, node: usize, name: &str) -> &'a str
-    ensures { result.now ≡ text_of tree.now node name.now }
-{
-    attribute(tree, node, name).unwrap_or("")
 }
 
 /// A flag that is set unless the element says otherwise.

@@ -1,5 +1,5 @@
 -- A list of segments whose last one is, or is not, empty.
-use Rattle.std.proofs.Common.{◌≡◌, ◌<◌, ◌+◌, ℕ, zero, suc, List, [], ◌∷◌, ◌++◌, length, get_or, take, map, if◌then◌else◌, ◌==◌, length-take, append_assoc, refl, ◌∙◌, ap, arith}
+use Rattle.std.proofs.Common.{◌≡◌, ◌<◌, ◌+◌, ℕ, zero, suc, List, [], ◌∷◌, ◌++◌, length, get_or, take, map, if◌then◌else◌, ◌==◌, length-take, refl, ◌∙◌, ap, arith}
 use Rattle.std.proofs.lemmas.List.{take_more, map-append, length-map}
 use Rattle.std.proofs.lemmas.Grind.{common_steps}
 use Rattle.std.proofs.lemmas.Bool.Decides.{nat_tests}
@@ -44,14 +44,10 @@ join_with_byte-more c (x ∷ xs) n y count =
     grind (arith, nat_tests, push)
 
 -- the text of the segments up to a place goes on by the segment there
-joined-more : {X : Type 0} (text : X → List ℕ) (c : ℕ) (xs : List X) (i : ℕ) (d : X) → i < length xs → join_with_byte c (map text (take (i + 1) xs)) ≡ join_with_byte c (map text (take i xs)) ++ (if i == 0 then text (get_or xs i d) else c ∷ text (get_or xs i d))
+pub joined-more : {X : Type 0} (text : X → List ℕ) (c : ℕ) (xs : List X) (i : ℕ) (d : X) → i < length xs → join_with_byte c (map text (take (i + 1) xs)) ≡ join_with_byte c (map text (take i xs)) ++ (if i == 0 then text (get_or xs i d) else c ∷ text (get_or xs i d))
 joined-more text c xs i d within =
     let front = map text (take i xs) in
     let next : map text (take (i + 1) xs) ≡ front ++ text (get_or xs i d) ∷ [] =
     ap (map text) (take_more xs i d within) ∙ map-append text (take i xs) (get_or xs i d ∷ []) in
     let count : length front ≡ i = simp (length-map, length-take) (omega arith) in
     ap (join_with_byte c) next ∙ join_with_byte-more c front i (text (get_or xs i d)) count
-
--- so does the path below a base
-pub joined_more : {X : Type 0} (text : X → List ℕ) (base old new : List ℕ) (c : ℕ) (xs : List X) (i : ℕ) (d : X) → i < length xs → old ≡ base ++ c ∷ join_with_byte c (map text (take i xs)) → new ≡ old ++ (if i == 0 then text (get_or xs i d) else c ∷ text (get_or xs i d)) → new ≡ base ++ c ∷ join_with_byte c (map text (take (i + 1) xs))
-joined_more text base old new c xs i d within so_far grows = rw (grows, so_far, append_assoc, joined-more text c xs i d within)

@@ -20,6 +20,10 @@ is_dot segment = bytes_eq segment (46 ∷ [])
 abbrev pub kept_segments : List ℕ → List (List ℕ)
 kept_segments path = filter (λ s. not (is_dot s)) (without_last_empty (segments path))
 
+-- the path without the segments that lead nowhere
+abbrev pub plain_path : List ℕ → List ℕ
+plain_path path = join_with_byte 47 (kept_segments path)
+
 -- a path below a base
 abbrev pub joined_path : List ℕ → List ℕ → List ℕ
-joined_path base path = base ++ 47 ∷ join_with_byte 47 (kept_segments path)
+joined_path base path = base ++ 47 ∷ plain_path path

@@ -1,5 +1,5 @@
 ghost use Rattle.std.specs.Prelude.{◌≡◌, ◌==◌, ◌∷◌, ◌++◌, if◌then◌else◌, IfOk, OnOk, map, string_bytes};
-ghost use Rattle.sim_base.specs.Path.{joined_path, kept_segments, segments, without_last_empty};
+ghost use Rattle.sim_base.specs.Path.{joined_path, kept_segments, plain_path, segments, without_last_empty};
 
 use std::alloc::{AllocError, Global};
 
@@ -8,9 +8,19 @@ use std::alloc::{AllocError, Global};
 pub fn join_path(alloc: Global, base: &str, path: &str) -> Result<String, AllocError>
     ensures { IfOk result (λ p. string_bytes p ≡ joined_path base.now path.now) }
 {
-    let segments = kept_segments(alloc, path)?;
+    let plain = plain_path(alloc, path)?;
     let mut joined = String::from_str(alloc, base)?;
     joined.push_str("/")?;
+    joined.push_str(plain.as_str())?;
+    Ok(joined)
+}
+
+/// A path without the segments that lead nowhere: two paths lead to one place where these are equal.
+pub fn plain_path(alloc: Global, path: &str) -> Result<String, AllocError>
+    ensures { IfOk result (λ p. string_bytes p ≡ plain_path path.now) }
+{
+    let segments = kept_segments(alloc, path)?;
+    let mut joined = String::new(alloc);
     for (place, segment) in segments.iter().enumerate() {
         push_segment(&mut joined, place, segment)?;
     }
@@ -27,7 +37,8 @@ fn push_segment(joined: &mut String, place: usize, segment: &str) -> Result<(), 
     joined.push_str(segment)
 }
 
-fn kept_segments<'a>(alloc: Global, path: &'a str) -> Result<Vec<&'a str>, AllocError>
+/// The segments of a path that say where it leads: all but one last empty one and those that are `.`.
+pub fn kept_segments<'a>(alloc: Global, path: &'a str) -> Result<Vec<&'a str>, AllocError>
     ensures { IfOk result (λ kept. map (λ s. s.now) kept.items ≡ kept_segments path.now) }
 {
     let all = segments(alloc, path)?;

@@ -13,6 +13,7 @@ pub mod Outs
 pub mod Runs
 pub mod Deciding
 pub mod Tracing
+pub mod BuiltIns
 pub mod Rows
 pub mod LoadLemmas
 pub mod ReadLemmas

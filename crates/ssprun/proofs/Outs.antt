@@ -5,12 +5,12 @@ use Rattle.sim_base.specs.Sink.{SinkView, with_piece}
 use Rattle.system_model.specs.declared.plan.Plan.{Plan}
 use Rattle.system_model.specs.declared.system.System.{System}
 use Rattle.system_model.specs.Text.{Instant}
-use Rattle.step_master.specs.declared.run_end.RunEnd.{RunEnd}
-use Rattle.step_master.specs.declared.run_end.RunEnd.TheVariants as E
-use Rattle.step_master.specs.Course.{kind_of_end, trace_pieces}
-use Rattle.step_master.specs.Ends.{EndsBy, PutsWhole}
-use Rattle.step_master.specs.Log.{Sent}
-use Rattle.step_master.specs.Puts.{CutsPiece, with_pieces}
+use Rattle.calling_sequence.specs.declared.run_end.RunEnd.{RunEnd}
+use Rattle.calling_sequence.specs.declared.run_end.RunEnd.TheVariants as E
+use Rattle.calling_sequence.specs.Course.{kind_of_end, trace_pieces}
+use Rattle.calling_sequence.specs.Ends.{EndsBy, PutsWhole}
+use Rattle.slot_calls.specs.Log.{Sent}
+use Rattle.calling_sequence.specs.Puts.{CutsPiece, with_pieces}
 use Rattle.ssprun.specs.Happened.{Scene}
 use Rattle.ssprun.specs.Runs.{Broke, HasRun, Task, Went}
 

@@ -1,5 +1,6 @@
 -- The rows, from what holds of an outcome and what is put for it.
 use Rattle.std.proofs.Common.{◌≡◌, ◌⊎◌, inl, inr, ℕ, ◌<◌, List, Option, Some, None, refl, sym, ap, subst, arith, codes}
+use Rattle.built_in_laws.specs.BuiltInRuns.{BuiltInsBehaveWell}
 use Rattle.ssprun.specs.declared.outcome.Outcome.{Outcome}
 use Rattle.ssprun.specs.declared.outcome.Outcome.TheVariants.{Memory}
 use Rattle.ssprun.specs.declared.outcome.FileFault.TheVariants.{Missing, TooBig, Broken}
@@ -9,10 +10,11 @@ use Rattle.ssprun.specs.Facts as W
 use Rattle.ssprun.specs.Facts.{LineFacts, ShapeFacts, Facts, WithLine, WithoutLine}
 use Rattle.ssprun.specs.Happened.{Happened, Stage}
 use Rattle.ssprun.specs.Message.{Reports, message, status_of}
-use Rattle.ssprun.specs.Rows.{IsNoLine, AnswersOr11, IsStatus, StatusRow, KeepsRows}
+use Rattle.ssprun.specs.Rows.{IsNoLine, AnswersOr11, IsStatus, StatusRow, TraceRow, KeepsRows}
 use Rattle.ssprun.proofs.Exactly.{of_line, answers, memory_or, suits, file_exact, unknown_exact, reading_some, reading_all}
 use Rattle.ssprun.proofs.Deciding.{decides}
 use Rattle.ssprun.proofs.Runs.{idle_or_run, peer_case, out_higher, err_higher}
+use Rattle.ssprun.proofs.BuiltIns.{built_in_exact}
 use Rattle.ssprun.proofs.Tracing.{trace_exact}
 use Rattle.ssprun.proofs.Statuses.{Status, Done, WrongWords, NoFile, BrokenRule, NoPeer, Refusal, WrongReply, FixedSize, Unwritten, NoMemory, number, of_outcome, numbered}
 use Rattle.ssprun.proofs.When.{HasFacts, HasPut, when_is, when_unwritten}
@@ -53,8 +55,14 @@ higher : (o : Outcome) (h : Happened) → HasFacts o h → HasPut o h → (h.old
 higher o h f p (inl more) = out_higher o h p (idle_or_run o h f) more
 higher o h f p (inr more) = err_higher (message o) (status_of o) h p more
 
-pub keeps_rows : (o : Outcome) (h : Happened) → HasFacts o h → HasPut o h → KeepsRows h
-keeps_rows o h f p = record {
+trace_row : (o : Outcome) (h : Happened) → HasFacts o h → HasPut o h → TraceRow h
+trace_row o h f p = record {
+  when = λ line shape is to_find knows calm quiet. trace_exact o line shape h (of_line o h f line is) p knows calm quiet
+      (suits o line h (Taken shape) (of_line o h f line is) to_find);
+}
+
+pub keeps_rows : BuiltInsBehaveWell → (o : Outcome) (h : Happened) → HasFacts o h → HasPut o h → KeepsRows h
+keeps_rows behave o h f p = let trace = trace_row o h f p in record {
   ended = record { when = λ e. when_is Done o h f p (λ ten. omega arith) e };
   words = record {
     when = λ e. when_is WrongWords o h f p (λ ten. omega arith) e;
@@ -92,8 +100,6 @@ keeps_rows o h f p = record {
     all = λ line is. reading_all o line h (of_line o h f line is) p;
   };
   peer = peer_case h o (idle_or_run o h f);
-  trace = record {
-    when = λ line shape is to_find knows calm quiet. trace_exact o line shape h (of_line o h f line is) p knows calm quiet
-        (suits o line h (Taken shape) (of_line o h f line is) to_find);
-  };
+  trace = trace;
+  built_in = built_in_exact behave h trace;
 }

@@ -3,26 +3,28 @@ use Rattle.std.proofs.Common.{◌≡◌, ℕ, ◌-◌, ◌<◌, ◌==◌, Bool, 
 use Rattle.std.specs.Prelude.{if◌then◌else◌, position}
 use Rattle.std.proofs.lemmas.List.{length-map}
 use Rattle.std.proofs.lemmas.Option.{none-some as none_some, same_Some, slice_get_within}
+use Rattle.sim_base.specs.Sink.{SinkView}
 use Rattle.value_types.proofs.IndexLemmas.{placed_within}
 use Rattle.fmi_calls.specs.Next.{fresh}
 use Rattle.fmu_peer.specs.View.{View}
 use Rattle.system_model.specs.declared.plan.Plan.{Plan}
 use Rattle.system_model.specs.declared.system.Component.{Component}
 use Rattle.system_model.specs.declared.system.System.{System}
-use Rattle.step_master.specs.declared.bad_answer.BadAnswer.{BadAnswer}
-use Rattle.step_master.specs.declared.run_end.RunEnd.{RunEnd}
-use Rattle.step_master.specs.declared.run_end.RunEnd.TheVariants as E
-use Rattle.step_master.specs.Course.{first_unfit}
-use Rattle.step_master.specs.Ends.{EndsBy}
+use Rattle.slot_calls.specs.declared.bad_answer.BadAnswer.{BadAnswer}
+use Rattle.calling_sequence.specs.declared.run_end.RunEnd.{RunEnd}
+use Rattle.calling_sequence.specs.declared.run_end.RunEnd.TheVariants as E
+use Rattle.calling_sequence.specs.Course.{first_unfit}
+use Rattle.calling_sequence.specs.Ends.{EndsBy}
 use Rattle.step_master.specs.declared.prepare_end.PrepareFault.{PrepareFault}
 use Rattle.step_master.specs.declared.prepare_end.PrepareFault.TheVariants as F
 use Rattle.step_master.specs.Lived.{Account, Lived, LivesAreOver, Unmade, UnmadeIsClosed}
-use Rattle.step_master.specs.Master.{FailsToPrepare}
+use Rattle.step_master.specs.Master.{FailsToPrepare, Standing}
 use Rattle.step_master.specs.Traced.{ToldRun, ToldTrace, ToldUnmade}
 use Rattle.system_model.specs.Sound.{IsSound}
 use Rattle.step_master.specs.Lives.{AreLives, EndsLives, Life}
-use Rattle.step_master.specs.Log.{Sent}
-use Rattle.step_master.specs.System.{ArePeersOf, IsPlan}
+use Rattle.slot_calls.specs.Log.{Sent}
+use Rattle.calling_sequence.specs.Plans.{IsPlan}
+use Rattle.step_master.specs.System.{ArePeersOf}
 use Rattle.command_line.specs.Line.{IsWithin}
 use Rattle.ssprun.specs.Peers.{AreStarted}
 use Rattle.ssprun.specs.Happened.{Scene}
@@ -84,6 +86,11 @@ unmade_names system olds news bad u =
 
 -- ---- from what the master says
 
+-- the account of a run, by what its master is behind it
+abbrev pub account_of : System → Plan → List View → List View → SinkView → SinkView → Standing → RunEnd → Account
+account_of system plan olds news before after done end =
+    record { system = system; plan = plan; olds = olds; news = news; before = before; after = after; instants = done.instants; end = end }
+
 lives_news : (system : System) (olds news : List View) (log : List Sent) (lives : List Life) → AreLives system olds news log lives → length news ≡ length system.components
 lives_news system olds news log lives are =
     sym (ap (λ (vs : List View). length vs) are.news_are) ∙ length-map lives (λ (l : Life). l.new) ∙ lives_count system olds news log lives are
@@ -101,6 +108,7 @@ goes a task old new can planned plan before after peers lived over run trace = r
   before_is = before;
   after_is = after;
   peers = peers;
+  sound = can.sound;
   lived = lived;
   over = over a.system a.olds a.news (lived.made ++ lived.log) lived.lives lived.are;
   so_far = λ r of is. run a r can.sound can.built of (is ∙ sym plan) lived;
@@ -113,6 +121,7 @@ fails task system bad olds news old new can peers unmade out over told = record 
   olds = olds;
   news = news;
   peers = peers;
+  sound = can.sound;
   unmade = unmade;
   over = over system olds news unmade.log unmade.lives unmade.are;
   well = λ r of well. told system olds news bad r can.sound of well unmade;

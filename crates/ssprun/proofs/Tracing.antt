@@ -1,22 +1,25 @@
 -- The trace, where the file is taken and the identifier is known.
-use Rattle.std.proofs.Common.{◌≡◌, ◌⊎◌, inl, inr, ℕ, true, List, Some, sym, ap, ◌∙◌, subst, arith}
+use Rattle.std.proofs.Common.{◌≡◌, ◌⊎◌, inl, inr, ℕ, true, List, [], ◌∷◌, ◌++◌, Some, map, refl, sym, ap, ◌∙◌, subst, arith}
 use Rattle.std.specs.Prelude.{All}
+use Rattle.std.proofs.lemmas.List.Elements.{All-head, All-tail}
 use Rattle.sim_base.specs.Causes.{Rose}
 use Rattle.sim_base.specs.Sink.{SinkView}
 use Rattle.value_types.specs.declared.shape.Shape.{Shape}
-use Rattle.fmu_peer.specs.View.{View}
+use Rattle.fmu_peer.specs.View.{Fixed, View}
 use Rattle.system_model.specs.declared.plan.Plan.{Plan}
 use Rattle.system_model.specs.declared.plan.EndKind.{EndKind}
 use Rattle.system_model.specs.declared.plan.EndKind.TheVariants as K
 use Rattle.system_model.specs.declared.system.Component.{Component}
 use Rattle.system_model.specs.declared.system.System.{System}
 use Rattle.run_model.specs.Run.{Run}
-use Rattle.step_master.specs.declared.run_end.RunEnd.{RunEnd}
-use Rattle.step_master.specs.declared.run_end.RunEnd.TheVariants as E
-use Rattle.step_master.specs.Course.{IsBoundOf, trace_pieces}
-use Rattle.step_master.specs.Ends.{EndsBy}
+use Rattle.calling_sequence.specs.declared.run_end.RunEnd.{RunEnd}
+use Rattle.calling_sequence.specs.declared.run_end.RunEnd.TheVariants as E
+use Rattle.calling_sequence.specs.Course.{IsBoundOf, trace_pieces}
+use Rattle.calling_sequence.specs.Ends.{EndsBy}
 use Rattle.step_master.specs.Lived.{Account}
-use Rattle.step_master.specs.Puts.{CutsPiece, with_pieces}
+use Rattle.step_master.specs.Lives.{AreLives, IsLife, Life}
+use Rattle.slot_calls.specs.Log.{Sent}
+use Rattle.calling_sequence.specs.Puts.{CutsPiece, with_pieces}
 use Rattle.step_master.specs.Traced.{CutsTrace, PutsTrace, SomeRose, TracesWell}
 use Rattle.command_line.specs.Line.{Line, plan_of}
 use Rattle.ssprun.specs.declared.outcome.Outcome.{Outcome}
@@ -95,12 +98,25 @@ module _ (h : Happened) (line : Line) (system : System) (quiet : Rose h.err.faul
       choose (inl some) = none_rose g.account.olds g.account.news none some
       choose (inr cut) = front g.account g.system_is g.plan_is g.before_is g.after_is cut (status (subst (λ (x : End). Reports (end_message x) (end_status x) h.status h.err h.err_after) named p))
 
+-- a peer keeps what stays through its life
+lives_same : (system : System) (olds news : List View) (log : List Sent) (lives : List Life) → AreLives system olds news log lives → map (λ (v : View). v.fixed) news ≡ map (λ (v : View). v.fixed) olds
+lives_same system olds news log lives are =
+    ap (map (λ (v : View). v.fixed)) (sym are.news_are) ∙ same lives are.each ∙ ap (map (λ (v : View). v.fixed)) are.olds_are
+  where
+    same : (ls : List Life) → All IsLife ls → map (λ (v : View). v.fixed) (map (λ (l : Life). l.new) ls) ≡ map (λ (v : View). v.fixed) (map (λ (l : Life). l.old) ls)
+    same [] each = refl
+    same (l ∷ ls) each =
+        ap (λ (f : Fixed). f ∷ map (λ (v : View). v.fixed) (map (λ (x : Life). x.new) ls)) (All-head IsLife l ls each).fixed
+        ∙ ap (λ (fs : List Fixed). l.old.fixed ∷ fs) (same ls (All-tail IsLife l ls each))
+
 run_traces : (end : RunEnd) (e : End) (line : Line) (system : System) (h : Happened) → IsEndOf (names_of system) end e → HasRun (task_of line) system end h.old.run h.new.run → HasPut (Ran e) h →
     (Rose h.err.faults h.err_after.faults → ⊥) → Traces h line system
 run_traces end e line system h named (Went g) p quiet = record {
   olds = g.account.olds;
   news = g.account.news;
   peers = g.peers;
+  same = lives_same g.account.system g.account.olds g.account.news (g.lived.made ++ g.lived.log) g.lived.lives g.lived.are;
+  sound = g.sound;
   writes = λ r of planned well none. ended h line system quiet r of.system_is planned end e g named p none (g.well r of planned well)
       (subst (λ (x : RunEnd). EndsBy g.account.system g.account.plan g.lived.log g.lived.is x g.account.before g.account.after) g.end_is g.lived.text);
 }
@@ -108,6 +124,8 @@ run_traces end e line system h named (Broke bad is f) p quiet = record {
   olds = f.olds;
   news = f.news;
   peers = f.peers;
+  same = lives_same system f.olds f.news f.unmade.log f.unmade.lives f.unmade.are;
+  sound = f.sound;
   writes = λ r of planned well none. none_rose f.olds f.news none (f.well r of well).1;
 }
 

@@ -10,8 +10,8 @@ use Rattle.fmu_peer.specs.declared.ended.Why.{Why}
 use Rattle.fmu_peer.specs.declared.ended.Why.TheVariants.{Refused, Misreply, Link}
 use Rattle.fmu_peer.specs.Start.{SpawnerView}
 use Rattle.fmu_peer.specs.View.{View}
-use Rattle.step_master.specs.declared.run_end.RunEnd.{RunEnd}
-use Rattle.step_master.specs.declared.run_end.RunEnd.TheVariants as E
+use Rattle.calling_sequence.specs.declared.run_end.RunEnd.{RunEnd}
+use Rattle.calling_sequence.specs.declared.run_end.RunEnd.TheVariants as E
 use Rattle.system_model.specs.declared.system.System.{System}
 use Rattle.command_line.specs.Line.{Line, IsLine}
 use Rattle.ssprun.specs.declared.outcome.Outcome.{Outcome}
@@ -143,49 +143,14 @@ start_when Failed name line shape h is loads f says =
     (line, is, NotStarted shape name loads f (start_rose (task_of line) (system_for shape) name h.old.run h.new.run f) says)
 start_when Unknown name line shape h is loads f says = (line, is, NotKnown shape name loads f says)
 
+-- what holds of this answer holds of the one by which the run was broken off
+breaks_by : (why : Why) (P : Why → Type 0) (line : Line) (h : Happened) → P why → BreaksOffBy h line (λ (w : Why). w ≡ why) → BreaksOffBy h line P
+breaks_by why P line h so b = record { shape = b.shape; loads = b.loads; bad = b.bad; so = subst P (sym b.so) so; name = b.name; named = b.named; says = b.says; run = b.run }
+
 bad_when : (why : Why) (line : Line) (h : Happened) → IsLine h.words line → BreaksOffBy h line (λ (w : Why). w ≡ why) → WhenIs (of_end (O.Bad [] why)) h
-bad_when (Refused call status) line h is b = (
-  line,
-  is,
-  record {
-    shape = b.shape;
-    loads = b.loads;
-    bad = b.bad;
-    so = subst IsRefusedWhy (sym b.so) tt;
-    name = b.name;
-    named = b.named;
-    says = b.says;
-    run = b.run;
-  },
-)
-bad_when (Misreply call reply) line h is b = (
-  line,
-  is,
-  record {
-    shape = b.shape;
-    loads = b.loads;
-    bad = b.bad;
-    so = subst IsMisreplyWhy (sym b.so) tt;
-    name = b.name;
-    named = b.named;
-    says = b.says;
-    run = b.run;
-  },
-)
-bad_when (Link call fault) line h is b = (
-  line,
-  is,
-  NotAnswering (record {
-    shape = b.shape;
-    loads = b.loads;
-    bad = b.bad;
-    so = subst IsLink (sym b.so) tt;
-    name = b.name;
-    named = b.named;
-    says = b.says;
-    run = b.run;
-  }),
-)
+bad_when (Refused call status) line h is b = (line, is, breaks_by (Refused call status) IsRefusedWhy line h tt b)
+bad_when (Misreply call reply) line h is b = (line, is, breaks_by (Misreply call reply) IsMisreplyWhy line h tt b)
+bad_when (Link call fault) line h is b = (line, is, NotAnswering (breaks_by (Link call fault) IsLink line h tt b))
 
 run_when : (end : RunEnd) (e : End) (line : Line) (shape : Shape) (h : Happened) → IsLine h.words line → Loads line shape h.old.folder h.new.folder →
     IsEndOf (names_of (system_for shape)) end e → HasRun (task_of line) (system_for shape) end h.old.run h.new.run → Put h (end_message e) → WhenIs (of_end e) h

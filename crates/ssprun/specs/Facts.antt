@@ -3,7 +3,7 @@ use Rattle.std.specs.Prelude.{◌≡◌, ℕ, ◌≤◌, ◌^◌, List, [], ◌�
 use Rattle.sim_base.specs.Folder.{FolderView}
 use Rattle.value_types.specs.declared.shape.Shape.{Shape}
 use Rattle.system_model.specs.declared.system.System.{System}
-use Rattle.step_master.specs.declared.run_end.RunEnd.{RunEnd}
+use Rattle.calling_sequence.specs.declared.run_end.RunEnd.{RunEnd}
 use Rattle.command_line.specs.Line.{IsLine, Line, directory_of, plan_of}
 use Rattle.system_loading.specs.System.{system_of}
 use Rattle.system_loading.specs.Taken.{TakesAlone}

@@ -13,21 +13,28 @@ use Rattle.fmu_peer.specs.declared.ended.Why.{Why}
 use Rattle.fmu_peer.specs.declared.ended.Why.TheVariants.{Refused, Misreply, Link}
 use Rattle.fmu_peer.specs.Talk as T
 use Rattle.fmu_peer.specs.Answer.{IsLink, IsWhy}
+use Rattle.fmu_peer.specs.Machine.{Machine}
 use Rattle.fmu_peer.specs.View.{Origin, View}
 use Rattle.system_model.specs.declared.plan.EndKind.{EndKind}
 use Rattle.system_model.specs.declared.plan.EndKind.TheVariants.{Stop, Asked, Limit, Fixed, Fault}
 use Rattle.system_model.specs.declared.plan.Plan.{Plan}
+use Rattle.system_model.specs.declared.system.Component.{Component}
 use Rattle.system_model.specs.declared.system.System.{System}
+use Rattle.system_model.specs.Sound.{IsSound}
 use Rattle.system_model.specs.Text.{Instant}
 use Rattle.run_model.specs.Run.{Run}
 use Rattle.run_model.specs.Trace.{IsTrace}
 use Rattle.run_model.specs.Behaved.{WellBehaved}
-use Rattle.step_master.specs.declared.bad_answer.BadAnswer.{BadAnswer}
-use Rattle.step_master.specs.declared.run_end.RunEnd.{RunEnd}
-use Rattle.step_master.specs.declared.run_end.RunEnd.TheVariants as E
-use Rattle.step_master.specs.Course.{IsBoundOf, trace_pieces}
-use Rattle.step_master.specs.Puts.{CutsPiece, with_pieces}
+use Rattle.slot_calls.specs.declared.bad_answer.BadAnswer.{BadAnswer}
+use Rattle.calling_sequence.specs.declared.run_end.RunEnd.{RunEnd}
+use Rattle.calling_sequence.specs.declared.run_end.RunEnd.TheVariants as E
+use Rattle.calling_sequence.specs.Course.{IsBoundOf, trace_pieces}
+use Rattle.calling_sequence.specs.Puts.{CutsPiece, with_pieces}
+use Rattle.step_master.specs.System.{IsUnbound}
 use Rattle.step_master.specs.Traced.{IsRunOf}
+use Rattle.bench_fmus.specs.declared.bench.Bench.{Bench}
+use Rattle.bench_fmus.specs.Spawners.{bench_view}
+use Rattle.built_in_laws.specs.BuiltInRuns.{IsBuiltIn}
 use Rattle.command_line.specs.Line.{IsLine, Line, directory_of, plan_of}
 use Rattle.ssprun.specs.declared.outcome.FileFault.TheVariants.{Unread, Missing, TooBig, Broken}
 use Rattle.ssprun.specs.declared.outcome.StartCause.TheVariants.{Failed, Unknown}
@@ -277,11 +284,13 @@ pub data WritesTrace (h : Happened) (r : Run) : Type 0 where
   Front : (is : List Instant) (kind : EndKind) (point : ℕ) (pieces : List (List ℕ)) (piece : List ℕ) (rest : List (List ℕ)) → IsTrace r is kind point → h.status ≡ 10 →
       trace_pieces r.system r.plan is kind point ≡ pieces ++ piece ∷ rest → CutsPiece (with_pieces h.old.run.out pieces) piece h.new.run.out → WritesTrace h r
 
--- the peers that were started, and the trace where they tell machines that behave well and no call of them failed
+-- the peers that were started, which keep their machines, and the trace where they tell machines that behave well and no call of them failed
 pub record Traces (h : Happened) (line : Line) (system : System) : Type 0 where
   pub olds : List View
   pub news : List View
   pub peers : RunsPeers (task_of line) system olds news h.old.run.spawner h.new.run.spawner
+  pub same : map (λ (v : View). v.fixed) news ≡ map (λ (v : View). v.fixed) olds
+  pub sound : IsSound system
   pub writes : (r : Run) → IsRunOf system olds r → r.plan ≡ plan_of line → WellBehaved r → All (λ (v : View). v.faults ≡ 0) news → WritesTrace h r
 
 -- the trace: where the file is taken, the identifier is known, and no read, start or put on err failed, or for want of memory nothing
@@ -289,6 +298,33 @@ pub record TraceRow (h : Happened) : Type 0 where
   pub when : (line : Line) (shape : Shape) → IsLine h.words line → IsToFind h line (Taken shape) → h.old.run.spawner.knows shape.identifier ≡ true →
       (Rose h.old.run.spawner.faults h.new.run.spawner.faults → ⊥) → (Rose h.err.faults h.err_after.faults → ⊥) →
       ((h.status ≡ 11) × IsIdle h) ⊎ Traces h line (system_for shape)
+
+-- ---- built-in machines
+
+-- the spawner is one of the built-in machines
+pub record IsOverBench (h : Happened) : Type 0 where
+  pub bench : Bench
+  pub told : h.new.run.spawner ≡ bench_view bench
+
+-- each component has a built-in machine
+pub record HasBuiltIns (r : Run) : Type 0 where
+  pub count : length r.machines ≡ length r.system.components
+  pub each : (i : ℕ) (c : Component) (m : Machine) → slice_get r.system.components i ≡ Some c → slice_get r.machines i ≡ Some m → IsBuiltIn c.shape m
+
+-- the trace of the system's built-in machines, in which no parameter is bound
+pub record TracesBuiltIns (h : Happened) (line : Line) (system : System) : Type 0 where
+  pub run : Run
+  pub system_is : run.system ≡ system
+  pub plan_is : run.plan ≡ plan_of line
+  pub unbound : IsUnbound run.bound
+  pub built_in : HasBuiltIns run
+  pub writes : WritesTrace h run
+
+-- the same trace over the spawner of the built-in machines, of which no premise says that they behave well
+pub record BuiltInRow (h : Happened) : Type 0 where
+  pub when : IsOverBench h → (line : Line) (shape : Shape) → IsLine h.words line → IsToFind h line (Taken shape) → h.old.run.spawner.knows shape.identifier ≡ true →
+      (Rose h.old.run.spawner.faults h.new.run.spawner.faults → ⊥) → (Rose h.err.faults h.err_after.faults → ⊥) → All (λ (v : View). v.faults ≡ 0) h.new.run.spawner.retired →
+      ((h.status ≡ 11) × IsIdle h) ⊎ TracesBuiltIns h line (system_for shape)
 
 -- each peer that was started was taken back once: uncalled, or behind a run in which its talk is legal, lean and closed, and puts and ends are those of the run
 pub data PeerRow (h : Happened) : Type 0 where
@@ -313,3 +349,4 @@ pub record KeepsRows (h : Happened) : Type 0 where
   pub reading : ReadingRow h
   pub peer : PeerRow h
   pub trace : TraceRow h
+  pub built_in : BuiltInRow h

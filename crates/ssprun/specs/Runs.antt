@@ -11,9 +11,9 @@ use Rattle.system_model.specs.declared.system.System.{System}
 use Rattle.system_model.specs.Sound.{IsSound}
 use Rattle.run_model.specs.Run.{Run}
 use Rattle.run_model.specs.Behaved.{WellBehaved}
-use Rattle.step_master.specs.declared.bad_answer.BadAnswer.{BadAnswer}
-use Rattle.step_master.specs.declared.run_end.RunEnd.{RunEnd}
-use Rattle.step_master.specs.declared.run_end.RunEnd.TheVariants as E
+use Rattle.slot_calls.specs.declared.bad_answer.BadAnswer.{BadAnswer}
+use Rattle.calling_sequence.specs.declared.run_end.RunEnd.{RunEnd}
+use Rattle.calling_sequence.specs.declared.run_end.RunEnd.TheVariants as E
 use Rattle.step_master.specs.Lived.{Account, Lived, Unmade}
 use Rattle.step_master.specs.Lives.{AreOver}
 use Rattle.step_master.specs.System.{IsBuilt}
@@ -91,6 +91,7 @@ pub record Goes (task : Task) (system : System) (end : RunEnd) (old new : Scene)
   pub before_is : account.before ≡ old.out
   pub after_is : account.after ≡ new.out
   pub peers : RunsPeers task system account.olds account.news old.spawner new.spawner
+  pub sound : IsSound system
   pub lived : Lived account
   pub over : AreOver lived.lives
   pub so_far : (r : Run) → IsRunOf system account.olds r → r.plan ≡ task.plan → PutsRun account r end
@@ -101,6 +102,7 @@ pub record Fails (task : Task) (system : System) (bad : BadAnswer) (old new : Sc
   pub olds : List View
   pub news : List View
   pub peers : RunsPeers task system olds news old.spawner new.spawner
+  pub sound : IsSound system
   pub unmade : Unmade system olds bad news
   pub over : AreOver unmade.lives
   pub well : (r : Run) → IsRunOf system olds r → WellBehaved r → IsLink bad.why × SomeRose olds news

@@ -9,6 +9,7 @@ ghost use Rattle.ssprun.specs.Rows.{KeepsRows};
 
 use crate::report::Report;
 use crate::run::run_words;
+use built_in_laws::built_in_runs;
 use fmu_peer::Spawner;
 use sim_base::{Folder, Sink};
 use std::alloc::{AllocError, Global};
@@ -36,6 +37,7 @@ pub(crate) fn run_args<R: Threads + Sync, F: Folder, S: Spawner, O: Sink, E: Sin
     ensures ungiven { IfErr args (λ error. let outcome = ungiven_outcome (error_kind error) in
         Reports (message outcome) (status_of outcome) result (E.view err.old) (E.view err.new)) }
 {
+    built_in_runs();
     match args {
         Ok(given) => match words_behind(alloc, given) {
             Ok(words) => run_words(rt, alloc, &words, folder, spawner, out, err),

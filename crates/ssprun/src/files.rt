@@ -1,17 +1,45 @@
-ghost use Rattle.std.specs.Prelude.{◌≡◌, ◌+◌, ◌-◌, ◌^◌, ◌<◌, ◌≤◌, ◌++◌, [], ◌∷◌, min, length, List, ℕ, Option, None, Ok, Err, IfOk, IfErr, IfSome, option_map};
+ghost use Rattle.std.specs.Prelude.{◌≡◌, ◌+◌, ◌-◌, ◌^◌, ◌<◌, ◌≤◌, ◌++◌, [], ◌∷◌, min, length, List, ℕ, Option, None, Ok, Err, IfOk, IfErr, IsOkAnd, option_map};
+ghost use Rattle.std.specs.Io.Take.{take_inner};
 ghost use Rattle.std.specs.IoError.{error_kind};
 ghost use Rattle.sim_base.specs.Folder.{KeepsLimit, NotesRead, folder_view};
-ghost use Rattle.ssprun.specs.Reading.{Opens, ReadsWithin, unopened, unread};
+ghost use Rattle.ssprun.specs.Reading.{Opens, ReadsUpTo, ReadsWithin, unopened, unread};
 
 use sim_base::{Folder, ReadBook, ReadFault};
 use std::alloc::Global;
 use std::fs;
-use std::io::{self, ErrorKind, Read};
+use std::io::{self, ErrorKind, Read, Take};
 use std::rt::Files;
+
+/// A file that was opened.
+pub(crate) trait Source {
+    ghost use Rattle.ssprun.specs.Reading.{SourceView};
+
+    /// What it tells: the bytes that are left, and the kinds of the errors that it answered.
+    ghost view: { Self → SourceView };
+
+    /// Puts what is left behind the bytes, up to a limit.
+    fn read_up_to(&mut self, limit: u64, bytes: &mut Vec<u8>) -> io::Result<usize>
+        ensures { ReadsUpTo (view self.old) (view self.new) limit bytes.old.items bytes.new.items result };
+}
+
+/// A reader as a source. It tells the bytes that the reader tells, and no errors.
+#[derive(Drop)]
+pub(crate) struct ReaderSource<R> {
+    reader: Take<R>,
+}
+
+impl<R: Read> Source for ReaderSource<R> {
+    ghost view = { λ s. record { left = R.remaining (take_inner s.reader); errors = None } };
+
+    fn read_up_to(&mut self, limit: u64, bytes: &mut Vec<u8>) -> io::Result<usize> {
+        self.reader.set_limit(limit);
+        self.reader.read_to_end(bytes)
+    }
+}
 
 /// What opens files to read.
 pub(crate) trait OpenFiles {
-    type File: Read + Drop;
+    type File: Source + Drop;
 
     /// The paths that it was asked to open, in order, where it tells them.
     ghost opened: { Self → Option (List (List ℕ)) };
@@ -35,12 +63,13 @@ impl<'a, R: Files> HostFiles<'a, R> {
 }
 
 impl<'a, R: Files> OpenFiles for HostFiles<'a, R> {
-    type File = R::File;
+    type File = ReaderSource<R::File>;
 
     ghost opened = { λ f. None };
 
-    fn open(&mut self, path: &str) -> io::Result<R::File> {
-        fs::open(self.runtime, path)
+    fn open(&mut self, path: &str) -> io::Result<ReaderSource<R::File>> {
+        let reader = fs::open(self.runtime, path)?.take(0);
+        Ok(ReaderSource { reader })
     }
 }
 
@@ -77,7 +106,8 @@ impl<H: OpenFiles> Folder for OpenedFolder<H> {
         let Ok(asked) = self.book.ask(alloc, path) else {
             return Err(ReadFault::Memory);
         };
-        let result = read_opened(self.host.open(path), alloc, limit);
+        let mut opened = self.host.open(path);
+        let result = read_opened(&mut opened, alloc, limit);
         if let Err(ReadFault::Failed) = result {
             self.book.fail(asked);
         }
@@ -85,29 +115,29 @@ impl<H: OpenFiles> Folder for OpenedFolder<H> {
     }
 }
 
-/// The answer to the opening of a file.
-pub(crate) fn read_opened<R: Read + Drop>(
-    opened: io::Result<R>,
+/// The answer to the opening of a file, by its error or by what was read of it.
+pub(crate) fn read_opened<S: Source>(
+    opened: &mut io::Result<S>,
     alloc: Global,
     limit: u64,
 ) -> Result<Vec<u8>, ReadFault>
-    ensures ok { IfOk opened (λ reader. IfSome (R.remaining reader) (λ left. ReadsWithin left limit result)) }
-    ensures err { IfErr opened (λ error. result ≡ Err (unopened (error_kind error))) }
+    ensures ok { IfOk opened.old (λ old. IsOkAnd opened.new (λ new. ReadsWithin (S.view old) (S.view new) limit result)) }
+    ensures err { IfErr opened.old (λ error. result ≡ Err (unopened (error_kind error))) }
     ensures bound { KeepsLimit limit result }
 {
     match opened {
         Ok(file) => read_within(file, alloc, limit),
-        Err(error) => Err(unopened(&error)),
+        Err(error) => Err(unopened(error)),
     }
 }
 
-// All that a reader has left, where it is no more than the limit. It reads one byte more and no further.
-fn read_within<R: Read + Drop>(reader: R, alloc: Global, limit: u64) -> Result<Vec<u8>, ReadFault>
-    ensures told { IfSome (R.remaining reader) (λ left. ReadsWithin left limit result) }
+// All that a file has left, where it is no more than the limit. It reads one byte more and no further.
+fn read_within<S: Source>(source: &mut S, alloc: Global, limit: u64) -> Result<Vec<u8>, ReadFault>
+    ensures told { ReadsWithin (S.view source.old) (S.view source.new) limit result }
     ensures bound { KeepsLimit limit result }
 {
     let mut bytes = Vec::new(alloc);
-    match reader.take(limit.saturating_add(1)).read_to_end(&mut bytes) {
+    match source.read_up_to(limit.saturating_add(1), &mut bytes) {
         Ok(_) => within(bytes, limit),
         Err(error) => Err(unread(&error)),
     }

@@ -16,6 +16,7 @@ use crate::naming::Naming;
 use crate::outcome::StartCause;
 use crate::peers::{Unstarted, retire_each, start_each};
 use crate::report::Report;
+use built_in_laws::built_in_runs;
 use command_line::{CommandLine, Options, WordsFault, read_words};
 use fmu_peer::{Spawner, StartFault};
 use run_model::one_trace;
@@ -47,6 +48,7 @@ pub fn run_words<R: Threads + Sync, F: Folder, S: Spawner, O: Sink, E: Sink>(
     ensures one { OneTrace }
 {
     one_trace();
+    built_in_runs();
     run(rt, alloc, words, folder, spawner, out).put(err)
 }
 

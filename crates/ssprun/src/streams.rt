@@ -1,6 +1,6 @@
 ghost use Rattle.std.specs.Prelude.{◌≡◌, ◌+◌, ◌^◌, ◌≤◌, length, take, None, IfOk, OnErr, is_some, refl};
 ghost use Rattle.sim_base.specs.Sink.{NotesPut};
-ghost use Rattle.ssprun.specs.Streams.{Flushes, StopsAtError, TakesBytes, Writes, WritesSome};
+ghost use Rattle.ssprun.specs.Streams.{Flushes, TakesBytes, Writes, WritesSome};
 
 use sim_base::{Sink, SinkFault};
 use std::io::{self, ErrorKind, Stderr, Stdout, Write};
@@ -9,7 +9,7 @@ use std::io::{self, ErrorKind, Stderr, Stdout, Write};
 pub(crate) trait Stream {
     ghost use Rattle.ssprun.specs.Streams.{StreamView};
 
-    /// What it tells: its bytes, and how many of its calls went wrong.
+    /// What it tells: its bytes, how many of its calls went wrong, and how many a signal broke off.
     ghost view: { Self → StreamView };
 
     /// Writes a front of the bytes, and answers its length.
@@ -41,7 +41,7 @@ pub(crate) struct WriterStream<W> {
 }
 
 impl<W: SteadyWrite> Stream for WriterStream<W> {
-    ghost view = { λ s. record { content = W.contents s.writer; errors = None } };
+    ghost view = { λ s. record { content = W.contents s.writer; errors = None; signals = None } };
 
     fn write(&mut self, bytes: &[u8]) -> io::Result<usize> {
         self.writer.write(bytes)
@@ -78,7 +78,9 @@ impl<W: Stream> Sink for StreamSink<W> {
         ensures noted { NotesPut
             (record { content = (W.view self.old.stream).content; puts = None; faults = self.old.faults })
             (record { content = (W.view self.new.stream).content; puts = None; faults = self.new.faults }) bytes.now result }
-        ensures stops { StopsAtError (W.view self.old.stream) (W.view self.new.stream) result }
+
+        // It fails only where a call of the stream went wrong, and stops there, or behind 2^63 signals.
+        ensures takes { TakesBytes (W.view self.old.stream) (W.view self.new.stream) bytes.now result }
     {
         match write_through(&mut self.stream, bytes) {
             Ok(()) => Ok(()),

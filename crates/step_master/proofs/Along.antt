@@ -14,17 +14,17 @@ use Rattle.system_model.specs.declared.plan.Plan.{Plan}
 use Rattle.system_model.specs.declared.system.System.{System}
 use Rattle.system_model.specs.Sound.{IsSound}
 use Rattle.system_model.specs.Text.{Instant}
-use Rattle.step_master.specs.declared.bad_answer.BadAnswer.{BadAnswer}
-use Rattle.step_master.specs.declared.run_end.RunEnd.{RunEnd}
-use Rattle.step_master.specs.declared.run_end.RunEnd.TheVariants as E
-use Rattle.step_master.specs.Carried.{gets}
-use Rattle.step_master.specs.Course.{AtStart, ByStep, Came, Finishes, Interrupted, Seen, entering, initializing, leaving, making, stepping}
+use Rattle.slot_calls.specs.declared.bad_answer.BadAnswer.{BadAnswer}
+use Rattle.calling_sequence.specs.declared.run_end.RunEnd.{RunEnd}
+use Rattle.calling_sequence.specs.declared.run_end.RunEnd.TheVariants as E
+use Rattle.slot_calls.specs.Carried.{gets}
+use Rattle.step_master.specs.Master.{making}
+use Rattle.calling_sequence.specs.Course.{AtStart, ByStep, Came, Finishes, Interrupted, Seen, entering, initializing, leaving, stepping}
 use Rattle.step_master.specs.Lives.{calls_in}
-use Rattle.step_master.specs.Log.{Asking, Sent, askings, part}
-use Rattle.step_master.specs.Stage.{StopsAt}
-use Rattle.step_master.specs.System.{shapes_of}
+use Rattle.slot_calls.specs.Log.{Asking, Sent, askings, part}
+use Rattle.slot_calls.specs.Stage.{StopsAt, shapes_of}
 use Rattle.step_master.proofs.Calls.{Asks, entering_runs, gets_run, leaving_runs, making_runs, own, own_all, own_append, own_calls, own_each, stepping_runs}
-use Rattle.step_master.proofs.Logs.{askings_append}
+use Rattle.slot_calls.proofs.Logs.{askings_append}
 use Rattle.step_master.proofs.Needing.{gets_new, none_twice_front, none_twice_on, seen_append, seen_behind, step_new, steps_fall}
 
 -- the call that last moved an instance on, before a point

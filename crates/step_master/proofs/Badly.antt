@@ -15,16 +15,15 @@ use Rattle.system_model.specs.declared.system.System.{System}
 use Rattle.system_model.specs.Sound.{IsSound}
 use Rattle.system_model.specs.Text.{Instant}
 use Rattle.system_model.proofs.SoundLemmas.{place_of}
-use Rattle.step_master.specs.declared.bad_answer.BadAnswer.{BadAnswer}
-use Rattle.step_master.specs.declared.run_end.RunEnd.{RunEnd}
-use Rattle.step_master.specs.declared.run_end.RunEnd.TheVariants as E
-use Rattle.step_master.specs.Carried.{gets, get_of}
-use Rattle.step_master.specs.Course.{AtStart, ByStep, Came, Finishes, Interrupted, Seen, entering, initializing, leaving}
-use Rattle.step_master.specs.Log.{Asking, Sent, asking_of, askings, part}
-use Rattle.step_master.specs.Stage.{FailsIn, IsFirst, IsGoodOf, StopsAt, to_each, to_each_from}
-use Rattle.step_master.specs.System.{shapes_of}
-use Rattle.step_master.proofs.Chains.{first_same, none_before, other, part_all, rest_same, same, skips, takes}
-use Rattle.step_master.proofs.Logs.{part_append}
+use Rattle.slot_calls.specs.declared.bad_answer.BadAnswer.{BadAnswer}
+use Rattle.calling_sequence.specs.declared.run_end.RunEnd.{RunEnd}
+use Rattle.calling_sequence.specs.declared.run_end.RunEnd.TheVariants as E
+use Rattle.slot_calls.specs.Carried.{gets, get_of}
+use Rattle.calling_sequence.specs.Course.{AtStart, ByStep, Came, Finishes, Interrupted, Seen, entering, initializing, leaving}
+use Rattle.slot_calls.specs.Log.{Asking, Sent, asking_of, askings, part}
+use Rattle.slot_calls.specs.Stage.{FailsIn, IsFirst, IsGoodOf, StopsAt, shapes_of, to_each, to_each_from}
+use Rattle.calling_sequence.proofs.Chains.{first_same, none_before, other, part_all, rest_same, same, skips, takes}
+use Rattle.slot_calls.proofs.Logs.{part_append}
 use Rattle.step_master.proofs.Prepared.{get_here, got, is_within}
 
 -- the first bad answer of a log: behind it the instances up to that have no exchange

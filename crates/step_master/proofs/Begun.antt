@@ -9,13 +9,15 @@ use Rattle.fmu_peer.specs.Mode.{instantiate_of}
 use Rattle.system_model.specs.Sound.{IsSound}
 use Rattle.run_model.specs.Run.{Run, Situation, each}
 use Rattle.run_model.specs.Initial as I
-use Rattle.step_master.specs.Course.{entering, initializing, leaving, making}
-use Rattle.step_master.specs.Log.{Asking, Sent, asking_of, askings}
-use Rattle.step_master.specs.Stage.{IsAnswered, IsGoodOf}
-use Rattle.step_master.specs.System.{IsBuilt, IsUnbound, shapes_of}
-use Rattle.step_master.proofs.Answered.{answered_none}
-use Rattle.step_master.proofs.Chains.{first_same, rest_same}
-use Rattle.step_master.proofs.Looking.{AreReplies, replies_first, replies_then, stage_states, states_by, states_on}
+use Rattle.step_master.specs.Master.{making}
+use Rattle.calling_sequence.specs.Course.{entering, initializing, leaving}
+use Rattle.slot_calls.specs.Log.{Asking, Sent, asking_of, askings}
+use Rattle.slot_calls.specs.Stage.{IsAnswered, IsGoodOf, shapes_of}
+use Rattle.step_master.specs.System.{IsBuilt, IsUnbound}
+use Rattle.slot_calls.proofs.Answered.{answered_none}
+use Rattle.calling_sequence.proofs.Chains.{first_same, rest_same}
+use Rattle.slot_calls.specs.Replies.{AreReplies, states_by}
+use Rattle.step_master.proofs.Looking.{replies_first, replies_then, stage_states, states_on}
 use Rattle.step_master.proofs.Quiet.{AreNever, beginning_never, beginning_states, made_all, nones}
 use Rattle.step_master.proofs.SideBySide.{AreAll, all_on}
 

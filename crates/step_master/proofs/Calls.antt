@@ -10,13 +10,13 @@ use Rattle.fmu_peer.specs.Mode.{instantiate_of}
 use Rattle.system_model.specs.declared.plan.Plan.{Plan}
 use Rattle.system_model.specs.declared.system.Port.{Port}
 use Rattle.system_model.specs.declared.system.System.{System}
-use Rattle.step_master.specs.Carried.{gets, get_of}
-use Rattle.step_master.specs.Course.{making, stepping}
+use Rattle.slot_calls.specs.Carried.{gets, get_of}
+use Rattle.step_master.specs.Master.{making}
+use Rattle.calling_sequence.specs.Course.{stepping}
 use Rattle.step_master.specs.Lives.{calls_in}
-use Rattle.step_master.specs.Log.{Asking, Sent, askings, part}
-use Rattle.step_master.specs.Stage.{to_each, to_each_from}
-use Rattle.step_master.specs.System.{shapes_of}
-use Rattle.step_master.proofs.Chains.{other, same}
+use Rattle.slot_calls.specs.Log.{Asking, Sent, askings, part}
+use Rattle.slot_calls.specs.Stage.{shapes_of, to_each, to_each_from}
+use Rattle.calling_sequence.proofs.Chains.{other, same}
 
 -- the calls of one of them
 abbrev pub own : ℕ → List Asking → List Call

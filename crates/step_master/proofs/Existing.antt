@@ -15,8 +15,9 @@ use Rattle.run_model.specs.Run.{Run, Situation}
 use Rattle.run_model.specs.Stepping.{AtStop, ByStep, Departs, Ends, GoesOn, IsStep, WhereAsked, WhereFixed, asks_to_end, step_to}
 use Rattle.run_model.specs.Steps.{AskedFirst, AtTick, IsBound, IsMark, OnGrid, OnStop, SomeTicksAt}
 use Rattle.run_model.specs.Trace.{Continues, Further, Last, instant_of}
-use Rattle.step_master.specs.Course.{IsBoundOf, first_unfit}
-use Rattle.step_master.specs.System.{IsBuilt, IsPlan}
+use Rattle.calling_sequence.specs.Course.{IsBoundOf, first_unfit}
+use Rattle.calling_sequence.specs.Plans.{IsPlan}
+use Rattle.step_master.specs.System.{IsBuilt}
 use Rattle.step_master.specs.Traced.{AtFirst, CameTo, Onward}
 use Rattle.step_master.proofs.Begun.{IsHere}
 use Rattle.step_master.proofs.Onward.{before_here, bound_here, departing_here, done_here, following_here, kept_to, lacks_here, leads_here, may_here, next_here, next_is, solves_here, step_well, values_here}

@@ -11,15 +11,16 @@ use Rattle.run_model.specs.Initial as I
 use Rattle.run_model.specs.Stepping as P
 use Rattle.run_model.specs.Stepping.{Departs, Ends, GoesOn}
 use Rattle.run_model.specs.Trace.{Continues, Further, IsTrace, Last, Runs, instant_of}
-use Rattle.step_master.specs.Carried.{any_asks_to_end, gets, values_of}
-use Rattle.step_master.specs.Course as Co
-use Rattle.step_master.specs.Course.{AtStart, ByStep, Came, Seen, read_at, stepping}
-use Rattle.step_master.specs.Log.{Sent}
-use Rattle.step_master.specs.Stage.{IsAnswered, IsGoodOf}
-use Rattle.step_master.specs.System.{IsBuilt, IsUnbound, shapes_of}
+use Rattle.slot_calls.specs.Carried.{any_asks_to_end, gets, values_of}
+use Rattle.calling_sequence.specs.Course as Co
+use Rattle.calling_sequence.specs.Course.{AtStart, ByStep, Came, Seen, read_at, stepping}
+use Rattle.slot_calls.specs.Log.{Sent}
+use Rattle.slot_calls.specs.Stage.{IsAnswered, IsGoodOf, shapes_of}
+use Rattle.step_master.specs.System.{IsBuilt, IsUnbound}
 use Rattle.step_master.specs.Traced.{CameTo, AtFirst, IsFront, Onward, Behind}
 use Rattle.step_master.proofs.Begun.{IsHere, begins_here}
-use Rattle.step_master.proofs.Looking.{AreReplies, replies_first, replies_then, states_by, states_on}
+use Rattle.slot_calls.specs.Replies.{AreReplies, states_by}
+use Rattle.step_master.proofs.Looking.{replies_first, replies_then, states_on}
 use Rattle.step_master.proofs.Onward.{asks_here, done_here, goes_here, kept_to, leads_here, next_here, reads_are, reads_leave, solves_here, step_here}
 use Rattle.step_master.proofs.Quiet.{nones, outputs, solves_initially}
 

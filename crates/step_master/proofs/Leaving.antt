@@ -25,8 +25,8 @@ use Rattle.fmu_peer.specs.CloseAll.{Instance, IsLeft}
 use Rattle.fmu_peer.specs.Talk.{IsGood, phase_from}
 use Rattle.fmu_peer.specs.View.{View, Fixed}
 use Rattle.step_master.specs.Lives.{calls_in}
-use Rattle.step_master.specs.Log.{Has, Talks}
-use Rattle.step_master.proofs.Logs.{talks_fixed}
+use Rattle.slot_calls.specs.Log.{Has, Talks}
+use Rattle.slot_calls.proofs.Logs.{talks_fixed}
 use Rattle.step_master.proofs.Talking.{talks_phase}
 
 -- ---- an instance that can be closed stays one

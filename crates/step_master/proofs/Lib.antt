@@ -1,12 +1,3 @@
-pub mod Logs
-pub mod Answered
-pub mod Turns
-pub mod Moving
-pub mod Phases
-pub mod Chains
-pub mod Sizes
-pub mod Courses
-pub mod Endings
 pub mod SeatLemmas
 pub mod Prepared
 pub mod Talking

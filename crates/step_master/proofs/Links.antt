@@ -19,14 +19,15 @@ use Rattle.system_model.specs.Sound.{IsSound}
 use Rattle.run_model.specs.Behaved.{AnswersWell, IsAnsweredWell}
 use Rattle.run_model.specs.Run.{IsFmu, Run}
 use Rattle.run_model.proofs.States.{fmu_before}
-use Rattle.step_master.specs.declared.bad_answer.BadAnswer.{BadAnswer}
-use Rattle.step_master.specs.Carried.{get_of, gets}
-use Rattle.step_master.specs.Lives.{RepliesBy, is_unanswered}
-use Rattle.step_master.specs.Log.{Asking, Sent, asking_of, askings, part}
-use Rattle.step_master.specs.Stage.{FailsIn, IsGoodOf, StopsAt, to_each, to_each_from}
-use Rattle.step_master.specs.System.{shapes_of}
-use Rattle.step_master.proofs.Chains.{IsGet, first_same, other, part_all, rest_same, same, skips, takes}
-use Rattle.step_master.proofs.Looking.{AreReplies, gets_stay, only_link, replies_then, shape_at, state_by, states_by}
+use Rattle.slot_calls.specs.declared.bad_answer.BadAnswer.{BadAnswer}
+use Rattle.slot_calls.specs.Carried.{get_of, gets}
+use Rattle.slot_calls.specs.Replies.{RepliesBy}
+use Rattle.step_master.specs.Lives.{is_unanswered}
+use Rattle.slot_calls.specs.Log.{Asking, Sent, asking_of, askings, part}
+use Rattle.slot_calls.specs.Stage.{FailsIn, IsGoodOf, StopsAt, shapes_of, to_each, to_each_from}
+use Rattle.calling_sequence.proofs.Chains.{IsGet, first_same, other, part_all, rest_same, same, skips, takes}
+use Rattle.slot_calls.specs.Replies.{AreReplies, state_by, states_by}
+use Rattle.step_master.proofs.Looking.{gets_stay, only_link, replies_then, shape_at}
 use Rattle.step_master.proofs.SideBySide.{AreAll, all_on, fmu_at}
 
 -- ---- the turn of a call

@@ -19,12 +19,13 @@ use Rattle.fmu_peer.specs.View.{Fixed, View}
 use Rattle.fmu_peer.proofs.OrderLemmas.{same_number, spared_from, spares_later}
 use Rattle.system_model.specs.declared.system.Component.{Component}
 use Rattle.step_master.specs.Lives.{IsLife, Life, any_fatal_closing, any_fatal_run, calls_in, member_in, shape_in, talk_in}
-use Rattle.step_master.specs.Log.{Has, Sent, Talks, part}
+use Rattle.slot_calls.specs.Log.{Has, Sent, Talks, part}
 use Rattle.step_master.specs.Seats.{seat}
 use Rattle.step_master.specs.System.{IsNew}
 use Rattle.step_master.proofs.Leaving.{leaves_one}
-use Rattle.step_master.proofs.Logs.{talks_fixed, talks_on}
-use Rattle.step_master.proofs.Talking.{counts_of, replies_of, talk_is, talks_legal, talks_phase, turn_all, turn_talks}
+use Rattle.slot_calls.proofs.Logs.{talks_fixed, talks_on}
+use Rattle.slot_calls.proofs.Replying.{replies_of}
+use Rattle.step_master.proofs.Talking.{counts_of, talk_is, talks_legal, talks_phase, turn_all, turn_talks}
 
 -- ---- lists side by side
 

@@ -1,5 +1,5 @@
 -- Logs of told machines: each reply is the machine's, in the state behind the exchanges before it.
-use Rattle.std.proofs.Common.{◌≡◌, ℕ, suc, ◌+◌, ◌<◌, ◌==◌, ℤ, Bool, true, false, List, [], ◌∷◌, ◌++◌, Option, Some, Result, Ok, Err, refl, sym, ap, ap₂, ◌∙◌, subst, arith, length, get_or, map}
+use Rattle.std.proofs.Common.{◌≡◌, ℕ, suc, ◌+◌, ◌<◌, ◌==◌, ℤ, Bool, true, false, List, [], ◌∷◌, ◌++◌, Option, Some, Result, Ok, refl, sym, ap, ap₂, ◌∙◌, subst, arith, length, get_or, map}
 use Rattle.std.specs.Prelude.{All, ◌||◌, MatchResult, if◌then◌else◌, option_and_then}
 use Rattle.std.specs.List.{list_any, slice_get}
 use Rattle.std.proofs.lemmas.List.{get_or_default, length-map}
@@ -25,53 +25,21 @@ use Rattle.run_model.specs.Equations.{shown}
 use Rattle.run_model.specs.Run.{IsFmu, Run, at_fmu, each, each_from}
 use Rattle.run_model.specs.Stepping.{is_terminating}
 use Rattle.run_model.proofs.States.{fmu_before}
-use Rattle.step_master.specs.Carried.{any_asks_to_end, ends_by, get_of, gets, value_by, value_of, values_of}
-use Rattle.step_master.specs.Lives.{RepliesBy}
-use Rattle.step_master.specs.Log.{Asking, Sent, asking_of, askings, part}
-use Rattle.step_master.specs.Stage.{IsAnswered, IsGoodOf, to_each, to_each_from}
-use Rattle.step_master.specs.System.{shapes_of}
-use Rattle.step_master.proofs.Answered.{map_at}
+use Rattle.slot_calls.specs.Carried.{any_asks_to_end, ends_by, get_of, gets, value_by, value_of, values_of}
+use Rattle.slot_calls.specs.Replies.{AreReplies, RepliesBy, state_by, states_by}
+use Rattle.slot_calls.proofs.Replying.{replied_good, replies_back, replies_front, state_by_append}
+use Rattle.slot_calls.specs.Log.{Asking, Sent, asking_of, askings, part}
+use Rattle.slot_calls.specs.Stage.{IsAnswered, IsGoodOf, shapes_of, to_each, to_each_from}
+use Rattle.slot_calls.proofs.Answered.{map_at}
 use Rattle.step_master.proofs.Badly.{good_part}
-use Rattle.step_master.proofs.Chains.{IsGet, PartIs, each_part, first_same, gets_are, other, part_all, rest_same, same, skips, takes}
-use Rattle.step_master.proofs.Logs.{part_append}
+use Rattle.calling_sequence.proofs.Chains.{IsGet, PartIs, each_part, first_same, gets_are, other, part_all, rest_same, same, skips, takes}
+use Rattle.slot_calls.proofs.Logs.{part_append}
 use Rattle.step_master.proofs.Prepared.{get_here, got, is_within}
 use Rattle.step_master.proofs.SideBySide.{AreAll, each_each, each_same, each_stays, fmu_at}
 
 -- ---- one machine
 
--- its state behind exchanges
-abbrev pub state_by : Machine → MachineState → List Exchange → MachineState
-state_by m s [] = s
-state_by m s (e ∷ es) = state_by m (after m s e.call) es
-
 module _ (m : Machine) where
-  state_by_append : (s : MachineState) (es fs : List Exchange) → state_by m s (es ++ fs) ≡ state_by m (state_by m s es) fs
-  state_by_append s [] fs = refl
-  state_by_append s (e ∷ es) fs = state_by_append (after m s e.call) es fs
-
-  -- a good answer is the machine's
-  pub replied_good : (shape : Shape) (s : MachineState) (e : Exchange) (es : List Exchange) → T.IsGood shape e → RepliesBy m s (e ∷ es) → (e.result ≡ Ok (m.look s e.call)) × RepliesBy m (after m s e.call) es
-  replied_good shape s e es good h = by e.result good h where
-    by : (r : Result Reply PeerFault) → MatchResult r (λ reply. grade_of shape e.call reply ≡ G.Good) (λ fault. ⊥) →
-        MatchResult r (λ reply. (reply ≡ m.look s e.call) × RepliesBy m (after m s e.call) es) (λ fault. Unit {0}) → (r ≡ Ok (m.look s e.call)) × RepliesBy m (after m s e.call) es
-    by (Ok reply) g k = (ap Ok k.0, k.1)
-    by (Err fault) g k = absurd g
-
-  pub replies_front : (s : MachineState) (es fs : List Exchange) → RepliesBy m s (es ++ fs) → RepliesBy m s es
-  replies_front s [] fs h = tt
-  replies_front s (e ∷ es) fs h = by e.result h (λ k. replies_front (after m s e.call) es fs k) where
-    by : (r : Result Reply PeerFault) → MatchResult r (λ reply. (reply ≡ m.look s e.call) × RepliesBy m (after m s e.call) (es ++ fs)) (λ fault. Unit {0}) →
-        (RepliesBy m (after m s e.call) (es ++ fs) → RepliesBy m (after m s e.call) es) →
-        MatchResult r (λ reply. (reply ≡ m.look s e.call) × RepliesBy m (after m s e.call) es) (λ fault. Unit {0})
-    by (Ok reply) k on = (k.0, on k.1)
-    by (Err fault) k on = tt
-
-  -- behind good ones
-  pub replies_back : (shape : Shape) (s : MachineState) (es fs : List Exchange) → T.AllGood shape es → RepliesBy m s (es ++ fs) → RepliesBy m (state_by m s es) fs
-  replies_back shape s [] fs good h = h
-  replies_back shape s (e ∷ es) fs good h =
-      replies_back shape (after m s e.call) es fs (All-tail (T.IsGood shape) e es good) (replied_good shape s e (es ++ fs) (All-head (T.IsGood shape) e es good) h).1
-
   -- Gets leave the state
   state_stays_by : (s : MachineState) (es : List Exchange) → All IsGet es → state_by m s es ≡ s
   state_stays_by s [] k = refl
@@ -81,7 +49,7 @@ module _ (m : Machine) where
   gets_look : (shape : Shape) (s : MachineState) (es : List Exchange) → All IsGet es → T.AllGood shape es → RepliesBy m s es → All (λ (e : Exchange). e.result ≡ Ok (m.look s e.call)) es
   gets_look shape s [] k good h = All-nil (λ (e : Exchange). e.result ≡ Ok (m.look s e.call))
   gets_look shape s (e ∷ es) k good h =
-      let one = replied_good shape s e es (All-head (T.IsGood shape) e es good) h in
+      let one = replied_good m shape s e es (All-head (T.IsGood shape) e es good) h in
       All-cons (λ (x : Exchange). x.result ≡ Ok (m.look s x.call)) e es one.0
       (gets_look shape s es (All-tail IsGet e es k) (All-tail (T.IsGood shape) e es good) (subst (λ (z : MachineState). RepliesBy m z es) (ap (after m s) (All-head IsGet e es k).2) one.1))
 
@@ -110,14 +78,6 @@ well_by e shape m s call call_is result_is good =
     (subst (λ (x : Result Reply PeerFault). MatchResult x (λ reply. grade_of shape e.call reply ≡ G.Good) (λ fault. ⊥)) result_is good)
 
 -- ---- several machines
-
--- the replies of each are its own
-abbrev pub AreReplies : Run → List MachineState → List Sent → Type 0
-AreReplies r ss log = (i : ℕ) (c : Component) (m : Machine) (s : MachineState) → IsFmu r ss i c m s → RepliesBy m s (part i log)
-
--- their states behind a log
-abbrev pub states_by : Run → List MachineState → List Sent → List MachineState
-states_by r ss log = each r ss (λ i c m s. state_by m s (part i log))
 
 -- what holds of each part holds of the log
 head_of : (Q : ℕ → Exchange → Type 0) (s : Sent) (log : List Sent) → All (Q s.component) (part s.component (s ∷ log)) → Q s.component s.exchange

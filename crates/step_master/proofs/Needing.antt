@@ -13,7 +13,7 @@ use Rattle.system_model.specs.declared.system.Port.{Port}
 use Rattle.system_model.specs.declared.system.System.{System}
 use Rattle.system_model.specs.Sound.{IsSound}
 use Rattle.system_model.proofs.SoundLemmas as S
-use Rattle.step_master.specs.Carried.{gets, get_of}
+use Rattle.slot_calls.specs.Carried.{gets, get_of}
 use Rattle.step_master.proofs.Calls.{own}
 use Rattle.step_master.proofs.Prepared.{got, get_here}
 

@@ -22,14 +22,15 @@ use Rattle.run_model.specs.Stepping.{Next, asks_to_end, departing, end_in, is_te
 use Rattle.run_model.specs.Steps.{AllMeet, IsBound, MayAsk, Stepper, StopsFirst, least_or, met}
 use Rattle.run_model.specs.Trace.{Leads, LeadsBy}
 use Rattle.run_model.proofs.States.{each-get}
-use Rattle.step_master.specs.Carried.{any_asks_to_end, gets, values_of}
-use Rattle.step_master.specs.Course.{IsBoundOf, first_unfit, stepping}
-use Rattle.step_master.specs.Log.{Sent}
-use Rattle.step_master.specs.Stage.{IsAnswered}
-use Rattle.step_master.specs.System.{IsBuilt, shapes_of}
+use Rattle.slot_calls.specs.Carried.{any_asks_to_end, gets, values_of}
+use Rattle.calling_sequence.specs.Course.{IsBoundOf, first_unfit, stepping}
+use Rattle.slot_calls.specs.Log.{Sent}
+use Rattle.slot_calls.specs.Stage.{IsAnswered, shapes_of}
+use Rattle.step_master.specs.System.{IsBuilt}
 use Rattle.step_master.proofs.Begun.{IsHere}
-use Rattle.step_master.proofs.Looking.{AreReplies, any_asks, one_of, reading_stays, stage_states, states_by, values_are}
-use Rattle.step_master.proofs.Phases.{good_step_end}
+use Rattle.slot_calls.specs.Replies.{AreReplies, states_by}
+use Rattle.step_master.proofs.Looking.{any_asks, one_of, reading_stays, stage_states, values_are}
+use Rattle.calling_sequence.proofs.Phases.{good_step_end}
 use Rattle.step_master.proofs.Prepared.{get_here, got, is_within}
 use Rattle.step_master.proofs.Quiet.{AreNever, bound_on, departing_is, is_done, next_never, no_event, outputs, outputs_solve, updated_states}
 use Rattle.step_master.proofs.SideBySide.{AreAll, all_on, each_length, each_same}

@@ -21,14 +21,14 @@ use Rattle.system_model.specs.declared.system.Port.{Port}
 use Rattle.system_model.specs.declared.system.Role.{Role}
 use Rattle.system_model.specs.declared.system.Role.TheVariants.{Input, Output, ClockInput, ClockOutput, TimeClock}
 use Rattle.system_model.specs.declared.system.System.{System}
-use Rattle.step_master.specs.Place.{IsFresh, IsPlain, IsPortOf}
-use Rattle.step_master.specs.Seats.{seated}
-use Rattle.step_master.specs.Stage.{shapes}
+use Rattle.calling_sequence.specs.Place.{IsPlain, IsPortOf}
+use Rattle.step_master.specs.Seats.{IsFresh, seated}
+use Rattle.slot_calls.specs.Stage.{shapes, shapes_of}
 use Rattle.system_model.specs.Ports.{is_clock_role, is_output_role}
 use Rattle.system_model.specs.Sound.{IsRole, IsSound}
 use Rattle.system_model.proofs.SoundLemmas.{Placed, events_of, is_output_of, place_of}
-use Rattle.step_master.specs.System.{ArePeersOf, IsBuilt, IsNew, shapes_of}
-use Rattle.step_master.proofs.Answered.{map_at, shape_of}
+use Rattle.step_master.specs.System.{ArePeersOf, IsBuilt, IsNew}
+use Rattle.slot_calls.proofs.Answered.{map_at, shape_of}
 use Rattle.step_master.proofs.SeatLemmas.{length_seated}
 
 pub get_here : {A : Type 0} (xs : List A) (i : ℕ) (x : A) → slice_get xs i ≡ Some x → x ≡ get_or xs i x

@@ -4,11 +4,20 @@ use Rattle.std.specs.Prelude.{All}
 use Rattle.std.proofs.lemmas.List.{get_or_default, length-map, map-append}
 use Rattle.std.proofs.lemmas.List.Elements.{All-cons, All-nil}
 use Rattle.std.proofs.Math.Seq.{take-append_seam}
+use Rattle.fmi_calls.specs.declared.call.Call.{Call}
+use Rattle.fmi_calls.specs.declared.phase.Phase.{Phase}
+use Rattle.fmi_calls.specs.Next.{counted, entered}
+use Rattle.fmi_calls.specs.Permission.{none_marked}
+use Rattle.fmu_peer.specs.declared.peer.Exchange.{Exchange}
 use Rattle.fmu_peer.specs.CloseAll.{Closing, ClosesAll, InOrder, Instance, afters}
-use Rattle.fmu_peer.specs.View.{View}
+use Rattle.fmu_peer.specs.Mode.{instantiate_of}
+use Rattle.fmu_peer.specs.View.{Fixed, View}
 use Rattle.system_model.specs.declared.system.Component.{Component}
-use Rattle.step_master.specs.Seats.{seat, seated, views_of}
-use Rattle.step_master.proofs.Answered.{map_at}
+use Rattle.calling_sequence.specs.Place.{IsMade, IsPlain}
+use Rattle.step_master.specs.Seats.{IsFresh, seat, seated, views_of}
+use Rattle.slot_calls.proofs.Answered.{map_at}
+use Rattle.slot_calls.proofs.Leading.{Led}
+use Rattle.calling_sequence.proofs.Phases.{unmarked_is}
 
 -- one more is given, and one fewer is left
 pub given_more : {A B : Type 0} (f : A → B) (whole done more : List B) (left rest : List A) (x : A) (y : B) → whole ≡ done ++ map f left → left ≡ x ∷ rest → y ≡ f x → more ≡ done ++ y ∷ [] → whole ≡ more ++ map f rest
@@ -59,3 +68,17 @@ module _ {S : Type 0} (f : S → Instance) (olds : List Instance) (slots : List 
 pub views_same : {S L : Type 0} (view : L → View) (peer : S → L) (f : S → Instance) → ((s : S) → (f s).view ≡ view (peer s)) → (slots : List S) → map view (map peer slots) ≡ views_of (map f slots)
 views_same view peer f same [] = refl
 views_same view peer f same (s ∷ slots) = ap₂ ◌∷◌ (sym (same s)) (views_same view peer f same slots)
+
+-- an instance before its first call is made by a good Instantiate
+pub start_leads : (v w : View) (e : Exchange) → IsFresh v → Led v e w → e.call ≡ instantiate_of v.fixed.shape → IsMade w
+start_leads v w e h l is =
+    let phase : w.phase ≡ entered v.fixed.shape (counted v.phase e.call) (instantiate_of v.fixed.shape) l.reply = l.phase ∙ ap (λ (c : Call). entered v.fixed.shape (counted v.phase e.call) c l.reply) is in
+    record {
+      plain = subst (λ (f : Fixed). IsPlain f.shape) (sym l.fixed) h.plain;
+      state = ap (λ (p : Phase). p.state) phase;
+      unstepped = ap (λ (p : Phase). p.first_size) phase ∙ ap (λ (p : Phase). p.first_size) h.phase;
+      clear = record {
+        unset = ap (λ (p : Phase). none_marked p.marks) phase ∙ ap (λ (p : Phase). none_marked p.marks) h.phase ∙ unmarked_is (length v.fixed.shape.variables);
+        empty = ap (λ (p : Phase). p.slot.is_full) phase ∙ ap (λ (p : Phase). p.slot.is_full) h.phase;
+      };
+    }

@@ -1,6 +1,6 @@
 -- What a chain of exchanges leaves of one instance.
 use Rattle.std.proofs.Common.{◌≡◌, ℕ, ◌≤◌, inl, inr, true, false, List, [], ◌∷◌, ◌++◌, Option, Some, None, Result, Ok, Err, refl, sym, ap, ◌∙◌, subst, append_assoc, arith}
-use Rattle.std.specs.Prelude.{◌||◌, All, IfSome, MatchResult}
+use Rattle.std.specs.Prelude.{◌||◌, All, IfSome}
 use Rattle.std.specs.List.{list_any}
 use Rattle.std.specs.Result.{is_err}
 use Rattle.std.proofs.lemmas.List.{append-nil}
@@ -12,11 +12,10 @@ use Rattle.fmi_calls.specs.declared.phase.Phase.{Phase}
 use Rattle.fmu_peer.specs.declared.peer.Exchange.{Exchange}
 use Rattle.fmu_peer.specs.declared.peer.PeerFault.{PeerFault}
 use Rattle.fmu_peer.specs.Close.{SendsInTurn}
-use Rattle.fmu_peer.specs.Machine.{Machine, MachineState, after}
 use Rattle.fmu_peer.specs.Talk.{LegalFrom, phase_from}
-use Rattle.fmu_peer.specs.View.{AnswersAs, Asked, View, Fixed, talked}
-use Rattle.step_master.specs.Lives.{Counts, RepliesBy, calls_in, is_unanswered}
-use Rattle.step_master.specs.Log.{Talks}
+use Rattle.fmu_peer.specs.View.{View, Fixed, talked}
+use Rattle.step_master.specs.Lives.{Counts, calls_in, is_unanswered}
+use Rattle.slot_calls.specs.Log.{Talks}
 
 -- ---- phase and permission
 
@@ -79,23 +78,6 @@ counts_of v [] w t =
 counts_of v (e ∷ es) w (mid, may, asked, rest) =
     let all = count_on v.faults mid.faults w.faults e.result es asked.cause (counts_of mid es w rest) in
     record { later = all.0; quiet = all.1.0; rose = all.1.1 }
-
--- ---- a told machine
-
-module _ (m : Machine) where
-  replied : (s : MachineState) (v w : View) (call : Call) (r : Result Reply PeerFault) (es : List Exchange) → Asked v call r w → v.fixed.machine ≡ Some m → v.state ≡ Some s →
-      ((z : MachineState) → w.state ≡ Some z → RepliesBy m z es) → MatchResult r (λ reply. (reply ≡ m.look s call) × RepliesBy m (after m s call) es) (λ fault. Unit {0})
-  replied s v w call (Ok reply) es asked machine state rest =
-      let here : AnswersAs (Some m) (Some s) call (Ok reply) w.state =
-      subst (λ (o : Option MachineState). AnswersAs (Some m) o call (Ok reply) w.state) state (subst (λ (o : Option Machine). AnswersAs o v.state call (Ok reply) w.state) machine asked.state) in
-      (here.0, rest (after m s call) here.1)
-  replied s v w call (Err fault) es asked machine state rest = tt
-
-  -- its replies are those to the calls
-  pub replies_of : (v : View) (es : List Exchange) (w : View) → Talks v es w → (s : MachineState) → v.fixed.machine ≡ Some m → v.state ≡ Some s → RepliesBy m s es
-  replies_of v [] w t s machine state = tt
-  replies_of v (e ∷ es) w (mid, may, asked, rest) s machine state =
-      replied s v mid e.call e.result es asked machine state (λ z here. replies_of mid es w rest z (ap (λ (f : Fixed). f.machine) asked.fixed ∙ machine) here)
 
 -- ---- calls that are sent in turn
 

@@ -17,19 +17,22 @@ use Rattle.run_model.specs.Initial as I
 use Rattle.run_model.specs.Stepping as P
 use Rattle.run_model.specs.Stepping.{Ends}
 use Rattle.run_model.specs.Trace.{IsTrace}
-use Rattle.step_master.specs.declared.run_end.RunEnd.{RunEnd}
-use Rattle.step_master.specs.declared.run_end.RunEnd.TheVariants as E
-use Rattle.step_master.specs.Course.{Finishes, Interrupted, Seen, WhereAsked, WhereFixed, kind_of_end, read_at, trace_pieces}
-use Rattle.step_master.specs.Ends.{EndsBy, PutsWhole}
+use Rattle.calling_sequence.specs.declared.run_end.RunEnd.{RunEnd}
+use Rattle.calling_sequence.specs.declared.run_end.RunEnd.TheVariants as E
+use Rattle.calling_sequence.specs.Course.{Finishes, Interrupted, Seen, WhereAsked, WhereFixed, kind_of_end, read_at, trace_pieces}
+use Rattle.calling_sequence.specs.Ends.{EndsBy, PutsWhole}
 use Rattle.step_master.specs.Lived.{Account, Lived}
-use Rattle.step_master.specs.Lives.{AreLives, IsLife, Life, RepliesBy}
-use Rattle.step_master.specs.Log.{Sent}
-use Rattle.step_master.specs.Puts.{CutsPiece, with_pieces}
+use Rattle.slot_calls.specs.Replies.{RepliesBy}
+use Rattle.step_master.specs.Lives.{AreLives, IsLife, Life}
+use Rattle.slot_calls.specs.Log.{Sent}
+use Rattle.calling_sequence.specs.Puts.{CutsPiece, with_pieces}
 use Rattle.step_master.specs.System.{IsBuilt, IsUnbound}
 use Rattle.step_master.specs.Traced.{AtFirst, Before, CameTo, CutsFront, IsFront, PutsRun, PutsTrace, TellMachines, ToldRun}
 use Rattle.step_master.proofs.Begun.{made_states}
 use Rattle.step_master.proofs.Followed.{front_seen, reaches, sees_all, trace_seen}
-use Rattle.step_master.proofs.Looking.{AreReplies, replies_first, replies_front, replies_then, states_by}
+use Rattle.slot_calls.specs.Replies.{AreReplies, states_by}
+use Rattle.slot_calls.proofs.Replying.{replies_front}
+use Rattle.step_master.proofs.Looking.{replies_first, replies_then}
 use Rattle.step_master.proofs.Onward.{asks_here, kept_to, lacks_here, step_here}
 use Rattle.step_master.proofs.Prepared.{get_here, got, is_within}
 use Rattle.step_master.proofs.Quiet.{nones, solves_initially}

@@ -22,23 +22,25 @@ use Rattle.run_model.specs.Initial as I
 use Rattle.run_model.specs.Run.{Run}
 use Rattle.run_model.specs.Steps.{OnStop}
 use Rattle.run_model.specs.Trace.{IsTrace, instant_of}
-use Rattle.step_master.specs.declared.bad_answer.BadAnswer.{BadAnswer}
-use Rattle.step_master.specs.declared.run_end.RunEnd.{RunEnd}
-use Rattle.step_master.specs.declared.run_end.RunEnd.TheVariants as E
-use Rattle.step_master.specs.Course.{AtStart, ByStep, Came, Finishes, Interrupted, Seen, header_of, kind_of_end, pieces_of, text_of, trace_pieces}
-use Rattle.step_master.specs.Ends.{EndsBy}
+use Rattle.slot_calls.specs.declared.bad_answer.BadAnswer.{BadAnswer}
+use Rattle.calling_sequence.specs.declared.run_end.RunEnd.{RunEnd}
+use Rattle.calling_sequence.specs.declared.run_end.RunEnd.TheVariants as E
+use Rattle.calling_sequence.specs.Course.{AtStart, ByStep, Came, Finishes, Interrupted, Seen, header_of, kind_of_end, pieces_of, text_of, trace_pieces}
+use Rattle.calling_sequence.specs.Ends.{EndsBy}
 use Rattle.step_master.specs.Lived.{Account, Lived, Unmade}
 use Rattle.step_master.specs.Lives.{AreLives, IsLife, Life, is_unanswered, talk_in}
-use Rattle.step_master.specs.Log.{Sent, part}
-use Rattle.step_master.specs.Puts.{CutsPiece, with_pieces}
-use Rattle.step_master.specs.System.{IsBuilt, IsPlan, IsUnbound}
+use Rattle.slot_calls.specs.Log.{Sent, part}
+use Rattle.calling_sequence.specs.Puts.{CutsPiece, with_pieces}
+use Rattle.calling_sequence.specs.Plans.{IsPlan}
+use Rattle.step_master.specs.System.{IsBuilt, IsUnbound}
 use Rattle.step_master.specs.Traced.{AtFirst, CameTo, CutsTrace, PutsRun, SomeRose, TellMachines, ToldTrace, ToldUnmade, TracesWell}
-use Rattle.step_master.proofs.Chains.{same, takes}
+use Rattle.calling_sequence.proofs.Chains.{same, takes}
 use Rattle.step_master.proofs.Existing.{reached_of, rest_from}
 use Rattle.step_master.proofs.Followed.{reaches, sees_all, traced_on}
 use Rattle.step_master.proofs.Links.{IsLost, lost_behind}
-use Rattle.step_master.proofs.Logs.{part_append}
-use Rattle.step_master.proofs.Looking.{AreReplies, replies_first, replies_then, states_by}
+use Rattle.slot_calls.proofs.Logs.{part_append}
+use Rattle.slot_calls.specs.Replies.{AreReplies, states_by}
+use Rattle.step_master.proofs.Looking.{replies_first, replies_then}
 use Rattle.step_master.proofs.Prepared.{get_here, got}
 use Rattle.step_master.proofs.Quiet.{beginning_never, beginning_states, made_all, nones, outputs, solves_initially}
 use Rattle.step_master.proofs.SideBySide.{AreAll, all_on}

@@ -14,16 +14,18 @@ use Rattle.system_model.proofs.SoundLemmas.{place_of}
 use Rattle.run_model.specs.Behaved.{AnswersAt, AnswersWell, Reached, WellBehaved}
 use Rattle.run_model.specs.Initial as I
 use Rattle.run_model.specs.Run.{IsFmu, Run, Situation, each}
-use Rattle.step_master.specs.declared.bad_answer.BadAnswer.{BadAnswer}
-use Rattle.step_master.specs.Carried.{get_of, gets}
-use Rattle.step_master.specs.Course.{IsStep, entering, initializing, leaving, making, stepping}
-use Rattle.step_master.specs.Log.{Sent, askings}
-use Rattle.step_master.specs.Stage.{FailsIn, IsAnswered, IsGoodOf, StopsAt}
-use Rattle.step_master.specs.System.{IsBuilt, IsUnbound, shapes_of}
+use Rattle.slot_calls.specs.declared.bad_answer.BadAnswer.{BadAnswer}
+use Rattle.slot_calls.specs.Carried.{get_of, gets}
+use Rattle.step_master.specs.Master.{making}
+use Rattle.calling_sequence.specs.Course.{IsStep, entering, initializing, leaving, stepping}
+use Rattle.slot_calls.specs.Log.{Sent, askings}
+use Rattle.slot_calls.specs.Stage.{FailsIn, IsAnswered, IsGoodOf, StopsAt, shapes_of}
+use Rattle.step_master.specs.System.{IsBuilt, IsUnbound}
 use Rattle.step_master.proofs.Begun.{IsHere}
 use Rattle.step_master.proofs.Existing.{steps_well}
 use Rattle.step_master.proofs.Links.{Early, InParts, IsLost, Later, good_first, good_second, in_parts, lost_behind, lost_fails, lost_in_stage, lost_reads, lost_stops}
-use Rattle.step_master.proofs.Looking.{AreReplies, replies_first, replies_then, stage_states, states_by}
+use Rattle.slot_calls.specs.Replies.{AreReplies, states_by}
+use Rattle.step_master.proofs.Looking.{replies_first, replies_then, stage_states}
 use Rattle.step_master.proofs.Onward.{solves_here, values_here}
 use Rattle.step_master.proofs.Prepared.{is_within}
 use Rattle.step_master.proofs.Quiet.{configured_is, initialized_is, initializing_is, is_plain_output, made_all, no_event, nones, solves_initially}

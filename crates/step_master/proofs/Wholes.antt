@@ -26,23 +26,23 @@ use Rattle.system_model.specs.declared.system.Component.{Component}
 use Rattle.system_model.specs.declared.system.System.{System}
 use Rattle.system_model.specs.Sound.{IsSound}
 use Rattle.system_model.specs.Text.{Instant}
-use Rattle.step_master.specs.declared.bad_answer.BadAnswer.{BadAnswer}
-use Rattle.step_master.specs.declared.run_end.RunEnd.{RunEnd}
-use Rattle.step_master.specs.declared.run_end.RunEnd.TheVariants as E
-use Rattle.step_master.specs.Course.{Finishes, making}
-use Rattle.step_master.specs.Ends.{EndsBy}
+use Rattle.slot_calls.specs.declared.bad_answer.BadAnswer.{BadAnswer}
+use Rattle.calling_sequence.specs.declared.run_end.RunEnd.{RunEnd}
+use Rattle.calling_sequence.specs.declared.run_end.RunEnd.TheVariants as E
+use Rattle.calling_sequence.specs.Course.{Finishes}
+use Rattle.calling_sequence.specs.Ends.{EndsBy}
 use Rattle.step_master.specs.Lived.{Account, Lived, LivesAreOver, RunIsLived, UnmadeIsClosed}
 use Rattle.step_master.specs.Lives.{AreGood, AreLives, EndsLives, IsLeastBad, IsLife, Life, calls_in, is_spared, is_unanswered, shape_in, talk_in}
-use Rattle.step_master.specs.Log.{Asking, Has, Sent, Told, askings, part}
-use Rattle.step_master.specs.Master.{Closes, Prepares, Runs, Standing}
+use Rattle.slot_calls.specs.Log.{Asking, Has, Sent, Told, askings, part}
+use Rattle.step_master.specs.Master.{Closes, Prepares, Runs, Standing, making}
 use Rattle.step_master.specs.Seats.{seat, seated, views_of}
-use Rattle.step_master.specs.Stage.{IsAnswered, IsGoodOf}
-use Rattle.step_master.specs.System.{ArePeersOf, shapes_of}
+use Rattle.slot_calls.specs.Stage.{IsAnswered, IsGoodOf, shapes_of}
+use Rattle.step_master.specs.System.{ArePeersOf}
 use Rattle.step_master.proofs.Along.{IsNeeded, finishes_needed, interrupted_needed, making_needed, part_lean, part_runs}
-use Rattle.step_master.proofs.Answered.{map_at}
+use Rattle.slot_calls.proofs.Answered.{map_at}
 use Rattle.step_master.proofs.Badly.{EndsBadly, EndsLog, bad_here, finishes_log, good_before, good_part, interrupted_log, stops_badly, to_each_to_one}
 use Rattle.step_master.proofs.Living.{Beside, IsRow, Row, at_turn, closings_are, components_are, is_life, life_of, map_map, olds_are, one_each, row_at, row_closed, row_siblings, rows_from, turn_open}
-use Rattle.step_master.proofs.Logs.{askings_append, told_on}
+use Rattle.slot_calls.proofs.Logs.{askings_append, told_on}
 use Rattle.step_master.proofs.Over.{closed_over}
 use Rattle.step_master.proofs.Prepared.{get_here, got, is_within}
 use Rattle.step_master.proofs.SeatLemmas.{length_seated}

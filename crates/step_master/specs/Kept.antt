@@ -4,10 +4,9 @@ use Rattle.fmu_peer.specs.declared.slot.Slot.{Slot}
 use Rattle.fmu_peer.specs.View.{View}
 use Rattle.system_model.specs.declared.system.System.{System}
 use Rattle.trace_text.specs.Room.{HoldsEach}
-use Rattle.step_master.specs.Place.{IsMade, IsPortOf}
-use Rattle.step_master.specs.Slots.{LiveSlot, Stands, instances}
-use Rattle.step_master.specs.Stage.{shapes}
-use Rattle.step_master.specs.System.{shapes_of}
+use Rattle.calling_sequence.specs.Place.{IsMade, IsPortOf}
+use Rattle.slot_calls.specs.Slots.{LiveSlot, Stands, instances}
+use Rattle.slot_calls.specs.Stage.{shapes, shapes_of}
 
 -- the memory of a run
 pub record HasRoom (system : System) (values : List (Option ℤ)) (text : List ℕ) : Type 0 where

@@ -1,14 +1,4 @@
-pub mod Log
-pub mod Stage
-pub mod Rounds
-pub mod Carried
-pub mod Slots
 pub mod System
-pub mod Place
-pub mod Course
-pub mod Puts
-pub mod Ends
-pub mod Steps
 pub mod Seats
 pub mod Kept
 pub mod Master

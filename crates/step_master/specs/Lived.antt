@@ -6,15 +6,14 @@ use Rattle.system_model.specs.declared.plan.Plan.{Plan}
 use Rattle.system_model.specs.declared.system.System.{System}
 use Rattle.system_model.specs.Sound.{IsSound}
 use Rattle.system_model.specs.Text.{Instant}
-use Rattle.step_master.specs.declared.bad_answer.BadAnswer.{BadAnswer}
-use Rattle.step_master.specs.declared.run_end.RunEnd.{RunEnd}
-use Rattle.step_master.specs.Course.{making}
-use Rattle.step_master.specs.Ends.{EndsBy}
+use Rattle.slot_calls.specs.declared.bad_answer.BadAnswer.{BadAnswer}
+use Rattle.calling_sequence.specs.declared.run_end.RunEnd.{RunEnd}
+use Rattle.calling_sequence.specs.Ends.{EndsBy}
 use Rattle.step_master.specs.Lives.{AreLives, AreOver, EndsLives, IsLeastBad, Life}
-use Rattle.step_master.specs.Log.{Sent}
-use Rattle.step_master.specs.Master.{Closes, IsUnmade, Prepares, Runs, Standing}
-use Rattle.step_master.specs.Stage.{IsAnswered, StopsAt}
-use Rattle.step_master.specs.System.{ArePeersOf, shapes_of}
+use Rattle.slot_calls.specs.Log.{Sent}
+use Rattle.step_master.specs.Master.{Closes, IsUnmade, Prepares, Runs, Standing, making}
+use Rattle.slot_calls.specs.Stage.{IsAnswered, StopsAt, shapes_of}
+use Rattle.step_master.specs.System.{ArePeersOf}
 
 -- a run: what was run, its peers and its sink before and after, the number of instants that were put, and how it ended
 pub record Account : Type 0 where

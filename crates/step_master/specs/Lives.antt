@@ -1,5 +1,5 @@
 -- The lives of a system's peers, each from before its first call through the run to its closing (FMI 3.0, 4.2.1; 2.2.3: Fatal).
-use Rattle.std.specs.Prelude.{◌≡◌, ◌⊎◌, ℕ, ◌≤◌, ◌==◌, Bool, true, false, ◌&&◌, ◌||◌, List, [], ◌∷◌, ◌++◌, map, take, All, Some, IfSome, MatchResult}
+use Rattle.std.specs.Prelude.{◌≡◌, ◌⊎◌, ℕ, ◌≤◌, ◌==◌, Bool, true, false, ◌&&◌, ◌||◌, List, ◌++◌, map, take, All, Some, IfSome}
 use Rattle.std.specs.List.{list_any, slice_get}
 use Rattle.std.specs.Result.{is_err}
 use Rattle.sim_base.specs.Causes.{Rose}
@@ -11,16 +11,17 @@ use Rattle.fmu_peer.specs.declared.peer.Exchange.{Exchange}
 use Rattle.fmu_peer.specs.Answer.{IsFirstBad, IsLink}
 use Rattle.fmu_peer.specs.Close.{any_fatal}
 use Rattle.fmu_peer.specs.Lean.{IsLean}
-use Rattle.fmu_peer.specs.Machine.{Machine, MachineState, after}
+use Rattle.fmu_peer.specs.Machine.{Machine, MachineState}
 use Rattle.fmu_peer.specs.Siblings.{Member, Siblings}
 use Rattle.fmu_peer.specs.Talk as T
 use Rattle.fmu_peer.specs.View.{View}
 use Rattle.system_model.specs.declared.system.Component.{Component}
 use Rattle.system_model.specs.declared.system.System.{System}
-use Rattle.step_master.specs.declared.bad_answer.BadAnswer.{BadAnswer}
-use Rattle.step_master.specs.declared.run_end.RunEnd.{RunEnd}
-use Rattle.step_master.specs.declared.run_end.RunEnd.TheVariants as E
-use Rattle.step_master.specs.Log.{Sent, part}
+use Rattle.slot_calls.specs.declared.bad_answer.BadAnswer.{BadAnswer}
+use Rattle.calling_sequence.specs.declared.run_end.RunEnd.{RunEnd}
+use Rattle.calling_sequence.specs.declared.run_end.RunEnd.TheVariants as E
+use Rattle.slot_calls.specs.Replies.{RepliesBy}
+use Rattle.slot_calls.specs.Log.{Sent, part}
 
 -- ---- one life
 
@@ -51,11 +52,6 @@ pub record Counts (before after : ℕ) (es : List Exchange) : Type 0 where
   pub later : before ≤ after
   pub quiet : list_any is_unanswered es ≡ false → after ≡ before
   pub rose : list_any is_unanswered es ≡ true → Rose before after
-
--- from this state on each reply is the machine's, up to a call that had none
-abbrev pub RepliesBy : Machine → MachineState → List Exchange → Type 0
-RepliesBy m s [] = Unit {0}
-RepliesBy m s (e ∷ es) = MatchResult e.result (λ reply. (reply ≡ m.look s e.call) × RepliesBy m (after m s e.call) es) (λ fault. Unit {0})
 
 -- what stays has stayed; the calls of the run are all needed, and those of the closing follow; all of them are legal and lead to the phase, and a told talk has them and no others; a told machine's replies are those to them
 pub record IsLife (life : Life) : Type 0 where

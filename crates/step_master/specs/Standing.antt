@@ -3,8 +3,8 @@ use Rattle.fmu_peer.specs.View.{View}
 use Rattle.step_master.specs.declared.master.Master.{Master}
 use Rattle.step_master.specs.Kept.{AreMade, AreSlots, HasRoom}
 use Rattle.step_master.specs.Master.{Standing}
-use Rattle.step_master.specs.Slots.{instances}
-use Rattle.step_master.specs.System.{IsPlan}
+use Rattle.slot_calls.specs.Slots.{instances}
+use Rattle.calling_sequence.specs.Plans.{IsPlan}
 use Rattle.std.specs.Prelude.{◌≡◌, false}
 
 abbrev pub standing : {L : Type 0} {g : _} → (L → View) → Master L g → Standing

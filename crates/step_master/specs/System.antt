@@ -1,19 +1,15 @@
--- Which systems, plans and peers a master takes (SSP 1.0: components and connectors; FMI 3.0, 4.2.1).
-use Rattle.std.specs.Prelude.{◌≡◌, ℕ, ◌<◌, ◌≤◌, ◌^◌, true, false, List, [], length, map, All, Some, IfSome}
+-- Which systems and peers a master takes (SSP 1.0: components and connectors; FMI 3.0, 4.2.1).
+use Rattle.std.specs.Prelude.{◌≡◌, ℕ, true, false, List, [], length, All, Some, IfSome}
 use Rattle.std.specs.List.{slice_get}
 use Rattle.value_types.specs.declared.shape.Shape.{Shape}
 use Rattle.fmi_calls.specs.Next.{fresh}
 use Rattle.fmu_peer.specs.View.{View}
 use Rattle.system_model.specs.declared.bound.Bound.{Bound}
 use Rattle.system_model.specs.declared.bound.BoundValue.{BoundValue}
-use Rattle.system_model.specs.declared.plan.Plan.{Plan}
 use Rattle.system_model.specs.declared.system.Component.{Component}
 use Rattle.system_model.specs.declared.system.Port.{Port}
 use Rattle.system_model.specs.declared.system.System.{System}
 use Rattle.system_model.specs.Ports.{is_output_role}
-
-abbrev pub shapes_of : System → List Shape
-shapes_of system = map (λ (c : Component). c.shape) system.components
 
 -- what isn't built: event mode and with it Clocks, early return, and inputs
 pub record IsBuilt (system : System) : Type 0 where
@@ -24,13 +20,6 @@ pub record IsBuilt (system : System) : Type 0 where
 -- no parameter is bound, which isn't built either
 abbrev pub IsUnbound : Bound → Type 0
 IsUnbound bound = All (λ (values : List BoundValue). values ≡ []) bound.components
-
--- the plan is within its limits
-pub record IsPlan (plan : Plan) : Type 0 where
-  pub step_above : 0 < plan.step
-  pub step_within : plan.step ≤ 2 ^ 62
-  pub ordered : plan.start ≤ plan.stop
-  pub stop_within : plan.stop ≤ 2 ^ 62
 
 -- a peer of this shape before its first call
 pub record IsNew (shape : Shape) (v : View) : Type 0 where

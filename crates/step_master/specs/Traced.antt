@@ -16,13 +16,14 @@ use Rattle.run_model.specs.Equations.{Solves}
 use Rattle.run_model.specs.Initial.{SolvesInitially, beginning}
 use Rattle.run_model.specs.Stepping.{GoesOn}
 use Rattle.run_model.specs.Trace.{IsTrace, Leads, instant_of}
-use Rattle.step_master.specs.declared.bad_answer.BadAnswer.{BadAnswer}
-use Rattle.step_master.specs.declared.run_end.RunEnd.{RunEnd}
-use Rattle.step_master.specs.declared.run_end.RunEnd.TheVariants as E
-use Rattle.step_master.specs.Course.{header_of, pieces_of, text_of, trace_pieces}
+use Rattle.slot_calls.specs.declared.bad_answer.BadAnswer.{BadAnswer}
+use Rattle.calling_sequence.specs.declared.run_end.RunEnd.{RunEnd}
+use Rattle.calling_sequence.specs.declared.run_end.RunEnd.TheVariants as E
+use Rattle.calling_sequence.specs.Course.{header_of, pieces_of, text_of, trace_pieces}
 use Rattle.step_master.specs.Lived.{Account, Lived, Unmade}
-use Rattle.step_master.specs.Puts.{CutsPiece, with_pieces}
-use Rattle.step_master.specs.System.{IsBuilt, IsPlan, IsUnbound}
+use Rattle.calling_sequence.specs.Puts.{CutsPiece, with_pieces}
+use Rattle.calling_sequence.specs.Plans.{IsPlan}
+use Rattle.step_master.specs.System.{IsBuilt, IsUnbound}
 
 -- ---- machines
 

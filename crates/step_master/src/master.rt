@@ -1,11 +1,12 @@
 ghost use Rattle.std.specs.Prelude.{◌≡◌, IfOk, IfErr, map};
 ghost use Rattle.system_model.specs.Sound.{IsSound};
-ghost use Rattle.step_master.specs.System.{ArePeersOf, IsBuilt, IsPlan, IsUnbound};
+ghost use Rattle.calling_sequence.specs.Plans.{IsPlan};
+ghost use Rattle.step_master.specs.System.{ArePeersOf, IsBuilt, IsUnbound};
 
 use crate::room::Room;
-use crate::run::run_slots;
 use crate::seats::Seats;
 use crate::{PrepareEnd, PrepareFault, RunEnd};
+use calling_sequence::run_slots;
 use fmu_peer::Peer;
 use sim_base::Sink;
 use std::alloc::Global;

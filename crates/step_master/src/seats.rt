@@ -19,11 +19,10 @@ impl<L: Peer> Seats<L> {
     ghost use Rattle.fmi_calls.specs.declared.phase.InstanceState.TheVariants as P;
     ghost use Rattle.fmu_peer.specs.Mode.{instantiate_of};
     ghost use Rattle.step_master.specs.Master.{Closes};
-    ghost use Rattle.step_master.specs.Place.{IsFresh, IsMade};
-    ghost use Rattle.step_master.specs.Seats.{seated};
-    ghost use Rattle.step_master.specs.Slots.{LiveSlot, Stands, instances};
-    ghost use Rattle.step_master.specs.Stage.{Stage, shapes, to_each};
-    ghost use Rattle.step_master.specs.Steps.{nothing};
+    ghost use Rattle.calling_sequence.specs.Place.{IsMade};
+    ghost use Rattle.step_master.specs.Seats.{IsFresh, seated};
+    ghost use Rattle.slot_calls.specs.Slots.{LiveSlot, Stands, instances};
+    ghost use Rattle.slot_calls.specs.Stage.{Stage, nothing, shapes, to_each};
 
     /// Puts each peer into the slot of its component. Where memory is wanting it gives the peers back.
     pub fn new(alloc: Global, components: &[Component], peers: Vec<L>) -> Result<Seats<L>, Vec<L>>

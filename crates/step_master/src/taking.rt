@@ -1,16 +1,14 @@
 ghost use Rattle.std.specs.Prelude.{◌≡◌, ◌≤◌, ◌^◌, [], false, is_some, All, OnOk, length, map, vec_len, vec_capacity};
 ghost use Rattle.fmi_calls.specs.declared.phase.InstanceState.TheVariants as P;
 ghost use Rattle.fmu_peer.specs.CloseAll.{instance_in, peer_in};
-ghost use Rattle.step_master.specs.Seats.{seat, seated};
+ghost use Rattle.step_master.specs.Seats.{IsFresh, seat, seated};
 ghost use Rattle.fmu_peer.specs.Mode.{instantiate_of};
-ghost use Rattle.step_master.specs.Place.{IsFresh, IsMade};
-ghost use Rattle.step_master.specs.Slots.{LiveSlot, Stands, instances};
-ghost use Rattle.step_master.specs.Stage.{Stage, shapes, to_each};
-ghost use Rattle.step_master.specs.Steps.{nothing};
+ghost use Rattle.calling_sequence.specs.Place.{IsMade};
+ghost use Rattle.slot_calls.specs.Slots.{LiveSlot, Stands, instances};
+ghost use Rattle.slot_calls.specs.Stage.{Stage, nothing, shapes, to_each};
 
-use crate::stage::each;
-use crate::{Ask, BadAnswer};
 use fmu_peer::{Fmu, Held, Peer, Slot};
+use slot_calls::{Ask, BadAnswer, each};
 use system_model::Component;
 
 /// Puts each peer into the slot of its component.

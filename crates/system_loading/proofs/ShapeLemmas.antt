@@ -22,10 +22,11 @@ use Rattle.doc_grammar.specs.Nodes.{Node}
 use Rattle.doc_tree.specs.Elements.{children_of}
 use Rattle.doc_tree.specs.declared.rule.DescriptionRule.TheVariants as r
 use Rattle.fmu_description.specs.Texts.{port_type}
-use Rattle.fmu_description.specs.Elements.{name_of, is_named, attribute, is_variable, is_clock as is_clock_element, is_alias, reference_of, clock_key, filled, key_if}
+use Rattle.doc_tables.specs.Elements.{name_of, is_named, attribute, filled, key_if, text_of}
+use Rattle.fmu_description.specs.Elements.{is_variable, is_clock as is_clock_element, is_alias, reference_of, clock_key}
 use Rattle.fmu_description.specs.Clocks.{IsForeign, ByClock, clocks_of}
 use Rattle.fmu_description.specs.Rules.{IsSound}
-use Rattle.fmu_description.specs.Description.{Describes, IsDependency, IsInitialDependency, IsKind, IsStart, IsTimingOf, IsVariable, text_of}
+use Rattle.fmu_description.specs.Description.{Describes, IsDependency, IsInitialDependency, IsKind, IsStart, IsTimingOf, IsVariable}
 use Rattle.system_model.specs.Shapes.{IsSoundShape, IsSoundClock, IsSoundDependency, HasSoundVariables, HasNames, HasFittingStart, NamesClocks, KnowsPorts}
 use Rattle.system_model.specs.Outputs.{HasOutputsAlone}
 use Rattle.system_model.proofs.Lists.{all_at, all_by_place, at_contains, filtered_partner, true_false}

@@ -13,6 +13,7 @@ use Rattle.doc_tree.specs.Answers as dt
 use Rattle.doc_tree.specs.Path.{path_to}
 use Rattle.doc_tree.specs.declared.refusal.Refusal.{Refusal}
 use Rattle.doc_tree.specs.declared.refusal.Refusal.TheVariants as r
+use Rattle.doc_tables.specs.Answers as ta
 use Rattle.fmu_description.specs.Answers as fd
 use Rattle.doc_tree.specs.declared.place.Place.{Place}
 use Rattle.doc_tree.specs.declared.place.Place.TheVariants.{Byte, Element}
@@ -174,8 +175,8 @@ document_told per_second bytes e.Memory fault broken only exact says = subst (Te
 -- what read_description answers, as a fault
 pub element_told : (per_second : ℕ) (bytes : List ℕ) (t : List Node) (refusal : Refusal) (file node : ℕ) (rule : Rule) (ports : List PortId) (fault : Fault) → HasTree bytes t →
     refusal ≡ r.At file node rule ports → fd.Faults t per_second refusal →
-    ((other : DescriptionRule) (k : ℕ) → IsFirstViolation t per_second k other → fd.Refuses (Err refusal) other k) →
-    ((shape : Shape) → IsSound t per_second → Describes t per_second shape → fd.Gives (Err refusal) shape) →
+    ((other : DescriptionRule) (k : ℕ) → IsFirstViolation t per_second k other → ta.Refuses {A = Shape} (Err refusal) (Description other) k) →
+    ((shape : Shape) → IsSound t per_second → Describes t per_second shape → ta.Gives (Err refusal) shape) →
     Says rule (Element (path_to t node)) fault → TellsFirst per_second bytes fault
 element_told per_second bytes t (r.At file2 k n ports2) file node rule ports fault h is broken exact only says =
     let same_rule : n ≡ rule = cc in

@@ -6,7 +6,7 @@ use Rattle.doc_grammar.specs.Grammar.{Pair}
 use Rattle.doc_grammar.specs.Nodes.{Node}
 use Rattle.doc_grammar.specs.Laws.{PairWithin, NodeWithin}
 use Rattle.doc_tree.specs.Elements.{value_at}
-use Rattle.fmu_description.specs.Description.{text_of}
+use Rattle.doc_tables.specs.Elements.{text_of}
 
 value_within : (most : ℕ) (ps : List Pair) (name : List ℕ) → All (PairWithin most) ps → length (unwrap_or (value_at ps name) []) ≤ most
 value_within most [] name h = omega arith

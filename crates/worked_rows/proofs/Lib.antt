@@ -1,3 +1,2 @@
-mod WellLemmas
-mod BuiltInRuns
 mod TrioSound
+pub mod ChainSound

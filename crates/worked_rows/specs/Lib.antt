@@ -1,2 +1,2 @@
-pub mod BuiltInRuns
 pub mod Trio
+pub mod Chain

@@ -16,7 +16,7 @@ fn is_permitted<L: Peer>(peer: &L, call: &Call) -> bool
     permitted(peer.shape(), peer.phase(), call)
 }
 
-fn assert_permitted<L: Peer>(rt: &impl Abort, peer: &L, call: &Call)
+pub(crate) fn assert_permitted<L: Peer>(rt: &impl Abort, peer: &L, call: &Call)
     ensures { Permitted (L.view peer.now).fixed.shape (L.view peer.now).phase call.now }
 {
     assert!(rt; is_permitted(peer, call), "{call:?}");

@@ -1,6 +1,10 @@
-//! Laws and tests that cross crates. What they show of a crate below says its README.
+//! Tests that cross crates. What they show of a crate below says its README.
 #![tactic(auto)]
 
+#[cfg(test)]
+mod chain;
+#[cfg(test)]
+mod chain_tests;
 #[cfg(test)]
 mod closing;
 #[cfg(test)]
@@ -9,7 +13,6 @@ mod driver;
 mod exchanges;
 #[cfg(test)]
 mod family_tests;
-mod laws;
 #[cfg(test)]
 mod master_tests;
 #[cfg(test)]
@@ -18,5 +21,3 @@ mod scripts;
 mod talk_tests;
 #[cfg(test)]
 mod trio;
-
-pub use laws::built_in_runs;

@@ -12,7 +12,7 @@ use step_master::{Master, PrepareEnd, PrepareFault, RunEnd};
 use system_model::{Bound, Component, Plan, Port, Role, System};
 use value_types::{ByReference, Causality, Dependency, Knowns, PortType, Shape, Variable};
 
-fn make_number(
+pub(crate) fn make_number(
     alloc: Global,
     name: &str,
     reference: u32,
@@ -64,7 +64,7 @@ fn make_counting(alloc: Global, by: i128, has_variable_steps: bool) -> Result<Sh
     })
 }
 
-fn make_component(
+pub(crate) fn make_component(
     alloc: Global,
     name: &str,
     source: u32,
@@ -121,7 +121,7 @@ fn make_trio(alloc: Global) -> Result<System, AllocError>
     })
 }
 
-fn start<S: Spawner>(
+pub(crate) fn start<S: Spawner>(
     rt: &impl Abort,
     alloc: Global,
     spawner: &mut S,

@@ -2,8 +2,9 @@ use Rattle.std.proofs.Common.{◌≡◌, None, arith, inr, sym, subst, ◌∙◌
 use Rattle.std.proofs.lemmas.Grind.{common_steps}
 use Rattle.std.proofs.lemmas.Result.{IfOk-weaker}
 use Rattle.fmu_description.specs.Description.{IsExact}
-use Rattle.fmu_description.specs.Elements.{initial_key, IsHeld}
-use Rattle.fmu_description.specs.Places.{Finds, found}
+use Rattle.doc_tables.specs.Tables.{IsHeld, Finds}
+use Rattle.fmu_description.specs.Elements.{initial_key}
+use Rattle.fmu_description.specs.Places.{found}
 use Rattle.fmu_description.proofs.dependencies.depends_initially_on.Goals as goal
 
 pub returns-in-None-2 : goal.returns-in-None-2

@@ -1,6 +1,8 @@
 use Rattle.std.proofs.Common.{◌≡◌, ℕ, Some, codes, subst, sym, ◌∙◌}
-use Rattle.fmu_description.specs.Elements.{attribute, variable_key}
-use Rattle.fmu_description.specs.Places.{Finds, found}
+use Rattle.doc_tables.specs.Elements.{attribute}
+use Rattle.fmu_description.specs.Elements.{variable_key}
+use Rattle.doc_tables.specs.Tables.{Finds}
+use Rattle.fmu_description.specs.Places.{found}
 use Rattle.fmu_description.proofs.SoundLemmas.{one_variable}
 use Rattle.fmu_description.proofs.dependencies.is_exact.Goals as goal
 

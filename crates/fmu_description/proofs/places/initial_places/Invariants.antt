@@ -1,5 +1,6 @@
 use Rattle.fmu_description.specs.Elements.{initial_key}
-use Rattle.fmu_description.specs.Places.{found, IsTableBelow}
+use Rattle.doc_tables.specs.Tables.{IsTableBelow}
+use Rattle.fmu_description.specs.Places.{found}
 use Rattle.fmu_description.proofs.places.initial_places.Given as goal
 
 abbrev pub invariant-loop-node : goal.invariant-loop-node

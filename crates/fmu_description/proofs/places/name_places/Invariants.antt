@@ -1,5 +1,6 @@
 use Rattle.fmu_description.specs.Elements.{name_key}
-use Rattle.fmu_description.specs.Places.{found_name, IsTableBelow}
+use Rattle.doc_tables.specs.Places.{found_name}
+use Rattle.doc_tables.specs.Tables.{IsTableBelow}
 use Rattle.fmu_description.proofs.places.name_places.Given as goal
 
 abbrev pub invariant-loop-node : goal.invariant-loop-node

@@ -1,7 +1,8 @@
 use Rattle.std.proofs.Common.{◌≡◌, Some, subst, sym, ◌∙◌}
 use Rattle.fmu_description.specs.Clocks.{IsTimed}
 use Rattle.fmu_description.specs.Elements.{variable_key}
-use Rattle.fmu_description.specs.Places.{Finds, found}
+use Rattle.doc_tables.specs.Tables.{Finds}
+use Rattle.fmu_description.specs.Places.{found}
 use Rattle.fmu_description.proofs.SoundLemmas.{one_variable}
 use Rattle.fmu_description.proofs.timings.timing_at.Goals as goal
 

@@ -1,6 +1,6 @@
 use Rattle.std.proofs.Common.{◌≡◌, ℕ, map, filter, take, codes}
 use Rattle.fmu_description.specs.Elements.{is_alias}
-use Rattle.fmu_description.specs.Description.{text_of}
+use Rattle.doc_tables.specs.Elements.{text_of}
 use Rattle.fmu_description.proofs.variables.aliases_of.Given as goal
 
 abbrev pub invariant-loop-child : goal.invariant-loop-child

@@ -1,5 +1,5 @@
 use Rattle.std.proofs.Common.{◌≡◌, Some, codes}
-use Rattle.fmu_description.specs.Elements.{attribute}
+use Rattle.doc_tables.specs.Elements.{attribute}
 use Rattle.fmu_description.proofs.variables.start_of.Goals as goal
 
 pub unreachable-requires : goal.unreachable-requires

@@ -16,6 +16,6 @@ returns-in-Err-words_behind-clause-given g c =
     let err = g.E.Sink.view c.args.err.now in
     let err_after = g.E.Sink.view c.put.new.err in
     subst (λ a. IfOk a (λ given. KeepsRows (happened (texts (drop 1 (into_iter_items given))) here here err err_after c.put.result))) (sym c.in-Ok.is)
-    (keeps_rows c.memory.result.outcome (happened words here here err err_after c.put.result)
+    (keeps_rows c.built_in_runs.ensures.behaves c.memory.result.outcome (happened words here here err err_after c.put.result)
     (subst (λ (o : Outcome). Facts o words here here) (sym c.memory.ensures) (WithoutLine (record { why = tt; same = refl })))
     c.put.ensures)

@@ -2,10 +2,10 @@ use Rattle.std.proofs.Common.{◌≡◌, ◌<◌, ℕ, List, arith, length, map,
 use Rattle.std.proofs.lemmas.List.{length-map}
 use Rattle.fmu_peer.specs.Start.{SpawnerView}
 use Rattle.command_line.specs.Line.{line_with}
-use Rattle.step_master.specs.Lived.{Account, Lived, Unmade}
+use Rattle.step_master.specs.Lived.{Lived, Unmade}
 use Rattle.step_master.specs.Master.{FailsToPrepare}
 use Rattle.step_master.specs.declared.prepare_end.PrepareFault.{PrepareFault}
-use Rattle.step_master.specs.declared.run_end.RunEnd.TheVariants as E
+use Rattle.calling_sequence.specs.declared.run_end.RunEnd.TheVariants as E
 use Rattle.step_master.specs.Standing.{standing}
 use Rattle.system_model.specs.declared.system.Component.{Component}
 use Rattle.ssprun.specs.declared.outcome.Outcome.{Outcome}
@@ -13,7 +13,7 @@ use Rattle.ssprun.specs.Facts.{SystemFacts, task_of}
 use Rattle.ssprun.specs.Happened.{scene}
 use Rattle.ssprun.specs.Peers.{with_all_retired, with_all_started}
 use Rattle.ssprun.specs.Runs.{Broke, IsEndOf, NamesOne, RunsPeers, Went}
-use Rattle.ssprun.proofs.Running.{fails, given_back, goes, lived_names, lived_news, new_peers, plan_within, unmade_names}
+use Rattle.ssprun.proofs.Running.{account_of, fails, given_back, goes, lived_names, lived_news, new_peers, plan_within, unmade_names}
 use Rattle.ssprun.proofs.run.run_peers.Goals as goal
 
 pub prepare-requires-clause-peers : goal.prepare-requires-clause-peers
@@ -27,16 +27,7 @@ retire_each-requires-after_bounds g c κs within =
     let olds = map view c.args.peers.items in
     let news = map view c.close.result.items in
     let peers = new_peers c.args.options.now.directory.now c.args.system olds c.requires.started (length-map c.args.peers.items view ∙ c.requires.each) in
-    let account : Account = record {
-      system = c.args.system;
-      plan = c.args.options.now.plan;
-      olds = olds;
-      news = news;
-      before = g.O.Sink.view c.args.out.now;
-      after = g.O.Sink.view c.run-end.new.out;
-      instants = (standing view c.run-end.new.self).instants;
-      end = c.run-end.result;
-    } in
+    let account = account_of c.args.system c.args.options.now.plan olds news (g.O.Sink.view c.args.out.now) (g.O.Sink.view c.run-end.new.out) (standing view c.run-end.new.self) c.run-end.result in
     let lived : Lived account = c.lives_of_peers.ensures.run account (standing view c.in-Ok.master) (standing view c.run-end.new.self) c.requires.runnable.sound peers c.in-Ok.ensures.ok c.run-end.ensures c.close.ensures refl in
     let same : length c.close.result.items ≡ length c.args.peers.items = sym (length-map c.close.result.items view) ∙ lived_news account lived ∙ sym c.requires.each in
     let room = c.requires.fewer in
@@ -48,16 +39,7 @@ ended-requires g c =
     let olds = map view c.args.peers.items in
     let news = map view c.close.result.items in
     let peers = new_peers c.args.options.now.directory.now c.args.system olds c.requires.started (length-map c.args.peers.items view ∙ c.requires.each) in
-    let account : Account = record {
-      system = c.args.system;
-      plan = c.args.options.now.plan;
-      olds = olds;
-      news = news;
-      before = g.O.Sink.view c.args.out.now;
-      after = g.O.Sink.view c.run-end.new.out;
-      instants = (standing view c.run-end.new.self).instants;
-      end = c.run-end.result;
-    } in
+    let account = account_of c.args.system c.args.options.now.plan olds news (g.O.Sink.view c.args.out.now) (g.O.Sink.view c.run-end.new.out) (standing view c.run-end.new.self) c.run-end.result in
     let lived : Lived account = c.lives_of_peers.ensures.run account (standing view c.in-Ok.master) (standing view c.run-end.new.self) c.requires.runnable.sound peers c.in-Ok.ensures.ok c.run-end.ensures c.close.ensures refl in
     subst (λ (n : ℕ). NamesOne n c.run-end.result) (sym (ap length c.requires.names ∙ length-map c.args.system.components (λ (x : Component). x.name))) (lived_names account lived)
 
@@ -89,16 +71,7 @@ returns-in-Ok g c before known told =
     let olds = map view c.args.peers.items in
     let news = map view c.close.result.items in
     let peers = new_peers c.args.options.now.directory.now c.args.system olds c.requires.started (length-map c.args.peers.items view ∙ c.requires.each) in
-    let account : Account = record {
-      system = c.args.system;
-      plan = c.args.options.now.plan;
-      olds = olds;
-      news = news;
-      before = g.O.Sink.view c.args.out.now;
-      after = g.O.Sink.view c.run-end.new.out;
-      instants = (standing view c.run-end.new.self).instants;
-      end = c.run-end.result;
-    } in
+    let account = account_of c.args.system c.args.options.now.plan olds news (g.O.Sink.view c.args.out.now) (g.O.Sink.view c.run-end.new.out) (standing view c.run-end.new.self) c.run-end.result in
     let lived : Lived account = c.lives_of_peers.ensures.run account (standing view c.in-Ok.master) (standing view c.run-end.new.self) c.requires.runnable.sound peers c.in-Ok.ensures.ok c.run-end.ensures c.close.ensures refl in
     let task = task_of (line_with c.args.options.now) in
     let old = scene before (g.O.Sink.view c.args.out.now) in

@@ -3,7 +3,7 @@ use Rattle.std.proofs.lemmas.List.Elements.{All-append, All-cons, All-head, All-
 use Rattle.std.specs.Vec.Iter.{into_iter_items}
 use Rattle.fmi_calls.specs.declared.phase.InstanceState.TheVariants as P
 use Rattle.fmu_peer.specs.CloseAll.{instance_in}
-use Rattle.step_master.specs.Slots.{LiveSlot}
+use Rattle.slot_calls.specs.Slots.{LiveSlot}
 use Rattle.step_master.proofs.SeatLemmas.{seats_more}
 use Rattle.step_master.proofs.taking.take_seats.Goals as goal
 

@@ -2,7 +2,7 @@ use Rattle.std.proofs.Common.{◌≡◌, ◌≤◌, ◌+◌, ◌++◌, All, drop
 use Rattle.std.specs.Vec.Iter.{into_iter_items, into_iter_len}
 use Rattle.fmi_calls.specs.declared.phase.InstanceState.TheVariants as P
 use Rattle.step_master.specs.Seats.{seated}
-use Rattle.step_master.specs.Slots.{LiveSlot, instances}
+use Rattle.slot_calls.specs.Slots.{LiveSlot, instances}
 use Rattle.step_master.proofs.taking.take_seats.Given as goal
 
 abbrev pub invariant-loop-peer : goal.invariant-loop-peer

@@ -9,12 +9,12 @@ loop-beside-preserved c =
     elim c.if-is_same.branch [
       | then-is_same w ↦ record {
         counted = w.place-is ∙ ap (λ n. n + 1) c.loop-beside.invariant.counted
-            ∙ sym (counts_yes c.args.self.now c.loop-beside.beside c.parent.result c.parent_at-parent.result within c.parent.ensures (sym c.is_same.ensures ∙ w.if-is_same.true));
+            ∙ sym (counts_yes c.args.self.now c.loop-beside.beside c.parent.result c.parent_at-parent.result within c.parent.ensures.parent (sym c.is_same.ensures ∙ w.if-is_same.true));
         small = omega arith;
       }
       | else-is_same w ↦ record {
         counted = w.place-is ∙ c.loop-beside.invariant.counted
-            ∙ sym (counts_no c.args.self.now c.loop-beside.beside c.parent.result c.parent_at-parent.result within c.parent.ensures (sym c.is_same.ensures ∙ w.if-is_same.false));
+            ∙ sym (counts_no c.args.self.now c.loop-beside.beside c.parent.result c.parent_at-parent.result within c.parent.ensures.parent (sym c.is_same.ensures ∙ w.if-is_same.false));
         small = omega arith;
       }
     ]

@@ -13,7 +13,7 @@ returns-then-branch c =
 
 pub loop-rule-preserved : goal.loop-rule-preserved
 loop-rule-preserved c =
-    below_more (λ (j : ℕ). Violates (get_or DESCRIPTION_RULES j r.RootName) c.args.self.now.tree.now c.args.self.now.resolution c.args.node → ⊥)
+    below_more (λ (j : ℕ). Violates c.args.self.now.tree.now c.args.self.now.resolution (get_or DESCRIPTION_RULES j r.RootName) c.args.node → ⊥)
     c.loop-rule.rule-index c.loop-rule.invariant (iff_false c.in_ok-breaks.ensures c.if-branch.false)
 
 pub returns : goal.returns

@@ -2,13 +2,13 @@ use Rattle.std.proofs.Common.{◌≤◌, ◌^◌, List, refl, sym, ap, ◌∙◌
 use Rattle.fmu_peer.specs.CloseAll.{Instance, instance_in}
 use Rattle.fmu_peer.specs.Mode.{instantiate_of}
 use Rattle.value_types.specs.declared.shape.Shape.{Shape}
-use Rattle.step_master.specs.Log.{Told}
+use Rattle.slot_calls.specs.Log.{Told}
 use Rattle.step_master.specs.Seats.{seated}
-use Rattle.step_master.specs.Slots.{instances}
-use Rattle.step_master.specs.Stage.{IsAnswered, StopsAt, shapes, to_each}
-use Rattle.step_master.proofs.Answered.{shapes_same}
+use Rattle.slot_calls.specs.Slots.{instances}
+use Rattle.slot_calls.specs.Stage.{IsAnswered, StopsAt, shapes, to_each}
+use Rattle.slot_calls.proofs.Answered.{shapes_same}
 use Rattle.step_master.proofs.Prepared.{components_few, outputs_of, peers_fresh, ports_all, seated_shapes, slots_fresh, slots_length}
-use Rattle.step_master.proofs.Sizes.{same_length}
+use Rattle.calling_sequence.proofs.Sizes.{same_length}
 use Rattle.step_master.proofs.master.Master.prepare.Goals as goal
 
 pub new-requires-2-clause-fresh : goal.new-requires-2-clause-fresh

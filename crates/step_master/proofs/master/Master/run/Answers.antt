@@ -1,6 +1,6 @@
 use Rattle.std.proofs.Common.{subst, refl, sym, ap, ◌∙◌, length}
-use Rattle.step_master.specs.Slots.{instances}
-use Rattle.step_master.specs.Log.{Told}
+use Rattle.slot_calls.specs.Slots.{instances}
+use Rattle.slot_calls.specs.Log.{Told}
 use Rattle.step_master.proofs.SeatLemmas.{written_back}
 use Rattle.step_master.proofs.master.Master.run.Goals as goal
 

@@ -2,7 +2,7 @@ use Rattle.std.proofs.Common.{◌≡◌, refl, sym, ap, ◌∙◌, subst, length
 use Rattle.std.specs.Prelude.{All, is_some}
 use Rattle.fmu_peer.specs.CloseAll.{ClosesAll, instance_in, peer_in}
 use Rattle.step_master.specs.Seats.{views_of}
-use Rattle.step_master.specs.Slots.{instances}
+use Rattle.slot_calls.specs.Slots.{instances}
 use Rattle.step_master.proofs.SeatLemmas.{spent_all, views_same, written_back}
 use Rattle.step_master.proofs.seats.Seats.close.Goals as goal
 

@@ -2,7 +2,7 @@ use Rattle.std.proofs.Common.{arith, ap, sym, ◌≡◌, ◌∙◌, length, map,
 use Rattle.std.proofs.lemmas.List.{length-map}
 use Rattle.fmu_peer.specs.CloseAll.{instance_in}
 use Rattle.step_master.specs.Seats.{seated}
-use Rattle.step_master.specs.Slots.{instances}
+use Rattle.slot_calls.specs.Slots.{instances}
 use Rattle.step_master.proofs.SeatLemmas.{length_seated}
 use Rattle.step_master.proofs.seats.Seats.new.Goals as goal
 

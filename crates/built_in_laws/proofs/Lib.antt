@@ -1,0 +1,2 @@
+mod WellLemmas
+mod BuiltInRuns

@@ -1,0 +1,6 @@
+//! Laws of the built-in machines along runs.
+#![tactic(auto)]
+
+mod laws;
+
+pub use laws::built_in_runs;

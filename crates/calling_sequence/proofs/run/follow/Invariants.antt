@@ -1,0 +1,22 @@
+use Rattle.std.proofs.Common.{◌≡◌, ◌≤◌, ◌-◌, length}
+use Rattle.std.specs.Prelude.{All}
+use Rattle.calling_sequence.proofs.Courses.{Here}
+use Rattle.calling_sequence.specs.Place.{IsAt}
+use Rattle.slot_calls.specs.Slots.{LiveSlot, Stands, instances}
+use Rattle.calling_sequence.proofs.run.follow.Given as goal
+
+abbrev pub invariant-points : goal.invariant-points
+invariant-points g l =
+    let view = g.L.Peer.view in
+    record {
+      live : All (LiveSlot view) l.slots;
+      at : All (Stands (IsAt l.t l.plan.stop l.plan.step) view) l.slots;
+      here : Here l.system l.plan (instances view l.fn.slots) (g.O.Sink.view l.fn.out) l.t (instances view l.slots) (g.O.Sink.view l.out) l.instants;
+      few : l.instants ≤ l.t;
+      begun : l.plan.start ≤ l.t;
+      within : l.t ≤ l.plan.stop;
+      places : length l.values ≡ length l.system.ports;
+    }
+
+abbrev pub decreases-points : goal.decreases-points
+decreases-points g l = l.plan.stop - l.t

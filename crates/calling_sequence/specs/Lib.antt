@@ -1,0 +1,6 @@
+pub mod Plans
+pub mod Place
+pub mod Course
+pub mod Puts
+pub mod Ends
+pub mod Steps

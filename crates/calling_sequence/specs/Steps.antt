@@ -1,0 +1,96 @@
+-- What the parts of a run leave, from the first call to the end line.
+use Rattle.std.specs.Prelude.{◌≡◌, ◌⊎◌, ℕ, ℤ, ◌≤◌, Option, true, false, List, ◌++◌, length, Result, Ok, Err}
+use Rattle.sim_base.specs.Sink.{SinkView, with_piece}
+use Rattle.value_types.specs.declared.shape.Shape.{Shape}
+use Rattle.fmi_calls.specs.declared.call.Call.TheVariants as C
+use Rattle.fmu_peer.specs.CloseAll.{Instance}
+use Rattle.system_model.specs.declared.plan.Plan.{Plan}
+use Rattle.system_model.specs.declared.system.System.{System}
+use Rattle.system_model.specs.declared.plan.EndKind.{EndKind}
+use Rattle.system_model.specs.Text.{Instant, end_text}
+use Rattle.trace_text.specs.Room.{IsCount}
+use Rattle.slot_calls.specs.declared.bad_answer.BadAnswer.{BadAnswer}
+use Rattle.calling_sequence.specs.declared.ending.Break.{Break}
+use Rattle.calling_sequence.specs.declared.ending.Break.TheVariants as B
+use Rattle.calling_sequence.specs.declared.ending.Ending.{Ending}
+use Rattle.calling_sequence.specs.declared.run_end.RunEnd.{RunEnd}
+use Rattle.calling_sequence.specs.declared.run_end.RunEnd.TheVariants as E
+use Rattle.calling_sequence.specs.Course.{Finishes, AtHeader, AtInstant, ends_well, kind_of_end, pieces_of}
+use Rattle.calling_sequence.specs.Ends.{EndsBy}
+use Rattle.slot_calls.specs.Carried.{gets, values_of}
+use Rattle.slot_calls.specs.Log.{Asking, Sent, Told}
+use Rattle.calling_sequence.specs.Puts.{CutsPiece, with_pieces}
+use Rattle.slot_calls.specs.Stage.{Stage, to_each}
+
+-- a result that carries this value where it is good
+abbrev pub carrying : {A T E : Type 0} → Result A E → T → Result T E
+carrying (Ok a) x = Ok x
+carrying (Err e) x = Err e
+
+-- the outputs were read at a point, which gave these values, or a Get had a bad answer
+abbrev pub ReadsAt : System → ℕ → List Instance → List Instance → List (Option ℤ) → Result (Unit {0}) Break → Type 0
+ReadsAt system t olds news values (Ok x) = Stage (gets system.ports) values_of olds news (Ok values)
+ReadsAt system t olds news values (Err (B.Ends ending)) =
+    (bad : BadAnswer) × (ending ≡ record { end = E.Bad bad; point = t }) × Stage (gets system.ports) values_of olds news (Err bad)
+ReadsAt system t olds news values (Err B.Write) = ⊥
+
+-- ---- the way to the end
+
+-- the run came to its end, and all was put but its end line
+abbrev pub Comes : System → Plan → List Sent → List Instant → SinkView → SinkView → Ending → Type 0
+Comes system plan log is before after ending = Finishes system plan ending.end ending.point log is × (after ≡ with_pieces before (pieces_of system plan is))
+
+-- a put failed before that
+pub record Cuts (system : System) (plan : Plan) (log : List Sent) (is : List Instant) (before after : SinkView) : Type 0 where
+  pub pieces : List (List ℕ)
+  pub piece : List ℕ
+  pub interrupted : AtHeader system plan log is pieces piece ⊎ AtInstant system plan log is pieces piece
+  pub put : CutsPiece (with_pieces before pieces) piece after
+
+-- a bad answer breaks it off, and so does a put that failed
+abbrev pub Goes : System → Plan → List Sent → List Instant → SinkView → SinkView → Result Ending Break → Type 0
+Goes system plan log is before after (Ok ending) = (ends_well ending.end ≡ true) × Comes system plan log is before after ending
+Goes system plan log is before after (Err (B.Ends ending)) = (ends_well ending.end ≡ false) × Comes system plan log is before after ending
+Goes system plan log is before after (Err B.Write) = Cuts system plan log is before after
+
+pub record Follows (system : System) (plan : Plan) (olds news : List Instance) (before after : SinkView) (counted : ℕ) (result : Result Ending Break) : Type 0 where
+  pub log : List Sent
+  pub is : List Instant
+  pub told : Told log olds news
+  pub counted_is : counted ≡ length is
+  pub goes : Goes system plan log is before after result
+
+-- a result at a point, where a bad answer is the end
+abbrev pub at_point : {T : Type 0} → Result T BadAnswer → ℕ → Result T Break
+at_point (Ok x) point = Ok x
+at_point (Err bad) point = Err (B.Ends (record { end = E.Bad bad; point = point }))
+
+-- by their shapes: each enters Initialization Mode, and then each leaves it
+abbrev pub initializing_all : Plan → List Shape → List Asking
+initializing_all plan shapes = to_each (λ (shape : Shape). C.EnterInitialization plan.start plan.stop) shapes ++ to_each (λ (shape : Shape). C.ExitInitialization) shapes
+
+-- ---- the end
+
+-- each end line fits
+abbrev pub HoldsEnds : ℕ → Type 0
+HoldsEnds room = (kind : EndKind) (t : ℕ) → IsCount t → length (end_text kind t) ≤ room
+
+-- the end line was put, or its put failed
+abbrev pub PutsEnd : Ending → RunEnd → SinkView → SinkView → Type 0
+PutsEnd ending end before after =
+    ((end ≡ ending.end) × (after ≡ with_piece before (end_text (kind_of_end ending.end) ending.point)))
+    ⊎ ((end ≡ E.WriteFault) × CutsPiece before (end_text (kind_of_end ending.end) ending.point) after)
+
+-- and it isn't put behind a put that failed
+abbrev pub Concludes : Result Ending Break → RunEnd → SinkView → SinkView → Type 0
+Concludes (Ok ending) end before after = PutsEnd ending end before after
+Concludes (Err (B.Ends ending)) end before after = PutsEnd ending end before after
+Concludes (Err B.Write) end before after = (end ≡ E.WriteFault) × (after ≡ before)
+
+-- a run over slots
+pub record RunsSlots (system : System) (plan : Plan) (olds news : List Instance) (before after : SinkView) (counted : ℕ) (end : RunEnd) : Type 0 where
+  pub log : List Sent
+  pub is : List Instant
+  pub told : Told log olds news
+  pub ends : EndsBy system plan log is end before after
+  pub counted_is : counted ≡ length is

@@ -1,0 +1,283 @@
+ghost use Rattle.std.specs.Prelude.{◌≡◌, ◌≤◌, ◌<◌, ◌^◌, ◌+◌, [], OnOk, IfErr, IfSome, All, length, not, option_map, position};
+ghost use Rattle.sim_base.specs.Sink.{with_piece};
+ghost use Rattle.run_model.specs.Steps.{IsBound};
+ghost use Rattle.trace_text.specs.Room.{HoldsEach};
+ghost use Rattle.calling_sequence.specs.declared.ending.Break.TheVariants as Break;
+ghost use Rattle.calling_sequence.specs.Course.{first_unfit, header_of, kind_of_end};
+ghost use Rattle.calling_sequence.specs.Place.{CanRead, IsAt, IsMade, IsPortOf};
+ghost use Rattle.calling_sequence.specs.Puts.{CutsPiece};
+ghost use Rattle.system_model.specs.Text.{instant_text};
+ghost use Rattle.slot_calls.specs.Carried.{IsWide};
+ghost use Rattle.slot_calls.specs.Slots.{LiveSlot, Stands, instances};
+ghost use Rattle.slot_calls.specs.Stage.{Stage, nothing, shapes, shapes_of};
+ghost use Rattle.calling_sequence.specs.Steps.{Concludes, Follows, HoldsEnds, PutsEnd, ReadsAt, RunsSlots, at_point, initializing_all};
+ghost use Rattle.calling_sequence.specs.Plans.{IsPlan};
+
+use crate::reading::read_ports;
+use crate::{Break, Ending, RunEnd};
+use fmu_peer::{Peer, Slot};
+use sim_base::{CompId, Sink};
+use slot_calls::{Ask, BadAnswer, each, round};
+use system_model::{Component, EndKind, Plan, System};
+use trace_text::{put_end, put_header, put_instant};
+
+/// Follows the calling sequence of Co-Simulation from instances that were made to the end of the run. It puts the header,
+/// leads each instance through Initialization Mode, and then at each point reads each port, puts the instant and steps all
+/// instances to the next grid point or the stop. It puts one piece for the header and one for each instant, and not the end
+/// line. Points and sizes of steps are counts over the plan's resolution.
+///
+/// There is a slot for each component, in their order and of its shape; each instance was made, and is held in the state of
+/// its phase; each port is an output of one of them. `values` has a place for each port and `text` room for each text of the
+/// system, whatever stands in them, and `instants`, the number of instants that were put, begins at 0. No memory is taken.
+pub fn follow<L: Peer, O: Sink>(
+    slots: &mut [Slot<L>],
+    system: &System,
+    plan: &Plan,
+    values: &mut [Option<i128>],
+    text: &mut [u8],
+    instants: &mut u128,
+    out: &mut O,
+) -> Result<Ending, Break>
+    requires few { length slots.old ≤ 2 ^ 32 }
+    requires shapes { shapes (instances L.view slots.old) ≡ shapes_of system.now }
+    requires plan { IsPlan plan.now }
+    requires live { All (LiveSlot L.view) slots.old }
+    requires made { All (Stands IsMade L.view) slots.old }
+    requires ports { All (IsPortOf (instances L.view slots.old)) system.now.ports }
+    requires places { length values.old ≡ length system.now.ports }
+    requires room { HoldsEach system.now (length text.old) }
+    requires none { instants.old ≡ 0 }
+    ensures { Follows system.now plan.now (instances L.view slots.old) (instances L.view slots.new) (O.view out.old) (O.view out.new) instants.new result }
+{
+    put_head(system, plan, text, out)?;
+    at_point(initialize(slots, plan), plan.start)?;
+    let mut t = plan.start;
+    'points: loop {
+        read_at(slots, system, t, values)?;
+        put_values(system, t, values, text, instants, out)?;
+        if t == plan.stop {
+            return Ok(Ending {
+                end: RunEnd::Stop,
+                point: t,
+            });
+        }
+        let bound = next_bound(plan, t);
+        if let Some(component) = first_unfit(system, plan, bound - t) {
+            return Ok(Ending {
+                end: RunEnd::FixedStep {
+                    component,
+                    at: t,
+                    end: bound,
+                },
+                point: t,
+            });
+        }
+        let size = bound - t;
+        let is_asked = at_point(round(slots, Ask::DoStep { at: t, size }), t)?;
+        t = bound;
+        if is_asked {
+            return Ok(Ending {
+                end: RunEnd::Asked { point: t },
+                point: t,
+            });
+        }
+    }
+}
+
+/// Runs instances that were made to the end of the run, as `follow` does under the same conditions, and puts the end line,
+/// but behind a put that failed. It takes no memory.
+pub fn run_slots<L: Peer, O: Sink>(
+    slots: &mut [Slot<L>],
+    system: &System,
+    plan: &Plan,
+    values: &mut [Option<i128>],
+    text: &mut [u8],
+    instants: &mut u128,
+    out: &mut O,
+) -> RunEnd
+    requires few { length slots.old ≤ 2 ^ 32 }
+    requires shapes { shapes (instances L.view slots.old) ≡ shapes_of system.now }
+    requires plan { IsPlan plan.now }
+    requires live { All (LiveSlot L.view) slots.old }
+    requires made { All (Stands IsMade L.view) slots.old }
+    requires ports { All (IsPortOf (instances L.view slots.old)) system.now.ports }
+    requires places { length values.old ≡ length system.now.ports }
+    requires room { HoldsEach system.now (length text.old) }
+    requires none { instants.old ≡ 0 }
+    ensures { RunsSlots system.now plan.now (instances L.view slots.old) (instances L.view slots.new) (O.view out.old) (O.view out.new) instants.new result }
+{
+    let outcome = follow(slots, system, plan, values, text, instants, out);
+    conclude(outcome, text, out)
+}
+
+// Puts the end line, but behind a put that failed.
+fn conclude<O: Sink>(outcome: Result<Ending, Break>, text: &mut [u8], out: &mut O) -> RunEnd
+    requires { HoldsEnds (length text.old) }
+    ensures { Concludes outcome result (O.view out.old) (O.view out.new) }
+{
+    match outcome {
+        Ok(ending) | Err(Break::Ends(ending)) => finish(ending, text, out),
+        Err(Break::Write) => RunEnd::WriteFault,
+    }
+}
+
+fn finish<O: Sink>(ending: Ending, text: &mut [u8], out: &mut O) -> RunEnd
+    requires { HoldsEnds (length text.old) }
+    ensures { PutsEnd ending result (O.view out.old) (O.view out.new) }
+{
+    let length = put_end(kind_of_end(ending.end), ending.point, text);
+    match out.put(&text[..length]) {
+        Ok(()) => ending.end,
+        Err(_) => RunEnd::WriteFault,
+    }
+}
+
+// The kind of the end line.
+fn kind_of_end(end: RunEnd) -> EndKind
+    ensures { result ≡ kind_of_end end }
+{
+    match end {
+        RunEnd::Stop => EndKind::Stop,
+        RunEnd::Asked { .. } => EndKind::Asked,
+        RunEnd::EventLimit { .. } => EndKind::Limit,
+        RunEnd::FixedStep { .. } => EndKind::Fixed,
+        RunEnd::Bad(_) | RunEnd::WriteFault => EndKind::Fault,
+    }
+}
+
+fn put_head<O: Sink>(
+    system: &System,
+    plan: &Plan,
+    text: &mut [u8],
+    out: &mut O,
+) -> Result<(), Break>
+    requires { HoldsEach system.now (length text.old) }
+    ensures ok { OnOk result (O.view out.new ≡ with_piece (O.view out.old) (header_of system.now plan.now)) }
+    ensures err { IfErr result (λ b. (b ≡ Break.Write) × CutsPiece (O.view out.old) (header_of system.now plan.now) (O.view out.new)) }
+{
+    let length = put_header(system, plan.resolution, plan.start, plan.stop, text);
+    match out.put(&text[..length]) {
+        Ok(()) => Ok(()),
+        Err(_) => Err(Break::Write),
+    }
+}
+
+// Leads each FMU into Step Mode through Initialization Mode.
+fn initialize<L: Peer>(slots: &mut [Slot<L>], plan: &Plan) -> Result<(), BadAnswer>
+    requires few { length slots.old ≤ 2 ^ 32 }
+    requires plan { plan.now.start ≤ plan.now.stop }
+    requires live { All (LiveSlot L.view) slots.old }
+    requires made { All (Stands IsMade L.view) slots.old }
+    ensures live { OnOk result (All (LiveSlot L.view) slots.new) }
+    ensures at { OnOk result (All (Stands (IsAt plan.now.start plan.now.stop plan.now.step) L.view) slots.new) }
+    ensures stage { Stage (initializing_all plan.now (shapes (instances L.view slots.old))) nothing (instances L.view slots.old) (instances L.view slots.new) result }
+{
+    each(
+        slots,
+        Ask::EnterInitialization {
+            start: plan.start,
+            stop: plan.stop,
+        },
+    )?;
+    each(slots, Ask::ExitInitialization)?;
+    Ok(())
+}
+
+// Reads the outputs at a point, up to the first answer that isn't good.
+fn read_at<L: Peer>(
+    slots: &mut [Slot<L>],
+    system: &System,
+    t: u64,
+    values: &mut [Option<i128>],
+) -> Result<(), Break>
+    requires live { All (LiveSlot L.view) slots.old }
+    requires readable { All (Stands CanRead L.view) slots.old }
+    requires ports { All (IsPortOf (instances L.view slots.old)) system.now.ports }
+    requires places { length values.old ≡ length system.now.ports }
+    ensures live { OnOk result (All (LiveSlot L.view) slots.new) }
+    ensures readable { OnOk result (All (Stands CanRead L.view) slots.new) }
+    ensures ports { OnOk result (All (IsPortOf (instances L.view slots.new)) system.now.ports) }
+    ensures reads { ReadsAt system.now t (instances L.view slots.old) (instances L.view slots.new) values.new result }
+    ensures wide { OnOk result (All IsWide values.new) }
+    ensures kept { length values.new ≡ length values.old }
+{
+    at_point(read_ports(slots, system.ports.as_slice(), values), t)
+}
+
+// Puts the instant at a point with these values, and counts it.
+fn put_values<O: Sink>(
+    system: &System,
+    t: u64,
+    values: &[Option<i128>],
+    text: &mut [u8],
+    instants: &mut u128,
+    out: &mut O,
+) -> Result<(), Break>
+    requires wide { All IsWide values.now }
+    requires places { length values.now ≡ length system.now.ports }
+    requires room { HoldsEach system.now (length text.old) }
+    requires counts { instants.old < 2 ^ 127 }
+    ensures put { OnOk result (O.view out.new ≡ with_piece (O.view out.old) (instant_text t 0 values.now)) }
+    ensures counted { OnOk result (instants.new ≡ instants.old + 1) }
+    ensures write { IfErr result (λ b. b ≡ Break.Write) }
+    ensures cut { IfErr result (λ b. CutsPiece (O.view out.old) (instant_text t 0 values.now) (O.view out.new)) }
+    ensures uncounted { IfErr result (λ b. instants.new ≡ instants.old) }
+{
+    let length = put_instant(system, t, 0, values, text);
+    match out.put(&text[..length]) {
+        Ok(()) => {
+            *instants += 1;
+            Ok(())
+        }
+        Err(_) => Err(Break::Write),
+    }
+}
+
+// A result at a point, where a bad answer is the end.
+fn at_point<T>(answer: Result<T, BadAnswer>, point: u64) -> Result<T, Break>
+    ensures { result ≡ at_point answer point }
+{
+    match answer {
+        Ok(value) => Ok(value),
+        Err(bad) => Err(Break::Ends(Ending {
+            end: RunEnd::Bad(bad),
+            point,
+        })),
+    }
+}
+
+// The bound of the step from a point before the stop, in counts: the next grid point or the stop.
+fn next_bound(plan: &Plan, t: u64) -> u64
+    requires plan { IsPlan plan.now }
+    requires begun { plan.now.start ≤ t }
+    requires before { t < plan.now.stop }
+    ensures { IsBound plan.now [] t result }
+{
+    let steps = (t - plan.start) / plan.step + 1;
+    let grid = plan.start + steps * plan.step;
+    plan.stop.min(grid)
+}
+
+// The least component that takes no step of this size.
+fn first_unfit(system: &System, plan: &Plan, size: u64) -> Option<CompId>
+    requires { length system.now.components ≤ 2 ^ 32 }
+    ensures { option_map (λ c. c.0) result ≡ first_unfit system.now plan.now size }
+{
+    if size == plan.step {
+        return None;
+    }
+    match first_unvaried(system.components.as_slice()) {
+        Some(place) => Some(CompId(place as u32)),
+        None => None,
+    }
+}
+
+// The place of the first component without variable steps.
+fn first_unvaried(components: &[Component]) -> Option<usize>
+    ensures place { result ≡ position (λ c. not c.shape.has_variable_steps) components.now }
+    ensures within { IfSome result (λ place. place < length components.now) }
+{
+    components
+        .iter()
+        .position(|component| !component.shape.has_variable_steps)
+}

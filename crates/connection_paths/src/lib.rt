@@ -1,0 +1,12 @@
+//! From where a path of connections leads to each connector.
+#![tactic(auto)]
+
+mod firsts;
+mod links;
+mod point;
+mod sources;
+#[cfg(test)]
+mod tests;
+
+pub use point::{Connection, Point};
+pub use sources::sources_of;

@@ -1,0 +1,11 @@
+pub mod ListLemmas
+pub mod FilterLemmas
+pub mod OrderLemmas
+pub mod LoopLemmas
+pub mod SortLemmas
+pub mod FindLemmas
+pub mod ExamineLemmas
+pub mod ReleaseLemmas
+pub mod SpreadLemmas
+pub mod SourceLemmas
+pub mod GroupLemmas

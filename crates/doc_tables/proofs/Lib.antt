@@ -1,0 +1,4 @@
+pub mod TableLemmas
+pub mod ScopeLemmas
+pub mod ViolationLemmas
+pub mod AnswerLemmas

@@ -1,0 +1,5 @@
+pub mod Elements
+pub mod Tables
+pub mod Violations
+pub mod Answers
+pub mod Places

@@ -1,0 +1,13 @@
+pub mod Taking
+pub mod Walking
+pub mod Abouts
+pub mod Permits
+pub mod Rounds
+pub mod Finding
+pub mod Clearing
+pub mod Marking
+pub mod AtPoint
+pub mod FindingAtPoint
+pub mod Marks
+pub mod Setting
+pub mod Departing

@@ -1,0 +1,6 @@
+pub mod Turns
+pub mod Initialization
+pub mod Explains
+pub mod Machines
+pub mod Instants
+pub mod Settings

@@ -1,0 +1,14 @@
+//! The two stored orders of a system: each port behind all that it needs, in instants and in Initialization Mode; or a loop.
+#![tactic(auto)]
+
+mod gathering;
+mod index;
+mod needs;
+mod orders;
+mod placed;
+mod roles;
+#[cfg(test)]
+mod tests;
+
+pub use orders::{OrderFault, Orders, order_system};
+pub use placed::are_placed;

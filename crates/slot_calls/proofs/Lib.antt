@@ -1,0 +1,6 @@
+pub mod Logs
+pub mod Answered
+pub mod Leading
+pub mod Turns
+pub mod Moving
+pub mod Replying

@@ -1,0 +1,18 @@
+use Rattle.std.proofs.Common.{List, take}
+use Rattle.std.specs.Prelude.{All}
+use Rattle.slot_calls.specs.Log.{Sent, Told}
+use Rattle.slot_calls.specs.Slots.{LiveSlot, call_of, instances}
+use Rattle.slot_calls.specs.Stage.{IsAnswered, shapes, to_each}
+use Rattle.slot_calls.proofs.Turns.{SameFrom}
+use Rattle.slot_calls.proofs.stage.each.Given as goal
+
+abbrev pub invariant-loop-place : goal.invariant-loop-place
+invariant-loop-place g l =
+    let view = g.L.Peer.view in
+    record {
+      rest : SameFrom l.place l.fn.slots l.slots;
+      live : All (LiveSlot view) l.slots;
+      log : List Sent;
+      told : Told log (instances view l.fn.slots) (instances view l.slots);
+      answered : IsAnswered (shapes (instances view l.fn.slots)) (take l.place (to_each (call_of l.ask) (shapes (instances view l.fn.slots)))) log;
+    }

@@ -1,0 +1,48 @@
+use Rattle.std.proofs.Common.{refl, sym, ◌∙◌, subst, [], ◌++◌, List}
+use Rattle.std.specs.Prelude.{◌≤◌}
+use Rattle.std.proofs.lemmas.List.{length-map}
+use Rattle.fmu_peer.specs.CloseAll.{instance_in}
+use Rattle.slot_calls.specs.Carried.{any_asks_to_end, asks_to_end}
+use Rattle.slot_calls.specs.Log.{Asking}
+use Rattle.slot_calls.specs.Slots.{LiveSlot, MayBeAsked, Stands, call_of, instances}
+use Rattle.slot_calls.specs.Stage.{RoundSays, shapes}
+use Rattle.slot_calls.proofs.Answered.{answered_none, each_all, one_log, shape_of}
+use Rattle.slot_calls.proofs.Logs.{told_none}
+use Rattle.slot_calls.proofs.Turns.{at_rest, each_told, good_more, round_more, same_first, same_more}
+use Rattle.slot_calls.proofs.stage.round.Goals as goal
+
+pub loop-place-init : goal.loop-place-init
+loop-place-init g c =
+    let is = instances g.L.Peer.view c.args.slots.now in
+    record { rest = same_first c.args.slots.now; live = c.requires.live; log = []; told = told_none is; says = (answered_none (shapes is), refl) }
+
+pub advance-answer-requires-clause-permitted : goal.advance-answer-requires-clause-permitted
+advance-answer-requires-clause-permitted g c κs within =
+    at_rest (Stands (MayBeAsked c.args.ask) g.L.Peer.view) c.loop-place.place c.args.slots.now c.loop-place.slots c.index-slots-place.result c.loop-place.invariant.rest c.loop-place-test.true c.requires.permitted
+
+pub loop-place-preserved : goal.loop-place-preserved
+loop-place-preserved g c =
+    let i = c.loop-place.invariant in
+    let one = c.advance-answer.ensures.one in
+    record {
+      rest = same_more c.loop-place.place c.args.slots.now c.loop-place.slots c.advance-answer.new.slot i.rest;
+      live = good_more (LiveSlot g.L.Peer.view) c.loop-place.slots c.loop-place.place c.advance-answer.new.slot c.loop-place.so_far c.joined-so_far.result _ c.advance-answer.result c.joined-so_far.ensures
+          i.live c.advance-answer.ensures.live;
+      log = i.log ++ one_log c.loop-place.place one.exchange;
+      told = each_told (λ s. instance_in g.L.Peer.view s) (call_of c.args.ask) c.args.slots.now c.loop-place.slots i.log i.told c.loop-place.place c.index-slots-place.result c.advance-answer.new.slot
+          i.rest c.loop-place-test.true asks_to_end _ one;
+      says = round_more (λ s. instance_in g.L.Peer.view s) (call_of c.args.ask) c.args.slots.now c.loop-place.slots i.log i.told c.loop-place.place c.index-slots-place.result c.advance-answer.new.slot
+          i.rest c.loop-place-test.true c.loop-place.so_far c.joined-so_far.result _ c.advance-answer.result c.joined-so_far.ensures refl i.says one;
+    }
+
+pub returns-clause-round : goal.returns-clause-round
+returns-clause-round g c =
+    let is = instances g.L.Peer.view c.args.slots.now in
+    let i = c.loop-place.invariant in
+    record {
+      log = i.log;
+      told = i.told;
+      says = subst (λ (cs : List Asking). RoundSays (shapes is) cs any_asks_to_end i.log c.loop-place.so_far)
+          (each_all (call_of c.args.ask) (shapes is) c.loop-place.place
+          (subst (λ n. n ≤ c.loop-place.place) (sym (length-map is shape_of ∙ length-map c.args.slots.now (λ t. instance_in g.L.Peer.view t))) c.loop-place-test.false)) i.says;
+    }

@@ -1,0 +1,6 @@
+pub mod Log
+pub mod Stage
+pub mod Rounds
+pub mod Carried
+pub mod Slots
+pub mod Replies

@@ -1,0 +1,88 @@
+-- The slots of a run: in which typed state each FMU is held (FMI 3.0, 4.2.1), and what one call makes of it.
+use Rattle.std.specs.Prelude.{◌≡◌, Bool, true, false, List, [], ◌∷◌, map, Option, Some, None, Ok, Err, Result, OnOk}
+use Rattle.value_types.specs.declared.shape.Shape.{Shape}
+use Rattle.fmi_calls.specs.declared.call.Call.{Call}
+use Rattle.fmi_calls.specs.declared.call.Call.TheVariants as C
+use Rattle.fmi_calls.specs.Permission.{Permitted}
+use Rattle.fmi_calls.specs.declared.phase.InstanceState.{InstanceState}
+use Rattle.fmi_calls.specs.declared.phase.InstanceState.TheVariants as P
+use Rattle.fmu_peer.specs.declared.peer.Exchange.{Exchange}
+use Rattle.fmu_peer.specs.declared.slot.Held.{Held}
+use Rattle.fmu_peer.specs.declared.slot.Held.TheVariants.{Fresh, Instantiated, Initializing, Stepping, Ended, Closed}
+use Rattle.fmu_peer.specs.declared.slot.Slot.{Slot}
+use Rattle.fmu_peer.specs.declared.ended.Why.{Why}
+use Rattle.fmu_peer.specs.declared.ended.Why.TheVariants as W
+use Rattle.fmu_peer.specs.Close.{is_fatal_status}
+use Rattle.fmu_peer.specs.CloseAll.{Instance, instance_in, peer_in}
+use Rattle.fmu_peer.specs.Mode.{instantiate_of}
+use Rattle.fmu_peer.specs.View.{View}
+use Rattle.slot_calls.specs.Log.{Talks, Worth}
+use Rattle.slot_calls.specs.declared.ask.Ask.{Ask}
+use Rattle.slot_calls.specs.declared.ask.Ask.TheVariants as A
+
+abbrev pub instances : {L : Type 0} {g : _} → (L → View) → List (Slot L g) → List Instance
+instances view slots = map (λ s. instance_in view s) slots
+
+-- ---- held in the state of its phase
+
+-- the state that a typed FMU stands for
+abbrev pub state_of : {L : Type 0} {g : _} → Held L g → Option InstanceState
+state_of (Fresh fmu) = Some P.Fresh
+state_of (Instantiated fmu) = Some P.Instantiated
+state_of (Initializing fmu) = Some P.Initialization
+state_of (Stepping fmu) = Some P.Step
+state_of (Ended ended) = None
+state_of (Closed peer) = None
+
+abbrev pub IsLive : {L : Type 0} {g : _} → (L → View) → Held L g → Type 0
+IsLive view held = state_of held ≡ Some (view (peer_in held)).phase.state
+
+abbrev pub LiveSlot : {L : Type 0} {g : _} → (L → View) → Slot L g → Type 0
+LiveSlot view slot = IsLive view slot.held
+
+-- the slot's instance stands so
+abbrev pub Stands : {L : Type 0} {g : _} → (View → Type 0) → (L → View) → Slot L g → Type 0
+Stands P view slot = P (view (peer_in slot.held))
+
+-- ---- one call
+
+-- the call that an FMU of a shape is asked
+abbrev pub call_of : Ask → Shape → Call
+call_of A.Instantiate shape = instantiate_of shape
+call_of (A.EnterInitialization start stop) shape = C.EnterInitialization start stop
+call_of A.ExitInitialization shape = C.ExitInitialization
+call_of (A.DoStep at size) shape = C.DoStep at size
+
+-- a Get or a Set, which leaves the mode
+abbrev pub sets_or_gets : Call → Bool
+sets_or_gets (C.Get kind reference) = true
+sets_or_gets (C.Set kind reference value) = true
+sets_or_gets _ = false
+
+-- the FMU may be asked so
+abbrev pub MayBeAsked : Ask → View → Type 0
+MayBeAsked ask v = Permitted v.fixed.shape v.phase (call_of ask v.fixed.shape)
+
+-- the peer was asked this call alone
+pub record Called {T : Type 0} (call : Call) (value : Exchange → T) (old new : View) (result : Result T Why) : Type 0 where
+  pub exchange : Exchange
+  pub is : exchange.call ≡ call
+  pub talks : Talks old (exchange ∷ []) new
+  pub worth : Worth old.fixed.shape value exchange result
+
+-- what is held was asked this call alone, and is held in the state of its phase where the answer is good
+pub record Moves {L T : Type 0} {g : _} (view : L → View) (old : Held L g) (call : Call) (value : Exchange → T) (new : Held L g) (result : Result T Why) : Type 0 where
+  pub called : Called call value (view (peer_in old)) (view (peer_in new)) result
+  pub live : OnOk result (IsLive view new)
+
+-- ---- Fatal
+
+abbrev pub is_fatal_why : Why → Bool
+is_fatal_why (W.Refused call status) = is_fatal_status status
+is_fatal_why (W.Misreply call reply) = false
+is_fatal_why (W.Link call fault) = false
+
+-- a result is a refusal with Fatal
+abbrev pub is_fatal_result : {T : Type 0} → Result T Why → Bool
+is_fatal_result (Ok x) = false
+is_fatal_result (Err why) = is_fatal_why why

@@ -1,0 +1,158 @@
+ghost use Rattle.std.specs.Prelude.{◌≡◌, ◌||◌, OnOk};
+ghost use Rattle.fmi_calls.specs.Permission.{Permitted};
+ghost use Rattle.fmi_calls.specs.declared.call.Call.TheVariants as C;
+ghost use Rattle.fmi_calls.specs.declared.phase.InstanceState.TheVariants as P;
+ghost use Rattle.fmu_peer.specs.declared.slot.Held.TheVariants as Held;
+ghost use Rattle.fmu_peer.specs.CloseAll.{instance_in, peer_in};
+ghost use Rattle.fmu_peer.specs.Mode.{instantiate_of};
+ghost use Rattle.fmu_peer.specs.Running.{peer_of};
+ghost use Rattle.run_model.specs.Stepping.{is_terminating};
+ghost use Rattle.slot_calls.specs.Carried.{asks_to_end};
+ghost use Rattle.slot_calls.specs.Log.{One};
+ghost use Rattle.slot_calls.specs.Slots.{IsLive, MayBeAsked, Moves, call_of, is_fatal_result, is_fatal_why};
+
+use crate::Ask;
+use core::mem::replace_with;
+use fmi_calls::{BadStatus, Content, Reply};
+use fmu_peer::{Fmu, Fresh, Held, Initializing, Instantiated, Peer, Running, Slot, Stepping, Why};
+
+/// Sends the call to the FMU in a slot, and says whether its answer asks for the end of the run.
+pub fn advance<L: Peer>(slot: &mut Slot<L>, ask: Ask) -> Result<bool, Why>
+    requires live { IsLive L.view slot.old.held }
+    requires permitted { MayBeAsked ask (L.view (peer_in slot.old.held)) }
+    ensures live { OnOk result (IsLive L.view slot.new.held) }
+    ensures one { One (call_of ask (L.view (peer_in slot.old.held)).fixed.shape) asks_to_end (instance_in L.view slot.old) (instance_in L.view slot.new) result }
+{
+    let answer = replace_with(
+        &mut slot.held,
+        ask,
+        |held, ask| -> (Held<L>, Result<bool, Why>)
+            requires { IsLive L.view held × MayBeAsked ask (L.view (peer_in held)) }
+            ensures { Moves L.view held (call_of ask (L.view (peer_in held)).fixed.shape) asks_to_end result.0 result.1 }
+        { advance_held(held, ask) },
+    );
+    slot.is_fatal = slot.is_fatal || is_fatal(&answer);
+    answer
+}
+
+/// Whether a result is a refusal with Fatal.
+pub(crate) fn is_fatal<T>(answer: &Result<T, Why>) -> bool
+    ensures { result ≡ is_fatal_result answer.now }
+{
+    match answer {
+        Ok(_) => false,
+        Err(why) => is_fatal_why(why),
+    }
+}
+
+fn is_fatal_why(why: &Why) -> bool
+    ensures { result ≡ is_fatal_why why.now }
+{
+    match why {
+        Why::Refused { status, .. } => match status {
+            BadStatus::Fatal => true,
+            BadStatus::Discard | BadStatus::Error => false,
+        },
+        Why::Misreply { .. } | Why::Link { .. } => false,
+    }
+}
+
+fn advance_held<L: Peer>(held: Held<L>, ask: Ask) -> (Held<L>, Result<bool, Why>)
+    requires live { IsLive L.view held }
+    requires permitted { MayBeAsked ask (L.view (peer_in held)) }
+    ensures { Moves L.view held (call_of ask (L.view (peer_in held)).fixed.shape) asks_to_end result.0 result.1 }
+{
+    match ask {
+        Ask::Instantiate => match held {
+            Held::Fresh(fmu) => instantiate(fmu),
+            _ => unreachable!(),
+        },
+        Ask::EnterInitialization { start, stop } => match held {
+            Held::Instantiated(fmu) => enter_initialization(fmu, start, stop),
+            _ => unreachable!(),
+        },
+        Ask::ExitInitialization => match held {
+            Held::Initializing(fmu) => exit_initialization(fmu),
+            _ => unreachable!(),
+        },
+        Ask::DoStep { at, size } => match held {
+            Held::Stepping(fmu) => do_step(fmu, at, size),
+            _ => unreachable!(),
+        },
+    }
+}
+
+fn instantiate<L: Peer>(fmu: Fmu<L, Fresh>) -> (Held<L>, Result<bool, Why>)
+    requires state { (L.view fmu.peer).phase.state ≡ P.Fresh }
+    ensures { Moves L.view (Held.Fresh fmu) (instantiate_of (L.view fmu.peer).fixed.shape) asks_to_end result.0 result.1 }
+{
+    match fmu.instantiate() {
+        Ok(fmu) => (Held::Instantiated(fmu), Ok(false)),
+        Err(ended) => {
+            let why = ended.why;
+            (Held::Ended(ended), Err(why))
+        }
+    }
+}
+
+fn enter_initialization<L: Peer>(
+    fmu: Fmu<L, Instantiated>,
+    start: u64,
+    stop: u64,
+) -> (Held<L>, Result<bool, Why>)
+    requires permitted { Permitted (L.view fmu.peer).fixed.shape (L.view fmu.peer).phase (C.EnterInitialization start stop) }
+    ensures { Moves L.view (Held.Instantiated fmu) (C.EnterInitialization start stop) asks_to_end result.0 result.1 }
+{
+    match fmu.enter_initialization(start, stop) {
+        Ok(fmu) => (Held::Initializing(fmu), Ok(false)),
+        Err(ended) => {
+            let why = ended.why;
+            (Held::Ended(ended), Err(why))
+        }
+    }
+}
+
+fn exit_initialization<L: Peer>(fmu: Fmu<L, Initializing>) -> (Held<L>, Result<bool, Why>)
+    requires permitted { Permitted (L.view fmu.peer).fixed.shape (L.view fmu.peer).phase C.ExitInitialization }
+    ensures { Moves L.view (Held.Initializing fmu) C.ExitInitialization asks_to_end result.0 result.1 }
+{
+    match fmu.exit_initialization() {
+        Ok(running) => (Held::Stepping(stepping(running)), Ok(false)),
+        Err(ended) => {
+            let why = ended.why;
+            (Held::Ended(ended), Err(why))
+        }
+    }
+}
+
+fn stepping<L: Peer>(running: Running<L>) -> Fmu<L, Stepping>
+    ensures { result.peer ≡ peer_of running }
+{
+    match running {
+        Running::Step(fmu) => fmu,
+    }
+}
+
+fn do_step<L: Peer>(fmu: Fmu<L, Stepping>, at: u64, size: u64) -> (Held<L>, Result<bool, Why>)
+    requires permitted { Permitted (L.view fmu.peer).fixed.shape (L.view fmu.peer).phase (C.DoStep at size) }
+    ensures { Moves L.view (Held.Stepping fmu) (C.DoStep at size) asks_to_end result.0 result.1 }
+{
+    let mut fmu = fmu;
+    let answer = match fmu.do_step(at, size) {
+        Ok(reply) => Ok(is_terminating(&reply)),
+        Err(why) => Err(why),
+    };
+    (Held::Stepping(fmu), answer)
+}
+
+fn is_terminating(reply: &Reply) -> bool
+    ensures { result ≡ is_terminating reply.now }
+{
+    match reply {
+        Reply::Done {
+            content: Content::DoStep { terminate, .. },
+            ..
+        } => *terminate,
+        _ => false,
+    }
+}

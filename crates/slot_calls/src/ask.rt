@@ -1,0 +1,8 @@
+/// A call that each FMU is sent at one place of the calling sequence (FMI 3.0, 4.2.1). Points and sizes are counts.
+#[derive(Clone, Copy, Debug, PartialEq, Eq)]
+pub enum Ask {
+    Instantiate,
+    EnterInitialization { start: u64, stop: u64 },
+    ExitInitialization,
+    DoStep { at: u64, size: u64 },
+}

@@ -1,0 +1,14 @@
+//! Calls to the FMUs of a run in their slots, and the one log of all calls with their answers.
+#![tactic(auto)]
+
+mod advancing;
+mod ask;
+mod bad_answer;
+mod sending;
+mod stage;
+
+pub use advancing::advance;
+pub use ask::Ask;
+pub use bad_answer::BadAnswer;
+pub use sending::{read, send, value_in};
+pub use stage::{each, round};

@@ -1,0 +1,89 @@
+ghost use Rattle.std.specs.Prelude.{◌≡◌, OnOk, IfOk, IsTrue};
+ghost use Rattle.fmi_calls.specs.Permission.{Permitted};
+ghost use Rattle.fmu_peer.specs.CloseAll.{instance_in, peer_in};
+ghost use Rattle.run_model.specs.Equations.{value_in};
+ghost use Rattle.slot_calls.specs.Carried.{IsWide, get_of, reply_in, value_of, with_some};
+ghost use Rattle.slot_calls.specs.Log.{One};
+ghost use Rattle.slot_calls.specs.Slots.{Called, IsLive, Moves, sets_or_gets};
+
+use crate::advancing::is_fatal;
+use fmi_calls::{Call, Content, Reply};
+use fmu_peer::{Fmu, Held, Mode, Peer, Slot, Why};
+use system_model::Port;
+use value_types::{PortType, from_word};
+
+/// Sends a Get or a Set to the FMU in a slot.
+pub fn send<L: Peer>(slot: &mut Slot<L>, call: Call) -> Result<Reply, Why>
+    requires live { IsLive L.view slot.old.held }
+    requires permitted { Permitted (L.view (peer_in slot.old.held)).fixed.shape (L.view (peer_in slot.old.held)).phase call }
+    requires sort { IsTrue (sets_or_gets call) }
+    ensures live { OnOk result (IsLive L.view slot.new.held) }
+    ensures one { One call reply_in (instance_in L.view slot.old) (instance_in L.view slot.new) (with_some result) }
+{
+    let answer = send_held(&mut slot.held, call);
+    slot.is_fatal |= is_fatal(&answer);
+    answer
+}
+
+fn send_held<L: Peer>(held: &mut Held<L>, call: Call) -> Result<Reply, Why>
+    requires live { IsLive L.view held.old }
+    requires permitted { Permitted (L.view (peer_in held.old)).fixed.shape (L.view (peer_in held.old)).phase call }
+    requires sort { IsTrue (sets_or_gets call) }
+    ensures moves { Moves L.view held.old call reply_in held.new (with_some result) }
+{
+    match held {
+        Held::Instantiated(fmu) => send_to(fmu, call),
+        Held::Initializing(fmu) => send_to(fmu, call),
+        Held::Stepping(fmu) => send_to(fmu, call),
+        _ => unreachable!(),
+    }
+}
+
+fn send_to<L: Peer, M: Mode>(fmu: &mut Fmu<L, M>, call: Call) -> Result<Reply, Why>
+    requires permitted { Permitted (L.view fmu.old.peer).fixed.shape (L.view fmu.old.peer).phase call }
+    requires sort { IsTrue (sets_or_gets call) }
+    ensures called { Called call reply_in (L.view fmu.old.peer) (L.view fmu.new.peer) (with_some result) }
+    ensures state { OnOk result ((L.view fmu.new.peer).phase.state ≡ (L.view fmu.old.peer).phase.state) }
+{
+    match call {
+        Call::Get { kind, reference } => fmu.get(kind, reference),
+        Call::Set {
+            kind,
+            reference,
+            value,
+        } => fmu.set(kind, reference, value),
+        _ => unreachable!(),
+    }
+}
+
+/// Reads an output of the FMU in a slot.
+pub fn read<L: Peer>(slot: &mut Slot<L>, port: &Port) -> Result<Option<i128>, Why>
+    requires live { IsLive L.view slot.old.held }
+    requires permitted { Permitted (L.view (peer_in slot.old.held)).fixed.shape (L.view (peer_in slot.old.held)).phase (get_of port.now) }
+    ensures live { OnOk result (IsLive L.view slot.new.held) }
+    ensures one { One (get_of port.now) value_of (instance_in L.view slot.old) (instance_in L.view slot.new) result }
+    ensures wide { IfOk result IsWide }
+{
+    let call = Call::Get {
+        kind: port.kind,
+        reference: port.reference,
+    };
+    match send(slot, call) {
+        Ok(reply) => Ok(value_in(port.kind, &reply)),
+        Err(why) => Err(why),
+    }
+}
+
+/// The value that a reply carries, where it is a word of the type.
+pub fn value_in(kind: PortType, reply: &Reply) -> Option<i128>
+    ensures value { result ≡ value_in kind reply.now }
+    ensures wide { IsWide result }
+{
+    match reply {
+        Reply::Done {
+            content: Content::Get { word } | Content::GetClock { word },
+            ..
+        } => from_word(kind, *word),
+        _ => None,
+    }
+}

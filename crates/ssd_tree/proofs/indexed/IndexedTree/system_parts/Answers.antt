@@ -1,0 +1,15 @@
+use Rattle.std.proofs.Common.{arith}
+use Rattle.ssd_tree.specs.Elements.{IsSystem}
+use Rattle.ssd_tree.specs.Indexed.{nodes_of}
+use Rattle.ssd_tree.specs.Parts.{IsSystemPart}
+use Rattle.ssd_tree.proofs.PartLemmas.{listed_one, part_more}
+use Rattle.ssd_tree.proofs.indexed.IndexedTree.system_parts.Goals as goal
+
+pub system_part-requires-clause-is : goal.system_part-requires-clause-is
+system_part-requires-clause-is c =
+    listed_one (IsSystem c.args.self.now.tree.now) c.args.self.now.lists.systems.items c.deref-node-items.result.now c.requires.indexed.lists.systems c.deref-node-items.ensures.value c.loop-node.node-index (omega arith)
+
+pub loop-node-preserved : goal.loop-node-preserved
+loop-node-preserved c =
+    part_more (IsSystemPart c.args.self.now.tree.now (nodes_of c.args.self.now.lists)) c.args.self.now.lists.systems.items c.deref-node-items.result.now c.loop-node.parts.items c.push.new.self.items
+    c.loop-node.node-index c.in_ok-system_part.field-0 c.deref-node-items.ensures.value (omega arith) c.loop-node.invariant c.in_ok-system_part.ensures c.in_ok-push.ensures.items

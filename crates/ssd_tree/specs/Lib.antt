@@ -1,0 +1,9 @@
+pub mod Elements
+pub mod Listings
+pub mod Sources
+pub mod Ends
+pub mod Rules
+pub mod Paths
+pub mod Parts
+pub mod Indexed
+pub mod Answers

@@ -1,0 +1,106 @@
+-- What a system structure description says (SSP 1.0): the tree of systems that it denotes.
+use Rattle.std.specs.Prelude.{◌≡◌, ℕ, List, ◌∷◌, ◌++◌, Option, Some, None, slice_get, codes}
+use Rattle.std.specs.List.{AllZip}
+use Rattle.sim_base.specs.Path.{plain_path}
+use Rattle.doc_grammar.specs.Nodes.{Node}
+use Rattle.doc_tables.specs.Elements.{attribute, parent}
+use Rattle.ssd_tree.specs.declared.tree.Owner.{Owner}
+use Rattle.ssd_tree.specs.declared.tree.Owner.TheVariants.{System, Component}
+use Rattle.ssd_tree.specs.declared.tree.SystemPart.{SystemPart}
+use Rattle.ssd_tree.specs.declared.tree.ComponentPart.{ComponentPart}
+use Rattle.ssd_tree.specs.declared.tree.Connector.{Connector}
+use Rattle.ssd_tree.specs.declared.tree.Connection.{Connection}
+use Rattle.ssd_tree.specs.declared.tree.Binding.{Binding}
+use Rattle.ssd_tree.specs.declared.tree.SystemTree.{SystemTree}
+use Rattle.ssd_tree.specs.Elements.{holder, IsSystem, IsComponent, IsConnector, IsConnection, IsBinding, kind_of, type_of}
+use Rattle.ssd_tree.specs.Listings.{IsListing}
+use Rattle.ssd_tree.specs.Ends.{IsStart, IsStop}
+
+-- the elements of each sort, in document order
+pub record PartNodes : Type 0 where
+  pub systems : List ℕ
+  pub components : List ℕ
+  pub connectors : List ℕ
+  pub connections : List ℕ
+  pub bindings : List ℕ
+
+pub record ListsParts (t : List Node) (nodes : PartNodes) : Type 0 where
+  pub systems : IsListing (IsSystem t) nodes.systems
+  pub components : IsListing (IsComponent t) nodes.components
+  pub connectors : IsListing (IsConnector t) nodes.connectors
+  pub connections : IsListing (IsConnection t) nodes.connections
+  pub bindings : IsListing (IsBinding t) nodes.bindings
+
+-- ---- names and numbers
+
+-- the element names below the outermost System, joined with dots
+pub data IsFullName (t : List Node) : ℕ → List ℕ → Type 0 where
+  InOutermost : (k outer : ℕ) (name : List ℕ) → holder t k (codes "Elements") ≡ Some outer → parent t outer ≡ Some 0 →
+      attribute t k (codes "name") ≡ Some name → IsFullName t k name
+  InInner : (k system outer : ℕ) (above name : List ℕ) → holder t k (codes "Elements") ≡ Some system → holder t system (codes "Elements") ≡ Some outer →
+      IsFullName t system above → attribute t k (codes "name") ≡ Some name → IsFullName t k (above ++ 46 ∷ name)
+
+-- the place is that of the element in a list; there is none where there is no element
+abbrev pub IsPlaceOf : List ℕ → Option ℕ → Option ℕ → Type 0
+IsPlaceOf nodes None None = Unit {0}
+IsPlaceOf nodes None (Some node) = ⊥
+IsPlaceOf nodes (Some place) None = ⊥
+IsPlaceOf nodes (Some place) (Some node) = slice_get nodes place ≡ Some node
+
+-- the element of a System or Component, by its place
+abbrev pub owner_node : PartNodes → Owner → Option ℕ
+owner_node nodes (System place) = slice_get nodes.systems place
+owner_node nodes (Component place) = slice_get nodes.components place
+
+-- its `source`, without the segments that lead nowhere
+abbrev pub HasPath : List Node → ℕ → List ℕ → Type 0
+HasPath t k path = (source : List ℕ) × (attribute t k (codes "source") ≡ Some source) × (path ≡ plain_path source)
+
+-- ---- parts
+
+pub record IsSystemPart (t : List Node) (nodes : PartNodes) (k : ℕ) (x : SystemPart) : Type 0 where
+  pub node : x.node ≡ k
+  pub outer : IsPlaceOf nodes.systems x.parent (holder t k (codes "Elements"))
+  pub name : attribute t k (codes "name") ≡ Some x.name
+
+pub record IsComponentPart (t : List Node) (nodes : PartNodes) (k : ℕ) (x : ComponentPart) : Type 0 where
+  pub node : x.node ≡ k
+  pub system : IsPlaceOf nodes.systems (Some x.system) (holder t k (codes "Elements"))
+  pub name : IsFullName t k x.name
+  pub source : HasPath t k x.source
+
+pub record IsConnectorPart (t : List Node) (nodes : PartNodes) (k : ℕ) (x : Connector) : Type 0 where
+  pub node : x.node ≡ k
+  pub part : ℕ
+  pub of : holder t k (codes "Connectors") ≡ Some part
+  pub owner : owner_node nodes x.owner ≡ Some part
+  pub name : attribute t k (codes "name") ≡ Some x.name
+  pub kind : kind_of t k ≡ Some x.kind
+  pub child : x.child ≡ type_of t k
+
+pub record IsConnectionPart (t : List Node) (nodes : PartNodes) (k : ℕ) (x : Connection) : Type 0 where
+  pub node : x.node ≡ k
+  pub from : ℕ
+  pub is_from : IsStart t k from
+  pub start : slice_get nodes.connectors x.start ≡ Some from
+  pub to : ℕ
+  pub is_to : IsStop t k to
+  pub end : slice_get nodes.connectors x.end ≡ Some to
+
+pub record IsBindingPart (t : List Node) (nodes : PartNodes) (k : ℕ) (x : Binding) : Type 0 where
+  pub node : x.node ≡ k
+  pub part : ℕ
+  pub of : holder t k (codes "ParameterBindings") ≡ Some part
+  pub owner : owner_node nodes x.owner ≡ Some part
+
+-- ---- the whole
+
+-- the tree of systems is what the document says
+pub record Describes (t : List Node) (tree : SystemTree) : Type 0 where
+  pub nodes : PartNodes
+  pub lists : ListsParts t nodes
+  pub systems : AllZip (IsSystemPart t nodes) nodes.systems tree.systems
+  pub components : AllZip (IsComponentPart t nodes) nodes.components tree.components
+  pub connectors : AllZip (IsConnectorPart t nodes) nodes.connectors tree.connectors
+  pub connections : AllZip (IsConnectionPart t nodes) nodes.connections tree.connections
+  pub bindings : AllZip (IsBindingPart t nodes) nodes.bindings tree.bindings

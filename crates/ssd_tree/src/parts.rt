@@ -1,0 +1,287 @@
+//! What a sound document says: its systems, components, connectors, connections and bindings.
+ghost use Rattle.std.specs.Prelude.{◌≡◌, ℕ, IfOk, IsSome, codes, slice_get};
+ghost use Rattle.std.specs.List.{AllZip};
+ghost use Rattle.doc_tables.specs.Elements.{attribute};
+ghost use Rattle.ssd_tree.specs.Elements.{holder, IsBinding, IsComponent, IsConnection, IsConnector, IsOfPart, IsPart, IsSystem};
+ghost use Rattle.ssd_tree.specs.Indexed.{IsIndexed, nodes_of};
+ghost use Rattle.ssd_tree.specs.Parts.{Describes, HasPath, IsBindingPart, IsComponentPart, IsConnectionPart, IsConnectorPart, IsFullName, IsPlaceOf, IsSystemPart, owner_node};
+ghost use Rattle.ssd_tree.specs.Paths.{LeadsOut};
+ghost use Rattle.ssd_tree.specs.Rules.{IsSound};
+
+use crate::elements::{holder, kind_of, type_of};
+use crate::indexed::IndexedTree;
+use crate::listings::known_place;
+use crate::tree::{Binding, ComponentPart, Connection, Connector, Owner, SystemPart, SystemTree};
+use doc_tables::{attribute, text_of};
+use doc_tree::Tree;
+use sim_base::{Items, Text, plain_path};
+use std::alloc::{AllocError, Global};
+
+// The text of an attribute that is there.
+fn text(alloc: Global, tree: &Tree, node: usize, name: &str) -> Result<Text, AllocError>
+    requires { IsSome (attribute tree.now node name.now) }
+    ensures { IfOk result (λ t. attribute tree.now node name.now ≡ Some t) }
+{
+    Text::from_str(alloc, attribute(tree, node, name).unwrap())
+}
+
+// The path of a component's FMU.
+fn source(alloc: Global, tree: &Tree, node: usize) -> Result<Text, AllocError>
+    requires { IsSome (attribute tree.now node (codes "source")) }
+    ensures { IfOk result (HasPath tree.now node) }
+{
+    let source = attribute(tree, node, "source").unwrap();
+    Ok(Text::from_string(plain_path(alloc, source)?))
+}
+
+// The elements from this one out to the outermost System, which isn't among them.
+fn path_out(alloc: Global, tree: &Tree, node: usize) -> Result<Vec<usize>, AllocError>
+    requires part { IsPart tree.now node }
+    requires sound { IsSound tree.now }
+    ensures { IfOk result (λ path. LeadsOut tree.now node path.items) }
+{
+    let mut path = Vec::new(alloc);
+    let mut current = node;
+    while let Some(outer) = holder(tree, current, "Elements") {
+        path.push(current)?;
+        current = outer;
+    }
+    Ok(path)
+}
+
+// The names of these elements, the last first, joined with dots.
+fn joined_names(
+    alloc: Global,
+    tree: &Tree,
+    path: Vec<usize>,
+    node: usize,
+) -> Result<Text, AllocError>
+    requires leads { LeadsOut tree.now node path.items }
+    requires component { IsComponent tree.now node }
+    requires sound { IsSound tree.now }
+    ensures { IfOk result (IsFullName tree.now node) }
+{
+    let mut path = path;
+    let outermost = path.pop().unwrap();
+    let mut name = String::from_str(alloc, text_of(tree, outermost, "name"))?;
+    while let Some(inner) = path.pop() {
+        name.push_str(".")?;
+        name.push_str(text_of(tree, inner, "name"))?;
+    }
+    Ok(Text::from_string(name))
+}
+
+// The element names below the outermost System, joined with dots.
+fn full_name(alloc: Global, tree: &Tree, node: usize) -> Result<Text, AllocError>
+    requires component { IsComponent tree.now node }
+    requires sound { IsSound tree.now }
+    ensures { IfOk result (IsFullName tree.now node) }
+{
+    let path = path_out(alloc, tree, node)?;
+    joined_names(alloc, tree, path, node)
+}
+
+impl IndexedTree<'_> {
+    fn system_place(&self, node: usize) -> usize
+        requires indexed { IsIndexed self.now }
+        requires is { IsSystem self.now.tree.now node }
+        ensures { slice_get self.now.lists.systems.items result ≡ Some node }
+    {
+        known_place(self.lists.systems.as_slice(), node)
+    }
+
+    fn component_place(&self, node: usize) -> usize
+        requires indexed { IsIndexed self.now }
+        requires is { IsComponent self.now.tree.now node }
+        ensures { slice_get self.now.lists.components.items result ≡ Some node }
+    {
+        known_place(self.lists.components.as_slice(), node)
+    }
+
+    fn connector_place(&self, node: usize) -> usize
+        requires indexed { IsIndexed self.now }
+        requires is { IsConnector self.now.tree.now node }
+        ensures { slice_get self.now.lists.connectors.items result ≡ Some node }
+    {
+        known_place(self.lists.connectors.as_slice(), node)
+    }
+
+    // The place of the System that a System stands in; the outermost stands in none.
+    fn outer(&self, node: usize) -> Option<usize>
+        requires indexed { IsIndexed self.now }
+        requires sound { IsSound self.now.tree.now }
+        requires is { IsSystem self.now.tree.now node }
+        ensures { IsPlaceOf self.now.lists.systems.items result (holder self.now.tree.now node (codes "Elements")) }
+    {
+        match holder(self.tree, node, "Elements") {
+            Some(system) => Some(self.system_place(system)),
+            None => None,
+        }
+    }
+
+    // The place of the System that a Component stands in.
+    fn system_of(&self, node: usize) -> usize
+        requires indexed { IsIndexed self.now }
+        requires is { IsComponent self.now.tree.now node }
+        ensures { IsPlaceOf self.now.lists.systems.items (Some result) (holder self.now.tree.now node (codes "Elements")) }
+    {
+        let system = holder(self.tree, node, "Elements").unwrap();
+        self.system_place(system)
+    }
+
+    // The System or Component in whose list the element stands.
+    fn owner(&self, node: usize, list: &str) -> Owner
+        requires indexed { IsIndexed self.now }
+        requires part { IsOfPart self.now.tree.now node list.now }
+        ensures { (part : ℕ) → holder self.now.tree.now node list.now ≡ Some part → owner_node (nodes_of self.now.lists) result ≡ Some part }
+    {
+        let part = holder(self.tree, node, list).unwrap();
+        if self.is_system(part) {
+            Owner::System(self.system_place(part))
+        } else {
+            Owner::Component(self.component_place(part))
+        }
+    }
+
+    fn system_part(&self, alloc: Global, node: usize) -> Result<SystemPart, AllocError>
+        requires indexed { IsIndexed self.now }
+        requires sound { IsSound self.now.tree.now }
+        requires is { IsSystem self.now.tree.now node }
+        ensures { IfOk result (IsSystemPart self.now.tree.now (nodes_of self.now.lists) node) }
+    {
+        Ok(SystemPart {
+            node,
+            parent: self.outer(node),
+            name: text(alloc, self.tree, node, "name")?,
+        })
+    }
+
+    fn component_part(&self, alloc: Global, node: usize) -> Result<ComponentPart, AllocError>
+        requires indexed { IsIndexed self.now }
+        requires sound { IsSound self.now.tree.now }
+        requires is { IsComponent self.now.tree.now node }
+        ensures { IfOk result (IsComponentPart self.now.tree.now (nodes_of self.now.lists) node) }
+    {
+        Ok(ComponentPart {
+            node,
+            system: self.system_of(node),
+            name: full_name(alloc, self.tree, node)?,
+            source: source(alloc, self.tree, node)?,
+        })
+    }
+
+    fn connector_part(&self, alloc: Global, node: usize) -> Result<Connector, AllocError>
+        requires indexed { IsIndexed self.now }
+        requires sound { IsSound self.now.tree.now }
+        requires is { IsConnector self.now.tree.now node }
+        ensures { IfOk result (IsConnectorPart self.now.tree.now (nodes_of self.now.lists) node) }
+    {
+        Ok(Connector {
+            node,
+            owner: self.owner(node, "Connectors"),
+            name: text(alloc, self.tree, node, "name")?,
+            kind: kind_of(self.tree, node).unwrap(),
+            child: type_of(self.tree, node),
+        })
+    }
+
+    fn connection_part(&self, node: usize) -> Connection
+        requires indexed { IsIndexed self.now }
+        requires sound { IsSound self.now.tree.now }
+        requires is { IsConnection self.now.tree.now node }
+        ensures { IsConnectionPart self.now.tree.now (nodes_of self.now.lists) node result }
+    {
+        let from = self.start(node).unwrap();
+        let to = self.stop(node).unwrap();
+        Connection {
+            node,
+            start: self.connector_place(from),
+            end: self.connector_place(to),
+        }
+    }
+
+    fn binding_part(&self, node: usize) -> Binding
+        requires indexed { IsIndexed self.now }
+        requires is { IsBinding self.now.tree.now node }
+        ensures { IsBindingPart self.now.tree.now (nodes_of self.now.lists) node result }
+    {
+        Binding {
+            node,
+            owner: self.owner(node, "ParameterBindings"),
+        }
+    }
+
+    fn system_parts(&self, alloc: Global) -> Result<Vec<SystemPart>, AllocError>
+        requires indexed { IsIndexed self.now }
+        requires sound { IsSound self.now.tree.now }
+        ensures { IfOk result (λ v. AllZip (IsSystemPart self.now.tree.now (nodes_of self.now.lists)) self.now.lists.systems.items v.items) }
+    {
+        let mut parts = Vec::new(alloc);
+        for node in &self.lists.systems {
+            parts.push(self.system_part(alloc, *node)?)?;
+        }
+        Ok(parts)
+    }
+
+    fn component_parts(&self, alloc: Global) -> Result<Vec<ComponentPart>, AllocError>
+        requires indexed { IsIndexed self.now }
+        requires sound { IsSound self.now.tree.now }
+        ensures { IfOk result (λ v. AllZip (IsComponentPart self.now.tree.now (nodes_of self.now.lists)) self.now.lists.components.items v.items) }
+    {
+        let mut parts = Vec::new(alloc);
+        for node in &self.lists.components {
+            parts.push(self.component_part(alloc, *node)?)?;
+        }
+        Ok(parts)
+    }
+
+    fn connector_parts(&self, alloc: Global) -> Result<Vec<Connector>, AllocError>
+        requires indexed { IsIndexed self.now }
+        requires sound { IsSound self.now.tree.now }
+        ensures { IfOk result (λ v. AllZip (IsConnectorPart self.now.tree.now (nodes_of self.now.lists)) self.now.lists.connectors.items v.items) }
+    {
+        let mut parts = Vec::new(alloc);
+        for node in &self.lists.connectors {
+            parts.push(self.connector_part(alloc, *node)?)?;
+        }
+        Ok(parts)
+    }
+
+    fn connection_parts(&self, alloc: Global) -> Result<Vec<Connection>, AllocError>
+        requires indexed { IsIndexed self.now }
+        requires sound { IsSound self.now.tree.now }
+        ensures { IfOk result (λ v. AllZip (IsConnectionPart self.now.tree.now (nodes_of self.now.lists)) self.now.lists.connections.items v.items) }
+    {
+        let mut parts = Vec::new(alloc);
+        for node in &self.lists.connections {
+            parts.push(self.connection_part(*node))?;
+        }
+        Ok(parts)
+    }
+
+    fn binding_parts(&self, alloc: Global) -> Result<Vec<Binding>, AllocError>
+        requires { IsIndexed self.now }
+        ensures { IfOk result (λ v. AllZip (IsBindingPart self.now.tree.now (nodes_of self.now.lists)) self.now.lists.bindings.items v.items) }
+    {
+        let mut parts = Vec::new(alloc);
+        for node in &self.lists.bindings {
+            parts.push(self.binding_part(*node))?;
+        }
+        Ok(parts)
+    }
+
+    /// What a sound document says.
+    pub(crate) fn describe(&self, alloc: Global) -> Result<SystemTree, AllocError>
+        requires indexed { IsIndexed self.now }
+        requires sound { IsSound self.now.tree.now }
+        ensures { IfOk result (Describes self.now.tree.now) }
+    {
+        Ok(SystemTree {
+            systems: Items::from_vec(self.system_parts(alloc)?),
+            components: Items::from_vec(self.component_parts(alloc)?),
+            connectors: Items::from_vec(self.connector_parts(alloc)?),
+            connections: Items::from_vec(self.connection_parts(alloc)?),
+            bindings: Items::from_vec(self.binding_parts(alloc)?),
+        })
+    }
+}

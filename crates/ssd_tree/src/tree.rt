@@ -1,0 +1,85 @@
+use sim_base::{Items, Text};
+
+/// What a connector is for (SSP 1.0, Connector: `kind`).
+#[derive(Clone, Copy, Debug, PartialEq, Eq)]
+pub enum ConnectorKind {
+    Input,
+    Output,
+    Parameter,
+    CalculatedParameter,
+}
+
+/// The type that a connector gives.
+#[derive(Clone, Copy, Debug, PartialEq, Eq)]
+pub enum TypeChild {
+    Integer,
+    Boolean,
+    Enumeration,
+    /// Real, String or Binary
+    Other,
+}
+
+/// Whose a connector or a binding is: a System's or a Component's, by its place in the list of the tree.
+#[derive(Clone, Copy, Debug, PartialEq, Eq)]
+pub enum Owner {
+    System(usize),
+    Component(usize),
+}
+
+/// A System. `node` is the number of its element in the document, as it is of all parts.
+#[derive(Debug, Drop)]
+pub struct SystemPart {
+    pub node: usize,
+    /// the place of the System that it stands in; the outermost has none
+    pub parent: Option<usize>,
+    /// its own name
+    pub name: Text,
+}
+
+/// A Component, which is an FMU.
+#[derive(Debug, Drop)]
+pub struct ComponentPart {
+    pub node: usize,
+    /// the place of the System that it stands in
+    pub system: usize,
+    /// the element names below the outermost System, joined with dots
+    pub name: Text,
+    /// the path of its FMU without the segments that lead nowhere: two sources are one where these are equal
+    pub source: Text,
+}
+
+/// A connector of a System or a Component.
+#[derive(Debug, Drop)]
+pub struct Connector {
+    pub node: usize,
+    pub owner: Owner,
+    pub name: Text,
+    pub kind: ConnectorKind,
+    /// the first type that it gives
+    pub child: Option<TypeChild>,
+}
+
+/// A connection between two connectors, by their places in the list of the tree.
+#[derive(Clone, Copy, Debug, PartialEq, Eq)]
+pub struct Connection {
+    pub node: usize,
+    pub start: usize,
+    pub end: usize,
+}
+
+/// A binding of parameters, and whose it is.
+#[derive(Clone, Copy, Debug, PartialEq, Eq)]
+pub struct Binding {
+    pub node: usize,
+    pub owner: Owner,
+}
+
+/// What a system structure description says. Each list is in document order; the outermost System is the first.
+#[derive(Debug, Drop)]
+pub struct SystemTree {
+    pub systems: Items<SystemPart>,
+    pub components: Items<ComponentPart>,
+    pub connectors: Items<Connector>,
+    pub connections: Items<Connection>,
+    pub bindings: Items<Binding>,
+}

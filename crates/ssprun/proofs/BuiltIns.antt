@@ -1,0 +1,123 @@
+-- The trace over the spawner of the built-in machines: they behave well.
+use Rattle.std.proofs.Common.{◌≡◌, inl, inr, ℕ, ◌<◌, List, [], ◌∷◌, ◌++◌, Option, Some, map, refl, sym, ap, ◌∙◌, subst}
+use Rattle.std.specs.Prelude.{All, unwrap_or, slice_get, option_map}
+use Rattle.std.proofs.lemmas.List.{length-map}
+use Rattle.std.proofs.lemmas.List.Elements.{All-cons, All-head, All-map, All-nil, All-tail}
+use Rattle.std.proofs.lemmas.Option.{same_Some}
+use Rattle.fmu_peer.specs.Machine.{Machine}
+use Rattle.fmu_peer.specs.Start.{SpawnerView}
+use Rattle.fmu_peer.specs.View.{Fixed, View}
+use Rattle.bench_fmus.specs.declared.built_in.BuiltIn.{BuiltIn}
+use Rattle.bench_fmus.specs.declared.model.Model.{Model}
+use Rattle.bench_fmus.specs.BuiltIn.{machine_of}
+use Rattle.bench_fmus.specs.BuiltInView.{built_in_view}
+use Rattle.bench_fmus.specs.Counter.{counter}
+use Rattle.bench_fmus.specs.Models.{behaviour_of}
+use Rattle.built_in_laws.specs.BuiltInRuns.{BuiltInsBehaveWell, IsBuiltIn}
+use Rattle.system_model.specs.declared.bound.BoundValue.{BoundValue}
+use Rattle.system_model.specs.declared.system.Component.{Component}
+use Rattle.system_model.specs.declared.system.System.{System}
+use Rattle.run_model.specs.Behaved.{WellBehaved}
+use Rattle.run_model.specs.Run.{Run}
+use Rattle.step_master.specs.Traced.{TellMachines}
+use Rattle.command_line.specs.Line.{Line, plan_of}
+use Rattle.ssprun.specs.Facts.{system_for, task_of}
+use Rattle.ssprun.specs.Happened.{Happened}
+use Rattle.ssprun.specs.Rows.{BuiltInRow, IsOverBench, TraceRow, Traces, TracesBuiltIns}
+use Rattle.ssprun.proofs.PeerLemmas.{all_got, mapped_at, started_at}
+
+-- it tells the machine of a model, for its shape
+abbrev TellsModel : Fixed → Type 0
+TellsModel f = (model : Model) × (f.machine ≡ Some (machine_of (behaviour_of model) f.shape))
+
+-- the machine that is told
+abbrev machine_in : View → Machine
+machine_in v = unwrap_or v.fixed.machine (machine_of counter v.fixed.shape)
+
+told_is : (v : View) (m n : Machine) → v.fixed.machine ≡ Some m → machine_in v ≡ n → m ≡ n
+told_is v m n told is = sym (ap (λ (o : Option Machine). unwrap_or o (machine_of counter v.fixed.shape)) told) ∙ is
+
+-- what holds of all holds of those behind some
+all_behind : {X : Type 0} (P : X → Type 0) (xs ys : List X) → All P (xs ++ ys) → All P ys
+all_behind P [] ys all = all
+all_behind P (x ∷ xs) ys all = all_behind P xs ys (All-tail P x (xs ++ ys) all)
+
+built_ins_tell : (peers : List BuiltIn) → All TellsModel (map (λ (v : View). v.fixed) (map built_in_view peers))
+built_ins_tell [] = All-nil TellsModel
+built_ins_tell (b ∷ bs) = All-cons TellsModel (built_in_view b).fixed (map (λ (v : View). v.fixed) (map built_in_view bs)) (b.model, refl) (built_ins_tell bs)
+
+module _ (behave : BuiltInsBehaveWell) (h : Happened) (line : Line) (system : System) (t : Traces h line system) (b : IsOverBench h) (quiet : All (λ (v : View). v.faults ≡ 0) h.new.run.spawner.retired) where
+  retired_is : h.new.run.spawner.retired ≡ h.old.run.spawner.retired ++ t.news
+  retired_is = ap (λ (s : SpawnerView). s.retired) t.peers.told
+
+  news_quiet : All (λ (v : View). v.faults ≡ 0) t.news
+  news_quiet = all_behind (λ (v : View). v.faults ≡ 0) h.old.run.spawner.retired t.news (subst (All (λ (v : View). v.faults ≡ 0)) retired_is quiet)
+
+  olds_tell : All (λ (v : View). TellsModel v.fixed) t.olds
+  olds_tell =
+      let bench = ap (λ (s : SpawnerView). s.retired) b.told in
+      let all : All (λ (v : View). TellsModel v.fixed) h.new.run.spawner.retired =
+      subst (All (λ (v : View). TellsModel v.fixed)) (sym bench) (all_fixed (map built_in_view b.bench.retired.peers.items) (built_ins_tell b.bench.retired.peers.items)) in
+      let news = all_behind (λ (v : View). TellsModel v.fixed) h.old.run.spawner.retired t.news (subst (All (λ (v : View). TellsModel v.fixed)) retired_is all) in
+      all_fixed t.olds (subst (All TellsModel) t.same (All-map TellsModel (λ (v : View). v.fixed) t.news news))
+    where
+      all_fixed : (vs : List View) → All TellsModel (map (λ (v : View). v.fixed) vs) → All (λ (v : View). TellsModel v.fixed) vs
+      all_fixed [] all = All-nil (λ (v : View). TellsModel v.fixed)
+      all_fixed (v ∷ vs) all =
+          All-cons (λ (x : View). TellsModel x.fixed) v vs (All-head TellsModel v.fixed (map (λ (x : View). x.fixed) vs) all)
+          (all_fixed vs (All-tail TellsModel v.fixed (map (λ (x : View). x.fixed) vs) all))
+
+  -- their run
+  abbrev run : Run
+  run = record { system = system; bound = record { components = []; unreached = 0 }; machines = map machine_in t.olds; plan = plan_of line }
+
+  tell : TellMachines t.olds (map machine_in t.olds)
+  tell = record {
+    count = length-map t.olds machine_in;
+    each = λ i v m of_v of_m.
+        let at = mapped_at machine_in t.olds i m of_m in
+        let same : at.0 ≡ v = same_Some at.0 v (sym at.1 ∙ of_v) in
+        let tells = all_got (λ (x : View). TellsModel x.fixed) t.olds i v olds_tell of_v in
+        let told : v.fixed.machine ≡ Some m = tells.1 ∙ ap (λ (n : Machine). Some n) (told_is v (machine_of (behaviour_of tells.0) v.fixed.shape) m tells.1 (ap machine_in (sym same) ∙ at.2)) in
+        let started = started_at (task_of line).directory system.components t.olds i v t.peers.are of_v in
+        (told, started.2.state ∙ ap (option_map (λ (n : Machine). n.first)) told);
+  }
+
+  built_in : (i : ℕ) (c : Component) (m : Machine) → slice_get system.components i ≡ Some c → slice_get (map machine_in t.olds) i ≡ Some m → IsBuiltIn c.shape m
+  built_in i c m of_c of_m =
+      let at = mapped_at machine_in t.olds i m of_m in
+      let v = at.0 in
+      let tells = all_got (λ (x : View). TellsModel x.fixed) t.olds i v olds_tell at.1 in
+      let started = started_at (task_of line).directory system.components t.olds i v t.peers.are at.1 in
+      let same : started.0 ≡ c = same_Some started.0 c (sym started.1 ∙ of_c) in
+      let shape : v.fixed.shape ≡ c.shape = started.2.shape_is ∙ ap (λ (x : Component). x.shape) same in
+      let model : machine_of (behaviour_of tells.0) v.fixed.shape ≡ m = told_is v (machine_of (behaviour_of tells.0) v.fixed.shape) m tells.1 at.2 in
+      let seconds = all_got (λ (x : Component). x.shape.resolution ≡ t.sound.components.per_second) system.components i c t.sound.components.resolutions of_c in
+      let above = t.sound.components.above in
+      record {
+        model = tells.0;
+        is = sym model ∙ ap (machine_of (behaviour_of tells.0)) shape;
+        counts = subst (λ (n : ℕ). 0 < n) (sym seconds) above;
+      }
+
+  well : WellBehaved run
+  well i = behave run t.sound i (λ c m of_c of_m. built_in i c m of_c of_m)
+
+  pub traced : TracesBuiltIns h line system
+  traced = record {
+    run = run;
+    system_is = refl;
+    plan_is = refl;
+    unbound = All-nil (λ (values : List BoundValue). values ≡ []);
+    built_in = record { count = length-map t.olds machine_in ∙ t.peers.each; each = built_in };
+    writes = t.writes run (record { system_is = refl; unbound = All-nil (λ (values : List BoundValue). values ≡ []); tell = tell }) refl well news_quiet;
+  }
+
+pub built_in_exact : BuiltInsBehaveWell → (h : Happened) → TraceRow h → BuiltInRow h
+built_in_exact behave h row = record {
+  when = λ b line shape is to_find knows calm put quiet.
+      elim (row.when line shape is to_find knows calm put) [
+        | inl idle ↦ inl idle
+        | inr t ↦ inr (traced behave h line (system_for shape) t b quiet)
+      ];
+}

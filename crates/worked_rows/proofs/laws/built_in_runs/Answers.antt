@@ -1,8 +1,0 @@
-use Rattle.worked_rows.proofs.BuiltInRuns.{answer_well, behave_well}
-use Rattle.worked_rows.proofs.laws.built_in_runs.Goals as goal
-
-pub returns-clause-answers : goal.returns-clause-answers
-returns-clause-answers c = answer_well
-
-pub returns-clause-behaves : goal.returns-clause-behaves
-returns-clause-behaves c = behave_well
