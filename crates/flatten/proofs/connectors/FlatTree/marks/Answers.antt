@@ -1,0 +1,27 @@
+use Rattle.std.proofs.Common.{sym, subst, arith}
+use Rattle.std.specs.List.{AllZip}
+use Rattle.std.proofs.lemmas.List.{take_all}
+use Rattle.flatten.specs.declared.marks.TheConstants.{CLASSES, INTEGER_TYPES}
+use Rattle.flatten.specs.Marks.{AreClassMarks, AreLedTo, AreTypeMarks, IsOutputAt}
+use Rattle.flatten.proofs.MarkLemmas.{names_shared, led_as}
+use Rattle.flatten.proofs.connectors.FlatTree.marks.Goals as goal
+
+pub reached-requires-clause-shared : goal.reached-requires-clause-shared
+reached-requires-clause-shared c =
+    let f = c.requires.indexed in
+    names_shared c.args.self.now.tree.now c.args.self.now.shapes.now c.args.self.now.points.items f.shapes f.points (λ x. Unit {0}) c.in_ok-outputs.outputs.items c.in_ok-outputs.ensures
+
+pub class_marks-requires-clause-fed : goal.class_marks-requires-clause-fed
+class_marks-requires-clause-fed c =
+    let f = c.requires.indexed in
+    subst (AreLedTo c.args.self.now.tree.now c.args.self.now.shapes.now (IsOutputAt c.args.self.now.tree.now c.args.self.now.shapes.now)) (sym c.as_slice.ensures.value)
+    (led_as c.args.self.now.tree.now c.args.self.now.shapes.now c.args.self.now.points.items f.shapes f.points (IsOutputAt c.args.self.now.tree.now c.args.self.now.shapes.now) c.in_ok-outputs.outputs.items c.in_ok-fed.fed.items c.in_ok-outputs.ensures c.in_ok-fed.ensures)
+
+pub returns : goal.returns
+returns c =
+    let f = c.requires.indexed in
+    record {
+      fed = led_as c.args.self.now.tree.now c.args.self.now.shapes.now c.args.self.now.points.items f.shapes f.points (IsOutputAt c.args.self.now.tree.now c.args.self.now.shapes.now) c.in_ok-outputs.outputs.items c.in_ok-fed.fed.items c.in_ok-outputs.ensures c.in_ok-fed.ensures;
+      classes = subst (λ z. AllZip (AreClassMarks c.args.self.now.tree.now c.args.self.now.shapes.now) z c.loop-class.classes.items) (take_all c.loop-class.class-index CLASSES (omega arith)) c.loop-class.invariant;
+      types = subst (λ z. AllZip (AreTypeMarks c.args.self.now.tree.now c.args.self.now.shapes.now) z c.loop-kind.types.items) (take_all c.loop-kind.kind-index INTEGER_TYPES (omega arith)) c.loop-kind.invariant;
+    }

@@ -1,0 +1,43 @@
+use Rattle.std.proofs.Common.{◌≡◌, ◌<◌, refl, sym, ◌∙◌, ap, subst, length, arith}
+use Rattle.std.specs.Prelude.{slice_get, IsSomeAnd, Some, true}
+use Rattle.std.specs.List.{AllZip}
+use Rattle.std.proofs.lemmas.Option.{get_or_from_slice_get, slice_get-get_or}
+use Rattle.value_types.specs.Shape.{is_port}
+use Rattle.value_types.specs.declared.shape.Shape.{Shape}
+use Rattle.value_types.specs.declared.shape.Variable.{Variable}
+use Rattle.system_model.specs.Sound.{IsRole}
+use Rattle.flatten.specs.Ports.{IsPortUnder}
+use Rattle.flatten.specs.Flat.{IsSourceWith}
+use Rattle.flatten.proofs.RoleLemmas.{some_of}
+use Rattle.flatten.proofs.connectors.FlatTree.port.Goals as goal
+
+pub returns : goal.returns
+returns c =
+    let shapes = c.args.self.now.shapes.now in
+    let s = some_of (slice_get shapes c.args.component) (λ (z : Shape). IsSomeAnd (slice_get z.variables c.args.place) (λ (x : Variable). (is_port x ≡ true) × (x.kind ≡ Some c.args.kind))) c.requires.place in
+    let x = some_of (slice_get s.0.variables c.args.place) (λ (x : Variable). (is_port x ≡ true) × (x.kind ≡ Some c.args.kind)) s.2 in
+    let shape_is = get_or_from_slice_get shapes c.args.component s.0 c.index-self-component.result s.1 in
+    let listed : c.as_slice.result.now ≡ s.0.variables = c.as_slice.ensures ∙ ap (λ (z : Shape). z.variables) shape_is in
+    let x_is : c.index-as_slice-place.result ≡ x.0 =
+    c.index-as_slice-place.is ∙ get_or_from_slice_get c.as_slice.result.now c.args.place x.0 c.index-as_slice-place.result (ap (λ ys. slice_get ys c.args.place) listed ∙ x.1) in
+    let n = c.number_at.result in
+    let feeds = c.args.table.now.feeds.items in
+    let within : n < length feeds = omega (arith, c.number_at.ensures.within, c.requires.table.feeds.len) in
+    let clocks : c.as_slice-2.result.now ≡ x.0.clocks = c.as_slice-2.ensures ∙ ap (λ (y : Variable). y.clocks) x_is in
+    record {
+      shape = s.0;
+      variable = x.0;
+      feed = c.index-feed.result.now;
+      number = refl;
+      of = s.1;
+      at = x.1;
+      is = x.2.0;
+      name = c.in_ok-copy.ensures ∙ ap (λ (y : Variable). y.name) x_is;
+      kind = x.2.1;
+      reference = ap (λ (y : Variable). y.reference) x_is;
+      role = subst (λ (y : Variable). IsRole s.0 y c.role.result) x_is (subst (λ (z : Shape). IsRole z c.index-as_slice-place.result c.role.result) shape_is c.role.ensures.role);
+      fed = ap (slice_get feeds) (sym c.number_at.ensures.number) ∙ slice_get-get_or feeds n c.index-feed.result.now within ∙ ap Some (sym c.index-feed.ensures);
+      source = subst (λ (y : Variable). IsSourceWith s.0 y c.index-feed.result.now c.role.result) x_is
+          (subst (λ (z : Shape). IsSourceWith z c.index-as_slice-place.result c.index-feed.result.now c.role.result) shape_is c.role.ensures.source);
+      clocks = subst (λ zs. AllZip (IsPortUnder shapes c.args.component) zs c.in_ok-clocks.field-0) clocks c.in_ok-clocks.ensures;
+    }

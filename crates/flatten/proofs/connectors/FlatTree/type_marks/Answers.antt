@@ -1,0 +1,24 @@
+use Rattle.std.proofs.Common.{◌≡◌, Some, refl, arith}
+use Rattle.flatten.specs.Marks.{IsOfType}
+use Rattle.flatten.proofs.MarkLemmas.{marked_more, marked_whole, names_shared, led_as}
+use Rattle.flatten.proofs.connectors.FlatTree.type_marks.Goals as goal
+
+pub loop-connector-preserved : goal.loop-connector-preserved
+loop-connector-preserved c =
+    marked_more (IsOfType c.args.self.now.tree.now c.args.self.now.shapes.now c.args.kind) c.loop-connector.connector c.loop-connector.starts.items c.push.new.self.items c.is_output_with.result c.in_ok-push.ensures.items c.is_output_with.ensures c.loop-connector.invariant
+
+pub reached-requires-clause-shared : goal.reached-requires-clause-shared
+reached-requires-clause-shared c =
+    let f = c.requires.indexed in
+    let n = f.points.len in
+    names_shared c.args.self.now.tree.now c.args.self.now.shapes.now c.args.self.now.points.items f.shapes f.points (λ x. x.kind ≡ Some c.args.kind) c.loop-connector.starts.items
+    (marked_whole c.args.self.now.tree.now (IsOfType c.args.self.now.tree.now c.args.self.now.shapes.now c.args.kind) c.loop-connector.connector c.loop-connector.starts.items (omega (arith, n)) c.loop-connector.invariant)
+
+pub returns : goal.returns
+returns c =
+    let f = c.requires.indexed in
+    let n = f.points.len in (
+      refl,
+      led_as c.args.self.now.tree.now c.args.self.now.shapes.now c.args.self.now.points.items f.shapes f.points (IsOfType c.args.self.now.tree.now c.args.self.now.shapes.now c.args.kind) c.loop-connector.starts.items c.in_ok-reached.field-0.items
+          (marked_whole c.args.self.now.tree.now (IsOfType c.args.self.now.tree.now c.args.self.now.shapes.now c.args.kind) c.loop-connector.connector c.loop-connector.starts.items (omega (arith, n)) c.loop-connector.invariant) c.in_ok-reached.ensures,
+    )

@@ -1,0 +1,99 @@
+-- The tables of a tree of systems: the variables of all components in one list, and what each connector stands for by its number there.
+use Rattle.std.specs.Prelude.{◌≡◌, ℕ, ◌+◌, ◌<◌, ◌≤◌, ◌==◌, Bool, if◌then◌else◌, List, length, map, take, Option, Some, None, option_and_then, slice_get, slice_index_or}
+use Rattle.std.specs.List.{flat_map, position}
+use Rattle.std.specs.Option.{option_or}
+use Rattle.value_types.specs.declared.shape.Variable.{Variable}
+use Rattle.value_types.specs.declared.shape.Shape.{Shape}
+use Rattle.connection_paths.specs.declared.point.Point as paths
+use Rattle.connection_paths.specs.declared.point.Point.TheVariants.{Variable as Numbered, OfSystem}
+use Rattle.connection_paths.specs.declared.point.Connection as joints
+use Rattle.ssd_tree.specs.declared.tree.Owner.{Owner}
+use Rattle.ssd_tree.specs.declared.tree.Owner.TheVariants.{System, Component}
+use Rattle.ssd_tree.specs.declared.tree.Connector.{Connector}
+use Rattle.ssd_tree.specs.declared.tree.Connection.{Connection}
+use Rattle.ssd_tree.specs.declared.tree.SystemTree.{SystemTree}
+use Rattle.flatten.specs.declared.connectors.FlatTree.{FlatTree}
+use Rattle.flatten.specs.declared.connectors.Variables.{Variables}
+use Rattle.flatten.specs.declared.names.VariableNames.{VariableNames}
+use Rattle.doc_tables.specs.Places.{found_in}
+use Rattle.doc_tables.specs.Tables.{IsTableBelow}
+use Rattle.flatten.specs.Points.{has_name}
+use Rattle.flatten.specs.Given.{AreShapesOf, IsWhole}
+
+-- ---- variables, by component and place in its description
+
+abbrev pub variables_in : Shape → List Variable
+variables_in shape = shape.variables
+
+abbrev pub all_variables : List Shape → List Variable
+all_variables shapes = flat_map variables_in shapes
+
+-- the number of the first variable of a component
+abbrev pub begin_of : List Shape → ℕ → ℕ
+begin_of shapes component = length (all_variables (take component shapes))
+
+-- all variables, and where those of each component begin; one more place has the number of all
+pub record AreVariables (shapes : List Shape) (v : Variables) : Type 0 where
+  pub all : map (λ x. x.now) v.all.items ≡ all_variables shapes
+  pub len : length v.begins.items ≡ length shapes + 1
+  pub begins : (i : ℕ) → i ≤ length shapes → slice_index_or v.begins.items i 0 ≡ begin_of shapes i
+
+-- the place in its description of the variable that a connector names
+abbrev pub place_for : List Shape → Owner → List ℕ → Option ℕ
+place_for shapes (System system) name = None
+place_for shapes (Component component) name = option_and_then (λ (s : Shape). position (has_name name) s.variables) (slice_get shapes component)
+
+-- the number of the variable at this place is below that of all variables
+abbrev pub IsPlaceIn : Variables → Owner → Option ℕ → Type 0
+IsPlaceIn v (System system) place = Unit {0}
+IsPlaceIn v (Component component) None = Unit {0}
+IsPlaceIn v (Component component) (Some place) = (component < length v.begins.items) × (slice_index_or v.begins.items component 0 + place < length v.all.items)
+
+-- ---- names
+
+-- where a component's name leads
+abbrev pub place_in : VariableNames → ℕ → List ℕ → Option ℕ
+place_in names component name = option_and_then (λ (entry : ℕ). slice_get names.places.items entry) (found_in names.first (component, name))
+
+-- the names put in so far, one after another, lead to these places
+pub record LeadTo (places : ℕ → List ℕ → Option ℕ) (names : VariableNames) : Type 0 where
+  pub keys : List (ℕ × List ℕ)
+  pub len : length keys ≡ length names.places.items
+  pub table : IsTableBelow (slice_get keys) (length keys) (found_in names.first)
+  pub told : (component : ℕ) (name : List ℕ) → place_in names component name ≡ places component name
+
+-- further places of a component's names, for those that led nowhere
+abbrev pub with_places : (ℕ → List ℕ → Option ℕ) → ℕ → (List ℕ → Option ℕ) → ℕ → List ℕ → Option ℕ
+with_places places component more other name = option_or (places other name) (if other == component then more name else None)
+
+-- the place, for such a name alone
+abbrev pub place_if : Bool → ℕ → Option ℕ
+place_if such place = if such then Some place else None
+
+-- each name leads to the first variable that has it
+abbrev pub AreNames : List Shape → VariableNames → Type 0
+AreNames shapes names = (component : ℕ) (name : List ℕ) → place_in names component name ≡ place_for shapes (Component component) name
+
+-- ---- points
+
+-- the number of the variable that a connector of a component names; further numbers for those that name none
+abbrev pub number_for : List Shape → ℕ → Owner → Option ℕ → paths.Point
+number_for shapes c (System system) place = OfSystem c
+number_for shapes c (Component component) (Some place) = Numbered (begin_of shapes component + place)
+number_for shapes c (Component component) None = Numbered (length (all_variables shapes) + c)
+
+pub record AreNumbered (t : SystemTree) (shapes : List Shape) (points : List paths.Point) : Type 0 where
+  pub len : length points ≡ length t.connectors
+  pub each : (c : ℕ) (k : Connector) → slice_get t.connectors c ≡ Some k → slice_get points c ≡ Some (number_for shapes c k.owner (place_for shapes k.owner k.name))
+
+abbrev pub ends_of : Connection → joints.Connection
+ends_of k = record { start = k.start; end = k.end }
+
+-- ---- the whole
+
+pub record IsIndexed (f : FlatTree) : Type 0 where
+  pub whole : IsWhole f.tree.now
+  pub shapes : AreShapesOf f.tree.now f.shapes.now
+  pub variables : AreVariables f.shapes.now f.variables
+  pub points : AreNumbered f.tree.now f.shapes.now f.points.items
+  pub connections : f.connections.items ≡ map ends_of f.tree.now.connections

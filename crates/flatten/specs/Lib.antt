@@ -1,0 +1,11 @@
+pub mod Points
+pub mod Paths
+pub mod Rules
+pub mod Flat
+pub mod Given
+pub mod Answers
+pub mod Indexed
+pub mod Marks
+pub mod Ports
+pub mod Broken
+pub mod Fed
