@@ -1,6 +1,6 @@
 -- What a stage leaves of each instance.
 use Rattle.std.proofs.Common.{◌≡◌, ◌≢◌, ℕ, zero, suc, ◌+◌, ◌<◌, ◌==◌, Bool, true, false, List, [], ◌∷◌, refl, sym, ap, ◌∙◌, subst, arith, length, get_or, map}
-use Rattle.std.specs.Prelude.{All, if◌then◌else◌}
+use Rattle.std.specs.Prelude.{All, ℤ, if◌then◌else◌}
 use Rattle.std.proofs.lemmas.List.{length-map, get_or_default}
 use Rattle.std.proofs.lemmas.List.Elements.{All-head, All-tail, All-nil, All-cons}
 use Rattle.std.proofs.lemmas.Bool.Decides.{nat_tests}
@@ -8,8 +8,6 @@ use Rattle.value_types.specs.declared.shape.Shape.{Shape}
 use Rattle.value_types.specs.declared.values.PortType.{PortType}
 use Rattle.fmi_calls.specs.declared.call.Call.{Call}
 use Rattle.fmi_calls.specs.declared.call.Call.TheVariants as C
-use Rattle.system_model.specs.declared.system.Port.{Port}
-use Rattle.slot_calls.specs.Carried.{gets, get_of}
 use Rattle.fmu_peer.specs.declared.peer.Exchange.{Exchange}
 use Rattle.fmu_peer.specs.CloseAll.{Instance}
 use Rattle.fmu_peer.specs.Talk.{IsGood}
@@ -121,18 +119,17 @@ module _ {A : Type 0} (f : A → Instance) (call : Shape → Call) (P Q : View �
   pub stage_all : All (λ (a : A). P (f a).view) olds → All (λ (a : A). Q (f a).view) news
   stage_all all = λ k d w. let l = length_same in one_leads k d (omega (arith, l, w)) (all k d (omega (arith, l, w)))
 
--- ---- Gets
+-- ---- Gets and Sets
 
 abbrev pub IsGet : Exchange → Type 0
 IsGet e = (kind : PortType) × (reference : ℕ) × (e.call ≡ C.Get kind reference)
 
-pub gets_are : (ports : List Port) (log : List Sent) → askings log ≡ gets ports → All (λ (s : Sent). IsGet s.exchange) log
-gets_are ports [] is = All-nil (λ (s : Sent). IsGet s.exchange)
-gets_are [] (s ∷ log) is = absurd (cc)
-gets_are (p ∷ ports) (s ∷ log) is =
-    All-cons (λ (r : Sent). IsGet r.exchange) s log
-    (p.kind, p.reference, ap (λ (a : Asking). a.call) (first_same (asking_of s) (record { component = p.component.0; call = get_of p }) (askings log) (gets ports) is))
-    (gets_are ports log (rest_same (asking_of s) (record { component = p.component.0; call = get_of p }) (askings log) (gets ports) is))
+abbrev pub IsSet : Exchange → Type 0
+IsSet e = (kind : PortType) × (reference : ℕ) × (value : ℤ) × (e.call ≡ C.Set kind reference value)
+
+-- an exchange of this sort, whose answer is good
+abbrev pub IsGoodly : (Exchange → Type 0) → List Shape → Sent → Type 0
+IsGoodly K ss s = K s.exchange × IsGoodOf ss s
 
 part_head : (Q : ℕ → Exchange → Type 0) (i : ℕ) (s : Sent) (es : List Exchange) (b : Bool) → (s.component == i) ≡ b → Q s.component s.exchange → All (Q i) es → All (Q i) (if b then s.exchange ∷ es else es)
 part_head Q i s es true is q all = All-cons (Q i) s.exchange es (subst (λ (n : ℕ). Q n s.exchange) (equal s.component i is) q) all where
@@ -147,16 +144,17 @@ part_all Q i (s ∷ log) all =
 
 -- what each of the exchanges keeps is kept
 talks_keep : (P : View → Type 0) (K : Exchange → Type 0) → ((v w : View) (e : Exchange) → P v → Led v e w → K e → P w) → (shape : Shape) (v w : View) (es : List Exchange) →
-    v.fixed.shape ≡ shape → Talks v es w → All (IsGood shape) es → All K es → P v → P w
-talks_keep P K keeps shape v w [] is t good k p = subst P (sym t) p
-talks_keep P K keeps shape v w (e ∷ es) is (mid, may, asked, rest) good k p =
-    talks_keep P K keeps shape mid w es (ap (λ (f : Fixed). f.shape) asked.fixed ∙ is) rest (All-tail (IsGood shape) e es good) (All-tail K e es k)
-    (keeps v mid e p (led v mid e (mid, may, asked, refl) (subst (λ (s : Shape). IsGood s e) (sym is) (All-head (IsGood shape) e es good))) (All-head K e es k))
+    v.fixed.shape ≡ shape → Talks v es w → All (λ (e : Exchange). K e × ((z : Shape) → z ≡ shape → IsGood z e)) es → P v → P w
+talks_keep P K keeps shape v w [] is t all p = subst P (sym t) p
+talks_keep P K keeps shape v w (e ∷ es) is (mid, may, asked, rest) all p =
+    let head = All-head (λ (x : Exchange). K x × ((z : Shape) → z ≡ shape → IsGood z x)) e es all in
+    talks_keep P K keeps shape mid w es (ap (λ (f : Fixed). f.shape) asked.fixed ∙ is) rest (All-tail (λ (x : Exchange). K x × ((z : Shape) → z ≡ shape → IsGood z x)) e es all)
+    (keeps v mid e p (led v mid e (mid, may, asked, refl) (head.1 v.fixed.shape is)) head.0)
 
-module _ {A : Type 0} (f : A → Instance) (P : View → Type 0) (keeps : (v w : View) (e : Exchange) → P v → Led v e w → IsGet e → P w)
-    (ports : List Port) (olds news : List A) (log : List Sent) (told : Told log (map f olds) (map f news)) (s : IsAnswered (shapes (map f olds)) (gets ports) log) where
-  pub gets_all : All (λ (a : A). P (f a).view) olds → All (λ (a : A). P (f a).view) news
-  gets_all all = λ k d w.
+module _ {A : Type 0} (f : A → Instance) (P : View → Type 0) (K : Exchange → Type 0) (keeps : (v w : View) (e : Exchange) → P v → Led v e w → K e → P w)
+    (ss : List Shape) (olds news : List A) (log : List Sent) (told : Told log (map f olds) (map f news)) (fits : shapes (map f olds) ≡ ss) (goodly : All (IsGoodly K ss) log) where
+  pub keep_all : All (λ (a : A). P (f a).view) olds → All (λ (a : A). P (f a).view) news
+  keep_all all = λ k d w.
       let a = length-map news f in let b = length-map olds f in let c = told.len in
       let w_old : k < length olds = omega (arith, a, b, c, w) in
       let in_olds : k < length (map f olds) = omega (arith, b, w_old) in
@@ -164,10 +162,10 @@ module _ {A : Type 0} (f : A → Instance) (P : View → Type 0) (keeps : (v w :
       let y : Instance = f (get_or news k d) in
       let x_is : x ≡ get_or (map f olds) k x = map_at f olds k (get_or olds k d) x w_old (get_or_default olds k d (get_or olds k d) w_old) in
       let y_is : y ≡ get_or (map f news) k x = map_at f news k (get_or news k d) x w (get_or_default news k d (get_or news k d) w) in
-      let shape_is : x.view.fixed.shape ≡ get_or (shapes (map f olds)) k x.view.fixed.shape = map_at shape_of (map f olds) k x x.view.fixed.shape in_olds x_is in
+      let shape_is : x.view.fixed.shape ≡ get_or ss k x.view.fixed.shape =
+      map_at shape_of (map f olds) k x x.view.fixed.shape in_olds x_is ∙ ap (λ (zs : List Shape). get_or zs k x.view.fixed.shape) fits in
       let has : Has x (part k log) y =
       subst (λ (i : Instance). Has i (part k log) y) (sym x_is) (subst (λ (i : Instance). Has (get_or (map f olds) k x) (part k log) i) (sym y_is) (told.each k x in_olds)) in
-      let good : All (λ (e : Exchange). (z : Shape) → IsGood (get_or (shapes (map f olds)) k z) e) (part k log) = part_all (λ n e. (z : Shape) → IsGood (get_or (shapes (map f olds)) n z) e) k log s.good in
-      let kinds : All IsGet (part k log) = part_all (λ n e. IsGet e) k log (gets_are ports log s.calls_are) in
-      talks_keep P IsGet keeps x.view.fixed.shape x.view y.view (part k log) refl has.talks
-      (λ j e v. subst (λ (t : Shape). IsGood t (get_or (part k log) j e)) (sym shape_is) (good j e v x.view.fixed.shape)) kinds (all k d w_old)
+      let own : All (λ (e : Exchange). K e × ((z : Shape) → IsGood (get_or ss k z) e)) (part k log) = part_all (λ n e. K e × ((z : Shape) → IsGood (get_or ss n z) e)) k log goodly in
+      talks_keep P K keeps (get_or ss k x.view.fixed.shape) x.view y.view (part k log) shape_is has.talks
+      (λ j e v. ((own j e v).0, λ z same. subst (λ (t : Shape). IsGood t (get_or (part k log) j e)) (sym same) ((own j e v).1 x.view.fixed.shape))) (all k d w_old)

@@ -1,31 +1,31 @@
 -- The course of a run, from one part to the next.
-use Rattle.std.proofs.Common.{◌≡◌, ℕ, ◌+◌, ◌-◌, true, false, List, [], ◌∷◌, ◌++◌, Option, Some, Result, Ok, Err, inl, inr, refl, sym, ap, ◌∙◌, subst, append_assoc, arith, length, length-append, get_or}
-use Rattle.std.specs.Prelude.{OnOk, All, ℤ}
+use Rattle.std.proofs.Common.{◌≡◌, ℕ, ◌+◌, ◌-◌, true, false, List, [], ◌∷◌, ◌++◌, Option, Some, Result, Ok, Err, inl, inr, refl, sym, ap, ◌∙◌, subst, append_assoc, length, length-append}
+use Rattle.std.specs.Prelude.{OnOk, ℤ}
 use Rattle.std.proofs.lemmas.List.{map-append}
 use Rattle.sim_base.specs.Sink.{SinkView, with_piece}
 use Rattle.sim_base.specs.declared.numbers.CompId.{CompId}
 use Rattle.value_types.specs.declared.shape.Shape.{Shape}
 use Rattle.fmi_calls.specs.declared.call.Call.TheVariants as C
-use Rattle.fmi_calls.specs.Permission.{IsReadable}
 use Rattle.fmu_peer.specs.CloseAll.{Instance}
-use Rattle.fmu_peer.specs.View.{Fixed}
 use Rattle.system_model.specs.declared.plan.Plan.{Plan}
-use Rattle.system_model.specs.declared.system.Port.{Port}
 use Rattle.system_model.specs.declared.system.System.{System}
+use Rattle.system_model.specs.Ports.{numbers}
 use Rattle.system_model.specs.Text.{Instant, instant_text}
+use Rattle.event_iteration.specs.Explains.{ExplainsUntil, Walks}
+use Rattle.event_iteration.specs.Instants as I
+use Rattle.event_iteration.specs.Settings.{before_step, port_order}
 use Rattle.slot_calls.specs.declared.bad_answer.BadAnswer.{BadAnswer}
 use Rattle.calling_sequence.specs.declared.ending.Break.{Break}
 use Rattle.calling_sequence.specs.declared.ending.Break.TheVariants as B
 use Rattle.calling_sequence.specs.declared.ending.Ending.{Ending}
 use Rattle.calling_sequence.specs.declared.run_end.RunEnd.TheVariants as E
-use Rattle.slot_calls.specs.Carried.{any_asks_to_end, gets, values_of}
-use Rattle.calling_sequence.specs.Course.{AtStart, ByStep, Came, IsBoundOf, IsStep, Seen, first_unfit, header_of, pieces_of, read_at, text_of}
-use Rattle.slot_calls.specs.Log.{Sent, Asking, Told, part}
-use Rattle.calling_sequence.specs.Place.{IsPortOf}
+use Rattle.slot_calls.specs.Carried.{any_asks_to_end}
+use Rattle.calling_sequence.specs.Course.{AtStart, ByStep, Came, Departs, IsBoundOf, IsStep, Seen, Sets, first_unfit, header_of, instant_at, pieces_of, text_of}
+use Rattle.slot_calls.specs.Log.{Sent, Asking, Told}
 use Rattle.calling_sequence.specs.Puts.{CutsPiece, with_pieces}
-use Rattle.slot_calls.specs.Stage.{FailsIn, IsAnswered, Round, Stage, StopsAt, nothing, shapes, shapes_of, to_each}
-use Rattle.calling_sequence.specs.Steps.{Follows, ReadsAt, at_point, carrying, initializing_all}
-use Rattle.slot_calls.proofs.Logs.{told_none, told_on, talks_fixed}
+use Rattle.slot_calls.specs.Stage.{FailsIn, IsAnswered, Round, shapes, shapes_of, to_each}
+use Rattle.calling_sequence.specs.Steps.{Follows, Initializes, ReadsAt, SaysAt, SetsAt, StepsAt, at_point}
+use Rattle.slot_calls.proofs.Logs.{told_none, told_on}
 use Rattle.slot_calls.proofs.Answered.{shapes_same}
 
 -- ---- pieces
@@ -58,13 +58,14 @@ pub on_point : {T : Type 0} (r : Result T BadAnswer) (t : ℕ) (q : Result T Bre
 on_point {T} (Ok x) t q P is h = subst (λ (z : Result T Break). OnOk z P) (sym is) h
 on_point {T} (Err bad) t q P is h = subst (λ (z : Result T Break). OnOk z P) (sym is) tt
 
--- the ports were read at a point
-pub reads_at_point : (ports : List Port) (system : System) (t : ℕ) (olds news : List Instance) (values : List (Option ℤ)) (r : Result (Unit {0}) BadAnswer) (q : Result (Unit {0}) Break) →
-    ports ≡ system.ports → q ≡ at_point r t → Stage (gets ports) values_of olds news (carrying r values) → ReadsAt system t olds news values q
-reads_at_point ports system t olds news values (Ok x) q same is s =
-    subst (ReadsAt system t olds news values) (sym is) (subst (λ (ps : List Port). Stage (gets ps) values_of olds news (Ok values)) same s)
-reads_at_point ports system t olds news values (Err bad) q same is s =
-    subst (ReadsAt system t olds news values) (sym is) (bad, refl, subst (λ (ps : List Port). Stage (gets ps) values_of olds news (Err bad)) same s)
+pub says_at : {T : Type 0} (says : Result T BadAnswer → Type 0) (r : Result T BadAnswer) (t : ℕ) (q : Result T Break) → q ≡ at_point r t → says r → SaysAt says t q
+says_at says (Ok x) t q is h = subst (SaysAt says t) (sym is) h
+says_at says (Err bad) t q is h = subst (SaysAt says t) (sym is) (bad, refl, h)
+
+-- a bad answer at a point breaks a run off as it says
+pub broken_by : {T : Type 0} (says : Result T BadAnswer → Type 0) (t : ℕ) (P : Break → Type 0) → ((bad : BadAnswer) → says (Err bad) → P (B.Ends (record { end = E.Bad bad; point = t }))) → (b : Break) → SaysAt says t (Err b) → P b
+broken_by says t P breaks (B.Ends ending) (bad, is, h) = subst (λ (e : Ending). P (B.Ends e)) (sym is) (breaks bad h)
+broken_by says t P breaks B.Write h = absurd h
 
 -- ---- the states of the loop
 
@@ -77,23 +78,33 @@ pub record Here (system : System) (plan : Plan) (olds : List Instance) (before :
   pub put : present ≡ with_pieces before (pieces_of system plan is)
   pub counted : count ≡ length is
 
--- the outputs of the point were read, and the instant put
-pub record Shown (system : System) (plan : Plan) (olds : List Instance) (before : SinkView) (t : ℕ) (mids : List Instance) (present : SinkView) (count : ℕ) : Type 0 where
+-- the outputs of the point were read, which gave these values, and the instant was put
+pub record Shown (system : System) (plan : Plan) (olds : List Instance) (before : SinkView) (t : ℕ) (mids : List Instance) (values : List (Option ℤ)) (present : SinkView) (count : ℕ) : Type 0 where
   pub log : List Sent
   pub is : List Instant
   pub told : Told log olds mids
   pub seen : Seen system plan t log is
+  pub values_are : seen.values ≡ values
+  pub put : present ≡ with_pieces before (pieces_of system plan is)
+  pub counted : count ≡ length is
+
+-- and the inputs were set to them for a step to another point
+pub record Departed (system : System) (plan : Plan) (olds : List Instance) (before : SinkView) (t to : ℕ) (mids : List Instance) (present : SinkView) (count : ℕ) : Type 0 where
+  pub log : List Sent
+  pub is : List Instant
+  pub told : Told log olds mids
+  pub departs : Departs system plan t to log is
   pub put : present ≡ with_pieces before (pieces_of system plan is)
   pub counted : count ≡ length is
 
 length_more : (is : List Instant) (i : Instant) → length (is ++ i ∷ []) ≡ length is + 1
 length_more is i = length-append is (i ∷ [])
 
-module _ (system : System) (plan : Plan) (olds : List Instance) (before : SinkView) (fits : shapes olds ≡ shapes_of system) where
-  -- a log leaves the shapes those of the components
-  fits_on : (log : List Sent) (mids : List Instance) → Told log olds mids → shapes mids ≡ shapes_of system
-  fits_on log mids told = shapes_same log olds mids told ∙ fits
+-- a log leaves the shapes those of the components
+pub fits_on : (system : System) (log : List Sent) (olds mids : List Instance) → shapes olds ≡ shapes_of system → Told log olds mids → shapes mids ≡ shapes_of system
+fits_on system log olds mids fits told = shapes_same log olds mids told ∙ fits
 
+module _ (system : System) (plan : Plan) (olds : List Instance) (before : SinkView) (fits : shapes olds ≡ shapes_of system) where
   pub header_cut : (after : SinkView) (count : ℕ) → count ≡ 0 → CutsPiece before (header_of system plan) after → Follows system plan olds olds before after count (Err B.Write)
   header_cut after count none cut = record {
     log = [];
@@ -109,40 +120,30 @@ module _ (system : System) (plan : Plan) (olds : List Instance) (before : SinkVi
   }
 
   pub lead_bad : (news : List Instance) (after : SinkView) (count : ℕ) (bad : BadAnswer) (b : Break) → B.Ends (record { end = E.Bad bad; point = plan.start }) ≡ b → count ≡ 0 →
-      after ≡ with_piece before (header_of system plan) → Stage (initializing_all plan (shapes olds)) nothing olds news (Err bad) → Follows system plan olds news before after count (Err b)
+      after ≡ with_piece before (header_of system plan) → Initializes system plan olds news (Err bad) → Follows system plan olds news before after count (Err b)
   lead_bad news after count bad b is none put s = subst (λ (x : Break). Follows system plan olds news before after count (Err x)) is (record {
     log = s.log;
     is = [];
     told = s.told;
     counted_is = none;
-    goes = (
-      refl,
-      (
-        inl (record { stops = subst (λ (ss : List Shape). StopsAt ss (initializing_all plan ss) bad s.log) fits s.says; point_is = refl; is_is = refl }),
-        put,
-      ),
-    );
+    goes = (refl, (inl (record { stops = s.says; point_is = refl; is_is = refl }), put));
   })
 
-  pub here_first : (news : List Instance) (after : SinkView) (count : ℕ) → count ≡ 0 → after ≡ with_piece before (header_of system plan) →
-      (s : Stage (initializing_all plan (shapes olds)) nothing olds news (Ok tt)) → Here system plan olds before plan.start news after count
+  pub here_first : (news : List Instance) (after : SinkView) (count : ℕ) → count ≡ 0 → after ≡ with_piece before (header_of system plan) → (s : Initializes system plan olds news (Ok tt)) →
+      Here system plan olds before plan.start news after count
   here_first news after count none put s = record {
     log = s.log;
     is = [];
     told = s.told;
-    came = AtStart plan.start s.log [] (subst (λ (ss : List Shape). IsAnswered ss (initializing_all plan ss) s.log) fits s.says.0) refl refl;
+    came = AtStart plan.start s.log [] s.says refl refl;
     put = put;
     counted = none;
   }
 
-  module _ (t : ℕ) (mids news : List Instance) (present : SinkView) (count : ℕ) (h : Here system plan olds before t mids present count) where
-    same : shapes mids ≡ shapes_of system
-    same = fits_on h.log mids h.told
-
+  module _ (t : ℕ) (mids news : List Instance) (present : SinkView) (count : ℕ) (h : Here system plan olds before t mids present count) (earlier : List (Option ℤ)) (known : length earlier ≡ length system.ports) where
     -- a bad answer to a Get
-    pub reads_badly : (values : List (Option ℤ)) (b : Break) → ReadsAt system t mids news values (Err b) → Follows system plan olds news before present count (Err b)
-    reads_badly values B.Write none = absurd none
-    reads_badly values (B.Ends ending) (bad, is, s) = subst (λ (e : Ending). Follows system plan olds news before present count (Err (B.Ends e))) (sym is) (record {
+    pub reads_badly : (values : List (Option ℤ)) (b : Break) → ReadsAt system t earlier values mids news (Err b) → Follows system plan olds news before present count (Err b)
+    reads_badly values b given = broken_by (λ r. Walks system I.at_point earlier (numbers system.instant_order) values mids news r) t (λ (x : Break). Follows system plan olds news before present count (Err x)) (λ bad s. record {
       log = h.log ++ s.log;
       is = h.is;
       told = told_on olds mids news h.log s.log h.told s.told;
@@ -153,39 +154,41 @@ module _ (system : System) (plan : Plan) (olds : List Instance) (before : SinkVi
           inr (inl (record {
             before = h.log;
             reads = s.log;
+            earlier = earlier;
+            known = known;
+            values = values;
             came = h.came;
-            stops = subst (λ (ss : List Shape). StopsAt ss (gets system.ports) bad s.log) same s.says;
+            stops = s.says;
             log_is = refl;
           })),
           h.put,
         ),
       );
-    })
+    }) b given
 
-    module _ (values : List (Option ℤ)) (s : Stage (gets system.ports) values_of mids news (Ok values)) where
-      text_is : instant_text t 0 values ≡ text_of (read_at t s.log)
-      text_is = ap (λ (v : List (Option ℤ)). instant_text t 0 v) s.says.1
-
-      read_seen : Seen system plan t (h.log ++ s.log) (h.is ++ read_at t s.log ∷ [])
+    module _ (values : List (Option ℤ)) (places : length values ≡ length system.ports) (s : Walks system I.at_point earlier (numbers system.instant_order) values mids news (Ok tt)) where
+      abbrev read_seen : Seen system plan t (h.log ++ s.log) (h.is ++ instant_at t values ∷ [])
       read_seen = record {
+        values = values;
         before = h.log;
         reads = s.log;
         earlier = h.is;
         came = h.came;
-        read = subst (λ (ss : List Shape). IsAnswered ss (gets system.ports) s.log) same s.says.0;
+        read = record { before = earlier; known = known; places = places; explains = s.says };
         log_is = refl;
         is_is = refl;
       }
 
       -- the instant was put
-      pub shown : (after : SinkView) (more : ℕ) → after ≡ with_piece present (instant_text t 0 values) → more ≡ count + 1 → Shown system plan olds before t news after more
+      pub shown : (after : SinkView) (more : ℕ) → after ≡ with_piece present (instant_text t 0 values) → more ≡ count + 1 → Shown system plan olds before t news values after more
       shown after more put counted = record {
         log = h.log ++ s.log;
-        is = h.is ++ read_at t s.log ∷ [];
+        is = h.is ++ instant_at t values ∷ [];
         told = told_on olds mids news h.log s.log h.told s.told;
         seen = read_seen;
-        put = put ∙ ap (with_piece present) text_is ∙ ap (λ (v : SinkView). with_piece v (text_of (read_at t s.log))) h.put ∙ pieces_more system plan before h.is (read_at t s.log);
-        counted = counted ∙ ap (λ (n : ℕ). n + 1) h.counted ∙ sym (length_more h.is (read_at t s.log));
+        values_are = refl;
+        put = put ∙ ap (λ (v : SinkView). with_piece v (text_of (instant_at t values))) h.put ∙ pieces_more system plan before h.is (instant_at t values);
+        counted = counted ∙ ap (λ (n : ℕ). n + 1) h.counted ∙ sym (length_more h.is (instant_at t values));
       }
 
       -- its put failed
@@ -198,22 +201,19 @@ module _ (system : System) (plan : Plan) (olds : List Instance) (before : SinkVi
         counted_is = counted ∙ h.counted;
         goes = record {
           pieces = pieces_of system plan h.is;
-          piece = text_of (read_at t s.log);
+          piece = text_of (instant_at t values);
           interrupted = inr (record {
             t = t;
-            i = read_at t s.log;
+            i = instant_at t values;
             seen = read_seen;
             pieces_are = refl;
             piece_is = refl;
           });
-          put = subst (λ (v : SinkView). CutsPiece v (text_of (read_at t s.log)) after) h.put (subst (λ (w : List ℕ). CutsPiece present w after) text_is cut);
+          put = subst (λ (v : SinkView). CutsPiece v (text_of (instant_at t values)) after) h.put cut;
         };
       })
 
-  module _ (t : ℕ) (mids : List Instance) (present : SinkView) (count : ℕ) (h : Shown system plan olds before t mids present count) where
-    same_seen : shapes mids ≡ shapes_of system
-    same_seen = fits_on h.log mids h.told
-
+  module _ (t : ℕ) (mids : List Instance) (values : List (Option ℤ)) (present : SinkView) (count : ℕ) (h : Shown system plan olds before t mids values present count) where
     pub stops_there : t ≡ plan.stop → Follows system plan olds mids before present count (Ok (record { end = E.Stop; point = t }))
     stops_there is = record {
       log = h.log;
@@ -234,12 +234,9 @@ module _ (system : System) (plan : Plan) (olds : List Instance) (before : SinkVi
     }
 
     module _ (news : List Instance) (e : ℕ) (step : IsStep system plan t e) where
-      abbrev steps_of : List Shape → List Asking
-      steps_of ss = to_each (λ (shape : Shape). C.DoStep t (e - t)) ss
-
-      pub steps_badly : (bad : BadAnswer) (b : Break) → B.Ends (record { end = E.Bad bad; point = t }) ≡ b → Round (steps_of (shapes mids)) any_asks_to_end mids news (Err bad) →
-          Follows system plan olds news before present count (Err b)
-      steps_badly bad b is s = subst (λ (x : Break). Follows system plan olds news before present count (Err x)) is (record {
+      -- a bad answer to a Set
+      pub sets_badly : (b : Break) → SetsAt system t values mids news (Err b) → Follows system plan olds news before present count (Err b)
+      sets_badly b given = broken_by (λ r. Walks system (before_step values) values (port_order system) values mids news r) t (λ (x : Break). Follows system plan olds news before present count (Err x)) (λ bad s. record {
         log = h.log ++ s.log;
         is = h.is;
         told = told_on olds mids news h.log s.log h.told s.told;
@@ -247,66 +244,104 @@ module _ (system : System) (plan : Plan) (olds : List Instance) (before : SinkVi
         goes = (
           refl,
           (
-            inr (inr (record {
+            inr (inr (inl (record {
               to = e;
               before = h.log;
-              steps = s.log;
+              sets = s.log;
               seen = h.seen;
               step = step;
-              fails = subst (λ (ss : List Shape). FailsIn ss (steps_of ss) bad s.log) same_seen s.says;
+              stops = subst (λ (vs : List (Option ℤ)). ExplainsUntil system (before_step vs) vs (port_order system) bad vs s.log) (sym h.values_are) s.says;
               log_is = refl;
-            })),
+            }))),
             h.put,
           ),
         );
-      })
+      }) b given
 
-      pub asked_there : (s : Round (steps_of (shapes mids)) any_asks_to_end mids news (Ok true)) →
-          Follows system plan olds news before present count (Ok (record { end = E.Asked e; point = e }))
-      asked_there s = record {
+      pub departed : Walks system (before_step values) values (port_order system) values mids news (Ok tt) → Departed system plan olds before t e news present count
+      departed s = record {
         log = h.log ++ s.log;
         is = h.is;
         told = told_on olds mids news h.log s.log h.told s.told;
-        counted_is = h.counted;
-        goes = (
-          refl,
-          (
-            (
-              refl,
-              record {
-                from = t;
-                before = h.log;
-                steps = s.log;
-                seen = h.seen;
-                step = step;
-                answered = subst (λ (ss : List Shape). IsAnswered ss (steps_of ss) s.log) same_seen s.says.0;
-                asks = sym s.says.1;
-                log_is = refl;
-              },
-            ),
-            h.put,
-          ),
-        );
-      }
-
-      pub here_on : (s : Round (steps_of (shapes mids)) any_asks_to_end mids news (Ok false)) → Here system plan olds before e news present count
-      here_on s = record {
-        log = h.log ++ s.log;
-        is = h.is;
-        told = told_on olds mids news h.log s.log h.told s.told;
-        came = ByStep e (h.log ++ s.log) h.is t h.seen.before h.seen.reads s.log h.seen.earlier h.seen.came h.seen.read step
-            (subst (λ (ss : List Shape). IsAnswered ss (steps_of ss) s.log) same_seen s.says.0) (sym s.says.1)
-            (ap (λ (l : List Sent). l ++ s.log) h.seen.log_is ∙ append_assoc h.seen.before h.seen.reads s.log) h.seen.is_is;
+        departs = record {
+          before = h.log;
+          sets = s.log;
+          seen = h.seen;
+          step = step;
+          set = subst (λ (vs : List (Option ℤ)). Sets system vs s.log) (sym h.values_are) s.says;
+          log_is = refl;
+        };
         put = h.put;
         counted = h.counted;
       }
 
--- a log leaves what ports are
-pub ports_on : (log : List Sent) (olds news : List Instance) (ports : List Port) → Told log olds news → All (IsPortOf olds) ports → All (IsPortOf news) ports
-ports_on log olds news ports told all = λ k d w.
-    let p = get_or ports k d in
-    let h : IsPortOf olds p = all k d w in
-    record {
-      within = let l = told.len in let w_old = h.within in omega (arith, l, w_old);
-      output = λ i. subst (λ (f : Fixed). IsReadable f.shape p.kind p.reference) (sym (talks_fixed _ (part p.component.0 log) _ (told.each p.component.0 i h.within).talks)) (h.output i);
+  module _ (t e : ℕ) (mids : List Instance) (present : SinkView) (count : ℕ) (h : Departed system plan olds before t e mids present count) (news : List Instance) where
+    same : shapes mids ≡ shapes_of system
+    same = fits_on system h.log olds mids fits h.told
+
+    abbrev steps_of : List Shape → List Asking
+    steps_of ss = to_each (λ (shape : Shape). C.DoStep t (e - t)) ss
+
+    pub steps_badly : (b : Break) → StepsAt t (e - t) mids news (Err b) → Follows system plan olds news before present count (Err b)
+    steps_badly b given = broken_by (λ r. Round (steps_of (shapes mids)) any_asks_to_end mids news r) t (λ (x : Break). Follows system plan olds news before present count (Err x)) (λ bad s. record {
+      log = h.log ++ s.log;
+      is = h.is;
+      told = told_on olds mids news h.log s.log h.told s.told;
+      counted_is = h.counted;
+      goes = (
+        refl,
+        (
+          inr (inr (inr (record {
+            to = e;
+            before = h.log;
+            steps = s.log;
+            departs = h.departs;
+            fails = subst (λ (ss : List Shape). FailsIn ss (steps_of ss) bad s.log) same s.says;
+            log_is = refl;
+          }))),
+          h.put,
+        ),
+      );
+    }) b given
+
+    pub asked_there : (s : Round (steps_of (shapes mids)) any_asks_to_end mids news (Ok true)) → Follows system plan olds news before present count (Ok (record { end = E.Asked e; point = e }))
+    asked_there s = record {
+      log = h.log ++ s.log;
+      is = h.is;
+      told = told_on olds mids news h.log s.log h.told s.told;
+      counted_is = h.counted;
+      goes = (
+        refl,
+        (
+          (
+            refl,
+            record {
+              from = t;
+              before = h.log;
+              steps = s.log;
+              departs = h.departs;
+              answered = subst (λ (ss : List Shape). IsAnswered ss (steps_of ss) s.log) same s.says.0;
+              asks = sym s.says.1;
+              log_is = refl;
+            },
+          ),
+          h.put,
+        ),
+      );
     }
+
+    pub here_on : (s : Round (steps_of (shapes mids)) any_asks_to_end mids news (Ok false)) → Here system plan olds before e news present count
+    here_on s =
+        let d = h.departs in
+        let seen = d.seen in
+        record {
+          log = h.log ++ s.log;
+          is = h.is;
+          told = told_on olds mids news h.log s.log h.told s.told;
+          came = ByStep e (h.log ++ s.log) h.is t seen.values seen.before seen.reads d.sets s.log seen.earlier seen.came seen.read d.step d.set
+              (subst (λ (ss : List Shape). IsAnswered ss (steps_of ss) s.log) same s.says.0) (sym s.says.1)
+              (ap (λ (l : List Sent). l ++ s.log) d.log_is ∙ append_assoc d.before d.sets s.log
+              ∙ ap (λ (l : List Sent). l ++ (d.sets ++ s.log)) seen.log_is ∙ append_assoc seen.before seen.reads (d.sets ++ s.log)) seen.is_is;
+          put = h.put;
+          counted = h.counted;
+        }

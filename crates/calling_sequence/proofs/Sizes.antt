@@ -11,7 +11,7 @@ use Rattle.system_model.specs.declared.plan.Plan.{Plan}
 use Rattle.system_model.specs.declared.system.Component.{Component}
 use Rattle.system_model.specs.declared.system.System.{System}
 use Rattle.calling_sequence.specs.Course.{first_unfit}
-use Rattle.calling_sequence.specs.Place.{IsAt, TakesSize}
+use Rattle.calling_sequence.specs.Place.{IsDeparting, TakesSize}
 use Rattle.slot_calls.specs.Stage.{shapes, shapes_of}
 use Rattle.slot_calls.proofs.Answered.{map_at, shape_of}
 use Rattle.calling_sequence.proofs.Phases.{CanStep}
@@ -52,8 +52,8 @@ module _ {A : Type 0} (f : A → Instance) (slots : List A) (system : System) (p
   same_length =
       sym (length-map (map f slots) shape_of ∙ length-map slots f) ∙ ap length fits ∙ length-map system.components shape_in
 
-  pub can_step : (t b : ℕ) → first_unfit system plan (b - t) ≡ None → All (λ (a : A). IsAt t plan.stop plan.step (f a).view) slots → All (λ (a : A). CanStep t b plan.stop plan.step (f a).view) slots
-  can_step t b fit at = λ k d w.
+  pub can_step : (t b : ℕ) → first_unfit system plan (b - t) ≡ None → All (λ (a : A). IsDeparting t plan.stop plan.step (f a).view) slots → All (λ (a : A). CanStep t b plan.stop plan.step (f a).view) slots
+  can_step t b fit there = λ k d w.
       let w_there : k < length system.components = let l = same_length in omega (arith, l, w) in
       let c = there_is system.components k w_there in
       let x : Instance = f (get_or slots k d) in
@@ -62,6 +62,6 @@ module _ {A : Type 0} (f : A → Instance) (slots : List A) (system : System) (p
       let shape_is : x.view.fixed.shape ≡ c.0.shape = own ∙ ap (λ (ss : List Shape). get_or ss k c.0.shape) fits ∙ sym (map_at shape_in system.components k c.0 c.0.shape w_there c.1) in
       let takes : TakesSize plan.step (b - t) (get_or system.components k c.0).shape = fit_by ((b - t) == plan.step) system.components (b - t) plan.step refl fit k c.0 w_there in
       record {
-        at = at k d w;
+        there = there k d w;
         takes = subst (TakesSize plan.step (b - t)) (sym (shape_is ∙ ap shape_in c.1)) takes;
       }

@@ -1,5 +1,5 @@
 -- The run of a system by its plan, for any replies (FMI 3.0, 4.2.1: the calling sequence of Co-Simulation).
-use Rattle.std.specs.Prelude.{◌≡◌, ◌⊎◌, ℕ, ◌-◌, ◌<◌, ◌==◌, Bool, not, true, false, if◌then◌else◌, List, [], ◌∷◌, ◌++◌, map, Option, Some, None, position}
+use Rattle.std.specs.Prelude.{◌≡◌, ◌⊎◌, ℕ, ℤ, length, ◌-◌, ◌<◌, ◌==◌, Bool, not, true, false, if◌then◌else◌, List, [], ◌∷◌, ◌++◌, map, Option, Some, None, position}
 use Rattle.value_types.specs.declared.shape.Shape.{Shape}
 use Rattle.fmi_calls.specs.declared.call.Call.TheVariants as C
 use Rattle.system_model.specs.declared.plan.Plan.{Plan}
@@ -8,11 +8,16 @@ use Rattle.system_model.specs.declared.plan.EndKind.TheVariants as K
 use Rattle.system_model.specs.declared.system.Component.{Component}
 use Rattle.system_model.specs.declared.system.System.{System}
 use Rattle.system_model.specs.Text.{Instant, header_text, instant_text, end_text}
+use Rattle.system_model.specs.Ports.{numbers}
 use Rattle.run_model.specs.Steps.{IsBound}
+use Rattle.event_iteration.specs.Explains.{Explains, ExplainsUntil}
+use Rattle.event_iteration.specs.Initialization.{initially, no_values}
+use Rattle.event_iteration.specs.Instants.{at_point}
+use Rattle.event_iteration.specs.Settings.{before_step, port_order}
 use Rattle.slot_calls.specs.declared.bad_answer.BadAnswer.{BadAnswer}
 use Rattle.calling_sequence.specs.declared.run_end.RunEnd.{RunEnd}
 use Rattle.calling_sequence.specs.declared.run_end.RunEnd.TheVariants as E
-use Rattle.slot_calls.specs.Carried.{gets, values_of, any_asks_to_end}
+use Rattle.slot_calls.specs.Carried.{any_asks_to_end}
 use Rattle.slot_calls.specs.Log.{Sent, Asking}
 use Rattle.slot_calls.specs.Stage.{FailsIn, IsAnswered, StopsAt, shapes_of, to_each}
 
@@ -23,10 +28,6 @@ entering system plan = to_each (λ (shape : Shape). C.EnterInitialization plan.s
 
 abbrev pub leaving : System → List Asking
 leaving system = to_each (λ (shape : Shape). C.ExitInitialization) (shapes_of system)
-
--- each enters Initialization Mode, and then each leaves it
-abbrev pub initializing : System → Plan → List Asking
-initializing system plan = entering system plan ++ leaving system
 
 -- each steps from one point to another
 abbrev pub stepping : System → ℕ → ℕ → List Asking
@@ -48,29 +49,66 @@ pub record IsStep (system : System) (plan : Plan) (from to : ℕ) : Type 0 where
   pub bound : IsBoundOf plan from to
   pub fit : first_unfit system plan (to - from) ≡ None
 
+-- ---- Initialization Mode
+
+-- this log found these values of Initialization Mode, in the stored order
+abbrev pub Finds : System → List (Option ℤ) → List Sent → Type 0
+Finds system values log = Explains system (initially system) (no_values system) (numbers system.initial_order) values log
+
+-- each entered Initialization Mode, its values were found, and then each left it
+pub record IsInitialized (system : System) (plan : Plan) (log : List Sent) : Type 0 where
+  pub values : List (Option ℤ)
+  pub entered : List Sent
+  pub found : List Sent
+  pub left : List Sent
+  pub enters : IsAnswered (shapes_of system) (entering system plan) entered
+  pub finds : Finds system values found
+  pub leaves : IsAnswered (shapes_of system) (leaving system) left
+  pub log_is : log ≡ entered ++ (found ++ left)
+
 -- ---- how far a run has come
 
--- the instant at a point whose values these answers to Gets carry
-abbrev pub read_at : ℕ → List Sent → Instant
-read_at t reads = record { t = t; n = 0; values = values_of reads }
+abbrev pub instant_at : ℕ → List (Option ℤ) → Instant
+instant_at t values = record { t = t; n = 0; values = values }
 
--- by this log a run came to the point, behind these instants: each has the answers to the Gets at its point
+-- by this log the outputs of a point were read and gave these values, in the stored order, and each connected input took its source's
+pub record Reads (system : System) (values : List (Option ℤ)) (log : List Sent) : Type 0 where
+  pub before : List (Option ℤ)
+  pub known : length before ≡ length system.ports
+  pub places : length values ≡ length system.ports
+  pub explains : Explains system at_point before (numbers system.instant_order) values log
+
+-- by this log each connected input that has a value was set to it, in port order
+abbrev pub Sets : System → List (Option ℤ) → List Sent → Type 0
+Sets system values log = Explains system (before_step values) values (port_order system) values log
+
+-- by this log a run came to the point, behind these instants: at each the outputs were read, and behind it the inputs were set and each was stepped
 pub data Came (system : System) (plan : Plan) : ℕ → List Sent → List Instant → Type 0 where
-  AtStart : (t : ℕ) (log : List Sent) (is : List Instant) → IsAnswered (shapes_of system) (initializing system plan) log → t ≡ plan.start → is ≡ [] → Came system plan t log is
-  ByStep : (t : ℕ) (log : List Sent) (is : List Instant) (from : ℕ) (before reads steps : List Sent) (js : List Instant) →
-      Came system plan from before js → IsAnswered (shapes_of system) (gets system.ports) reads → IsStep system plan from t →
+  AtStart : (t : ℕ) (log : List Sent) (is : List Instant) → IsInitialized system plan log → t ≡ plan.start → is ≡ [] → Came system plan t log is
+  ByStep : (t : ℕ) (log : List Sent) (is : List Instant) (from : ℕ) (values : List (Option ℤ)) (before reads sets steps : List Sent) (js : List Instant) →
+      Came system plan from before js → Reads system values reads → IsStep system plan from t → Sets system values sets →
       IsAnswered (shapes_of system) (stepping system from t) steps → any_asks_to_end steps ≡ false →
-      log ≡ before ++ (reads ++ steps) → is ≡ js ++ read_at from reads ∷ [] → Came system plan t log is
+      log ≡ before ++ (reads ++ (sets ++ steps)) → is ≡ js ++ instant_at from values ∷ [] → Came system plan t log is
 
 -- the same, and the outputs were read there, which gave the last instant
 pub record Seen (system : System) (plan : Plan) (t : ℕ) (log : List Sent) (is : List Instant) : Type 0 where
+  pub values : List (Option ℤ)
   pub before : List Sent
   pub reads : List Sent
   pub earlier : List Instant
   pub came : Came system plan t before earlier
-  pub read : IsAnswered (shapes_of system) (gets system.ports) reads
+  pub read : Reads system values reads
   pub log_is : log ≡ before ++ reads
-  pub is_is : is ≡ earlier ++ read_at t reads ∷ []
+  pub is_is : is ≡ earlier ++ instant_at t values ∷ []
+
+-- the same, and the inputs were set to the values of that instant for a step to another point
+pub record Departs (system : System) (plan : Plan) (t to : ℕ) (log : List Sent) (is : List Instant) : Type 0 where
+  pub before : List Sent
+  pub sets : List Sent
+  pub seen : Seen system plan t before is
+  pub step : IsStep system plan t to
+  pub set : Sets system seen.values sets
+  pub log_is : log ≡ before ++ sets
 
 -- ---- how it ends, but for a put that failed
 
@@ -79,21 +117,27 @@ pub record WhereAsked (system : System) (plan : Plan) (point : ℕ) (log : List 
   pub from : ℕ
   pub before : List Sent
   pub steps : List Sent
-  pub seen : Seen system plan from before is
-  pub step : IsStep system plan from point
+  pub departs : Departs system plan from point before is
   pub answered : IsAnswered (shapes_of system) (stepping system from point) steps
   pub asks : any_asks_to_end steps ≡ true
   pub log_is : log ≡ before ++ steps
 
--- no step was made from this point, since its size is one that the component doesn't take, the least of those
+-- no step was made from this point, since its size is one that the component doesn't take, the least of those; no input was set for it
 pub record WhereFixed (system : System) (plan : Plan) (component at end : ℕ) (log : List Sent) (is : List Instant) : Type 0 where
   pub seen : Seen system plan at log is
   pub bound : IsBoundOf plan at end
   pub unfit : first_unfit system plan (end - at) ≡ Some component
 
--- a bad answer on the way into Step Mode
+-- a bad answer on the way into Initialization Mode, to a call that finds its values, or on the way out
+pub data StopsInitializing (system : System) (plan : Plan) (bad : BadAnswer) (log : List Sent) : Type 0 where
+  Entering : StopsAt (shapes_of system) (entering system plan) bad log → StopsInitializing system plan bad log
+  Finding : (entered found : List Sent) (values : List (Option ℤ)) → IsAnswered (shapes_of system) (entering system plan) entered →
+      ExplainsUntil system (initially system) (no_values system) (numbers system.initial_order) bad values found → log ≡ entered ++ found → StopsInitializing system plan bad log
+  Leaving : (entered found left : List Sent) (values : List (Option ℤ)) → IsAnswered (shapes_of system) (entering system plan) entered → Finds system values found →
+      StopsAt (shapes_of system) (leaving system) bad left → log ≡ entered ++ (found ++ left) → StopsInitializing system plan bad log
+
 pub record WhereInitializing (system : System) (plan : Plan) (bad : BadAnswer) (point : ℕ) (log : List Sent) (is : List Instant) : Type 0 where
-  pub stops : StopsAt (shapes_of system) (initializing system plan) bad log
+  pub stops : StopsInitializing system plan bad log
   pub point_is : point ≡ plan.start
   pub is_is : is ≡ []
 
@@ -101,17 +145,29 @@ pub record WhereInitializing (system : System) (plan : Plan) (bad : BadAnswer) (
 pub record WhereReading (system : System) (plan : Plan) (bad : BadAnswer) (point : ℕ) (log : List Sent) (is : List Instant) : Type 0 where
   pub before : List Sent
   pub reads : List Sent
+  pub earlier : List (Option ℤ)
+  pub known : length earlier ≡ length system.ports
+  pub values : List (Option ℤ)
   pub came : Came system plan point before is
-  pub stops : StopsAt (shapes_of system) (gets system.ports) bad reads
+  pub stops : ExplainsUntil system at_point earlier (numbers system.instant_order) bad values reads
   pub log_is : log ≡ before ++ reads
 
--- a bad answer to a step, in which all were asked, behind the instant of its beginning
+-- a bad answer to the Set of an input, behind the instant whose values are set
+pub record WhereSetting (system : System) (plan : Plan) (bad : BadAnswer) (point : ℕ) (log : List Sent) (is : List Instant) : Type 0 where
+  pub to : ℕ
+  pub before : List Sent
+  pub sets : List Sent
+  pub seen : Seen system plan point before is
+  pub step : IsStep system plan point to
+  pub stops : ExplainsUntil system (before_step seen.values) seen.values (port_order system) bad seen.values sets
+  pub log_is : log ≡ before ++ sets
+
+-- a bad answer to a step, in which all were asked
 pub record WhereStepping (system : System) (plan : Plan) (bad : BadAnswer) (point : ℕ) (log : List Sent) (is : List Instant) : Type 0 where
   pub to : ℕ
   pub before : List Sent
   pub steps : List Sent
-  pub seen : Seen system plan point before is
-  pub step : IsStep system plan point to
+  pub departs : Departs system plan point to before is
   pub fails : FailsIn (shapes_of system) (stepping system point to) bad steps
   pub log_is : log ≡ before ++ steps
 
@@ -122,7 +178,8 @@ Finishes system plan (E.Asked at) point log is = (point ≡ at) × WhereAsked sy
 Finishes system plan (E.EventLimit at) point log is = ⊥
 Finishes system plan (E.FixedStep component at end) point log is = (point ≡ at) × WhereFixed system plan component.0 at end log is
 Finishes system plan (E.Bad bad) point log is =
-    WhereInitializing system plan bad point log is ⊎ (WhereReading system plan bad point log is ⊎ WhereStepping system plan bad point log is)
+    WhereInitializing system plan bad point log is
+    ⊎ (WhereReading system plan bad point log is ⊎ (WhereSetting system plan bad point log is ⊎ WhereStepping system plan bad point log is))
 Finishes system plan E.WriteFault point log is = ⊥
 
 -- but for a bad answer

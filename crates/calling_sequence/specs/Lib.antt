@@ -1,4 +1,5 @@
 pub mod Plans
+pub mod Systems
 pub mod Place
 pub mod Course
 pub mod Puts

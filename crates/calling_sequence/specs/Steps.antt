@@ -1,5 +1,5 @@
 -- What the parts of a run leave, from the first call to the end line.
-use Rattle.std.specs.Prelude.{◌≡◌, ◌⊎◌, ℕ, ℤ, ◌≤◌, Option, true, false, List, ◌++◌, length, Result, Ok, Err}
+use Rattle.std.specs.Prelude.{◌≡◌, ◌⊎◌, ℕ, ℤ, ◌≤◌, Bool, true, false, List, Option, length, Result, Ok, Err}
 use Rattle.sim_base.specs.Sink.{SinkView, with_piece}
 use Rattle.value_types.specs.declared.shape.Shape.{Shape}
 use Rattle.fmi_calls.specs.declared.call.Call.TheVariants as C
@@ -8,31 +8,60 @@ use Rattle.system_model.specs.declared.plan.Plan.{Plan}
 use Rattle.system_model.specs.declared.system.System.{System}
 use Rattle.system_model.specs.declared.plan.EndKind.{EndKind}
 use Rattle.system_model.specs.Text.{Instant, end_text}
+use Rattle.system_model.specs.Ports.{numbers}
 use Rattle.trace_text.specs.Room.{IsCount}
+use Rattle.event_iteration.specs.Explains.{Walks}
+use Rattle.event_iteration.specs.Instants as I
+use Rattle.event_iteration.specs.Settings.{before_step, port_order}
+use Rattle.slot_calls.specs.Carried.{any_asks_to_end}
 use Rattle.slot_calls.specs.declared.bad_answer.BadAnswer.{BadAnswer}
 use Rattle.calling_sequence.specs.declared.ending.Break.{Break}
 use Rattle.calling_sequence.specs.declared.ending.Break.TheVariants as B
 use Rattle.calling_sequence.specs.declared.ending.Ending.{Ending}
 use Rattle.calling_sequence.specs.declared.run_end.RunEnd.{RunEnd}
 use Rattle.calling_sequence.specs.declared.run_end.RunEnd.TheVariants as E
-use Rattle.calling_sequence.specs.Course.{Finishes, AtHeader, AtInstant, ends_well, kind_of_end, pieces_of}
+use Rattle.calling_sequence.specs.Course.{AtHeader, AtInstant, Finishes, IsInitialized, StopsInitializing, ends_well, kind_of_end, pieces_of}
 use Rattle.calling_sequence.specs.Ends.{EndsBy}
-use Rattle.slot_calls.specs.Carried.{gets, values_of}
-use Rattle.slot_calls.specs.Log.{Asking, Sent, Told}
+use Rattle.slot_calls.specs.Log.{Sent, Told}
+use Rattle.slot_calls.specs.Stage.{Round, shapes, to_each}
 use Rattle.calling_sequence.specs.Puts.{CutsPiece, with_pieces}
-use Rattle.slot_calls.specs.Stage.{Stage, to_each}
 
--- a result that carries this value where it is good
-abbrev pub carrying : {A T E : Type 0} → Result A E → T → Result T E
-carrying (Ok a) x = Ok x
-carrying (Err e) x = Err e
+-- ---- Initialization Mode
 
--- the outputs were read at a point, which gave these values, or a Get had a bad answer
-abbrev pub ReadsAt : System → ℕ → List Instance → List Instance → List (Option ℤ) → Result (Unit {0}) Break → Type 0
-ReadsAt system t olds news values (Ok x) = Stage (gets system.ports) values_of olds news (Ok values)
-ReadsAt system t olds news values (Err (B.Ends ending)) =
-    (bad : BadAnswer) × (ending ≡ record { end = E.Bad bad; point = t }) × Stage (gets system.ports) values_of olds news (Err bad)
-ReadsAt system t olds news values (Err B.Write) = ⊥
+-- by this log its values were found, or a bad answer stopped it
+abbrev pub InitializesBy : System → Plan → List Sent → Result (Unit {0}) BadAnswer → Type 0
+InitializesBy system plan log (Ok x) = IsInitialized system plan log
+InitializesBy system plan log (Err bad) = StopsInitializing system plan bad log
+
+pub record Initializes (system : System) (plan : Plan) (olds news : List Instance) (result : Result (Unit {0}) BadAnswer) : Type 0 where
+  pub log : List Sent
+  pub told : Told log olds news
+  pub says : InitializesBy system plan log result
+
+-- ---- at a point
+
+-- a result at a point, where a bad answer is the end
+abbrev pub at_point : {T : Type 0} → Result T BadAnswer → ℕ → Result T Break
+at_point (Ok x) point = Ok x
+at_point (Err bad) point = Err (B.Ends (record { end = E.Bad bad; point = point }))
+
+-- what a result says is said of it at a point
+abbrev pub SaysAt : {T : Type 0} → (Result T BadAnswer → Type 0) → ℕ → Result T Break → Type 0
+SaysAt says t (Ok x) = says (Ok x)
+SaysAt says t (Err (B.Ends ending)) = (bad : BadAnswer) × (ending ≡ record { end = E.Bad bad; point = t }) × says (Err bad)
+SaysAt says t (Err B.Write) = ⊥
+
+-- the walk through the first instant, from earlier values to those of the point
+abbrev pub ReadsAt : System → ℕ → List (Option ℤ) → List (Option ℤ) → List Instance → List Instance → Result (Unit {0}) Break → Type 0
+ReadsAt system t earlier values olds news result = SaysAt (λ r. Walks system I.at_point earlier (numbers system.instant_order) values olds news r) t result
+
+-- the walk of the inputs, which are set to these values
+abbrev pub SetsAt : System → ℕ → List (Option ℤ) → List Instance → List Instance → Result (Unit {0}) Break → Type 0
+SetsAt system t values olds news result = SaysAt (λ r. Walks system (before_step values) values (port_order system) values olds news r) t result
+
+-- a step of all, and whether one asked for the end
+abbrev pub StepsAt : ℕ → ℕ → List Instance → List Instance → Result Bool Break → Type 0
+StepsAt t size olds news result = SaysAt (λ r. Round (to_each (λ (shape : Shape). C.DoStep t size) (shapes olds)) any_asks_to_end olds news r) t result
 
 -- ---- the way to the end
 
@@ -59,15 +88,6 @@ pub record Follows (system : System) (plan : Plan) (olds news : List Instance) (
   pub told : Told log olds news
   pub counted_is : counted ≡ length is
   pub goes : Goes system plan log is before after result
-
--- a result at a point, where a bad answer is the end
-abbrev pub at_point : {T : Type 0} → Result T BadAnswer → ℕ → Result T Break
-at_point (Ok x) point = Ok x
-at_point (Err bad) point = Err (B.Ends (record { end = E.Bad bad; point = point }))
-
--- by their shapes: each enters Initialization Mode, and then each leaves it
-abbrev pub initializing_all : Plan → List Shape → List Asking
-initializing_all plan shapes = to_each (λ (shape : Shape). C.EnterInitialization plan.start plan.stop) shapes ++ to_each (λ (shape : Shape). C.ExitInitialization) shapes
 
 -- ---- the end
 

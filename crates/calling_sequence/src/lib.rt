@@ -2,7 +2,6 @@
 #![tactic(auto)]
 
 mod ending;
-mod reading;
 mod run;
 mod run_end;
 

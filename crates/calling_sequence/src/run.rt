@@ -1,20 +1,25 @@
-ghost use Rattle.std.specs.Prelude.{◌≡◌, ◌≤◌, ◌<◌, ◌^◌, ◌+◌, [], OnOk, IfErr, IfSome, All, length, not, option_map, position};
+ghost use Rattle.std.specs.Prelude.{◌≡◌, ℕ, ◌≤◌, ◌<◌, ◌^◌, ◌+◌, [], OnOk, IfErr, IfSome, All, length, not, option_map, position};
 ghost use Rattle.sim_base.specs.Sink.{with_piece};
+ghost use Rattle.run_model.specs.Machines.{AreFitting};
 ghost use Rattle.run_model.specs.Steps.{IsBound};
 ghost use Rattle.trace_text.specs.Room.{HoldsEach};
+ghost use Rattle.event_iteration.specs.Initialization.{AreReads};
+ghost use Rattle.event_iteration.specs.Instants.{CanBeRead, IsWithoutEvents};
 ghost use Rattle.calling_sequence.specs.declared.ending.Break.TheVariants as Break;
 ghost use Rattle.calling_sequence.specs.Course.{first_unfit, header_of, kind_of_end};
-ghost use Rattle.calling_sequence.specs.Place.{CanRead, IsAt, IsMade, IsPortOf};
+ghost use Rattle.calling_sequence.specs.Place.{IsAt, IsDeparting, IsMade};
 ghost use Rattle.calling_sequence.specs.Puts.{CutsPiece};
+ghost use Rattle.system_model.specs.Sound.{IsSound};
 ghost use Rattle.system_model.specs.Text.{instant_text};
 ghost use Rattle.slot_calls.specs.Carried.{IsWide};
-ghost use Rattle.slot_calls.specs.Slots.{LiveSlot, Stands, instances};
-ghost use Rattle.slot_calls.specs.Stage.{Stage, nothing, shapes, shapes_of};
-ghost use Rattle.calling_sequence.specs.Steps.{Concludes, Follows, HoldsEnds, PutsEnd, ReadsAt, RunsSlots, at_point, initializing_all};
+ghost use Rattle.slot_calls.specs.Slots.{LiveSlot, MayBeAsked, Stands, instances};
+ghost use Rattle.slot_calls.specs.Stage.{shapes, shapes_of};
+ghost use Rattle.calling_sequence.specs.Steps.{Concludes, Follows, HoldsEnds, Initializes, PutsEnd, ReadsAt, RunsSlots, SetsAt, StepsAt, at_point};
 ghost use Rattle.calling_sequence.specs.Plans.{IsPlan};
+ghost use Rattle.calling_sequence.specs.Systems.{IsBuilt};
 
-use crate::reading::read_ports;
 use crate::{Break, Ending, RunEnd};
+use event_iteration::{InitialReads, instant, set_inputs};
 use fmu_peer::{Peer, Slot};
 use sim_base::{CompId, Sink};
 use slot_calls::{Ask, BadAnswer, each, round};
@@ -22,35 +27,39 @@ use system_model::{Component, EndKind, Plan, System};
 use trace_text::{put_end, put_header, put_instant};
 
 /// Follows the calling sequence of Co-Simulation from instances that were made to the end of the run. It puts the header,
-/// leads each instance through Initialization Mode, and then at each point reads each port, puts the instant and steps all
-/// instances to the next grid point or the stop. It puts one piece for the header and one for each instant, and not the end
-/// line. Points and sizes of steps are counts over the plan's resolution.
+/// leads each instance through Initialization Mode, and then at each point reads the outputs, puts the instant, sets the
+/// connected inputs and steps all instances to the next grid point or the stop. It puts one piece for the header and one for
+/// each instant, and not the end line. Points and sizes of steps are counts over the plan's resolution.
 ///
-/// There is a slot for each component, in their order and of its shape; each instance was made, and is held in the state of
-/// its phase; each port is an output of one of them. `values` has a place for each port and `text` room for each text of the
-/// system, whatever stands in them, and `instants`, the number of instants that were put, begins at 0. No memory is taken.
+/// No FMU has event mode or returns early. There is a slot for each component, in their order and of its shape; each instance
+/// was made, and is held in the state of its phase. `reads` was made for the system, `values` has a place for each port and
+/// `text` room for each text of the system, whatever stands in them, and `instants`, the number of instants that were put,
+/// begins at 0. No memory is taken.
 pub fn follow<L: Peer, O: Sink>(
     slots: &mut [Slot<L>],
     system: &System,
     plan: &Plan,
+    reads: &InitialReads,
     values: &mut [Option<i128>],
     text: &mut [u8],
     instants: &mut u128,
     out: &mut O,
 ) -> Result<Ending, Break>
+    requires sound { IsSound system.now }
+    requires built { IsBuilt system.now }
     requires few { length slots.old ≤ 2 ^ 32 }
     requires shapes { shapes (instances L.view slots.old) ≡ shapes_of system.now }
     requires plan { IsPlan plan.now }
     requires live { All (LiveSlot L.view) slots.old }
     requires made { All (Stands IsMade L.view) slots.old }
-    requires ports { All (IsPortOf (instances L.view slots.old)) system.now.ports }
+    requires reads { AreReads system.now reads.now }
     requires places { length values.old ≡ length system.now.ports }
     requires room { HoldsEach system.now (length text.old) }
     requires none { instants.old ≡ 0 }
     ensures { Follows system.now plan.now (instances L.view slots.old) (instances L.view slots.new) (O.view out.old) (O.view out.new) instants.new result }
 {
     put_head(system, plan, text, out)?;
-    at_point(initialize(slots, plan), plan.start)?;
+    at_point(initialize(slots, system, plan, reads, values), plan.start)?;
     let mut t = plan.start;
     'points: loop {
         read_at(slots, system, t, values)?;
@@ -62,7 +71,8 @@ pub fn follow<L: Peer, O: Sink>(
             });
         }
         let bound = next_bound(plan, t);
-        if let Some(component) = first_unfit(system, plan, bound - t) {
+        let size = bound - t;
+        if let Some(component) = first_unfit(system, plan, size) {
             return Ok(Ending {
                 end: RunEnd::FixedStep {
                     component,
@@ -72,8 +82,8 @@ pub fn follow<L: Peer, O: Sink>(
                 point: t,
             });
         }
-        let size = bound - t;
-        let is_asked = at_point(round(slots, Ask::DoStep { at: t, size }), t)?;
+        set_at(slots, system, t, values)?;
+        let is_asked = step_at(slots, t, size)?;
         t = bound;
         if is_asked {
             return Ok(Ending {
@@ -90,23 +100,26 @@ pub fn run_slots<L: Peer, O: Sink>(
     slots: &mut [Slot<L>],
     system: &System,
     plan: &Plan,
+    reads: &InitialReads,
     values: &mut [Option<i128>],
     text: &mut [u8],
     instants: &mut u128,
     out: &mut O,
 ) -> RunEnd
+    requires sound { IsSound system.now }
+    requires built { IsBuilt system.now }
     requires few { length slots.old ≤ 2 ^ 32 }
     requires shapes { shapes (instances L.view slots.old) ≡ shapes_of system.now }
     requires plan { IsPlan plan.now }
     requires live { All (LiveSlot L.view) slots.old }
     requires made { All (Stands IsMade L.view) slots.old }
-    requires ports { All (IsPortOf (instances L.view slots.old)) system.now.ports }
+    requires reads { AreReads system.now reads.now }
     requires places { length values.old ≡ length system.now.ports }
     requires room { HoldsEach system.now (length text.old) }
     requires none { instants.old ≡ 0 }
     ensures { RunsSlots system.now plan.now (instances L.view slots.old) (instances L.view slots.new) (O.view out.old) (O.view out.new) instants.new result }
 {
-    let outcome = follow(slots, system, plan, values, text, instants, out);
+    let outcome = follow(slots, system, plan, reads, values, text, instants, out);
     conclude(outcome, text, out)
 }
 
@@ -162,15 +175,26 @@ fn put_head<O: Sink>(
     }
 }
 
-// Leads each FMU into Step Mode through Initialization Mode.
-fn initialize<L: Peer>(slots: &mut [Slot<L>], plan: &Plan) -> Result<(), BadAnswer>
+// Leads each FMU into Step Mode through Initialization Mode, where it finds the values.
+fn initialize<L: Peer>(
+    slots: &mut [Slot<L>],
+    system: &System,
+    plan: &Plan,
+    reads: &InitialReads,
+    values: &mut [Option<i128>],
+) -> Result<(), BadAnswer>
+    requires sound { IsSound system.now }
     requires few { length slots.old ≤ 2 ^ 32 }
+    requires shapes { shapes (instances L.view slots.old) ≡ shapes_of system.now }
     requires plan { plan.now.start ≤ plan.now.stop }
     requires live { All (LiveSlot L.view) slots.old }
     requires made { All (Stands IsMade L.view) slots.old }
+    requires reads { AreReads system.now reads.now }
+    requires places { length values.old ≡ length system.now.ports }
     ensures live { OnOk result (All (LiveSlot L.view) slots.new) }
     ensures at { OnOk result (All (Stands (IsAt plan.now.start plan.now.stop plan.now.step) L.view) slots.new) }
-    ensures stage { Stage (initializing_all plan.now (shapes (instances L.view slots.old))) nothing (instances L.view slots.old) (instances L.view slots.new) result }
+    ensures fitting { OnOk result (AreFitting system.now values.new) }
+    ensures initializes { Initializes system.now plan.now (instances L.view slots.old) (instances L.view slots.new) result }
 {
     each(
         slots,
@@ -179,29 +203,65 @@ fn initialize<L: Peer>(slots: &mut [Slot<L>], plan: &Plan) -> Result<(), BadAnsw
             stop: plan.stop,
         },
     )?;
+    event_iteration::initialize(slots, system, reads, values)?;
     each(slots, Ask::ExitInitialization)?;
     Ok(())
 }
 
-// Reads the outputs at a point, up to the first answer that isn't good.
+// Reads the outputs of a point, up to the first answer that isn't good.
 fn read_at<L: Peer>(
     slots: &mut [Slot<L>],
     system: &System,
     t: u64,
     values: &mut [Option<i128>],
 ) -> Result<(), Break>
+    requires sound { IsSound system.now }
+    requires plain { IsWithoutEvents system.now }
+    requires shapes { shapes (instances L.view slots.old) ≡ shapes_of system.now }
     requires live { All (LiveSlot L.view) slots.old }
-    requires readable { All (Stands CanRead L.view) slots.old }
-    requires ports { All (IsPortOf (instances L.view slots.old)) system.now.ports }
+    requires readable { All (Stands CanBeRead L.view) slots.old }
     requires places { length values.old ≡ length system.now.ports }
+    requires fitting { AreFitting system.now values.old }
     ensures live { OnOk result (All (LiveSlot L.view) slots.new) }
-    ensures readable { OnOk result (All (Stands CanRead L.view) slots.new) }
-    ensures ports { OnOk result (All (IsPortOf (instances L.view slots.new)) system.now.ports) }
-    ensures reads { ReadsAt system.now t (instances L.view slots.old) (instances L.view slots.new) values.new result }
-    ensures wide { OnOk result (All IsWide values.new) }
-    ensures kept { length values.new ≡ length values.old }
+    ensures shapes { shapes (instances L.view slots.new) ≡ shapes_of system.now }
+    ensures still { OnOk result ((stop step : ℕ) → All (Stands (IsAt t stop step) L.view) slots.old → All (Stands (IsAt t stop step) L.view) slots.new) }
+    ensures fitting { AreFitting system.now values.new }
+    ensures reads { ReadsAt system.now t values.old values.new (instances L.view slots.old) (instances L.view slots.new) result }
 {
-    at_point(read_ports(slots, system.ports.as_slice(), values), t)
+    at_point(instant(slots, system, values), t)
+}
+
+// Sets the connected inputs for a step from a point, up to the first answer that isn't good.
+fn set_at<L: Peer>(
+    slots: &mut [Slot<L>],
+    system: &System,
+    t: u64,
+    values: &[Option<i128>],
+) -> Result<(), Break>
+    requires sound { IsSound system.now }
+    requires plain { IsWithoutEvents system.now }
+    requires shapes { shapes (instances L.view slots.old) ≡ shapes_of system.now }
+    requires live { All (LiveSlot L.view) slots.old }
+    requires unset { All (Stands CanBeRead L.view) slots.old }
+    requires places { length values.now ≡ length system.now.ports }
+    requires fitting { AreFitting system.now values.now }
+    ensures live { OnOk result (All (LiveSlot L.view) slots.new) }
+    ensures shapes { shapes (instances L.view slots.new) ≡ shapes_of system.now }
+    ensures departing { OnOk result ((stop step : ℕ) → All (Stands (IsAt t stop step) L.view) slots.old → All (Stands (IsDeparting t stop step) L.view) slots.new) }
+    ensures sets { SetsAt system.now t values.now (instances L.view slots.old) (instances L.view slots.new) result }
+{
+    at_point(set_inputs(slots, system, values), t)
+}
+
+// Steps all from a point, whatever they answer. It tells whether one asked for the end.
+fn step_at<L: Peer>(slots: &mut [Slot<L>], t: u64, size: u64) -> Result<bool, Break>
+    requires few { length slots.old ≤ 2 ^ 32 }
+    requires live { All (LiveSlot L.view) slots.old }
+    requires permitted { All (Stands (MayBeAsked (Ask.DoStep t size)) L.view) slots.old }
+    ensures live { OnOk result (All (LiveSlot L.view) slots.new) }
+    ensures steps { StepsAt t size (instances L.view slots.old) (instances L.view slots.new) result }
+{
+    at_point(round(slots, Ask::DoStep { at: t, size }), t)
 }
 
 // Puts the instant at a point with these values, and counts it.

@@ -101,7 +101,7 @@ module _ (system : System) (sound : IsSound system) (plain : IsWithoutEvents sys
   all_written_at_last = λ i q. written_at_last q i
 
   module _ (len : length now ≡ length system.ports) (values : List (Option ℤ)) (log : List Sent) (walked : Walked system (before_step now) now (port_order system) values log) where
-    state_is : (i : ℕ) (m : Machine) (z : MachineState) → state_by m z (part i log) ≡ state_with system.ports now i m z
+    pub state_is : (i : ℕ) (m : Machine) (z : MachineState) → state_by m z (part i log) ≡ state_with system.ports now i m z
     state_is i m z =
         (along (λ q. q < length system.ports) NoNeeds system (before_step now) now (port_order system) (in_order system) len (λ taken v l. Written taken l)
         (λ j n y. sym (nothing_at_first system at_port j n y))

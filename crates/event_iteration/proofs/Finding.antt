@@ -147,19 +147,19 @@ present_unclocked port V h =
 -- ---- the midst of Initialization Mode
 
 module _ (r : Run) (sound : IsSound r.system) (machines : AreMachines r) (W : List (Option ℤ)) (solves : SolvesInitially r W) where
-  abbrev at_port : ℕ → Option ℤ
+  abbrev pub at_port : ℕ → Option ℤ
   at_port = written_at_port r.system.ports W
 
   -- the state once these ports were taken
-  abbrev midst : List ℕ → ℕ → Machine → MachineState → MachineState
+  abbrev pub midst : List ℕ → ℕ → Machine → MachineState → MachineState
   midst taken i m s = state_written r.system.ports (only_at taken at_port) i m s
 
   -- values and states are the solution's as far as the walk has come
-  record Midst (taken : List ℕ) (values : List (Option ℤ)) (log : List Sent) : Type 0 where
-    quiet : All (IsQuiet r.system) log
-    taken_values : (q : ℕ) → Contains taken q → value values q ≡ value W q
-    left : (q : ℕ) → (Contains taken q → ⊥) → value values q ≡ None
-    states : (i : ℕ) (c : Component) (m : Machine) (s : MachineState) → IsFmu r (initializing r) i c m s → state_by m s (part i log) ≡ midst taken i m s
+  pub record Midst (taken : List ℕ) (values : List (Option ℤ)) (log : List Sent) : Type 0 where
+    pub quiet : All (IsQuiet r.system) log
+    pub taken_values : (q : ℕ) → Contains taken q → value values q ≡ value W q
+    pub left : (q : ℕ) → (Contains taken q → ⊥) → value values q ≡ None
+    pub states : (i : ℕ) (c : Component) (m : Machine) (s : MachineState) → IsFmu r (initializing r) i c m s → state_by m s (part i log) ≡ midst taken i m s
 
   module _ (pre : List ℕ) (p : ℕ) (reply : Option Reply) (values next : List (Option ℤ)) (front sent : List Sent) (here : Here (NeedsInitially r.system) pre p) (len : length values ≡ length r.system.ports)
       (was : Midst pre values front) (turn : Turn r.system (initially r.system) p reply values next sent) (replies : AreReplies r (initializing r) (front ++ sent)) where
@@ -288,7 +288,7 @@ module _ (r : Run) (sound : IsSound r.system) (machines : AreMachines r) (W : Li
   first_of a b h i c m s fmu = replies_front m s (part i a) (part i b) (subst (RepliesBy m s) (part_append i a b) (h i c m s fmu))
 
   -- all along the walk
-  midst_along : (taken rest : List ℕ) (values : List (Option ℤ)) (log : List Sent) → numbers r.system.initial_order ≡ taken ++ rest → Walked r.system (initially r.system) (no_values r.system) taken values log → AreReplies r (initializing r) log →
+  pub midst_along : (taken rest : List ℕ) (values : List (Option ℤ)) (log : List Sent) → numbers r.system.initial_order ≡ taken ++ rest → Walked r.system (initially r.system) (no_values r.system) taken values log → AreReplies r (initializing r) log →
       (length values ≡ length r.system.ports) × Midst taken values log
   midst_along taken rest values log is walked replies =
       let all = along (λ q. is_unclocked_at r.system.ports q ≡ true) (NeedsInitially r.system) r.system (initially r.system) (no_values r.system) (numbers r.system.initial_order) sound.initial_order (length-map r.system.ports (λ (x : Port). None))

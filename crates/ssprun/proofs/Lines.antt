@@ -42,7 +42,7 @@ module _ (laws : Laws) (line : Line) (bytes : List ℕ) (shape : Shape) (short :
           few_ports = few_ports;
           each = members_taken;
         });
-        built = record { no_event = plain.no_events; no_early = plain.no_early; outputs = plain.outputs };
+        built = record { no_event = plain.no_events; no_early = plain.no_early };
         each = All-cons CanStart _ [] (record { named = omega arith; name = omega arith; token = omega (arith, token, short) }) (All-nil CanStart);
       }
 

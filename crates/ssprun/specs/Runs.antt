@@ -16,7 +16,7 @@ use Rattle.calling_sequence.specs.declared.run_end.RunEnd.{RunEnd}
 use Rattle.calling_sequence.specs.declared.run_end.RunEnd.TheVariants as E
 use Rattle.step_master.specs.Lived.{Account, Lived, Unmade}
 use Rattle.step_master.specs.Lives.{AreOver}
-use Rattle.step_master.specs.System.{IsBuilt}
+use Rattle.calling_sequence.specs.Systems.{IsBuilt}
 use Rattle.step_master.specs.Traced.{IsRunOf, PutsRun, SomeRose, TracesWell}
 use Rattle.ssprun.specs.declared.outcome.StartCause.{StartCause}
 use Rattle.ssprun.specs.declared.outcome.StartCause.TheVariants.{Failed, Unknown}

@@ -1,54 +1,43 @@
 -- The calls of one instance along the course of a run: each is one of a run, and none stands twice.
-use Rattle.std.proofs.Common.{◌≡◌, ◌⊎◌, inl, inr, ℕ, suc, ◌-◌, ◌<◌, List, [], ◌∷◌, ◌++◌, refl, sym, ap, ap₂, ◌∙◌, subst, append_assoc, arith, length, get_or}
-use Rattle.std.specs.Prelude.{All}
-use Rattle.std.proofs.lemmas.List.{append-nil}
+use Rattle.std.proofs.Common.{◌≡◌, ◌⊎◌, inl, inr, ℕ, suc, ◌-◌, ◌<◌, Bool, true, false, List, [], ◌∷◌, ◌++◌, refl, sym, ap, ◌∙◌, subst, append_assoc, append-nil, arith, length, get_or}
+use Rattle.std.specs.Prelude.{All, if◌then◌else◌}
 use Rattle.std.proofs.lemmas.List.Elements.{All-nil, All-append, All-cons}
 use Rattle.value_types.specs.declared.shape.Shape.{Shape}
-use Rattle.value_types.specs.declared.values.PortType.{PortType}
 use Rattle.fmi_calls.specs.declared.call.Call.{Call}
 use Rattle.fmi_calls.specs.declared.call.Call.TheVariants as C
-use Rattle.fmi_calls.specs.KindFacts.{IsRunCall}
+use Rattle.fmi_calls.specs.KindFacts.{IsRunCall, moves_on}
 use Rattle.fmu_peer.specs.Lean.{IsLean, IsNew, NoneTwiceBehind, without_value}
 use Rattle.fmu_peer.specs.Mode.{instantiate_of}
 use Rattle.system_model.specs.declared.plan.Plan.{Plan}
+use Rattle.system_model.specs.declared.system.Port.{Port}
 use Rattle.system_model.specs.declared.system.System.{System}
+use Rattle.system_model.specs.Needs.{Needs, NeedsInitially, is_unclocked_at}
+use Rattle.system_model.specs.Orders.{IsOrder}
+use Rattle.system_model.specs.Ports.{numbers}
 use Rattle.system_model.specs.Sound.{IsSound}
 use Rattle.system_model.specs.Text.{Instant}
 use Rattle.slot_calls.specs.declared.bad_answer.BadAnswer.{BadAnswer}
+use Rattle.slot_calls.specs.Log.{Asking, Sent, askings, part}
+use Rattle.slot_calls.specs.Stage.{StopsAt, shapes_of, to_each}
+use Rattle.slot_calls.proofs.Logs.{askings_append}
+use Rattle.event_iteration.specs.Initialization.{initially, no_values}
+use Rattle.event_iteration.specs.Instants.{at_point}
+use Rattle.event_iteration.specs.Settings.{before_step, port_order}
+use Rattle.event_iteration.proofs.Setting.{NoNeeds, in_order}
 use Rattle.calling_sequence.specs.declared.run_end.RunEnd.{RunEnd}
 use Rattle.calling_sequence.specs.declared.run_end.RunEnd.TheVariants as E
-use Rattle.slot_calls.specs.Carried.{gets}
-use Rattle.step_master.specs.Master.{making}
-use Rattle.calling_sequence.specs.Course.{AtStart, ByStep, Came, Finishes, Interrupted, Seen, entering, initializing, leaving, stepping}
+use Rattle.calling_sequence.specs.Course.{AtStart, ByStep, Came, Departs, Entering, Finding, Finishes, Interrupted, IsInitialized, Leaving, Seen, StopsInitializing, entering, leaving, stepping}
 use Rattle.step_master.specs.Lives.{calls_in}
-use Rattle.slot_calls.specs.Log.{Asking, Sent, askings, part}
-use Rattle.slot_calls.specs.Stage.{StopsAt, shapes_of}
-use Rattle.step_master.proofs.Calls.{Asks, entering_runs, gets_run, leaving_runs, making_runs, own, own_all, own_append, own_calls, own_each, stepping_runs}
-use Rattle.slot_calls.proofs.Logs.{askings_append}
-use Rattle.step_master.proofs.Needing.{gets_new, none_twice_front, none_twice_on, seen_append, seen_behind, step_new, steps_fall}
+use Rattle.step_master.specs.Master.{making}
+use Rattle.step_master.proofs.Calls.{Asks, entering_runs, leaving_runs, making_runs, own, own_all, own_append, own_calls, own_each, stepping_runs}
+use Rattle.step_master.proofs.Needing.{none_twice_front, none_twice_on, seen_append, seen_behind, seen_staying, steps_fall}
+use Rattle.step_master.proofs.WalkCalls.{IsUse, IsWalk, Reads, Uses, Writes, finding_uses, front_walk, read_write, reading_reads, reads_use, setting_writes, uses_use, walk_all, walk_once, whole_walk, writes_use}
 
--- the call that last moved an instance on, before a point
-abbrev IsLastBefore : ℕ → Call → Type 0
-IsLastBefore t c = (c ≡ C.ExitInitialization) ⊎ ((from : ℕ) × (size : ℕ) × (c ≡ C.DoStep from size) × (from < t))
-
-no_get : (t : ℕ) (c : Call) → IsLastBefore t c → (kind : PortType) (reference : ℕ) → without_value c ≡ C.Get kind reference → ⊥
-no_get t c (inl is) kind reference e = absurd (let wrong = sym (ap without_value is) ∙ e in cc)
-no_get t c (inr (from, size, is, before)) kind reference e = absurd (let wrong = sym (ap without_value is) ∙ e in cc)
-
-at_of : (a b x y : ℕ) → C.DoStep a x ≡ C.DoStep b y → a ≡ b
-at_of a b x y e = cc
-
-no_step : (t : ℕ) (c : Call) (size : ℕ) → IsLastBefore t c → without_value c ≡ C.DoStep t size → ⊥
-no_step t c size (inl is) e = absurd (let wrong = sym (ap without_value is) ∙ e in cc)
-no_step t c size (inr (from, last, is, before)) e = absurd (let same = at_of from t last size (sym (ap without_value is) ∙ e) in omega (arith, same, before))
-
--- calls of a run, the last of which that moves on is before a point
-record IsLedTo (k t : ℕ) (calls : List Asking) : Type 0 where
+-- calls of a run, none of which stands twice; these hold of those since the last that moved the instance on
+record IsSo (k : ℕ) (S : Call → Type 0) (calls : List Asking) : Type 0 where
   asks : All Asks calls
   once : NoneTwiceBehind [] (own k calls)
-  last : Call
-  seen : seen_behind [] (own k calls) ≡ last ∷ []
-  before : IsLastBefore t last
+  seen : All S (seen_behind [] (own k calls))
 
 -- a front of such calls
 pub record IsNeeded (k : ℕ) (calls : List Asking) : Type 0 where
@@ -58,159 +47,262 @@ pub record IsNeeded (k : ℕ) (calls : List Asking) : Type 0 where
   asks : All Asks whole
   once : NoneTwiceBehind [] (own k whole)
 
+all_weaker : {A : Type 0} (P Q : A → Type 0) → ((x : A) → P x → Q x) → (xs : List A) → All P xs → All Q xs
+all_weaker P Q h xs all = λ i d w. h (get_or xs i d) (all i d w)
+
+exact : (k : ℕ) (S : Call → Type 0) (calls : List Asking) → IsSo k S calls → IsNeeded k calls
+exact k S calls so = record { whole = calls; left = []; is = sym (append-nil calls); asks = so.asks; once = so.once }
+
+-- ---- what the calls since the last that moved on are
+
+abbrev IsMaking : Call → Type 0
+IsMaking c = (event_mode : Bool) × (early : Bool) × (c ≡ C.Instantiate event_mode early)
+
+-- the call that last moved an instance on, before a point
+abbrev IsLastBefore : ℕ → Call → Type 0
+IsLastBefore t c = (c ≡ C.ExitInitialization) ⊎ ((from : ℕ) × (size : ℕ) × (c ≡ C.DoStep from size) × (from < t))
+
+-- those of some ports
+abbrev Some_of : (Port → Call → Type 0) → Call → Type 0
+Some_of T c = (port : Port) × T port c
+
+-- two calls that differ but for the value of a Set
+abbrev Differ : Call → Call → Type 0
+Differ c d = without_value c ≡ without_value d → ⊥
+
+making_enters : (start stop : ℕ) (c : Call) → IsMaking c → Differ c (C.EnterInitialization start stop)
+making_enters start stop c (event_mode, early, is) e = absurd (let wrong = sym (ap without_value is) ∙ e in cc)
+
+enters_uses : (start stop : ℕ) (c : Call) → c ≡ C.EnterInitialization start stop → (port : Port) (d : Call) → Uses port d → Differ c d
+enters_uses start stop c is port d (inl t) e = absurd (let wrong = sym (ap without_value is) ∙ e ∙ ap without_value t in cc)
+enters_uses start stop c is port d (inr t) e = absurd (let wrong = sym (ap without_value is) ∙ e ∙ ap without_value t.1 in cc)
+
+enters_exits : (start stop : ℕ) (c : Call) → (c ≡ C.EnterInitialization start stop) ⊎ Some_of Uses c → Differ c C.ExitInitialization
+enters_exits start stop c (inl is) e = absurd (let wrong = sym (ap without_value is) ∙ e in cc)
+enters_exits start stop c (inr (port, inl t)) e = absurd (let wrong = sym (ap without_value t) ∙ e in cc)
+enters_exits start stop c (inr (port, inr t)) e = absurd (let wrong = sym (ap without_value t.1) ∙ e in cc)
+
+last_reads : (t : ℕ) (c : Call) → IsLastBefore t c → (port : Port) (d : Call) → Reads port d → Differ c d
+last_reads t c (inl is) port d r e = absurd (let wrong = sym (ap without_value is) ∙ e ∙ ap without_value r in cc)
+last_reads t c (inr (from, size, is, before)) port d r e = absurd (let wrong = sym (ap without_value is) ∙ e ∙ ap without_value r in cc)
+
+last_writes : (t : ℕ) (c : Call) → IsLastBefore t c → (port : Port) (d : Call) → Writes port d → Differ c d
+last_writes t c (inl is) port d w e = absurd (let wrong = sym (ap without_value is) ∙ e ∙ ap without_value w.1 in cc)
+last_writes t c (inr (from, size, is, before)) port d w e = absurd (let wrong = sym (ap without_value is) ∙ e ∙ ap without_value w.1 in cc)
+
+seen_writes : (t : ℕ) (c : Call) → IsLastBefore t c ⊎ Some_of Reads c → (port : Port) (d : Call) → Writes port d → Differ c d
+seen_writes t c (inl last) port d w e = last_writes t c last port d w e
+seen_writes t c (inr (p, r)) port d w e = read_write p port c d r w e
+
+at_of : (a b x y : ℕ) → C.DoStep a x ≡ C.DoStep b y → a ≡ b
+at_of a b x y e = cc
+
+last_steps : (t size : ℕ) (c : Call) → (IsLastBefore t c ⊎ Some_of Reads c) ⊎ Some_of Writes c → Differ c (C.DoStep t size)
+last_steps t size c (inl (inl (inl is))) e = absurd (let wrong = sym (ap without_value is) ∙ e in cc)
+last_steps t size c (inl (inl (inr (from, last, is, before)))) e = absurd (let same = at_of from t last size (sym (ap without_value is) ∙ e) in omega (arith, same, before))
+last_steps t size c (inl (inr (port, r))) e = absurd (let wrong = sym (ap without_value r) ∙ e in cc)
+last_steps t size c (inr (port, w)) e = absurd (let wrong = sym (ap without_value w.1) ∙ e in cc)
+
+-- ---- one part behind others
+
+new_by : (call : Call) (S : Call → Type 0) → ((c : Call) → S c → Differ c call) → (seen : List Call) → All S seen → IsNew call seen
+new_by call S h seen all = λ i d w. h (get_or seen i d) (all i d w)
+
 module _ (system : System) (plan : Plan) (sound : IsSound system) (k : ℕ) (d : Shape) (within : k < length (shapes_of system)) where
   abbrev shape : Shape
   shape = get_or (shapes_of system) k d
 
-  -- the calls of the instance up to Step Mode
-  first_calls : own k (making system ++ initializing system plan) ≡ instantiate_of shape ∷ C.EnterInitialization plan.start plan.stop ∷ C.ExitInitialization ∷ []
-  first_calls =
-      own_append k (making system) (initializing system plan)
-      ∙ ap₂ ◌++◌ (own_each instantiate_of k (shapes_of system) d within)
-      (own_append k (entering system plan) (leaving system)
-      ∙ ap₂ ◌++◌ (own_each (λ (s : Shape). C.EnterInitialization plan.start plan.stop) k (shapes_of system) d within) (own_each (λ (s : Shape). C.ExitInitialization) k (shapes_of system) d within))
+  module _ (S : Call → Type 0) (calls : List Asking) (so : IsSo k S calls) where
+    -- the calls of a walk
+    module _ (T : Port → Call → Type 0) (proper : IsUse T) (IsAmong : ℕ → Type 0) (NeedsOf : ℕ → ℕ → Type 0) (order : List ℕ) (ordered : IsOrder IsAmong NeedsOf order)
+        (other : (c : Call) → S c → (port : Port) (e : Call) → T port e → Differ c e) where
+      walked : (cs : List Asking) → IsWalk T system order cs → IsSo k (λ (c : Call). S c ⊎ Some_of T c) (calls ++ cs)
+      walked cs w =
+          let before = seen_behind [] (own k calls) in
+          let mine : All (Some_of T) (own k cs) = own_all (Some_of T) k cs (walk_all T system (Some_of T) (λ port call t. (port, t)) order cs w) in
+          let stay : All (λ (c : Call). moves_on c ≡ false) (own k cs) = own_all (λ (c : Call). moves_on c ≡ false) k cs (walk_all T system (λ (c : Call). moves_on c ≡ false) proper.stays order cs w) in
+          record {
+            asks = All-append Asks calls cs so.asks (walk_all T system IsRunCall proper.runs order cs w);
+            once = subst (NoneTwiceBehind []) (sym (own_append k calls cs)) (none_twice_on [] (own k calls) (own k cs) so.once
+                (walk_once T system proper sound k IsAmong NeedsOf order ordered cs w before (all_weaker S (λ (c : Call). (port : Port) (e : Call) → T port e → Differ c e) other before so.seen)));
+            seen = subst (All (λ (c : Call). S c ⊎ Some_of T c)) (sym (ap (seen_behind []) (own_append k calls cs) ∙ seen_append [] (own k calls) (own k cs)))
+                (seen_staying (λ (c : Call). S c ⊎ Some_of T c) (own k cs) before stay (all_weaker (Some_of T) (λ (c : Call). S c ⊎ Some_of T c) (λ c t. inr t) (own k cs) mine)
+                (all_weaker S (λ (c : Call). S c ⊎ Some_of T c) (λ c s. inl s) before so.seen));
+          }
 
-  first_asks : All Asks (making system ++ initializing system plan)
-  first_asks = All-append Asks (making system) (initializing system plan) (making_runs system)
-      (All-append Asks (entering system plan) (leaving system) (entering_runs plan (shapes_of system)) (leaving_runs (shapes_of system)))
+    -- one call to each
+    module _ (call : Shape → Call) (other : (c : Call) → S c → Differ c (call shape)) (runs : All Asks (to_each call (shapes_of system))) where
+      asked_once : NoneTwiceBehind [] (own k (calls ++ to_each call (shapes_of system)))
+      asked_once =
+          subst (NoneTwiceBehind []) (sym (own_append k calls (to_each call (shapes_of system)) ∙ ap (λ (cs : List Call). own k calls ++ cs) (own_each call k (shapes_of system) d within)))
+          (none_twice_on [] (own k calls) (call shape ∷ []) so.once ((λ once. new_by (call shape) S other (seen_behind [] (own k calls)) so.seen), tt))
 
-  first_once : NoneTwiceBehind [] (instantiate_of shape ∷ C.EnterInitialization plan.start plan.stop ∷ C.ExitInitialization ∷ [])
-  first_once = (
-    (λ once. All-nil (λ (c : Call). without_value c ≡ instantiate_of shape → ⊥)),
-    (
-      (λ once. one (instantiate_of shape) (C.EnterInitialization plan.start plan.stop) (λ e. absurd (cc))),
-      ((λ once. one (C.EnterInitialization plan.start plan.stop) C.ExitInitialization (λ e. absurd (cc))), tt),
-    ),
-  ) where
-    one : (c e : Call) → (without_value c ≡ without_value e → ⊥) → IsNew e (c ∷ [])
-    one c e h = All-cons (λ (x : Call). without_value x ≡ without_value e → ⊥) c [] h (All-nil (λ (x : Call). without_value x ≡ without_value e → ⊥))
+      asked_seen : seen_behind [] (own k (calls ++ to_each call (shapes_of system))) ≡ (if moves_on (call shape) then call shape ∷ [] else call shape ∷ seen_behind [] (own k calls))
+      asked_seen =
+          ap (seen_behind []) (own_append k calls (to_each call (shapes_of system)) ∙ ap (λ (cs : List Call). own k calls ++ cs) (own_each call k (shapes_of system) d within))
+          ∙ seen_append [] (own k calls) (call shape ∷ [])
 
-  led_first : (t : ℕ) (calls : List Asking) → calls ≡ initializing system plan → IsLedTo k t (making system ++ calls)
-  led_first t calls is = subst (λ (cs : List Asking). IsLedTo k t (making system ++ cs)) (sym is) (record {
-    asks = first_asks;
-    once = subst (NoneTwiceBehind []) (sym first_calls) first_once;
-    last = C.ExitInitialization;
-    seen = ap (seen_behind []) first_calls;
-    before = inl refl;
-  })
-
-  -- the Gets of a point behind
-  read_once : (t : ℕ) (calls : List Asking) → IsLedTo k t calls → NoneTwiceBehind [] (own k (calls ++ gets system.ports))
-  read_once t calls led =
-      subst (NoneTwiceBehind []) (sym (own_append k calls (gets system.ports)))
-      (none_twice_on [] (own k calls) (own k (gets system.ports)) led.once
-      (subst (λ (seen : List Call). NoneTwiceBehind seen (own k (gets system.ports))) (sym led.seen) (gets_new system sound k led.last (no_get t led.last led.before))))
-
-  -- and a step from there
-  led_next : (from t : ℕ) (calls : List Asking) → from < t → IsLedTo k from calls → IsLedTo k t (calls ++ (gets system.ports ++ stepping system from t))
-  led_next from t calls later led =
-      let size = t - from in
-      let g = own k (gets system.ports) in
-      let two : own k (gets system.ports ++ stepping system from t) ≡ g ++ C.DoStep from size ∷ [] =
-      own_append k (gets system.ports) (stepping system from t) ∙ ap (λ (cs : List Call). g ++ cs) (own_each (λ (s : Shape). C.DoStep from size) k (shapes_of system) d within) in
-      let all : own k (calls ++ (gets system.ports ++ stepping system from t)) ≡ own k calls ++ (g ++ C.DoStep from size ∷ []) =
-      own_append k calls (gets system.ports ++ stepping system from t) ∙ ap (λ (cs : List Call). own k calls ++ cs) two in
-      record {
-        asks = All-append Asks calls (gets system.ports ++ stepping system from t) led.asks
-            (All-append Asks (gets system.ports) (stepping system from t) (gets_run system.ports) (stepping_runs system from t));
-        once = subst (NoneTwiceBehind []) (sym all)
-            (none_twice_on [] (own k calls) (g ++ C.DoStep from size ∷ []) led.once
-            (subst (λ (seen : List Call). NoneTwiceBehind seen (g ++ C.DoStep from size ∷ [])) (sym led.seen)
-            (none_twice_on (led.last ∷ []) g (C.DoStep from size ∷ []) (gets_new system sound k led.last (no_get from led.last led.before))
-            ((λ once. step_new system sound k led.last from size (no_step from led.last size led.before)), tt))));
-        last = C.DoStep from size;
-        seen = ap (seen_behind []) all ∙ seen_append [] (own k calls) (g ++ C.DoStep from size ∷ [])
-            ∙ seen_append (seen_behind [] (own k calls)) g (C.DoStep from size ∷ []);
-        before = inr (from, size, refl, later);
+      -- which moves it on
+      moved : (R : Call → Type 0) → moves_on (call shape) ≡ true → R (call shape) → IsSo k R (calls ++ to_each call (shapes_of system))
+      moved R moves r = record {
+        asks = All-append Asks calls (to_each call (shapes_of system)) so.asks runs;
+        once = asked_once;
+        seen = subst (All R) (sym (asked_seen ∙ ap (λ (b : Bool). if b then call shape ∷ [] else call shape ∷ seen_behind [] (own k calls)) moves)) (All-cons R (call shape) [] r (All-nil R));
       }
+
+  -- ---- from the first call to the first instant
+
+  none_so : IsSo k (λ (c : Call). ⊥) []
+  none_so = record { asks = All-nil Asks; once = tt; seen = All-nil (λ (c : Call). ⊥) }
+
+  made_so : IsSo k IsMaking (making system)
+  made_so = record {
+    asks = making_runs system;
+    once = asked_once (λ (c : Call). ⊥) [] none_so instantiate_of (λ c s. absurd s) (making_runs system);
+    seen = subst (All IsMaking) (sym (asked_seen (λ (c : Call). ⊥) [] none_so instantiate_of (λ c s. absurd s) (making_runs system)))
+        (All-cons IsMaking (instantiate_of shape) [] (_, _, refl) (All-nil IsMaking));
+  }
+
+  abbrev IsEntering : Call → Type 0
+  IsEntering c = c ≡ C.EnterInitialization plan.start plan.stop
+
+  entered_so : IsSo k IsEntering (making system ++ entering system plan)
+  entered_so = moved IsMaking (making system) made_so (λ (s : Shape). C.EnterInitialization plan.start plan.stop) (making_enters plan.start plan.stop) (entering_runs plan (shapes_of system)) IsEntering refl refl
+
+  abbrev IsFinding : Call → Type 0
+  IsFinding c = IsEntering c ⊎ Some_of Uses c
+
+  found_so : (cs : List Asking) → IsWalk Uses system (numbers system.initial_order) cs → IsSo k IsFinding ((making system ++ entering system plan) ++ cs)
+  found_so cs w =
+      walked IsEntering (making system ++ entering system plan) entered_so Uses uses_use (λ q. is_unclocked_at system.ports q ≡ true) (NeedsInitially system) (numbers system.initial_order) sound.initial_order
+      (enters_uses plan.start plan.stop) cs w
+
+  left_so : (t : ℕ) (cs : List Asking) → IsWalk Uses system (numbers system.initial_order) cs → IsSo k (IsLastBefore t) (((making system ++ entering system plan) ++ cs) ++ leaving system)
+  left_so t cs w =
+      moved IsFinding ((making system ++ entering system plan) ++ cs) (found_so cs w) (λ (s : Shape). C.ExitInitialization) (enters_exits plan.start plan.stop) (leaving_runs (shapes_of system)) (IsLastBefore t) refl (inl refl)
+
+  -- ---- at a point
+
+  module _ (t : ℕ) (calls : List Asking) (so : IsSo k (IsLastBefore t) calls) where
+    abbrev IsSeen : Call → Type 0
+    IsSeen c = IsLastBefore t c ⊎ Some_of Reads c
+
+    read_so : (cs : List Asking) → IsWalk Reads system (numbers system.instant_order) cs → IsSo k IsSeen (calls ++ cs)
+    read_so cs w = walked (IsLastBefore t) calls so Reads reads_use (λ q. q < length system.ports) (Needs system) (numbers system.instant_order) sound.instant_order (last_reads t) cs w
+
+  module _ (t : ℕ) (calls : List Asking) (so : IsSo k (λ (c : Call). IsLastBefore t c ⊎ Some_of Reads c) calls) where
+    abbrev IsSet : Call → Type 0
+    IsSet c = (IsLastBefore t c ⊎ Some_of Reads c) ⊎ Some_of Writes c
+
+    set_so : (cs : List Asking) → IsWalk Writes system (port_order system) cs → IsSo k IsSet (calls ++ cs)
+    set_so cs w = walked (λ (c : Call). IsLastBefore t c ⊎ Some_of Reads c) calls so Writes writes_use (λ q. q < length system.ports) NoNeeds (port_order system) (in_order system) (seen_writes t) cs w
+
+  step_so : (from t : ℕ) (calls : List Asking) → from < t → IsSo k (λ (c : Call). (IsLastBefore from c ⊎ Some_of Reads c) ⊎ Some_of Writes c) calls → IsSo k (IsLastBefore t) (calls ++ stepping system from t)
+  step_so from t calls later so =
+      moved (λ (c : Call). (IsLastBefore from c ⊎ Some_of Reads c) ⊎ Some_of Writes c) calls so (λ (s : Shape). C.DoStep from (t - from)) (last_steps from (t - from)) (stepping_runs system from t)
+      (IsLastBefore t) refl (inr (from, t - from, refl, later))
 
   -- ---- along a course
 
-  behind : (log a b : List Sent) (cs : List Asking) → log ≡ a ++ b → askings b ≡ cs → making system ++ askings log ≡ (making system ++ askings a) ++ cs
-  behind log a b cs is calls =
-      ap (λ (l : List Asking). making system ++ l) (ap askings is ∙ askings_append a b ∙ ap (λ (l : List Asking). askings a ++ l) calls) ∙ sym (append_assoc (making system) (askings a) cs)
+  -- the calls that made the instances and those of a log
+  abbrev with_made : List Sent → List Asking
+  with_made log = making system ++ askings log
 
-  came_led : (t : ℕ) (log : List Sent) (is : List Instant) → Came system plan t log is → IsLedTo k t (making system ++ askings log)
-  came_led _ _ _ (AtStart t log is answered at none) = led_first t (askings log) answered.calls_are
-  came_led _ _ _ (ByStep t log is from before reads steps js came read step stepped asks log_is is_is) =
-      subst (IsLedTo k t)
-      (sym (behind log before (reads ++ steps) (gets system.ports ++ stepping system from t) log_is (askings_append reads steps ∙ ap₂ ◌++◌ read.calls_are stepped.calls_are)))
-      (led_next from t (making system ++ askings before) step.bound.bound.later (came_led from before js came))
+  behind : (log a b : List Sent) → log ≡ a ++ b → with_made log ≡ with_made a ++ askings b
+  behind log a b is = ap with_made is ∙ ap (λ (l : List Asking). making system ++ l) (askings_append a b) ∙ sym (append_assoc (making system) (askings a) (askings b))
 
-  exact : (calls : List Asking) (t : ℕ) → IsLedTo k t calls → IsNeeded k calls
-  exact calls t led = record { whole = calls; left = []; is = sym (append-nil calls); asks = led.asks; once = led.once }
+  behind_calls : (log a b : List Sent) (cs : List Asking) → log ≡ a ++ b → askings b ≡ cs → with_made log ≡ with_made a ++ cs
+  behind_calls log a b cs is calls = behind log a b is ∙ ap (λ (l : List Asking). with_made a ++ l) calls
 
-  read_asks : (t : ℕ) (calls : List Asking) → IsLedTo k t calls → All Asks (calls ++ gets system.ports)
-  read_asks t calls led = All-append Asks calls (gets system.ports) led.asks (gets_run system.ports)
+  begins : (t : ℕ) (log : List Sent) → IsInitialized system plan log → IsSo k (IsLastBefore t) (with_made log)
+  begins t log i =
+      let w = whole_walk Uses system (initially system) (finding_uses system) (no_values system) (numbers system.initial_order) i.values i.found i.finds in
+      let found : with_made (i.entered ++ i.found) ≡ (making system ++ entering system plan) ++ askings i.found =
+      behind (i.entered ++ i.found) i.entered i.found refl ∙ ap (λ (l : List Asking). (making system ++ l) ++ askings i.found) i.enters.calls_are in
+      let all : with_made log ≡ ((making system ++ entering system plan) ++ askings i.found) ++ leaving system =
+      behind_calls log (i.entered ++ i.found) i.left (leaving system) (i.log_is ∙ sym (append_assoc i.entered i.found i.left)) i.leaves.calls_are
+      ∙ ap (λ (l : List Asking). l ++ leaving system) found in
+      subst (IsSo k (IsLastBefore t)) (sym all) (left_so t (askings i.found) w)
 
-  seen_needed : (t : ℕ) (log : List Sent) (is : List Instant) → Seen system plan t log is → IsNeeded k (making system ++ askings log)
-  seen_needed t log is seen =
-      let led = came_led t seen.before seen.earlier seen.came in
-      record {
-        whole = (making system ++ askings seen.before) ++ gets system.ports;
-        left = [];
-        is = sym (behind log seen.before seen.reads (gets system.ports) seen.log_is seen.read.calls_are) ∙ sym (append-nil (making system ++ askings log));
-        asks = read_asks t (making system ++ askings seen.before) led;
-        once = read_once t (making system ++ askings seen.before) led;
-      }
+  came_so : (t : ℕ) (log : List Sent) (is : List Instant) → Came system plan t log is → IsSo k (IsLastBefore t) (with_made log)
+  came_so _ _ _ (AtStart t log is initialized at none) = begins t log initialized
+  came_so _ _ _ (ByStep t log is from values before reads sets steps js came read step set stepped asks log_is is_is) =
+      let seen = read_so from (with_made before) (came_so from before js came) (askings reads) (whole_walk Reads system at_point reading_reads read.before (numbers system.instant_order) values reads read.explains) in
+      let ready = set_so from (with_made before ++ askings reads) seen (askings sets) (whole_walk Writes system (before_step values) (setting_writes values) values (port_order system) values sets set) in
+      let all : with_made log ≡ ((with_made before ++ askings reads) ++ askings sets) ++ stepping system from t =
+      behind_calls log ((before ++ reads) ++ sets) steps (stepping system from t)
+      (log_is ∙ sym (append_assoc before reads (sets ++ steps)) ∙ sym (append_assoc (before ++ reads) sets steps)) stepped.calls_are
+      ∙ ap (λ (l : List Asking). l ++ stepping system from t)
+      (behind ((before ++ reads) ++ sets) (before ++ reads) sets refl ∙ ap (λ (l : List Asking). l ++ askings sets) (behind (before ++ reads) before reads refl)) in
+      subst (IsSo k (IsLastBefore t)) (sym all) (step_so from t ((with_made before ++ askings reads) ++ askings sets) step.bound.bound.later ready)
 
-  -- a step behind what was seen
-  stepped_needed : (from to : ℕ) (log before steps : List Sent) (is : List Instant) → Seen system plan from before is → from < to → askings steps ≡ stepping system from to → log ≡ before ++ steps →
-      IsNeeded k (making system ++ askings log)
-  stepped_needed from to log before steps is seen later calls log_is =
-      let led = led_next from to (making system ++ askings seen.before) later (came_led from seen.before seen.earlier seen.came) in
-      let all : log ≡ seen.before ++ (seen.reads ++ steps) = log_is ∙ ap (λ (l : List Sent). l ++ steps) seen.log_is ∙ append_assoc seen.before seen.reads steps in
-      subst (IsNeeded k) (sym (behind log seen.before (seen.reads ++ steps) (gets system.ports ++ stepping system from to) all (askings_append seen.reads steps ∙ ap₂ ◌++◌ seen.read.calls_are calls)))
-      (exact ((making system ++ askings seen.before) ++ (gets system.ports ++ stepping system from to)) to led)
+  seen_so : (t : ℕ) (log : List Sent) (is : List Instant) → Seen system plan t log is → IsSo k (λ (c : Call). IsLastBefore t c ⊎ Some_of Reads c) (with_made log)
+  seen_so t log is s =
+      subst (IsSo k (λ (c : Call). IsLastBefore t c ⊎ Some_of Reads c)) (sym (behind log s.before s.reads s.log_is))
+      (read_so t (with_made s.before) (came_so t s.before s.earlier s.came) (askings s.reads) (whole_walk Reads system at_point reading_reads s.read.before (numbers system.instant_order) s.values s.reads s.read.explains))
+
+  departs_so : (t to : ℕ) (log : List Sent) (is : List Instant) → Departs system plan t to log is → IsSo k (λ (c : Call). (IsLastBefore t c ⊎ Some_of Reads c) ⊎ Some_of Writes c) (with_made log)
+  departs_so t to log is s =
+      subst (IsSo k (λ (c : Call). (IsLastBefore t c ⊎ Some_of Reads c) ⊎ Some_of Writes c)) (sym (behind log s.before s.sets s.log_is))
+      (set_so t (with_made s.before) (seen_so t s.before is s.seen) (askings s.sets) (whole_walk Writes system (before_step s.seen.values) (setting_writes s.seen.values) s.seen.values (port_order system) s.seen.values s.sets s.set))
+
+  -- a step behind that
+  stepped_needed : (from to : ℕ) (log before steps : List Sent) (is : List Instant) → Departs system plan from to before is → askings steps ≡ stepping system from to → log ≡ before ++ steps → IsNeeded k (with_made log)
+  stepped_needed from to log before steps is s calls log_is =
+      subst (IsNeeded k) (sym (behind_calls log before steps (stepping system from to) log_is calls))
+      (exact k (IsLastBefore to) (with_made before ++ stepping system from to) (step_so from to (with_made before) s.step.bound.bound.later (departs_so from to before is s)))
 
   -- the calls up to one of these
-  cut_needed : (log : List Sent) (calls : List Asking) (bad : BadAnswer) → StopsAt (shapes_of system) calls bad log → (front : List Asking) → All Asks (front ++ calls) → NoneTwiceBehind [] (own k (front ++ calls)) →
-      IsNeeded k (front ++ askings log)
-  cut_needed log calls bad stops front asks once = record {
+  cut_needed : (S : Call → Type 0) (log : List Sent) (calls : List Asking) (bad : BadAnswer) → StopsAt (shapes_of system) calls bad log → (front : List Asking) → IsSo k S (front ++ calls) → IsNeeded k (front ++ askings log)
+  cut_needed S log calls bad stops front so = record {
     whole = front ++ calls;
     left = stops.left;
     is = ap (λ (cs : List Asking). front ++ cs) stops.calls_are ∙ sym (append_assoc front (askings log) stops.left);
-    asks = asks;
-    once = once;
+    asks = so.asks;
+    once = so.once;
   }
 
+  initializing_needed : (bad : BadAnswer) (log : List Sent) → StopsInitializing system plan bad log → IsNeeded k (with_made log)
+  initializing_needed bad log (Entering stops) = cut_needed IsEntering log (entering system plan) bad stops (making system) entered_so
+  initializing_needed bad log (Finding entered found values enters finds log_is) =
+      let all : with_made log ≡ (making system ++ entering system plan) ++ askings found = behind log entered found log_is ∙ ap (λ (l : List Asking). (making system ++ l) ++ askings found) enters.calls_are in
+      subst (IsNeeded k) (sym all)
+      (exact k IsFinding ((making system ++ entering system plan) ++ askings found)
+      (found_so (askings found) (front_walk Uses system (initially system) (finding_uses system) (no_values system) (numbers system.initial_order) bad values found finds)))
+  initializing_needed bad log (Leaving entered found left values enters finds stops log_is) =
+      let w = whole_walk Uses system (initially system) (finding_uses system) (no_values system) (numbers system.initial_order) values found finds in
+      let front : with_made (entered ++ found) ≡ (making system ++ entering system plan) ++ askings found =
+      behind (entered ++ found) entered found refl ∙ ap (λ (l : List Asking). (making system ++ l) ++ askings found) enters.calls_are in
+      subst (IsNeeded k) (sym (behind log (entered ++ found) left (log_is ∙ sym (append_assoc entered found left)) ∙ ap (λ (l : List Asking). l ++ askings left) front))
+      (cut_needed (IsLastBefore 0) left (leaving system) bad stops ((making system ++ entering system plan) ++ askings found) (left_so 0 (askings found) w))
+
   pub finishes_needed : (end : RunEnd) (point : ℕ) (log : List Sent) (is : List Instant) → Finishes system plan end point log is → IsNeeded k (making system ++ askings log)
-  finishes_needed E.Stop point log is f = seen_needed plan.stop log is f.1
-  finishes_needed (E.Asked at) point log is f =
-      let w = f.1 in stepped_needed w.from at log w.before w.steps is w.seen w.step.bound.bound.later w.answered.calls_are w.log_is
+  finishes_needed E.Stop point log is f = exact k _ (with_made log) (seen_so plan.stop log is f.1)
+  finishes_needed (E.Asked at) point log is f = let w = f.1 in stepped_needed w.from at log w.before w.steps is w.departs w.answered.calls_are w.log_is
   finishes_needed (E.EventLimit at) point log is f = absurd f
-  finishes_needed (E.FixedStep component at end) point log is f = seen_needed at log is f.1.seen
-  finishes_needed (E.Bad bad) point log is (inl w) =
-      let led = led_first plan.start (initializing system plan) refl in cut_needed log (initializing system plan) bad w.stops (making system) led.asks led.once
+  finishes_needed (E.FixedStep component at end) point log is f = exact k _ (with_made log) (seen_so at log is f.1.seen)
+  finishes_needed (E.Bad bad) point log is (inl w) = initializing_needed bad log w.stops
   finishes_needed (E.Bad bad) point log is (inr (inl w)) =
-      let led = came_led point w.before is w.came in
-      subst (IsNeeded k) (sym (behind log w.before w.reads (askings w.reads) w.log_is refl))
-      (cut_needed w.reads (gets system.ports) bad w.stops (making system ++ askings w.before) (read_asks point (making system ++ askings w.before) led) (read_once point (making system ++ askings w.before) led))
-  finishes_needed (E.Bad bad) point log is (inr (inr w)) = stepped_needed point w.to log w.before w.steps is w.seen w.step.bound.bound.later w.fails.calls_are w.log_is
+      subst (IsNeeded k) (sym (behind log w.before w.reads w.log_is))
+      (exact k _ (with_made w.before ++ askings w.reads)
+      (read_so point (with_made w.before) (came_so point w.before is w.came) (askings w.reads) (front_walk Reads system at_point reading_reads w.earlier (numbers system.instant_order) bad w.values w.reads w.stops)))
+  finishes_needed (E.Bad bad) point log is (inr (inr (inl w))) =
+      subst (IsNeeded k) (sym (behind log w.before w.sets w.log_is))
+      (exact k _ (with_made w.before ++ askings w.sets)
+      (set_so point (with_made w.before) (seen_so point w.before is w.seen) (askings w.sets)
+      (front_walk Writes system (before_step w.seen.values) (setting_writes w.seen.values) w.seen.values (port_order system) bad w.seen.values w.sets w.stops)))
+  finishes_needed (E.Bad bad) point log is (inr (inr (inr w))) = stepped_needed point w.to log w.before w.steps is w.departs w.fails.calls_are w.log_is
   finishes_needed E.WriteFault point log is f = absurd f
 
   pub interrupted_needed : (log : List Sent) (is : List Instant) (pieces : List (List ℕ)) (piece : List ℕ) → Interrupted system plan log is pieces piece → IsNeeded k (making system ++ askings log)
   interrupted_needed log is pieces piece (inl h) =
-      let led = led_first plan.start (initializing system plan) refl in record {
-        whole = making system ++ initializing system plan;
-        left = initializing system plan;
-        is = ap (λ (cs : List Asking). cs ++ initializing system plan) (sym (append-nil (making system)) ∙ ap (λ (l : List Sent). making system ++ askings l) (sym h.log_is));
-        asks = led.asks;
-        once = led.once;
-      }
-  interrupted_needed log is pieces piece (inr (inl i)) = seen_needed i.t log (is ++ i.i ∷ []) i.seen
+      subst (IsNeeded k) (sym (append-nil (making system)) ∙ ap with_made (sym h.log_is)) (exact k IsMaking (making system) made_so)
+  interrupted_needed log is pieces piece (inr (inl i)) = exact k _ (with_made log) (seen_so i.t log (is ++ i.i ∷ []) i.seen)
   interrupted_needed log is pieces piece (inr (inr e)) = finishes_needed e.end e.point log is e.finishes
 
   -- up to the first Instantiate whose answer isn't good
   pub making_needed : (bad : BadAnswer) (log : List Sent) → StopsAt (shapes_of system) (making system) bad log → IsNeeded k (askings log)
-  making_needed bad log stops =
-      let led = led_first plan.start (initializing system plan) refl in record {
-        whole = making system ++ initializing system plan;
-        left = stops.left ++ initializing system plan;
-        is = ap (λ (cs : List Asking). cs ++ initializing system plan) stops.calls_are ∙ append_assoc (askings log) stops.left (initializing system plan);
-        asks = led.asks;
-        once = led.once;
-      }
+  making_needed bad log stops = cut_needed IsMaking log (making system) bad stops [] made_so
 
 All-front : {A : Type 0} (P : A → Type 0) (xs ys : List A) → All P (xs ++ ys) → All P xs
 All-front P [] ys all = All-nil P

@@ -1,30 +1,39 @@
 -- The answers of a course: all are good, or up to the first that isn't.
-use Rattle.std.proofs.Common.{◌≡◌, ◌⊎◌, inl, inr, ℕ, suc, ◌+◌, ◌<◌, ◌≤◌, ◌==◌, List, [], ◌∷◌, ◌++◌, refl, sym, ap, ◌∙◌, subst, append_assoc, arith, length, get_or}
+use Rattle.std.proofs.Common.{◌≡◌, ◌⊎◌, inl, inr, ℕ, suc, ◌+◌, ◌<◌, ◌≤◌, ◌==◌, ℤ, List, [], ◌∷◌, ◌++◌, Option, Some, None, Ok, Contains, refl, sym, ap, ◌∙◌, subst, append_assoc, arith, length, get_or}
 use Rattle.std.specs.Prelude.{All}
-use Rattle.std.proofs.lemmas.List.{append-nil, get_or_default, length-map}
-use Rattle.std.proofs.lemmas.List.Elements.{All-nil, All-cons, All-append, All-map}
+use Rattle.std.specs.List.{slice_get}
+use Rattle.std.specs.Option.{option_and_then, option_map_or}
+use Rattle.std.proofs.lemmas.List.{append-nil, length-map}
+use Rattle.std.proofs.lemmas.List.Elements.{All-nil, All-cons, All-append, Contains-append_left, Contains-append_right, Contains-push}
 use Rattle.value_types.specs.declared.shape.Shape.{Shape}
 use Rattle.fmi_calls.specs.declared.call.Call.{Call}
+use Rattle.fmi_calls.specs.declared.call.Grade.TheVariants as G
+use Rattle.fmi_calls.specs.declared.call.Reply.{Reply}
+use Rattle.fmi_calls.specs.Worth.{grade_of}
 use Rattle.fmu_peer.specs.declared.peer.Exchange.{Exchange}
-use Rattle.fmu_peer.specs.Answer.{IsFirstBad}
+use Rattle.fmu_peer.specs.Answer.{IsFirstBad, IsWhy}
 use Rattle.fmu_peer.specs.Talk as T
 use Rattle.system_model.specs.declared.plan.Plan.{Plan}
 use Rattle.system_model.specs.declared.system.Component.{Component}
 use Rattle.system_model.specs.declared.system.Port.{Port}
 use Rattle.system_model.specs.declared.system.System.{System}
-use Rattle.system_model.specs.Sound.{IsSound}
+use Rattle.system_model.specs.Ports.{numbers}
 use Rattle.system_model.specs.Text.{Instant}
-use Rattle.system_model.proofs.SoundLemmas.{place_of}
 use Rattle.slot_calls.specs.declared.bad_answer.BadAnswer.{BadAnswer}
-use Rattle.calling_sequence.specs.declared.run_end.RunEnd.{RunEnd}
-use Rattle.calling_sequence.specs.declared.run_end.RunEnd.TheVariants as E
-use Rattle.slot_calls.specs.Carried.{gets, get_of}
-use Rattle.calling_sequence.specs.Course.{AtStart, ByStep, Came, Finishes, Interrupted, Seen, entering, initializing, leaving}
 use Rattle.slot_calls.specs.Log.{Asking, Sent, asking_of, askings, part}
 use Rattle.slot_calls.specs.Stage.{FailsIn, IsFirst, IsGoodOf, StopsAt, shapes_of, to_each, to_each_from}
-use Rattle.calling_sequence.proofs.Chains.{first_same, none_before, other, part_all, rest_same, same, skips, takes}
 use Rattle.slot_calls.proofs.Logs.{part_append}
-use Rattle.step_master.proofs.Prepared.{get_here, got, is_within}
+use Rattle.event_iteration.specs.Explains.{Explains, ExplainsUntil, all_said, call_at, said}
+use Rattle.event_iteration.specs.Initialization.{initially, no_values}
+use Rattle.event_iteration.specs.Instants.{at_point}
+use Rattle.event_iteration.specs.Settings.{before_step, port_order}
+use Rattle.event_iteration.specs.Turns.{IsPaired, Rules, sent_of}
+use Rattle.event_iteration.proofs.Permits.{shape_of_component}
+use Rattle.calling_sequence.specs.declared.run_end.RunEnd.{RunEnd}
+use Rattle.calling_sequence.specs.declared.run_end.RunEnd.TheVariants as E
+use Rattle.calling_sequence.specs.Course.{AtStart, ByStep, Came, Departs, Entering, Finding, Finishes, Interrupted, IsInitialized, Leaving, Seen, StopsInitializing, entering, leaving}
+use Rattle.calling_sequence.proofs.Chains.{first_same, none_before, other, part_all, rest_same, same, skips, takes}
+use Rattle.step_master.proofs.Prepared.{is_within}
 
 -- the first bad answer of a log: behind it the instances up to that have no exchange
 pub record EndsBadly (ss : List Shape) (bad : BadAnswer) (log : List Sent) : Type 0 where
@@ -122,6 +131,70 @@ module _ (ss : List Shape) (bad : BadAnswer) (before log : List Sent) (good : Al
     alone = alone_behind call 0 ss f.front f.last f.back (sym (ap askings f.log_is) ∙ f.calls_are);
   }
 
+-- ---- a walk
+
+all_by : {A : Type 0} (P : A → Type 0) (xs : List A) → ((x : A) → Contains xs x → P x) → All P xs
+all_by P [] h = All-nil P
+all_by P (x ∷ xs) h = All-cons P x xs (h x (Contains-append_left (x ∷ []) xs x (Contains-push [] x))) (all_by P xs (λ y m. h y (Contains-append_right (x ∷ []) xs y m)))
+
+module _ (system : System) (rules : Rules) (before : List (Option ℤ)) where
+  sent_good : (i : ℕ) (c : Component) → slice_get system.components i ≡ Some c → (call : Option Call) (reply : Option Reply) → IsPaired c.shape call reply → All (IsGoodOf (shapes_of system)) (sent_of i call reply)
+  sent_good i c of None reply paired = All-nil (IsGoodOf (shapes_of system))
+  sent_good i c of (Some call) None paired = absurd paired
+  sent_good i c of (Some call) (Some reply) paired =
+      All-cons (IsGoodOf (shapes_of system)) (record { component = i; exchange = record { call = call; result = Ok reply } }) []
+      (λ d. subst (λ (s : Shape). grade_of s call reply ≡ G.Good) (shape_of_component system i c of d) paired) (All-nil (IsGoodOf (shapes_of system)))
+
+  abbrev IsPairedAt : List (Option ℤ) → (ℕ → Option Reply) → ℕ → Type 0
+  IsPairedAt values replies p = (port : Port) (c : Component) → slice_get system.ports p ≡ Some port → slice_get system.components port.component.0 ≡ Some c → IsPaired c.shape (rules.asks p port c values) (replies p)
+
+  said_good : (values : List (Option ℤ)) (replies : ℕ → Option Reply) (p : ℕ) →
+      IsPairedAt values replies p → All (IsGoodOf (shapes_of system)) (said system rules values replies p)
+  said_good values replies p paired = of_port (slice_get system.ports p) refl where
+    of_component : (port : Port) → slice_get system.ports p ≡ Some port → (o : Option Component) → slice_get system.components port.component.0 ≡ o →
+        All (IsGoodOf (shapes_of system)) (sent_of port.component.0 (option_and_then (λ (c : Component). rules.asks p port c values) o) (replies p))
+    of_component port at None of = All-nil (IsGoodOf (shapes_of system))
+    of_component port at (Some c) of = sent_good port.component.0 c of (rules.asks p port c values) (replies p) (paired port c at of)
+
+    of_port : (o : Option Port) → slice_get system.ports p ≡ o → All (IsGoodOf (shapes_of system)) (option_map_or (λ (port : Port). sent_of port.component.0 (call_at system rules values p port) (replies p)) o [])
+    of_port None at = All-nil (IsGoodOf (shapes_of system))
+    of_port (Some port) at = of_component port at (slice_get system.components port.component.0) refl
+
+  all_good : (values : List (Option ℤ)) (replies : ℕ → Option Reply) (ps : List ℕ) →
+      All (IsPairedAt values replies) ps →
+      All (IsGoodOf (shapes_of system)) (all_said system rules values replies ps)
+  all_good values replies [] all = All-nil (IsGoodOf (shapes_of system))
+  all_good values replies (p ∷ ps) all =
+      All-append (IsGoodOf (shapes_of system)) (said system rules values replies p) (all_said system rules values replies ps)
+      (said_good values replies p (all 0 p (omega arith))) (all_good values replies ps (λ i d w. all (suc i) d (omega (arith, w))))
+
+  -- its answers are good
+  pub walk_good : (taken : List ℕ) (values : List (Option ℤ)) (log : List Sent) → Explains system rules before taken values log → All (IsGoodOf (shapes_of system)) log
+  walk_good taken values log e =
+      subst (All (IsGoodOf (shapes_of system))) (sym e.log_is) (all_good values e.replies taken (all_by (IsPairedAt values e.replies) taken (λ p m port c at of. e.paired p port c at of m)))
+
+  -- or the first that isn't is the last
+  pub walk_badly : (order : List ℕ) (bad : BadAnswer) (values : List (Option ℤ)) (log front : List Sent) → All (IsGoodOf (shapes_of system)) front → ExplainsUntil system rules before order bad values log →
+      EndsBadly (shapes_of system) bad (front ++ log)
+  walk_badly order bad values log front good u =
+      let s = u.stops in record {
+        front = front ++ u.front;
+        last = u.last;
+        back = [];
+        is = ap (λ (l : List Sent). front ++ l) u.log_is ∙ sym (append_assoc front u.front (u.last ∷ []));
+        first = record {
+          good = All-append (IsGoodOf (shapes_of system)) front u.front good (walk_good u.taken values u.front u.told);
+          component = s.sent_to ∙ sym s.told_of;
+          why = λ d. subst (λ (h : Shape). IsWhy h bad.why u.last.exchange)
+              (shape_of_component system s.port.component.0 s.component s.of d ∙ ap (λ (n : ℕ). get_or (shapes_of system) n d) (sym s.sent_to)) s.why;
+        };
+        within = let a = s.sent_to in
+            let b = is_within system.components s.port.component.0 s.component s.of in
+            let c = length-map system.components (λ (x : Component). x.shape) in
+            omega (arith, a, b, c);
+        alone = λ j w. refl;
+      }
+
 -- ---- a course
 
 -- the answers of the log by the end
@@ -133,48 +206,64 @@ EndsLog ss (E.FixedStep component at end) log = All (IsGoodOf ss) log
 EndsLog ss (E.Bad bad) log = EndsBadly ss bad log
 EndsLog ss E.WriteFault log = All (IsGoodOf ss) log ⊎ ((bad : BadAnswer) × EndsBadly ss bad log)
 
--- each Get is to a component
-gets_to_one : (system : System) → IsSound system → All (IsToOne (length (shapes_of system))) (gets system.ports)
-gets_to_one system sound = All-map (IsToOne (length (shapes_of system))) (λ (port : Port). record { component = port.component.0; call = get_of port }) system.ports (λ k d w.
-    let x = got system.ports k w in
-    let placed = place_of system sound k x.0 x.1 in
-    let in_components = is_within system.components x.0.component.0 placed.component placed.is.of in
-    let l = length-map system.components (λ (c : Component). c.shape) in
-    subst (λ (port : Port). port.component.0 < length (shapes_of system)) (get_here system.ports k x.0 x.1 ∙ get_or_default system.ports k x.0 d w) (omega (arith, in_components, l)))
-
-module _ (system : System) (plan : Plan) (sound : IsSound system) (made : List Sent) (good : All (IsGoodOf (shapes_of system)) made) where
+module _ (system : System) (plan : Plan) (made : List Sent) (good : All (IsGoodOf (shapes_of system)) made) where
   abbrev ss : List Shape
   ss = shapes_of system
 
   on : (log a b : List Sent) → log ≡ a ++ b → All (IsGoodOf ss) a → All (IsGoodOf ss) b → All (IsGoodOf ss) log
   on log a b is x y = subst (All (IsGoodOf ss)) (sym is) (All-append (IsGoodOf ss) a b x y)
 
+  pub begins_good : (log : List Sent) → IsInitialized system plan log → All (IsGoodOf ss) log
+  begins_good log i =
+      on log i.entered (i.found ++ i.left) i.log_is i.enters.good
+      (All-append (IsGoodOf ss) i.found i.left (walk_good system (initially system) (no_values system) (numbers system.initial_order) i.values i.found i.finds) i.leaves.good)
+
   came_good : (t : ℕ) (log : List Sent) (is : List Instant) → Came system plan t log is → All (IsGoodOf ss) log
-  came_good _ _ _ (AtStart t log is answered at none) = answered.good
-  came_good _ _ _ (ByStep t log is from before reads steps js came read step stepped asks log_is is_is) =
-      on log before (reads ++ steps) log_is (came_good from before js came) (All-append (IsGoodOf ss) reads steps read.good stepped.good)
+  came_good _ _ _ (AtStart t log is initialized at none) = begins_good log initialized
+  came_good _ _ _ (ByStep t log is from values before reads sets steps js came read step set stepped asks log_is is_is) =
+      on log before (reads ++ (sets ++ steps)) log_is (came_good from before js came)
+      (All-append (IsGoodOf ss) reads (sets ++ steps) (walk_good system at_point read.before (numbers system.instant_order) values reads read.explains)
+      (All-append (IsGoodOf ss) sets steps (walk_good system (before_step values) values (port_order system) values sets set) stepped.good))
 
   seen_good : (t : ℕ) (log : List Sent) (is : List Instant) → Seen system plan t log is → All (IsGoodOf ss) log
-  seen_good t log is s = on log s.before s.reads s.log_is (came_good t s.before s.earlier s.came) s.read.good
+  seen_good t log is s =
+      on log s.before s.reads s.log_is (came_good t s.before s.earlier s.came) (walk_good system at_point s.read.before (numbers system.instant_order) s.values s.reads s.read.explains)
 
-  all_good : (log : List Sent) → All (IsGoodOf ss) log → All (IsGoodOf ss) (made ++ log)
-  all_good log all = All-append (IsGoodOf ss) made log good all
+  departs_good : (t to : ℕ) (log : List Sent) (is : List Instant) → Departs system plan t to log is → All (IsGoodOf ss) log
+  departs_good t to log is s =
+      on log s.before s.sets s.log_is (seen_good t s.before is s.seen) (walk_good system (before_step s.seen.values) s.seen.values (port_order system) s.seen.values s.sets s.set)
+
+  behind_made : (log : List Sent) → All (IsGoodOf ss) log → All (IsGoodOf ss) (made ++ log)
+  behind_made log all = All-append (IsGoodOf ss) made log good all
 
   -- behind what was made and a good log
   deeper : (bad : BadAnswer) (log before more : List Sent) → log ≡ before ++ more → EndsBadly ss bad ((made ++ before) ++ more) → EndsBadly ss bad (made ++ log)
   deeper bad log before more is b = subst (EndsBadly ss bad) (append_assoc made before more ∙ ap (λ (l : List Sent). made ++ l) (sym is)) b
 
+  initializing_log : (bad : BadAnswer) (log : List Sent) → StopsInitializing system plan bad log → EndsBadly ss bad (made ++ log)
+  initializing_log bad log (Entering stops) = stops_badly ss bad made log good (entering system plan) (to_each_to_one _ ss) stops
+  initializing_log bad log (Finding entered found values enters finds log_is) =
+      deeper bad log entered found log_is (walk_badly system (initially system) (no_values system) (numbers system.initial_order) bad values found (made ++ entered) (behind_made entered enters.good) finds)
+  initializing_log bad log (Leaving entered found left values enters finds stops log_is) =
+      deeper bad log (entered ++ found) left (log_is ∙ sym (append_assoc entered found left))
+      (stops_badly ss bad (made ++ (entered ++ found)) left
+      (behind_made (entered ++ found) (All-append (IsGoodOf ss) entered found enters.good (walk_good system (initially system) (no_values system) (numbers system.initial_order) values found finds)))
+      (leaving system) (to_each_to_one _ ss) stops)
+
   pub finishes_log : (end : RunEnd) (point : ℕ) (log : List Sent) (is : List Instant) → Finishes system plan end point log is → EndsLog ss end (made ++ log)
-  finishes_log E.Stop point log is f = all_good log (seen_good plan.stop log is f.1)
-  finishes_log (E.Asked at) point log is f = let w = f.1 in all_good log (on log w.before w.steps w.log_is (seen_good w.from w.before is w.seen) w.answered.good)
+  finishes_log E.Stop point log is f = behind_made log (seen_good plan.stop log is f.1)
+  finishes_log (E.Asked at) point log is f = let w = f.1 in behind_made log (on log w.before w.steps w.log_is (departs_good w.from at w.before is w.departs) w.answered.good)
   finishes_log (E.EventLimit at) point log is f = absurd f
-  finishes_log (E.FixedStep component at end) point log is f = all_good log (seen_good at log is f.1.seen)
-  finishes_log (E.Bad bad) point log is (inl w) =
-      stops_badly ss bad made log good (initializing system plan) (All-append (IsToOne (length ss)) (entering system plan) (leaving system) (to_each_to_one _ ss) (to_each_to_one _ ss)) w.stops
+  finishes_log (E.FixedStep component at end) point log is f = behind_made log (seen_good at log is f.1.seen)
+  finishes_log (E.Bad bad) point log is (inl w) = initializing_log bad log w.stops
   finishes_log (E.Bad bad) point log is (inr (inl w)) =
-      deeper bad log w.before w.reads w.log_is (stops_badly ss bad (made ++ w.before) w.reads (all_good w.before (came_good point w.before is w.came)) (gets system.ports) (gets_to_one system sound) w.stops)
-  finishes_log (E.Bad bad) point log is (inr (inr w)) =
-      deeper bad log w.before w.steps w.log_is (fails_badly ss bad (made ++ w.before) w.steps (all_good w.before (seen_good point w.before is w.seen)) _ w.fails)
+      deeper bad log w.before w.reads w.log_is
+      (walk_badly system at_point w.earlier (numbers system.instant_order) bad w.values w.reads (made ++ w.before) (behind_made w.before (came_good point w.before is w.came)) w.stops)
+  finishes_log (E.Bad bad) point log is (inr (inr (inl w))) =
+      deeper bad log w.before w.sets w.log_is
+      (walk_badly system (before_step w.seen.values) w.seen.values (port_order system) bad w.seen.values w.sets (made ++ w.before) (behind_made w.before (seen_good point w.before is w.seen)) w.stops)
+  finishes_log (E.Bad bad) point log is (inr (inr (inr w))) =
+      deeper bad log w.before w.steps w.log_is (fails_badly ss bad (made ++ w.before) w.steps (behind_made w.before (departs_good point w.to w.before is w.departs)) _ w.fails)
   finishes_log E.WriteFault point log is f = absurd f
 
   -- where a put failed
@@ -187,6 +276,6 @@ module _ (system : System) (plan : Plan) (sound : IsSound system) (made : List S
   put_log E.WriteFault log e = e
 
   pub interrupted_log : (log : List Sent) (is : List Instant) (pieces : List (List ℕ)) (piece : List ℕ) → Interrupted system plan log is pieces piece → EndsLog ss E.WriteFault (made ++ log)
-  interrupted_log log is pieces piece (inl h) = inl (all_good log (subst (All (IsGoodOf ss)) (sym h.log_is) (All-nil (IsGoodOf ss))))
-  interrupted_log log is pieces piece (inr (inl i)) = inl (all_good log (seen_good i.t log (is ++ i.i ∷ []) i.seen))
+  interrupted_log log is pieces piece (inl h) = inl (behind_made log (subst (All (IsGoodOf ss)) (sym h.log_is) (All-nil (IsGoodOf ss))))
+  interrupted_log log is pieces piece (inr (inl i)) = inl (behind_made log (seen_good i.t log (is ++ i.i ∷ []) i.seen))
   interrupted_log log is pieces piece (inr (inr e)) = put_log e.end (made ++ log) (finishes_log e.end e.point log is e.finishes)

@@ -8,9 +8,7 @@ use Rattle.fmi_calls.specs.declared.call.Call.TheVariants as C
 use Rattle.fmi_calls.specs.KindFacts.{IsRunCall}
 use Rattle.fmu_peer.specs.Mode.{instantiate_of}
 use Rattle.system_model.specs.declared.plan.Plan.{Plan}
-use Rattle.system_model.specs.declared.system.Port.{Port}
 use Rattle.system_model.specs.declared.system.System.{System}
-use Rattle.slot_calls.specs.Carried.{gets, get_of}
 use Rattle.step_master.specs.Master.{making}
 use Rattle.calling_sequence.specs.Course.{stepping}
 use Rattle.step_master.specs.Lives.{calls_in}
@@ -98,7 +96,3 @@ leaving_runs ss = each_runs (λ (shape : Shape). C.ExitInitialization) (λ s. re
 
 pub stepping_runs : (system : System) (from to : ℕ) → All Asks (stepping system from to)
 stepping_runs system from to = each_runs (λ (shape : Shape). C.DoStep from _) (λ s. refl) 0 (shapes_of system)
-
-pub gets_run : (ports : List Port) → All Asks (gets ports)
-gets_run [] = All-nil Asks
-gets_run (p ∷ ports) = All-cons Asks (record { component = p.component.0; call = get_of p }) (gets ports) refl (gets_run ports)

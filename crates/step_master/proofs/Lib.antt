@@ -1,22 +1,24 @@
-pub mod SeatLemmas
-pub mod Prepared
-pub mod Talking
-pub mod Leaving
-pub mod Calls
-pub mod Needing
-pub mod Along
-pub mod Badly
-pub mod Living
-pub mod Over
-pub mod Wholes
-pub mod SideBySide
-pub mod Quiet
-pub mod Looking
-pub mod Begun
-pub mod Onward
-pub mod Followed
-pub mod Told
-pub mod Existing
-pub mod Links
-pub mod Well
-pub mod ToldWell
+mod Along
+mod Badly
+mod Begun
+mod Calls
+mod Existing
+mod Followed
+mod Leaving
+mod Links
+mod Living
+mod Looking
+mod Needing
+mod Onward
+mod Over
+mod Prepared
+mod Quiet
+mod SeatLemmas
+mod SideBySide
+mod Talking
+mod Told
+mod ToldWell
+mod WalkCalls
+mod WalksBack
+mod Well
+mod Wholes

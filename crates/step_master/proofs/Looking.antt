@@ -1,11 +1,13 @@
 -- Logs of told machines: each reply is the machine's, in the state behind the exchanges before it.
-use Rattle.std.proofs.Common.{◌≡◌, ℕ, suc, ◌+◌, ◌<◌, ◌==◌, ℤ, Bool, true, false, List, [], ◌∷◌, ◌++◌, Option, Some, Result, Ok, refl, sym, ap, ap₂, ◌∙◌, subst, arith, length, get_or, map}
-use Rattle.std.specs.Prelude.{All, ◌||◌, MatchResult, if◌then◌else◌, option_and_then}
+use Rattle.std.proofs.Common.{◌≡◌, ℕ, suc, ◌+◌, ◌<◌, ◌==◌, Bool, List, [], ◌∷◌, ◌++◌, Some, Result, Ok, refl, sym, ap, ap₂, ◌∙◌, subst, arith, length, get_or, map}
+use Rattle.std.specs.Prelude.{All, ◌||◌, MatchResult}
 use Rattle.std.specs.List.{list_any, slice_get}
-use Rattle.std.proofs.lemmas.List.{get_or_default, length-map}
-use Rattle.std.proofs.lemmas.List.Elements.{All-cons, All-head, All-nil, All-tail}
+use Rattle.std.proofs.lemmas.List.{length-map}
+use Rattle.std.proofs.lemmas.List.Elements.{All-head, All-tail}
 use Rattle.value_types.specs.declared.shape.Shape.{Shape}
+use Rattle.value_types.specs.declared.values.PortType.{PortType}
 use Rattle.fmi_calls.specs.declared.call.Call.{Call}
+use Rattle.fmi_calls.specs.declared.call.Call.TheVariants as C
 use Rattle.fmi_calls.specs.declared.call.Grade.TheVariants as G
 use Rattle.fmi_calls.specs.declared.call.Reply.{Reply}
 use Rattle.fmi_calls.specs.Worth.{grade_of}
@@ -17,41 +19,34 @@ use Rattle.fmu_peer.specs.Answer.{IsLink, IsWhy}
 use Rattle.fmu_peer.specs.Machine.{Machine, MachineState, after}
 use Rattle.fmu_peer.specs.Talk as T
 use Rattle.system_model.specs.declared.system.Component.{Component}
-use Rattle.system_model.specs.declared.system.Port.{Port}
-use Rattle.system_model.specs.Sound.{IsSound}
-use Rattle.system_model.proofs.SoundLemmas.{place_of}
 use Rattle.run_model.specs.Behaved.{IsAnsweredWell}
-use Rattle.run_model.specs.Equations.{shown}
-use Rattle.run_model.specs.Run.{IsFmu, Run, at_fmu, each, each_from}
+use Rattle.run_model.specs.Run.{IsFmu, Run, each, each_from}
 use Rattle.run_model.specs.Stepping.{is_terminating}
 use Rattle.run_model.proofs.States.{fmu_before}
-use Rattle.slot_calls.specs.Carried.{any_asks_to_end, ends_by, get_of, gets, value_by, value_of, values_of}
+use Rattle.slot_calls.specs.Carried.{any_asks_to_end, ends_by}
 use Rattle.slot_calls.specs.Replies.{AreReplies, RepliesBy, state_by, states_by}
 use Rattle.slot_calls.proofs.Replying.{replied_good, replies_back, replies_front, state_by_append}
 use Rattle.slot_calls.specs.Log.{Asking, Sent, asking_of, askings, part}
 use Rattle.slot_calls.specs.Stage.{IsAnswered, IsGoodOf, shapes_of, to_each, to_each_from}
 use Rattle.slot_calls.proofs.Answered.{map_at}
 use Rattle.step_master.proofs.Badly.{good_part}
-use Rattle.calling_sequence.proofs.Chains.{IsGet, PartIs, each_part, first_same, gets_are, other, part_all, rest_same, same, skips, takes}
+use Rattle.calling_sequence.proofs.Chains.{PartIs, each_part, first_same, other, rest_same, same, skips, takes}
 use Rattle.slot_calls.proofs.Logs.{part_append}
-use Rattle.step_master.proofs.Prepared.{get_here, got, is_within}
-use Rattle.step_master.proofs.SideBySide.{AreAll, each_each, each_same, each_stays, fmu_at}
+use Rattle.step_master.proofs.Prepared.{get_here, is_within}
+use Rattle.step_master.proofs.SideBySide.{AreAll, each_each, each_same}
 
 -- ---- one machine
 
+-- the exchange is a Get
+abbrev pub IsGet : Exchange → Type 0
+IsGet e = (kind : PortType) × (reference : ℕ) × (e.call ≡ C.Get kind reference)
+
 module _ (m : Machine) where
   -- Gets leave the state
-  state_stays_by : (s : MachineState) (es : List Exchange) → All IsGet es → state_by m s es ≡ s
-  state_stays_by s [] k = refl
-  state_stays_by s (e ∷ es) k =
-      let head = All-head IsGet e es k in ap (λ (z : MachineState). state_by m z es) (ap (after m s) head.2) ∙ state_stays_by s es (All-tail IsGet e es k)
-
-  gets_look : (shape : Shape) (s : MachineState) (es : List Exchange) → All IsGet es → T.AllGood shape es → RepliesBy m s es → All (λ (e : Exchange). e.result ≡ Ok (m.look s e.call)) es
-  gets_look shape s [] k good h = All-nil (λ (e : Exchange). e.result ≡ Ok (m.look s e.call))
-  gets_look shape s (e ∷ es) k good h =
-      let one = replied_good m shape s e es (All-head (T.IsGood shape) e es good) h in
-      All-cons (λ (x : Exchange). x.result ≡ Ok (m.look s x.call)) e es one.0
-      (gets_look shape s es (All-tail IsGet e es k) (All-tail (T.IsGood shape) e es good) (subst (λ (z : MachineState). RepliesBy m z es) (ap (after m s) (All-head IsGet e es k).2) one.1))
+  pub gets_stay : (s : MachineState) (es : List Exchange) → All IsGet es → state_by m s es ≡ s
+  gets_stay s [] k = refl
+  gets_stay s (e ∷ es) k =
+      let head = All-head IsGet e es k in ap (λ (z : MachineState). state_by m z es) (ap (after m s) head.2) ∙ gets_stay s es (All-tail IsGet e es k)
 
   -- a bad answer to a call that is answered well is none of the machine's
   pub only_link : (shape : Shape) (s : MachineState) (e : Exchange) (es : List Exchange) (why : Why) (call : Call) → RepliesBy m s (e ∷ es) → e.call ≡ call → IsAnsweredWell shape m s call → IsWhy shape why e → IsLink why
@@ -78,19 +73,6 @@ well_by e shape m s call call_is result_is good =
     (subst (λ (x : Result Reply PeerFault). MatchResult x (λ reply. grade_of shape e.call reply ≡ G.Good) (λ fault. ⊥)) result_is good)
 
 -- ---- several machines
-
--- what holds of each part holds of the log
-head_of : (Q : ℕ → Exchange → Type 0) (s : Sent) (log : List Sent) → All (Q s.component) (part s.component (s ∷ log)) → Q s.component s.exchange
-head_of Q s log all = All-head (Q s.component) s.exchange (part s.component log) (subst (All (Q s.component)) (takes (s.component == s.component) s.exchange (part s.component log) (same s.component s.component refl)) all)
-
-tail_by : (Q : ℕ → Exchange → Type 0) (i : ℕ) (e : Exchange) (es : List Exchange) (b : Bool) → All (Q i) (if b then e ∷ es else es) → All (Q i) es
-tail_by Q i e es true all = All-tail (Q i) e es all
-tail_by Q i e es false all = all
-
-all_parts : (Q : ℕ → Exchange → Type 0) (log : List Sent) → ((i : ℕ) → All (Q i) (part i log)) → All (λ (s : Sent). Q s.component s.exchange) log
-all_parts Q [] h = All-nil (λ (s : Sent). Q s.component s.exchange)
-all_parts Q (s ∷ log) h =
-    All-cons (λ (x : Sent). Q x.component x.exchange) s log (head_of Q s log (h s.component)) (all_parts Q log (λ i. tail_by Q i s.exchange (part i log) (s.component == i) (h i)))
 
 module _ (r : Run) (ss : List MachineState) where
   pub states_on : (a b : List Sent) → states_by r ss (a ++ b) ≡ states_by r (states_by r ss a) b
@@ -170,58 +152,3 @@ module _ (r : Run) (ss : List MachineState) where
     any_asks call log answered replies =
         any_from call 0 r.system.components r.machines ss log answered.calls_are all.machines all.states
         (λ i c m s at_c at_m at_s. subst (λ (n : ℕ). IsOne log (call c.shape) n c.shape m s) (omega arith) (one_of call log answered replies i c m s (record { component = at_c; machine = at_m; state = at_s })))
-
-    -- ---- Gets
-
-    abbrev ShowsOf : ℕ → Exchange → Type 0
-    ShowsOf i e = (c : Component) (m : Machine) (s : MachineState) → IsFmu r ss i c m s → e.result ≡ Ok (m.look s e.call)
-
-    module _ (sound : IsSound r.system) where
-      at_fmu_is : (i : ℕ) (c : Component) (m : Machine) (s : MachineState) → IsFmu r ss i c m s → (f : Component → Machine → MachineState → Option ℤ) → at_fmu r ss i f ≡ f c m s
-      at_fmu_is i c m s fmu f =
-          ap (λ o. option_and_then (λ d. option_and_then (λ n. option_and_then (λ z. f d n z) (slice_get ss i)) (slice_get r.machines i)) o) fmu.component
-          ∙ ap (λ o. option_and_then (λ n. option_and_then (λ z. f c n z) (slice_get ss i)) o) fmu.machine ∙ ap (λ o. option_and_then (λ z. f c m z) o) fmu.state
-
-      value_is : (port : Port) (e : Exchange) → port.component.0 < length r.system.components → e.call ≡ get_of port → ShowsOf port.component.0 e → value_of e ≡ at_fmu r ss port.component.0 (λ c m s. shown m s port)
-      value_is port e within call shows =
-          let x = fmu_at r ss all port.component.0 within in
-          ap₂ value_by call (shows x.0 x.1 x.2 x.3 ∙ ap (λ (c : Call). Ok (x.1.look x.2 c)) call)
-          ∙ sym (at_fmu_is port.component.0 x.0 x.1 x.2 x.3 (λ c m s. shown m s port))
-
-      values_from : (ports : List Port) (log : List Sent) → askings log ≡ gets ports → All (λ (port : Port). port.component.0 < length r.system.components) ports → All (λ (s : Sent). ShowsOf s.component s.exchange) log →
-          values_of log ≡ map (λ (port : Port). at_fmu r ss port.component.0 (λ c m s. shown m s port)) ports
-      values_from [] [] is within shows = refl
-      values_from [] (s ∷ log) is within shows = absurd (cc)
-      values_from (p ∷ ports) [] is within shows = absurd (cc)
-      values_from (p ∷ ports) (s ∷ log) is within shows =
-          let first = first_same (asking_of s) (record { component = p.component.0; call = get_of p }) (askings log) (gets ports) is in
-          let rest = rest_same (asking_of s) (record { component = p.component.0; call = get_of p }) (askings log) (gets ports) is in
-          ap₂ ◌∷◌
-          (value_is p s.exchange (All-head (λ (port : Port). port.component.0 < length r.system.components) p ports within) (ap (λ (a : Asking). a.call) first)
-          (subst (λ (n : ℕ). ShowsOf n s.exchange) (ap (λ (a : Asking). a.component) first) (All-head (λ (x : Sent). ShowsOf x.component x.exchange) s log shows)))
-          (values_from ports log rest (All-tail (λ (port : Port). port.component.0 < length r.system.components) p ports within) (All-tail (λ (x : Sent). ShowsOf x.component x.exchange) s log shows))
-
-      ports_within : All (λ (port : Port). port.component.0 < length r.system.components) r.system.ports
-      ports_within = λ k d w.
-          let x = got r.system.ports k w in
-          let placed = place_of r.system sound k x.0 x.1 in
-          subst (λ (port : Port). port.component.0 < length r.system.components) (get_here r.system.ports k x.0 x.1 ∙ get_or_default r.system.ports k x.0 d w)
-          (is_within r.system.components x.0.component.0 placed.component placed.is.of)
-
-      module _ (log : List Sent) (answered : IsAnswered (shapes_of r.system) (gets r.system.ports) log) (replies : AreReplies r ss log) where
-        shows_each : (i : ℕ) → All (ShowsOf i) (part i log)
-        shows_each i = λ k d w c m s fmu.
-            gets_look m (get_or (shapes_of r.system) i c.shape) s (part i log) (part_all (λ n e. IsGet e) i log (gets_are r.system.ports log answered.calls_are))
-            (good_part (shapes_of r.system) log answered.good i c.shape) (replies i c m s fmu) k d w
-
-        -- the answers carry what the outputs show
-        pub values_are : values_of log ≡ map (λ (port : Port). at_fmu r ss port.component.0 (λ c m s. shown m s port)) r.system.ports
-        values_are = values_from r.system.ports log answered.calls_are ports_within (all_parts ShowsOf log shows_each)
-
-        -- and the states stay
-        pub reading_stays : states_by r ss log ≡ ss
-        reading_stays = each_stays r ss all (λ i c m s. state_by m s (part i log)) (λ i c m s fmu. state_stays_by m s (part i log) (part_all (λ n e. IsGet e) i log (gets_are r.system.ports log answered.calls_are)))
-
-  -- Gets of a front leave the state too
-  pub gets_stay : (m : Machine) (s : MachineState) (es : List Exchange) → All IsGet es → state_by m s es ≡ s
-  gets_stay m s es all = state_stays_by m s es all

@@ -15,24 +15,26 @@ use Rattle.system_model.specs.Sound.{IsSound}
 use Rattle.run_model.specs.Run.{IsFmu, Run, Situation, each, each_from}
 use Rattle.run_model.specs.AfterInstant as F
 use Rattle.run_model.specs.AfterInstant.{Done, Following}
+use Rattle.run_model.specs.Behaved as B
 use Rattle.run_model.specs.Behaved.{IsAnsweredWell}
 use Rattle.run_model.specs.Equations.{Solves}
+use Rattle.run_model.specs.Inputs.{state_with}
 use Rattle.run_model.specs.Stepping as P
-use Rattle.run_model.specs.Stepping.{Next, asks_to_end, departing, end_in, is_terminating, kept_at, step_to, stepped, steppers}
+use Rattle.run_model.specs.Stepping.{GoesOn, Next, asks_to_end, departing, end_in, is_terminating, kept_at, step_to, stepped, steppers}
 use Rattle.run_model.specs.Steps.{AllMeet, IsBound, MayAsk, Stepper, StopsFirst, least_or, met}
 use Rattle.run_model.specs.Trace.{Leads, LeadsBy}
 use Rattle.run_model.proofs.States.{each-get}
-use Rattle.slot_calls.specs.Carried.{any_asks_to_end, gets, values_of}
+use Rattle.slot_calls.specs.Carried.{any_asks_to_end}
 use Rattle.calling_sequence.specs.Course.{IsBoundOf, first_unfit, stepping}
 use Rattle.slot_calls.specs.Log.{Sent}
 use Rattle.slot_calls.specs.Stage.{IsAnswered, shapes_of}
-use Rattle.step_master.specs.System.{IsBuilt}
+use Rattle.calling_sequence.specs.Systems.{IsBuilt}
 use Rattle.step_master.proofs.Begun.{IsHere}
 use Rattle.slot_calls.specs.Replies.{AreReplies, states_by}
-use Rattle.step_master.proofs.Looking.{any_asks, one_of, reading_stays, stage_states, values_are}
+use Rattle.step_master.proofs.Looking.{any_asks, one_of, stage_states}
 use Rattle.calling_sequence.proofs.Phases.{good_step_end}
 use Rattle.step_master.proofs.Prepared.{get_here, got, is_within}
-use Rattle.step_master.proofs.Quiet.{AreNever, bound_on, departing_is, is_done, next_never, no_event, outputs, outputs_solve, updated_states}
+use Rattle.step_master.proofs.Quiet.{AreNever, bound_on, departing_is, is_done, next_never, no_early, no_event, set_all, updated_states}
 use Rattle.step_master.proofs.SideBySide.{AreAll, all_on, each_length, each_same}
 
 -- ---- lists
@@ -88,150 +90,149 @@ no_event_if : {X : Type 0} (b : Bool) (x y : X) → b ≡ false → (if b then x
 no_event_if true x y h = absurd (cc)
 no_event_if false x y h = refl
 
-module _ (r : Run) (sound : IsSound r.system) (built : IsBuilt r.system) (t : ℕ) (ss : List MachineState) where
-  -- ---- the values of the instant
+module _ (r : Run) (sound : IsSound r.system) (built : IsBuilt r.system) (t : ℕ) (ss : List MachineState) (s : Situation) (here : IsHere r t ss s) (V : List (Option ℤ)) (solves : Solves r s V) where
+  -- the point is done with its first instant
+  abbrev pub done_here : Situation
+  done_here = F.updated r s V
 
-  -- the answers to the Gets carry what the outputs show, and leave the states
-  pub reads_are : AreAll r ss → (reads : List Sent) → IsAnswered (shapes_of r.system) (gets r.system.ports) reads → AreReplies r ss reads → values_of reads ≡ outputs r sound built ss
-  reads_are all reads answered replies = values_are r ss all sound reads answered replies
+  pub following_here : F.following r s V ≡ Done
+  following_here = is_done r sound built s V here.never
 
-  pub reads_leave : AreAll r ss → (reads : List Sent) → IsAnswered (shapes_of r.system) (gets r.system.ports) reads → AreReplies r ss reads → states_by r ss reads ≡ ss
-  reads_leave all reads answered replies = reading_stays r ss all sound reads answered replies
+  pub done_never : AreNever done_here.timers
+  done_never = next_never r sound built s V here.never
 
-  module _ (s : Situation) (here : IsHere r t ss s) where
-    abbrev pub values_here : List (Option ℤ)
-    values_here = outputs r sound built ss
+  pub done_states : done_here.states ≡ ss
+  done_states = updated_states r sound built s V (subst (AreAll r) (sym here.states) here.all) ∙ here.states
 
-    pub solves_here : Solves r s values_here
-    solves_here = outputs_solve r sound built s ss here.first here.states
+  -- the states with its values set
+  abbrev pub set_here : List MachineState
+  set_here = set_all r V ss
 
-    -- the point is done with it
-    abbrev pub done_here : Situation
-    done_here = F.updated r s values_here
+  pub set_are_all : AreAll r set_here
+  set_are_all = all_on r ss here.all (λ i c m state. state_with r.system.ports V i m state)
 
-    pub following_here : F.following r s values_here ≡ Done
-    following_here = is_done r sound built s values_here here.never
+  pub departing_here : departing r done_here ≡ set_here
+  departing_here = departing_is r sound built done_here ∙ ap (set_all r V) done_states
 
-    pub done_never : AreNever done_here.timers
-    done_never = next_never r sound built s values_here here.never
+  -- what follows is what a step makes of it
+  pub leads_here : (next : Next) → P.Departs r done_here next → Leads r s V next
+  leads_here next d = subst (λ (f : Following). LeadsBy f r s V next) (sym following_here) d
 
-    pub done_states : done_here.states ≡ ss
-    done_states = updated_states r sound built s values_here (subst (AreAll r) (sym here.states) here.all) ∙ here.states
+  -- ---- the step
 
-    pub departing_here : departing r done_here ≡ ss
-    departing_here = departing_is r sound built done_here (subst (AreAll r) (sym done_states) here.all) ∙ done_states
+  abbrev stepper_of : ℕ → ℕ → Component → Machine → MachineState → Stepper
+  stepper_of at i c m state = record { has_variable_steps = c.shape.has_variable_steps; end = end_in m state at }
 
-    -- what follows is what a step makes of it
-    pub leads_here : (next : Next) → P.Departs r done_here next → Leads r s values_here next
-    leads_here next d = subst (λ (f : Following). LeadsBy f r s values_here next) (sym following_here) d
+  pub steppers_here : steppers r done_here ≡ each r set_here (stepper_of t)
+  steppers_here = ap₂ (λ (xs : List MachineState) (n : ℕ). each r xs (stepper_of n)) departing_here here.point
 
-    -- ---- the step
+  abbrev fixed_size : Stepper → Bool
+  fixed_size x = true && not x.has_variable_steps
 
-    abbrev stepper_of : ℕ → ℕ → Component → Machine → MachineState → Stepper
-    stepper_of at i c m state = record { has_variable_steps = c.shape.has_variable_steps; end = end_in m state at }
+  unvaried_here : position fixed_size (steppers r done_here) ≡ position (λ (c : Component). not c.shape.has_variable_steps) r.system.components
+  unvaried_here =
+      ap (position fixed_size) steppers_here
+      ∙ sym (position-map fixed_size (λ b. b) (each r set_here (stepper_of t)))
+      ∙ ap (position (λ b. b)) (map_from (stepper_of t) fixed_size (λ (c : Component). not c.shape.has_variable_steps) (λ i c m state. refl) 0 r.system.components r.machines set_here set_are_all.machines set_are_all.states)
+      ∙ position-map (λ (c : Component). not c.shape.has_variable_steps) (λ b. b) r.system.components
 
-    pub steppers_here : steppers r done_here ≡ each r ss (stepper_of t)
-    steppers_here = ap₂ (λ (xs : List MachineState) (n : ℕ). each r xs (stepper_of n)) departing_here here.point
+  pub bound_here : (u : ℕ) → IsBoundOf r.plan t u → IsBound r.plan done_here.timers done_here.t u
+  bound_here u b = subst (λ (n : ℕ). IsBound r.plan done_here.timers n u) (sym here.point) (bound_on r.plan done_here.timers t u done_never b.bound)
 
-    abbrev fixed_size : Stepper → Bool
-    fixed_size x = true && not x.has_variable_steps
+  pub before_here : (u : ℕ) → IsBoundOf r.plan t u → done_here.t < r.plan.stop
+  before_here u b = subst (λ (n : ℕ). n < r.plan.stop) (sym here.point) b.before_stop
 
-    unvaried_here : position fixed_size (steppers r done_here) ≡ position (λ (c : Component). not c.shape.has_variable_steps) r.system.components
-    unvaried_here =
-        ap (position fixed_size) steppers_here
-        ∙ sym (position-map fixed_size (λ b. b) (each r ss (stepper_of t)))
-        ∙ ap (position (λ b. b)) (map_from (stepper_of t) fixed_size (λ (c : Component). not c.shape.has_variable_steps) (λ i c m state. refl) 0 r.system.components r.machines ss here.all.machines here.all.states)
-        ∙ position-map (λ (c : Component). not c.shape.has_variable_steps) (λ b. b) r.system.components
+  -- each may be asked to step so far
+  pub may_here : (u : ℕ) → first_unfit r.system r.plan (u - t) ≡ None → MayAsk (steppers r done_here) done_here.t r.plan.step u
+  may_here u fit i fixed =
+      unfit_none ((u - t) == r.plan.step) (u - t) r.plan.step i (position (λ (c : Component). not c.shape.has_variable_steps) r.system.components) refl fit
+      (subst (λ (n : ℕ). u - n ≢ r.plan.step) here.point fixed.other_size) (sym unvaried_here ∙ fixed.least)
 
-    pub bound_here : (u : ℕ) → IsBoundOf r.plan t u → IsBound r.plan done_here.timers done_here.t u
-    bound_here u b = subst (λ (n : ℕ). IsBound r.plan done_here.timers n u) (sym here.point) (bound_on r.plan done_here.timers t u done_never b.bound)
-
-    pub before_here : (u : ℕ) → IsBoundOf r.plan t u → done_here.t < r.plan.stop
-    before_here u b = subst (λ (n : ℕ). n < r.plan.stop) (sym here.point) b.before_stop
-
-    -- each may be asked to step so far
-    pub may_here : (u : ℕ) → first_unfit r.system r.plan (u - t) ≡ None → MayAsk (steppers r done_here) done_here.t r.plan.step u
-    may_here u fit i fixed =
-        unfit_none ((u - t) == r.plan.step) (u - t) r.plan.step i (position (λ (c : Component). not c.shape.has_variable_steps) r.system.components) refl fit
-        (subst (λ (n : ℕ). u - n ≢ r.plan.step) here.point fixed.other_size) (sym unvaried_here ∙ fixed.least)
-
-    -- or the least that takes no such size is told
-    pub lacks_here : (u i : ℕ) → IsBoundOf r.plan t u → first_unfit r.system r.plan (u - t) ≡ Some i → P.LacksStep r done_here i u
-    lacks_here u i bound unfit =
-        let so = unfit_some ((u - t) == r.plan.step) (u - t) r.plan.step i (position (λ (c : Component). not c.shape.has_variable_steps) r.system.components) refl unfit in
-        record {
-          before_stop = before_here u bound;
-          bound = u;
-          is_bound = bound_here u bound;
-          stops = StopsFirst u i u (record { other_size = subst (λ (n : ℕ). u - n ≢ r.plan.step) (sym here.point) so.0; least = unvaried_here ∙ so.1 }) refl;
-        }
-
-    -- the asks that are kept
-    abbrev pub kept_to : ℕ → List ℕ
-    kept_to u = map (λ (x : Stepper). u) (steppers r done_here)
-
-    kept_is : (u i : ℕ) → i < length r.system.components → kept_at (kept_to u) i ≡ u
-    kept_is u i w =
-        let e : length (steppers r done_here) ≡ length r.system.components = ap length steppers_here ∙ each_length r ss here.all (stepper_of t) in
-        const_at (steppers r done_here) u i (omega (arith, e, w))
-
-    call_is : (u i : ℕ) (c : Component) → slice_get r.system.components i ≡ Some c → step_to done_here.t (kept_at (kept_to u) i) ≡ C.DoStep t (u - t)
-    call_is u i c at = ap₂ step_to here.point (kept_is u i (is_within r.system.components i c at))
-
-    -- behind the step
-    abbrev pub next_here : ℕ → Situation
-    next_here u = stepped r done_here (kept_to u) u
-
-    pub next_states : (u : ℕ) → (next_here u).states ≡ each r ss (λ i c m state. after m state (C.DoStep t (u - t)))
-    next_states u =
-        ap (λ (xs : List MachineState). each r xs (λ i c m state.
-        let there : MachineState = after m state (step_to done_here.t (kept_at (kept_to u) i)) in
-        if c.shape.has_event_mode then after m there C.EnterEvent else there)) departing_here
-        ∙ each_same r ss (λ i c m state.
-        let there : MachineState = after m state (step_to done_here.t (kept_at (kept_to u) i)) in
-        if c.shape.has_event_mode then after m there C.EnterEvent else there) (λ i c m state. after m state (C.DoStep t (u - t)))
-        (λ i c m state fmu. no_event_if c.shape.has_event_mode _ _ (no_event r sound built i c fmu.component) ∙ ap (after m state) (call_is u i c fmu.component))
-
-    -- a step that each answers well goes to its bound
-    module _ (u : ℕ) (bound : IsBoundOf r.plan t u) (good : (i : ℕ) (c : Component) (m : Machine) (state : MachineState) → IsFmu r ss i c m state → IsAnsweredWell c.shape m state (C.DoStep t (u - t))) where
-      early_of : (i : ℕ) (c : Component) → slice_get r.system.components i ≡ Some c → c.shape.might_return_early ≡ false
-      early_of i c at = subst (λ (d : Component). d.shape.might_return_early ≡ false) (sym (get_here r.system.components i c at)) (built.no_early i c (is_within r.system.components i c at))
-
-      ends_well : (i : ℕ) (c : Component) (m : Machine) (state : MachineState) → IsFmu r ss i c m state → end_in m state t u ≡ u
-      ends_well i c m state fmu =
-          let end : end_in m state t u ≡ t + (u - t) = good_step_end c.shape t (u - t) (m.look state (C.DoStep t (u - t))) (early_of i c fmu.component) (good i c m state fmu) in
-          let later = bound.bound.later in
-          end ∙ omega (arith, later)
-
-      met_well : met (steppers r done_here) u ≡ u
-      met_well = ap (λ (xs : List Stepper). met xs u) steppers_here
-          ∙ met_same u u (map (λ (f : Stepper). f.end u) (each r ss (stepper_of t))) refl
-          (All-map (λ (x : ℕ). x ≡ u) (λ (f : Stepper). f.end u) (each r ss (stepper_of t)) (all_each r ss (stepper_of t) (λ (f : Stepper). f.end u ≡ u) ends_well))
-
-      pub step_well : first_unfit r.system r.plan (u - t) ≡ None → P.IsStep r done_here (kept_to u) u
-      step_well fit = record {
+  -- or the least that takes no such size is told
+  pub lacks_here : (u i : ℕ) → IsBoundOf r.plan t u → first_unfit r.system r.plan (u - t) ≡ Some i → P.LacksStep r done_here i u
+  lacks_here u i bound unfit =
+      let so = unfit_some ((u - t) == r.plan.step) (u - t) r.plan.step i (position (λ (c : Component). not c.shape.has_variable_steps) r.system.components) refl unfit in
+      record {
         before_stop = before_here u bound;
         bound = u;
         is_bound = bound_here u bound;
-        agree = AllMeet u (kept_to u) u (may_here u fit) met_well refl refl;
+        stops = StopsFirst u i u (record { other_size = subst (λ (n : ℕ). u - n ≢ r.plan.step) (sym here.point) so.0; least = unvaried_here ∙ so.1 }) refl;
       }
 
-    -- behind it the run stands at the next point
-    pub next_is : (u : ℕ) → IsHere r u (each r ss (λ i c m state. after m state (C.DoStep t (u - t)))) (next_here u)
-    next_is u = record { point = refl; first = refl; never = done_never; states = next_states u; all = all_on r ss here.all _ }
+  -- the asks that are kept
+  abbrev pub kept_to : ℕ → List ℕ
+  kept_to u = map (λ (x : Stepper). u) (steppers r done_here)
 
-    module _ (u : ℕ) (bound : IsBoundOf r.plan t u) (steps : List Sent) (answered : IsAnswered (shapes_of r.system) (stepping r.system t u) steps) (replies : AreReplies r ss steps) where
-      pub step_here : first_unfit r.system r.plan (u - t) ≡ None → P.IsStep r done_here (kept_to u) u
-      step_here fit = step_well u bound (λ i c m state fmu. let one = one_of r ss (λ (shape : Shape). C.DoStep t (u - t)) steps answered replies i c m state fmu in one.good) fit
+  kept_is : (u i : ℕ) → i < length r.system.components → kept_at (kept_to u) i ≡ u
+  kept_is u i w =
+      let e : length (steppers r done_here) ≡ length r.system.components = ap length steppers_here ∙ each_length r set_here set_are_all (stepper_of t) in
+      const_at (steppers r done_here) u i (omega (arith, e, w))
 
-      -- an answer asks for the end in both
-      pub asks_here : any_asks_to_end steps ≡ asks_to_end r done_here (kept_to u)
-      asks_here = any_asks r ss here.all (λ (shape : Shape). C.DoStep t (u - t)) steps answered replies
-          ∙ sym (ap (list_any (λ b. b)) (
-          ap (λ (xs : List MachineState). each r xs (λ i c m state. is_terminating (m.look state (step_to done_here.t (kept_at (kept_to u) i))))) departing_here
-          ∙ each_same r ss (λ i c m state. is_terminating (m.look state (step_to done_here.t (kept_at (kept_to u) i)))) (λ i c m state. is_terminating (m.look state (C.DoStep t (u - t))))
-          (λ i c m state fmu. ap (λ call. is_terminating (m.look state call)) (call_is u i c fmu.component))))
+  call_is : (u i : ℕ) (c : Component) → slice_get r.system.components i ≡ Some c → step_to done_here.t (kept_at (kept_to u) i) ≡ C.DoStep t (u - t)
+  call_is u i c at = ap₂ step_to here.point (kept_is u i (is_within r.system.components i c at))
 
-      -- the run stands at the next point
-      pub goes_here : IsHere r u (states_by r ss steps) (next_here u)
-      goes_here = subst (λ (xs : List MachineState). IsHere r u xs (next_here u)) (sym (stage_states r ss (λ (shape : Shape). C.DoStep t (u - t)) steps answered replies)) (next_is u)
+  -- behind the step
+  abbrev pub next_here : ℕ → Situation
+  next_here u = stepped r done_here (kept_to u) u
+
+  pub next_states : (u : ℕ) → (next_here u).states ≡ each r set_here (λ i c m state. after m state (C.DoStep t (u - t)))
+  next_states u =
+      ap (λ (xs : List MachineState). each r xs (λ i c m state.
+      let there : MachineState = after m state (step_to done_here.t (kept_at (kept_to u) i)) in
+      if c.shape.has_event_mode then after m there C.EnterEvent else there)) departing_here
+      ∙ each_same r set_here (λ i c m state.
+      let there : MachineState = after m state (step_to done_here.t (kept_at (kept_to u) i)) in
+      if c.shape.has_event_mode then after m there C.EnterEvent else there) (λ i c m state. after m state (C.DoStep t (u - t)))
+      (λ i c m state fmu. no_event_if c.shape.has_event_mode _ _ (no_event r sound built i c fmu.component) ∙ ap (after m state) (call_is u i c fmu.component))
+
+  -- a step that each answers well goes to its bound
+  module _ (u : ℕ) (bound : IsBoundOf r.plan t u) (good : (i : ℕ) (c : Component) (m : Machine) (state : MachineState) → IsFmu r set_here i c m state → IsAnsweredWell c.shape m state (C.DoStep t (u - t))) where
+    ends_well : (i : ℕ) (c : Component) (m : Machine) (state : MachineState) → IsFmu r set_here i c m state → end_in m state t u ≡ u
+    ends_well i c m state fmu =
+        let end : end_in m state t u ≡ t + (u - t) = good_step_end c.shape t (u - t) (m.look state (C.DoStep t (u - t))) (no_early r sound built i c fmu.component) (good i c m state fmu) in
+        let later = bound.bound.later in
+        end ∙ omega (arith, later)
+
+    met_well : met (steppers r done_here) u ≡ u
+    met_well = ap (λ (xs : List Stepper). met xs u) steppers_here
+        ∙ met_same u u (map (λ (f : Stepper). f.end u) (each r set_here (stepper_of t))) refl
+        (All-map (λ (x : ℕ). x ≡ u) (λ (f : Stepper). f.end u) (each r set_here (stepper_of t)) (all_each r set_here (stepper_of t) (λ (f : Stepper). f.end u ≡ u) ends_well))
+
+    pub step_well : first_unfit r.system r.plan (u - t) ≡ None → P.IsStep r done_here (kept_to u) u
+    step_well fit = record {
+      before_stop = before_here u bound;
+      bound = u;
+      is_bound = bound_here u bound;
+      agree = AllMeet u (kept_to u) u (may_here u fit) met_well refl refl;
+    }
+
+  -- behind it the run stands at the next point
+  pub next_is : (u : ℕ) → P.Departs r done_here (GoesOn (next_here u)) → IsHere r u (each r set_here (λ i c m state. after m state (C.DoStep t (u - t)))) (next_here u)
+  next_is u d = record {
+    point = refl;
+    first = refl;
+    never = done_never;
+    states = next_states u;
+    all = all_on r set_here set_are_all _;
+    reached = B.Onward s V (next_here u) here.reached solves (leads_here (GoesOn (next_here u)) d);
+  }
+
+  module _ (u : ℕ) (bound : IsBoundOf r.plan t u) (steps : List Sent) (answered : IsAnswered (shapes_of r.system) (stepping r.system t u) steps) (replies : AreReplies r set_here steps) where
+    pub step_here : first_unfit r.system r.plan (u - t) ≡ None → P.IsStep r done_here (kept_to u) u
+    step_here fit = step_well u bound (λ i c m state fmu. let one = one_of r set_here (λ (shape : Shape). C.DoStep t (u - t)) steps answered replies i c m state fmu in one.good) fit
+
+    -- an answer asks for the end in both
+    pub asks_here : any_asks_to_end steps ≡ asks_to_end r done_here (kept_to u)
+    asks_here = any_asks r set_here set_are_all (λ (shape : Shape). C.DoStep t (u - t)) steps answered replies
+        ∙ sym (ap (list_any (λ b. b)) (
+        ap (λ (xs : List MachineState). each r xs (λ i c m state. is_terminating (m.look state (step_to done_here.t (kept_at (kept_to u) i))))) departing_here
+        ∙ each_same r set_here (λ i c m state. is_terminating (m.look state (step_to done_here.t (kept_at (kept_to u) i)))) (λ i c m state. is_terminating (m.look state (C.DoStep t (u - t))))
+        (λ i c m state fmu. ap (λ call. is_terminating (m.look state call)) (call_is u i c fmu.component))))
+
+    -- where none does, the step goes on
+    pub goes_on_here : first_unfit r.system r.plan (u - t) ≡ None → any_asks_to_end steps ≡ false → P.Departs r done_here (GoesOn (next_here u))
+    goes_on_here fit none = P.ByStep (GoesOn (next_here u)) (kept_to u) u (step_here fit) (sym asks_here ∙ none) refl
+
+    -- and the run stands at the next point
+    pub goes_here : P.Departs r done_here (GoesOn (next_here u)) → IsHere r u (states_by r set_here steps) (next_here u)
+    goes_here d = subst (λ (xs : List MachineState). IsHere r u xs (next_here u)) (sym (stage_states r set_here (λ (shape : Shape). C.DoStep t (u - t)) steps answered replies)) (next_is u d)

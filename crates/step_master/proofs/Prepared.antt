@@ -1,34 +1,25 @@
 -- A system whose peers have their seats.
 use Rattle.std.proofs.Common.{◌≡◌, ℕ, zero, suc, ◌<◌, ◌≤◌, ◌^◌, false, List, [], ◌∷◌, Option, Some, refl, sym, ap, ap₂, ◌∙◌, subst, arith, length, get_or, map}
-use Rattle.std.specs.Prelude.{All, IsSomeAnd, true}
+use Rattle.std.specs.Prelude.{All, IfSome}
 use Rattle.std.specs.List.{slice_get}
 use Rattle.std.proofs.lemmas.List.{get_or_default, length-map}
 use Rattle.std.proofs.lemmas.List.Elements.{All-cons, All-nil}
 use Rattle.value_types.specs.declared.shape.Shape.{Shape}
-use Rattle.value_types.specs.Shape.{is_clock, is_clock_type}
-use Rattle.value_types.specs.declared.shape.Causality.TheVariants as V
-use Rattle.value_types.specs.declared.shape.Variable.{Variable}
-use Rattle.value_types.specs.declared.values.PortType.{PortType}
-use Rattle.value_types.specs.declared.values.PortType.TheVariants as T
-use Rattle.fmi_calls.specs.Permission.{IsReadable, is_value_type}
 use Rattle.fmi_calls.specs.declared.phase.Phase.{Phase}
 use Rattle.fmi_calls.specs.declared.phase.InstanceState.TheVariants as P
 use Rattle.fmi_calls.specs.Next.{fresh}
 use Rattle.fmu_peer.specs.CloseAll.{Instance}
+use Rattle.fmu_peer.specs.Machine.{IsLawful, IsMachineOf, Machine}
 use Rattle.fmu_peer.specs.View.{View}
 use Rattle.system_model.specs.declared.system.Component.{Component}
-use Rattle.system_model.specs.declared.system.Port.{Port}
-use Rattle.system_model.specs.declared.system.Role.{Role}
-use Rattle.system_model.specs.declared.system.Role.TheVariants.{Input, Output, ClockInput, ClockOutput, TimeClock}
 use Rattle.system_model.specs.declared.system.System.{System}
-use Rattle.calling_sequence.specs.Place.{IsPlain, IsPortOf}
+use Rattle.calling_sequence.specs.Systems.{IsBuilt}
+use Rattle.calling_sequence.specs.Place.{IsPlain}
 use Rattle.step_master.specs.Seats.{IsFresh, seated}
 use Rattle.slot_calls.specs.Stage.{shapes, shapes_of}
-use Rattle.system_model.specs.Ports.{is_clock_role, is_output_role}
-use Rattle.system_model.specs.Sound.{IsRole, IsSound}
-use Rattle.system_model.proofs.SoundLemmas.{Placed, events_of, is_output_of, place_of}
-use Rattle.step_master.specs.System.{ArePeersOf, IsBuilt, IsNew}
-use Rattle.slot_calls.proofs.Answered.{map_at, shape_of}
+use Rattle.system_model.specs.Sound.{IsSound}
+use Rattle.step_master.specs.System.{ArePeersOf, IsNew, TellTheirs}
+use Rattle.slot_calls.proofs.Answered.{map_at}
 use Rattle.step_master.proofs.SeatLemmas.{length_seated}
 
 pub get_here : {A : Type 0} (xs : List A) (i : ℕ) (x : A) → slice_get xs i ≡ Some x → x ≡ get_or xs i x
@@ -109,65 +100,18 @@ module _ (system : System) (views : List View) (peers : ArePeersOf system views)
 pub components_few : (system : System) → IsSound system → length system.components ≤ 2 ^ 32
 components_few system sound = let few = sound.components.few in omega (arith, few)
 
--- ---- ports
-
--- the port is an output of one of the components
-pub record IsOutputOf (system : System) (port : Port) : Type 0 where
-  pub component : Component
-  pub there : slice_get system.components port.component.0 ≡ Some component
-  pub readable : IsReadable component.shape port.kind port.reference
-
-value_type : (kind : PortType) → is_clock_type (Some kind) ≡ false → is_value_type kind ≡ true
-value_type T.Clock h = absurd (cc)
-value_type kind h = refl
-
--- an output without event mode is no Clock
-no_clock : (system : System) (p : ℕ) (port : Port) (placed : Placed system p port) (role : Role) → port.role ≡ role → is_output_role role ≡ true → IsRole placed.component.shape placed.variable role →
-    placed.component.shape.has_event_mode ≡ false → is_clock placed.variable ≡ false
-no_clock system p port placed Output is out has no_event = has.1
-no_clock system p port placed ClockOutput is out has no_event = absurd (let e = events_of system p port placed (ap is_clock_role is) in cc)
-no_clock system p port placed (Input feed) is out has no_event = absurd (cc)
-no_clock system p port placed (ClockInput feed) is out has no_event = absurd (cc)
-no_clock system p port placed (TimeClock timing) is out has no_event = absurd (cc)
-
-module _ (system : System) (sound : IsSound system) (built : IsBuilt system) where
-  pub output_at : (p : ℕ) (port : Port) → slice_get system.ports p ≡ Some port → IsOutputOf system port
-  output_at p port is =
-      let placed = place_of system sound p port is in
-      let out : is_output_role port.role ≡ true = subst (λ (q : Port). is_output_role q.role ≡ true) (sym (get_here system.ports p port is)) (built.outputs p port (is_within system.ports p port is)) in
-      let at = placed.is.of in
-      let no_event : placed.component.shape.has_event_mode ≡ false =
-      subst (λ (c : Component). c.shape.has_event_mode ≡ false) (sym (get_here system.components port.component.0 placed.component at)) (built.no_event port.component.0 placed.component (is_within system.components port.component.0 placed.component at)) in
-      let plain : is_clock placed.variable ≡ false = no_clock system p port placed port.role refl out placed.role no_event in
-      record {
-        component = placed.component;
-        there = at;
-        readable = (
-          value_type port.kind (ap is_clock_type (sym placed.kind) ∙ plain),
-          subst (λ (o : Option Variable). IsSomeAnd o (λ (v : Variable). (v.kind ≡ Some port.kind) × (v.causality ≡ V.Output))) (sym placed.is.there) (placed.kind, is_output_of system p port placed out),
-        );
-      }
-
-  pub outputs_of : All (IsOutputOf system) system.ports
-  outputs_of = λ k d w. let x = got system.ports k w in subst (IsOutputOf system) (get_here system.ports k x.0 x.1 ∙ get_or_default system.ports k x.0 d w) (output_at k x.0 x.1)
-
--- where the shapes are those of the components, each port is one of the instances
-pub ports_all : (system : System) (is : List Instance) → shapes is ≡ shapes_of system → All (IsOutputOf system) system.ports → All (IsPortOf is) system.ports
-ports_all system is same all = λ k d w.
-    let port = get_or system.ports k d in
-    let out : IsOutputOf system port = all k d w in
-    let at = port.component.0 in
-    let a : length (shapes is) ≡ length is = length-map is shape_of in
-    let b : length (shapes_of system) ≡ length system.components = length-map system.components (λ (c : Component). c.shape) in
-    let e : length (shapes is) ≡ length (shapes_of system) = ap length same in
-    let in_components = is_within system.components at out.component out.there in
-    let within : at < length is = omega (arith, a, b, e, in_components) in
-    record {
-      within = within;
-      output = λ i.
-          let x = get_or is at i in
-          let shape_is : x.view.fixed.shape ≡ out.component.shape =
-          map_at shape_of is at x out.component.shape within (get_or_default is at i x within) ∙ ap (λ (ss : List Shape). get_or ss at out.component.shape) same
-          ∙ sym (map_at (λ (c : Component). c.shape) system.components at out.component out.component.shape in_components (get_here system.components at out.component out.there)) in
-          subst (λ (s : Shape). IsReadable s port.kind port.reference) (sym shape_is) out.readable;
-    }
+-- what peers tell are machines of their shapes
+pub tell_theirs : {L : Type 0} (view : L → View) (ps : List L) → ((p : L) → IfSome (view p).fixed.machine (IsMachineOf (view p).fixed.shape)) → ((p : L) → IfSome (view p).fixed.machine (IsLawful (view p).fixed.shape)) →
+    (system : System) → ArePeersOf system (map view ps) → TellTheirs system (map view ps)
+tell_theirs view ps machine lawful system peers i c v m at_c at_v tells =
+    let p = unmapped ps i v at_v in
+    let shape_is : (view p.0).fixed.shape ≡ c.shape = ap (λ (w : View). w.fixed.shape) (sym p.1) ∙ (peers.each i c v at_c at_v).shape_is in
+    let told : (view p.0).fixed.machine ≡ Some m = ap (λ (w : View). w.fixed.machine) (sym p.1) ∙ tells in (
+      subst (λ (s : Shape). IsMachineOf s m) shape_is (subst (λ (o : Option Machine). IfSome o (IsMachineOf (view p.0).fixed.shape)) told (machine p.0)),
+      subst (λ (s : Shape). IsLawful s m) shape_is (subst (λ (o : Option Machine). IfSome o (IsLawful (view p.0).fixed.shape)) told (lawful p.0)),
+    )
+  where
+    unmapped : (xs : List _) (k : ℕ) (y : View) → slice_get (map view xs) k ≡ Some y → (x : _) × (y ≡ view x)
+    unmapped [] k y is = absurd (cc)
+    unmapped (x ∷ xs) zero y is = (x, cc)
+    unmapped (x ∷ xs) (suc k) y is = unmapped xs k y is

@@ -1,7 +1,8 @@
 -- What is given for each FMU of a run.
-use Rattle.std.proofs.Common.{◌≡◌, ℕ, suc, ◌+◌, ◌<◌, Bool, false, List, [], ◌∷◌, Some, refl, ap, ap₂, ◌∙◌, arith, length}
+use Rattle.std.proofs.Common.{◌≡◌, ℕ, zero, suc, ◌+◌, ◌<◌, Bool, false, List, [], ◌∷◌, Some, refl, ap, ap₂, ◌∙◌, arith, length}
 use Rattle.std.specs.Prelude.{◌||◌}
 use Rattle.std.specs.List.{list_any, slice_get}
+use Rattle.std.proofs.lemmas.Option.{same_Some}
 use Rattle.fmu_peer.specs.Machine.{Machine, MachineState}
 use Rattle.system_model.specs.declared.system.Component.{Component}
 use Rattle.run_model.specs.Run.{IsFmu, Run, each, each_from}
@@ -70,6 +71,27 @@ module _ (r : Run) (ss : List MachineState) where
         let m = got r.machines i (let e = all.machines in omega (arith, e, w)) in
         let s = got ss i (let e = all.states in omega (arith, e, w)) in
         (c.0, m.0, s.0, record { component = c.1; machine = m.1; state = s.1 })
+
+from_at : (f : ℕ → Component → Machine → MachineState → MachineState) (k i : ℕ) (cs : List Component) (ms : List Machine) (ss : List MachineState) (c : Component) (m : Machine) (s : MachineState) →
+    slice_get cs i ≡ Some c → slice_get ms i ≡ Some m → slice_get ss i ≡ Some s → slice_get (each_from f k cs ms ss) i ≡ Some (f (k + i) c m s)
+from_at f k i [] ms ss c m s of_c of_m of_s = absurd (cc)
+from_at f k i (x ∷ cs) [] ss c m s of_c of_m of_s = absurd (cc)
+from_at f k i (x ∷ cs) (y ∷ ms) [] c m s of_c of_m of_s = absurd (cc)
+from_at f k zero (x ∷ cs) (y ∷ ms) (z ∷ ss) c m s of_c of_m of_s =
+    let place : k ≡ k + 0 = omega arith in
+    ap Some (ap (λ n. f n x y z) place ∙ ap (λ (w : Component). f (k + 0) w y z) (same_Some _ _ of_c) ∙ ap (λ (w : Machine). f (k + 0) c w z) (same_Some _ _ of_m) ∙ ap (f (k + 0) c m) (same_Some _ _ of_s))
+from_at f k (suc i) (x ∷ cs) (y ∷ ms) (z ∷ ss) c m s of_c of_m of_s =
+    let place : suc k + i ≡ k + suc i = omega arith in from_at f (suc k) i cs ms ss c m s of_c of_m of_s ∙ ap (λ n. Some (f n c m s)) place
+
+-- an FMU in the state that is given for it
+pub fmu_on : (r : Run) (ss : List MachineState) (f : ℕ → Component → Machine → MachineState → MachineState) (i : ℕ) (c : Component) (m : Machine) (s : MachineState) → IsFmu r ss i c m s → IsFmu r (each r ss f) i c m (f i c m s)
+fmu_on r ss f i c m s fmu =
+    let place : 0 + i ≡ i = omega arith in
+    record {
+      component = fmu.component;
+      machine = fmu.machine;
+      state = from_at f 0 i r.system.components r.machines ss c m s fmu.component fmu.machine fmu.state ∙ ap (λ n. Some (f n c m s)) place;
+    }
 
 -- where a test holds of none of the FMUs
 none_from : (f : ℕ → Component → Machine → MachineState → Bool) (k : ℕ) (cs : List Component) (ms : List Machine) (ss : List MachineState) →

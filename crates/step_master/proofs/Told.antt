@@ -14,28 +14,30 @@ use Rattle.system_model.specs.Sound.{IsSound}
 use Rattle.system_model.specs.Text.{Instant}
 use Rattle.run_model.specs.Run.{Run}
 use Rattle.run_model.specs.Initial as I
+use Rattle.run_model.specs.Machines.{AreMachines}
 use Rattle.run_model.specs.Stepping as P
 use Rattle.run_model.specs.Stepping.{Ends}
 use Rattle.run_model.specs.Trace.{IsTrace}
 use Rattle.calling_sequence.specs.declared.run_end.RunEnd.{RunEnd}
 use Rattle.calling_sequence.specs.declared.run_end.RunEnd.TheVariants as E
-use Rattle.calling_sequence.specs.Course.{Finishes, Interrupted, Seen, WhereAsked, WhereFixed, kind_of_end, read_at, trace_pieces}
+use Rattle.run_model.proofs.InitiallySolvable.{solvable_initially}
+use Rattle.calling_sequence.specs.Course.{Departs, Finishes, Interrupted, Seen, WhereAsked, WhereFixed, instant_at, kind_of_end, trace_pieces}
 use Rattle.calling_sequence.specs.Ends.{EndsBy, PutsWhole}
 use Rattle.step_master.specs.Lived.{Account, Lived}
 use Rattle.slot_calls.specs.Replies.{RepliesBy}
 use Rattle.step_master.specs.Lives.{AreLives, IsLife, Life}
 use Rattle.slot_calls.specs.Log.{Sent}
 use Rattle.calling_sequence.specs.Puts.{CutsPiece, with_pieces}
-use Rattle.step_master.specs.System.{IsBuilt, IsUnbound}
+use Rattle.calling_sequence.specs.Systems.{IsBuilt}
+use Rattle.step_master.specs.System.{IsUnbound, TellTheirs}
 use Rattle.step_master.specs.Traced.{AtFirst, Before, CameTo, CutsFront, IsFront, PutsRun, PutsTrace, TellMachines, ToldRun}
 use Rattle.step_master.proofs.Begun.{made_states}
-use Rattle.step_master.proofs.Followed.{front_seen, reaches, sees_all, trace_seen}
+use Rattle.step_master.proofs.Followed.{front_seen, reaches, sees_all, sets_all, steps_end, trace_seen}
 use Rattle.slot_calls.specs.Replies.{AreReplies, states_by}
 use Rattle.slot_calls.proofs.Replying.{replies_front}
 use Rattle.step_master.proofs.Looking.{replies_first, replies_then}
-use Rattle.step_master.proofs.Onward.{asks_here, kept_to, lacks_here, step_here}
+use Rattle.step_master.proofs.Onward.{lacks_here}
 use Rattle.step_master.proofs.Prepared.{get_here, got, is_within}
-use Rattle.step_master.proofs.Quiet.{nones, solves_initially}
 
 -- ---- lists
 
@@ -61,6 +63,17 @@ machines_of system olds news log lives machines are tell =
     tell.count ∙ sym (ap length are.olds_are) ∙ length-map lives (λ (l : Life). l.old)
     ∙ sym (length-map lives (λ (l : Life). l.source)) ∙ ap length are.sources_are ∙ length-map system.components (λ (c : Component). c.source.0)
 
+-- which are machines of their shapes
+pub are_machines : (r : Run) (olds news : List View) (log : List Sent) (lives : List Life) → AreLives r.system olds news log lives → TellMachines olds r.machines → TellTheirs r.system olds → AreMachines r
+are_machines r olds news log lives are tell theirs =
+    let count = machines_of r.system olds news log lives r.machines are tell in
+    record {
+      count = count;
+      each = λ i c m at_c at_m.
+          let v = got olds i (let w = is_within r.system.components i c at_c in let e = tell.count in omega (arith, w, e, count)) in
+          theirs i c v.0 m at_c v.1 (tell.each i v.0 m v.1 at_m).0;
+    }
+
 -- the replies of each are its own
 pub replies_of : (r : Run) (olds news : List View) (log : List Sent) (lives : List Life) → AreLives r.system olds news log lives → TellMachines olds r.machines → AreReplies r (I.first_states r) log
 replies_of r olds news log lives are tell i c m s fmu =
@@ -79,57 +92,57 @@ replies_of r olds news log lives are tell i c m s fmu =
 
 -- ---- the end
 
-module _ (r : Run) (sound : IsSound r.system) (built : IsBuilt r.system) (unbound : IsUnbound r.bound) (machines : length r.machines ≡ length r.system.components) where
+module _ (r : Run) (sound : IsSound r.system) (built : IsBuilt r.system) (machines : AreMachines r) (unbound : IsUnbound r.bound) where
   abbrev first : List MachineState
   first = I.instantiated r
 
   -- before the first instant
   pub front_none : IsFront r []
-  front_none = Before (I.beginning r (nones r sound built)) (AtFirst (I.beginning r (nones r sound built)) [] (nones r sound built) (solves_initially r sound built) refl refl)
+  front_none = let W = solvable_initially r sound machines in Before (I.beginning r W.0) (AtFirst (I.beginning r W.0) [] W.0 W.1 refl refl)
 
   seen_front : (t : ℕ) (log : List Sent) (is : List Instant) → Seen r.system r.plan t log is → AreReplies r first log → IsFront r is
-  seen_front t log is seen replies = front_seen r sound built t log is (sees_all r sound built unbound machines t log is seen replies)
+  seen_front t log is seen replies = front_seen r sound built machines t log is seen.values (sees_all r sound built machines unbound t log is seen replies)
 
   -- in front of the last calls
   front_replies : (log before more : List Sent) → log ≡ before ++ more → AreReplies r first log → AreReplies r first before
   front_replies log before more is replies = replies_first r first before more (subst (AreReplies r first) is replies)
 
+  departs_front : (t to : ℕ) (log : List Sent) (is : List Instant) → Departs r.system r.plan t to log is → AreReplies r first log → IsFront r is
+  departs_front t to log is d replies = seen_front t d.before is d.seen (front_replies log d.before d.sets d.log_is replies)
+
   -- the instants so far are a front of the run
   pub finish_front : (end : RunEnd) (point : ℕ) (log : List Sent) (is : List Instant) → Finishes r.system r.plan end point log is → AreReplies r first log → IsFront r is
   finish_front E.Stop point log is f replies = seen_front r.plan.stop log is f.1 replies
-  finish_front (E.Asked at) point log is f replies = let w = f.1 in seen_front w.from w.before is w.seen (front_replies log w.before w.steps w.log_is replies)
+  finish_front (E.Asked at) point log is f replies = let w = f.1 in departs_front w.from at w.before is w.departs (front_replies log w.before w.steps w.log_is replies)
   finish_front (E.EventLimit at) point log is f replies = absurd f
   finish_front (E.FixedStep component at end) point log is f replies = seen_front at log is f.1.seen replies
   finish_front (E.Bad bad) point log is (inl w) replies = subst (IsFront r) (sym w.is_is) front_none
   finish_front (E.Bad bad) point log is (inr (inl w)) replies =
-      let x = reaches r sound built unbound machines point w.before is w.came (front_replies log w.before w.reads w.log_is replies) in Before x.s x.came
-  finish_front (E.Bad bad) point log is (inr (inr w)) replies = seen_front point w.before is w.seen (front_replies log w.before w.steps w.log_is replies)
+      let x = reaches r sound built machines unbound point w.before is w.came (front_replies log w.before w.reads w.log_is replies) in Before x.s x.came
+  finish_front (E.Bad bad) point log is (inr (inr (inl w))) replies = seen_front point w.before is w.seen (front_replies log w.before w.sets w.log_is replies)
+  finish_front (E.Bad bad) point log is (inr (inr (inr w))) replies = departs_front point w.to w.before is w.departs (front_replies log w.before w.steps w.log_is replies)
   finish_front E.WriteFault point log is f replies = absurd f
 
   -- at the stop
   pub stop_trace : (log : List Sent) (is : List Instant) → Seen r.system r.plan r.plan.stop log is → AreReplies r first log → IsTrace r is K.Stop r.plan.stop
   stop_trace log is seen replies =
-      let x = sees_all r sound built unbound machines r.plan.stop log is seen replies in
-      trace_seen r sound built r.plan.stop log is x K.Stop r.plan.stop (P.AtStop (Ends K.Stop r.plan.stop) x.here.point (ap (Ends K.Stop) (sym x.here.point)))
+      let x = sees_all r sound built machines unbound r.plan.stop log is seen replies in
+      trace_seen r sound built machines r.plan.stop log is seen.values x K.Stop r.plan.stop (P.AtStop (Ends K.Stop r.plan.stop) x.here.point (ap (Ends K.Stop) (sym x.here.point)))
 
   -- where an answer asked for it
   pub asked_trace : (point : ℕ) (log : List Sent) (is : List Instant) → WhereAsked r.system r.plan point log is → AreReplies r first log → IsTrace r is K.Asked point
   asked_trace point log is w replies =
       let on = subst (AreReplies r first) w.log_is replies in
-      let x = sees_all r sound built unbound machines w.from w.before is w.seen (replies_first r first w.before w.steps on) in
-      let ss = states_by r first w.before in
-      let rest = replies_then r first w.before w.steps x.good on in
-      trace_seen r sound built w.from w.before is x K.Asked point
-      (P.WhereAsked (Ends K.Asked point) (kept_to r sound built w.from ss x.s x.here point) point
-      (step_here r sound built w.from ss x.s x.here point w.step.bound w.steps w.answered rest w.step.fit)
-      (sym (asks_here r sound built w.from ss x.s x.here point w.step.bound w.steps w.answered rest) ∙ w.asks) refl)
+      let x = sets_all r sound built machines unbound w.from point w.before is w.departs (replies_first r first w.before w.steps on) in
+      trace_seen r sound built machines w.from x.before is w.departs.seen.values x.seen K.Asked point
+      (steps_end r sound built machines w.from point w.before w.steps is w.departs.seen.values x w.departs.step w.answered on w.asks)
 
   -- where a component takes no such step
   pub fixed_trace : (component at end : ℕ) (log : List Sent) (is : List Instant) → WhereFixed r.system r.plan component at end log is → AreReplies r first log → IsTrace r is K.Fixed at
   fixed_trace component at end log is w replies =
-      let x = sees_all r sound built unbound machines at log is w.seen replies in
-      trace_seen r sound built at log is x K.Fixed at
-      (P.WhereFixed (Ends K.Fixed at) component end (lacks_here r sound built at (states_by r first log) x.s x.here end component w.bound w.unfit) (ap (Ends K.Fixed) (sym x.here.point)))
+      let x = sees_all r sound built machines unbound at log is w.seen replies in
+      trace_seen r sound built machines at log is w.seen.values x K.Fixed at
+      (P.WhereFixed (Ends K.Fixed at) component end (lacks_here r sound built at (states_by r first log) x.s x.here w.seen.values x.solves end component w.bound w.unfit) (ap (Ends K.Fixed) (sym x.here.point)))
 
 -- ---- the law
 
@@ -141,8 +154,8 @@ module _ (r : Run) (b : Account) (sound : IsSound r.system) (built : IsBuilt r.s
   abbrev a : Account
   a = account r.system r.plan b
 
-  machines : length r.machines ≡ length r.system.components
-  machines = machines_of r.system b.olds b.news (lived.made ++ lived.log) lived.lives r.machines lived.are tell
+  machines : AreMachines r
+  machines = are_machines r b.olds b.news (lived.made ++ lived.log) lived.lives lived.are tell lived.machines
 
   all_replies : AreReplies r (I.first_states r) (lived.made ++ lived.log)
   all_replies = replies_of r b.olds b.news (lived.made ++ lived.log) lived.lives lived.are tell
@@ -166,36 +179,36 @@ module _ (r : Run) (b : Account) (sound : IsSound r.system) (built : IsBuilt r.s
   cut_front : (pieces : List (List ℕ)) (piece : List ℕ) → CutsPiece (with_pieces b.before pieces) piece b.after → Interrupted r.system r.plan lived.log lived.is pieces piece → CutsFront a r
   cut_front pieces piece cut (inl h) = record {
     is = lived.is;
-    front = subst (IsFront r) (sym h.is_is) (front_none r sound built unbound machines);
+    front = subst (IsFront r) (sym h.is_is) (front_none r sound built machines unbound);
     counted = lived.counted;
     cut = inl (subst (λ (p : List ℕ). CutsPiece b.before p b.after) h.piece_is (subst (λ (ps : List (List ℕ)). CutsPiece (with_pieces b.before ps) piece b.after) h.pieces_are cut));
   }
   cut_front pieces piece cut (inr (inl i)) =
-      let all = seen_front r sound built unbound machines i.t lived.log (lived.is ++ i.i ∷ []) i.seen replies in
-      let old = reaches r sound built unbound machines i.t i.seen.before i.seen.earlier i.seen.came (front_replies r sound built unbound machines lived.log i.seen.before i.seen.reads i.seen.log_is replies) in
+      let all = seen_front r sound built machines unbound i.t lived.log (lived.is ++ i.i ∷ []) i.seen replies in
+      let old = reaches r sound built machines unbound i.t i.seen.before i.seen.earlier i.seen.came (front_replies r sound built machines unbound lived.log i.seen.before i.seen.reads i.seen.log_is replies) in
       record {
         is = lived.is;
-        front = Before old.s (subst (CameTo r old.s) (sym (same_front lived.is i.seen.earlier i.i (read_at i.t i.seen.reads) i.seen.is_is)) old.came);
+        front = Before old.s (subst (CameTo r old.s) (sym (same_front lived.is i.seen.earlier i.i (instant_at i.t i.seen.values) i.seen.is_is)) old.came);
         counted = lived.counted;
         cut = inr (piece, inl (i.i, all, i.piece_is), subst (λ (ps : List (List ℕ)). CutsPiece (with_pieces b.before ps) piece b.after) i.pieces_are cut);
       }
   cut_front pieces piece cut (inr (inr e)) = record {
     is = lived.is;
-    front = finish_front r sound built unbound machines e.end e.point lived.log lived.is e.finishes replies;
+    front = finish_front r sound built machines unbound e.end e.point lived.log lived.is e.finishes replies;
     counted = lived.counted;
     cut = inr (piece, inr (kind_of_end e.end, e.point, e.piece_is), subst (λ (ps : List (List ℕ)). CutsPiece (with_pieces b.before ps) piece b.after) e.pieces_are cut);
   }
 
   puts_run : (end : RunEnd) → EndsBy r.system r.plan lived.log lived.is end b.before b.after → PutsRun a r end
-  puts_run E.Stop (point, f, put) = puts_trace E.Stop point r.plan.stop put f.0 (stop_trace r sound built unbound machines lived.log lived.is f.1 replies)
-  puts_run (E.Asked at) (point, f, put) = puts_trace (E.Asked at) point at put f.0 (asked_trace r sound built unbound machines at lived.log lived.is f.1 replies)
+  puts_run E.Stop (point, f, put) = puts_trace E.Stop point r.plan.stop put f.0 (stop_trace r sound built machines unbound lived.log lived.is f.1 replies)
+  puts_run (E.Asked at) (point, f, put) = puts_trace (E.Asked at) point at put f.0 (asked_trace r sound built machines unbound at lived.log lived.is f.1 replies)
   puts_run (E.EventLimit at) (point, f, put) = absurd f
   puts_run (E.FixedStep component at end) (point, f, put) =
-      puts_trace (E.FixedStep component at end) point at put f.0 (fixed_trace r sound built unbound machines component.0 at end lived.log lived.is f.1 replies)
+      puts_trace (E.FixedStep component at end) point at put f.0 (fixed_trace r sound built machines unbound component.0 at end lived.log lived.is f.1 replies)
   puts_run (E.Bad bad) (point, f, put) = record {
     is = lived.is;
     point = point;
-    front = finish_front r sound built unbound machines (E.Bad bad) point lived.log lived.is f replies;
+    front = finish_front r sound built machines unbound (E.Bad bad) point lived.log lived.is f replies;
     text = record { counted = lived.counted; put = put };
   }
   puts_run E.WriteFault w = cut_front w.pieces w.piece w.cuts w.interrupted

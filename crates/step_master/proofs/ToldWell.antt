@@ -19,6 +19,7 @@ use Rattle.system_model.specs.Sound.{IsSound}
 use Rattle.system_model.specs.Text.{Instant, end_text}
 use Rattle.run_model.specs.Behaved.{WellBehaved}
 use Rattle.run_model.specs.Initial as I
+use Rattle.run_model.specs.Machines.{AreMachines}
 use Rattle.run_model.specs.Run.{Run}
 use Rattle.run_model.specs.Steps.{OnStop}
 use Rattle.run_model.specs.Trace.{IsTrace, instant_of}
@@ -31,21 +32,23 @@ use Rattle.step_master.specs.Lived.{Account, Lived, Unmade}
 use Rattle.step_master.specs.Lives.{AreLives, IsLife, Life, is_unanswered, talk_in}
 use Rattle.slot_calls.specs.Log.{Sent, part}
 use Rattle.calling_sequence.specs.Puts.{CutsPiece, with_pieces}
+use Rattle.run_model.proofs.InitiallySolvable.{solvable_initially}
 use Rattle.calling_sequence.specs.Plans.{IsPlan}
-use Rattle.step_master.specs.System.{IsBuilt, IsUnbound}
-use Rattle.step_master.specs.Traced.{AtFirst, CameTo, CutsTrace, PutsRun, SomeRose, TellMachines, ToldTrace, ToldUnmade, TracesWell}
+use Rattle.calling_sequence.specs.Systems.{IsBuilt}
+use Rattle.step_master.specs.System.{IsUnbound}
+use Rattle.step_master.specs.Traced.{AtFirst, CutsTrace, PutsRun, SomeRose, TellMachines, ToldTrace, ToldUnmade, TracesWell}
 use Rattle.calling_sequence.proofs.Chains.{same, takes}
-use Rattle.step_master.proofs.Existing.{reached_of, rest_from}
-use Rattle.step_master.proofs.Followed.{reaches, sees_all, traced_on}
+use Rattle.step_master.proofs.Begun.{begins_at}
+use Rattle.step_master.proofs.Existing.{rest_from, solution}
+use Rattle.step_master.proofs.Followed.{reaches, sees_all, sets_all, traced_on}
 use Rattle.step_master.proofs.Links.{IsLost, lost_behind}
 use Rattle.slot_calls.proofs.Logs.{part_append}
 use Rattle.slot_calls.specs.Replies.{AreReplies, states_by}
 use Rattle.step_master.proofs.Looking.{replies_first, replies_then}
 use Rattle.step_master.proofs.Prepared.{get_here, got}
-use Rattle.step_master.proofs.Quiet.{beginning_never, beginning_states, made_all, nones, outputs, solves_initially}
-use Rattle.step_master.proofs.SideBySide.{AreAll, all_on}
-use Rattle.step_master.proofs.Told.{asked_trace, fixed_trace, machines_of, puts, replies, replies_of, stop_trace}
-use Rattle.step_master.proofs.Well.{lost_initializing, lost_making, lost_reading, lost_stepping}
+use Rattle.step_master.proofs.Quiet.{set_all}
+use Rattle.step_master.proofs.Told.{are_machines, asked_trace, fixed_trace, machines_of, puts, replies, replies_of, stop_trace}
+use Rattle.step_master.proofs.Well.{lost_initializing, lost_making, lost_reading, lost_setting, lost_stepping}
 
 -- ---- a call that failed
 
@@ -97,73 +100,83 @@ told_unmade system olds news bad r sound run well u = unmade_by r olds news bad 
 
 -- a run's points are between start and stop
 came_within : (system : System) (plan : Plan) (t : ℕ) (log : List Sent) (is : List Instant) → IsPlan plan → Came system plan t log is → (plan.start ≤ t) × (t ≤ plan.stop)
-came_within system plan _ _ _ p (AtStart t log is answered at none) = (omega (arith, at), let o = p.ordered in omega (arith, at, o))
-came_within system plan _ _ _ p (ByStep t log is from before reads steps js came read step answered asks log_is is_is) =
+came_within system plan _ _ _ p (AtStart t log is initialized at none) = (omega (arith, at), let o = p.ordered in omega (arith, at, o))
+came_within system plan _ _ _ p (ByStep t log is from values before reads sets steps js came read step set answered asks log_is is_is) =
     let old = came_within system plan from before js p came in
     let begun = old.0 in
     let later = step.bound.bound.later in
     (omega (arith, begun, later), step.bound.bound.least plan.stop step.bound.before_stop (OnStop refl))
 
-module _ (r : Run) (sound : IsSound r.system) (built : IsBuilt r.system) where
-  module _ (unbound : IsUnbound r.bound) (machines : length r.machines ≡ length r.system.components) (well : WellBehaved r) where
-    abbrev first : List MachineState
-    first = I.instantiated r
+module _ (r : Run) (sound : IsSound r.system) (built : IsBuilt r.system) (machines : AreMachines r) (unbound : IsUnbound r.bound) (well : WellBehaved r) where
+  abbrev first : List MachineState
+  first = I.instantiated r
 
-    abbrev count : ℕ
-    count = length r.system.components
+  abbrev count : ℕ
+  count = length r.system.components
 
-    -- a bad answer that ends the run was lost
-    pub finish_lost : (bad : BadAnswer) (point : ℕ) (log : List Sent) (is : List Instant) → Finishes r.system r.plan (E.Bad bad) point log is → AreReplies r first log → IsLost count log bad.why
-    finish_lost bad point log is (inl w) told = lost_initializing r sound built well unbound machines bad log told w.stops
-    finish_lost bad point log is (inr (inl w)) told =
-        let on = subst (AreReplies r first) w.log_is told in
-        let x = reaches r sound built unbound machines point w.before is w.came (replies_first r first w.before w.reads on) in
-        subst (λ (l : List Sent). IsLost count l bad.why) (sym w.log_is)
-        (lost_behind count w.before w.reads bad.why
-        (lost_reading r sound built well point (states_by r first w.before) x.s x.here (reached_of r x.s is x.came) bad w.reads (replies_then r first w.before w.reads x.good on) w.stops))
-    finish_lost bad point log is (inr (inr w)) told =
-        let on = subst (AreReplies r first) w.log_is told in
-        let x = sees_all r sound built unbound machines point w.before is w.seen (replies_first r first w.before w.steps on) in
-        subst (λ (l : List Sent). IsLost count l bad.why) (sym w.log_is)
-        (lost_behind count w.before w.steps bad.why
-        (lost_stepping r sound built well point (states_by r first w.before) x.s x.here (reached_of r x.s x.earlier x.came) bad w.steps (replies_then r first w.before w.steps x.good on) w.to w.step w.fails))
+  -- a bad answer that ends the run was lost
+  pub finish_lost : (bad : BadAnswer) (point : ℕ) (log : List Sent) (is : List Instant) → Finishes r.system r.plan (E.Bad bad) point log is → AreReplies r first log → IsLost count log bad.why
+  finish_lost bad point log is (inl w) told = lost_initializing r sound built machines well unbound bad log told w.stops
+  finish_lost bad point log is (inr (inl w)) told =
+      let on = subst (AreReplies r first) w.log_is told in
+      let x = reaches r sound built machines unbound point w.before is w.came (replies_first r first w.before w.reads on) in
+      let found = solution r sound built machines point (states_by r first w.before) x.s x.here in
+      subst (λ (l : List Sent). IsLost count l bad.why) (sym w.log_is)
+      (lost_behind count w.before w.reads bad.why
+      (lost_reading r sound built machines well point (states_by r first w.before) x.s x.here found.0 found.1 bad w.earlier w.values w.reads (replies_then r first w.before w.reads x.good on) w.stops))
+  finish_lost bad point log is (inr (inr (inl w))) told =
+      let on = subst (AreReplies r first) w.log_is told in
+      let x = sees_all r sound built machines unbound point w.before is w.seen (replies_first r first w.before w.sets on) in
+      subst (λ (l : List Sent). IsLost count l bad.why) (sym w.log_is)
+      (lost_behind count w.before w.sets bad.why
+      (lost_setting r sound built machines well point (states_by r first w.before) x.s x.here w.seen.values x.solves bad w.to w.step w.sets (replies_then r first w.before w.sets x.good on) w.stops))
+  finish_lost bad point log is (inr (inr (inr w))) told =
+      let on = subst (AreReplies r first) w.log_is told in
+      let x = sets_all r sound built machines unbound point w.to w.before is w.departs (replies_first r first w.before w.steps on) in
+      let inside : AreReplies r (set_all r w.departs.seen.values (states_by r first x.before)) w.steps =
+      subst (λ (ss : List MachineState). AreReplies r ss w.steps) x.states (replies_then r first w.before w.steps x.good on) in
+      subst (λ (l : List Sent). IsLost count l bad.why) (sym w.log_is)
+      (lost_behind count w.before w.steps bad.why
+      (lost_stepping r sound built machines well point (states_by r first x.before) x.seen.s x.seen.here w.departs.seen.values x.seen.solves bad w.to w.departs.step w.steps inside w.fails))
 
-    module _ (plan : IsPlan r.plan) where
-      -- the trace behind these instants
-      pub record Whole (front : List Instant) : Type 0 where
-        pub kind : EndKind
-        pub point : ℕ
-        pub rest : List Instant
-        pub trace : IsTrace r (front ++ rest) kind point
+  module _ (plan : IsPlan r.plan) where
+    -- the trace behind these instants
+    pub record Whole (front : List Instant) : Type 0 where
+      pub kind : EndKind
+      pub point : ℕ
+      pub rest : List Instant
+      pub trace : IsTrace r (front ++ rest) kind point
 
-      begins_all : AreAll r (I.beginning r (nones r sound built)).states
-      begins_all = subst (AreAll r) (sym (beginning_states r sound built unbound machines)) (all_on r _ (all_on r first (made_all r sound built unbound machines) _) _)
+    -- there is one
+    pub whole_none : Whole []
+    whole_none =
+        let W = solvable_initially r sound machines in
+        let s = I.beginning r W.0 in
+        let here = begins_at r sound built unbound machines W.0 W.1 in
+        let V = solution r sound built machines r.plan.start s.states s here in
+        let rest = rest_from r sound built machines well plan r.plan.start s.states s here (omega arith) plan.ordered V.0 V.1 in
+        record {
+          kind = rest.kind;
+          point = rest.end;
+          rest = instant_of s V.0 ∷ rest.rest;
+          trace = traced_on r rest.kind rest.end s [] (instant_of s V.0 ∷ rest.rest) (AtFirst s [] W.0 W.1 refl refl) rest.on;
+        }
 
-      -- there is one
-      pub whole_none : Whole []
-      whole_none =
-          let s = I.beginning r (nones r sound built) in
-          let V = outputs r sound built s.states in
-          let came : CameTo r s [] = AtFirst s [] (nones r sound built) (solves_initially r sound built) refl refl in
-          let rest = rest_from r sound built well plan r.plan.start s.states s
-          (record { point = refl; first = refl; never = beginning_never r sound built (nones r sound built); states = refl; all = begins_all }) (reached_of r s [] came) (omega arith) plan.ordered in
-          record { kind = rest.kind; point = rest.end; rest = instant_of s V ∷ rest.rest; trace = traced_on r rest.kind rest.end s [] (instant_of s V ∷ rest.rest) came rest.on }
-
-      -- and one behind what was seen
-      pub whole_seen : (t : ℕ) (log : List Sent) (is : List Instant) → Seen r.system r.plan t log is → AreReplies r first log → Whole is
-      whole_seen t log is seen told =
-          let x = sees_all r sound built unbound machines t log is seen told in
-          let V = outputs r sound built (states_by r first log) in
-          let between = came_within r.system r.plan t seen.before seen.earlier plan seen.came in
-          let rest = rest_from r sound built well plan t (states_by r first log) x.s x.here (reached_of r x.s x.earlier x.came) between.0 between.1 in
-          record {
-            kind = rest.kind;
-            point = rest.end;
-            rest = rest.rest;
-            trace = subst (λ (xs : List Instant). IsTrace r xs rest.kind rest.end)
-                (sym (append_assoc x.earlier (instant_of x.s V ∷ []) rest.rest) ∙ ap (λ (xs : List Instant). xs ++ rest.rest) (sym x.is_is))
-                (traced_on r rest.kind rest.end x.s x.earlier (instant_of x.s V ∷ rest.rest) x.came rest.on);
-          }
+    -- and one behind what was seen
+    pub whole_seen : (t : ℕ) (log : List Sent) (is : List Instant) → Seen r.system r.plan t log is → AreReplies r first log → Whole is
+    whole_seen t log is seen told =
+        let x = sees_all r sound built machines unbound t log is seen told in
+        let V = seen.values in
+        let between = came_within r.system r.plan t seen.before seen.earlier plan seen.came in
+        let rest = rest_from r sound built machines well plan t (states_by r first log) x.s x.here between.0 between.1 V x.solves in
+        record {
+          kind = rest.kind;
+          point = rest.end;
+          rest = rest.rest;
+          trace = subst (λ (xs : List Instant). IsTrace r xs rest.kind rest.end)
+              (sym (append_assoc x.earlier (instant_of x.s V ∷ []) rest.rest) ∙ ap (λ (xs : List Instant). xs ++ rest.rest) (sym x.is_is))
+              (traced_on r rest.kind rest.end x.s x.earlier (instant_of x.s V ∷ rest.rest) x.came rest.on);
+        }
 
 -- ---- the law
 
@@ -182,15 +195,15 @@ module _ (r : Run) (b : Account) (sound : IsSound r.system) (built : IsBuilt r.s
   abbrev a : Account
   a = account r.system r.plan b
 
-  machines : length r.machines ≡ length r.system.components
-  machines = machines_of r.system b.olds b.news (lived.made ++ lived.log) lived.lives r.machines lived.are tell
+  machines : AreMachines r
+  machines = are_machines r b.olds b.news (lived.made ++ lived.log) lived.lives lived.are tell lived.machines
 
   told : AreReplies r (I.instantiated r) lived.log
   told = replies r b sound built unbound tell lived
 
   bad_end : (bad : BadAnswer) (point : ℕ) → Finishes r.system r.plan (E.Bad bad) point lived.log lived.is → IsLink bad.why × SomeRose b.olds b.news
   bad_end bad point f =
-      let lost = finish_lost r sound built unbound machines well bad point lived.log lived.is f told in
+      let lost = finish_lost r sound built machines unbound well bad point lived.log lived.is f told in
       (lost.link, rose_of r.system b.olds b.news (lived.made ++ lived.log) lived.lives bad.why lived.are (lost_behind (length r.system.components) lived.made lived.log bad.why lost))
 
   module _ (pieces : List (List ℕ)) (piece : List ℕ) (cut : CutsPiece (with_pieces b.before pieces) piece b.after) where
@@ -211,21 +224,21 @@ module _ (r : Run) (b : Account) (sound : IsSound r.system) (built : IsBuilt r.s
     -- the put of an end line
     cut_end : (end : RunEnd) (point : ℕ) → Finishes r.system r.plan end point lived.log lived.is → pieces ≡ pieces_of r.system r.plan lived.is → piece ≡ end_text (kind_of_end end) point → SomeRose b.olds b.news ⊎ CutsTrace a r
     cut_end E.Stop point f pieces_are piece_is =
-        inr (cut_trace lived.is K.Stop point (subst (IsTrace r lived.is K.Stop) (sym f.0) (stop_trace r sound built unbound machines lived.log lived.is f.1 told)) [] _ _ pieces_are piece_is refl)
+        inr (cut_trace lived.is K.Stop point (subst (IsTrace r lived.is K.Stop) (sym f.0) (stop_trace r sound built machines unbound lived.log lived.is f.1 told)) [] _ _ pieces_are piece_is refl)
     cut_end (E.Asked at) point f pieces_are piece_is =
-        inr (cut_trace lived.is K.Asked point (subst (IsTrace r lived.is K.Asked) (sym f.0) (asked_trace r sound built unbound machines at lived.log lived.is f.1 told)) [] _ _ pieces_are piece_is refl)
+        inr (cut_trace lived.is K.Asked point (subst (IsTrace r lived.is K.Asked) (sym f.0) (asked_trace r sound built machines unbound at lived.log lived.is f.1 told)) [] _ _ pieces_are piece_is refl)
     cut_end (E.EventLimit at) point f pieces_are piece_is = absurd f
     cut_end (E.FixedStep component at end) point f pieces_are piece_is =
-        inr (cut_trace lived.is K.Fixed point (subst (IsTrace r lived.is K.Fixed) (sym f.0) (fixed_trace r sound built unbound machines component.0 at end lived.log lived.is f.1 told)) [] _ _ pieces_are piece_is refl)
+        inr (cut_trace lived.is K.Fixed point (subst (IsTrace r lived.is K.Fixed) (sym f.0) (fixed_trace r sound built machines unbound component.0 at end lived.log lived.is f.1 told)) [] _ _ pieces_are piece_is refl)
     cut_end (E.Bad bad) point f pieces_are piece_is = inl (bad_end bad point f).1
     cut_end E.WriteFault point f pieces_are piece_is = absurd f
 
     cuts : Interrupted r.system r.plan lived.log lived.is pieces piece → SomeRose b.olds b.news ⊎ CutsTrace a r
     cuts (inl h) =
-        let w = whole_none r sound built unbound machines well plan in
+        let w = whole_none r sound built machines unbound well plan in
         inr (cut_trace w.rest w.kind w.point w.trace (map text_of w.rest ++ end_text w.kind w.point ∷ []) [] (header_of r.system r.plan) h.pieces_are h.piece_is refl)
     cuts (inr (inl i)) =
-        let w = whole_seen r sound built unbound machines well plan i.t lived.log (lived.is ++ i.i ∷ []) i.seen told in
+        let w = whole_seen r sound built machines unbound well plan i.t lived.log (lived.is ++ i.i ∷ []) i.seen told in
         let trace : IsTrace r (lived.is ++ i.i ∷ w.rest) w.kind w.point = subst (λ (xs : List Instant). IsTrace r xs w.kind w.point) (append_assoc lived.is (i.i ∷ []) w.rest) w.trace in
         inr (cut_trace (lived.is ++ i.i ∷ w.rest) w.kind w.point trace (map text_of w.rest ++ end_text w.kind w.point ∷ []) (pieces_of r.system r.plan lived.is) (text_of i.i) i.pieces_are i.piece_is
         (pieces_behind r.system r.plan lived.is i.i w.rest w.kind w.point))

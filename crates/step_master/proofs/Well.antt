@@ -1,35 +1,69 @@
 -- The calls of a run of machines that behave well are answered well, each where the run comes to it.
-use Rattle.std.proofs.Common.{◌≡◌, ℕ, ◌-◌, List, [], ◌∷◌, ◌++◌, Some, refl, sym, ap, ◌∙◌, subst, append_assoc, length}
-use Rattle.std.specs.Prelude.{All}
-use Rattle.std.specs.List.{slice_get}
+use Rattle.std.proofs.Common.{◌≡◌, ℕ, suc, ◌-◌, ◌==◌, ℤ, Bool, true, false, inl, inr, List, [], ◌∷◌, ◌++◌, Option, Some, None, refl, sym, ap, ◌∙◌, subst, append_assoc, arith, length}
+use Rattle.std.specs.Prelude.{All, IfSome, IsSomeAnd, if◌then◌else◌, option_map}
+use Rattle.std.specs.List.{AllZip, slice_get}
+use Rattle.std.proofs.lemmas.Bool.{eqb-true}
 use Rattle.std.proofs.lemmas.List.{length-map}
+use Rattle.std.proofs.lemmas.List.Elements.{All-head, All-tail}
+use Rattle.std.proofs.lemmas.Option.{same_Some}
+use Rattle.value_types.specs.Shape.{variable_at}
+use Rattle.value_types.specs.Values.{Fits}
+use Rattle.value_types.specs.declared.shape.Causality.TheVariants as V
 use Rattle.value_types.specs.declared.shape.Shape.{Shape}
+use Rattle.value_types.specs.declared.shape.Variable.{Variable}
+use Rattle.fmi_calls.specs.declared.call.Call.{Call}
 use Rattle.fmi_calls.specs.declared.call.Call.TheVariants as C
-use Rattle.fmu_peer.specs.Machine.{Machine, MachineState, after}
+use Rattle.fmi_calls.specs.Permission.{is_value_type}
+use Rattle.fmi_calls.specs.Worth.{grade_of}
+use Rattle.fmu_peer.specs.declared.peer.Exchange.{Exchange}
+use Rattle.fmu_peer.specs.Machine.{Machine, MachineState, after, written}
 use Rattle.fmu_peer.specs.Mode.{instantiate_of}
+use Rattle.system_model.specs.declared.system.Component.{Component}
 use Rattle.system_model.specs.declared.system.Port.{Port}
 use Rattle.system_model.specs.declared.system.Role.{Role}
+use Rattle.system_model.specs.declared.system.Role.TheVariants.{Input, Output, ClockInput, ClockOutput, TimeClock}
+use Rattle.system_model.specs.Ports.{is_output_role, numbers, source_of}
 use Rattle.system_model.specs.Sound.{IsSound}
-use Rattle.system_model.proofs.SoundLemmas.{place_of}
-use Rattle.run_model.specs.Behaved.{AnswersAt, AnswersWell, Reached, WellBehaved}
+use Rattle.system_model.proofs.SoundLemmas.{clock_type_of, is_input_of, place_of}
+use Rattle.run_model.specs.Behaved.{AnswersAt, AnswersWell, Initializing, IsAnsweredWell, IsSetting, Stepping, WellBehaved}
+use Rattle.run_model.specs.Equations.{Solves, fed}
 use Rattle.run_model.specs.Initial as I
-use Rattle.run_model.specs.Run.{IsFmu, Run, Situation, each}
+use Rattle.run_model.specs.Initial.{SolvesInitially, is_read}
+use Rattle.run_model.specs.Inputs.{state_with}
+use Rattle.run_model.specs.Machines.{AreFitting, AreMachines}
+use Rattle.run_model.specs.Run.{IsFmu, Run, Situation, value}
+use Rattle.run_model.proofs.AlongRun.{situation_reached, values_fit}
+use Rattle.run_model.proofs.InitiallySolvable.{solvable_initially}
+use Rattle.run_model.proofs.Midst.{looks_initially}
+use Rattle.run_model.proofs.States.{fmu_before}
 use Rattle.slot_calls.specs.declared.bad_answer.BadAnswer.{BadAnswer}
-use Rattle.slot_calls.specs.Carried.{get_of, gets}
+use Rattle.slot_calls.specs.Log.{Sent, askings, part}
+use Rattle.slot_calls.specs.Replies.{AreReplies, state_by}
+use Rattle.slot_calls.specs.Stage.{FailsIn, StopsAt, shapes_of}
+use Rattle.event_iteration.specs.Explains.{ExplainsUntil}
+use Rattle.event_iteration.specs.Initialization.{asks_initially, initially, is_set_from_feed, no_values}
+use Rattle.event_iteration.specs.Instants.{asks_at_point, at_point}
+use Rattle.event_iteration.specs.Settings.{before_step, port_order, sets_to}
+use Rattle.event_iteration.proofs.AtPoint.{clockless, no_clock}
+use Rattle.event_iteration.proofs.Finding.{midst_along}
+use Rattle.event_iteration.proofs.Permits.{fed_fits, keeps, value_type}
+use Rattle.event_iteration.proofs.Rounds.{fits_none, places_none}
+use Rattle.calling_sequence.specs.Course.{Entering, Finding, Leaving, IsStep, StopsInitializing, stepping}
+use Rattle.calling_sequence.specs.Systems.{IsBuilt}
+use Rattle.calling_sequence.proofs.Chains.{part_all}
 use Rattle.step_master.specs.Master.{making}
-use Rattle.calling_sequence.specs.Course.{IsStep, entering, initializing, leaving, stepping}
-use Rattle.slot_calls.specs.Log.{Sent, askings}
-use Rattle.slot_calls.specs.Stage.{FailsIn, IsAnswered, IsGoodOf, StopsAt, shapes_of}
-use Rattle.step_master.specs.System.{IsBuilt, IsUnbound}
-use Rattle.step_master.proofs.Begun.{IsHere}
-use Rattle.step_master.proofs.Existing.{steps_well}
-use Rattle.step_master.proofs.Links.{Early, InParts, IsLost, Later, good_first, good_second, in_parts, lost_behind, lost_fails, lost_in_stage, lost_reads, lost_stops}
-use Rattle.slot_calls.specs.Replies.{AreReplies, states_by}
-use Rattle.step_master.proofs.Looking.{replies_first, replies_then, stage_states}
-use Rattle.step_master.proofs.Onward.{solves_here, values_here}
-use Rattle.step_master.proofs.Prepared.{is_within}
-use Rattle.step_master.proofs.Quiet.{configured_is, initialized_is, initializing_is, is_plain_output, made_all, no_event, nones, solves_initially}
-use Rattle.step_master.proofs.SideBySide.{AreAll, all_on}
+use Rattle.step_master.specs.System.{IsUnbound}
+use Rattle.step_master.proofs.Badly.{walk_good}
+use Rattle.step_master.proofs.Begun.{IsHere, entered_states, found_states}
+use Rattle.step_master.proofs.Existing.{departed_here, steps_well}
+use Rattle.step_master.proofs.Followed.{of_calls, walk_gets}
+use Rattle.step_master.proofs.Links.{IsLost, lost_behind, lost_fails, lost_stops, lost_walk}
+use Rattle.step_master.proofs.Looking.{gets_stay, replies_first, replies_then}
+use Rattle.step_master.proofs.Onward.{done_states, set_are_all, set_here}
+use Rattle.step_master.proofs.Quiet.{configured_is, initializing_all, made_all, no_event}
+use Rattle.step_master.proofs.SideBySide.{all_on, fmu_on}
+use Rattle.step_master.proofs.WalkCalls.{Reads, Uses, Writes, finding_uses, part_walk, reading_reads, setting_writes, walk_all}
+use Rattle.step_master.proofs.WalksBack.{IsWalked, finding_back}
 
 -- ---- the first call
 
@@ -38,60 +72,222 @@ pub lost_making : (r : Run) → WellBehaved r → length r.machines ≡ length r
 lost_making r well machines bad log replies s =
     lost_stops r (I.first_states r) (record { machines = machines; states = length-map r.machines (λ (m : Machine). m.first) ∙ machines }) bad log replies instantiate_of s (λ i. (well i).before.instantiate)
 
-module _ (r : Run) (sound : IsSound r.system) (built : IsBuilt r.system) (well : WellBehaved r) where
+-- ---- Gets and Sets
+
+-- the call of an exchange gets or sets a variable
+abbrev Uses_in : Exchange → Type 0
+Uses_in e = (port : Port) × Uses port e.call
+
+-- both leave a state its numbers, and as many values
+record IsLike (a b : MachineState) : Type 0 where
+  numbers : b.numbers ≡ a.numbers
+  values : length b.values ≡ length a.values
+
+written_many : (refs : List ℕ) (xs : List ℤ) (reference : ℕ) (x : ℤ) → length (written refs xs reference x) ≡ length xs
+written_many [] xs reference x = refl
+written_many (r ∷ refs) [] reference x = refl
+written_many (r ∷ refs) (y ∷ xs) reference x = ap suc (written_many refs xs reference x)
+
+like_one : (m : Machine) (s : MachineState) (call : Call) (port : Port) → Uses port call → IsLike s (after m s call)
+like_one m s call port (inl is) = subst (λ (c : Call). IsLike s (after m s c)) (sym is) (record { numbers = refl; values = refl })
+like_one m s call port (inr is) = subst (λ (c : Call). IsLike s (after m s c)) (sym is.1) (record { numbers = refl; values = written_many m.references s.values port.reference is.0 })
+
+like_by : (m : Machine) (s : MachineState) (es : List Exchange) → All Uses_in es → IsLike s (state_by m s es)
+like_by m s [] all = record { numbers = refl; values = refl }
+like_by m s (e ∷ es) all =
+    let head = All-head Uses_in e es all in
+    let one = like_one m s e.call head.0 head.1 in
+    let more = like_by m (after m s e.call) es (All-tail Uses_in e es all) in
+    record { numbers = more.numbers ∙ one.numbers; values = more.values ∙ one.values }
+
+if_is : {X : Type 0} (b : Bool) (o : Option X) (x : X) → (if b then o else None) ≡ Some x → (b ≡ true) × (o ≡ Some x)
+if_is true o x h = (refl, h)
+if_is false o x h = absurd (cc)
+
+set_of : (port : Port) (o : Option ℤ) (call : Call) → option_map (λ x. C.Set port.kind port.reference x) o ≡ Some call → (x : ℤ) × (o ≡ Some x) × (call ≡ C.Set port.kind port.reference x)
+set_of port None call h = absurd (cc)
+set_of port (Some x) call h = (x, refl, sym (same_Some _ _ h))
+
+zip_none : {X Y : Type 0} (R : X → Y → Type 0) (xs : List X) (ys : List Y) → AllZip R xs ys → (length ys == 0) ≡ true → length xs ≡ 0
+zip_none R [] ys zip h = refl
+zip_none R (x ∷ xs) [] zip h = absurd zip
+zip_none R (x ∷ xs) (y ∷ ys) zip h = absurd (let e : length (y ∷ ys) ≡ 0 = eqb-true (length (y ∷ ys)) 0 h in omega (arith, e))
+
+module _ (r : Run) (sound : IsSound r.system) (built : IsBuilt r.system) (machines : AreMachines r) (well : WellBehaved r) where
+  abbrev count : ℕ
+  count = length r.system.components
+
+  -- an input may be set to a value of its type
+  module _ (p : ℕ) (port : Port) (at : slice_get r.system.ports p ≡ Some port) (input : is_output_role port.role ≡ false) (c : Component) (of : slice_get r.system.components port.component.0 ≡ Some c) (x : ℤ) (fit : Fits port.kind x) where
+    set_type : is_value_type port.kind ≡ true
+    set_type = value_type port.kind (clock_type_of r.system p port (place_of r.system sound p port at) ∙ no_clock r.system sound built.no_event p port at)
+
+    set_by : (P : Variable → Type 0) → P (place_of r.system sound p port at).variable → IsSomeAnd (variable_at c.shape.variables port.reference) (λ (v : Variable). (v.kind ≡ Some port.kind) × ((v.causality ≡ V.Input) × P v))
+    set_by P h =
+        let placed = place_of r.system sound p port at in
+        let under : variable_at c.shape.variables port.reference ≡ Some placed.variable =
+        ap (λ (d : Component). variable_at d.shape.variables port.reference) (same_Some _ _ (sym of ∙ placed.is.of)) ∙ placed.is.there in
+        subst (λ (o : Option Variable). IsSomeAnd o (λ (v : Variable). (v.kind ≡ Some port.kind) × ((v.causality ≡ V.Input) × P v))) (sym under) (placed.kind, (is_input_of r.system p port placed input, h))
+
+    sets_initially : IsSetting Initializing c.shape (C.Set port.kind port.reference x)
+    sets_initially =
+        let placed = place_of r.system sound p port at in (
+          set_type,
+          fit,
+          set_by (λ (v : Variable). length v.clocks ≡ 0) (zip_none _ placed.variable.clocks port.clocks (sound.ports.clocks p port placed.component placed.variable placed.is) (clockless r.system sound built.no_event p port at)),
+        )
+
+    sets_stepping : IsSetting Stepping c.shape (C.Set port.kind port.reference x)
+    sets_stepping = (set_type, fit, set_by (λ (v : Variable). c.shape.has_event_mode ≡ false) (no_event r sound built port.component.0 c of))
+
   -- ---- into Step Mode
 
-  module _ (unbound : IsUnbound r.bound) (machines : length r.machines ≡ length r.system.components) where
+  module _ (unbound : IsUnbound r.bound) where
     enters_well : (i : ℕ) → AnswersWell r (I.instantiated r) i (λ shape. I.enter_initialization r)
-    enters_well i = subst (λ (ss : List MachineState). AnswersWell r ss i (λ shape. I.enter_initialization r)) (configured_is r sound built unbound machines) (well i).before.enter
+    enters_well i = subst (λ (ss : List MachineState). AnswersWell r ss i (λ shape. I.enter_initialization r)) (configured_is r sound built unbound machines.count) (well i).before.enter
 
-    exits_well : (i : ℕ) → AnswersWell r (each r (I.instantiated r) (λ i c m s. after m s (I.enter_initialization r))) i (λ shape. C.ExitInitialization)
-    exits_well i =
-        subst (λ (ss : List MachineState). AnswersWell r ss i (λ shape. C.ExitInitialization))
-        (initialized_is r sound built unbound machines (nones r sound built) ∙ initializing_is r sound built unbound machines)
-        ((well i).initially (nones r sound built) (solves_initially r sound built)).exit
+    module _ (bad : BadAnswer) (values : List (Option ℤ)) (found : List Sent) (u : ExplainsUntil r.system (initially r.system) (no_values r.system) (numbers r.system.initial_order) bad values found) (replies : AreReplies r (I.initializing r) found) where
+      abbrev port : Port
+      port = u.stops.port
 
-    pub lost_initializing : (bad : BadAnswer) (log : List Sent) → AreReplies r (I.instantiated r) log → StopsAt (shapes_of r.system) (initializing r.system r.plan) bad log → IsLost (length r.system.components) log bad.why
-    lost_initializing bad log replies s =
-        subst (λ (l : List Sent). IsLost (length r.system.components) l bad.why) (sym s.log_is)
-        (by (in_parts (entering r.system r.plan) (leaving r.system) s.front s.last s.left (s.calls_are ∙ ap (λ (l : List Sent). askings l ++ s.left) s.log_is))) where
-          made : AreAll r (I.instantiated r)
-          made = made_all r sound built unbound machines
+      abbrev W : List (Option ℤ)
+      W = (solvable_initially r sound machines).0
 
-          here : AreReplies r (I.instantiated r) (s.front ++ s.last ∷ [])
-          here = subst (AreReplies r (I.instantiated r)) s.log_is replies
+      solves : SolvesInitially r W
+      solves = (solvable_initially r sound machines).1
 
-          by : InParts (entering r.system r.plan) (leaving r.system) s.front s.last s.left → IsLost (length r.system.components) (s.front ++ s.last ∷ []) bad.why
-          by (Early more calls) =
-              lost_in_stage r (I.instantiated r) made s.front s.last [] bad.why here s.first.good s.first.why (λ (shape : Shape). C.EnterInitialization r.plan.start r.plan.stop) more calls enters_well
-          by (Later a b is calls later) =
-              let good = subst (All (IsGoodOf (shapes_of r.system))) is s.first.good in
-              let whole : s.front ++ s.last ∷ [] ≡ a ++ (b ++ s.last ∷ []) = ap (λ (l : List Sent). l ++ s.last ∷ []) is ∙ append_assoc a b (s.last ∷ []) in
-              let both = subst (AreReplies r (I.instantiated r)) whole here in
-              let entered : IsAnswered (shapes_of r.system) (entering r.system r.plan) a = record { calls_are = calls; good = good_first (shapes_of r.system) a b good } in
-              let states = stage_states r (I.instantiated r) (λ (shape : Shape). C.EnterInitialization r.plan.start r.plan.stop) a entered (replies_first r (I.instantiated r) a (b ++ s.last ∷ []) both) in
-              let behind_it = replies_then r (I.instantiated r) a (b ++ s.last ∷ []) (good_first (shapes_of r.system) a b good) both in
-              subst (λ (l : List Sent). IsLost (length r.system.components) l bad.why) (sym whole)
-              (lost_behind (length r.system.components) a (b ++ s.last ∷ []) bad.why
-              (lost_in_stage r (states_by r (I.instantiated r) a) (all_on r (I.instantiated r) made _) b s.last [] bad.why behind_it (good_second (shapes_of r.system) a b good) s.first.why (λ (shape : Shape). C.ExitInitialization) s.left later
-              (λ i. subst (λ (ss : List MachineState). AnswersWell r ss i (λ shape. C.ExitInitialization)) (sym states) (exits_well i))))
+      front_replies : AreReplies r (I.initializing r) u.front
+      front_replies = replies_first r (I.initializing r) u.front (u.last ∷ []) (subst (AreReplies r (I.initializing r)) u.log_is replies)
+
+      abbrev back : IsWalked r.system (initially r.system) (no_values r.system) u.taken values u.front
+      back = finding_back r.system sound u.taken (u.p ∷ u.rest) u.order_is values u.front u.told
+
+      uses_front : (i : ℕ) → All Uses_in (part i u.front)
+      uses_front i =
+          part_all (λ n e. Uses_in e) i u.front (of_calls (λ (c : Call). (q : Port) × Uses q c) u.front
+          (walk_all Uses r.system (λ (c : Call). (q : Port) × Uses q c) (λ q call t. (q, t)) (numbers r.system.initial_order) (askings u.front)
+          (part_walk Uses r.system (initially r.system) (finding_uses r.system) (no_values r.system) (numbers r.system.initial_order) u.taken (u.p ∷ u.rest) u.order_is values u.front u.told)))
+
+      module _ (c : Component) (m : Machine) (z : MachineState) (fmu : IsFmu r (I.initializing r) port.component.0 c m z) where
+        abbrev there : MachineState
+        there = state_by m z (part port.component.0 u.front)
+
+        get_well : port.role ≡ Output → is_read r.system.ports u.p ≡ true → IsAnsweredWell c.shape m there (C.Get port.kind port.reference)
+        get_well same read =
+            let midst = midst_along r sound machines W solves u.taken (u.p ∷ u.rest) back.next u.front u.order_is back.walked front_replies in
+            let looks = looks_initially r sound machines u.p port u.stops.is (ap is_output_role same) read W solves u.taken (λ q n. sound.initial_order.after u.taken u.rest u.p q u.order_is n) c m z fmu (C.Get port.kind port.reference) refl in
+            let shown = ((well port.component.0).initially W solves).gets u.p port u.stops.is refl same read c m (state_with r.system.ports W port.component.0 m z)
+            (fmu_on r (I.initializing r) (λ i d n y. state_with r.system.ports W i n y) port.component.0 c m z fmu) in
+            ap (grade_of c.shape (C.Get port.kind port.reference)) (ap (λ (y : MachineState). m.look y (C.Get port.kind port.reference)) (midst.1.states port.component.0 c m z fmu) ∙ looks) ∙ shown
+
+        set_well : (feed : _) → port.role ≡ Input (Some feed) → (x : ℤ) → fed feed values ≡ Some x → IsAnsweredWell c.shape m there (C.Set port.kind port.reference x)
+        set_well feed same x from =
+            let like = like_by m z (part port.component.0 u.front) (uses_front port.component.0) in
+            let fits : AreFitting r.system back.next = (keeps r.system sound (no_values r.system) (places_none r.system) (fits_none r.system) u.taken back.next u.front back.walked).fits in
+            let fit : IfSome (value back.next feed.from.0) (Fits port.kind) = fed_fits r.system sound back.next fits u.p feed.from.0 port u.stops.is (ap source_of same) in
+            ((well port.component.0).initially W solves).sets c m z there (C.Set port.kind port.reference x) fmu like.numbers like.values
+            (sets_initially u.p port u.stops.is (ap is_output_role same) c fmu.component x (subst (λ o. IfSome o (Fits port.kind)) (back.same feed.from.0 ∙ from) fit))
+
+        call_well : (role : Role) → port.role ≡ role → (call : Call) → asks_initially role r.system.ports (is_read r.system.ports u.p) port values ≡ Some call → IsAnsweredWell c.shape m there call
+        call_well (Input None) same call h = absurd (cc)
+        call_well (Input (Some feed)) same call h =
+            let s = set_of port (fed feed values) call (if_is (is_set_from_feed r.system.ports port feed) _ call h).1 in
+            subst (IsAnsweredWell c.shape m there) (sym s.2) (set_well feed same s.0 s.1)
+        call_well Output same call h =
+            let s = if_is (is_read r.system.ports u.p) (Some (C.Get port.kind port.reference)) call h in
+            subst (IsAnsweredWell c.shape m there) (same_Some _ _ s.1) (get_well same s.0)
+        call_well (ClockInput feed) same call h = absurd (cc)
+        call_well ClockOutput same call h = absurd (cc)
+        call_well (TimeClock timing) same call h = absurd (cc)
+
+      lost_finding : IsLost count found bad.why
+      lost_finding =
+          lost_walk r (I.initializing r) (initializing_all r sound built unbound machines.count) bad found replies (initially r.system) (no_values r.system) (numbers r.system.initial_order) values u
+          (λ c m s fmu.
+          let old = fmu_before r (I.initializing r) (λ i d n y. state_by n y (part i u.front)) port.component.0 c m s fmu in
+          subst (λ (y : MachineState). IsAnsweredWell c.shape m y u.last.exchange.call) (sym old.is) (call_well c m old.before old.fmu port.role refl u.last.exchange.call u.stops.asks))
+
+    pub lost_initializing : (bad : BadAnswer) (log : List Sent) → AreReplies r (I.instantiated r) log → StopsInitializing r.system r.plan bad log → IsLost count log bad.why
+    lost_initializing bad log replies (Entering stops) =
+        lost_stops r (I.instantiated r) (made_all r sound built unbound machines.count) bad log replies (λ (shape : Shape). C.EnterInitialization r.plan.start r.plan.stop) stops enters_well
+    lost_initializing bad log replies (Finding entered found values enters finds log_is) =
+        let whole = subst (AreReplies r (I.instantiated r)) log_is replies in
+        let states = entered_states r sound built unbound machines entered enters (replies_first r (I.instantiated r) entered found whole) in
+        let inside : AreReplies r (I.initializing r) found = subst (λ (ss : List MachineState). AreReplies r ss found) states (replies_then r (I.instantiated r) entered found enters.good whole) in
+        subst (λ (l : List Sent). IsLost count l bad.why) (sym log_is) (lost_behind count entered found bad.why (lost_finding bad values found finds inside))
+    lost_initializing bad log replies (Leaving entered found left values enters finds stops log_is) =
+        let whole = subst (AreReplies r (I.instantiated r)) log_is replies in
+        let states = entered_states r sound built unbound machines entered enters (replies_first r (I.instantiated r) entered (found ++ left) whole) in
+        let inside : AreReplies r (I.initializing r) (found ++ left) = subst (λ (ss : List MachineState). AreReplies r ss (found ++ left)) states (replies_then r (I.instantiated r) entered (found ++ left) enters.good whole) in
+        let good = walk_good r.system (initially r.system) (no_values r.system) (numbers r.system.initial_order) values found finds in
+        let S = solvable_initially r sound machines in
+        let behind : AreReplies r (I.initialized r S.0) left =
+        subst (λ (ss : List MachineState). AreReplies r ss left) (found_states r sound built unbound machines S.0 S.1 values found finds (replies_first r (I.initializing r) found left inside))
+        (replies_then r (I.initializing r) found left good inside) in
+        subst (λ (l : List Sent). IsLost count l bad.why) (sym (log_is ∙ sym (append_assoc entered found left)))
+        (lost_behind count (entered ++ found) left bad.why
+        (lost_stops r (I.initialized r S.0) (all_on r (I.initializing r) (initializing_all r sound built unbound machines.count) _) bad left behind (λ (shape : Shape). C.ExitInitialization) stops
+        (λ i. ((well i).initially S.0 S.1).exit)))
 
   -- ---- at a point
 
-  module _ (t : ℕ) (ss : List MachineState) (s : Situation) (here : IsHere r t ss s) (reached : Reached r s) (bad : BadAnswer) (log : List Sent) (replies : AreReplies r ss log) where
-    reads_well : (p : ℕ) (port : Port) → slice_get r.system.ports p ≡ Some port → AnswersWell r ss port.component.0 (λ shape. get_of port)
-    reads_well p port there c m state fmu =
-        let all = ((well port.component.0).in_instants s (values_here r sound built t ss s here) reached (solves_here r sound built t ss s here)).ports p port there refl in
-        let own = subst (λ (role : Role). AnswersAt role r s (values_here r sound built t ss s here) port) (is_plain_output r sound built p port there) all in
-        own.1 here.first c m state (subst (λ (xs : List MachineState). IsFmu r xs port.component.0 c m state) (sym here.states) fmu) (no_event r sound built port.component.0 c fmu.component)
+  module _ (t : ℕ) (ss : List MachineState) (s : Situation) (here : IsHere r t ss s) (V : List (Option ℤ)) (solves : Solves r s V) (bad : BadAnswer) where
+    get_at : (p : ℕ) (port : Port) → slice_get r.system.ports p ≡ Some port → port.role ≡ Output → (c : Component) (m : Machine) (z : MachineState) → IsFmu r ss port.component.0 c m z → IsAnsweredWell c.shape m z (C.Get port.kind port.reference)
+    get_at p port at same c m z fmu =
+        let all = ((well port.component.0).in_instants s V here.reached solves).ports p port at refl in
+        let own = subst (λ (role : Role). AnswersAt role r s V port) same all in
+        own.1 here.first c m z (subst (λ (xs : List MachineState). IsFmu r xs port.component.0 c m z) (sym here.states) fmu) (no_event r sound built port.component.0 c fmu.component)
 
-    pub lost_reading : StopsAt (shapes_of r.system) (gets r.system.ports) bad log → IsLost (length r.system.components) log bad.why
-    lost_reading stops =
-        lost_reads r ss here.all bad log replies sound stops
-        (λ p port there.
-        let placed = place_of r.system sound p port there in
-        (is_within r.system.components port.component.0 placed.component placed.is.of, reads_well p port there))
+    pub lost_reading : (before values : List (Option ℤ)) (log : List Sent) → AreReplies r ss log → ExplainsUntil r.system at_point before (numbers r.system.instant_order) bad values log → IsLost count log bad.why
+    lost_reading before values log replies u =
+        lost_walk r ss here.all bad log replies at_point before (numbers r.system.instant_order) values u
+        (λ c m z fmu.
+        let old = fmu_before r ss (λ i d n y. state_by n y (part i u.front)) u.stops.port.component.0 c m z fmu in
+        let stay : z ≡ old.before = old.is ∙ gets_stay m old.before (part u.stops.port.component.0 u.front)
+        (walk_gets r.system (numbers r.system.instant_order) u.front (part_walk Reads r.system at_point reading_reads before (numbers r.system.instant_order) u.taken (u.p ∷ u.rest) u.order_is values u.front u.told) u.stops.port.component.0) in
+        subst (λ (y : MachineState). IsAnsweredWell c.shape m y u.last.exchange.call) (sym stay)
+        (by u.p u.stops.port u.stops.is c m old.before old.fmu u.stops.port.role refl u.last.exchange.call u.stops.asks))
+      where
+        by : (p : ℕ) (port : Port) → slice_get r.system.ports p ≡ Some port → (c : Component) (m : Machine) (z : MachineState) → IsFmu r ss port.component.0 c m z → (role : Role) → port.role ≡ role → (call : Call) →
+            asks_at_point role port ≡ Some call → IsAnsweredWell c.shape m z call
+        by p port at c m z fmu Output same call h = subst (IsAnsweredWell c.shape m z) (same_Some _ _ h) (get_at p port at same c m z fmu)
+        by p port at c m z fmu (Input feed) same call h = absurd (cc)
+        by p port at c m z fmu (ClockInput feed) same call h = absurd (cc)
+        by p port at c m z fmu ClockOutput same call h = absurd (cc)
+        by p port at c m z fmu (TimeClock timing) same call h = absurd (cc)
 
-    pub lost_stepping : (to : ℕ) → IsStep r.system r.plan t to → FailsIn (shapes_of r.system) (stepping r.system t to) bad log → IsLost (length r.system.components) log bad.why
-    lost_stepping to step fails =
-        lost_fails r ss here.all bad log replies (λ (shape : Shape). C.DoStep t (to - t)) fails (steps_well r sound built well t ss s here reached to step.bound step.fit)
+    module _ (to : ℕ) (step : IsStep r.system r.plan t to) where
+      set_at : (p : ℕ) (port : Port) → slice_get r.system.ports p ≡ Some port → is_output_role port.role ≡ false → (x : ℤ) → value V p ≡ Some x → (c : Component) (m : Machine) (y z : MachineState) → IsFmu r ss port.component.0 c m y → IsLike y z →
+          IsAnsweredWell c.shape m z (C.Set port.kind port.reference x)
+      set_at p port at input x is c m y z fmu like =
+          let fits = values_fit r sound s V (situation_reached sound machines here.reached).types solves in
+          let own = subst (λ (xs : List MachineState). IsFmu r xs port.component.0 c m y) (sym (done_states r sound built t ss s here V solves)) fmu in
+          ((well port.component.0).in_steps _ (departed_here r sound built machines well t ss s here V solves to step.bound)).sets c fmu.component (no_event r sound built port.component.0 c fmu.component)
+          c m y z (C.Set port.kind port.reference x) own like.numbers like.values
+          (sets_stepping p port at input c fmu.component x (subst (λ o. IfSome o (Fits port.kind)) is (fits p port at)))
+
+      pub lost_setting : (log : List Sent) → AreReplies r ss log → ExplainsUntil r.system (before_step V) V (port_order r.system) bad V log → IsLost count log bad.why
+      lost_setting log replies u =
+          lost_walk r ss here.all bad log replies (before_step V) V (port_order r.system) V u
+          (λ c m z fmu.
+          let old = fmu_before r ss (λ i d n y. state_by n y (part i u.front)) u.stops.port.component.0 c m z fmu in
+          let like : IsLike old.before (state_by m old.before (part u.stops.port.component.0 u.front)) = like_by m old.before (part u.stops.port.component.0 u.front)
+          (part_all (λ n e. Uses_in e) u.stops.port.component.0 u.front (of_calls (λ (k : Call). (q : Port) × Uses q k) u.front
+          (walk_all Writes r.system (λ (k : Call). (q : Port) × Uses q k) (λ q call w. (q, inr w)) (port_order r.system) (askings u.front)
+          (part_walk Writes r.system (before_step V) (setting_writes V) V (port_order r.system) u.taken (u.p ∷ u.rest) u.order_is V u.front u.told)))) in
+          by u.p u.stops.port u.stops.is c m old.before z old.fmu (subst (IsLike old.before) (sym old.is) like) u.stops.port.role refl u.last.exchange.call u.stops.asks)
+        where
+          by : (p : ℕ) (port : Port) → slice_get r.system.ports p ≡ Some port → (c : Component) (m : Machine) (y z : MachineState) → IsFmu r ss port.component.0 c m y → IsLike y z → (role : Role) → port.role ≡ role → (call : Call) →
+              sets_to role port (value V p) ≡ Some call → IsAnsweredWell c.shape m z call
+          by p port at c m y z fmu like (Input None) same call h = absurd (cc)
+          by p port at c m y z fmu like (Input (Some feed)) same call h =
+              let w = set_of port (value V p) call h in subst (IsAnsweredWell c.shape m z) (sym w.2) (set_at p port at (ap is_output_role same) w.0 w.1 c m y z fmu like)
+          by p port at c m y z fmu like Output same call h = absurd (cc)
+          by p port at c m y z fmu like (ClockInput feed) same call h = absurd (cc)
+          by p port at c m y z fmu like ClockOutput same call h = absurd (cc)
+          by p port at c m y z fmu like (TimeClock timing) same call h = absurd (cc)
+
+      pub lost_stepping : (log : List Sent) → AreReplies r (set_here r sound built t ss s here V solves) log → FailsIn (shapes_of r.system) (stepping r.system t to) bad log → IsLost count log bad.why
+      lost_stepping log replies fails =
+          lost_fails r (set_here r sound built t ss s here V solves) (set_are_all r sound built t ss s here V solves) bad log replies (λ (shape : Shape). C.DoStep t (to - t)) fails
+          (steps_well r sound built machines well t ss s here V solves to step.bound step.fit)

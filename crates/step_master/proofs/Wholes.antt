@@ -263,12 +263,12 @@ module _ (system : System) (plan : Plan) (sound : IsSound system) (made log : Li
     ended_needed E.WriteFault before after e = interrupted_needed system plan sound k some_shape in_shapes log is e.pieces e.piece e.interrupted
 
   ended_log : (end : RunEnd) (before after : SinkView) → EndsBy system plan log is end before after → EndsLog (shapes_of system) end (made ++ log)
-  ended_log E.Stop before after e = finishes_log system plan sound made making_is.good E.Stop e.0 log is e.1
-  ended_log (E.Asked point) before after e = finishes_log system plan sound made making_is.good (E.Asked point) e.0 log is e.1
-  ended_log (E.EventLimit point) before after e = finishes_log system plan sound made making_is.good (E.EventLimit point) e.0 log is e.1
-  ended_log (E.FixedStep component at end) before after e = finishes_log system plan sound made making_is.good (E.FixedStep component at end) e.0 log is e.1
-  ended_log (E.Bad bad) before after e = finishes_log system plan sound made making_is.good (E.Bad bad) e.0 log is e.1
-  ended_log E.WriteFault before after e = interrupted_log system plan sound made making_is.good log is e.pieces e.piece e.interrupted
+  ended_log E.Stop before after e = finishes_log system plan made making_is.good E.Stop e.0 log is e.1
+  ended_log (E.Asked point) before after e = finishes_log system plan made making_is.good (E.Asked point) e.0 log is e.1
+  ended_log (E.EventLimit point) before after e = finishes_log system plan made making_is.good (E.EventLimit point) e.0 log is e.1
+  ended_log (E.FixedStep component at end) before after e = finishes_log system plan made making_is.good (E.FixedStep component at end) e.0 log is e.1
+  ended_log (E.Bad bad) before after e = finishes_log system plan made making_is.good (E.Bad bad) e.0 log is e.1
+  ended_log E.WriteFault before after e = interrupted_log system plan made making_is.good log is e.pieces e.piece e.interrupted
 
 module _ (a : Account) (ready done : Standing) (sound : IsSound a.system) (peers : ArePeersOf a.system a.olds) (prepares : Prepares a.system a.plan a.olds ready)
     (runs : Runs ready done a.before a.after a.end) (closes : Closes done.instances a.news) where
@@ -295,6 +295,7 @@ module _ (a : Account) (ready done : Standing) (sound : IsSound a.system) (peers
     counted = count ∙ runs.counted;
     ends = ends_lives a.system a.olds peers (prepares.log ++ runs.log) done.instances a.news told closes needed a.end
         (ended_log a.system a.plan sound prepares.log runs.log runs.is prepares.answered a.end a.before a.after text);
+    machines = prepares.machines;
   }
 
 pub run_is_lived : RunIsLived

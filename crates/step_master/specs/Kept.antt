@@ -1,15 +1,17 @@
 -- What a master keeps: a place for each value, room for each text, and where its instances stand.
-use Rattle.std.specs.Prelude.{◌≡◌, ◌≤◌, ◌^◌, ℕ, ℤ, List, Option, All, length}
+use Rattle.std.specs.Prelude.{◌≡◌, ◌≤◌, ◌^◌, ℕ, ℤ, Bool, List, Option, All, length}
 use Rattle.fmu_peer.specs.declared.slot.Slot.{Slot}
 use Rattle.fmu_peer.specs.View.{View}
 use Rattle.system_model.specs.declared.system.System.{System}
 use Rattle.trace_text.specs.Room.{HoldsEach}
-use Rattle.calling_sequence.specs.Place.{IsMade, IsPortOf}
+use Rattle.event_iteration.specs.Initialization.{AreReads}
+use Rattle.calling_sequence.specs.Place.{IsMade}
 use Rattle.slot_calls.specs.Slots.{LiveSlot, Stands, instances}
 use Rattle.slot_calls.specs.Stage.{shapes, shapes_of}
 
 -- the memory of a run
-pub record HasRoom (system : System) (values : List (Option ℤ)) (text : List ℕ) : Type 0 where
+pub record HasRoom (system : System) (reads : List Bool) (values : List (Option ℤ)) (text : List ℕ) : Type 0 where
+  pub reads_are : AreReads system reads
   pub places : length values ≡ length system.ports
   pub holds : HoldsEach system (length text)
 
@@ -17,7 +19,6 @@ pub record HasRoom (system : System) (values : List (Option ℤ)) (text : List �
 pub record AreSlots {L : Type 0} {g : _} (view : L → View) (system : System) (slots : List (Slot L g)) : Type 0 where
   pub few : length slots ≤ 2 ^ 32
   pub shapes_are : shapes (instances view slots) ≡ shapes_of system
-  pub ports : All (IsPortOf (instances view slots)) system.ports
 
 -- before a run: each instance was made
 pub record AreMade {L : Type 0} {g : _} (view : L → View) (slots : List (Slot L g)) (instants : ℕ) : Type 0 where

@@ -13,7 +13,7 @@ use Rattle.step_master.specs.Lives.{AreLives, AreOver, EndsLives, IsLeastBad, Li
 use Rattle.slot_calls.specs.Log.{Sent}
 use Rattle.step_master.specs.Master.{Closes, IsUnmade, Prepares, Runs, Standing, making}
 use Rattle.slot_calls.specs.Stage.{IsAnswered, StopsAt, shapes_of}
-use Rattle.step_master.specs.System.{ArePeersOf}
+use Rattle.step_master.specs.System.{ArePeersOf, TellTheirs}
 
 -- a run: what was run, its peers and its sink before and after, the number of instants that were put, and how it ended
 pub record Account : Type 0 where
@@ -26,7 +26,7 @@ pub record Account : Type 0 where
   pub instants : ℕ
   pub end : RunEnd
 
--- each was made, then the run went on by its log, and all were closed
+-- each was made, then the run went on by its log, and all were closed; what the peers tell are machines of their shapes
 pub record Lived (a : Account) : Type 0 where
   pub made : List Sent
   pub log : List Sent
@@ -37,6 +37,7 @@ pub record Lived (a : Account) : Type 0 where
   pub text : EndsBy a.system a.plan log is a.end a.before a.after
   pub counted : a.instants ≡ length is
   pub ends : EndsLives a.end lives
+  pub machines : TellTheirs a.system a.olds
 
 -- the answer to an Instantiate wasn't good, and all were closed
 pub record Unmade (system : System) (olds : List View) (bad : BadAnswer) (news : List View) : Type 0 where

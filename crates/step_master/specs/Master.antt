@@ -15,6 +15,7 @@ use Rattle.calling_sequence.specs.Ends.{EndsBy}
 use Rattle.slot_calls.specs.Log.{Asking, Sent, Told}
 use Rattle.step_master.specs.Seats.{seated, views_of}
 use Rattle.slot_calls.specs.Stage.{IsAnswered, StopsAt, shapes_of, to_each}
+use Rattle.step_master.specs.System.{TellTheirs}
 
 -- what it runs, its instances in the order of the components, whether it was run, and how many instants it put
 pub record Standing : Type 0 where
@@ -38,7 +39,7 @@ pub record Closes (olds : List Instance) (news : List View) : Type 0 where
 abbrev pub making : System → List Asking
 making system = to_each instantiate_of (shapes_of system)
 
--- each instance was made, and nothing else was sent
+-- each instance was made, and nothing else was sent; what the peers tell are machines of their shapes
 pub record Prepares (system : System) (plan : Plan) (views : List View) (new : Standing) : Type 0 where
   pub log : List Sent
   pub told : Told log (seated system.components views) new.instances
@@ -47,6 +48,7 @@ pub record Prepares (system : System) (plan : Plan) (views : List View) (new : S
   pub plan_is : new.plan ≡ plan
   pub unrun : new.was_run ≡ false
   pub none : new.instants ≡ 0
+  pub machines : TellTheirs system views
 
 -- the answer to an Instantiate isn't good: no further was sent, and all were closed
 pub record IsUnmade (system : System) (views : List View) (bad : BadAnswer) (news : List View) : Type 0 where

@@ -1,23 +1,16 @@
 -- Which systems and peers a master takes (SSP 1.0: components and connectors; FMI 3.0, 4.2.1).
-use Rattle.std.specs.Prelude.{◌≡◌, ℕ, true, false, List, [], length, All, Some, IfSome}
+use Rattle.std.specs.Prelude.{◌≡◌, ℕ, List, [], length, All, Some, IfSome}
 use Rattle.std.specs.List.{slice_get}
 use Rattle.value_types.specs.declared.shape.Shape.{Shape}
 use Rattle.fmi_calls.specs.Next.{fresh}
+use Rattle.fmu_peer.specs.Machine.{IsLawful, IsMachineOf, Machine}
 use Rattle.fmu_peer.specs.View.{View}
 use Rattle.system_model.specs.declared.bound.Bound.{Bound}
 use Rattle.system_model.specs.declared.bound.BoundValue.{BoundValue}
 use Rattle.system_model.specs.declared.system.Component.{Component}
-use Rattle.system_model.specs.declared.system.Port.{Port}
 use Rattle.system_model.specs.declared.system.System.{System}
-use Rattle.system_model.specs.Ports.{is_output_role}
 
--- what isn't built: event mode and with it Clocks, early return, and inputs
-pub record IsBuilt (system : System) : Type 0 where
-  pub no_event : All (λ (c : Component). c.shape.has_event_mode ≡ false) system.components
-  pub no_early : All (λ (c : Component). c.shape.might_return_early ≡ false) system.components
-  pub outputs : All (λ (port : Port). is_output_role port.role ≡ true) system.ports
-
--- no parameter is bound, which isn't built either
+-- no parameter is bound, which isn't built
 abbrev pub IsUnbound : Bound → Type 0
 IsUnbound bound = All (λ (values : List BoundValue). values ≡ []) bound.components
 
@@ -31,3 +24,7 @@ pub record IsNew (shape : Shape) (v : View) : Type 0 where
 pub record ArePeersOf (system : System) (views : List View) : Type 0 where
   pub len : length views ≡ length system.components
   pub each : (i : ℕ) (c : Component) (v : View) → slice_get system.components i ≡ Some c → slice_get views i ≡ Some v → IsNew c.shape v
+
+-- a machine that a peer tells is one of its component's shape, and its outputs keep to the dependencies that they declare
+abbrev pub TellTheirs : System → List View → Type 0
+TellTheirs system views = (i : ℕ) (c : Component) (v : View) (m : Machine) → slice_get system.components i ≡ Some c → slice_get views i ≡ Some v → v.fixed.machine ≡ Some m → IsMachineOf c.shape m × IsLawful c.shape m

@@ -23,7 +23,8 @@ use Rattle.calling_sequence.specs.Course.{header_of, pieces_of, text_of, trace_p
 use Rattle.step_master.specs.Lived.{Account, Lived, Unmade}
 use Rattle.calling_sequence.specs.Puts.{CutsPiece, with_pieces}
 use Rattle.calling_sequence.specs.Plans.{IsPlan}
-use Rattle.step_master.specs.System.{IsBuilt, IsUnbound}
+use Rattle.calling_sequence.specs.Systems.{IsBuilt}
+use Rattle.step_master.specs.System.{IsUnbound}
 
 -- ---- machines
 

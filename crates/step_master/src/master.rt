@@ -1,7 +1,8 @@
 ghost use Rattle.std.specs.Prelude.{◌≡◌, IfOk, IfErr, map};
 ghost use Rattle.system_model.specs.Sound.{IsSound};
 ghost use Rattle.calling_sequence.specs.Plans.{IsPlan};
-ghost use Rattle.step_master.specs.System.{ArePeersOf, IsBuilt, IsUnbound};
+ghost use Rattle.calling_sequence.specs.Systems.{IsBuilt};
+ghost use Rattle.step_master.specs.System.{ArePeersOf, IsUnbound};
 
 use crate::room::Room;
 use crate::seats::Seats;
@@ -73,8 +74,8 @@ impl<L: Peer> Master<L> {
         }
     }
 
-    /// Runs the system by its plan: the header, Initialization Mode, and then an instant and a step from one point to the
-    /// next, until the run ends. It puts the trace, one piece for the header, one for each instant, and one for the end.
+    /// Runs the system by its plan: the header, Initialization Mode, and then an instant, the Sets of the inputs and a step
+    /// from one point to the next, until the run ends. It puts the trace, one piece for the header, one for each instant, and one for the end.
     /// It takes no memory.
     pub fn run<R: Threads + Sync, O: Sink>(&mut self, _rt: &R, out: &mut O) -> RunEnd
         requires { IsReady L.view self.old }
@@ -85,6 +86,7 @@ impl<L: Peer> Master<L> {
             &mut self.seats.slots,
             &self.system,
             &self.plan,
+            &self.room.reads,
             &mut self.room.values,
             &mut self.room.text,
             &mut self.instants,

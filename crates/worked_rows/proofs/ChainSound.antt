@@ -1,8 +1,9 @@
 -- The two gains are a sound system without event mode.
-use Rattle.std.proofs.Common.{◌≡◌, ◌∙◌, ℕ, ◌+◌, ◌<◌, ◌≤◌, List, [], ◌∷◌, ◌++◌, ap, get_or, length, refl, sym, subst, take}
-use Rattle.std.specs.Prelude.{All, false, true, codes}
+use Rattle.std.proofs.Common.{◌≡◌, ◌∙◌, ℕ, zero, suc, ◌+◌, ◌<◌, ◌≤◌, List, [], ◌∷◌, ◌++◌, ap, get_or, length, refl, sym, subst, take}
+use Rattle.std.specs.Prelude.{All, Some, codes, false, slice_get, true}
 use Rattle.std.proofs.lemmas.List.Elements.{All-append, All-cons, All-nil}
 use Rattle.std.proofs.lemmas.List.{take_all, take_more}
+use Rattle.std.proofs.lemmas.Option.{none-some as none_some, same_Some}
 use Rattle.system_model.specs.declared.system.Component.{Component}
 use Rattle.system_model.specs.declared.system.System.{System}
 use Rattle.system_model.specs.Sound.{IsSound}
@@ -15,6 +16,8 @@ use Rattle.fmi_calls.specs.declared.phase.Phase.{Phase}
 use Rattle.fmi_calls.specs.Permission.{none_marked}
 use Rattle.fmu_peer.specs.View.{View}
 use Rattle.event_iteration.specs.Instants.{CanBeRead, IsWithoutEvents}
+use Rattle.calling_sequence.specs.Systems.{IsBuilt}
+use Rattle.step_master.specs.System.{ArePeersOf, IsNew}
 use Rattle.run_rows.proofs.OrderTests.{sound_by}
 use Rattle.worked_rows.specs.Chain.{chain, gain_on}
 use Rattle.worked_rows.specs.Trio.{component}
@@ -42,3 +45,25 @@ whole P xs i le all = subst (All P) (take_all i xs le) all
 
 pub readable : (v : View) (phase : Phase) → phase ≡ v.phase → phase.state ≡ P.Step → none_marked phase.marks ≡ true → CanBeRead v
 readable v phase same state unset = record { state = ap (λ (x : Phase). x.state) (sym same) ∙ state; unset = ap (λ (x : Phase). none_marked x.marks) (sym same) ∙ unset }
+
+-- ---- under the master
+
+abbrev of_first : Component
+of_first = component (codes "first") 0 (gain_on [])
+
+abbrev of_second : Component
+of_second = component (codes "second") 1 (gain_on (2 ∷ []))
+
+pub chain_built : (system : System) → system ≡ chain → IsBuilt system
+chain_built system is = subst IsBuilt (sym is) (record {
+  no_event = both (λ (c : Component). c.shape.has_event_mode ≡ false) of_first of_second refl refl;
+  no_early = both (λ (c : Component). c.shape.might_return_early ≡ false) of_first of_second refl refl;
+})
+
+pub chain_peers : (a b : View) → IsNew (gain_on []) a → IsNew (gain_on (2 ∷ [])) b → ArePeersOf chain (a ∷ b ∷ [])
+chain_peers a b new_a new_b = record { len = refl; each = each }
+  where
+    each : (i : ℕ) (of : Component) (v : View) → slice_get chain.components i ≡ Some of → slice_get (a ∷ b ∷ []) i ≡ Some v → IsNew of.shape v
+    each zero of v at is = subst (λ (x : Component). IsNew x.shape v) (same_Some of_first of at) (subst (IsNew of_first.shape) (same_Some a v is) new_a)
+    each (suc zero) of v at is = subst (λ (x : Component). IsNew x.shape v) (same_Some of_second of at) (subst (IsNew of_second.shape) (same_Some b v is) new_b)
+    each (suc (suc i)) of v at is = absurd (none_some _ is)

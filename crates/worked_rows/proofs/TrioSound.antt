@@ -16,14 +16,14 @@ use Rattle.system_model.specs.declared.system.Component.{Component}
 use Rattle.system_model.specs.declared.system.Port.{Port}
 use Rattle.system_model.specs.declared.system.Role.TheVariants.{Output}
 use Rattle.system_model.specs.declared.system.System.{System}
-use Rattle.system_model.specs.Ports.{is_output_role}
 use Rattle.system_model.specs.Shapes.{HasFittingStart, HasNames, IsSoundShape, NamesClocks}
 use Rattle.system_model.specs.Outputs.{HasOutputsAlone, IsOfOutputs}
 use Rattle.system_model.specs.Sound.{IsSound}
 use Rattle.system_model.proofs.Lists.{true_false}
 use Rattle.system_model.proofs.OutputsSound.{outputs_sound}
 use Rattle.fmu_peer.specs.View.{View}
-use Rattle.step_master.specs.System.{ArePeersOf, IsBuilt, IsNew}
+use Rattle.calling_sequence.specs.Systems.{IsBuilt}
+use Rattle.step_master.specs.System.{ArePeersOf, IsNew}
 use Rattle.worked_rows.specs.Trio.{component, counting, number, on_nothing, port, trio}
 
 all2 : {X : Type 0} (P : X → Type 0) (x y : X) → P x → P y → All P (x ∷ y ∷ [])
@@ -103,7 +103,6 @@ built : IsBuilt trio
 built = record {
   no_event = all3 (λ (c : Component). c.shape.has_event_mode ≡ false) first second third refl refl refl;
   no_early = all3 (λ (c : Component). c.shape.might_return_early ≡ false) first second third refl refl refl;
-  outputs = all3 (λ (p : Port). is_output_role p.role ≡ true) (port 0) (port 1) (port 2) refl refl refl;
 }
 
 pub trio_built : (system : System) → system ≡ trio → IsBuilt system

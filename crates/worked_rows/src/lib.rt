@@ -4,6 +4,8 @@
 #[cfg(test)]
 mod chain;
 #[cfg(test)]
+mod chain_master_tests;
+#[cfg(test)]
 mod chain_tests;
 #[cfg(test)]
 mod closing;

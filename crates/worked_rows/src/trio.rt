@@ -1,5 +1,7 @@
 //! Three FMUs side by side, the first two of one source: their system, their peers, and a run of them.
 ghost use Rattle.std.specs.Prelude.{◌≡◌, ◌≤◌, ◌^◌, [], ◌∷◌, IfOk, map};
+ghost use Rattle.system_model.specs.Sound.{IsSound};
+ghost use Rattle.calling_sequence.specs.Systems.{IsBuilt};
 ghost use Rattle.step_master.specs.System.{ArePeersOf, IsNew};
 ghost use Rattle.worked_rows.specs.Trio.{component, counting, in_turn, number, on_nothing, port, trio};
 
@@ -184,6 +186,23 @@ where
         return Err(StartFault::Memory);
     };
     let peers = start_trio(rt, alloc, spawner, &system)?;
+    Ok(run_system(rt, alloc, system, peers, stop, out))
+}
+
+/// Runs a system from 0 to the stop by steps of 10, and closes it.
+pub(crate) fn run_system<R: Threads + Sync, L: Peer>(
+    rt: &R,
+    alloc: Global,
+    system: System,
+    peers: Vec<L>,
+    stop: u64,
+    out: &mut MemSink,
+) -> Ran<L>
+    requires sound { IsSound system }
+    requires built { IsBuilt system }
+    requires peers { ArePeersOf system (map L.view peers.items) }
+    requires stop { stop ≤ 2 ^ 62 }
+{
     let bound = Bound {
         components: Items::from_vec(Vec::new(alloc)),
         unreached: 0,
@@ -198,16 +217,16 @@ where
     match Master::prepare(alloc, system, bound, peers, plan) {
         Ok(mut master) => {
             let end = master.run(rt, out);
-            Ok(Ran {
+            Ran {
                 end: Ok(end),
                 instants: master.instants(),
                 peers: master.close(),
-            })
+            }
         }
-        Err(PrepareEnd { peers, fault }) => Ok(Ran {
+        Err(PrepareEnd { peers, fault }) => Ran {
             end: Err(fault),
             instants: 0,
             peers,
-        }),
+        },
     }
 }

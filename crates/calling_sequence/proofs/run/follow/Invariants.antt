@@ -1,5 +1,6 @@
 use Rattle.std.proofs.Common.{◌≡◌, ◌≤◌, ◌-◌, length}
 use Rattle.std.specs.Prelude.{All}
+use Rattle.run_model.specs.Machines.{AreFitting}
 use Rattle.calling_sequence.proofs.Courses.{Here}
 use Rattle.calling_sequence.specs.Place.{IsAt}
 use Rattle.slot_calls.specs.Slots.{LiveSlot, Stands, instances}
@@ -16,6 +17,7 @@ invariant-points g l =
       begun : l.plan.start ≤ l.t;
       within : l.t ≤ l.plan.stop;
       places : length l.values ≡ length l.system.ports;
+      fitting : AreFitting l.system l.values;
     }
 
 abbrev pub decreases-points : goal.decreases-points

@@ -7,7 +7,7 @@ use Rattle.step_master.specs.Seats.{seated}
 use Rattle.slot_calls.specs.Slots.{instances}
 use Rattle.slot_calls.specs.Stage.{IsAnswered, StopsAt, shapes, to_each}
 use Rattle.slot_calls.proofs.Answered.{shapes_same}
-use Rattle.step_master.proofs.Prepared.{components_few, outputs_of, peers_fresh, ports_all, seated_shapes, slots_fresh, slots_length}
+use Rattle.step_master.proofs.Prepared.{components_few, peers_fresh, seated_shapes, slots_fresh, slots_length, tell_theirs}
 use Rattle.calling_sequence.proofs.Sizes.{same_length}
 use Rattle.step_master.proofs.master.Master.prepare.Goals as goal
 
@@ -33,11 +33,12 @@ returns-in-Ok-make-clause-ready g c =
     let fits = shapes_same stage.log _ (instances view news) stage.told ∙ ap shapes same ∙ seated_shapes c.args.system (map view c.args.peers.items) c.requires.peers in
     record {
       unrun = refl;
+      sound = c.requires.sound;
+      built = c.requires.built;
       plan = c.requires.plan;
       slots = record {
         few = subst (λ n. n ≤ 2 ^ 32) (sym (same_length (λ s. instance_in view s) news c.args.system c.args.plan fits)) (components_few c.args.system c.requires.sound);
         shapes_are = fits;
-        ports = ports_all c.args.system (instances view news) fits (outputs_of c.args.system c.requires.sound c.requires.built);
       };
       room = c.in-Ok.ensures;
       made = record { live = c.in-Ok-make.ensures.live; made = c.in-Ok-make.ensures.made; none = refl };
@@ -45,6 +46,7 @@ returns-in-Ok-make-clause-ready g c =
 
 pub returns-in-Ok-make-clause-ok : goal.returns-in-Ok-make-clause-ok
 returns-in-Ok-make-clause-ok g c =
+    let laws = g.met.L.Peer g.world.𝓛 g.world.𝓜 g.world.𝓡 ((λ s x. x), (λ x. x), (λ x. x), λ x. x) in
     let view = g.L.Peer.view in
     let views = map view c.args.peers.items in
     let same = c.in-Ok-new.ensures.ok ∙ ap (λ cs. seated cs views) c.as_slice.ensures in
@@ -58,6 +60,7 @@ returns-in-Ok-make-clause-ok g c =
       plan_is = refl;
       unrun = refl;
       none = refl;
+      machines = tell_theirs view c.args.peers.items laws.machine laws.lawful c.args.system c.requires.peers;
     }
 
 pub returns-in-Err-make-clause-err : goal.returns-in-Err-make-clause-err

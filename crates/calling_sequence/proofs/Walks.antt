@@ -1,0 +1,116 @@
+-- The log of a walk has the calls of its turns alone, and all were answered well.
+use Rattle.std.proofs.Common.{◌≡◌, ℕ, ℤ, Bool, true, false, List, [], ◌∷◌, Option, Some, None, Result, Ok, Contains, inl, inr, ◌⊎◌, refl, sym, subst}
+use Rattle.std.specs.Prelude.{All, if◌then◌else◌, slice_get}
+use Rattle.std.specs.Option.{option_and_then, option_map, option_map_or}
+use Rattle.std.proofs.lemmas.List.Elements.{All-append, All-cons, All-nil, Contains-append_left, Contains-append_right, Contains-push}
+use Rattle.std.proofs.lemmas.Option.{same_Some}
+use Rattle.value_types.specs.declared.shape.Shape.{Shape}
+use Rattle.fmi_calls.specs.declared.call.Call.{Call}
+use Rattle.fmi_calls.specs.declared.call.Call.TheVariants as C
+use Rattle.fmi_calls.specs.declared.call.Grade.TheVariants as G
+use Rattle.fmi_calls.specs.declared.call.Reply.{Reply}
+use Rattle.fmi_calls.specs.Worth.{grade_of}
+use Rattle.fmu_peer.specs.declared.peer.Exchange.{Exchange}
+use Rattle.fmu_peer.specs.declared.peer.PeerFault.{PeerFault}
+use Rattle.system_model.specs.declared.system.Component.{Component}
+use Rattle.system_model.specs.declared.system.Role.{Role}
+use Rattle.system_model.specs.declared.system.Role.TheVariants.{Input, Output, ClockInput, ClockOutput, TimeClock}
+use Rattle.system_model.specs.declared.system.Port.{Port}
+use Rattle.system_model.specs.declared.system.System.{System}
+use Rattle.run_model.specs.Equations.{fed}
+use Rattle.run_model.specs.Initial.{is_read}
+use Rattle.run_model.specs.Run.{value}
+use Rattle.slot_calls.specs.Log.{Sent}
+use Rattle.slot_calls.specs.Stage.{shapes_of}
+use Rattle.event_iteration.specs.Explains.{Explains, all_said, call_at, said}
+use Rattle.event_iteration.specs.Initialization.{asks_initially, initially, is_set_from_feed}
+use Rattle.event_iteration.specs.Instants.{asks_at_point, at_point}
+use Rattle.event_iteration.specs.Settings.{before_step, sets_to}
+use Rattle.event_iteration.specs.Turns.{IsPaired, Rules, sent_of}
+use Rattle.event_iteration.proofs.Permits.{shape_of_component}
+use Rattle.calling_sequence.proofs.Chains.{IsGet, IsGoodly, IsSet}
+
+-- a call with any answer is of this sort
+abbrev IsSort : (Exchange → Type 0) → Call → Type 0
+IsSort K call = (result : Result Reply PeerFault) → K (record { call = call; result = result })
+
+module _ (system : System) (K : Exchange → Type 0) where
+  sent_goodly : (i : ℕ) (c : Component) → slice_get system.components i ≡ Some c → (call : Option Call) (reply : Option Reply) → ((k : Call) → call ≡ Some k → IsSort K k) → IsPaired c.shape call reply →
+      All (IsGoodly K (shapes_of system)) (sent_of i call reply)
+  sent_goodly i c of None reply sort paired = All-nil (IsGoodly K (shapes_of system))
+  sent_goodly i c of (Some call) None sort paired = absurd paired
+  sent_goodly i c of (Some call) (Some reply) sort paired =
+      All-cons (IsGoodly K (shapes_of system)) _ []
+      (sort call refl (Ok reply), (λ d. subst (λ (s : Shape). grade_of s call reply ≡ G.Good) (shape_of_component system i c of d) paired)) (All-nil (IsGoodly K (shapes_of system)))
+
+  module _ (rules : Rules) (values : List (Option ℤ)) (sort : (p : ℕ) (port : Port) (c : Component) (k : Call) → rules.asks p port c values ≡ Some k → IsSort K k) (replies : ℕ → Option Reply) where
+    abbrev IsPairedAt : ℕ → Type 0
+    IsPairedAt p = (port : Port) (c : Component) → slice_get system.ports p ≡ Some port → slice_get system.components port.component.0 ≡ Some c → IsPaired c.shape (rules.asks p port c values) (replies p)
+
+    by_component : (p : ℕ) → IsPairedAt p → (port : Port) → slice_get system.ports p ≡ Some port → (o : Option Component) → slice_get system.components port.component.0 ≡ o →
+        All (IsGoodly K (shapes_of system)) (sent_of port.component.0 (option_and_then (λ (c : Component). rules.asks p port c values) o) (replies p))
+    by_component p paired port is None of = All-nil (IsGoodly K (shapes_of system))
+    by_component p paired port is (Some c) of = sent_goodly port.component.0 c of (rules.asks p port c values) (replies p) (sort p port c) (paired port c is of)
+
+    by_port : (p : ℕ) → IsPairedAt p → (o : Option Port) → slice_get system.ports p ≡ o →
+        All (IsGoodly K (shapes_of system)) (option_map_or (λ (port : Port). sent_of port.component.0 (call_at system rules values p port) (replies p)) o [])
+    by_port p paired None is = All-nil (IsGoodly K (shapes_of system))
+    by_port p paired (Some port) is = by_component p paired port is (slice_get system.components port.component.0) refl
+
+    all_goodly : (ps : List ℕ) → ((p : ℕ) → Contains ps p → IsPairedAt p) → All (IsGoodly K (shapes_of system)) (all_said system rules values replies ps)
+    all_goodly [] paired = All-nil (IsGoodly K (shapes_of system))
+    all_goodly (p ∷ ps) paired =
+        All-append (IsGoodly K (shapes_of system)) (said system rules values replies p) (all_said system rules values replies ps)
+        (by_port p (paired p (Contains-append_left (p ∷ []) ps p (Contains-push [] p))) (slice_get system.ports p) refl)
+        (all_goodly ps (λ q m. paired q (Contains-append_right (p ∷ []) ps q m)))
+
+  pub walk_goodly : (rules : Rules) (before : List (Option ℤ)) (taken : List ℕ) (values : List (Option ℤ)) (log : List Sent) → ((p : ℕ) (port : Port) (c : Component) (k : Call) → rules.asks p port c values ≡ Some k → IsSort K k) →
+      Explains system rules before taken values log → All (IsGoodly K (shapes_of system)) log
+  walk_goodly rules before taken values log sort told =
+      subst (All (IsGoodly K (shapes_of system))) (sym told.log_is) (all_goodly rules values sort told.replies taken (λ p m port c is of. told.paired p port c is of m))
+
+-- ---- the calls of the walks
+
+reads : (role : Role) (port : Port) (k : Call) → asks_at_point role port ≡ Some k → IsSort IsGet k
+reads Output port k h result = (port.kind, port.reference, sym (same_Some _ _ h))
+reads (Input feed) port k h result = absurd (cc)
+reads (ClockInput feed) port k h result = absurd (cc)
+reads ClockOutput port k h result = absurd (cc)
+reads (TimeClock timing) port k h result = absurd (cc)
+
+set_of : (port : Port) (o : Option ℤ) (k : Call) → option_map (λ x. C.Set port.kind port.reference x) o ≡ Some k → IsSort IsSet k
+set_of port None k h result = absurd (cc)
+set_of port (Some x) k h result = (port.kind, port.reference, x, sym (same_Some _ _ h))
+
+sets : (role : Role) (port : Port) (o : Option ℤ) (k : Call) → sets_to role port o ≡ Some k → IsSort IsSet k
+sets (Input None) port o k h result = absurd (cc)
+sets (Input (Some feed)) port o k h result = set_of port o k h result
+sets Output port o k h result = absurd (cc)
+sets (ClockInput feed) port o k h result = absurd (cc)
+sets ClockOutput port o k h result = absurd (cc)
+sets (TimeClock timing) port o k h result = absurd (cc)
+
+abbrev pub IsGetOrSet : Exchange → Type 0
+IsGetOrSet e = IsGet e ⊎ IsSet e
+
+if_some : {X : Type 0} (b : Bool) (o : Option X) (x : X) → (if b then o else None) ≡ Some x → o ≡ Some x
+if_some true o x h = h
+if_some false o x h = absurd (cc)
+
+finds : (role : Role) (ports : List Port) (read : Bool) (port : Port) (values : List (Option ℤ)) (k : Call) → asks_initially role ports read port values ≡ Some k → IsSort IsGetOrSet k
+finds (Input None) ports read port values k h result = absurd (cc)
+finds (Input (Some feed)) ports read port values k h result = inr (set_of port (fed feed values) k (if_some (is_set_from_feed ports port feed) _ k h) result)
+finds Output ports read port values k h result = inl (port.kind, port.reference, sym (same_Some _ _ (if_some read (Some (C.Get port.kind port.reference)) k h)))
+finds (ClockInput feed) ports read port values k h result = absurd (cc)
+finds ClockOutput ports read port values k h result = absurd (cc)
+finds (TimeClock timing) ports read port values k h result = absurd (cc)
+
+module _ (system : System) (before : List (Option ℤ)) (taken : List ℕ) (values : List (Option ℤ)) (log : List Sent) where
+  pub reading_goodly : Explains system at_point before taken values log → All (IsGoodly IsGet (shapes_of system)) log
+  reading_goodly told = walk_goodly system IsGet at_point before taken values log (λ p port c k h. reads port.role port k h) told
+
+  pub setting_goodly : (now : List (Option ℤ)) → Explains system (before_step now) before taken values log → All (IsGoodly IsSet (shapes_of system)) log
+  setting_goodly now told = walk_goodly system IsSet (before_step now) before taken values log (λ p port c k h. sets port.role port (value now p) k h) told
+
+  pub finding_goodly : Explains system (initially system) before taken values log → All (IsGoodly IsGetOrSet (shapes_of system)) log
+  finding_goodly told = walk_goodly system IsGetOrSet (initially system) before taken values log (λ p port c k h. finds port.role system.ports (is_read system.ports p) port values k h) told
