@@ -1,6 +1,6 @@
 pub mod SystemLemmas
 pub mod TakenLemmas
 pub mod TokenLemmas
-mod Zips
+mod Fails
 pub mod ShapeLemmas
 pub mod PortLemmas

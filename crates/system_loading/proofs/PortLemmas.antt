@@ -1,6 +1,6 @@
 -- The system of members whose descriptions are taken: its components, and its ports, which are outputs.
-use Rattle.std.proofs.Common.{◌≡◌, ℕ, suc, ◌+◌, ◌*◌, ◌<◌, ◌≤◌, Bool, true, false, ◌||◌, ◌&&◌, cond, List, [], ◌∷◌, ◌++◌, length, map, Option, Some, None, is_some, refl, ap, ◌∙◌, subst, arith, if◌then◌else◌, length-append, All, nat_eq}
-use Rattle.std.specs.List.{cons_option, count_by, filter_map, range_with_len, IsDistinct}
+use Rattle.std.proofs.Common.{◌≡◌, ℕ, suc, ◌+◌, ◌*◌, ◌<◌, ◌≤◌, Bool, true, false, ◌||◌, ◌&&◌, cond, List, [], ◌∷◌, ◌++◌, length, map, Option, Some, None, is_some, refl, ap, ◌∙◌, subst, arith, if◌then◌else◌, length-append, All}
+use Rattle.std.specs.List.{cons_option, count_by, filter_map, range_with_len}
 use Rattle.std.specs.Option.{option_map}
 use Rattle.std.proofs.lemmas.List.{map-append}
 use Rattle.std.proofs.lemmas.List.Recursion.{is_count_by}
@@ -14,12 +14,13 @@ use Rattle.system_model.specs.declared.system.Port.{Port}
 use Rattle.system_model.specs.declared.system.Role.TheVariants.{Output}
 use Rattle.system_model.specs.Ports.{Label, is_output_role, label_at, label_of, labels_from, numbers}
 use Rattle.system_model.specs.Outputs.{HasOutputsAlone, IsOfOutputs}
+use Rattle.system_model.specs.Shapes.{IsSoundShape}
 use Rattle.system_loading.specs.declared.member.Member.{Member}
 use Rattle.system_loading.specs.System.{component_of, components_from, port_of, port_with, ports_from, ports_of, system_of}
 use Rattle.system_loading.specs.Taken.{AreTaken, IsPlain, IsTaken, IsTakenMember, ports_in}
 use Rattle.system_loading.proofs.ShapeLemmas.{built_without, outputs_alone}
 use Rattle.system_loading.proofs.SystemLemmas.{length-components_from}
-use Rattle.system_loading.proofs.Zips.{none_pass}
+use Rattle.system_loading.proofs.Fails.{none_pass}
 
 -- ---- components
 
@@ -123,9 +124,9 @@ few_from i (m ∷ ms) few =
 
 -- ---- the whole
 
--- what the law of distinct references says of a taken member
-abbrev pub Distinct : Type 0
-Distinct = (per_second : ℕ) (bytes : List ℕ) (shape : Shape) → IsTaken per_second bytes shape → IsDistinct nat_eq (map (λ (v : Variable). v.reference) shape.variables)
+-- the shapes of taken members are sound
+abbrev pub AreSound : Type 0
+AreSound = (per_second : ℕ) (bytes : List ℕ) (shape : Shape) → IsTaken per_second bytes shape → IsSoundShape shape
 
 module _ (per_second : ℕ) (members : List Member) where
   pub few : All (IsTakenMember per_second) members → length (ports_of members) ≤ 65536 * length members
@@ -138,11 +139,11 @@ module _ (per_second : ℕ) (members : List Member) where
     outputs = All-weaker IsOutput (λ (port : Port). is_output_role port.role ≡ true) (λ port is. ap is_output_role is.0) (ports_of members) (outputs_from 0 members);
   }
 
-  pub of_outputs : Distinct → AreTaken per_second members → IsOfOutputs (system_of members)
-  of_outputs distinct taken = record {
+  pub of_outputs : AreSound → AreTaken per_second members → IsOfOutputs (system_of members)
+  of_outputs sound taken = record {
     few = let same : length (components_from 0 members) ≡ length members = length-components_from 0 members in let most : length members ≤ 256 = taken.few in omega (arith, same, most);
     named = each_component (λ (c : Component). 0 < length c.name) (IsTakenMember per_second) (λ i m is. is.named) 0 members taken.each;
-    shapes = each_component (λ (c : Component). HasOutputsAlone c.shape) (IsTakenMember per_second) (λ i m is. outputs_alone per_second is.bytes m.shape (distinct per_second is.bytes m.shape is.taken) is.taken) 0 members taken.each;
+    shapes = each_component (λ (c : Component). HasOutputsAlone c.shape) (IsTakenMember per_second) (λ i m is. outputs_alone m.shape (sound per_second is.bytes m.shape is.taken) is.taken.built) 0 members taken.each;
     per_second = per_second;
     above = taken.above;
     within = taken.within;

@@ -5,8 +5,8 @@ ghost use Rattle.system_loading.specs.declared.member.Member.{Member};
 ghost use Rattle.system_loading.specs.System.{ports_of, system_of};
 ghost use Rattle.system_loading.specs.Taken.{AreTaken, IsPlain, IsTaken, IsTakenMember};
 
+use description_laws::read_shapes;
 use doc_grammar::document_laws;
-use fmu_description::distinct_references;
 use system_model::sound_systems;
 
 /// What holds of descriptions that are taken: their system is sound, has neither event mode nor early return nor ports
@@ -18,6 +18,6 @@ pub fn taken_laws()
     ensures token { (per_second : ℕ) (bytes : List ℕ) (shape : Shape) → IsTaken per_second bytes shape → length shape.token ≤ length bytes }
 {
     document_laws();
-    distinct_references();
+    read_shapes();
     sound_systems();
 }

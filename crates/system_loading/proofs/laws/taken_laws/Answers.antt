@@ -7,7 +7,7 @@ use Rattle.system_loading.proofs.laws.taken_laws.Goals as goal
 pub returns-clause-sound : goal.returns-clause-sound
 returns-clause-sound c = λ per_second members taken.
     c.sound_systems.ensures.outputs (system_of members)
-    (of_outputs per_second members (λ p bytes shape is. c.distinct_references.ensures is.shapes.tree p shape is.shapes.sound is.shapes.describes) taken)
+    (of_outputs per_second members (λ p bytes shape is. c.read_shapes.ensures.sound is.shapes.tree p shape is.shapes.sound is.shapes.describes) taken)
 
 pub returns-clause-plain : goal.returns-clause-plain
 returns-clause-plain c = λ per_second members each. plain per_second members each
