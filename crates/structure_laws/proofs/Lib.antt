@@ -1,0 +1,3 @@
+mod Weights
+mod Order
+pub mod NameLemmas

@@ -1,0 +1,16 @@
+ghost use Rattle.std.specs.Prelude.{◌≤◌, ℕ, All, List, length};
+ghost use Rattle.doc_grammar.specs.Nodes.{Denotes, Node};
+ghost use Rattle.ssd_tree.specs.declared.tree.ComponentPart.{ComponentPart};
+ghost use Rattle.ssd_tree.specs.declared.tree.SystemTree.{SystemTree};
+ghost use Rattle.ssd_tree.specs.Parts.{Describes};
+ghost use Rattle.ssd_tree.specs.Rules.{IsSound};
+
+use doc_grammar::document_laws;
+
+/// Laws: the full name of each component that a system structure description without violation names is no longer than
+/// the document, in bytes.
+pub fn read_structures()
+    ensures names { (bytes : List ℕ) (document : List Node) (tree : SystemTree) → Denotes bytes document → IsSound document → Describes document tree → All (λ (c : ComponentPart). length c.name ≤ length bytes) tree.components }
+{
+    document_laws();
+}

@@ -1,0 +1,6 @@
+//! Laws of what a sound system structure description says of its systems.
+#![tactic(auto)]
+
+mod laws;
+
+pub use laws::read_structures;
