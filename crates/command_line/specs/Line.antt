@@ -1,9 +1,11 @@
--- The command lines of the program: `one DIR --resolution R --step H --stop T [--start S]`.
+-- The command lines of the program: `one DIR --resolution R --step H --stop T [--start S]`, `run` with the same
+-- words behind it, and `check DIR --resolution R`.
 use Rattle.std.specs.Prelude.{◌≡◌, ℕ, ◌^◌, ◌≤◌, Bool, true, false, List, [], ◌∷◌, map, find, Option, Some, None, if◌then◌else◌, codes, decimal, String, string_bytes}
 use Rattle.std.specs.Str.{bytes_eq}
 use Rattle.std.specs.declared.alloc.Global.{Global}
 use Rattle.system_model.specs.declared.plan.Plan.{Plan}
 use Rattle.command_line.specs.Words.{Word, Item, IsSpelled, has_each_once, is_among, positionals_of, value_of}
+use Rattle.command_line.specs.declared.words.CheckOptions.{CheckOptions}
 use Rattle.command_line.specs.declared.words.CommandLine.{CommandLine}
 use Rattle.command_line.specs.declared.words.CommandLine.TheVariants as R
 use Rattle.command_line.specs.declared.words.Options.{Options}
@@ -56,16 +58,28 @@ start_row = count_row (codes "start") 0 (Some 0)
 abbrev pub default_limit : ℕ
 default_limit = 100
 
+-- the options of a run
+abbrev pub run_options : List OptionRow
+run_options = CountOption resolution_row ∷ CountOption step_row ∷ CountOption stop_row ∷ CountOption start_row ∷ []
+
+-- a command with a directory and these options
+abbrev pub directory_row : Word → List OptionRow → CommandRow
+directory_row name options = record { name = name; positionals = codes "DIR" ∷ []; options = options }
+
 -- the run of one FMU
 abbrev pub one_row : CommandRow
-one_row = record {
-  name = codes "one";
-  positionals = codes "DIR" ∷ [];
-  options = CountOption resolution_row ∷ CountOption step_row ∷ CountOption stop_row ∷ CountOption start_row ∷ [];
-}
+one_row = directory_row (codes "one") run_options
+
+-- the run of a system
+abbrev pub run_row : CommandRow
+run_row = directory_row (codes "run") run_options
+
+-- the size of a system
+abbrev pub check_row : CommandRow
+check_row = directory_row (codes "check") (CountOption resolution_row ∷ [])
 
 abbrev pub commands : List CommandRow
-commands = one_row ∷ []
+commands = one_row ∷ run_row ∷ check_row ∷ []
 
 -- ---- lines of a table
 
@@ -127,14 +141,21 @@ Gives o None text = o.default ≡ Some text
 
 -- ---- what a line asks for
 
--- a line of `one`: the directory of the FMU, and the plan
-pub record OneLine : Type 0 where
+-- a line of a run: the directory, and the plan
+pub record RunLine : Type 0 where
   pub directory : List ℕ
   pub plan : Plan
 
+-- a line of a check: the directory, and how many counts a second has
+pub record CheckLine : Type 0 where
+  pub directory : List ℕ
+  pub resolution : ℕ
+
 -- a line of a command
 pub data Line : Type 0 where
-  One : OneLine → Line
+  One : RunLine → Line
+  Run : RunLine → Line
+  Check : CheckLine → Line
 
 -- the options give each count of the plan, which doesn't stop before it starts
 pub record GivesPlan (get : Lookup) (plan : Plan) : Type 0 where
@@ -145,13 +166,19 @@ pub record GivesPlan (get : Lookup) (plan : Plan) : Type 0 where
   pub limit : plan.limit ≡ default_limit
   pub ordered : plan.start ≤ plan.stop
 
--- a line of `one` gives the directory and the plan
-abbrev pub AsksOne : Lookup → OneLine → Type 0
-AsksOne get line = (get (codes "DIR") ≡ Some line.directory) × GivesPlan get line.plan
+-- a line of a run gives the directory and the plan
+abbrev pub AsksRun : Lookup → RunLine → Type 0
+AsksRun get line = (get (codes "DIR") ≡ Some line.directory) × GivesPlan get line.plan
+
+-- a line of a check gives the directory and the resolution
+abbrev pub AsksCheck : Lookup → CheckLine → Type 0
+AsksCheck get line = (get (codes "DIR") ≡ Some line.directory) × Counts resolution_row (get resolution_row.name) line.resolution
 
 -- what a line of each command asks for
 abbrev pub Asks : Word → Lookup → Line → Type 0
-Asks name get (One line) = (name ≡ one_row.name) × AsksOne get line
+Asks name get (One line) = (name ≡ one_row.name) × AsksRun get line
+Asks name get (Run line) = (name ≡ run_row.name) × AsksRun get line
+Asks name get (Check line) = (name ≡ check_row.name) × AsksCheck get line
 
 -- the words are a line that asks for this
 pub record IsLine (words : List Word) (line : Line) : Type 0 where
@@ -162,9 +189,20 @@ pub record IsLine (words : List Word) (line : Line) : Type 0 where
 
 abbrev pub directory_of : Line → List ℕ
 directory_of (One line) = line.directory
+directory_of (Run line) = line.directory
+directory_of (Check line) = line.directory
 
-abbrev pub plan_of : Line → Plan
-plan_of (One line) = line.plan
+-- how many counts a second has
+abbrev pub resolution_of : Line → ℕ
+resolution_of (One line) = line.plan.resolution
+resolution_of (Run line) = line.plan.resolution
+resolution_of (Check line) = line.resolution
+
+-- the plan of a run; a check has none
+abbrev pub plan_of : Line → Option Plan
+plan_of (One line) = Some line.plan
+plan_of (Run line) = Some line.plan
+plan_of (Check line) = None
 
 -- the limits of a plan
 pub record IsWithin (plan : Plan) : Type 0 where
@@ -174,9 +212,11 @@ pub record IsWithin (plan : Plan) : Type 0 where
   pub start : plan.start ≤ plan.stop
   pub limit : (1 ≤ plan.limit) × (plan.limit ≤ 10000)
 
--- the plan of a line keeps its limits
+-- the counts of a line keep their limits
 abbrev pub KeepsLimits : Line → Type 0
-KeepsLimits line = IsWithin (plan_of line)
+KeepsLimits (One line) = IsWithin line.plan
+KeepsLimits (Run line) = IsWithin line.plan
+KeepsLimits (Check line) = (1 ≤ line.resolution) × (line.resolution ≤ 2 ^ 62)
 
 -- ---- words and options of the program
 
@@ -184,14 +224,16 @@ KeepsLimits line = IsWithin (plan_of line)
 abbrev pub texts : List (String Global) → List Word
 texts words = map (string_bytes {Z = Global}) words
 
--- the line of `one` that options tell
-abbrev pub one_of : Options → OneLine
-one_of options = record { directory = options.directory.now; plan = options.plan }
+-- the line of a run that options tell
+abbrev pub run_of : Options → RunLine
+run_of options = record { directory = options.directory.now; plan = options.plan }
+
+-- the line of a check that options tell
+abbrev pub check_of : CheckOptions → CheckLine
+check_of options = record { directory = options.directory.now; resolution = options.resolution }
 
 -- the line that a command with its options tells
 abbrev pub line_of : CommandLine → Line
-line_of (R.One options) = One (one_of options)
-
--- the line of these options
-abbrev pub line_with : Options → Line
-line_with options = One (one_of options)
+line_of (R.One options) = One (run_of options)
+line_of (R.Run options) = Run (run_of options)
+line_of (R.Check options) = Check (check_of options)

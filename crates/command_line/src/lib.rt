@@ -9,7 +9,7 @@ mod lines;
 mod words;
 
 pub use fault::WordsFault;
-pub use words::{CommandLine, Options, read_words};
+pub use words::{CheckOptions, CommandLine, Options, read_words};
 
 #[cfg(test)]
 mod tests;

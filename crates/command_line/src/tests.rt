@@ -1,70 +1,116 @@
 use crate::{CommandLine, WordsFault, read_words};
 use std::alloc::{AllocError, Global};
 use std::test::Fail;
+use system_model::Plan;
 
-// Words between bars, and the directory, resolution, start, step and stop that they ask for.
-const LINES: [(&str, &str, [u64; 4]); 10] = [
+// What words ask for: the directory, and the resolution, start, step and stop; of a check the resolution alone.
+#[derive(Clone, Copy, Debug, PartialEq)]
+enum Asked<'a> {
+    One(&'a str, [u64; 4]),
+    Run(&'a str, [u64; 4]),
+    Check(&'a str, u64),
+}
+
+use Asked::{Check, One, Run};
+
+// Words between bars, and what they ask for.
+const LINES: [(&str, Asked<'static>); 24] = [
     // All is right.
     (
         "one|d|--resolution|10|--step|3|--stop|7",
-        "d",
-        [10, 0, 3, 7],
+        One("d", [10, 0, 3, 7]),
     ),
     (
         "one|d|--resolution|10|--step|3|--stop|7|--start|5",
-        "d",
-        [10, 5, 3, 7],
+        One("d", [10, 5, 3, 7]),
     ),
     (
         "one|counter|--resolution|1000000000|--step|10|--stop|100",
-        "counter",
-        [1000000000, 0, 10, 100],
+        One("counter", [1000000000, 0, 10, 100]),
     ),
     (
         "one|../my models/c-1|--resolution|1|--step|1|--stop|0|--start|0",
-        "../my models/c-1",
-        [1, 0, 1, 0],
+        One("../my models/c-1", [1, 0, 1, 0]),
     ),
     (
         "one|zähler|--resolution|4611686018427387904|--step|4611686018427387904|--stop|4611686018427387904|--start|4611686018427387904",
-        "zähler",
-        [
-            4611686018427387904,
-            4611686018427387904,
-            4611686018427387904,
-            4611686018427387904,
-        ],
+        One(
+            "zähler",
+            [
+                4611686018427387904,
+                4611686018427387904,
+                4611686018427387904,
+                4611686018427387904,
+            ],
+        ),
     ),
     (
         "one|one|--resolution|20|--step|300|--stop|7",
-        "one",
-        [20, 0, 300, 7],
+        One("one", [20, 0, 300, 7]),
     ),
+    (
+        "run|d|--resolution|10|--step|3|--stop|7",
+        Run("d", [10, 0, 3, 7]),
+    ),
+    (
+        "run|d|--resolution|10|--step|3|--stop|7|--start|7",
+        Run("d", [10, 7, 3, 7]),
+    ),
+    (
+        "run|run|--resolution|1|--step|4611686018427387904|--stop|0",
+        Run("run", [1, 0, 4611686018427387904, 0]),
+    ),
+    ("check|d|--resolution|1000", Check("d", 1000)),
+    (
+        "check|../my systems/c-1|--resolution|1",
+        Check("../my systems/c-1", 1),
+    ),
+    (
+        "check|check|--resolution|4611686018427387904",
+        Check("check", 4611686018427387904),
+    ),
+    // The directory is the name of another command.
+    (
+        "one|run|--resolution|10|--step|3|--stop|7",
+        One("run", [10, 0, 3, 7]),
+    ),
+    (
+        "run|one|--resolution|10|--step|3|--stop|7",
+        Run("one", [10, 0, 3, 7]),
+    ),
+    ("check|run|--resolution|10", Check("run", 10)),
     // Options with `=`, in any order, before the directory and behind it.
     (
         "one|d|--resolution=10|--step=3|--stop=7|--start=7",
-        "d",
-        [10, 7, 3, 7],
+        One("d", [10, 7, 3, 7]),
     ),
     (
         "one|--start|2|--stop=7|d|--step|3|--resolution=10",
-        "d",
-        [10, 2, 3, 7],
+        One("d", [10, 2, 3, 7]),
     ),
     (
         "one|--resolution|10|--step|3|--stop|7|d",
-        "d",
-        [10, 0, 3, 7],
+        One("d", [10, 0, 3, 7]),
     ),
     (
         "one|--step|3|--resolution|10|--stop|7|a=b",
-        "a=b",
-        [10, 0, 3, 7],
+        One("a=b", [10, 0, 3, 7]),
     ),
+    (
+        "run|d|--resolution=10|--step=3|--stop=7|--start=5",
+        Run("d", [10, 5, 3, 7]),
+    ),
+    (
+        "run|--start=2|--stop|7|d|--step=3|--resolution|10",
+        Run("d", [10, 2, 3, 7]),
+    ),
+    ("check|d|--resolution=1000", Check("d", 1000)),
+    ("check|--resolution|1000|d", Check("d", 1000)),
+    ("check|--resolution=1000|a=b", Check("a=b", 1000)),
 ];
 
 // Words between bars that are no line.
-const OTHERS: [&str; 78] = [
+const OTHERS: [&str; 116] = [
     // A word is missing.
     "",
     "one",
@@ -78,6 +124,16 @@ const OTHERS: [&str; 78] = [
     "one|d|--resolution|10|--step|3|--stop",
     "one|d|--resolution|--step|3|--stop|7",
     "one|d|--resolution|10|--step|3|--stop|7|--start",
+    "run",
+    "run|d",
+    "run|--resolution|10|--step|3|--stop|7",
+    "run|d|--step|3|--stop|7",
+    "run|d|--resolution|10|--stop|7",
+    "run|d|--resolution|10|--step|3",
+    "check",
+    "check|d",
+    "check|--resolution|1000",
+    "check|d|--resolution",
     // A word is there twice, or there is one too many.
     "one|d|d|--resolution|10|--step|3|--stop|7",
     "one|d|--resolution|10|--step|3|--stop|7|d",
@@ -88,12 +144,26 @@ const OTHERS: [&str; 78] = [
     "one|d|--resolution|10|--step|3|--stop|7|--stop|7",
     "one|d|--resolution|10|--step|3|--stop|7|--start=0|--start=0",
     "one|d|--resolution|10|--step|3|--stop|7|--workers|1",
+    "run|d|d|--resolution|10|--step|3|--stop|7",
+    "run|one|d|--resolution|10|--step|3|--stop|7",
+    "run|d|--resolution|10|--step|3|--step|3|--stop|7",
+    "run|d|--resolution|10|--step|3|--stop|7|--start=0|--start|0",
+    "check|d|d|--resolution|1000",
+    "check|d|--resolution|1000|d",
+    "check|d|--resolution|1000|--resolution=1000",
+    // A check has no step, stop or start.
+    "check|d|--resolution|1000|--step|10",
+    "check|d|--resolution|1000|--step=10",
+    "check|d|--resolution|1000|--stop|100",
+    "check|d|--resolution|1000|--start|0",
+    "check|d|--resolution|1000|--step|10|--stop|100",
     // The command is another, or isn't the first word.
     "two|d|--resolution|10|--step|3|--stop|7",
     "One|d|--resolution|10|--step|3|--stop|7",
     "on|d|--resolution|10|--step|3|--stop|7",
-    "run|d|--resolution|10|--step|3|--stop|7",
-    "check|d|--resolution|10",
+    "Run|d|--resolution|10|--step|3|--stop|7",
+    "runs|d|--resolution|10|--step|3|--stop|7",
+    "chec|d|--resolution|10",
     "|d|--resolution|10|--step|3|--stop|7",
     "d|one|--resolution|10|--step|3|--stop|7",
     "--resolution|10|one|d|--step|3|--stop|7",
@@ -106,6 +176,8 @@ const OTHERS: [&str; 78] = [
     "one|--help",
     "one|-h",
     "one|d|--resolution|10|--step|3|--stop|7|--help",
+    "check|--help",
+    "check|d|--resolution|1000|--",
     "--|one|d|--resolution|10|--step|3|--stop|7",
     "one|--|d|--resolution|10|--step|3|--stop|7",
     "one|d|--resolution|10|--step|3|--stop|7|--",
@@ -129,6 +201,9 @@ const OTHERS: [&str; 78] = [
     "one|d|--resolution=-10|--step|3|--stop|7",
     "one|d|--resolution|10|--step|3|--stop|-0",
     "one|d|--resolution|10|--step|3|--stop|-",
+    "run||--resolution|10|--step|3|--stop|7",
+    "check|-d|--resolution|1000",
+    "check|d|--resolution|-1000",
     // A number is beyond its limits, or the start is above the stop.
     "one|d|--resolution|0|--step|3|--stop|7",
     "one|d|--resolution|10|--step|0|--stop|7",
@@ -139,6 +214,13 @@ const OTHERS: [&str; 78] = [
     "one|d|--resolution|10|--step|3|--stop|18446744073709551616",
     "one|d|--resolution|10|--step|3|--stop|99999999999999999999",
     "one|d|--resolution|10|--step|3|--stop|7|--start|8",
+    "run|d|--resolution|0|--step|3|--stop|7",
+    "run|d|--resolution|10|--step|0|--stop|7",
+    "run|d|--resolution|10|--step|3|--stop|7|--start|8",
+    "check|d|--resolution|0",
+    "check|d|--resolution=0",
+    "check|d|--resolution|4611686018427387905",
+    "check|d|--resolution|18446744073709551616",
     // A number is spelled otherwise.
     "one|d|--resolution|+10|--step|3|--stop|7",
     "one|d|--resolution|010|--step|3|--stop|7",
@@ -151,6 +233,9 @@ const OTHERS: [&str; 78] = [
     "one|d|--resolution|10 |--step|3|--stop|7",
     "one|d|--resolution|10|--step|٣|--stop|7",
     "one|d|--resolution|10|--step|=3|--stop|7",
+    "check|d|--resolution|01000",
+    "check|d|--resolution|+1000",
+    "check|d|--resolution|1000.0",
 ];
 
 fn split_words(alloc: Global, line: &str) -> Result<Vec<String>, AllocError> {
@@ -161,22 +246,25 @@ fn split_words(alloc: Global, line: &str) -> Result<Vec<String>, AllocError> {
     Ok(words)
 }
 
-fn read(alloc: Global, words: &[String]) -> Result<(&str, [u64; 4]), WordsFault> {
-    let CommandLine::One(options) = read_words(alloc, words)?;
-    let plan = options.plan;
-    let counts = [plan.resolution, plan.start, plan.step, plan.stop];
-    Ok((options.directory, counts))
+fn counts_of(plan: Plan) -> [u64; 4] {
+    [plan.resolution, plan.start, plan.step, plan.stop]
+}
+
+fn read(alloc: Global, words: &[String]) -> Result<Asked<'_>, WordsFault> {
+    let asked = match read_words(alloc, words)? {
+        CommandLine::One(options) => One(options.directory, counts_of(options.plan)),
+        CommandLine::Run(options) => Run(options.directory, counts_of(options.plan)),
+        CommandLine::Check(options) => Check(options.directory, options.resolution),
+    };
+    Ok(asked)
 }
 
 #[test]
 fn a_line_gives_its_options(rt: HostRuntime) -> Result<(), Fail> {
     let alloc = rt.alloc();
-    for (line, directory, counts) in &LINES {
+    for (line, asked) in &LINES {
         let words = split_words(alloc, line)?;
-        assert!(rt;
-            read(alloc, &words) == Ok((*directory, *counts)),
-            "at {line}"
-        );
+        assert!(rt; read(alloc, &words) == Ok(*asked), "at {line}");
     }
     Ok(())
 }

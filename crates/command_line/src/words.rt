@@ -1,7 +1,7 @@
-ghost use Rattle.std.specs.Prelude.{◌≡◌, IfOk, IfErr, IfSome, IsSomeAnd};
+ghost use Rattle.std.specs.Prelude.{◌≡◌, ◌≤◌, ◌^◌, IfOk, IfErr, IfSome, IsSomeAnd};
 ghost use Rattle.clap.specs.Words.{app_of, first_of, found_of, rows_of, subcommand_rows_of};
 ghost use Rattle.command_line.specs.App.{app_of_rows};
-ghost use Rattle.command_line.specs.Line.{Asks, AsksOne, GivesPlan, IsLine, IsLineOf, IsWithin, KeepsLimits, Line, Lookup, OneLine, commands, line_of, one_of, texts};
+ghost use Rattle.command_line.specs.Line.{Asks, AsksCheck, AsksRun, CheckLine, GivesPlan, IsLine, IsLineOf, IsWithin, KeepsLimits, Line, Lookup, RunLine, check_of, commands, line_of, run_of, texts};
 ghost use Rattle.command_line.specs.Table.{GivesLine, SubAsks};
 ghost use Rattle.command_line.specs.Words.{Word};
 ghost use Rattle.command_line.specs.declared.fault.WordsFault.TheVariants.{NoLine};
@@ -15,6 +15,9 @@ use clap::{ArgMatches, Command};
 use std::alloc::{AllocError, Global};
 use system_model::Plan;
 
+// The options of a run.
+const RUN_OPTIONS: [&str; 4] = ["resolution", "step", "stop", "start"];
+
 // So many instants at a point end a run, where no option says it.
 const DEFAULT_LIMIT: u64 = 100;
 
@@ -23,13 +26,24 @@ const DEFAULT_LIMIT: u64 = 100;
 pub enum CommandLine<'a> {
     /// to run the FMU in a directory
     One(Options<'a>),
+    /// to run the system in a directory
+    Run(Options<'a>),
+    /// to check the system in a directory
+    Check(CheckOptions<'a>),
 }
 
-/// What `one` is asked for: the directory of the FMU, and the plan of its run.
+/// What `one` and `run` are asked for: the directory of the FMU or of the system, and the plan of its run.
 #[derive(Clone, Copy, Debug)]
 pub struct Options<'a> {
     pub directory: &'a str,
     pub plan: Plan,
+}
+
+/// What `check` is asked for: the directory, and how many counts a second has.
+#[derive(Clone, Copy, Debug)]
+pub struct CheckOptions<'a> {
+    pub directory: &'a str,
+    pub resolution: u64,
 }
 
 /// Reads the words of a command line, without the program's name.
@@ -66,13 +80,9 @@ fn make_command<'a>(alloc: Global) -> Result<Command<'a>, AllocError>
     ensures { IfOk result (λ c. app_of c ≡ app_of_rows commands) }
 {
     let command = top_command(alloc);
-    with_subcommand(
-        alloc,
-        command,
-        "one",
-        &["DIR"],
-        &["resolution", "step", "stop", "start"],
-    )
+    let command = with_subcommand(alloc, command, "one", &["DIR"], &RUN_OPTIONS)?;
+    let command = with_subcommand(alloc, command, "run", &["DIR"], &RUN_OPTIONS)?;
+    with_subcommand(alloc, command, "check", &["DIR"], &["resolution"])
 }
 
 // The command that was matched, with its options.
@@ -94,19 +104,36 @@ fn read_command<'a>(name: &str, matches: &ArgMatches<'a>) -> Option<CommandLine<
     ensures within { IfSome result (λ l. KeepsLimits (line_of l)) }
 {
     match name {
-        "one" => Some(CommandLine::One(read_one(matches)?)),
+        "one" => Some(CommandLine::One(read_run(matches)?)),
+        "run" => Some(CommandLine::Run(read_run(matches)?)),
+        "check" => Some(CommandLine::Check(read_check(matches)?)),
         _ => None,
     }
 }
 
-fn read_one<'a>(matches: &ArgMatches<'a>) -> Option<Options<'a>>
-    ensures ok { IfSome result (λ o. AsksOne (λ n. first_of n (rows_of (found_of matches.now))) (one_of o)) }
-    ensures only { (line : OneLine) → AsksOne (λ n. first_of n (rows_of (found_of matches.now))) line → IsSomeAnd result (λ o. one_of o ≡ line) }
+// The directory and the plan of a run.
+fn read_run<'a>(matches: &ArgMatches<'a>) -> Option<Options<'a>>
+    ensures ok { IfSome result (λ o. AsksRun (λ n. first_of n (rows_of (found_of matches.now))) (run_of o)) }
+    ensures only { (line : RunLine) → AsksRun (λ n. first_of n (rows_of (found_of matches.now))) line → IsSomeAnd result (λ o. run_of o ≡ line) }
     ensures within { IfSome result (λ o. IsWithin o.plan) }
 {
     let directory = value_of(matches, "DIR")?;
     let plan = read_plan(matches)?;
     Some(Options { directory, plan })
+}
+
+// The directory and the resolution of a check.
+fn read_check<'a>(matches: &ArgMatches<'a>) -> Option<CheckOptions<'a>>
+    ensures ok { IfSome result (λ o. AsksCheck (λ n. first_of n (rows_of (found_of matches.now))) (check_of o)) }
+    ensures only { (line : CheckLine) → AsksCheck (λ n. first_of n (rows_of (found_of matches.now))) line → IsSomeAnd result (λ o. check_of o ≡ line) }
+    ensures within { IfSome result (λ o. (1 ≤ o.resolution) × (o.resolution ≤ 2 ^ 62)) }
+{
+    let directory = value_of(matches, "DIR")?;
+    let resolution = option_count(matches, "resolution", 1, None)?;
+    Some(CheckOptions {
+        directory,
+        resolution,
+    })
 }
 
 fn read_plan(matches: &ArgMatches<'_>) -> Option<Plan>

@@ -20,10 +20,11 @@ use Rattle.system_model.specs.declared.system.System.{System}
 use Rattle.run_model.specs.Behaved.{WellBehaved}
 use Rattle.run_model.specs.Run.{Run}
 use Rattle.step_master.specs.Traced.{TellMachines}
-use Rattle.command_line.specs.Line.{Line, plan_of}
-use Rattle.ssprun.specs.Facts.{system_for, task_of}
+use Rattle.system_model.specs.declared.plan.Plan.{Plan}
+use Rattle.system_files.specs.declared.loaded.Loaded.{Loaded}
+use Rattle.ssprun.specs.Runs.{Task}
 use Rattle.ssprun.specs.Happened.{Happened}
-use Rattle.ssprun.specs.Rows.{BuiltInRow, IsOverBench, TraceRow, Traces, TracesBuiltIns}
+use Rattle.ssprun.specs.Rows.{BuiltInRow, IsOverBench, IsRunAs, TraceRow, Traces, TracesBuiltIns}
 use Rattle.ssprun.proofs.PeerLemmas.{all_got, mapped_at, started_at}
 
 -- it tells the machine of a model, for its shape
@@ -46,7 +47,7 @@ built_ins_tell : (peers : List BuiltIn) → All TellsModel (map (λ (v : View). 
 built_ins_tell [] = All-nil TellsModel
 built_ins_tell (b ∷ bs) = All-cons TellsModel (built_in_view b).fixed (map (λ (v : View). v.fixed) (map built_in_view bs)) (b.model, refl) (built_ins_tell bs)
 
-module _ (behave : BuiltInsBehaveWell) (h : Happened) (line : Line) (system : System) (t : Traces h line system) (b : IsOverBench h) (quiet : All (λ (v : View). v.faults ≡ 0) h.new.run.spawner.retired) where
+module _ (behave : BuiltInsBehaveWell) (h : Happened) (task : Task) (system : System) (t : Traces h task system) (b : IsOverBench h) (quiet : All (λ (v : View). v.faults ≡ 0) h.new.run.spawner.retired) where
   retired_is : h.new.run.spawner.retired ≡ h.old.run.spawner.retired ++ t.news
   retired_is = ap (λ (s : SpawnerView). s.retired) t.peers.told
 
@@ -69,7 +70,7 @@ module _ (behave : BuiltInsBehaveWell) (h : Happened) (line : Line) (system : Sy
 
   -- their run
   abbrev run : Run
-  run = record { system = system; bound = record { components = []; unreached = 0 }; machines = map machine_in t.olds; plan = plan_of line }
+  run = record { system = system; bound = record { components = []; unreached = 0 }; machines = map machine_in t.olds; plan = task.plan }
 
   tell : TellMachines t.olds (map machine_in t.olds)
   tell = record {
@@ -79,8 +80,8 @@ module _ (behave : BuiltInsBehaveWell) (h : Happened) (line : Line) (system : Sy
         let same : at.0 ≡ v = same_Some at.0 v (sym at.1 ∙ of_v) in
         let tells = all_got (λ (x : View). TellsModel x.fixed) t.olds i v olds_tell of_v in
         let told : v.fixed.machine ≡ Some m = tells.1 ∙ ap (λ (n : Machine). Some n) (told_is v (machine_of (behaviour_of tells.0) v.fixed.shape) m tells.1 (ap machine_in (sym same) ∙ at.2)) in
-        let started = started_at (task_of line).directory system.components t.olds i v t.peers.are of_v in
-        (told, started.2.state ∙ ap (option_map (λ (n : Machine). n.first)) told);
+        let started = started_at task.folders system.components t.olds i v t.peers.are of_v in
+        (told, started.2.1.state ∙ ap (option_map (λ (n : Machine). n.first)) told);
   }
 
   built_in : (i : ℕ) (c : Component) (m : Machine) → slice_get system.components i ≡ Some c → slice_get (map machine_in t.olds) i ≡ Some m → IsBuiltIn c.shape m
@@ -88,9 +89,9 @@ module _ (behave : BuiltInsBehaveWell) (h : Happened) (line : Line) (system : Sy
       let at = mapped_at machine_in t.olds i m of_m in
       let v = at.0 in
       let tells = all_got (λ (x : View). TellsModel x.fixed) t.olds i v olds_tell at.1 in
-      let started = started_at (task_of line).directory system.components t.olds i v t.peers.are at.1 in
+      let started = started_at task.folders system.components t.olds i v t.peers.are at.1 in
       let same : started.0 ≡ c = same_Some started.0 c (sym started.1 ∙ of_c) in
-      let shape : v.fixed.shape ≡ c.shape = started.2.shape_is ∙ ap (λ (x : Component). x.shape) same in
+      let shape : v.fixed.shape ≡ c.shape = started.2.1.shape_is ∙ ap (λ (x : Component). x.shape) same in
       let model : machine_of (behaviour_of tells.0) v.fixed.shape ≡ m = told_is v (machine_of (behaviour_of tells.0) v.fixed.shape) m tells.1 at.2 in
       let seconds = all_got (λ (x : Component). x.shape.resolution ≡ t.sound.components.per_second) system.components i c t.sound.components.resolutions of_c in
       let above = t.sound.components.above in
@@ -103,11 +104,11 @@ module _ (behave : BuiltInsBehaveWell) (h : Happened) (line : Line) (system : Sy
   well : WellBehaved run
   well i = behave run t.sound i (λ c m of_c of_m. built_in i c m of_c of_m)
 
-  pub traced : TracesBuiltIns h line system
-  traced = record {
+  pub traced : (plan : Plan) (loaded : Loaded) → IsRunAs loaded plan task system → TracesBuiltIns h plan loaded.system
+  traced plan loaded same = record {
     run = run;
-    system_is = refl;
-    plan_is = refl;
+    parts = same.parts;
+    plan_is = same.plan_is;
     unbound = All-nil (λ (values : List BoundValue). values ≡ []);
     built_in = record { count = length-map t.olds machine_in ∙ t.peers.each; each = built_in };
     writes = t.writes run (record { system_is = refl; unbound = All-nil (λ (values : List BoundValue). values ≡ []); tell = tell }) refl well news_quiet;
@@ -115,9 +116,9 @@ module _ (behave : BuiltInsBehaveWell) (h : Happened) (line : Line) (system : Sy
 
 pub built_in_exact : BuiltInsBehaveWell → (h : Happened) → TraceRow h → BuiltInRow h
 built_in_exact behave h row = record {
-  when = λ b line shape is to_find knows calm put quiet.
-      elim (row.when line shape is to_find knows calm put) [
+  when = λ b line plan loaded is planned to_find knows calm put quiet.
+      elim (row.when line plan loaded is planned to_find knows calm put) [
         | inl idle ↦ inl idle
-        | inr t ↦ inr (traced behave h line (system_for shape) t b quiet)
+        | inr t ↦ inr (traced behave h t.task t.system t.traces b quiet plan loaded t.same)
       ];
 }

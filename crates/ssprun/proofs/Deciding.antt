@@ -1,5 +1,5 @@
 -- The first answer that isn't good, of the least component, decides status and line.
-use Rattle.std.proofs.Common.{◌≡◌, ◌⊎◌, inl, inr, ℕ, zero, suc, ◌<◌, List, [], ◌∷◌, ◌++◌, Option, Some, IfSome, refl, sym, ap, ◌∙◌, subst, arith, append_assoc, map, take}
+use Rattle.std.proofs.Common.{◌≡◌, ◌⊎◌, inl, inr, ℕ, ◌<◌, List, [], ◌∷◌, ◌++◌, Option, Some, IfSome, sym, ap, ◌∙◌, subst, append_assoc, map, take}
 use Rattle.std.specs.Prelude.{All, IsSomeAnd}
 use Rattle.std.specs.List.{slice_get}
 use Rattle.std.proofs.lemmas.List.{append_cancel_left, map-append}
@@ -24,14 +24,14 @@ use Rattle.slot_calls.specs.Log.{Sent}
 use Rattle.ssprun.specs.declared.outcome.Outcome.{Outcome}
 use Rattle.ssprun.specs.declared.outcome.End.{End}
 use Rattle.ssprun.specs.Message.{Reports, bad_message, end_message, end_status, why_status}
-use Rattle.ssprun.specs.Facts.{system_for, task_of}
+use Rattle.ssprun.specs.Facts.{task_of}
 use Rattle.ssprun.specs.Happened.{Happened, Scene}
-use Rattle.ssprun.specs.Rows.{Answers, IsFirstBadOf, IsIdle, IsLeastBadOf, TellPeers}
+use Rattle.ssprun.specs.Rows.{Answers, IsFirstBadOf, IsLeastBadOf, IsUncalled, TellPeers}
 use Rattle.ssprun.specs.Runs.{Broke, HasRun, IsEndOf, IsUnasked, RunsPeers, Task, Went, names_of}
 use Rattle.ssprun.proofs.Exactly.{answers}
 use Rattle.ssprun.proofs.FirstBad.{at_middle, in_run, no_bad, one_bad}
 use Rattle.ssprun.proofs.Outs.{TellsOut, tells_out}
-use Rattle.ssprun.proofs.PeerLemmas.{all_got, mapped_at, started_at}
+use Rattle.ssprun.proofs.PeerLemmas.{all_got, compare, mapped_at, slice_get-take_front, started_at}
 use Rattle.ssprun.proofs.Runs.{HasRunOne, ran_put}
 use Rattle.ssprun.proofs.When.{HasPut}
 
@@ -68,23 +68,6 @@ lives_of task system end old new (Broke bad is f) = record {
 }
 
 -- ---- lists
-
-compare : (a b : ℕ) → (a < b) ⊎ ((a ≡ b) ⊎ (b < a))
-compare zero zero = inr (inl refl)
-compare zero (suc b) = inl (omega arith)
-compare (suc a) zero = inr (inr (omega arith))
-compare (suc a) (suc b) = by (compare a b)
-  where
-    by : (a < b) ⊎ ((a ≡ b) ⊎ (b < a)) → (suc a < suc b) ⊎ ((suc a ≡ suc b) ⊎ (suc b < suc a))
-    by (inl less) = inl (omega (arith, less))
-    by (inr (inl same)) = inr (inl (ap suc same))
-    by (inr (inr more)) = inr (inr (omega (arith, more)))
-
-slice_get-take_front : {X : Type 0} (xs : List X) (n k : ℕ) → k < n → slice_get (take n xs) k ≡ slice_get xs k
-slice_get-take_front xs zero k less = absurd (omega (arith, less))
-slice_get-take_front [] (suc n) k less = refl
-slice_get-take_front (x ∷ xs) (suc n) zero less = refl
-slice_get-take_front (x ∷ xs) (suc n) (suc k) less = slice_get-take_front xs n k (omega (arith, less))
 
 -- each peer has its talk at its place
 talk_there : (peers : List View) (talks : List (List Exchange)) (k : ℕ) (v : View) → map (λ (x : View). x.talk) peers ≡ map (λ (es : List Exchange). Some es) talks →
@@ -143,8 +126,8 @@ module _ (task : Task) (system : System) (end : RunEnd) (old new : Scene) (l : L
   -- its name is that of its component
   name_is : (k : ℕ) (v : View) (talk : List Exchange) (name : List ℕ) (f : Found l.lives l.olds k v talk) → IsSomeAnd v.fixed.origin (λ (o : Origin). o.name ≡ name) → slice_get (names_of system) k ≡ Some name
   name_is k v talk name f h =
-      let s = started_at task.directory system.components l.olds k f.life.old l.peers.are f.old in
-      let origin = ap (λ (x : Fixed). x.origin) (sym (ap (λ (x : View). x.fixed) f.new) ∙ f.is.fixed) ∙ s.2.origin in
+      let s = started_at task.folders system.components l.olds k f.life.old l.peers.are f.old in
+      let origin = ap (λ (x : Fixed). x.origin) (sym (ap (λ (x : View). x.fixed) f.new) ∙ f.is.fixed) ∙ s.2.1.origin in
       let same : s.0.name ≡ name = subst (λ (o : Option Origin). IsSomeAnd o (λ (x : Origin). x.name ≡ name)) origin h in
       slice_get-map (λ (c : Component). c.name) system.components k ∙ ap (option_map (λ (c : Component). c.name)) s.1 ∙ ap Some same
 
@@ -224,7 +207,7 @@ end_decides task system (E.Bad bad) e h l talks told name why b named p quiet ou
     subst (λ (w : Why). Answers h (why_status w) (bad_message name w)) same.1 (subst (λ (n : List ℕ). Answers h (why_status bad.why) (bad_message n bad.why)) same.0 (answers (bad_message named.0 bad.why) (why_status bad.why) h put))
 end_decides task system E.WriteFault e h l talks told name why b named p quiet outs = absurd (quiet outs)
 
-pub decides : (o : Outcome) (h : Happened) → HasPut o h → IsIdle h ⊎ HasRunOne o h → (peers : List View) (talks : List (List Exchange)) (name : List ℕ) (why : Why) →
+pub decides : (o : Outcome) (h : Happened) → HasPut o h → IsUncalled h ⊎ HasRunOne o h → (peers : List View) (talks : List (List Exchange)) (name : List ℕ) (why : Why) →
     TellPeers h peers talks → IsLeastBadOf peers talks name why → Answers h (why_status why) (bad_message name why)
 decides o h p (inl idle) peers talks name why told b =
     let same : peers ≡ idle.peers = append_cancel_left h.old.run.spawner.retired peers idle.peers (sym told.retired ∙ idle.retired) in
@@ -236,8 +219,8 @@ decides o h p (inl idle) peers talks name why told b =
     no_last [] rest last e = cc
     no_last (x ∷ front) rest last e = cc
 decides o h p (inr one) peers talks name why told b =
-    let task = task_of one.line in
-    let system = system_for one.shape in
+    let task = task_of one.it.plan one.it.loaded in
+    let system = one.it.loaded.system in
     let l = lives_of task system one.end h.old.run h.new.run one.run in
     let retired : h.new.run.spawner.retired ≡ h.old.run.spawner.retired ++ l.news = ap (λ (s : SpawnerView). s.retired) l.peers.told in
     let same : peers ≡ l.news = append_cancel_left h.old.run.spawner.retired peers l.news (sym told.retired ∙ retired) in

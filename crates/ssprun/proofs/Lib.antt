@@ -1,8 +1,6 @@
 pub mod Digits
 pub mod KindNames
 pub mod Statuses
-pub mod Findings
-pub mod FolderLemmas
 pub mod When
 pub mod Exactly
 pub mod FirstBad
@@ -15,7 +13,7 @@ pub mod Deciding
 pub mod Tracing
 pub mod BuiltIns
 pub mod Rows
-pub mod LoadLemmas
 pub mod ReadLemmas
 pub mod StreamLemmas
 pub mod NameLemmas
+pub mod LoopText

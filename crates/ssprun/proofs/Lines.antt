@@ -1,54 +1,92 @@
--- From the FMU that a line names to the system that is run.
-use Rattle.std.proofs.Common.{ℕ, ◌*◌, ◌≤◌, ◌^◌, List, [], arith, length}
+-- From what is loaded to what can be run.
+use Rattle.std.proofs.Common.{◌≡◌, inl, inr, ◌^◌, ◌≤◌, ℕ, List, [], IfSome, length, refl, sym, ap, ◌∙◌, subst}
 use Rattle.std.specs.Prelude.{All}
-use Rattle.std.proofs.lemmas.List.Elements.{All-cons, All-nil}
-use Rattle.value_types.specs.declared.shape.Shape.{Shape}
+use Rattle.std.proofs.lemmas.List.{length-map}
+use Rattle.sim_base.specs.Folder.{FolderView}
+use Rattle.system_model.specs.declared.system.System.{System}
 use Rattle.system_model.specs.Sound.{IsSound}
-use Rattle.command_line.specs.Line.{IsWithin, Line, plan_of}
-use Rattle.system_loading.specs.System.{ports_of, system_of}
-use Rattle.system_loading.specs.Taken.{AreTaken, IsPlain, IsTaken, IsTakenMember}
-use Rattle.system_loading.specs.declared.member.Member.{Member}
+use Rattle.command_line.specs.Line.{Check, IsWithin, KeepsLimits, Line, One, Run, plan_of, resolution_of}
+use Rattle.system_loading.specs.Assembly.{IsPlain}
+use Rattle.system_files.specs.declared.loaded.Loaded.{Loaded}
+use Rattle.system_files.specs.Files.{Faulty}
+use Rattle.system_files.specs.Loads.{AsksSome, EndsLoading, FileFails, IsNamed, Loads, ReadsSome, Taken, ToOutline, ToShape, UpTo}
+use Rattle.system_files.specs.Order.{Comes, Fails, Finding, Found, NoOutline, NoShape, NoSystem, Search, Whole, folder_of}
+use Rattle.system_files.specs.declared.loading.LoadEnd.{LoadEnd}
+use Rattle.system_files.specs.declared.loading.LoadEnd.TheVariants as e
+use Rattle.system_files.specs.declared.named.FileFault.{FileFault}
+use Rattle.system_files.specs.declared.named.FileFault.TheVariants.{Unread, Missing, TooBig, Broken}
 use Rattle.ssprun.specs.declared.outcome.Outcome.{Outcome}
-use Rattle.ssprun.specs.declared.outcome.Outcome.TheVariants.{Words, Memory, File, Start, Ran}
-use Rattle.ssprun.specs.Facts.{LineFacts, Loads, Running, ShapeFacts, members_for, system_for}
-use Rattle.ssprun.specs.Happened.{Stage}
-use Rattle.ssprun.specs.Peers.{CanStart}
-use Rattle.ssprun.specs.Runs.{CanRun}
+use Rattle.ssprun.specs.Facts.{LoadFacts, search_for}
+use Rattle.ssprun.specs.Refusing.{TellsEnd, TellsFile}
+use Rattle.ssprun.specs.Runs.{CanRun, HasFolders}
 
--- what the law says of descriptions that are taken
-pub record Laws : Type 0 where
-  pub sound : (per_second : ℕ) (members : List Member) → AreTaken per_second members → IsSound (system_of members)
-  pub plain : (per_second : ℕ) (members : List Member) → All (IsTakenMember per_second) members → IsPlain (system_of members)
-  pub few : (per_second : ℕ) (members : List Member) → All (IsTakenMember per_second) members → length (ports_of members) ≤ 65536 * length members
-  pub token : (per_second : ℕ) (bytes : List ℕ) (shape : Shape) → IsTaken per_second bytes shape → length shape.token ≤ length bytes
+-- ---- limits
 
-module _ (laws : Laws) (line : Line) (bytes : List ℕ) (shape : Shape) (short : length bytes ≤ 2 ^ 24) (taken : IsTaken (plan_of line).resolution bytes shape) where
-  members_taken : All (IsTakenMember (plan_of line).resolution) (members_for shape)
-  members_taken = All-cons (IsTakenMember (plan_of line).resolution) _ [] (record { named = omega arith; bytes = bytes; taken = taken }) (All-nil (IsTakenMember (plan_of line).resolution))
+pub above : (line : Line) → KeepsLimits line → 1 ≤ resolution_of line
+above (One line) k = k.resolution.0
+above (Run line) k = k.resolution.0
+above (Check line) k = k.0
 
-  pub few_ports : length (ports_of (members_for shape)) ≤ 65536
-  few_ports = let h = laws.few (plan_of line).resolution (members_for shape) members_taken in omega (arith, h)
+pub within : (line : Line) → KeepsLimits line → resolution_of line ≤ 2 ^ 62
+within (One line) k = k.resolution.1
+within (Run line) k = k.resolution.1
+within (Check line) k = k.1
 
-  pub can_run : IsWithin (plan_of line) → CanRun (system_for shape)
-  can_run within =
-      let plain = laws.plain (plan_of line).resolution (members_for shape) members_taken in
-      let token = laws.token (plan_of line).resolution bytes shape taken in
-      let above = within.resolution.0 in
-      record {
-        sound = laws.sound (plan_of line).resolution (members_for shape) (record {
-          above = omega (arith, above);
-          within = within.resolution.1;
-          few = omega arith;
-          few_ports = few_ports;
-          each = members_taken;
-        });
-        built = record { no_event = plain.no_events; no_early = plain.no_early };
-        each = All-cons CanStart _ [] (record { named = omega arith; name = omega arith; token = omega (arith, token, short) }) (All-nil CanStart);
-      }
+pub plan_within : (line : Line) → KeepsLimits line → IfSome (plan_of line) IsWithin
+plan_within (One line) k = k
+plan_within (Run line) k = k
+plan_within (Check line) k = tt
 
-pub line_facts : (o : Outcome) (line : Line) (shape : Shape) (old new : Stage) → Loads line shape old.folder new.folder → ShapeFacts o line shape old.run new.run → LineFacts o line old new
-line_facts Words line shape old new loads f = absurd f
-line_facts Memory line shape old new loads f = Running shape loads f
-line_facts (File path fault) line shape old new loads f = absurd f
-line_facts (Start name cause) line shape old new loads f = (shape, loads, f)
-line_facts (Ran e) line shape old new loads f = (shape, loads, f)
+-- ---- what is loaded
+
+pub can_run : (system : System) → IsSound system → IsPlain system → All IsNamed system.components → CanRun system
+can_run system sound plain named = record {
+  sound = sound;
+  built = record { no_event = plain.no_events; no_early = plain.no_early };
+  each = named;
+}
+
+-- a system that was found has a folder for each component
+pub has_folders : (s : Search) (folder : FolderView) (asked : List (List ℕ)) (loaded : Loaded) → Comes s folder asked (Found loaded) → HasFolders loaded.folders loaded.system
+has_folders s folder asked loaded comes = by (Found loaded) refl comes
+  where
+    found_same : (one other : Loaded) → Found one ≡ Found other → one ≡ other
+    found_same one other e = cc
+
+    by : (finding : Finding) → finding ≡ Found loaded → Comes s folder asked finding → HasFolders loaded.folders loaded.system
+    by finding e (NoOutline flaw a f subject lacks asks is) = absurd (apart (sym is ∙ e))
+      where
+        apart : {x : _} {y : _} → Fails x y ≡ Found loaded → ⊥
+        apart e = cc
+    by finding e (NoShape o taken shapes c rest flaw a f reaches lacks asks is) = absurd (cc)
+    by finding e (NoSystem o shapes component rule place ports path a f reaches breaks told asks is) = absurd (cc)
+    by finding e (Whole o shapes one a f reaches makes folders asks is) =
+        let same = found_same one loaded (sym is ∙ e) in
+        ap (λ (x : Loaded). length x.folders) (sym same) ∙ ap (λ (x : List (List ℕ)). length x) folders ∙ length-map o.systems.components (folder_of s.directory)
+        ∙ sym makes.flattens.flat.components.len ∙ ap (λ (x : Loaded). length x.system.components) same
+
+-- ---- where memory is wanting behind the files
+
+-- what was asked for to an end was asked for in the order of reading
+asks_some : (s : Search) (folder : FolderView) (asked : List (List ℕ)) (finding : Finding) → Comes s folder asked finding → AsksSome s folder asked
+asks_some s folder asked finding (NoOutline flaw a f subject lacks asks is) = UpTo asked _ (ToOutline asked _ subject asks refl)
+asks_some s folder asked finding (NoShape o taken shapes c rest flaw a f reaches lacks asks is) = UpTo asked _ (ToShape o taken shapes c rest asked _ reaches asks refl)
+asks_some s folder asked finding (NoSystem o shapes component rule place ports path a f reaches breaks told asks is) = Taken o o.systems.components shapes [] asked reaches asks
+asks_some s folder asked finding (Whole o shapes one a f reaches makes folders asks is) = Taken o o.systems.components shapes [] asked reaches asks
+
+pub reads_some : (s : Search) (finding : Finding) (old new : FolderView) → Loads s finding old new → ReadsSome s old new
+reads_some s finding old new l = record { asked = l.asked; some = asks_some s old l.asked finding l.comes.comes; told = l.told }
+
+-- ---- where nothing is loaded
+
+file_facts : (fault : FileFault) (o : Outcome) (line : Line) (path : List ℕ) (old new : FolderView) → FileFails (search_for line) fault path old new → TellsFile path fault o → LoadFacts o line old new
+file_facts Unread o line path old new f tells = subst (λ (x : Outcome). LoadFacts x line old new) (sym tells) f
+file_facts Missing o line path old new f tells = subst (λ (x : Outcome). LoadFacts x line old new) (sym tells) f
+file_facts TooBig o line path old new f tells = subst (λ (x : Outcome). LoadFacts x line old new) (sym tells) f
+file_facts (Broken rule place ports) o line path old new f (inl tells) = subst (λ (x : Outcome). LoadFacts x line old new) (sym tells) f
+file_facts (Broken rule place ports) o line path old new f (inr tells) =
+    subst (λ (x : Outcome). LoadFacts x line old new) (sym tells) (reads_some (search_for line) (Fails path (Faulty rule place ports)) old new f)
+
+pub end_facts : (end : LoadEnd) (o : Outcome) (line : Line) (old new : FolderView) → EndsLoading (search_for line) end old new → TellsEnd end o → LoadFacts o line old new
+end_facts (e.File file fault) o line old new ends tells = file_facts fault o line file.path old new ends tells
+end_facts e.Memory o line old new ends tells = subst (λ (x : Outcome). LoadFacts x line old new) (sym tells) ends

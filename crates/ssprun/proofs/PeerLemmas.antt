@@ -1,5 +1,5 @@
 -- Peers that are started and taken back, one after another.
-use Rattle.std.proofs.Common.{◌≡◌, ℕ, zero, suc, ◌+◌, true, List, [], ◌∷◌, ◌++◌, Some, refl, sym, ap, ◌∙◌, subst, append_assoc, arith, length, map, take}
+use Rattle.std.proofs.Common.{◌≡◌, ◌⊎◌, inl, inr, ℕ, zero, suc, ◌+◌, ◌<◌, true, List, [], ◌∷◌, ◌++◌, Some, refl, sym, ap, ◌∙◌, subst, append_assoc, arith, length, map, take}
 use Rattle.std.specs.Prelude.{All, Err, codes, slice_get}
 use Rattle.std.proofs.lemmas.List.{append-nil, take_more}
 use Rattle.std.proofs.lemmas.List.Elements.{All-append, All-cons, All-nil}
@@ -14,13 +14,18 @@ use Rattle.ssprun.specs.Peers.{AreKnown, AreStarted, NotesFault, with_all_retire
 use Rattle.ssprun.specs.Runs.{IsUnasked}
 
 -- one more of the components has its peer
-pub started_more : (directory : List ℕ) (cs : List Component) (vs : List View) (c : Component) (v : View) → AreStarted directory cs vs → slice_get cs (length vs) ≡ Some c →
-    IsStarted (codes "builtin") c.name directory c.shape v → AreStarted directory cs (vs ++ v ∷ [])
-started_more directory [] [] c v are here one = absurd (none_some c here)
-started_more directory [] (w ∷ vs) c v are here one = absurd are
-started_more directory (d ∷ cs) [] c v are here one =
-    (subst (λ (x : Component). IsStarted (codes "builtin") x.name directory x.shape v) (sym (same_Some d c here)) one, tt)
-started_more directory (d ∷ cs) (w ∷ vs) c v are here one = (are.0, started_more directory cs vs c v are.1 here one)
+pub started_more : (folders : List (List ℕ)) (cs : List Component) (vs : List View) (folder : List ℕ) (c : Component) (v : View) → AreStarted folders cs vs →
+    slice_get folders (length vs) ≡ Some folder → slice_get cs (length vs) ≡ Some c → IsStarted (codes "builtin") c.name folder c.shape v → AreStarted folders cs (vs ++ v ∷ [])
+started_more folders [] [] folder c v are there here one = absurd (none_some c here)
+started_more folders [] (w ∷ vs) folder c v are there here one = absurd are
+started_more [] (d ∷ cs) [] folder c v are there here one = absurd (none_some folder there)
+started_more [] (d ∷ cs) (w ∷ vs) folder c v are there here one = absurd are
+started_more (f ∷ folders) (d ∷ cs) [] folder c v are there here one = (
+  subst (λ (x : Component). IsStarted (codes "builtin") x.name f x.shape v) (sym (same_Some d c here))
+      (subst (λ (x : List ℕ). IsStarted (codes "builtin") c.name x c.shape v) (sym (same_Some f folder there)) one),
+  tt,
+)
+started_more (f ∷ folders) (d ∷ cs) (w ∷ vs) folder c v are there here one = (are.0, started_more folders cs vs folder c v are.1 there here one)
 
 pub take_more_at : {X : Type 0} (xs : List X) (n : ℕ) (x : X) → slice_get xs n ≡ Some x → take (n + 1) xs ≡ take n xs ++ x ∷ []
 take_more_at xs n x here = take_more xs n x (slice_get_within xs n x here) ∙ ap (λ y. take n xs ++ y ∷ []) (get_or_from_slice_get xs n x x here)
@@ -47,21 +52,23 @@ one_retired s t u vs v t_is u_is = u_is ∙ ap (λ (x : SpawnerView). with_retir
 
 -- ---- before their first calls
 
-pub unasked : (directory : List ℕ) (cs : List Component) (vs : List View) → AreStarted directory cs vs → All IsUnasked vs
-unasked directory cs [] are = All-nil IsUnasked
-unasked directory [] (v ∷ vs) are = absurd are
-unasked directory (c ∷ cs) (v ∷ vs) are =
-    All-cons IsUnasked v vs (record { phase = are.0.phase ∙ ap fresh (sym are.0.shape_is); talk = are.0.talk }) (unasked directory cs vs are.1)
+pub unasked : (folders : List (List ℕ)) (cs : List Component) (vs : List View) → AreStarted folders cs vs → All IsUnasked vs
+unasked folders cs [] are = All-nil IsUnasked
+unasked folders [] (v ∷ vs) are = absurd are
+unasked [] (c ∷ cs) (v ∷ vs) are = absurd are
+unasked (f ∷ folders) (c ∷ cs) (v ∷ vs) are =
+    All-cons IsUnasked v vs (record { phase = are.0.phase ∙ ap fresh (sym are.0.shape_is); talk = are.0.talk }) (unasked folders cs vs are.1)
 
 -- ---- one of the peers
 
 -- a peer was started for the component at its place
-pub started_at : (directory : List ℕ) (cs : List Component) (vs : List View) (k : ℕ) (v : View) → AreStarted directory cs vs → slice_get vs k ≡ Some v →
-    (c : Component) × (slice_get cs k ≡ Some c) × IsStarted (codes "builtin") c.name directory c.shape v
-started_at directory cs [] k v are here = absurd (none_some v here)
-started_at directory [] (w ∷ vs) k v are here = absurd are
-started_at directory (c ∷ cs) (w ∷ vs) zero v are here = (c, refl, subst (λ (x : View). IsStarted (codes "builtin") c.name directory c.shape x) (same_Some w v here) are.0)
-started_at directory (c ∷ cs) (w ∷ vs) (suc k) v are here = started_at directory cs vs k v are.1 here
+pub started_at : (folders : List (List ℕ)) (cs : List Component) (vs : List View) (k : ℕ) (v : View) → AreStarted folders cs vs → slice_get vs k ≡ Some v →
+    (c : Component) × (slice_get cs k ≡ Some c) × ((folder : List ℕ) × IsStarted (codes "builtin") c.name folder c.shape v)
+started_at folders cs [] k v are here = absurd (none_some v here)
+started_at folders [] (w ∷ vs) k v are here = absurd are
+started_at [] (c ∷ cs) (w ∷ vs) k v are here = absurd are
+started_at (f ∷ folders) (c ∷ cs) (w ∷ vs) zero v are here = (c, refl, (f, subst (λ (x : View). IsStarted (codes "builtin") c.name f c.shape x) (same_Some w v here) are.0))
+started_at (f ∷ folders) (c ∷ cs) (w ∷ vs) (suc k) v are here = started_at folders cs vs k v are.1 here
 
 -- what was mapped is at the place of its element
 pub mapped_at : {X Y : Type 0} (f : X → Y) (xs : List X) (k : ℕ) (y : Y) → slice_get (map f xs) k ≡ Some y → (x : X) × (slice_get xs k ≡ Some x) × (f x ≡ y)
@@ -71,6 +78,25 @@ mapped_at f (x ∷ xs) (suc k) y here = mapped_at f xs k y here
 
 pub all_got : {X : Type 0} (P : X → Type 0) (xs : List X) (k : ℕ) (x : X) → All P xs → slice_get xs k ≡ Some x → P x
 all_got P xs k x all here = subst P (get_or_from_slice_get xs k x x here) (all k x (slice_get_within xs k x here))
+
+-- ---- places
+
+pub compare : (a b : ℕ) → (a < b) ⊎ ((a ≡ b) ⊎ (b < a))
+compare zero zero = inr (inl refl)
+compare zero (suc b) = inl (omega arith)
+compare (suc a) zero = inr (inr (omega arith))
+compare (suc a) (suc b) = by (compare a b)
+  where
+    by : (a < b) ⊎ ((a ≡ b) ⊎ (b < a)) → (suc a < suc b) ⊎ ((suc a ≡ suc b) ⊎ (suc b < suc a))
+    by (inl less) = inl (omega (arith, less))
+    by (inr (inl same)) = inr (inl (ap suc same))
+    by (inr (inr more)) = inr (inr (omega (arith, more)))
+
+pub slice_get-take_front : {X : Type 0} (xs : List X) (n k : ℕ) → k < n → slice_get (take n xs) k ≡ slice_get xs k
+slice_get-take_front xs zero k less = absurd (omega (arith, less))
+slice_get-take_front [] (suc n) k less = refl
+slice_get-take_front (x ∷ xs) (suc n) zero less = refl
+slice_get-take_front (x ∷ xs) (suc n) (suc k) less = slice_get-take_front xs n k (omega (arith, less))
 
 -- ---- starts that fail
 

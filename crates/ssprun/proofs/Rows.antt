@@ -3,19 +3,20 @@ use Rattle.std.proofs.Common.{◌≡◌, ◌⊎◌, inl, inr, ℕ, ◌<◌, List
 use Rattle.built_in_laws.specs.BuiltInRuns.{BuiltInsBehaveWell}
 use Rattle.ssprun.specs.declared.outcome.Outcome.{Outcome}
 use Rattle.ssprun.specs.declared.outcome.Outcome.TheVariants.{Memory}
-use Rattle.ssprun.specs.declared.outcome.FileFault.TheVariants.{Missing, TooBig, Broken}
-use Rattle.ssprun.specs.Description.{Absent, Long, Faulty, Taken}
+use Rattle.system_files.specs.declared.named.FileFault.TheVariants.{Missing, TooBig}
+use Rattle.system_files.specs.Files.{Absent, Faulty, Long}
+use Rattle.system_files.specs.Order.{Fails, Found}
 use Rattle.ssprun.specs.declared.outcome.Outcome.TheVariants as O
 use Rattle.ssprun.specs.Facts as W
-use Rattle.ssprun.specs.Facts.{LineFacts, ShapeFacts, Facts, WithLine, WithoutLine}
+use Rattle.ssprun.specs.Facts.{WithLine, WithoutLine}
 use Rattle.ssprun.specs.Happened.{Happened, Stage}
 use Rattle.ssprun.specs.Message.{Reports, message, status_of}
 use Rattle.ssprun.specs.Rows.{IsNoLine, AnswersOr11, IsStatus, StatusRow, TraceRow, KeepsRows}
-use Rattle.ssprun.proofs.Exactly.{of_line, answers, memory_or, suits, file_exact, unknown_exact, reading_some, reading_all}
+use Rattle.ssprun.proofs.Exactly.{of_line, answers, memory_or, suits, file_exact, rule_exact, unknown_exact, reading_some}
 use Rattle.ssprun.proofs.Deciding.{decides}
-use Rattle.ssprun.proofs.Runs.{idle_or_run, peer_case, out_higher, err_higher}
+use Rattle.ssprun.proofs.Runs.{course, err_higher, out_higher, peer_case, uncalled_or_run}
 use Rattle.ssprun.proofs.BuiltIns.{built_in_exact}
-use Rattle.ssprun.proofs.Tracing.{trace_exact}
+use Rattle.ssprun.proofs.Tracing.{check_exact, trace_exact}
 use Rattle.ssprun.proofs.Statuses.{Status, Done, WrongWords, NoFile, BrokenRule, NoPeer, Refusal, WrongReply, FixedSize, Unwritten, NoMemory, number, of_outcome, numbered}
 use Rattle.ssprun.proofs.When.{HasFacts, HasPut, when_is, when_unwritten}
 
@@ -29,6 +30,8 @@ words_exact o h (WithoutLine w) p none = by_why o w.why p
     by_why (O.File path fault) why p = absurd why
     by_why (O.Start component fault) why p = absurd why
     by_why (O.Ran end) why p = absurd why
+    by_why O.Checked why p = absurd why
+    by_why O.Untold why p = absurd why
 
 reading_none : (o : Outcome) (h : Happened) → HasFacts o h → IsNoLine h → h.new.folder ≡ h.old.folder
 reading_none o h (WithLine r) none = absurd (none r.line r.is)
@@ -52,13 +55,13 @@ any_status (Some text) w h k (inl p) = record { known = subst IsStatus (sym p.0)
 any_status (Some text) w h k (inr p) = record { known = subst IsStatus (sym p.0) (known Unwritten); line = inr (text, inr p) }
 
 higher : (o : Outcome) (h : Happened) → HasFacts o h → HasPut o h → (h.old.run.out.faults < h.new.run.out.faults) ⊎ (h.err.faults < h.err_after.faults) → h.status ≡ 10
-higher o h f p (inl more) = out_higher o h p (idle_or_run o h f) more
+higher o h f p (inl more) = out_higher o h p (course o h f) more
 higher o h f p (inr more) = err_higher (message o) (status_of o) h p more
 
 trace_row : (o : Outcome) (h : Happened) → HasFacts o h → HasPut o h → TraceRow h
 trace_row o h f p = record {
-  when = λ line shape is to_find knows calm quiet. trace_exact o line shape h (of_line o h f line is) p knows calm quiet
-      (suits o line h (Taken shape) (of_line o h f line is) to_find);
+  when = λ line plan loaded is planned to_find knows calm quiet. trace_exact o line plan loaded h (of_line o h f line is) p planned knows calm quiet
+      (suits o line h (Found loaded) (of_line o h f line is) to_find);
 }
 
 pub keeps_rows : BuiltInsBehaveWell → (o : Outcome) (h : Happened) → HasFacts o h → HasPut o h → KeepsRows h
@@ -70,25 +73,27 @@ keeps_rows behave o h f p = let trace = trace_row o h f p in record {
   };
   file = record {
     when = λ e. when_is NoFile o h f p (λ ten. omega arith) e;
-    missing = λ line is to_find. file_exact Missing 3 o line h refl p (suits o line h Absent (of_line o h f line is) to_find);
-    big = λ line is to_find. file_exact TooBig 3 o line h refl p (suits o line h Long (of_line o h f line is) to_find);
+    missing = λ line path is to_find. file_exact Missing path 3 o h refl p (suits o line h (Fails path Absent) (of_line o h f line is) to_find);
+    big = λ line path is to_find. file_exact TooBig path 3 o h refl p (suits o line h (Fails path Long) (of_line o h f line is) to_find);
   };
   rule = record {
     when = λ e. when_is BrokenRule o h f p (λ ten. omega arith) e;
-    exact = λ line rule place is to_find. file_exact (Broken rule place) 4 o line h refl p (suits o line h (Faulty rule place) (of_line o h f line is) to_find);
+    exact = λ line path rule place ports is to_find. rule_exact path rule place ports o line h p to_find
+        (suits o line h (Fails path (Faulty rule place ports)) (of_line o h f line is) to_find);
   };
   link = record {
     when = λ e. when_is NoPeer o h f p (λ ten. omega arith) e;
-    unknown = λ line shape is to_find lacks quiet. unknown_exact o line shape h p (suits o line h (Taken shape) (of_line o h f line is) to_find) lacks quiet;
-    lost = λ peers talks name why link told least. decides o h p (idle_or_run o h f) peers talks name why told least;
+    unknown = λ line plan loaded place c is planned to_find lacks quiet. unknown_exact o line plan loaded place c h p planned
+        (suits o line h (Found loaded) (of_line o h f line is) to_find) lacks quiet;
+    lost = λ peers talks name why link told least. decides o h p (uncalled_or_run o h (course o h f)) peers talks name why told least;
   };
   refusal = record {
     when = λ e. when_is Refusal o h f p (λ ten. omega arith) e;
-    exact = λ peers talks name why refused told least. decides o h p (idle_or_run o h f) peers talks name why told least;
+    exact = λ peers talks name why refused told least. decides o h p (uncalled_or_run o h (course o h f)) peers talks name why told least;
   };
   misreply = record {
     when = λ e. when_is WrongReply o h f p (λ ten. omega arith) e;
-    exact = λ peers talks name why misreply told least. decides o h p (idle_or_run o h f) peers talks name why told least;
+    exact = λ peers talks name why misreply told least. decides o h p (uncalled_or_run o h (course o h f)) peers talks name why told least;
   };
   fixed = record { when = λ e. when_is FixedSize o h f p (λ ten. omega arith) e };
   write = record { when = λ e. when_unwritten o h f p e; higher = λ more. higher o h f p more };
@@ -97,9 +102,11 @@ keeps_rows behave o h f p = let trace = trace_row o h f p in record {
   reading = record {
     none = λ none. reading_none o h f none;
     some = λ line is. reading_some o line h (of_line o h f line is) p;
-    all = λ line is. reading_all o line h (of_line o h f line is) p;
   };
-  peer = peer_case h o (idle_or_run o h f);
+  peer = peer_case h o (course o h f);
   trace = trace;
+  check = record {
+    when = λ line loaded is none to_find quiet. check_exact o line loaded h (of_line o h f line is) p none quiet (suits o line h (Found loaded) (of_line o h f line is) to_find);
+  };
   built_in = built_in_exact behave h trace;
 }

@@ -1,56 +1,84 @@
 -- Whether a run began, and what it says of the status.
 use Rattle.std.proofs.Common.{◌≡◌, ◌⊎◌, inl, inr, ℕ, ◌<◌, List, Option, Some, None, refl, ap, subst, arith}
 use Rattle.sim_base.specs.Sink.{SinkView}
-use Rattle.value_types.specs.declared.shape.Shape.{Shape}
 use Rattle.calling_sequence.specs.declared.run_end.RunEnd.{RunEnd}
 use Rattle.calling_sequence.specs.declared.run_end.RunEnd.TheVariants as E
-use Rattle.command_line.specs.Line.{Line, IsLine}
+use Rattle.command_line.specs.Line.{Line, IsLine, plan_of}
+use Rattle.system_files.specs.declared.loaded.Loaded.{Loaded}
 use Rattle.ssprun.specs.declared.outcome.Outcome.{Outcome}
-use Rattle.ssprun.specs.declared.outcome.Outcome.TheVariants.{Words, Memory, File, Start, Ran}
+use Rattle.ssprun.specs.declared.outcome.Outcome.TheVariants.{Words, Memory, File, Start, Ran, Checked, Untold}
 use Rattle.ssprun.specs.declared.outcome.End.{End}
 use Rattle.ssprun.specs.declared.outcome.End.TheVariants as O
 use Rattle.ssprun.specs.Message.{Reports, end_message, end_status}
-use Rattle.ssprun.specs.Facts.{Loads, WithLine, WithoutLine, system_for, task_of}
+use Rattle.ssprun.specs.Facts.{CheckFacts, FailsToTell, LineFacts, LoadsLine, OfSystem, RunFacts, TellsSize, Unloaded, WithLine, WithoutLine, task_of}
 use Rattle.ssprun.specs.Happened.{Happened}
-use Rattle.ssprun.specs.Rows.{Idle, IsIdle, PeerRow}
+use Rattle.ssprun.specs.Rows.{Idle, IsIdle, IsOfRun, IsUncalled, OnCheck, PeerRow}
 use Rattle.ssprun.specs.Rows as R
 use Rattle.ssprun.specs.Runs.{HasRun, IsEndOf, names_of}
 use Rattle.ssprun.proofs.Outs.{TellsOut, tells_out}
-use Rattle.ssprun.proofs.When.{HasFacts, HasPut, line_idle, same_idle, unstarted_idle, wants_idle}
+use Rattle.ssprun.proofs.When.{HasFacts, HasPut, by_plan, line_idle, same_idle, same_uncalled, taken_idle, unstarted_idle}
 
--- a run of the line's FMU, whose end the outcome tells
+-- a run of the line's system, whose end the outcome tells
 pub record HasRunOne (o : Outcome) (h : Happened) : Type 0 where
   pub line : Line
   pub is : IsLine h.words line
-  pub shape : Shape
-  pub loads : Loads line shape h.old.folder h.new.folder
+  pub it : IsOfRun h line
   pub end : RunEnd
   pub e : End
   pub outcome : o ≡ Ran e
-  pub named : IsEndOf (names_of (system_for shape)) end e
-  pub run : HasRun (task_of line) (system_for shape) end h.old.run h.new.run
+  pub named : IsEndOf (names_of it.loaded.system) end e
+  pub run : HasRun (task_of it.plan it.loaded) it.loaded.system end h.old.run h.new.run
 
-pub idle_or_run : (o : Outcome) (h : Happened) → HasFacts o h → IsIdle h ⊎ HasRunOne o h
-idle_or_run o h (WithoutLine w) = inl (same_idle h w.same)
-idle_or_run Words h (WithLine r) = absurd r.facts
-idle_or_run Memory h (WithLine r) = inl (wants_idle r.line h r.facts).0
-idle_or_run (File path fault) h (WithLine r) = inl (line_idle h r.facts.0)
-idle_or_run (Start name cause) h (WithLine r) = inl (unstarted_idle (task_of r.line) (system_for r.facts.0) name cause h r.facts.2)
-idle_or_run (Ran e) h (WithLine r) = inr (record {
-  line = r.line;
-  is = r.is;
-  shape = r.facts.0;
-  loads = r.facts.1;
-  end = r.facts.2.0;
-  e = e;
-  outcome = refl;
-  named = r.facts.2.1;
-  run = r.facts.2.2;
-})
+-- a check of the line's system
+pub data HasCheck (o : Outcome) (h : Happened) : Type 0 where
+  Tells : o ≡ Checked → (line : Line) → IsLine h.words line → OnCheck h line TellsSize → HasCheck o h
+  Fails : o ≡ Untold → (line : Line) → IsLine h.words line → OnCheck h line FailsToTell → HasCheck o h
 
-pub peer_case : (h : Happened) (o : Outcome) → IsIdle h ⊎ HasRunOne o h → PeerRow h
-peer_case h o (inl idle) = Idle idle
-peer_case h o (inr one) = R.Ran one.line one.is one.end (one.shape, one.loads, one.run)
+-- nothing was begun, or a run, or a check
+pub data Course (o : Outcome) (h : Happened) : Type 0 where
+  Still : IsIdle h → Course o h
+  OfRun : HasRunOne o h → Course o h
+  OfCheck : HasCheck o h → Course o h
+
+of_run : (o : Outcome) (line : Line) (h : Happened) → IsLine h.words line → (it : IsOfRun h line) → RunFacts o (task_of it.plan it.loaded) it.loaded.system h.old.run h.new.run → Course o h
+of_run Words line h is it f = absurd f
+of_run Memory line h is it f = Still (taken_idle (task_of it.plan it.loaded) it.loaded.system h f)
+of_run (File path fault) line h is it f = absurd f
+of_run (Start name cause) line h is it f = Still (unstarted_idle (task_of it.plan it.loaded) it.loaded.system name cause h f)
+of_run (Ran e) line h is it f = OfRun (record { line = line; is = is; it = it; end = f.0; e = e; outcome = refl; named = f.1; run = f.2 })
+of_run Checked line h is it f = absurd f
+of_run Untold line h is it f = absurd f
+
+of_check : (o : Outcome) (line : Line) (h : Happened) (loaded : Loaded) → IsLine h.words line → plan_of line ≡ None → LoadsLine line loaded h.old.folder h.new.folder →
+    CheckFacts o loaded.system h.old.run h.new.run → Course o h
+of_check Words line h loaded is none loads f = absurd f
+of_check Memory line h loaded is none loads f = absurd f
+of_check (File path fault) line h loaded is none loads f = absurd f
+of_check (Start name cause) line h loaded is none loads f = absurd f
+of_check (Ran e) line h loaded is none loads f = absurd f
+of_check Checked line h loaded is none loads f = OfCheck (Tells refl line is (loaded, none, loads, f))
+of_check Untold line h loaded is none loads f = OfCheck (Fails refl line is (loaded, none, loads, f))
+
+of_line : (o : Outcome) (line : Line) (h : Happened) → IsLine h.words line → LineFacts o line h.old h.new → Course o h
+of_line o line h is (Unloaded calm f) = Still (line_idle h calm)
+of_line o line h is (OfSystem loaded loads f) = by_plan o line h loaded loads f (λ it same g. of_run o line h is it g) (λ none g. of_check o line h loaded is none loads g)
+
+pub course : (o : Outcome) (h : Happened) → HasFacts o h → Course o h
+course o h (WithoutLine w) = Still (same_idle h w.same)
+course o h (WithLine r) = of_line o r.line h r.is r.facts
+
+pub peer_case : (h : Happened) (o : Outcome) → Course o h → PeerRow h
+peer_case h o (Still idle) = Idle idle
+peer_case h o (OfRun one) = R.Ran one.line one.is one.end (one.it, one.run)
+peer_case h o (OfCheck (Tells e line is on)) = R.Checked line is (inl on)
+peer_case h o (OfCheck (Fails e line is on)) = R.Checked line is (inr on)
+
+-- where no run was begun no peer was called
+pub uncalled_or_run : (o : Outcome) (h : Happened) → Course o h → IsUncalled h ⊎ HasRunOne o h
+uncalled_or_run o h (Still idle) = inl idle.uncalled
+uncalled_or_run o h (OfRun one) = inr one
+uncalled_or_run o h (OfCheck (Tells e line is on)) = inl (same_uncalled h on.3.spawner)
+uncalled_or_run o h (OfCheck (Fails e line is on)) = inl (same_uncalled h on.3.spawner)
 
 -- the outcome's line and status
 pub ran_put : (o : Outcome) (h : Happened) → HasPut o h → (one : HasRunOne o h) → Reports (end_message one.e) (end_status one.e) h.status h.err h.err_after
@@ -74,10 +102,21 @@ end_higher names E.WriteFault e h named outs p higher = put (subst (λ (x : End)
     put (inl q) = q.0
     put (inr q) = q.0
 
-pub out_higher : (o : Outcome) (h : Happened) → HasPut o h → IsIdle h ⊎ HasRunOne o h → h.old.run.out.faults < h.new.run.out.faults → h.status ≡ 10
-out_higher o h p (inl idle) higher = not_higher h.old.run.out.faults h.new.run.out.faults (ap (λ (s : SinkView). s.faults) idle.out) higher
-out_higher o h p (inr one) higher =
-    end_higher (names_of (system_for one.shape)) one.end one.e h one.named (tells_out (task_of one.line) (system_for one.shape) one.end h.old.run h.new.run one.run) (ran_put o h p one) higher
+unwritten : (o : Outcome) (h : Happened) → HasPut o h → o ≡ Untold → h.status ≡ 10
+unwritten o h p e = by (subst (λ (x : Outcome). HasPut x h) e p)
+  where
+    by : HasPut Untold h → h.status ≡ 10
+    by (inl q) = q.0
+    by (inr q) = q.0
+
+pub out_higher : (o : Outcome) (h : Happened) → HasPut o h → Course o h → h.old.run.out.faults < h.new.run.out.faults → h.status ≡ 10
+out_higher o h p (Still idle) higher = not_higher h.old.run.out.faults h.new.run.out.faults (ap (λ (s : SinkView). s.faults) idle.out) higher
+out_higher o h p (OfRun one) higher =
+    let task = task_of one.it.plan one.it.loaded in
+    let system = one.it.loaded.system in
+    end_higher (names_of system) one.end one.e h one.named (tells_out task system one.end h.old.run h.new.run one.run) (ran_put o h p one) higher
+out_higher o h p (OfCheck (Tells e line is on)) higher = not_higher h.old.run.out.faults h.new.run.out.faults (ap (λ (s : SinkView). s.faults) on.3.out) higher
+out_higher o h p (OfCheck (Fails e line is on)) higher = unwritten o h p e
 
 pub err_higher : (m : Option (List ℕ)) (w : ℕ) (h : Happened) → Reports m w h.status h.err h.err_after → h.err.faults < h.err_after.faults → h.status ≡ 10
 err_higher None w h p higher = not_higher h.err.faults h.err_after.faults (ap (λ (s : SinkView). s.faults) p.1) higher

@@ -4,9 +4,9 @@ use Rattle.std.specs.Prelude.{if◌then◌else◌}
 use Rattle.fmu_peer.specs.declared.ended.Why.{Why}
 use Rattle.fmu_peer.specs.declared.ended.Why.TheVariants.{Refused, Misreply, Link}
 use Rattle.ssprun.specs.declared.outcome.Outcome.{Outcome}
-use Rattle.ssprun.specs.declared.outcome.Outcome.TheVariants.{Words, Memory, File, Start, Ran}
-use Rattle.ssprun.specs.declared.outcome.FileFault.{FileFault}
-use Rattle.ssprun.specs.declared.outcome.FileFault.TheVariants.{Unread, Missing, TooBig, Broken}
+use Rattle.ssprun.specs.declared.outcome.Outcome.TheVariants.{Words, Memory, File, Start, Ran, Checked, Untold}
+use Rattle.system_files.specs.declared.named.FileFault.{FileFault}
+use Rattle.system_files.specs.declared.named.FileFault.TheVariants.{Unread, Missing, TooBig, Broken}
 use Rattle.ssprun.specs.declared.outcome.End.{End}
 use Rattle.ssprun.specs.declared.outcome.End.TheVariants.{Stop, Asked, FixedStep, Bad, WriteFault}
 use Rattle.ssprun.specs.Message.{status_of}
@@ -65,7 +65,7 @@ abbrev pub of_file : FileFault → Status
 of_file Unread = NoFile
 of_file Missing = NoFile
 of_file TooBig = NoFile
-of_file (Broken rule place) = BrokenRule
+of_file (Broken rule place ports) = BrokenRule
 
 abbrev pub of_why : Why → Status
 of_why (Refused call status) = Refusal
@@ -85,6 +85,8 @@ of_outcome Memory = NoMemory
 of_outcome (File path fault) = of_file fault
 of_outcome (Start component fault) = NoPeer
 of_outcome (Ran end) = of_end end
+of_outcome Checked = Done
+of_outcome Untold = Unwritten
 
 -- an outcome's number is that of its status
 pub numbered : (o : Outcome) → status_of o ≡ number (of_outcome o)
@@ -93,7 +95,7 @@ numbered Memory = refl
 numbered (File path Unread) = refl
 numbered (File path Missing) = refl
 numbered (File path TooBig) = refl
-numbered (File path (Broken rule place)) = refl
+numbered (File path (Broken rule place ports)) = refl
 numbered (Start component fault) = refl
 numbered (Ran Stop) = refl
 numbered (Ran Asked) = refl
@@ -102,3 +104,5 @@ numbered (Ran (Bad component (Refused call status))) = refl
 numbered (Ran (Bad component (Misreply call reply))) = refl
 numbered (Ran (Bad component (Link call fault))) = refl
 numbered (Ran WriteFault) = refl
+numbered Checked = refl
+numbered Untold = refl

@@ -1,10 +1,10 @@
 -- The trace, where the file is taken and the identifier is known.
-use Rattle.std.proofs.Common.{◌≡◌, ◌⊎◌, inl, inr, ℕ, true, List, [], ◌∷◌, ◌++◌, Some, map, refl, sym, ap, ◌∙◌, subst, arith}
+use Rattle.std.proofs.Common.{◌≡◌, ◌⊎◌, inl, inr, ℕ, true, List, None, codes, [], ◌∷◌, ◌++◌, Some, map, refl, sym, ap, ap₂, ◌∙◌, subst, arith}
 use Rattle.std.specs.Prelude.{All}
 use Rattle.std.proofs.lemmas.List.Elements.{All-head, All-tail}
+use Rattle.std.proofs.lemmas.Option.{same_Some}
 use Rattle.sim_base.specs.Causes.{Rose}
 use Rattle.sim_base.specs.Sink.{SinkView}
-use Rattle.value_types.specs.declared.shape.Shape.{Shape}
 use Rattle.fmu_peer.specs.View.{Fixed, View}
 use Rattle.system_model.specs.declared.plan.Plan.{Plan}
 use Rattle.system_model.specs.declared.plan.EndKind.{EndKind}
@@ -23,18 +23,23 @@ use Rattle.calling_sequence.specs.Puts.{CutsPiece, with_pieces}
 use Rattle.step_master.specs.Traced.{CutsTrace, PutsTrace, SomeRose, TracesWell}
 use Rattle.command_line.specs.Line.{Line, plan_of}
 use Rattle.ssprun.specs.declared.outcome.Outcome.{Outcome}
-use Rattle.ssprun.specs.declared.outcome.Outcome.TheVariants.{Words, Memory, File, Start, Ran}
+use Rattle.ssprun.specs.declared.outcome.Outcome.TheVariants.{Words, Memory, File, Start, Ran, Checked, Untold}
 use Rattle.ssprun.specs.declared.outcome.StartCause.TheVariants.{Failed, Unknown}
 use Rattle.ssprun.specs.declared.outcome.End.{End}
 use Rattle.ssprun.specs.declared.outcome.End.TheVariants as O
-use Rattle.ssprun.specs.Message.{Reports, end_message, end_status, fixed_message}
-use Rattle.ssprun.specs.Facts.{LineFacts, ShapeFacts, system_for, task_of}
+use Rattle.ssprun.specs.Message.{CutsShort, Reports, end_message, end_status, fixed_message, size_text}
+use Rattle.system_model.specs.declared.system.Port.{Port}
+use Rattle.sim_base.specs.Sink.{with_piece}
+use Rattle.system_loading.specs.Assembly.{HaveSameParts}
+use Rattle.system_files.specs.declared.loaded.Loaded.{Loaded}
+use Rattle.ssprun.specs.Facts.{CheckFacts, LineFacts, RunFacts, task_of}
+use Rattle.ssprun.specs.Peers.{AreKnown}
 use Rattle.ssprun.specs.Happened.{Happened}
-use Rattle.ssprun.specs.Rows.{Front, IsIdle, ReportsEnd, Says, Traces, Whole, WritesTrace}
-use Rattle.ssprun.specs.Runs.{Broke, Goes, HasRun, IsEndOf, Went, names_of}
-use Rattle.ssprun.proofs.Exactly.{known_unknown, only_one}
+use Rattle.ssprun.specs.Rows.{Cut, Front, IsIdle, IsOfRun, ReportsEnd, Says, Sized, Traces, TracesLoaded, Whole, WritesSize, WritesTrace}
+use Rattle.ssprun.specs.Runs.{Broke, Goes, HasRun, IsEndOf, Task, Went, names_of}
+use Rattle.ssprun.proofs.Exactly.{LoadsAlike, known_unknown, planned_unplanned}
 use Rattle.ssprun.proofs.PeerLemmas.{all_got}
-use Rattle.ssprun.proofs.When.{HasPut, cut_short_rose, start_rose, taken_idle, wants_idle}
+use Rattle.ssprun.proofs.When.{HasPut, by_plan, cut_short_rose, start_rose, taken_idle, wants_idle}
 
 -- ---- 11
 
@@ -55,9 +60,9 @@ put_line : (text : List ℕ) (w : ℕ) (h : Happened) → Reports (Some text) w 
 put_line text w h (inl p) quiet = p
 put_line text w h (inr p) quiet = absurd (quiet (cut_short_rose text h.err h.err_after p.1))
 
-module _ (h : Happened) (line : Line) (system : System) (quiet : Rose h.err.faults h.err_after.faults → ⊥) (r : Run) (of : r.system ≡ system) (planned : r.plan ≡ (plan_of line)) where
+module _ (h : Happened) (task : Task) (system : System) (quiet : Rose h.err.faults h.err_after.faults → ⊥) (r : Run) (of : r.system ≡ system) (planned : r.plan ≡ task.plan) where
   -- the whole text
-  whole : (a : Account) (kind : EndKind) (point : ℕ) → a.system ≡ system → a.plan ≡ plan_of line → a.before ≡ h.old.run.out → a.after ≡ h.new.run.out → PutsTrace a r kind point → ReportsEnd h system (plan_of line) kind point → WritesTrace h r
+  whole : (a : Account) (kind : EndKind) (point : ℕ) → a.system ≡ system → a.plan ≡ task.plan → a.before ≡ h.old.run.out → a.after ≡ h.new.run.out → PutsTrace a r kind point → ReportsEnd h system task.plan kind point → WritesTrace h r
   whole a kind point s p b n t ends =
       Whole t.is kind point t.trace
       (subst (λ (x : System). ReportsEnd h x r.plan kind point) (sym of) (subst (λ (x : Plan). ReportsEnd h system x kind point) (sym planned) ends))
@@ -66,14 +71,14 @@ module _ (h : Happened) (line : Line) (system : System) (quiet : Rose h.err.faul
       ∙ ap (λ (x : Plan). with_pieces h.old.run.out (trace_pieces r.system x t.is kind point)) (p ∙ sym planned))
 
   -- a front of it
-  front : (a : Account) → a.system ≡ system → a.plan ≡ plan_of line → a.before ≡ h.old.run.out → a.after ≡ h.new.run.out → CutsTrace a r → h.status ≡ 10 → WritesTrace h r
+  front : (a : Account) → a.system ≡ system → a.plan ≡ task.plan → a.before ≡ h.old.run.out → a.after ≡ h.new.run.out → CutsTrace a r → h.status ≡ 10 → WritesTrace h r
   front a s p b n t status =
       Front t.is t.kind t.point t.pieces t.piece t.rest t.trace status
       (sym (ap (λ (x : System). trace_pieces x a.plan t.is t.kind t.point) (s ∙ sym of) ∙ ap (λ (x : Plan). trace_pieces r.system x t.is t.kind t.point) (p ∙ sym planned)) ∙ t.are)
       (subst (λ (v : SinkView). CutsPiece (with_pieces v t.pieces) t.piece h.new.run.out) b (subst (CutsPiece (with_pieces a.before t.pieces) t.piece) n t.cut))
 
   -- by the end
-  ended : (end : RunEnd) (e : End) (g : Goes (task_of line) system end h.old.run h.new.run) → IsEndOf (names_of system) end e → Reports (end_message e) (end_status e) h.status h.err h.err_after →
+  ended : (end : RunEnd) (e : End) (g : Goes task system end h.old.run h.new.run) → IsEndOf (names_of system) end e → Reports (end_message e) (end_status e) h.status h.err h.err_after →
       All (λ (v : View). v.faults ≡ 0) g.account.news → TracesWell g.account r end → EndsBy g.account.system g.account.plan g.lived.log g.lived.is end g.account.before g.account.after → WritesTrace h r
   ended E.Stop e g named p none t by =
       let put : Reports (end_message O.Stop) (end_status O.Stop) h.status h.err h.err_after = subst (λ (x : End). Reports (end_message x) (end_status x) h.status h.err h.err_after) named p in
@@ -85,7 +90,7 @@ module _ (h : Happened) (line : Line) (system : System) (quiet : Rose h.err.faul
   ended (E.FixedStep component at end) e g named p none t by =
       let put : Reports (Some (fixed_message named.0 at end)) 9 h.status h.err h.err_after = subst (λ (x : End). Reports (end_message x) (end_status x) h.status h.err h.err_after) named.2 p in
       let said = put_line (fixed_message named.0 at end) 9 h put quiet in
-      let bound : IsBoundOf (plan_of line) at end = subst (λ (x : Plan). IsBoundOf x at end) g.plan_is by.1.1.bound in
+      let bound : IsBoundOf task.plan at end = subst (λ (x : Plan). IsBoundOf x at end) g.plan_is by.1.1.bound in
       whole g.account K.Fixed at g.system_is g.plan_is g.before_is g.after_is t (said.0, component.0, named.0, end, named.1, bound, said.1)
   ended (E.Bad bad) e g named p none t by = none_rose g.account.olds g.account.news none t.1
   ended E.WriteFault e g named p none t by = choose t
@@ -109,18 +114,18 @@ lives_same system olds news log lives are =
         ap (λ (f : Fixed). f ∷ map (λ (v : View). v.fixed) (map (λ (x : Life). x.new) ls)) (All-head IsLife l ls each).fixed
         ∙ ap (λ (fs : List Fixed). l.old.fixed ∷ fs) (same ls (All-tail IsLife l ls each))
 
-run_traces : (end : RunEnd) (e : End) (line : Line) (system : System) (h : Happened) → IsEndOf (names_of system) end e → HasRun (task_of line) system end h.old.run h.new.run → HasPut (Ran e) h →
-    (Rose h.err.faults h.err_after.faults → ⊥) → Traces h line system
-run_traces end e line system h named (Went g) p quiet = record {
+run_traces : (end : RunEnd) (e : End) (task : Task) (system : System) (h : Happened) → IsEndOf (names_of system) end e → HasRun task system end h.old.run h.new.run → HasPut (Ran e) h →
+    (Rose h.err.faults h.err_after.faults → ⊥) → Traces h task system
+run_traces end e task system h named (Went g) p quiet = record {
   olds = g.account.olds;
   news = g.account.news;
   peers = g.peers;
   same = lives_same g.account.system g.account.olds g.account.news (g.lived.made ++ g.lived.log) g.lived.lives g.lived.are;
   sound = g.sound;
-  writes = λ r of planned well none. ended h line system quiet r of.system_is planned end e g named p none (g.well r of planned well)
+  writes = λ r of planned well none. ended h task system quiet r of.system_is planned end e g named p none (g.well r of planned well)
       (subst (λ (x : RunEnd). EndsBy g.account.system g.account.plan g.lived.log g.lived.is x g.account.before g.account.after) g.end_is g.lived.text);
 }
-run_traces end e line system h named (Broke bad is f) p quiet = record {
+run_traces end e task system h named (Broke bad is f) p quiet = record {
   olds = f.olds;
   news = f.news;
   peers = f.peers;
@@ -129,20 +134,76 @@ run_traces end e line system h named (Broke bad is f) p quiet = record {
   writes = λ r of planned well none. none_rose f.olds f.news none (f.well r of well).1;
 }
 
-shape_trace : (o : Outcome) (line : Line) (shape : Shape) (h : Happened) → ShapeFacts o line shape h.old.run h.new.run → HasPut o h → h.old.run.spawner.knows shape.identifier ≡ true →
-    (Rose h.old.run.spawner.faults h.new.run.spawner.faults → ⊥) → (Rose h.err.faults h.err_after.faults → ⊥) → ((h.status ≡ 11) × IsIdle h) ⊎ Traces h line (system_for shape)
-shape_trace Words line shape h f p knows calm quiet = absurd f
-shape_trace Memory line shape h f p knows calm quiet = inl (memory_status h p quiet, taken_idle (task_of line) (system_for shape) h f)
-shape_trace (File path fault) line shape h f p knows calm quiet = absurd f
-shape_trace (Start name Failed) line shape h f p knows calm quiet = absurd (calm (start_rose (task_of line) (system_for shape) name h.old.run h.new.run f))
-shape_trace (Start name Unknown) line shape h f p knows calm quiet =
-    known_unknown (h.old.run.spawner.knows shape.identifier) knows
-    (ap (λ (c : Component). h.old.run.spawner.knows c.shape.identifier) (only_one _ f.component f.place f.here) ∙ f.noted.1)
-shape_trace (Ran e) line shape h f p knows calm quiet = inr (run_traces f.0 e line (system_for shape) h f.1 f.2 p quiet)
+trace_run : (o : Outcome) (task : Task) (system : System) (h : Happened) → RunFacts o task system h.old.run h.new.run → HasPut o h → AreKnown h.old.run.spawner system.components →
+    (Rose h.old.run.spawner.faults h.new.run.spawner.faults → ⊥) → (Rose h.err.faults h.err_after.faults → ⊥) → ((h.status ≡ 11) × IsIdle h) ⊎ Traces h task system
+trace_run Words task system h f p knows calm quiet = absurd f
+trace_run Memory task system h f p knows calm quiet = inl (memory_status h p quiet, taken_idle task system h f)
+trace_run (File path fault) task system h f p knows calm quiet = absurd f
+trace_run (Start name Failed) task system h f p knows calm quiet = absurd (calm (start_rose task system name h.old.run h.new.run f))
+trace_run (Start name Unknown) task system h f p knows calm quiet =
+    known_unknown (h.old.run.spawner.knows f.component.shape.identifier)
+    (all_got (λ (c : Component). h.old.run.spawner.knows c.shape.identifier ≡ true) system.components f.place f.component knows f.here) f.noted.1
+trace_run (Ran e) task system h f p knows calm quiet = inr (run_traces f.0 e task system h f.1 f.2 p quiet)
+trace_run Checked task system h f p knows calm quiet = absurd f
+trace_run Untold task system h f p knows calm quiet = absurd f
 
-pub trace_exact : (o : Outcome) (line : Line) (shape : Shape) (h : Happened) → LineFacts o line h.old h.new → HasPut o h →
-    h.old.run.spawner.knows shape.identifier ≡ true → (Rose h.old.run.spawner.faults h.new.run.spawner.faults → ⊥) → (Rose h.err.faults h.err_after.faults → ⊥) →
-    (o ≡ Memory) ⊎ ShapeFacts o line shape h.old.run h.new.run → ((h.status ≡ 11) × IsIdle h) ⊎ Traces h line (system_for shape)
-trace_exact o line shape h f p knows calm quiet (inl e) =
-    inl (memory_status h (subst (λ (x : Outcome). HasPut x h) e p) quiet, (wants_idle line h (subst (λ (x : Outcome). LineFacts x line h.old h.new) e f)).0)
-trace_exact o line shape h f p knows calm quiet (inr s) = shape_trace o line shape h s p knows calm quiet
+wanting : (o : Outcome) (line : Line) (h : Happened) → LineFacts o line h.old h.new → HasPut o h → (Rose h.err.faults h.err_after.faults → ⊥) → o ≡ Memory → (h.status ≡ 11) × IsIdle h
+wanting o line h f p quiet e =
+    (memory_status h (subst (λ (x : Outcome). HasPut x h) e p) quiet, (wants_idle line h (subst (λ (x : Outcome). LineFacts x line h.old h.new) e f)).0)
+
+pub trace_exact : (o : Outcome) (line : Line) (plan : Plan) (loaded : Loaded) (h : Happened) → LineFacts o line h.old h.new → HasPut o h → plan_of line ≡ Some plan →
+    AreKnown h.old.run.spawner loaded.system.components → (Rose h.old.run.spawner.faults h.new.run.spawner.faults → ⊥) → (Rose h.err.faults h.err_after.faults → ⊥) →
+    (o ≡ Memory) ⊎ LoadsAlike line h o loaded → ((h.status ≡ 11) × IsIdle h) ⊎ TracesLoaded h plan loaded
+trace_exact o line plan loaded h f p planned knows calm quiet (inl e) = inl (wanting o line h f p quiet e)
+trace_exact o line plan loaded h f p planned knows calm quiet (inr s) =
+    by_plan o line h s.made s.loads s.facts
+    (λ it same g. loaded_trace it same
+    (trace_run o (task_of it.plan it.loaded) it.loaded.system h g p
+    (subst (AreKnown h.old.run.spawner) (sym (ap (λ (x : Loaded). x.system.components) same ∙ s.agree.0.0)) knows) calm quiet))
+    (λ none g. planned_unplanned plan (plan_of line) planned none)
+  where
+    loaded_trace : (it : IsOfRun h line) → it.loaded ≡ s.made → ((h.status ≡ 11) × IsIdle h) ⊎ Traces h (task_of it.plan it.loaded) it.loaded.system → ((h.status ≡ 11) × IsIdle h) ⊎ TracesLoaded h plan loaded
+    loaded_trace it same (inl idle) = inl idle
+    loaded_trace it same (inr t) = inr (record {
+      task = task_of it.plan it.loaded;
+      system = it.loaded.system;
+      same = record {
+        plan_is = same_Some it.plan plan (sym it.planned ∙ planned);
+        folders_are = ap (λ (x : Loaded). x.folders) same ∙ s.agree.1;
+        parts = (ap (λ (x : Loaded). x.system.components) same ∙ s.agree.0.0, ap (λ (x : Loaded). x.system.ports) same ∙ s.agree.0.1);
+      };
+      traces = t;
+    })
+
+-- ---- the size
+
+check_size : (o : Outcome) (system : System) (h : Happened) → CheckFacts o system h.old.run h.new.run → HasPut o h → (Rose h.err.faults h.err_after.faults → ⊥) → WritesSize h system
+check_size Words system h f p quiet = absurd f
+check_size Memory system h f p quiet = absurd f
+check_size (File path fault) system h f p quiet = absurd f
+check_size (Start name cause) system h f p quiet = absurd f
+check_size (Ran e) system h f p quiet = absurd f
+check_size Checked system h f p quiet = Sized p.0 f
+check_size Untold system h f p quiet = Cut (put_line (codes "write\n") 10 h p quiet).0 f
+
+-- the size, by components and ports
+abbrev size_by : List Component → List Port → List ℕ
+size_by components ports = size_text (record { components = components; ports = ports; instant_order = []; initial_order = [] })
+
+-- the size of a system is that of each with its components and ports
+same_size : (one other : System) → HaveSameParts one other → size_text one ≡ size_text other
+unfolding size_text
+same_size one other same = ap₂ size_by same.0 same.1
+
+size_writes : (one other : System) (h : Happened) → HaveSameParts one other → WritesSize h one → WritesSize h other
+size_writes one other h same (Sized status t) = Sized status (record { spawner = t.spawner; out = t.out ∙ ap (with_piece h.old.run.out) (same_size one other same) })
+size_writes one other h same (Cut status t) =
+    Cut status (record { spawner = t.spawner; out = subst (λ (x : List ℕ). CutsShort x h.old.run.out h.new.run.out) (same_size one other same) t.out })
+
+pub check_exact : (o : Outcome) (line : Line) (loaded : Loaded) (h : Happened) → LineFacts o line h.old h.new → HasPut o h → plan_of line ≡ None → (Rose h.err.faults h.err_after.faults → ⊥) →
+    (o ≡ Memory) ⊎ LoadsAlike line h o loaded → ((h.status ≡ 11) × IsIdle h) ⊎ WritesSize h loaded.system
+check_exact o line loaded h f p none quiet (inl e) = inl (wanting o line h f p quiet e)
+check_exact o line loaded h f p none quiet (inr s) =
+    by_plan o line h s.made s.loads s.facts
+    (λ it same g. planned_unplanned it.plan (plan_of line) it.planned none)
+    (λ unplanned g. inr (size_writes s.made.system loaded.system h s.agree.0 (check_size o s.made.system h g p quiet)))

@@ -5,7 +5,6 @@ use Rattle.std.proofs.lemmas.List.Elements.{All-nil}
 use Rattle.sim_base.specs.Causes.{Rose, one_more}
 use Rattle.sim_base.specs.Folder.{FolderView}
 use Rattle.sim_base.specs.Sink.{SinkView}
-use Rattle.value_types.specs.declared.shape.Shape.{Shape}
 use Rattle.fmu_peer.specs.declared.ended.Why.{Why}
 use Rattle.fmu_peer.specs.declared.ended.Why.TheVariants.{Refused, Misreply, Link}
 use Rattle.fmu_peer.specs.Start.{SpawnerView}
@@ -13,23 +12,24 @@ use Rattle.fmu_peer.specs.View.{View}
 use Rattle.calling_sequence.specs.declared.run_end.RunEnd.{RunEnd}
 use Rattle.calling_sequence.specs.declared.run_end.RunEnd.TheVariants as E
 use Rattle.system_model.specs.declared.system.System.{System}
-use Rattle.command_line.specs.Line.{Line, IsLine}
+use Rattle.system_model.specs.declared.plan.Plan.{Plan}
+use Rattle.command_line.specs.Line.{Line, IsLine, plan_of}
 use Rattle.ssprun.specs.declared.outcome.Outcome.{Outcome}
-use Rattle.ssprun.specs.declared.outcome.Outcome.TheVariants.{Words, Memory, File, Start, Ran}
-use Rattle.ssprun.specs.declared.outcome.FileFault.{FileFault}
-use Rattle.ssprun.specs.declared.outcome.FileFault.TheVariants.{Unread, Missing, TooBig, Broken}
+use Rattle.ssprun.specs.declared.outcome.Outcome.TheVariants.{Words, Memory, File, Start, Ran, Checked, Untold}
+use Rattle.system_files.specs.declared.named.FileFault.{FileFault}
+use Rattle.system_files.specs.declared.named.FileFault.TheVariants.{Unread, Missing, TooBig, Broken}
 use Rattle.ssprun.specs.declared.outcome.StartCause.{StartCause}
 use Rattle.ssprun.specs.declared.outcome.StartCause.TheVariants.{Failed, Unknown}
 use Rattle.ssprun.specs.declared.outcome.End.{End}
 use Rattle.ssprun.specs.declared.outcome.End.TheVariants as O
 use Rattle.ssprun.specs.Message.{Reports, CutsShort, message, status_of, file_message, start_message, end_message}
-use Rattle.ssprun.specs.Files.{files_of}
-use Rattle.ssprun.specs.Facts.{Calm, Loads, FileFacts, Facts, Reading, Running, WantsMemory, WithLine, WithoutLine, system_for, task_of}
+use Rattle.system_files.specs.declared.loaded.Loaded.{Loaded}
+use Rattle.system_files.specs.Loads.{FileFails}
+use Rattle.ssprun.specs.Facts.{Calm, CheckFacts, Facts, LineFacts, LoadFacts, LoadsLine, OfSystem, PlanFacts, RunFacts, Unloaded, WithLine, WithoutLine, search_for, task_of}
 use Rattle.ssprun.specs.Happened.{Happened, Scene, Stage}
 use Rattle.ssprun.specs.Peers.{with_all_started}
-use Rattle.ssprun.specs.Rows.{Says, IsIdle, IsSilent, IsMute, memory_line, OnLine, IsNoLine, HasEnded, LacksFile, IsUnread, IsMissing, IsTooBig, BreaksRule, BreaksOffBy, LosesPeer, NotStarted, NotKnown, NotAnswering, IsRefusedWhy, IsMisreplyWhy, LacksSize}
+use Rattle.ssprun.specs.Rows.{Ended, IsOfRun, IsUncalled, Told, Says, IsIdle, IsSilent, IsMute, memory_line, OnLine, IsNoLine, HasEnded, LacksFile, IsUnread, IsMissing, IsTooBig, BreaksRule, BreaksOffBy, LosesPeer, NotStarted, NotKnown, NotAnswering, IsRefusedWhy, IsMisreplyWhy, LacksSize}
 use Rattle.ssprun.specs.Runs.{FailsToStart, HasRun, IsEndOf, NotesUnstarted, TakesBack, Task, names_of}
-use Rattle.ssprun.proofs.FolderLemmas.{unfailed}
 use Rattle.ssprun.proofs.Outs.{tells_out}
 use Rattle.ssprun.proofs.PeerLemmas.{unasked}
 use Rattle.ssprun.proofs.Statuses.{Status, Done, WrongWords, NoFile, BrokenRule, NoPeer, Refusal, WrongReply, FixedSize, Unwritten, NoMemory, number, of_file, of_end, of_outcome, numbered, same_number}
@@ -72,29 +72,37 @@ WhenIs Unwritten h = Says h (codes "write\n") × Rose h.old.run.out.faults h.new
 WhenIs NoMemory h = IsIdle h × (h.new.run.spawner.faults ≡ h.old.run.spawner.faults) × (h.new.folder.failed ≡ h.old.folder.failed) × Says h memory_line
 
 file_when : (fault : FileFault) (path : List ℕ) (line : Line) (h : Happened) → IsLine h.words line → Calm h.old.run h.new.run →
-    FileFacts fault line path h.old.folder h.new.folder → Says h (file_message path fault) → WhenIs (of_file fault) h
+    FileFails (search_for line) fault path h.old.folder h.new.folder → Says h (file_message path fault) → WhenIs (of_file fault) h
 file_when Unread path line h is calm f says = (line, is, (calm, IsUnread path f says))
 file_when Missing path line h is calm f says = (line, is, (calm, IsMissing path f says))
 file_when TooBig path line h is calm f says = (line, is, (calm, IsTooBig path f says))
-file_when (Broken rule place) path line h is calm f says = (line, is, (calm, (path, rule, place, f, says)))
+file_when (Broken rule place ports) path line h is calm f says = (line, is, (calm, (path, rule, place, ports, f, says)))
 
 -- ---- peers that weren't called
 
-calm_idle : (h : Happened) → Calm h.old.run h.new.run → IsIdle h
-calm_idle h calm = record {
+-- where the spawner tells what it told, no peer was started
+pub same_uncalled : (h : Happened) → h.new.run.spawner ≡ h.old.run.spawner → IsUncalled h
+same_uncalled h same = record {
   peers = [];
   unasked = All-nil _;
-  started = ap (λ (s : Scene). s.spawner.started) calm ∙ omega arith;
-  retired = ap (λ (s : Scene). s.spawner.retired) calm ∙ sym (append-nil h.old.run.spawner.retired);
+  started = ap (λ (s : SpawnerView). s.started) same ∙ omega arith;
+  retired = ap (λ (s : SpawnerView). s.retired) same ∙ sym (append-nil h.old.run.spawner.retired);
+}
+
+calm_idle : (h : Happened) → Calm h.old.run h.new.run → IsIdle h
+calm_idle h calm = record {
+  uncalled = same_uncalled h (ap (λ (s : Scene). s.spawner) calm);
   out = ap (λ (s : Scene). s.out) calm;
 }
 
 pub taken_idle : (task : Task) (system : System) (h : Happened) → TakesBack task system h.old.run h.new.run → IsIdle h
 taken_idle task system h t = record {
-  peers = t.peers;
-  unasked = unasked task.directory system.components t.peers t.are;
-  started = ap (λ (s : SpawnerView). s.started) t.told;
-  retired = ap (λ (s : SpawnerView). s.retired) t.told;
+  uncalled = record {
+    peers = t.peers;
+    unasked = unasked task.folders system.components t.peers t.are;
+    started = ap (λ (s : SpawnerView). s.started) t.told;
+    retired = ap (λ (s : SpawnerView). s.retired) t.told;
+  };
   out = t.out;
 }
 
@@ -106,20 +114,30 @@ pub unstarted_idle : (task : Task) (system : System) (name : List ℕ) (cause : 
 unstarted_idle task system name cause h f =
     let n = noted_failure cause f.component (with_all_started h.old.run.spawner f.place) f.failed f.noted in
     record {
-      peers = f.peers;
-      unasked = unasked task.directory system.components f.peers f.are;
-      started = ap (λ (s : SpawnerView). s.started) f.told ∙ n.0 ∙ ap (λ (k : ℕ). h.old.run.spawner.started + k) (sym f.each);
-      retired = ap (λ (s : SpawnerView). s.retired) f.told ∙ ap (λ (vs : List View). vs ++ f.peers) n.1;
+      uncalled = record {
+        peers = f.peers;
+        unasked = unasked task.folders system.components f.peers f.are;
+        started = ap (λ (s : SpawnerView). s.started) f.told ∙ n.0 ∙ ap (λ (k : ℕ). h.old.run.spawner.started + k) (sym f.each);
+        retired = ap (λ (s : SpawnerView). s.retired) f.told ∙ ap (λ (vs : List View). vs ++ f.peers) n.1;
+      };
       out = f.out;
     }
 
-pub wants_idle : (line : Line) (h : Happened) → WantsMemory line h.old h.new → IsIdle h × (h.new.run.spawner.faults ≡ h.old.run.spawner.faults) × (h.new.folder.failed ≡ h.old.folder.failed)
-wants_idle line h (Reading calm some) = (calm_idle h calm, ap (λ (s : Scene). s.spawner.faults) calm, unfailed (files_of line) h.old.folder h.new.folder some)
-wants_idle line h (Running shape loads back) = (
-  taken_idle (task_of line) (system_for shape) h back,
-  ap (λ (s : SpawnerView). s.faults) back.told,
-  ap (λ (v : FolderView). v.failed) loads.told,
-)
+-- for want of memory nothing was called, and no read failed
+abbrev pub IsWanting : Happened → Type 0
+IsWanting h = IsIdle h × (h.new.run.spawner.faults ≡ h.old.run.spawner.faults) × (h.new.folder.failed ≡ h.old.folder.failed)
+
+pub wants_idle : (line : Line) (h : Happened) → LineFacts Memory line h.old h.new → IsWanting h
+wants_idle line h (Unloaded calm some) = (calm_idle h calm, ap (λ (s : Scene). s.spawner.faults) calm, ap (λ (v : FolderView). v.failed) some.told)
+wants_idle line h (OfSystem loaded loads facts) = by (plan_of line) facts
+  where
+    by : (plan : Option Plan) → PlanFacts plan Memory loaded h.old.run h.new.run → IsWanting h
+    by (Some plan) back = (
+      taken_idle (task_of plan loaded) loaded.system h back,
+      ap (λ (s : SpawnerView). s.faults) back.told,
+      ap (λ (v : FolderView). v.failed) loads.told,
+    )
+    by None back = absurd back
 
 pub same_idle : (h : Happened) → h.new ≡ h.old → IsIdle h
 same_idle h same = calm_idle h (ap (λ (s : Stage). s.run) same)
@@ -136,36 +154,34 @@ start_rose task system name old new f = raised old.spawner.faults new.spawner.fa
 
 -- ---- each outcome
 
-start_when : (cause : StartCause) (name : List ℕ) (line : Line) (shape : Shape) (h : Happened) → IsLine h.words line →
-    Loads line shape h.old.folder h.new.folder → FailsToStart (task_of line) (system_for shape) name cause h.old.run h.new.run →
-    Says h (start_message name cause) → WhenIs NoPeer h
-start_when Failed name line shape h is loads f says =
-    (line, is, NotStarted shape name loads f (start_rose (task_of line) (system_for shape) name h.old.run h.new.run f) says)
-start_when Unknown name line shape h is loads f says = (line, is, NotKnown shape name loads f says)
+start_when : (cause : StartCause) (name : List ℕ) (line : Line) (h : Happened) → IsLine h.words line → (it : IsOfRun h line) →
+    FailsToStart (task_of it.plan it.loaded) it.loaded.system name cause h.old.run h.new.run → Says h (start_message name cause) → WhenIs NoPeer h
+start_when Failed name line h is it f says =
+    (line, is, NotStarted it name f (start_rose (task_of it.plan it.loaded) it.loaded.system name h.old.run h.new.run f) says)
+start_when Unknown name line h is it f says = (line, is, NotKnown it name f says)
 
 -- what holds of this answer holds of the one by which the run was broken off
 breaks_by : (why : Why) (P : Why → Type 0) (line : Line) (h : Happened) → P why → BreaksOffBy h line (λ (w : Why). w ≡ why) → BreaksOffBy h line P
-breaks_by why P line h so b = record { shape = b.shape; loads = b.loads; bad = b.bad; so = subst P (sym b.so) so; name = b.name; named = b.named; says = b.says; run = b.run }
+breaks_by why P line h so b = record { it = b.it; bad = b.bad; so = subst P (sym b.so) so; name = b.name; named = b.named; says = b.says; run = b.run }
 
 bad_when : (why : Why) (line : Line) (h : Happened) → IsLine h.words line → BreaksOffBy h line (λ (w : Why). w ≡ why) → WhenIs (of_end (O.Bad [] why)) h
 bad_when (Refused call status) line h is b = (line, is, breaks_by (Refused call status) IsRefusedWhy line h tt b)
 bad_when (Misreply call reply) line h is b = (line, is, breaks_by (Misreply call reply) IsMisreplyWhy line h tt b)
 bad_when (Link call fault) line h is b = (line, is, NotAnswering (breaks_by (Link call fault) IsLink line h tt b))
 
-run_when : (end : RunEnd) (e : End) (line : Line) (shape : Shape) (h : Happened) → IsLine h.words line → Loads line shape h.old.folder h.new.folder →
-    IsEndOf (names_of (system_for shape)) end e → HasRun (task_of line) (system_for shape) end h.old.run h.new.run → Put h (end_message e) → WhenIs (of_end e) h
-run_when E.Stop e line shape h is loads named run says =
-    subst (λ (x : End). WhenIs (of_end x) h) (sym named) (line, is, (E.Stop, tt, (shape, loads, run), subst (λ (x : End). Put h (end_message x)) named says))
-run_when (E.Asked point) e line shape h is loads named run says =
-    subst (λ (x : End). WhenIs (of_end x) h) (sym named) (line, is, (E.Asked point, tt, (shape, loads, run), subst (λ (x : End). Put h (end_message x)) named says))
-run_when (E.EventLimit point) e line shape h is loads named run says = absurd named
-run_when (E.FixedStep component at end) e line shape h is loads named run says =
+run_when : (end : RunEnd) (e : End) (line : Line) (h : Happened) → IsLine h.words line → (it : IsOfRun h line) → IsEndOf (names_of it.loaded.system) end e →
+    HasRun (task_of it.plan it.loaded) it.loaded.system end h.old.run h.new.run → Put h (end_message e) → WhenIs (of_end e) h
+run_when E.Stop e line h is it named run says =
+    subst (λ (x : End). WhenIs (of_end x) h) (sym named) (line, is, Ended E.Stop tt (it, run) (subst (λ (x : End). Put h (end_message x)) named says))
+run_when (E.Asked point) e line h is it named run says =
+    subst (λ (x : End). WhenIs (of_end x) h) (sym named) (line, is, Ended (E.Asked point) tt (it, run) (subst (λ (x : End). Put h (end_message x)) named says))
+run_when (E.EventLimit point) e line h is it named run says = absurd named
+run_when (E.FixedStep component at end) e line h is it named run says =
     subst (λ (x : End). WhenIs (of_end x) h) (sym named.2) (
       line,
       is,
       record {
-        shape = shape;
-        loads = loads;
+        it = it;
         component = component;
         at = at;
         end = end;
@@ -175,10 +191,9 @@ run_when (E.FixedStep component at end) e line shape h is loads named run says =
         run = run;
       },
     )
-run_when (E.Bad bad) e line shape h is loads named run says =
+run_when (E.Bad bad) e line h is it named run says =
     subst (λ (x : End). WhenIs (of_end x) h) (sym named.2) (bad_when bad.why line h is (record {
-      shape = shape;
-      loads = loads;
+      it = it;
       bad = bad;
       so = refl;
       name = named.0;
@@ -186,23 +201,72 @@ run_when (E.Bad bad) e line shape h is loads named run says =
       says = subst (λ (x : End). Put h (end_message x)) named.2 says;
       run = run;
     }))
-run_when E.WriteFault e line shape h is loads named run says =
+run_when E.WriteFault e line h is it named run says =
     subst (λ (x : End). WhenIs (of_end x) h) (sym named)
-    (subst (λ (x : End). Put h (end_message x)) named says, tells_out (task_of line) (system_for shape) E.WriteFault h.old.run h.new.run run)
+    (subst (λ (x : End). Put h (end_message x)) named says, tells_out (task_of it.plan it.loaded) it.loaded.system E.WriteFault h.old.run h.new.run run)
+
+-- what is loaded is run
+run_case : (o : Outcome) (line : Line) (h : Happened) → IsLine h.words line → (it : IsOfRun h line) → RunFacts o (task_of it.plan it.loaded) it.loaded.system h.old.run h.new.run →
+    Put h (message o) → WhenIs (of_outcome o) h
+run_case Words line h is it f says = absurd f
+run_case Memory line h is it f says = (
+  taken_idle (task_of it.plan it.loaded) it.loaded.system h f,
+  ap (λ (s : SpawnerView). s.faults) f.told,
+  ap (λ (v : FolderView). v.failed) it.loads.told,
+  says,
+)
+run_case (File path fault) line h is it f says = absurd f
+run_case (Start name cause) line h is it f says = start_when cause name line h is it f says
+run_case (Ran e) line h is it f says = run_when f.0 e line h is it f.1 f.2 says
+run_case Checked line h is it f says = absurd f
+run_case Untold line h is it f says = absurd f
+
+-- or checked
+check_case : (o : Outcome) (line : Line) (h : Happened) (loaded : Loaded) → IsLine h.words line → plan_of line ≡ None → LoadsLine line loaded h.old.folder h.new.folder →
+    CheckFacts o loaded.system h.old.run h.new.run → Put h (message o) → WhenIs (of_outcome o) h
+check_case Words line h loaded is none loads f says = absurd f
+check_case Memory line h loaded is none loads f says = absurd f
+check_case (File path fault) line h loaded is none loads f says = absurd f
+check_case (Start name cause) line h loaded is none loads f says = absurd f
+check_case (Ran e) line h loaded is none loads f says = absurd f
+check_case Checked line h loaded is none loads f says = (line, is, Told (loaded, none, loads, f) says)
+check_case Untold line h loaded is none loads f says = (says, cut_short_rose _ h.old.run.out h.new.run.out f.out)
+
+-- by whether the line has a plan
+pub by_plan : {A : Type 0} (o : Outcome) (line : Line) (h : Happened) (loaded : Loaded) → LoadsLine line loaded h.old.folder h.new.folder →
+    PlanFacts (plan_of line) o loaded h.old.run h.new.run →
+    ((it : IsOfRun h line) → it.loaded ≡ loaded → RunFacts o (task_of it.plan it.loaded) it.loaded.system h.old.run h.new.run → A) →
+    (plan_of line ≡ None → CheckFacts o loaded.system h.old.run h.new.run → A) → A
+by_plan {A} o line h loaded loads facts on_run on_check = by (plan_of line) refl facts
+  where
+    by : (plan : Option Plan) → plan_of line ≡ plan → PlanFacts plan o loaded h.old.run h.new.run → A
+    by (Some plan) e f = on_run (record { plan = plan; planned = e; loaded = loaded; loads = loads }) refl f
+    by None e f = on_check e f
+
+unloaded_when : (o : Outcome) (line : Line) (h : Happened) → IsLine h.words line → Calm h.old.run h.new.run → LoadFacts o line h.old.folder h.new.folder → Put h (message o) → WhenIs (of_outcome o) h
+unloaded_when Words line h is calm f says = absurd f
+unloaded_when Memory line h is calm f says = let i = wants_idle line h (Unloaded calm f) in (i.0, i.1, i.2, says)
+unloaded_when (File path fault) line h is calm f says = file_when fault path line h is calm f says
+unloaded_when (Start name cause) line h is calm f says = absurd f
+unloaded_when (Ran e) line h is calm f says = absurd f
+unloaded_when Checked line h is calm f says = absurd f
+unloaded_when Untold line h is calm f says = absurd f
+
+line_when : (o : Outcome) (line : Line) (h : Happened) → IsLine h.words line → LineFacts o line h.old h.new → Put h (message o) → WhenIs (of_outcome o) h
+line_when o line h is (Unloaded calm f) says = unloaded_when o line h is calm f says
+line_when o line h is (OfSystem loaded loads f) says =
+    by_plan o line h loaded loads f (λ it same g. run_case o line h is it g says) (λ none g. check_case o line h loaded is none loads g says)
 
 outcome_when : (o : Outcome) (h : Happened) → HasFacts o h → Put h (message o) → WhenIs (of_outcome o) h
-outcome_when Words h (WithLine r) says = absurd r.facts
+outcome_when o h (WithLine r) says = line_when o r.line h r.is r.facts says
 outcome_when Words h (WithoutLine w) says = (w.why, w.same, says)
-outcome_when Memory h (WithLine r) says = let i = wants_idle r.line h r.facts in (i.0, i.1, i.2, says)
 outcome_when Memory h (WithoutLine w) says =
     (same_idle h w.same, ap (λ (s : Stage). s.run.spawner.faults) w.same, ap (λ (s : Stage). s.folder.failed) w.same, says)
-outcome_when (File path fault) h (WithLine r) says = file_when fault path r.line h r.is r.facts.0 r.facts.1 says
 outcome_when (File path fault) h (WithoutLine w) says = absurd w.why
-outcome_when (Start name cause) h (WithLine r) says = start_when cause name r.line r.facts.0 h r.is r.facts.1 r.facts.2 says
 outcome_when (Start name cause) h (WithoutLine w) says = absurd w.why
-outcome_when (Ran e) h (WithLine r) says =
-    let ends = r.facts.2 in run_when ends.0 e r.line r.facts.0 h r.is r.facts.1 ends.1 ends.2 says
 outcome_when (Ran e) h (WithoutLine w) says = absurd w.why
+outcome_when Checked h (WithoutLine w) says = absurd w.why
+outcome_when Untold h (WithoutLine w) says = absurd w.why
 
 -- a status other than 10 is the outcome's
 pub when_is : (s : Status) (o : Outcome) (h : Happened) → HasFacts o h → HasPut o h → (number s ≡ 10 → ⊥) → h.status ≡ number s → WhenIs s h

@@ -1,117 +1,110 @@
 -- What holds of each outcome of the program.
-use Rattle.std.specs.Prelude.{◌≡◌, ℕ, ◌≤◌, ◌^◌, List, [], ◌∷◌, length, codes}
+use Rattle.std.specs.Prelude.{◌≡◌, ℕ, List, Option, Some, None}
 use Rattle.sim_base.specs.Folder.{FolderView}
-use Rattle.value_types.specs.declared.shape.Shape.{Shape}
+use Rattle.sim_base.specs.Sink.{with_piece}
+use Rattle.system_model.specs.declared.plan.Plan.{Plan}
 use Rattle.system_model.specs.declared.system.System.{System}
 use Rattle.calling_sequence.specs.declared.run_end.RunEnd.{RunEnd}
-use Rattle.command_line.specs.Line.{IsLine, Line, directory_of, plan_of}
-use Rattle.system_loading.specs.System.{system_of}
-use Rattle.system_loading.specs.Taken.{TakesAlone}
-use Rattle.system_loading.specs.declared.member.Member.{Member}
+use Rattle.command_line.specs.Line.{Check, IsLine, Line, One, Run, directory_of, plan_of, resolution_of}
+use Rattle.system_files.specs.declared.loaded.Loaded.{Loaded}
+use Rattle.system_files.specs.declared.subject.Subject.{Subject}
+use Rattle.system_files.specs.declared.subject.Subject.TheVariants as what
+use Rattle.system_files.specs.Loads.{FileFails, Loads, ReadsSome}
+use Rattle.system_files.specs.Order.{Found, Search, search_of}
 use Rattle.ssprun.specs.declared.outcome.Outcome.{Outcome}
-use Rattle.ssprun.specs.declared.outcome.Outcome.TheVariants.{Words, Memory, File, Start, Ran}
+use Rattle.ssprun.specs.declared.outcome.Outcome.TheVariants.{Words, Memory, File, Start, Ran, Checked, Untold}
 use Rattle.ssprun.specs.declared.outcome.End.{End}
-use Rattle.ssprun.specs.declared.outcome.FileFault.{FileFault}
-use Rattle.ssprun.specs.declared.outcome.FileFault.TheVariants.{Unread, Missing, TooBig, Broken}
-use Rattle.ssprun.specs.Description.{Finding, Absent, Long, Faulty, Taken, IsFoundAlone}
-use Rattle.ssprun.specs.Files.{description_path, files_of, AtPath, ReadsTo, ReadsSome, FailsAt, with_all_asked}
 use Rattle.ssprun.specs.Happened.{Scene, Stage}
+use Rattle.ssprun.specs.Message.{CutsShort, size_text}
 use Rattle.ssprun.specs.Runs.{FailsToStart, HasRun, IsEndOf, TakesBack, Task, names_of}
 
 -- no peer was started, and nothing was put
 abbrev pub Calm : Scene → Scene → Type 0
 Calm old new = new ≡ old
 
--- ---- what is run
+-- ---- what is asked for
 
--- the name of the component of `one`
-abbrev pub only_name : List ℕ
-only_name = codes "fmu"
+-- `one` asks for the FMU in a directory, the others for the system there
+abbrev pub subject_of : Line → Subject
+subject_of (One line) = what.Fmu
+subject_of (Run line) = what.System
+subject_of (Check line) = what.System
 
--- the components of `one`: a single FMU of this shape
-abbrev pub members_for : Shape → List Member
-members_for shape = record { name = only_name; shape = shape } ∷ []
+-- what a line asks the files for
+abbrev pub search_for : Line → Search
+search_for line = search_of (subject_of line) (directory_of line) (resolution_of line)
 
-abbrev pub system_for : Shape → System
-system_for shape = system_of (members_for shape)
+-- the files were read in their order, and say what the line asks for
+abbrev pub LoadsLine : Line → Loaded → FolderView → FolderView → Type 0
+LoadsLine line loaded old new = Loads (search_for line) (Found loaded) old new
 
-abbrev pub task_of : Line → Task
-task_of line = record { plan = plan_of line; directory = directory_of line }
+-- what is to be run of it
+abbrev pub task_of : Plan → Loaded → Task
+task_of plan loaded = record { plan = plan; folders = loaded.folders }
 
--- ---- from the start of the peers on
+-- ---- a run
 
 -- a run ended, and the outcome tells its end
 abbrev pub EndsSo : End → Task → System → Scene → Scene → Type 0
 EndsSo e task system old new = (end : RunEnd) × IsEndOf (names_of system) end e × HasRun task system end old new
 
 -- what holds of an outcome once it is known what to run
-abbrev pub SystemFacts : Outcome → Task → System → Scene → Scene → Type 0
-SystemFacts Words task system old new = ⊥
-SystemFacts Memory task system old new = TakesBack task system old new
-SystemFacts (File path fault) task system old new = ⊥
-SystemFacts (Start name fault) task system old new = FailsToStart task system name fault old new
-SystemFacts (Ran e) task system old new = EndsSo e task system old new
+abbrev pub RunFacts : Outcome → Task → System → Scene → Scene → Type 0
+RunFacts Words task system old new = ⊥
+RunFacts Memory task system old new = TakesBack task system old new
+RunFacts (File path fault) task system old new = ⊥
+RunFacts (Start name fault) task system old new = FailsToStart task system name fault old new
+RunFacts (Ran e) task system old new = EndsSo e task system old new
+RunFacts Checked task system old new = ⊥
+RunFacts Untold task system old new = ⊥
 
--- the same of a line and the FMU that it names
-abbrev pub ShapeFacts : Outcome → Line → Shape → Scene → Scene → Type 0
-ShapeFacts outcome line shape old new = SystemFacts outcome (task_of line) (system_for shape) old new
+-- ---- a check
 
--- ---- the description
+-- no peer was started, and the size of the system was put in one piece
+pub record TellsSize (system : System) (old new : Scene) : Type 0 where
+  pub spawner : new.spawner ≡ old.spawner
+  pub out : new.out ≡ with_piece old.out (size_text system)
 
--- where the folder tells its files, the description is found so, and in no other way
-abbrev pub Finds : Line → Finding → FolderView → Type 0
-Finds line found folder = AtPath folder (description_path (directory_of line)) (IsFoundAlone (plan_of line).resolution found)
+-- no peer was started, and that put failed
+pub record FailsToTell (system : System) (old new : Scene) : Type 0 where
+  pub spawner : new.spawner ≡ old.spawner
+  pub out : CutsShort (size_text system) old.out new.out
 
--- the description was read last, no read failed, and it is found so
-pub record FindsLast (line : Line) (path : List ℕ) (found : Finding) (old new : FolderView) : Type 0 where
-  pub path_is : path ≡ description_path (directory_of line)
-  pub read : ReadsTo (files_of line) path old new
-  pub found_is : Finds line found old
+abbrev pub CheckFacts : Outcome → System → Scene → Scene → Type 0
+CheckFacts Words system old new = ⊥
+CheckFacts Memory system old new = ⊥
+CheckFacts (File path fault) system old new = ⊥
+CheckFacts (Start name fault) system old new = ⊥
+CheckFacts (Ran e) system old new = ⊥
+CheckFacts Checked system old new = TellsSize system old new
+CheckFacts Untold system old new = FailsToTell system old new
 
--- why a file wasn't taken
-abbrev pub FileFacts : FileFault → Line → List ℕ → FolderView → FolderView → Type 0
-FileFacts Unread line path old new = FailsAt (files_of line) path old new
-FileFacts Missing line path old new = FindsLast line path Absent old new
-FileFacts TooBig line path old new = FindsLast line path Long old new
-FileFacts (Broken rule place) line path old new = FindsLast line path (Faulty rule place) old new
+-- what holds of an outcome once the system is known: of a run where there is a plan, else of a check
+abbrev pub PlanFacts : Option Plan → Outcome → Loaded → Scene → Scene → Type 0
+PlanFacts (Some plan) outcome loaded old new = RunFacts outcome (task_of plan loaded) loaded.system old new
+PlanFacts None outcome loaded old new = CheckFacts outcome loaded.system old new
 
--- each file was read, no read failed, and the description is taken with this shape
-pub record Loads (line : Line) (shape : Shape) (old new : FolderView) : Type 0 where
-  pub told : new ≡ with_all_asked old (files_of line)
-  pub found : Finds line (Taken shape) old
+abbrev pub SystemFacts : Line → Outcome → Loaded → Scene → Scene → Type 0
+SystemFacts line outcome loaded old new = PlanFacts (plan_of line) outcome loaded old new
 
--- the same, with the components that the line asks for
-pub record LoadsOne (line : Line) (members : List Member) (old new : FolderView) : Type 0 where
-  pub shape : Shape
-  pub members_are : members ≡ members_for shape
-  pub loads : Loads line shape old new
-  pub bytes : List ℕ
-  pub short : length bytes ≤ 2 ^ 24
-  pub taken : TakesAlone (plan_of line).resolution bytes shape
+-- ---- the files
 
--- what holds where it isn't
+-- what holds where nothing is loaded
 abbrev pub LoadFacts : Outcome → Line → FolderView → FolderView → Type 0
 LoadFacts Words line old new = ⊥
-LoadFacts Memory line old new = ReadsSome (files_of line) old new
-LoadFacts (File path fault) line old new = FileFacts fault line path old new
+LoadFacts Memory line old new = ReadsSome (search_for line) old new
+LoadFacts (File path fault) line old new = FileFails (search_for line) fault path old new
 LoadFacts (Start component fault) line old new = ⊥
 LoadFacts (Ran end) line old new = ⊥
+LoadFacts Checked line old new = ⊥
+LoadFacts Untold line old new = ⊥
+
+-- nothing is loaded, and nothing else is done; or what is loaded is run or checked
+pub data LineFacts (outcome : Outcome) (line : Line) (old new : Stage) : Type 0 where
+  Unloaded : Calm old.run new.run → LoadFacts outcome line old.folder new.folder → LineFacts outcome line old new
+  OfSystem : (loaded : Loaded) → LoadsLine line loaded old.folder new.folder → SystemFacts line outcome loaded old.run new.run → LineFacts outcome line old new
 
 -- ---- the words
-
--- memory is wanting: to read the files, or behind them
-pub data WantsMemory (line : Line) (old new : Stage) : Type 0 where
-  Reading : Calm old.run new.run → ReadsSome (files_of line) old.folder new.folder → WantsMemory line old new
-  Running : (shape : Shape) → Loads line shape old.folder new.folder → TakesBack (task_of line) (system_for shape) old.run new.run → WantsMemory line old new
-
--- what holds of an outcome of the command that a line asks for
-abbrev pub LineFacts : Outcome → Line → Stage → Stage → Type 0
-LineFacts Words line old new = ⊥
-LineFacts Memory line old new = WantsMemory line old new
-LineFacts (File path fault) line old new = Calm old.run new.run × FileFacts fault line path old.folder new.folder
-LineFacts (Start component fault) line old new =
-    (shape : Shape) × Loads line shape old.folder new.folder × ShapeFacts (Start component fault) line shape old.run new.run
-LineFacts (Ran end) line old new = (shape : Shape) × Loads line shape old.folder new.folder × ShapeFacts (Ran end) line shape old.run new.run
 
 -- the command that the words are, and what holds of its outcome
 pub record RunsLine (outcome : Outcome) (words : List (List ℕ)) (old new : Stage) : Type 0 where
@@ -127,6 +120,8 @@ LacksLine Memory words = Unit {0}
 LacksLine (File path fault) words = ⊥
 LacksLine (Start component fault) words = ⊥
 LacksLine (Ran end) words = ⊥
+LacksLine Checked words = ⊥
+LacksLine Untold words = ⊥
 
 -- no line is read, and nothing is done
 pub record ReadsNoLine (outcome : Outcome) (words : List (List ℕ)) (old new : Stage) : Type 0 where

@@ -1,6 +1,3 @@
-pub mod Files
-pub mod Description
-pub mod Entries
 pub mod Frame
 pub mod Message
 pub mod Happened
@@ -8,7 +5,7 @@ pub mod Peers
 pub mod Runs
 pub mod Facts
 pub mod Rows
-pub mod Loading
+pub mod Refusing
 pub mod Reading
 pub mod Streams
 pub mod Given

@@ -1,8 +1,15 @@
 -- The line on the error sink, and the status.
-use Rattle.std.specs.Prelude.{◌≡◌, ◌⊎◌, ℕ, ◌+◌, ◌*◌, List, ◌++◌, length, take, Option, Some, None, codes, decimal}
+use Rattle.std.specs.Prelude.{◌≡◌, ◌⊎◌, ℕ, ◌+◌, ◌*◌, List, [], ◌∷◌, ◌++◌, length, take, count_by, Option, Some, None, is_some, codes, decimal}
 use Rattle.hex.specs.Hex.{encode_lower}
 use Rattle.sim_base.specs.Escape.{escaped}
 use Rattle.sim_base.specs.Sink.{SinkView, with_piece, with_fault}
+use Rattle.sim_base.specs.declared.numbers.PortId.{PortId}
+use Rattle.system_files.specs.Rooms.{room_for}
+use Rattle.system_files.specs.declared.named.FileFault.{FileFault}
+use Rattle.system_files.specs.declared.named.FileFault.TheVariants.{Unread, Missing, TooBig, Broken}
+use Rattle.system_model.specs.Ports.{source_of}
+use Rattle.system_model.specs.declared.system.Port.{Port}
+use Rattle.system_model.specs.declared.system.System.{System}
 use Rattle.doc_tree.specs.Rules.{number}
 use Rattle.doc_tree.specs.declared.place.Place.{Place}
 use Rattle.doc_tree.specs.declared.place.Place.TheVariants.{Byte, Element}
@@ -14,9 +21,7 @@ use Rattle.fmi_calls.specs.declared.call.Status.TheVariants as S
 use Rattle.fmu_peer.specs.declared.ended.Why.{Why}
 use Rattle.fmu_peer.specs.declared.ended.Why.TheVariants.{Refused, Misreply, Link}
 use Rattle.ssprun.specs.declared.outcome.Outcome.{Outcome}
-use Rattle.ssprun.specs.declared.outcome.Outcome.TheVariants.{Words, Memory, File, Start, Ran}
-use Rattle.ssprun.specs.declared.outcome.FileFault.{FileFault}
-use Rattle.ssprun.specs.declared.outcome.FileFault.TheVariants.{Unread, Missing, TooBig, Broken}
+use Rattle.ssprun.specs.declared.outcome.Outcome.TheVariants.{Words, Memory, File, Start, Ran, Checked, Untold}
 use Rattle.ssprun.specs.declared.outcome.StartCause.{StartCause}
 use Rattle.ssprun.specs.declared.outcome.StartCause.TheVariants.{Failed, Unknown}
 use Rattle.ssprun.specs.declared.outcome.End.{End}
@@ -37,17 +42,27 @@ status_name S.Fatal = codes "Fatal"
 
 -- ---- the lines
 
+-- numbers of ports, with a space before each
+abbrev pub numbers_text : List PortId → List ℕ
+numbers_text [] = []
+numbers_text (port ∷ ports) = codes " " ++ decimal port.0 ++ numbers_text ports
+
 abbrev pub place_text : Place → List ℕ
 place_text (Byte at) = codes "byte " ++ decimal at
 place_text (Element path) = path
+
+-- the ports of a loop, each needing the next
+abbrev pub loop_text : List PortId → List ℕ
+loop_text [] = []
+loop_text (port ∷ ports) = codes " ports" ++ numbers_text (port ∷ ports)
 
 -- of a file that wasn't taken
 unfoldable pub file_message : List ℕ → FileFault → List ℕ
 file_message path Unread = codes "read " ++ escaped path ++ codes "\n"
 file_message path Missing = codes "missing " ++ escaped path ++ codes "\n"
 file_message path TooBig = codes "big " ++ escaped path ++ codes "\n"
-file_message path (Broken rule place) =
-    codes "refused " ++ decimal (number rule) ++ codes " " ++ escaped path ++ codes " " ++ place_text place ++ codes "\n"
+file_message path (Broken rule place ports) =
+    codes "refused " ++ decimal (number rule) ++ codes " " ++ escaped path ++ codes " " ++ place_text place ++ loop_text ports ++ codes "\n"
 
 -- of a component whose peer wasn't started
 unfoldable pub start_message : List ℕ → StartCause → List ℕ
@@ -82,22 +97,36 @@ message Memory = Some (codes "memory\n")
 message (File path fault) = Some (file_message path fault)
 message (Start component fault) = Some (start_message component fault)
 message (Ran end) = end_message end
+message Checked = None
+message Untold = Some (codes "write\n")
+
+-- ---- the size of a system
+
+-- how many ports are fed
+abbrev pub feeds_in : System → ℕ
+feeds_in system = count_by (λ (port : Port). is_some (source_of port.role)) system.ports
+
+-- the line of a check: how many components, ports and feeds, and how many names of parameters that reach nothing
+unfoldable pub size_text : System → List ℕ
+size_text system =
+    codes "components " ++ decimal (length system.components) ++ codes " ports " ++ decimal (length system.ports) ++ codes " feeds " ++ decimal (feeds_in system)
+    ++ codes " unreached 0\n"
 
 -- ---- the room for a line
-
--- so many bytes hold each line that names a component or a path of so many bytes, but for a place in a file
-abbrev pub room_for : ℕ → ℕ
-room_for length = 3 * length + 128
 
 abbrev pub path_room : Place → ℕ
 path_room (Byte at) = 0
 path_room (Element path) = length path
 
+-- a number has twenty digits at most, and a space stands before it
+abbrev pub loop_room : List PortId → ℕ
+loop_room ports = 21 * length ports
+
 abbrev pub place_room : FileFault → ℕ
 place_room Unread = 0
 place_room Missing = 0
 place_room TooBig = 0
-place_room (Broken rule place) = path_room place
+place_room (Broken rule place ports) = path_room place + loop_room ports
 
 abbrev pub end_room : End → ℕ
 end_room Stop = 0
@@ -113,6 +142,8 @@ message_room Memory = 0
 message_room (File path fault) = room_for (length path) + place_room fault
 message_room (Start component fault) = room_for (length component)
 message_room (Ran end) = end_room end
+message_room Checked = 0
+message_room Untold = 0
 
 -- ---- the statuses
 
@@ -120,7 +151,7 @@ abbrev pub file_status : FileFault → ℕ
 file_status Unread = 3
 file_status Missing = 3
 file_status TooBig = 3
-file_status (Broken rule place) = 4
+file_status (Broken rule place ports) = 4
 
 abbrev pub why_status : Why → ℕ
 why_status (Refused call status) = 6
@@ -140,6 +171,8 @@ status_of Memory = 11
 status_of (File path fault) = file_status fault
 status_of (Start component fault) = 5
 status_of (Ran end) = end_status end
+status_of Checked = 0
+status_of Untold = 10
 
 -- ---- what is put
 

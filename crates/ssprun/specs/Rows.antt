@@ -1,9 +1,10 @@
 -- When each status comes, and what stands then.
-use Rattle.std.specs.Prelude.{◌≡◌, ◌⊎◌, ℕ, ◌+◌, ◌<◌, ◌≤◌, true, false, List, ◌∷◌, ◌++◌, length, map, All, Some, IsSomeAnd, codes}
+use Rattle.std.specs.Prelude.{◌≡◌, ◌⊎◌, ℕ, ◌+◌, ◌<◌, ◌≤◌, true, List, ◌∷◌, ◌++◌, length, map, All, Some, None, IsSomeAnd, is_some, codes}
 use Rattle.std.specs.List.{slice_get}
 use Rattle.sim_base.specs.Causes.{Rose}
 use Rattle.sim_base.specs.Sink.{with_piece}
 use Rattle.sim_base.specs.declared.numbers.CompId.{CompId}
+use Rattle.sim_base.specs.declared.numbers.PortId.{PortId}
 use Rattle.value_types.specs.declared.shape.Shape.{Shape}
 use Rattle.doc_tree.specs.declared.place.Place.{Place}
 use Rattle.doc_tree.specs.declared.rule.Rule.{Rule}
@@ -35,15 +36,19 @@ use Rattle.step_master.specs.Traced.{IsRunOf}
 use Rattle.bench_fmus.specs.declared.bench.Bench.{Bench}
 use Rattle.bench_fmus.specs.Spawners.{bench_view}
 use Rattle.built_in_laws.specs.BuiltInRuns.{IsBuiltIn}
-use Rattle.command_line.specs.Line.{IsLine, Line, directory_of, plan_of}
-use Rattle.ssprun.specs.declared.outcome.FileFault.TheVariants.{Unread, Missing, TooBig, Broken}
+use Rattle.command_line.specs.Line.{IsLine, Line, plan_of}
 use Rattle.ssprun.specs.declared.outcome.StartCause.TheVariants.{Failed, Unknown}
-use Rattle.ssprun.specs.Description.{Finding, Absent, Long, Faulty, Taken, IsFound}
-use Rattle.ssprun.specs.Facts.{Calm, Loads, FindsLast, only_name, system_for, task_of}
-use Rattle.ssprun.specs.Files.{description_path, files_of, ReadsSome, FailsAt}
-use Rattle.ssprun.specs.Happened.{Happened}
+use Rattle.system_loading.specs.Assembly.{HaveSameParts}
+use Rattle.system_files.specs.declared.loaded.Loaded.{Loaded}
+use Rattle.system_files.specs.declared.named.FileFault.TheVariants.{Unread, Missing, TooBig, Broken}
+use Rattle.system_files.specs.Files.{Absent, Faulty, Long}
+use Rattle.system_files.specs.Loads.{FailsToRead, Loads, ReadsSome}
+use Rattle.system_files.specs.Order.{Comes, Fails, Finding, Found}
+use Rattle.ssprun.specs.Facts.{Calm, FailsToTell, LoadsLine, TellsSize, search_for, task_of}
+use Rattle.ssprun.specs.Happened.{Happened, Scene}
+use Rattle.ssprun.specs.Peers.{AreKnown, IsFirstUnknown}
 use Rattle.ssprun.specs.Message.{CutsShort, file_message, start_message, fixed_message, bad_message, why_status}
-use Rattle.ssprun.specs.Runs.{FailsToStart, HasRun, IsUnasked, RunsPeers, names_of}
+use Rattle.ssprun.specs.Runs.{FailsToStart, HasRun, IsUnasked, RunsPeers, Task, names_of}
 
 -- ---- what err holds
 
@@ -81,21 +86,30 @@ OnLine h P = (line : Line) × IsLine h.words line × P line
 abbrev pub IsNoLine : Happened → Type 0
 IsNoLine h = (line : Line) → IsLine h.words line → ⊥
 
--- the folder tells its files, the description is found so, and no read failed
-pub record IsToFind (h : Happened) (line : Line) (found : Finding) : Type 0 where
+-- the folder tells its files, the order of reading comes to this, and no read failed
+pub record IsToFind (h : Happened) (line : Line) (finding : Finding) : Type 0 where
   pub unfailed : h.new.folder.failed ≡ h.old.folder.failed
-  pub told : IsSomeAnd h.old.folder.files (λ at. IsFound (plan_of line).resolution found (at (description_path (directory_of line))))
+  pub told : is_some h.old.folder.files ≡ true
+  pub asked : List (List ℕ)
+  pub comes : Comes (search_for line) h.old.folder asked finding
 
--- some of the line's files were asked for, each once and from the first on; the read of the last of them may have failed, and then that is answered
+-- the files are asked for in their order, each once: to an end, or to one whose read fails, which is answered, or until memory is wanting
 pub data ReadsFiles (h : Happened) (line : Line) : Type 0 where
-  Quiet : ReadsSome (files_of line) h.old.folder h.new.folder → ReadsFiles h line
-  Failing : (path : List ℕ) → FailsAt (files_of line) path h.old.folder h.new.folder → Answers h 3 (file_message path Unread) → ReadsFiles h line
+  Whole : (finding : Finding) → Loads (search_for line) finding h.old.folder h.new.folder → ReadsFiles h line
+  Failing : (path : List ℕ) → FailsToRead (search_for line) path h.old.folder h.new.folder → Answers h 3 (file_message path Unread) → ReadsFiles h line
+  Wanting : ReadsSome (search_for line) h.old.folder h.new.folder → Answers h 11 memory_line → ReadsFiles h line
 
--- without a line no file is asked for; with one each of its files is, but for want of memory or behind a file that ends the command
+-- without a line no file is asked for
 pub record ReadingRow (h : Happened) : Type 0 where
   pub none : IsNoLine h → h.new.folder ≡ h.old.folder
   pub some : (line : Line) → IsLine h.words line → ReadsFiles h line
-  pub all : (line : Line) → IsLine h.words line → (h.new.folder.asked ≡ h.old.folder.asked ++ files_of line) ⊎ Answers h 11 memory_line
+
+-- the line asks for a run of what was loaded, by this plan
+pub record IsOfRun (h : Happened) (line : Line) : Type 0 where
+  pub plan : Plan
+  pub planned : plan_of line ≡ Some plan
+  pub loaded : Loaded
+  pub loads : LoadsLine line loaded h.old.folder h.new.folder
 
 -- ---- the statuses
 
@@ -108,13 +122,18 @@ IsFinished (E.FixedStep component at end) = ⊥
 IsFinished (E.Bad bad) = ⊥
 IsFinished E.WriteFault = ⊥
 
--- the run of the line's FMU ended so
+-- the run of the line's system ended so
 abbrev pub RunsTo : Happened → Line → RunEnd → Type 0
-RunsTo h line end = (shape : Shape) × Loads line shape h.old.folder h.new.folder × HasRun (task_of line) (system_for shape) end h.old.run h.new.run
+RunsTo h line end = (it : IsOfRun h line) × HasRun (task_of it.plan it.loaded) it.loaded.system end h.old.run h.new.run
 
--- 0: the run came to its end, and err holds what it held
-abbrev pub HasEnded : Happened → Line → Type 0
-HasEnded h line = (end : RunEnd) × IsFinished end × RunsTo h line end × IsSilent h
+-- the line asks for a check of what was loaded, and this holds of it
+abbrev pub OnCheck : Happened → Line → (System → Scene → Scene → Type 0) → Type 0
+OnCheck h line P = (loaded : Loaded) × (plan_of line ≡ None) × LoadsLine line loaded h.old.folder h.new.folder × P loaded.system h.old.run h.new.run
+
+-- 0: the run came to its end, or the size of the system was told, and err holds what it held
+pub data HasEnded (h : Happened) (line : Line) : Type 0 where
+  Ended : (end : RunEnd) → IsFinished end → RunsTo h line end → IsSilent h → HasEnded h line
+  Told : OnCheck h line TellsSize → IsSilent h → HasEnded h line
 
 pub record EndRow (h : Happened) : Type 0 where
   pub when : h.status ≡ 0 → OnLine h (HasEnded h)
@@ -124,39 +143,40 @@ pub record WordsRow (h : Happened) : Type 0 where
   pub when : h.status ≡ 2 → IsNoLine h × (h.new ≡ h.old) × Says h (codes "words\n")
   pub exact : IsNoLine h → AnswersOr11 h 2 (codes "words\n")
 
--- 3: `read` only where the read of that file failed and no other, `missing` and `big` exactly where the file is so
+-- 3: `read` only where the read of that file failed and no other, `missing` and `big` exactly where the first file that isn't taken is so
 pub data LacksFile (h : Happened) (line : Line) : Type 0 where
-  IsUnread : (path : List ℕ) → FailsAt (files_of line) path h.old.folder h.new.folder → Says h (file_message path Unread) → LacksFile h line
-  IsMissing : (path : List ℕ) → FindsLast line path Absent h.old.folder h.new.folder → Says h (file_message path Missing) → LacksFile h line
-  IsTooBig : (path : List ℕ) → FindsLast line path Long h.old.folder h.new.folder → Says h (file_message path TooBig) → LacksFile h line
+  IsUnread : (path : List ℕ) → FailsToRead (search_for line) path h.old.folder h.new.folder → Says h (file_message path Unread) → LacksFile h line
+  IsMissing : (path : List ℕ) → Loads (search_for line) (Fails path Absent) h.old.folder h.new.folder → Says h (file_message path Missing) → LacksFile h line
+  IsTooBig : (path : List ℕ) → Loads (search_for line) (Fails path Long) h.old.folder h.new.folder → Says h (file_message path TooBig) → LacksFile h line
 
 pub record FileRow (h : Happened) : Type 0 where
   pub when : h.status ≡ 3 → OnLine h (λ line. Calm h.old.run h.new.run × LacksFile h line)
-  pub missing : (line : Line) → IsLine h.words line → IsToFind h line Absent →
-      AnswersOr11 h 3 (file_message (description_path (directory_of line)) Missing)
-  pub big : (line : Line) → IsLine h.words line → IsToFind h line Long →
-      AnswersOr11 h 3 (file_message (description_path (directory_of line)) TooBig)
+  pub missing : (line : Line) (path : List ℕ) → IsLine h.words line → IsToFind h line (Fails path Absent) → AnswersOr11 h 3 (file_message path Missing)
+  pub big : (line : Line) (path : List ℕ) → IsLine h.words line → IsToFind h line (Fails path Long) → AnswersOr11 h 3 (file_message path TooBig)
 
--- 4: exactly where the file breaks a rule, the first of which and its place are told
+-- 4: exactly where the files break a rule, the first of which is told with its file and place; of a loop the ports of one are told
 abbrev pub BreaksRule : Happened → Line → Type 0
-BreaksRule h line = (path : List ℕ) × (rule : Rule) × (place : Place)
-    × FindsLast line path (Faulty rule place) h.old.folder h.new.folder × Says h (file_message path (Broken rule place))
+BreaksRule h line = (path : List ℕ) × (rule : Rule) × (place : Place) × (ports : List PortId)
+    × Loads (search_for line) (Fails path (Faulty rule place ports)) h.old.folder h.new.folder × Says h (file_message path (Broken rule place ports))
+
+-- the status is 4, with the line of this rule, or of a loop with the ports of one
+abbrev pub TellsRule : Happened → Line → List ℕ → Rule → Place → Type 0
+TellsRule h line path rule place = (ports : List PortId) × IsToFind h line (Fails path (Faulty rule place ports)) × AnswersOr11 h 4 (file_message path (Broken rule place ports))
 
 pub record RuleRow (h : Happened) : Type 0 where
   pub when : h.status ≡ 4 → OnLine h (λ line. Calm h.old.run h.new.run × BreaksRule h line)
-  pub exact : (line : Line) (rule : Rule) (place : Place) → IsLine h.words line → IsToFind h line (Faulty rule place) →
-      AnswersOr11 h 4 (file_message (description_path (directory_of line)) (Broken rule place))
+  pub exact : (line : Line) (path : List ℕ) (rule : Rule) (place : Place) (ports : List PortId) → IsLine h.words line →
+      IsToFind h line (Fails path (Faulty rule place ports)) → TellsRule h line path rule place
 
 -- the run was broken off by an answer that isn't good, of the component with this name, and with its line
 pub record BreaksOffBy (h : Happened) (line : Line) (P : Why → Type 0) : Type 0 where
-  pub shape : Shape
-  pub loads : Loads line shape h.old.folder h.new.folder
+  pub it : IsOfRun h line
   pub bad : BadAnswer
   pub so : P bad.why
   pub name : List ℕ
-  pub named : slice_get (names_of (system_for shape)) bad.component.0 ≡ Some name
+  pub named : slice_get (names_of it.loaded.system) bad.component.0 ≡ Some name
   pub says : Says h (bad_message name bad.why)
-  pub run : HasRun (task_of line) (system_for shape) (E.Bad bad) h.old.run h.new.run
+  pub run : HasRun (task_of it.plan it.loaded) it.loaded.system (E.Bad bad) h.old.run h.new.run
 
 -- why is the first answer of the talk's run that isn't good: the calls before it got good ones, and its own is none of the closing's
 pub record IsFirstBadOf (shape : Shape) (why : Why) (talk : List Exchange) : Type 0 where
@@ -200,19 +220,19 @@ IsMisreplyWhy (Refused call status) = ⊥
 IsMisreplyWhy (Misreply call reply) = Unit {0}
 IsMisreplyWhy (Link call fault) = ⊥
 
--- 5: `link` only where the spawner's count or the peer's rose, `unknown` exactly where the spawner doesn't know the identifier
+-- 5: `link` only where the spawner's count or the peer's rose, `unknown` exactly where the spawner doesn't know the identifier of a component, the first of which is named
 pub data LosesPeer (h : Happened) (line : Line) : Type 0 where
-  NotStarted : (shape : Shape) (name : List ℕ) → Loads line shape h.old.folder h.new.folder → FailsToStart (task_of line) (system_for shape) name Failed h.old.run h.new.run →
+  NotStarted : (it : IsOfRun h line) (name : List ℕ) → FailsToStart (task_of it.plan it.loaded) it.loaded.system name Failed h.old.run h.new.run →
       Rose h.old.run.spawner.faults h.new.run.spawner.faults → Says h (start_message name Failed) → LosesPeer h line
-  NotKnown : (shape : Shape) (name : List ℕ) → Loads line shape h.old.folder h.new.folder → FailsToStart (task_of line) (system_for shape) name Unknown h.old.run h.new.run →
+  NotKnown : (it : IsOfRun h line) (name : List ℕ) → FailsToStart (task_of it.plan it.loaded) it.loaded.system name Unknown h.old.run h.new.run →
       Says h (start_message name Unknown) → LosesPeer h line
   NotAnswering : BreaksOffBy h line IsLink → LosesPeer h line
 
 pub record LinkRow (h : Happened) : Type 0 where
   pub when : h.status ≡ 5 → OnLine h (LosesPeer h)
-  pub unknown : (line : Line) (shape : Shape) → IsLine h.words line → IsToFind h line (Taken shape) →
-      h.old.run.spawner.knows shape.identifier ≡ false → (Rose h.old.run.spawner.faults h.new.run.spawner.faults → ⊥) →
-      AnswersOr11 h 5 (start_message only_name Unknown)
+  pub unknown : (line : Line) (plan : Plan) (loaded : Loaded) (place : ℕ) (c : Component) → IsLine h.words line → plan_of line ≡ Some plan → IsToFind h line (Found loaded) →
+      IsFirstUnknown h.old.run.spawner loaded.system.components place c → (Rose h.old.run.spawner.faults h.new.run.spawner.faults → ⊥) →
+      AnswersOr11 h 5 (start_message c.name Unknown)
   pub lost : DecidesBy h IsLink
 
 -- 6: exactly where the first answer that isn't good is a refusal
@@ -227,15 +247,14 @@ pub record MisreplyRow (h : Happened) : Type 0 where
 
 -- 9: the run ended before a step whose size a component can't take, the least of those, and with its line
 pub record LacksSize (h : Happened) (line : Line) : Type 0 where
-  pub shape : Shape
-  pub loads : Loads line shape h.old.folder h.new.folder
+  pub it : IsOfRun h line
   pub component : CompId
   pub at : ℕ
   pub end : ℕ
   pub name : List ℕ
-  pub named : slice_get (names_of (system_for shape)) component.0 ≡ Some name
+  pub named : slice_get (names_of it.loaded.system) component.0 ≡ Some name
   pub says : Says h (fixed_message name at end)
-  pub run : HasRun (task_of line) (system_for shape) (E.FixedStep component at end) h.old.run h.new.run
+  pub run : HasRun (task_of it.plan it.loaded) it.loaded.system (E.FixedStep component at end) h.old.run h.new.run
 
 pub record FixedRow (h : Happened) : Type 0 where
   pub when : h.status ≡ 9 → OnLine h (LacksSize h)
@@ -245,12 +264,16 @@ pub record WriteRow (h : Happened) : Type 0 where
   pub when : h.status ≡ 10 → (Says h (codes "write\n") × Rose h.old.run.out.faults h.new.run.out.faults) ⊎ ((text : List ℕ) × IsMute h text)
   pub higher : (h.old.run.out.faults < h.new.run.out.faults) ⊎ (h.err.faults < h.err_after.faults) → h.status ≡ 10
 
--- each peer that was started was taken back, and none of them was called; nothing was put
-pub record IsIdle (h : Happened) : Type 0 where
+-- each peer that was started was taken back, and none of them was called
+pub record IsUncalled (h : Happened) : Type 0 where
   pub peers : List View
   pub unasked : All IsUnasked peers
   pub started : h.new.run.spawner.started ≡ h.old.run.spawner.started + length peers
   pub retired : h.new.run.spawner.retired ≡ h.old.run.spawner.retired ++ peers
+
+-- and nothing was put
+pub record IsIdle (h : Happened) : Type 0 where
+  pub uncalled : IsUncalled h
   pub out : h.new.run.out ≡ h.old.run.out
 
 -- 11: no read and no start failed, no peer was called, and nothing was put
@@ -285,19 +308,45 @@ pub data WritesTrace (h : Happened) (r : Run) : Type 0 where
       trace_pieces r.system r.plan is kind point ≡ pieces ++ piece ∷ rest → CutsPiece (with_pieces h.old.run.out pieces) piece h.new.run.out → WritesTrace h r
 
 -- the peers that were started, which keep their machines, and the trace where they tell machines that behave well and no call of them failed
-pub record Traces (h : Happened) (line : Line) (system : System) : Type 0 where
+pub record Traces (h : Happened) (task : Task) (system : System) : Type 0 where
   pub olds : List View
   pub news : List View
-  pub peers : RunsPeers (task_of line) system olds news h.old.run.spawner h.new.run.spawner
+  pub peers : RunsPeers task system olds news h.old.run.spawner h.new.run.spawner
   pub same : map (λ (v : View). v.fixed) news ≡ map (λ (v : View). v.fixed) olds
   pub sound : IsSound system
-  pub writes : (r : Run) → IsRunOf system olds r → r.plan ≡ plan_of line → WellBehaved r → All (λ (v : View). v.faults ≡ 0) news → WritesTrace h r
+  pub writes : (r : Run) → IsRunOf system olds r → r.plan ≡ task.plan → WellBehaved r → All (λ (v : View). v.faults ≡ 0) news → WritesTrace h r
 
--- the trace: where the file is taken, the identifier is known, and no read, start or put on err failed, or for want of memory nothing
+-- what is run is a system with the same components and ports, in the same folders
+pub record IsRunAs (loaded : Loaded) (plan : Plan) (task : Task) (system : System) : Type 0 where
+  pub plan_is : task.plan ≡ plan
+  pub folders_are : task.folders ≡ loaded.folders
+  pub parts : HaveSameParts system loaded.system
+
+-- the trace of what the files say is written
+pub record TracesLoaded (h : Happened) (plan : Plan) (loaded : Loaded) : Type 0 where
+  pub task : Task
+  pub system : System
+  pub same : IsRunAs loaded plan task system
+  pub traces : Traces h task system
+
+-- the trace: where the files say a system, the identifiers are known, and no read, start or put on err failed, or for want of memory nothing
 pub record TraceRow (h : Happened) : Type 0 where
-  pub when : (line : Line) (shape : Shape) → IsLine h.words line → IsToFind h line (Taken shape) → h.old.run.spawner.knows shape.identifier ≡ true →
+  pub when : (line : Line) (plan : Plan) (loaded : Loaded) → IsLine h.words line → plan_of line ≡ Some plan → IsToFind h line (Found loaded) →
+      AreKnown h.old.run.spawner loaded.system.components →
       (Rose h.old.run.spawner.faults h.new.run.spawner.faults → ⊥) → (Rose h.err.faults h.err_after.faults → ⊥) →
-      ((h.status ≡ 11) × IsIdle h) ⊎ Traces h line (system_for shape)
+      ((h.status ≡ 11) × IsIdle h) ⊎ TracesLoaded h plan loaded
+
+-- ---- a check
+
+-- the line of the size, or a front of it where its put failed and the status is 10
+pub data WritesSize (h : Happened) (system : System) : Type 0 where
+  Sized : (h.status ≡ 0) → TellsSize system h.old.run h.new.run → WritesSize h system
+  Cut : (h.status ≡ 10) → FailsToTell system h.old.run h.new.run → WritesSize h system
+
+-- the size: where the files say a system, and no read or put on err failed, or for want of memory nothing
+pub record CheckRow (h : Happened) : Type 0 where
+  pub when : (line : Line) (loaded : Loaded) → IsLine h.words line → plan_of line ≡ None → IsToFind h line (Found loaded) → (Rose h.err.faults h.err_after.faults → ⊥) →
+      ((h.status ≡ 11) × IsIdle h) ⊎ WritesSize h loaded.system
 
 -- ---- built-in machines
 
@@ -312,23 +361,25 @@ pub record HasBuiltIns (r : Run) : Type 0 where
   pub each : (i : ℕ) (c : Component) (m : Machine) → slice_get r.system.components i ≡ Some c → slice_get r.machines i ≡ Some m → IsBuiltIn c.shape m
 
 -- the trace of the system's built-in machines, in which no parameter is bound
-pub record TracesBuiltIns (h : Happened) (line : Line) (system : System) : Type 0 where
+pub record TracesBuiltIns (h : Happened) (plan : Plan) (system : System) : Type 0 where
   pub run : Run
-  pub system_is : run.system ≡ system
-  pub plan_is : run.plan ≡ plan_of line
+  pub parts : HaveSameParts run.system system
+  pub plan_is : run.plan ≡ plan
   pub unbound : IsUnbound run.bound
   pub built_in : HasBuiltIns run
   pub writes : WritesTrace h run
 
 -- the same trace over the spawner of the built-in machines, of which no premise says that they behave well
 pub record BuiltInRow (h : Happened) : Type 0 where
-  pub when : IsOverBench h → (line : Line) (shape : Shape) → IsLine h.words line → IsToFind h line (Taken shape) → h.old.run.spawner.knows shape.identifier ≡ true →
+  pub when : IsOverBench h → (line : Line) (plan : Plan) (loaded : Loaded) → IsLine h.words line → plan_of line ≡ Some plan → IsToFind h line (Found loaded) →
+      AreKnown h.old.run.spawner loaded.system.components →
       (Rose h.old.run.spawner.faults h.new.run.spawner.faults → ⊥) → (Rose h.err.faults h.err_after.faults → ⊥) → All (λ (v : View). v.faults ≡ 0) h.new.run.spawner.retired →
-      ((h.status ≡ 11) × IsIdle h) ⊎ TracesBuiltIns h line (system_for shape)
+      ((h.status ≡ 11) × IsIdle h) ⊎ TracesBuiltIns h plan loaded.system
 
--- each peer that was started was taken back once: uncalled, or behind a run in which its talk is legal, lean and closed, and puts and ends are those of the run
+-- each peer that was started was taken back once: uncalled, or behind a run in which its talk is legal, lean and closed, and puts and ends are those of the run; a check starts none, and puts the size
 pub data PeerRow (h : Happened) : Type 0 where
   Idle : IsIdle h → PeerRow h
+  Checked : (line : Line) → IsLine h.words line → OnCheck h line TellsSize ⊎ OnCheck h line FailsToTell → PeerRow h
   Ran : (line : Line) → IsLine h.words line → (end : RunEnd) → RunsTo h line end → PeerRow h
 
 -- ---- all of it
@@ -349,4 +400,5 @@ pub record KeepsRows (h : Happened) : Type 0 where
   pub reading : ReadingRow h
   pub peer : PeerRow h
   pub trace : TraceRow h
+  pub check : CheckRow h
   pub built_in : BuiltInRow h

@@ -23,18 +23,23 @@ use Rattle.ssprun.specs.declared.outcome.StartCause.TheVariants.{Failed, Unknown
 use Rattle.ssprun.specs.declared.outcome.End.{End}
 use Rattle.ssprun.specs.declared.outcome.End.TheVariants as O
 use Rattle.ssprun.specs.Happened.{Scene}
-use Rattle.ssprun.specs.Peers.{AreKnown, AreStarted, CanStart, with_all_retired, with_all_started}
+use Rattle.system_files.specs.Loads.{IsNamed}
+use Rattle.ssprun.specs.Peers.{AreKnown, AreStarted, with_all_retired, with_all_started}
 
--- what is to be run: a plan, and the directory in which the peers are started
+-- what is to be run: a plan, and the folders in which the peers are started
 pub record Task : Type 0 where
   pub plan : Plan
-  pub directory : List ℕ
+  pub folders : List (List ℕ)
 
 -- a system that can be run, with names and tokens within their limits
 pub record CanRun (system : System) : Type 0 where
   pub sound : IsSound system
   pub built : IsBuilt system
-  pub each : All CanStart system.components
+  pub each : All IsNamed system.components
+
+-- so many folders as components
+abbrev pub HasFolders : List (List ℕ) → System → Type 0
+HasFolders folders system = length folders ≡ length system.components
 
 abbrev pub names_of : System → List (List ℕ)
 names_of system = map (λ (c : Component). c.name) system.components
@@ -49,7 +54,7 @@ pub record IsUnasked (v : View) : Type 0 where
 -- each peer that was started was taken back without a call, and nothing was put
 pub record TakesBack (task : Task) (system : System) (old new : Scene) : Type 0 where
   pub peers : List View
-  pub are : AreStarted task.directory system.components peers
+  pub are : AreStarted task.folders system.components peers
   pub told : new.spawner ≡ with_all_retired (with_all_started old.spawner (length peers)) peers
   pub out : new.out ≡ old.out
 
@@ -66,7 +71,7 @@ pub record FailsToStart (task : Task) (system : System) (name : List ℕ) (fault
   pub name_is : name ≡ component.name
   pub peers : List View
   pub each : length peers ≡ place
-  pub are : AreStarted task.directory system.components peers
+  pub are : AreStarted task.folders system.components peers
   pub known : AreKnown old.spawner (take place system.components)
   pub failed : SpawnerView
   pub noted : NotesUnstarted fault component (with_all_started old.spawner place) failed
@@ -79,7 +84,7 @@ pub record FailsToStart (task : Task) (system : System) (name : List ℕ) (fault
 pub record RunsPeers (task : Task) (system : System) (olds news : List View) (old new : SpawnerView) : Type 0 where
   pub known : AreKnown old system.components
   pub each : length olds ≡ length system.components
-  pub are : AreStarted task.directory system.components olds
+  pub are : AreStarted task.folders system.components olds
   pub told : new ≡ with_all_retired (with_all_started old (length olds)) news
 
 -- all instances were made, and the run went on to its end. Each peer that isn't spared behind a Fatal of its source is over. What it put is the trace of told machines, up to where it was broken off

@@ -1,10 +1,9 @@
-//! The program: it reads one FMU's description, runs the FMU, and writes the trace.
+//! The program: it reads the descriptions of a system of FMUs, runs it, and writes the trace.
 #![tactic(auto)]
 
 mod args;
 mod files;
 mod frame;
-mod loading;
 #[cfg(test)]
 mod long_tests;
 mod message;
@@ -12,13 +11,16 @@ mod names;
 mod naming;
 mod outcome;
 mod peers;
+mod refusing;
 mod report;
-mod room;
+#[cfg(test)]
+mod rule_tests;
 mod run;
 mod streams;
 #[cfg(test)]
+mod system_tests;
+#[cfg(test)]
 mod tests;
-mod wanted;
 
 use args::run_args;
 use bench_fmus::Bench;

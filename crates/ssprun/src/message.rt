@@ -1,15 +1,20 @@
-ghost use Rattle.std.specs.Prelude.{◌≡◌, ◌+◌, ◌*◌, ◌≤◌, ◌++◌, length, take, codes, decimal};
+ghost use Rattle.std.specs.Prelude.{◌≡◌, ◌+◌, ◌*◌, ◌≤◌, ◌++◌, is_some, length, take, codes, decimal};
 ghost use Rattle.sim_base.specs.Escape.{escaped};
-ghost use Rattle.ssprun.specs.Message.{bad_message, file_message, fixed_message, path_room, place_room, place_text, room_for, start_message};
+ghost use Rattle.std.specs.List.{count_by};
+ghost use Rattle.system_model.specs.Ports.{source_of};
+ghost use Rattle.system_files.specs.Rooms.{room_for};
+ghost use Rattle.ssprun.specs.Message.{bad_message, file_message, fixed_message, loop_room, loop_text, numbers_text, path_room, place_room, place_text, size_text, start_message};
 
 use crate::frame::frame_digits;
 use crate::names::{kind_name, status_name};
-use crate::outcome::{FileFault, StartCause};
+use crate::outcome::StartCause;
 use doc_tree::{Place, Rule};
 use fmi_calls::Status;
 use fmu_peer::Why;
 use itoa::Buffer;
-use sim_base::escape;
+use sim_base::{PortId, escape};
+use system_files::FileFault;
+use system_model::{Port, Role, System};
 
 /// Writes the line of a file that wasn't taken to the front of `text`, and answers its length.
 #[tactic(auto, unfolding(crate::specs::Message::file_message))]
@@ -22,15 +27,17 @@ pub(crate) fn write_file_message(path: &str, fault: &FileFault, text: &mut [u8])
         FileFault::Unread => write_named(b"read ", path, b"\n", text),
         FileFault::Missing => write_named(b"missing ", path, b"\n", text),
         FileFault::TooBig => write_named(b"big ", path, b"\n", text),
-        FileFault::Broken { rule, place } => write_broken(path, *rule, place, text),
+        FileFault::Broken { rule, place, ports } => {
+            write_broken(path, *rule, place, ports.as_slice(), text)
+        }
     }
 }
 
 #[tactic(auto, unfolding(crate::specs::Message::file_message))]
-fn write_broken(path: &str, rule: Rule, place: &Place, text: &mut [u8]) -> usize
-    requires { room_for (length path.now) + place_room (FileFault.Broken rule place.now) ≤ length text.old }
+fn write_broken(path: &str, rule: Rule, place: &Place, ports: &[PortId], text: &mut [u8]) -> usize
+    requires { room_for (length path.now) + place_room (FileFault.Broken rule place.now ports.now) ≤ length text.old }
     ensures length { result ≤ length text.new }
-    ensures text { take result text.new ≡ file_message path.now (FileFault.Broken rule place.now) }
+    ensures text { take result text.new ≡ file_message path.now (FileFault.Broken rule place.now ports.now) }
 {
     let at = append(b"refused ", text, 0);
     let at = append_number(u64::from(rule.number()), text, at);
@@ -38,6 +45,7 @@ fn write_broken(path: &str, rule: Rule, place: &Place, text: &mut [u8]) -> usize
     let at = append_name(path, text, at);
     let at = append(b" ", text, at);
     let at = append_place(place, text, at);
+    let at = append_loop(ports, text, at);
     append(b"\n", text, at)
 }
 
@@ -168,5 +176,63 @@ fn append_place(place: &Place, text: &mut [u8], at: usize) -> usize
             append_number(*byte as u64, text, at)
         }
         Place::Element { path } => append(path.as_str().as_bytes(), text, at),
+    }
+}
+
+// Puts the ports of a loop behind what stands in the text up to `at`, and answers where they end.
+fn append_loop(ports: &[PortId], text: &mut [u8], at: usize) -> usize
+    requires { at + 6 + loop_room ports.now ≤ length text.old }
+    ensures end { result ≤ at + 6 + loop_room ports.now }
+    ensures text { take result text.new ≡ take at text.old ++ loop_text ports.now }
+{
+    if ports.is_empty() {
+        return at;
+    }
+    let at = append(b" ports", text, at);
+    append_ports(ports, text, at)
+}
+
+// Puts the numbers of ports, with a space before each, behind what stands in the text up to `at`.
+fn append_ports(ports: &[PortId], text: &mut [u8], at: usize) -> usize
+    requires { at + loop_room ports.now ≤ length text.old }
+    ensures end { result ≤ at + loop_room ports.now }
+    ensures text { take result text.new ≡ take at text.old ++ numbers_text ports.now }
+{
+    let mut end = at;
+    for port in ports {
+        end = append(b" ", text, end);
+        end = append_number(u64::from(port.0), text, end);
+    }
+    end
+}
+
+/// Writes the size of a system to the front of `text`, and answers the length.
+#[tactic(auto, unfolding(crate::specs::Message::size_text))]
+pub(crate) fn write_size(system: &System, text: &mut [u8]) -> usize
+    requires { 128 ≤ length text.old }
+    ensures length { result ≤ length text.new }
+    ensures text { take result text.new ≡ size_text system.now }
+{
+    let at = append(b"components ", text, 0);
+    let at = append_number(system.components.len() as u64, text, at);
+    let at = append(b" ports ", text, at);
+    let at = append_number(system.ports.len() as u64, text, at);
+    let at = append(b" feeds ", text, at);
+    let at = append_number(count_feeds(system.ports.as_slice()) as u64, text, at);
+    append(b" unreached 0\n", text, at)
+}
+
+fn count_feeds(ports: &[Port]) -> usize
+    ensures { result ≡ count_by (λ (port : Port). is_some (source_of port.role)) ports.now }
+{
+    ports.iter().filter(|port| is_fed(port.role)).count()
+}
+
+fn is_fed(role: Role) -> bool
+    ensures { result ≡ is_some (source_of role) }
+{
+    match role {
+        Role::Input { feed } | Role::ClockInput { feed } => feed.is_some(),
+        Role::Output | Role::ClockOutput | Role::TimeClock { .. } => false,
     }
 }

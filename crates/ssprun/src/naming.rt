@@ -1,12 +1,12 @@
 ghost use Rattle.std.specs.Prelude.{◌≡◌, ◌<◌, ◌≤◌, All, IfOk, Some, length, map, slice_get};
-ghost use Rattle.ssprun.specs.Message.{room_for};
+ghost use Rattle.system_files.specs.Rooms.{room_for};
 
 use crate::outcome::{End, Outcome, StartCause};
 use crate::report::Report;
-use crate::room::{NoMemory, make_room};
 use sim_base::{CompId, Text};
 use std::alloc::Global;
 use step_master::RunEnd;
+use system_files::{NoMemory, make_room};
 use system_model::Component;
 
 /// The names of a system's components, and room for each line that names one of them.

@@ -1,6 +1,6 @@
-use doc_tree::{Place, Rule};
 use fmu_peer::Why;
 use sim_base::Text;
+use system_files::FileFault;
 
 /// How a command ends.
 #[derive(Debug, Drop)]
@@ -15,19 +15,10 @@ pub(crate) enum Outcome {
     Start { component: Text, fault: StartCause },
     /// All peers were started, and the run ended so.
     Ran { end: End },
-}
-
-/// Why a file wasn't taken.
-#[derive(Debug, Drop)]
-pub(crate) enum FileFault {
-    /// Its read failed.
-    Unread,
-    /// There is none.
-    Missing,
-    /// It is longer than a file may be.
-    TooBig,
-    /// It breaks this rule first, at this place.
-    Broken { rule: Rule, place: Place },
+    /// The size of a system was told.
+    Checked,
+    /// The size of a system couldn't be put.
+    Untold,
 }
 
 /// Why a peer wasn't started.

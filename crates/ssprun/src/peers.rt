@@ -1,8 +1,9 @@
 ghost use Rattle.std.specs.Prelude.{◌≡◌, ◌+◌, ◌≤◌, [], All, IfErr, IfOk, length, map, vec_capacity};
-ghost use Rattle.ssprun.specs.Peers.{CanStart, StartsEach, StartsUpTo, with_all_retired};
+ghost use Rattle.system_files.specs.Loads.{IsNamed};
+ghost use Rattle.ssprun.specs.Peers.{StartsEach, StartsUpTo, with_all_retired};
 
 use fmu_peer::{Spawner, StartFault};
-use sim_base::CompId;
+use sim_base::{CompId, Text};
 use std::alloc::Global;
 use system_model::Component;
 
@@ -13,10 +14,10 @@ pub(crate) struct Unstarted<L> {
     pub fault: StartFault,
 }
 
-/// Starts a peer for each of the components, in their order, and puts them into an empty list that has room for them.
+/// Starts a peer for each of the components, in their order and in the folder of its FMU, and puts them into an empty list that has room for them.
 pub(crate) fn start_each<S: Spawner>(
     alloc: Global,
-    directory: &str,
+    folders: &[Text],
     components: &[Component],
     room: Vec<S::Link>,
     spawner: &mut S,
@@ -24,9 +25,10 @@ pub(crate) fn start_each<S: Spawner>(
     requires empty { room.items ≡ [] }
     requires room { length components.now ≤ vec_capacity room }
     requires few { length components.now ≤ 256 }
-    requires each { All CanStart components.now }
-    ensures ok { IfOk result (λ peers. StartsEach directory.now components.now (map S.Link.view peers.items) (S.view spawner.old) (S.view spawner.new)) }
-    ensures err { IfErr result (λ e. StartsUpTo directory.now components.now e.component.0 e.fault (map S.Link.view e.peers.items) (S.view spawner.old) (S.view spawner.new)) }
+    requires folders { length folders.now ≡ length components.now }
+    requires each { All IsNamed components.now }
+    ensures ok { IfOk result (λ peers. StartsEach folders.now components.now (map S.Link.view peers.items) (S.view spawner.old) (S.view spawner.new)) }
+    ensures err { IfErr result (λ e. StartsUpTo folders.now components.now e.component.0 e.fault (map S.Link.view e.peers.items) (S.view spawner.old) (S.view spawner.new)) }
 {
     let mut peers = room;
     for place in 0..components.len() {
@@ -35,7 +37,7 @@ pub(crate) fn start_each<S: Spawner>(
             alloc,
             "builtin",
             component.name.as_str(),
-            directory,
+            folders[place].as_str(),
             &component.shape,
         ) {
             Ok(peer) => peers.push_reserved(peer),

@@ -1,14 +1,16 @@
-ghost use Rattle.std.specs.Prelude.{◌≡◌, ◌+◌, ◌≤◌, length, Some};
-ghost use Rattle.ssprun.specs.Message.{Reports, end_message, end_room, end_status, file_message, file_status, message, message_room, place_room, room_for, start_message, status_of, why_status};
-ghost use Rattle.ssprun.specs.declared.outcome.Outcome.TheVariants.{Memory, Words};
+ghost use Rattle.std.specs.Prelude.{◌≡◌, ◌+◌, ◌≤◌, IsTrue, Some, false, length};
+ghost use Rattle.ssprun.specs.Message.{Reports, end_message, end_room, end_status, file_message, file_status, message, message_room, place_room, start_message, status_of, why_status};
+ghost use Rattle.system_files.specs.Rooms.{room_for};
+ghost use Rattle.ssprun.specs.declared.outcome.Outcome.TheVariants.{Checked, Memory, Untold, Words};
 
 use crate::message::{
     write_bad_message, write_file_message, write_fixed_message, write_start_message,
 };
-use crate::outcome::{End, FileFault, Outcome, StartCause};
+use crate::outcome::{End, Outcome, StartCause};
 use fmu_peer::Why;
 use sim_base::{Sink, Text};
 use std::alloc::Global;
+use system_files::FileFault;
 
 /// How a command ended, and the room for its line on the error sink, made before.
 #[derive(Debug, Drop)]
@@ -39,6 +41,21 @@ impl Report {
         }
     }
 
+    /// The size of a system was told, or couldn't be put.
+    pub fn checked(alloc: Global, is_told: bool) -> Report
+        ensures told { IsTrue is_told → result.outcome ≡ Checked }
+        ensures untold { is_told ≡ false → result.outcome ≡ Untold }
+    {
+        Report {
+            outcome: if is_told {
+                Outcome::Checked
+            } else {
+                Outcome::Untold
+            },
+            text: Vec::new(alloc),
+        }
+    }
+
     /// Puts the line, if there is one, and answers the status.
     pub fn put<E: Sink>(self, err: &mut E) -> u8
         ensures { Reports (message self.outcome) (status_of self.outcome) result (E.view err.old) (E.view err.new) }
@@ -52,6 +69,8 @@ impl Report {
                 put_start_line(component, *fault, &mut text, err)
             }
             Outcome::Ran { end } => put_end_line(end, &mut text, err),
+            Outcome::Checked => 0,
+            Outcome::Untold => put_line(b"write\n", 10, err),
         }
     }
 }

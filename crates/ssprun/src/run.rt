@@ -1,37 +1,39 @@
-ghost use Rattle.std.specs.Prelude.{◌≡◌, ◌+◌, ◌<◌, ◌≤◌, ◌^◌, length, map};
-ghost use Rattle.command_line.specs.Line.{IsWithin, KeepsLimits, line_of, line_with, texts};
+ghost use Rattle.std.specs.Prelude.{◌≡◌, ◌+◌, ◌<◌, ◌≤◌, ◌^◌, IfSome, length, map};
+ghost use Rattle.command_line.specs.Line.{IsWithin, KeepsLimits, directory_of, line_of, plan_of, resolution_of, texts};
 ghost use Rattle.fmu_peer.specs.Start.{SpawnerView};
 ghost use Rattle.run_model.specs.Laws.{OneTrace};
 ghost use Rattle.sim_base.specs.Sink.{SinkView};
 ghost use Rattle.system_model.specs.declared.system.System.{System};
-ghost use Rattle.system_loading.specs.System.{ports_of, system_of};
-ghost use Rattle.ssprun.specs.Facts.{Facts, LineFacts, SystemFacts, task_of};
+ghost use Rattle.ssprun.specs.Facts.{CheckFacts, Facts, LineFacts, PlanFacts, RunFacts, subject_of};
 ghost use Rattle.ssprun.specs.Happened.{happened, scene, stage};
 ghost use Rattle.ssprun.specs.Peers.{AreKnown, AreStarted, StartsUpTo, with_all_started};
 ghost use Rattle.ssprun.specs.Rows.{KeepsRows};
-ghost use Rattle.ssprun.specs.Runs.{CanRun, Task, names_of};
+ghost use Rattle.ssprun.specs.Runs.{CanRun, HasFolders, Task, names_of};
 
-use crate::loading::load;
+use crate::message::write_size;
 use crate::naming::Naming;
 use crate::outcome::StartCause;
 use crate::peers::{Unstarted, retire_each, start_each};
+use crate::refusing::refuse;
 use crate::report::Report;
 use built_in_laws::built_in_runs;
-use command_line::{CommandLine, Options, WordsFault, read_words};
+use command_line::{CommandLine, WordsFault, read_words};
 use fmu_peer::{Spawner, StartFault};
 use run_model::one_trace;
-use sim_base::{Folder, Items, Sink};
+use sim_base::{Folder, Items, Sink, Text};
 use std::alloc::Global;
 use std::thread::Threads;
 use step_master::{Master, PrepareEnd, PrepareFault, RunEnd, lives_of_peers, runs_of_machines};
-use system_loading::{Member, make_system, taken_laws};
-use system_model::{Bound, System};
+use system_files::{Loaded, Subject, load};
+use system_model::{Bound, Plan, System};
 
 /// Does what the words of a command line say, and answers the program's status.
 ///
-/// `one DIR --resolution R --step H --stop T [--start S]` reads the description in a directory, runs the FMU from its
-/// first call to its closing, and puts its trace on `out`. R, H, T and S are counts: R of them are one second, and the
-/// run goes from S, which is 0 where it isn't given, to T by steps of H. At each status but 0 one line is put on `err`.
+/// `run DIR --resolution R --step H --stop T [--start S]` reads the description of the system in a directory and those of
+/// its FMUs, runs them from their first calls to their closing, and puts the trace on `out`; `one` does so with the FMU
+/// that is described there. R, H, T and S are counts: R of them are one second, and the run goes from S, which is 0 where
+/// it isn't given, to T by steps of H. `check DIR --resolution R` puts the size of the system on `out`. At each status
+/// but 0 one line is put on `err`.
 pub fn run_words<R: Threads + Sync, F: Folder, S: Spawner, O: Sink, E: Sink>(
     rt: &R,
     alloc: Global,
@@ -66,14 +68,14 @@ fn run<R: Threads + Sync, F: Folder, S: Spawner, O: Sink>(
         (stage (F.view folder.new) (S.view spawner.new) (O.view out.new)) }
 {
     match read_words(alloc, words) {
-        Ok(line) => run_command(rt, alloc, line, folder, spawner, out),
+        Ok(line) => run_line(rt, alloc, line, folder, spawner, out),
         Err(WordsFault::NoLine) => Report::words(alloc),
         Err(WordsFault::Memory) => Report::memory(alloc),
     }
 }
 
-// Does what a line asks for, by its command.
-fn run_command<R: Threads + Sync, F: Folder, S: Spawner, O: Sink>(
+// Does what a line asks for.
+fn run_line<R: Threads + Sync, F: Folder, S: Spawner, O: Sink>(
     rt: &R,
     alloc: Global,
     line: CommandLine<'_>,
@@ -86,66 +88,100 @@ fn run_command<R: Threads + Sync, F: Folder, S: Spawner, O: Sink>(
         (stage (F.view folder.old) (S.view spawner.old) (O.view out.old))
         (stage (F.view folder.new) (S.view spawner.new) (O.view out.new)) }
 {
-    match line {
-        CommandLine::One(options) => run_one(rt, alloc, &options, folder, spawner, out),
+    match load(
+        alloc,
+        subject_of(&line),
+        directory_of(&line),
+        resolution_of(&line),
+        folder,
+    ) {
+        Ok(loaded) => run_loaded(rt, alloc, plan_of(&line), loaded, spawner, out),
+        Err(end) => refuse(alloc, end),
     }
 }
 
-// Runs the FMU in a directory.
-fn run_one<R: Threads + Sync, F: Folder, S: Spawner, O: Sink>(
-    rt: &R,
-    alloc: Global,
-    options: &Options<'_>,
-    folder: &mut F,
-    spawner: &mut S,
-    out: &mut O,
-) -> Report
-    requires { IsWithin options.now.plan }
-    ensures { LineFacts result.outcome (line_with options.now)
-        (stage (F.view folder.old) (S.view spawner.old) (O.view out.old))
-        (stage (F.view folder.new) (S.view spawner.new) (O.view out.new)) }
+fn subject_of(line: &CommandLine<'_>) -> Subject
+    ensures { result ≡ subject_of (line_of line.now) }
 {
-    taken_laws();
-    match load(alloc, options, folder) {
-        Ok(members) => run_members(rt, alloc, options, members, spawner, out),
-        Err(report) => report,
+    match line {
+        CommandLine::One(_) => Subject::Fmu,
+        CommandLine::Run(_) | CommandLine::Check(_) => Subject::System,
     }
 }
 
-// Runs the system of these components.
-fn run_members<R: Threads + Sync, S: Spawner, O: Sink>(
+fn directory_of<'a>(line: &CommandLine<'a>) -> &'a str
+    ensures { result.now ≡ directory_of (line_of line.now) }
+{
+    match line {
+        CommandLine::One(options) | CommandLine::Run(options) => options.directory,
+        CommandLine::Check(options) => options.directory,
+    }
+}
+
+fn resolution_of(line: &CommandLine<'_>) -> u64
+    ensures { result ≡ resolution_of (line_of line.now) }
+{
+    match line {
+        CommandLine::One(options) | CommandLine::Run(options) => options.plan.resolution,
+        CommandLine::Check(options) => options.resolution,
+    }
+}
+
+// The plan of a run.
+fn plan_of(line: &CommandLine<'_>) -> Option<Plan>
+    ensures { result ≡ plan_of (line_of line.now) }
+{
+    match line {
+        CommandLine::One(options) | CommandLine::Run(options) => Some(options.plan),
+        CommandLine::Check(_) => None,
+    }
+}
+
+// Runs a system by a plan, or tells its size where there is none.
+fn run_loaded<R: Threads + Sync, S: Spawner, O: Sink>(
     rt: &R,
     alloc: Global,
-    options: &Options<'_>,
-    members: Vec<Member>,
+    plan: Option<Plan>,
+    loaded: Loaded,
     spawner: &mut S,
     out: &mut O,
 ) -> Report
-    requires within { IsWithin options.now.plan }
-    requires runnable { CanRun (system_of members.items) }
-    requires few { length members.items < 2 ^ 32 }
-    requires few_ports { length (ports_of members.items) < 2 ^ 32 }
-    ensures { SystemFacts result.outcome (task_of (line_with options.now)) (system_of members.items)
+    requires within { IfSome plan IsWithin }
+    requires runnable { CanRun loaded.system }
+    requires folders { HasFolders loaded.folders loaded.system }
+    ensures { PlanFacts plan result.outcome loaded
         (scene (S.view spawner.old) (O.view out.old)) (scene (S.view spawner.new) (O.view out.new)) }
 {
-    match make_system(alloc, members) {
-        Ok(system) => run_system(rt, alloc, options, system, spawner, out),
-        Err(_) => Report::memory(alloc),
+    let Loaded { system, folders } = loaded;
+    match plan {
+        Some(plan) => run_system(rt, alloc, plan, system, folders.as_slice(), spawner, out),
+        None => tell_size(alloc, &system, out),
     }
+}
+
+// Tells the size of a system.
+fn tell_size<O: Sink>(alloc: Global, system: &System, out: &mut O) -> Report
+    ensures { (spawner : SpawnerView) → CheckFacts result.outcome system.now (scene spawner (O.view out.old)) (scene spawner (O.view out.new)) }
+{
+    let mut text = [0u8; 128];
+    let length = write_size(system, &mut text);
+    Report::checked(alloc, out.put(&text[..length]).is_ok())
 }
 
 // Runs a system: starts its peers, and takes them back at the end.
 fn run_system<R: Threads + Sync, S: Spawner, O: Sink>(
     rt: &R,
     alloc: Global,
-    options: &Options<'_>,
+    plan: Plan,
     system: System,
+    folders: &[Text],
     spawner: &mut S,
     out: &mut O,
 ) -> Report
-    requires within { IsWithin options.now.plan }
+    requires within { IsWithin plan }
     requires runnable { CanRun system }
-    ensures { SystemFacts result.outcome (task_of (line_with options.now)) system
+    requires folders { HasFolders folders.now system }
+    ensures { RunFacts result.outcome (record { plan = plan; folders = folders.now }) system
         (scene (S.view spawner.old) (O.view out.old)) (scene (S.view spawner.new) (O.view out.new)) }
 {
     let components = system.components.as_slice();
@@ -155,8 +191,10 @@ fn run_system<R: Threads + Sync, S: Spawner, O: Sink>(
     let Ok(room) = Vec::with_capacity(alloc, components.len()) else {
         return Report::memory(alloc);
     };
-    match start_each(alloc, options.directory, components, room, spawner) {
-        Ok(peers) => run_peers(rt, alloc, options, system, naming, peers, spawner, out),
+    match start_each(alloc, folders, components, room, spawner) {
+        Ok(peers) => run_peers(
+            rt, alloc, plan, system, folders, naming, peers, spawner, out,
+        ),
         Err(unstarted) => give_up(alloc, naming, unstarted, spawner),
     }
 }
@@ -171,8 +209,8 @@ fn give_up<S: Spawner>(
     requires one { unstarted.component.0 < length naming.names.items }
     requires fewer { length (S.view spawner.old).retired + length unstarted.peers.items ≤ (S.view spawner.old).started }
     ensures { (task : Task) (system : System) (before : SpawnerView) (out : SinkView) → naming.names.items ≡ names_of system →
-        StartsUpTo task.directory system.components unstarted.component.0 unstarted.fault (map S.Link.view unstarted.peers.items) before (S.view spawner.old) →
-        SystemFacts result.outcome task system (scene before out) (scene (S.view spawner.new) out) }
+        StartsUpTo task.folders system.components unstarted.component.0 unstarted.fault (map S.Link.view unstarted.peers.items) before (S.view spawner.old) →
+        RunFacts result.outcome task system (scene before out) (scene (S.view spawner.new) out) }
 {
     let Unstarted {
         peers,
@@ -191,21 +229,22 @@ fn give_up<S: Spawner>(
 fn run_peers<R: Threads + Sync, S: Spawner, O: Sink>(
     rt: &R,
     alloc: Global,
-    options: &Options<'_>,
+    plan: Plan,
     system: System,
+    folders: &[Text],
     naming: Naming,
     peers: Vec<S::Link>,
     spawner: &mut S,
     out: &mut O,
 ) -> Report
-    requires within { IsWithin options.now.plan }
+    requires within { IsWithin plan }
     requires runnable { CanRun system }
     requires names { naming.names.items ≡ names_of system }
     requires each { length peers.items ≡ length system.components }
-    requires started { AreStarted options.now.directory.now system.components (map S.Link.view peers.items) }
+    requires started { AreStarted folders.now system.components (map S.Link.view peers.items) }
     requires fewer { length (S.view spawner.old).retired + length peers.items ≤ (S.view spawner.old).started }
     ensures { (before : SpawnerView) → AreKnown before system.components → S.view spawner.old ≡ with_all_started before (length peers.items) →
-        SystemFacts result.outcome (task_of (line_with options.now)) system (scene before (O.view out.old)) (scene (S.view spawner.new) (O.view out.new)) }
+        RunFacts result.outcome (record { plan = plan; folders = folders.now }) system (scene before (O.view out.old)) (scene (S.view spawner.new) (O.view out.new)) }
 {
     lives_of_peers();
     runs_of_machines();
@@ -213,7 +252,7 @@ fn run_peers<R: Threads + Sync, S: Spawner, O: Sink>(
         components: Items::from_vec(Vec::new(alloc)),
         unreached: 0,
     };
-    match Master::prepare(alloc, system, bound, peers, options.plan) {
+    match Master::prepare(alloc, system, bound, peers, plan) {
         Ok(master) => {
             let mut master = master;
             let end = master.run(rt, out);

@@ -1,5 +1,5 @@
 use crate::run::run_words;
-use bench_fmus::{Bench, Scripts};
+use bench_fmus::{Bench, Script, Scripts};
 use fmi_calls::{BadStatus, Content, Kind, Reply};
 use fmu_peer::{PeerFault, Spawner};
 use sim_base::{Items, MemFile, MemFolder, MemSink, Text};
@@ -56,7 +56,7 @@ const WORKED: Case = Case {
 
 const REFUSED: Case = Case { out: "", ..WORKED };
 
-static CASES: [Case; 28] = [
+static CASES: [Case; 32] = [
     WORKED,
     Case {
         words: "one|d|--resolution|1000|--step|10|--stop|0",
@@ -151,10 +151,44 @@ static CASES: [Case; 28] = [
         err: "refused 14 d/modelDescription.xml /fmiModelDescription[1]/ModelVariables[2]/Int32[1]\n",
         ..REFUSED
     },
-    // An input isn't built yet.
+    // Nothing is connected to an input, which is never set and not shown.
     Case {
         file: File::Whole(
             r#"<fmiModelDescription fmiVersion="3.0" modelName="m" instantiationToken=""><CoSimulation modelIdentifier="gain"/><ModelVariables><Int32 name="u" valueReference="1" causality="input"/></ModelVariables></fmiModelDescription>"#,
+        ),
+        out: "trace 1 1000 0 20\nport 0 Int32 fmu u\nat 0 0\nat 10 0\nat 20 0\nend stop 20\n",
+        ..WORKED
+    },
+    // It keeps its start value, three times which its output is.
+    Case {
+        file: File::Whole(
+            r#"<fmiModelDescription fmiVersion="3.0" modelName="m" instantiationToken=""><CoSimulation modelIdentifier="gain"/><ModelVariables><Int32 name="k" valueReference="1" causality="parameter" start="3"/><Int32 name="u" valueReference="2" causality="input" start="5"/><Int32 name="y" valueReference="3" causality="output"/></ModelVariables></fmiModelDescription>"#,
+        ),
+        out: "trace 1 1000 0 20\nport 0 Int32 fmu u\nport 1 Int32 fmu y\nat 0 0\n1 15\nat 10 0\n1 15\nat 20 0\n1 15\nend stop 20\n",
+        ..WORKED
+    },
+    // An output needs another, and that the first.
+    Case {
+        file: File::Whole(
+            r#"<fmiModelDescription fmiVersion="3.0" modelName="m" instantiationToken=""><CoSimulation modelIdentifier="gain"/><ModelVariables><Int32 name="x" valueReference="1" causality="output"/><Int32 name="y" valueReference="2" causality="output"/><Int32 name="z" valueReference="3" causality="output"/></ModelVariables><ModelStructure><Output valueReference="1" dependencies=""/><Output valueReference="2" dependencies="3"/><Output valueReference="3" dependencies="2"/></ModelStructure></fmiModelDescription>"#,
+        ),
+        status: 4,
+        err: "refused 46 d/modelDescription.xml /fmiModelDescription[1] ports 1 2\n",
+        ..REFUSED
+    },
+    // Event Mode isn't built yet.
+    Case {
+        file: File::Whole(
+            r#"<fmiModelDescription fmiVersion="3.0" modelName="m" instantiationToken=""><CoSimulation modelIdentifier="counter" hasEventMode="true"/></fmiModelDescription>"#,
+        ),
+        status: 4,
+        err: "refused 29 d/modelDescription.xml /fmiModelDescription[1]\n",
+        ..REFUSED
+    },
+    // Nor is the early return from a step.
+    Case {
+        file: File::Whole(
+            r#"<fmiModelDescription fmiVersion="3.0" modelName="m" instantiationToken=""><CoSimulation modelIdentifier="counter" mightReturnEarlyFromDoStep="true"/></fmiModelDescription>"#,
         ),
         status: 4,
         err: "refused 29 d/modelDescription.xml /fmiModelDescription[1]\n",
@@ -242,24 +276,34 @@ macro_rules! done {
     };
 }
 
-type Answer = Result<Reply, PeerFault>;
+pub(crate) type Answer = Result<Reply, PeerFault>;
 
-const STARTED: Answer = done!(Content::Instantiate);
+pub(crate) const STARTED: Answer = done!(Content::Instantiate);
 
-const ENTERED: Answer = done!(Content::EnterInitialization);
+pub(crate) const ENTERED: Answer = done!(Content::EnterInitialization);
 
-const EXITED: Answer = done!(Content::ExitInitialization);
+pub(crate) const EXITED: Answer = done!(Content::ExitInitialization);
 
-const READ: Answer = done!(Content::Get { word: 0 });
+pub(crate) const READ: Answer = done!(Content::Get { word: 0 });
 
 // The greatest Int32 and one more.
 const MISREAD: Answer = done!(Content::Get {
     word: 2_147_483_648
 });
 
-const FREED: Answer = done!(Content::FreeInstance);
+pub(crate) const SET: Answer = done!(Content::Set);
 
-const TERMINATED: Answer = done!(Content::Terminate);
+// A step to 10.
+pub(crate) const STEPPED: Answer = done!(Content::DoStep {
+    event_needed: false,
+    terminate: false,
+    early: false,
+    end: 10,
+});
+
+pub(crate) const FREED: Answer = done!(Content::FreeInstance);
+
+pub(crate) const TERMINATED: Answer = done!(Content::Terminate);
 
 const ASKED: Answer = done!(Content::DoStep {
     event_needed: false,
@@ -268,9 +312,14 @@ const ASKED: Answer = done!(Content::DoStep {
     end: 10,
 });
 
-const NOT_STEPPED: Answer = Ok(Reply::Refused {
+pub(crate) const NOT_STEPPED: Answer = Ok(Reply::Refused {
     kind: Kind::DoStep,
     status: BadStatus::Error,
+});
+
+pub(crate) const NOT_SET: Answer = Ok(Reply::Refused {
+    kind: Kind::Set,
+    status: BadStatus::Discard,
 });
 
 const NOT_STARTED: Answer = Ok(Reply::Refused {
@@ -306,7 +355,7 @@ const DISCARDED: Answer = Ok(Reply::Refused {
     status: BadStatus::Discard,
 });
 
-const DIED: Answer = Ok(Reply::Refused {
+pub(crate) const DIED: Answer = Ok(Reply::Refused {
     kind: Kind::DoStep,
     status: BadStatus::Fatal,
 });
@@ -498,7 +547,7 @@ static SCRIPTS: [ScriptCase; 14] = [
     },
 ];
 
-fn split_words(alloc: Global, line: &str) -> Result<Vec<String>, AllocError> {
+pub(crate) fn split_words(alloc: Global, line: &str) -> Result<Vec<String>, AllocError> {
     let mut words = Vec::new(alloc);
     for word in line.split('|') {
         words.push(String::from_str(alloc, word)?)?;
@@ -512,6 +561,13 @@ fn describe_counter(alloc: Global, kind: &str, start: &str) -> Result<String, Al
     )
 }
 
+pub(crate) fn make_file(alloc: Global, path: &str, text: &str) -> Result<MemFile, AllocError> {
+    Ok(MemFile {
+        path: Text::from_str(alloc, path)?,
+        bytes: Items::from_vec(text.as_bytes().to_vec(alloc)?),
+    })
+}
+
 fn make_folder(alloc: Global, file: &File, reads: &[u64]) -> Result<MemFolder, AllocError> {
     let mut files = Vec::new(alloc);
     let text = match file {
@@ -520,10 +576,7 @@ fn make_folder(alloc: Global, file: &File, reads: &[u64]) -> Result<MemFolder, A
         File::Whole(text) => Some(String::from_str(alloc, text)?),
     };
     if let Some(text) = text {
-        files.push(MemFile {
-            path: Text::from_str(alloc, "d/modelDescription.xml")?,
-            bytes: Items::from_vec(text.as_bytes().to_vec(alloc)?),
-        })?;
+        files.push(make_file(alloc, "d/modelDescription.xml", text.as_str())?)?;
     }
     Ok(MemFolder::new(alloc, files, reads.to_vec(alloc)?))
 }
@@ -537,22 +590,62 @@ fn make_bench(rt: &impl Abort, alloc: Global, case: &Case) -> Result<Bench, Allo
     Ok(Bench::new(alloc, Some(room), failing))
 }
 
-// Runs a command with a spawner, and compares all that it gives.
+// A command with the puts that are to fail, by numbers from 0, and what it is to give.
+#[derive(Clone, Copy)]
+pub(crate) struct Wanted<'a> {
+    pub words: &'a str,
+    pub outs: &'a [u64],
+    pub errs: &'a [u64],
+    pub status: u8,
+    pub out: &'a str,
+    pub err: &'a str,
+}
+
+// Runs a command over a folder with a spawner, and compares all that it gives.
+pub(crate) fn assert_run<R: Abort + Threads + Sync, S: Spawner>(
+    rt: &R,
+    alloc: Global,
+    wanted: &Wanted<'_>,
+    folder: &mut MemFolder,
+    spawner: &mut S,
+) -> Result<(), AllocError> {
+    let words = split_words(alloc, wanted.words)?;
+    let mut out = MemSink::with_room(alloc, 1_000, 8, wanted.outs.to_vec(alloc)?)?;
+    let mut err = MemSink::with_room(alloc, 1_000, 1, wanted.errs.to_vec(alloc)?)?;
+    let status = run_words(rt, alloc, &words, folder, spawner, &mut out, &mut err);
+    assert_eq!(rt;
+        err.bytes.as_slice(),
+        wanted.err.as_bytes(),
+        "{}",
+        wanted.err
+    );
+    assert_eq!(rt;
+        out.bytes.as_slice(),
+        wanted.out.as_bytes(),
+        "{}",
+        wanted.out
+    );
+    assert_eq!(rt; status, wanted.status);
+    Ok(())
+}
+
+// Runs the command of a case with a spawner.
 fn assert_case<R: Abort + Threads + Sync, S: Spawner>(
     rt: &R,
     alloc: Global,
     case: &Case,
     spawner: &mut S,
 ) -> Result<(), AllocError> {
-    let words = split_words(alloc, case.words)?;
+    let wanted = Wanted {
+        words: case.words,
+        outs: case.outs,
+        errs: case.errs,
+        status: case.status,
+        out: case.out,
+        err: case.err,
+    };
     let mut folder = make_folder(alloc, &case.file, case.reads)?;
-    let mut out = MemSink::with_room(alloc, 200, 8, case.outs.to_vec(alloc)?)?;
-    let mut err = MemSink::with_room(alloc, 200, 1, case.errs.to_vec(alloc)?)?;
-    let status = run_words(rt, alloc, &words, &mut folder, spawner, &mut out, &mut err);
-    assert_eq!(rt; out.bytes.as_slice(), case.out.as_bytes());
-    assert_eq!(rt; err.bytes.as_slice(), case.err.as_bytes());
-    assert_eq!(rt; status, case.status);
-    Ok(())
+    assert_run(rt, alloc, &wanted, &mut folder, spawner)
 }
 
 #[test]
@@ -608,14 +701,12 @@ fn a_counter_wraps_in_its_type(rt: HostRuntime) -> Result<(), Fail> {
     Ok(())
 }
 
-// The kinds of the calls of the peers that were taken back.
-fn kinds_of(alloc: Global, scripts: &Scripts) -> Result<Vec<Kind>, AllocError> {
+// The kinds of the calls that a peer got.
+pub(crate) fn kinds_of(alloc: Global, script: &Script) -> Result<Vec<Kind>, AllocError> {
     let mut kinds = Vec::new(alloc);
-    for script in scripts.retired() {
-        if let Some(talk) = script.talk() {
-            for exchange in talk {
-                kinds.push(exchange.call.kind())?;
-            }
+    if let Some(talk) = script.talk() {
+        for exchange in talk {
+            kinds.push(exchange.call.kind())?;
         }
     }
     Ok(kinds)
@@ -635,8 +726,11 @@ fn a_bad_answer_gives_its_line(rt: HostRuntime) -> Result<(), Fail> {
             ..WORKED
         };
         assert_case(&rt, alloc, &case, &mut scripts)?;
-        let kinds = kinds_of(alloc, &scripts)?;
-        assert_eq!(rt; kinds.as_slice(), row.calls, "{}", row.err);
+        assert_eq!(rt; scripts.retired().len(), 1);
+        for script in scripts.retired() {
+            let kinds = kinds_of(alloc, script)?;
+            assert_eq!(rt; kinds.as_slice(), row.calls, "{}", row.err);
+        }
     }
     Ok(())
 }

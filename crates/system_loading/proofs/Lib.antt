@@ -1,6 +1,4 @@
-pub mod SystemLemmas
-pub mod TakenLemmas
+pub mod AssemblyLemmas
+pub mod BuiltLemmas
+pub mod ReadingLemmas
 pub mod TokenLemmas
-mod Fails
-pub mod ShapeLemmas
-pub mod PortLemmas

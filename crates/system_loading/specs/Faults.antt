@@ -1,34 +1,48 @@
--- What a fault of a description says.
-use Rattle.std.specs.Prelude.{◌≡◌, ◌⊎◌, ℕ, ◌<◌, ◌≤◌, true, List}
+-- What a fault of a file, or of files together, says.
+use Rattle.std.specs.Prelude.{◌≡◌, ℕ, List, Option}
+use Rattle.sim_base.specs.declared.numbers.PortId.{PortId}
 use Rattle.value_types.specs.declared.shape.Shape.{Shape}
 use Rattle.doc_events.specs.declared.error.DocError.{DocError}
-use Rattle.doc_events.specs.declared.error.DocError.TheVariants.{At}
 use Rattle.doc_events.specs.declared.error.DocError.TheVariants as e
 use Rattle.doc_tree.specs.declared.place.Place.{Place}
 use Rattle.doc_tree.specs.declared.place.Place.TheVariants.{Byte}
 use Rattle.doc_tree.specs.declared.rule.Rule.{Rule}
-use Rattle.doc_tree.specs.declared.rule.Rule.TheVariants.{Document, Unbuilt, TooManyPorts}
+use Rattle.doc_tree.specs.declared.rule.Rule.TheVariants.{Document}
+use Rattle.system_loading.specs.declared.assembly.AssemblyFault.{AssemblyFault}
+use Rattle.system_loading.specs.declared.assembly.AssemblyFault.TheVariants as together
 use Rattle.system_loading.specs.declared.fault.Fault.{Fault}
 use Rattle.system_loading.specs.declared.fault.Fault.TheVariants.{Broken, Memory}
-use Rattle.system_loading.specs.System.{is_unbuilt}
-use Rattle.system_loading.specs.Taken.{BreaksAlone, ports_in}
+use Rattle.system_loading.specs.declared.outline.Outline.{Outline}
+use Rattle.system_loading.specs.Assembly.{BreaksTogetherAlone, IsOrdered}
+use Rattle.system_loading.specs.Readings.{BreaksAlone}
+
+-- the fault tells the rule that is broken first, unless memory is wanting
+abbrev pub TellsFirst : {A : Type 0} → (A → Type 0) → (Rule → Place → Type 0) → Fault → Type 0
+TellsFirst Says Breaks (Broken rule place) = BreaksAlone Says Breaks rule place
+TellsFirst Says Breaks Memory = Unit {0}
+
+-- the same of what an outline and shapes break together
+abbrev pub TellsTogether : Outline → List Shape → AssemblyFault → Type 0
+TellsTogether o shapes (together.Broken component rule place ports) = BreaksTogetherAlone o shapes component rule place ports
+TellsTogether o shapes together.Memory = Unit {0}
+
+-- the same of a part that isn't built yet, where there is a flattened system whose ports have orders
+abbrev pub TellsUnbuilt : Outline → List Shape → AssemblyFault → Type 0
+TellsUnbuilt o shapes fault = IsOrdered o shapes → TellsTogether o shapes fault
+
+-- ---- what is told
 
 -- the fault tells this rule and this place, unless memory is wanting
-abbrev pub Says : Rule → Place → Fault → Type 0
-Says rule place (Broken r p) = (r ≡ rule) × (p ≡ place)
-Says rule place Memory = Unit {0}
+abbrev pub SaysFault : Rule → Place → Fault → Type 0
+SaysFault rule place (Broken r p) = (r ≡ rule) × (p ≡ place)
+SaysFault rule place Memory = Unit {0}
+
+-- the fault tells this component, rule, place and these ports, unless memory is wanting
+abbrev pub SaysTogether : Option ℕ → Rule → Place → List PortId → AssemblyFault → Type 0
+SaysTogether component rule place ports (together.Broken c r p l) = (c ≡ component) × (r ≡ rule) × (p ≡ place) × (l ≡ ports)
+SaysTogether component rule place ports together.Memory = Unit {0}
 
 -- the fault of bytes that are no document
 abbrev pub IsDocumentFault : DocError → Fault → Type 0
-IsDocumentFault (At rule byte) fault = Says (Document rule) (Byte byte) fault
+IsDocumentFault (e.At rule byte) fault = SaysFault (Document rule) (Byte byte) fault
 IsDocumentFault e.Memory fault = fault ≡ Memory
-
--- the fault tells the rule that the bytes break first, unless memory is wanting
-abbrev pub TellsFirst : ℕ → List ℕ → Fault → Type 0
-TellsFirst per_second bytes (Broken rule place) = BreaksAlone per_second bytes rule place
-TellsFirst per_second bytes Memory = Unit {0}
-
--- the rule that the shape breaks as a whole
-abbrev pub IsWholeFault : Shape → Rule → Type 0
-IsWholeFault shape rule =
-    ((rule ≡ TooManyPorts) × (65536 < ports_in shape)) ⊎ ((rule ≡ Unbuilt) × (ports_in shape ≤ 65536) × (is_unbuilt shape ≡ true))

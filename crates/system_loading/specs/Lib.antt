@@ -1,3 +1,4 @@
-pub mod System
-pub mod Taken
+pub mod Readings
+pub mod Outlines
+pub mod Assembly
 pub mod Faults

@@ -1,23 +1,31 @@
-ghost use Rattle.std.specs.Prelude.{ℕ, ◌≤◌, ◌*◌, All, List, length};
+//! What holds of what files say.
+ghost use Rattle.std.specs.Prelude.{◌≡◌, ℕ, ◌≤◌, All, List, length};
 ghost use Rattle.value_types.specs.declared.shape.Shape.{Shape};
-ghost use Rattle.system_model.specs.Sound.{IsSound};
-ghost use Rattle.system_loading.specs.declared.member.Member.{Member};
-ghost use Rattle.system_loading.specs.System.{ports_of, system_of};
-ghost use Rattle.system_loading.specs.Taken.{AreTaken, IsPlain, IsTaken, IsTakenMember};
+ghost use Rattle.system_model.specs.Shapes.{IsSoundShape};
+ghost use Rattle.flatten.specs.Given.{IsWhole};
+ghost use Rattle.ssd_tree.specs.declared.tree.ComponentPart.{ComponentPart};
+ghost use Rattle.system_loading.specs.declared.outline.Outline.{Outline};
+ghost use Rattle.system_loading.specs.Outlines.{lone_tree};
+ghost use Rattle.system_loading.specs.Readings.{IsModel, IsStructure};
 
 use description_laws::read_shapes;
 use doc_grammar::document_laws;
-use system_model::sound_systems;
+use flatten::whole_tree;
+use structure_laws::read_structures;
 
-/// What holds of descriptions that are taken: their system is sound, has neither event mode nor early return nor ports
-/// but outputs, and has at most 65,536 ports of each; and the token is no longer than the bytes.
-pub fn taken_laws()
-    ensures sound { (per_second : ℕ) (members : List Member) → AreTaken per_second members → IsSound (system_of members) }
-    ensures plain { (per_second : ℕ) (members : List Member) → All (IsTakenMember per_second) members → IsPlain (system_of members) }
-    ensures few { (per_second : ℕ) (members : List Member) → All (IsTakenMember per_second) members → length (ports_of members) ≤ 65536 * length members }
-    ensures token { (per_second : ℕ) (bytes : List ℕ) (shape : Shape) → IsTaken per_second bytes shape → length shape.token ≤ length bytes }
+/// Laws: the shape that a description says is sound, has the resolution at which it was read, and a token no longer than
+/// the file; the tree that a structure description says may be flattened, as that of an FMU alone, and its components'
+/// full names are no longer than the file.
+pub fn loading_laws()
+    ensures shape { (per_second : ℕ) (bytes : List ℕ) (shape : Shape) → IsModel per_second bytes shape → IsSoundShape shape }
+    ensures resolution { (per_second : ℕ) (bytes : List ℕ) (shape : Shape) → IsModel per_second bytes shape → shape.resolution ≡ per_second }
+    ensures token { (per_second : ℕ) (bytes : List ℕ) (shape : Shape) → IsModel per_second bytes shape → length shape.token ≤ length bytes }
+    ensures whole { (bytes : List ℕ) (outline : Outline) → IsStructure bytes outline → IsWhole outline.systems }
+    ensures lone { IsWhole lone_tree }
+    ensures names { (bytes : List ℕ) (outline : Outline) → IsStructure bytes outline → All (λ (c : ComponentPart). length c.name ≤ length bytes) outline.systems.components }
 {
     document_laws();
     read_shapes();
-    sound_systems();
+    read_structures();
+    whole_tree();
 }

@@ -1,16 +1,14 @@
-//! The system of some FMUs, each from the bytes of its model description, or the first rule that they break.
+//! What the bytes of descriptions say: the outline of a system, the shapes of its FMUs, and the system that they make together, or the first rule that they break.
 #![tactic(auto)]
 
+mod assembly;
 mod fault;
 mod laws;
-mod member;
+mod outline;
 mod reading;
-mod system;
-#[cfg(test)]
-mod tests;
 
+pub use assembly::{AssemblyFault, assemble};
 pub use fault::Fault;
-pub use laws::taken_laws;
-pub use member::Member;
-pub use reading::read_shape;
-pub use system::make_system;
+pub use laws::loading_laws;
+pub use outline::{Outline, lone_outline};
+pub use reading::{read_outline, read_shape};

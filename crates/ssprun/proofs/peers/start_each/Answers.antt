@@ -13,7 +13,7 @@ loop-place-init g c = record {
   each = ap length c.requires.empty;
   within = omega arith;
   room = c.requires.room;
-  are = subst (λ (xs : List g.row.S-Link.Denot). AreStarted c.args.directory.now c.args.components.now (map g.S.Link.Peer.view xs)) (sym c.requires.empty) tt;
+  are = subst (λ (xs : List g.row.S-Link.Denot). AreStarted c.args.folders.now c.args.components.now (map g.S.Link.Peer.view xs)) (sym c.requires.empty) tt;
   known = All-nil _;
   told = none_started (g.S.Spawner.view c.args.spawner.now);
 }
@@ -45,14 +45,18 @@ loop-place-preserved g c =
     let view = g.S.Link.Peer.view in
     let component = c.index-components-place.result in
     let here = slice_get_read c.args.components.now _ c.loop-place.place component refl c.loop-place-test.true c.index-components-place.is in
-    let started : IsStarted (codes "builtin") component.name c.args.directory.now component.shape (view c.in-Ok.peer) =
-    subst (λ (name : List ℕ). IsStarted (codes "builtin") name c.args.directory.now component.shape (view c.in-Ok.peer)) c.as_str.ensures c.in-Ok.ensures.fresh in
+    let folder = c.index-folders-place.result in
+    let there = slice_get_read c.args.folders.now _ c.loop-place.place folder refl (let t = c.loop-place-test.true in let n = c.requires.folders in omega (arith, t, n)) c.index-folders-place.is in
+    let started : IsStarted (codes "builtin") component.name folder component.shape (view c.in-Ok.peer) =
+    subst (λ (name : List ℕ). IsStarted (codes "builtin") name folder component.shape (view c.in-Ok.peer)) c.as_str.ensures
+    (subst (λ (at : List ℕ). IsStarted (codes "builtin") c.as_str.result.now at component.shape (view c.in-Ok.peer)) c.as_str-in-loop-place.ensures c.in-Ok.ensures.fresh) in
     record {
       each = ap length c.push_reserved.ensures.items ∙ length-append c.loop-place.peers.items (c.in-Ok.peer ∷ []) ∙ ap (λ (n : ℕ). n + 1) i.each;
       within = let w = c.loop-place-test.true in omega (arith, w);
       room = let r = i.room in let k = c.push_reserved.ensures.capacity in omega (arith, r, k);
-      are = subst (AreStarted c.args.directory.now c.args.components.now) (sym (ap (map view) c.push_reserved.ensures.items ∙ map-append view c.loop-place.peers.items (c.in-Ok.peer ∷ [])))
-          (started_more c.args.directory.now c.args.components.now (map view c.loop-place.peers.items) component (view c.in-Ok.peer) i.are
+      are = subst (AreStarted c.args.folders.now c.args.components.now) (sym (ap (map view) c.push_reserved.ensures.items ∙ map-append view c.loop-place.peers.items (c.in-Ok.peer ∷ [])))
+          (started_more c.args.folders.now c.args.components.now (map view c.loop-place.peers.items) folder component (view c.in-Ok.peer) i.are
+          (ap (λ (n : ℕ). slice_get c.args.folders.now n) (length-map c.loop-place.peers.items view ∙ i.each) ∙ there)
           (ap (λ (n : ℕ). slice_get c.args.components.now n) (length-map c.loop-place.peers.items view ∙ i.each) ∙ here) started);
       known = known_more (g.S.Spawner.view c.args.spawner.now) c.args.components.now c.loop-place.place component i.known here
           (sym (ap (λ s. s.knows component.shape.identifier) i.told) ∙ c.in-Ok.ensures.unknown);

@@ -10,7 +10,7 @@ returns-in-Ok g c = WithLine (record {
   line = line_of c.in-Ok.line;
   is = c.in-Ok.ensures.ok;
   only = c.in-Ok.ensures.only;
-  facts = c.run_command.ensures;
+  facts = c.run_line.ensures;
 })
 
 pub returns-in-Err-NoLine : goal.returns-in-Err-NoLine

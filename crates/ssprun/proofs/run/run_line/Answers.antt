@@ -1,0 +1,53 @@
+use Rattle.std.proofs.Common.{◌≡◌, ◌≤◌, ◌^◌, ℕ, List, refl, subst, sym, ap, ◌∙◌}
+use Rattle.std.specs.Prelude.{IfSome, Option}
+use Rattle.system_model.specs.declared.plan.Plan.{Plan}
+use Rattle.command_line.specs.Line.{IsWithin, line_of}
+use Rattle.system_files.specs.declared.subject.Subject.{Subject}
+use Rattle.system_files.specs.Loads.{EndsLoading, Loads}
+use Rattle.system_files.specs.Order.{Found, Search, search_of}
+use Rattle.ssprun.specs.Facts.{OfSystem, PlanFacts, Unloaded, search_for}
+use Rattle.ssprun.specs.Happened.{scene}
+use Rattle.ssprun.proofs.Lines.{above, can_run, end_facts, has_folders, plan_within, within}
+use Rattle.ssprun.proofs.run.run_line.Goals as goal
+
+same_search : (s t : Subject) (d e : List ℕ) (m n : ℕ) → s ≡ t → d ≡ e → m ≡ n → search_of s d m ≡ search_of t e n
+same_search s t d e m n one two three =
+    ap (λ (x : Subject). search_of x d m) one ∙ ap (λ (x : List ℕ). search_of t x m) two ∙ ap (λ (x : ℕ). search_of t e x) three
+
+pub load-requires-clause-above : goal.load-requires-clause-above
+load-requires-clause-above g c = subst (λ (n : ℕ). 1 ≤ n) (sym c.resolution_of.ensures) (above (line_of c.args.line) c.requires)
+
+pub load-requires-clause-within : goal.load-requires-clause-within
+load-requires-clause-within g c = subst (λ (n : ℕ). n ≤ 2 ^ 62) (sym c.resolution_of.ensures) (within (line_of c.args.line) c.requires)
+
+pub run_loaded-requires-clause-within : goal.run_loaded-requires-clause-within
+run_loaded-requires-clause-within g c κs bounds = subst (λ (p : Option Plan). IfSome p IsWithin) (sym c.plan_of.ensures) (plan_within (line_of c.args.line) c.requires)
+
+pub run_loaded-requires-clause-runnable : goal.run_loaded-requires-clause-runnable
+run_loaded-requires-clause-runnable g c κs bounds = can_run c.in-Ok.loaded.system c.in-Ok.ensures.sound c.in-Ok.ensures.plain c.in-Ok.ensures.named
+
+pub run_loaded-requires-clause-folders : goal.run_loaded-requires-clause-folders
+run_loaded-requires-clause-folders g c κs bounds =
+    let loads = c.in-Ok.ensures.ok in
+    has_folders _ (g.F.Folder.view c.args.folder.now) loads.asked c.in-Ok.loaded loads.comes.comes
+
+pub returns-in-Ok : goal.returns-in-Ok
+returns-in-Ok g c =
+    let line = line_of c.args.line in
+    let search : search_of c.subject_of.result c.directory_of.result.now c.resolution_of.result ≡ search_for line =
+    same_search c.subject_of.result _ c.directory_of.result.now _ c.resolution_of.result _ c.subject_of.ensures c.directory_of.ensures c.resolution_of.ensures in
+    let old = g.F.Folder.view c.args.folder.now in
+    let new = g.F.Folder.view c.load.new.folder in
+    OfSystem c.in-Ok.loaded (subst (λ (s : Search). Loads s (Found c.in-Ok.loaded) old new) search c.in-Ok.ensures.ok)
+    (subst (λ (p : Option Plan). PlanFacts p c.run_loaded.result.outcome c.in-Ok.loaded
+    (scene (g.S.Spawner.view c.args.spawner.now) (g.O.Sink.view c.args.out.now))
+    (scene (g.S.Spawner.view c.run_loaded.new.spawner) (g.O.Sink.view c.run_loaded.new.out))) c.plan_of.ensures c.run_loaded.ensures)
+
+pub returns-in-Err : goal.returns-in-Err
+returns-in-Err g c =
+    let line = line_of c.args.line in
+    let search : search_of c.subject_of.result c.directory_of.result.now c.resolution_of.result ≡ search_for line =
+    same_search c.subject_of.result _ c.directory_of.result.now _ c.resolution_of.result _ c.subject_of.ensures c.directory_of.ensures c.resolution_of.ensures in
+    let old = g.F.Folder.view c.args.folder.now in
+    let new = g.F.Folder.view c.load.new.folder in
+    Unloaded refl (end_facts c.in-Err.end c.refuse.result.outcome line old new (subst (λ (s : Search). EndsLoading s c.in-Err.end old new) search c.in-Err.ensures.err) c.refuse.ensures)

@@ -1,0 +1,48 @@
+use Rattle.std.specs.Prelude.{IfErr, IfOk, Result, Ok, Err}
+use Rattle.system_files.specs.declared.loaded.Loaded.{Loaded}
+use Rattle.system_files.specs.declared.loading.LoadEnd.{LoadEnd}
+use Rattle.system_files.specs.Loads.{EndsLoading, Loads}
+use Rattle.system_files.specs.Order.{Found, search_of}
+use Rattle.system_files.specs.Steps.{EndsModels, TakesModels}
+use Rattle.system_files.proofs.EndLemmas.{ends_models, ends_outline, loads}
+use Rattle.system_files.proofs.SoundLemmas.{outline_short, outline_whole}
+use Rattle.system_files.proofs.loading.load.Goals as goal
+
+ok_so : (r : Result Loaded LoadEnd) (P Q : Loaded → Type 0) → ((loaded : Loaded) → P loaded → Q loaded) → IfOk r P → IfOk r Q
+ok_so (Ok loaded) P Q h p = h loaded p
+ok_so (Err end) P Q h p = tt
+
+err_so : (r : Result Loaded LoadEnd) (P Q : LoadEnd → Type 0) → ((end : LoadEnd) → P end → Q end) → IfErr r P → IfErr r Q
+err_so (Ok loaded) P Q h p = tt
+err_so (Err end) P Q h p = h end p
+
+pub load_models-requires-clause-whole : goal.load_models-requires-clause-whole
+load_models-requires-clause-whole g c =
+    outline_whole c.loading_laws.ensures.whole c.loading_laws.ensures.lone c.args.subject c.args.directory.now (g.F.Folder.view c.args.folder.now) c.in-Ok.outline c.in-Ok.ensures.ok
+
+pub load_models-requires-clause-short : goal.load_models-requires-clause-short
+load_models-requires-clause-short g c =
+    outline_short c.loading_laws.ensures.names c.args.subject c.args.directory.now (g.F.Folder.view c.args.folder.now) c.in-Ok.outline c.in-Ok.ensures.ok
+
+pub returns-in-Ok-clause-ok : goal.returns-in-Ok-clause-ok
+returns-in-Ok-clause-ok g c =
+    let s = search_of c.args.subject c.args.directory.now c.args.resolution in
+    let old = g.F.Folder.view c.args.folder.now in
+    let mid = g.F.Folder.view c.load_outline.new.folder in
+    let new = g.F.Folder.view c.load_models.new.folder in
+    ok_so c.load_models.result (λ (loaded : Loaded). TakesModels s c.in-Ok.outline loaded mid new) (λ (loaded : Loaded). Loads s (Found loaded) old new)
+    (λ loaded t. loads s c.in-Ok.outline old mid c.in-Ok.ensures.ok c.in-Ok.ensures.told loaded new t) c.load_models.ensures.ok
+
+pub returns-in-Ok-clause-err : goal.returns-in-Ok-clause-err
+returns-in-Ok-clause-err g c =
+    let s = search_of c.args.subject c.args.directory.now c.args.resolution in
+    let old = g.F.Folder.view c.args.folder.now in
+    let mid = g.F.Folder.view c.load_outline.new.folder in
+    let new = g.F.Folder.view c.load_models.new.folder in
+    err_so c.load_models.result (λ (end : LoadEnd). EndsModels s c.in-Ok.outline end mid new) (λ (end : LoadEnd). EndsLoading s end old new)
+    (λ end h. ends_models s c.in-Ok.outline old mid c.in-Ok.ensures.ok c.in-Ok.ensures.told end new h) c.load_models.ensures.err
+
+pub returns-in-Err-clause-err : goal.returns-in-Err-clause-err
+returns-in-Err-clause-err g c =
+    let s = search_of c.args.subject c.args.directory.now c.args.resolution in
+    ends_outline s c.in-Err.end (g.F.Folder.view c.args.folder.now) (g.F.Folder.view c.load_outline.new.folder) c.in-Err.ensures.err

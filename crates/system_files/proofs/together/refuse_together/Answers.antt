@@ -1,0 +1,9 @@
+use Rattle.std.proofs.Common.{refl, subst}
+use Rattle.system_loading.specs.Faults.{TellsTogether}
+use Rattle.system_files.specs.Steps.{AtRule}
+use Rattle.system_files.proofs.together.refuse_together.Goals as goal
+
+pub returns-in-Ok : goal.returns-in-Ok
+returns-in-Ok c = λ per_second shapes told.
+    AtRule c.in-Broken.component c.in-Broken.rule c.in-Broken.place c.in-Broken.ports c.in-Ok.file
+    (subst (TellsTogether c.args.outline.now shapes) c.in-Broken.is told) (c.in-Ok.ensures per_second) refl

@@ -1,0 +1,5 @@
+pub mod Rooms
+pub mod Files
+pub mod Order
+pub mod Loads
+pub mod Steps

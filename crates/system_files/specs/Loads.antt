@@ -1,0 +1,64 @@
+-- What a loading does: what it asks a folder for, and what it answers.
+use Rattle.std.specs.Prelude.{◌≡◌, ℕ, ◌≤◌, ◌^◌, List, [], ◌∷◌, ◌++◌, length}
+use Rattle.sim_base.specs.Folder.{FolderView, with_failed}
+use Rattle.value_types.specs.declared.shape.Shape.{Shape}
+use Rattle.ssd_tree.specs.declared.tree.ComponentPart.{ComponentPart}
+use Rattle.system_model.specs.declared.system.Component.{Component}
+use Rattle.system_loading.specs.declared.outline.Outline.{Outline}
+use Rattle.system_files.specs.declared.loading.LoadEnd.{LoadEnd}
+use Rattle.system_files.specs.declared.loading.LoadEnd.TheVariants as end
+use Rattle.system_files.specs.declared.named.FileFault.{FileFault}
+use Rattle.system_files.specs.declared.named.FileFault.TheVariants.{Unread, Missing, TooBig, Broken}
+use Rattle.system_files.specs.declared.subject.Subject.TheVariants as what
+use Rattle.system_files.specs.Files.{Absent, Faulty, Long, structure_path, with_all_asked}
+use Rattle.system_files.specs.Order.{ComesAlone, Fails, Finding, Reaches, Search, asked_for, model_path}
+
+-- these files were asked for, no read failed, and the order of reading comes to this
+pub record Loads (s : Search) (finding : Finding) (old new : FolderView) : Type 0 where
+  pub asked : List (List ℕ)
+  pub comes : ComesAlone s old asked finding
+  pub told : new ≡ with_all_asked old asked
+
+-- the order of reading comes to the file at a path, the last of these
+pub data ComesTo (s : Search) (folder : FolderView) : List (List ℕ) → List ℕ → Type 0 where
+  ToOutline : (asked : List (List ℕ)) (path : List ℕ) → s.subject ≡ what.System → asked ≡ structure_path s.directory ∷ [] →
+      path ≡ structure_path s.directory → ComesTo s folder asked path
+  ToShape : (o : Outline) (taken : List ComponentPart) (shapes : List Shape) (c : ComponentPart) (rest : List ComponentPart) (asked : List (List ℕ)) (path : List ℕ) →
+      Reaches s folder o taken shapes (c ∷ rest) → asked ≡ asked_for s (taken ++ c ∷ []) → path ≡ model_path s.directory c → ComesTo s folder asked path
+
+-- these files were asked for, and the read of the last one failed, and no other
+pub record FailsToRead (s : Search) (path : List ℕ) (old new : FolderView) : Type 0 where
+  pub asked : List (List ℕ)
+  pub comes : ComesTo s old asked path
+  pub told : new ≡ with_failed (with_all_asked old asked) path
+
+-- these are the first that the order of reading asks for
+pub data AsksSome (s : Search) (folder : FolderView) : List (List ℕ) → Type 0 where
+  Nothing : (asked : List (List ℕ)) → asked ≡ [] → AsksSome s folder asked
+  UpTo : (asked : List (List ℕ)) (path : List ℕ) → ComesTo s folder asked path → AsksSome s folder asked
+  Taken : (o : Outline) (taken : List ComponentPart) (shapes : List Shape) (rest : List ComponentPart) (asked : List (List ℕ)) →
+      Reaches s folder o taken shapes rest → asked ≡ asked_for s taken → AsksSome s folder asked
+
+-- some files were asked for, and no read failed
+pub record ReadsSome (s : Search) (old new : FolderView) : Type 0 where
+  pub asked : List (List ℕ)
+  pub some : AsksSome s old asked
+  pub told : new ≡ with_all_asked old asked
+
+-- why the file at a path isn't taken
+abbrev pub FileFails : Search → FileFault → List ℕ → FolderView → FolderView → Type 0
+FileFails s Unread path old new = FailsToRead s path old new
+FileFails s Missing path old new = Loads s (Fails path Absent) old new
+FileFails s TooBig path old new = Loads s (Fails path Long) old new
+FileFails s (Broken rule place ports) path old new = Loads s (Fails path (Faulty rule place ports)) old new
+
+-- why nothing is loaded
+abbrev pub EndsLoading : Search → LoadEnd → FolderView → FolderView → Type 0
+EndsLoading s (end.File file fault) old new = FileFails s fault file.path old new
+EndsLoading s end.Memory old new = ReadsSome s old new
+
+-- a component's name and token are within the limits of those who start its peer, in bytes
+pub record IsNamed (c : Component) : Type 0 where
+  pub named : 1 ≤ length c.name
+  pub name : length c.name ≤ 2 ^ 24
+  pub token : length c.shape.token ≤ 2 ^ 24

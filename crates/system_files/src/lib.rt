@@ -1,0 +1,18 @@
+//! The files that describe a system, read from a folder in their order: the system that they make, or the file that isn't taken and why.
+#![tactic(auto)]
+
+mod loaded;
+mod loading;
+mod named;
+mod paths;
+mod reading;
+mod room;
+mod shapes;
+mod subject;
+mod together;
+
+pub use loaded::Loaded;
+pub use loading::{LoadEnd, load};
+pub use named::{FileFault, NamedFile};
+pub use room::{NoMemory, make_room};
+pub use subject::Subject;

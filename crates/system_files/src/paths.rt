@@ -1,0 +1,64 @@
+//! Where the files stand.
+ghost use Rattle.std.specs.Prelude.{◌≡◌, ◌++◌, IfOk};
+ghost use Rattle.system_files.specs.Files.{description_path, structure_path};
+ghost use Rattle.system_files.specs.Order.{folder_of, folders_of};
+
+use sim_base::{Items, Text};
+use ssd_tree::ComponentPart;
+use std::alloc::{AllocError, Global};
+use system_loading::Outline;
+
+/// The folder of each component's FMU.
+pub(crate) fn folders_of(
+    alloc: Global,
+    directory: &str,
+    outline: &Outline,
+) -> Result<Items<Text>, AllocError>
+    ensures { IfOk result (λ folders. folders ≡ folders_of directory.now outline.now) }
+{
+    let components = outline.systems.components.as_slice();
+    let mut folders = Vec::with_capacity(alloc, components.len())?;
+    for component in components {
+        folders.push(folder_of(alloc, directory, component)?)?;
+    }
+    Ok(Items::from_vec(folders))
+}
+
+/// The folder of a component's FMU.
+pub(crate) fn folder_of(
+    alloc: Global,
+    directory: &str,
+    component: &ComponentPart,
+) -> Result<Text, AllocError>
+    ensures { IfOk result (λ folder. folder ≡ folder_of directory.now component.now) }
+{
+    let mut folder = String::from_str(alloc, directory)?;
+    let source = component.source.as_str();
+    if !source.is_empty() {
+        folder.push_str("/")?;
+        folder.push_str(source)?;
+    }
+    Ok(Text::from_string(folder))
+}
+
+/// Where the description of an FMU stands in its folder.
+pub(crate) fn description_path(alloc: Global, folder: &str) -> Result<Text, AllocError>
+    ensures { IfOk result (λ path. path ≡ description_path folder.now) }
+{
+    in_folder(alloc, folder, "/modelDescription.xml")
+}
+
+/// Where the description of a system stands in its directory.
+pub(crate) fn structure_path(alloc: Global, directory: &str) -> Result<Text, AllocError>
+    ensures { IfOk result (λ path. path ≡ structure_path directory.now) }
+{
+    in_folder(alloc, directory, "/SystemStructure.ssd")
+}
+
+fn in_folder(alloc: Global, folder: &str, name: &str) -> Result<Text, AllocError>
+    ensures { IfOk result (λ path. path ≡ folder.now ++ name.now) }
+{
+    let mut path = String::from_str(alloc, folder)?;
+    path.push_str(name)?;
+    Ok(Text::from_string(path))
+}

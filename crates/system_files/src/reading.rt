@@ -1,0 +1,105 @@
+//! One file, read and understood.
+ghost use Rattle.std.specs.Prelude.{◌≡◌, IfErr, IfOk};
+ghost use Rattle.sim_base.specs.Folder.{with_asked};
+ghost use Rattle.system_files.specs.Files.{HasFile, description_path, structure_path};
+ghost use Rattle.system_files.specs.Steps.{EndsAt, FailsModel, FailsStructure, SaysModel, SaysStructure, fault_end, unread_end};
+
+use crate::loading::LoadEnd;
+use crate::named::{FileFault, NamedFile};
+use crate::paths::{description_path, structure_path};
+use crate::room::NoMemory;
+use sim_base::{Folder, Items, MOST_FILE_BYTES, ReadFault};
+use std::alloc::Global;
+use system_loading::{Fault, Outline, read_outline, read_shape};
+use value_types::Shape;
+
+/// Reads the structure of a system.
+pub(crate) fn read_structure<F: Folder>(
+    alloc: Global,
+    file: NamedFile,
+    folder: &mut F,
+) -> Result<Outline, LoadEnd>
+    ensures ok { IfOk result (HasFile SaysStructure (F.view folder.old) file.path) }
+    ensures told { IfOk result (λ outline. F.view folder.new ≡ with_asked (F.view folder.old) file.path) }
+    ensures err { IfErr result (λ end. EndsAt FailsStructure file.path end (F.view folder.old) (F.view folder.new)) }
+{
+    match folder.read(alloc, file.path.as_str(), MOST_FILE_BYTES) {
+        Ok(bytes) => match read_outline(alloc, &bytes) {
+            Ok(outline) => Ok(outline),
+            Err(fault) => Err(refuse(alloc, file, fault)),
+        },
+        Err(fault) => Err(leave_unread(file, fault)),
+    }
+}
+
+/// Reads the description of an FMU.
+pub(crate) fn read_model<F: Folder>(
+    alloc: Global,
+    file: NamedFile,
+    resolution: u64,
+    folder: &mut F,
+) -> Result<Shape, LoadEnd>
+    ensures ok { IfOk result (HasFile (SaysModel resolution) (F.view folder.old) file.path) }
+    ensures told { IfOk result (λ shape. F.view folder.new ≡ with_asked (F.view folder.old) file.path) }
+    ensures err { IfErr result (λ end. EndsAt (FailsModel resolution) file.path end (F.view folder.old) (F.view folder.new)) }
+{
+    match folder.read(alloc, file.path.as_str(), MOST_FILE_BYTES) {
+        Ok(bytes) => match read_shape(alloc, &bytes, resolution) {
+            Ok(shape) => Ok(shape),
+            Err(fault) => Err(refuse(alloc, file, fault)),
+        },
+        Err(fault) => Err(leave_unread(file, fault)),
+    }
+}
+
+/// The description of an FMU in its folder, before it is read.
+pub(crate) fn name_description(alloc: Global, folder: &str) -> Result<NamedFile, NoMemory>
+    ensures { IfOk result (λ file. file.path ≡ description_path folder.now) }
+{
+    NamedFile::new(alloc, description_path(alloc, folder)?)
+}
+
+/// The structure of a system, before it is read.
+pub(crate) fn name_structure(alloc: Global, directory: &str) -> Result<NamedFile, NoMemory>
+    ensures { IfOk result (λ file. file.path ≡ structure_path directory.now) }
+{
+    NamedFile::new(alloc, structure_path(alloc, directory)?)
+}
+
+// The end at a file that wasn't answered.
+fn leave_unread(file: NamedFile, fault: ReadFault) -> LoadEnd
+    ensures { result ≡ unread_end file fault }
+{
+    match fault {
+        ReadFault::Failed => LoadEnd::File {
+            file,
+            fault: FileFault::Unread,
+        },
+        ReadFault::Missing => LoadEnd::File {
+            file,
+            fault: FileFault::Missing,
+        },
+        ReadFault::TooBig { .. } => LoadEnd::File {
+            file,
+            fault: FileFault::TooBig,
+        },
+        ReadFault::Memory => LoadEnd::Memory,
+    }
+}
+
+// The end at a file that breaks a rule by itself.
+fn refuse(alloc: Global, file: NamedFile, fault: Fault) -> LoadEnd
+    ensures { result ≡ fault_end file fault }
+{
+    match fault {
+        Fault::Broken { rule, place } => LoadEnd::File {
+            file,
+            fault: FileFault::Broken {
+                rule,
+                place,
+                ports: Items::from_vec(Vec::new(alloc)),
+            },
+        },
+        Fault::Memory => LoadEnd::Memory,
+    }
+}
