@@ -7,6 +7,7 @@ use Rattle.sim_base.specs.declared.numbers.CompId.{CompId}
 use Rattle.value_types.specs.declared.shape.Shape.{Shape}
 use Rattle.fmi_calls.specs.declared.call.Call.TheVariants as C
 use Rattle.fmu_peer.specs.CloseAll.{Instance}
+use Rattle.system_model.specs.declared.bound.Bound.{Bound}
 use Rattle.system_model.specs.declared.plan.Plan.{Plan}
 use Rattle.system_model.specs.declared.system.System.{System}
 use Rattle.system_model.specs.Ports.{numbers}
@@ -70,30 +71,30 @@ broken_by says t P breaks B.Write h = absurd h
 -- ---- the states of the loop
 
 -- the run came to a point
-pub record Here (system : System) (plan : Plan) (olds : List Instance) (before : SinkView) (t : ℕ) (mids : List Instance) (present : SinkView) (count : ℕ) : Type 0 where
+pub record Here (system : System) (bound : Bound) (plan : Plan) (olds : List Instance) (before : SinkView) (t : ℕ) (mids : List Instance) (present : SinkView) (count : ℕ) : Type 0 where
   pub log : List Sent
   pub is : List Instant
   pub told : Told log olds mids
-  pub came : Came system plan t log is
+  pub came : Came system bound plan t log is
   pub put : present ≡ with_pieces before (pieces_of system plan is)
   pub counted : count ≡ length is
 
 -- the outputs of the point were read, which gave these values, and the instant was put
-pub record Shown (system : System) (plan : Plan) (olds : List Instance) (before : SinkView) (t : ℕ) (mids : List Instance) (values : List (Option ℤ)) (present : SinkView) (count : ℕ) : Type 0 where
+pub record Shown (system : System) (bound : Bound) (plan : Plan) (olds : List Instance) (before : SinkView) (t : ℕ) (mids : List Instance) (values : List (Option ℤ)) (present : SinkView) (count : ℕ) : Type 0 where
   pub log : List Sent
   pub is : List Instant
   pub told : Told log olds mids
-  pub seen : Seen system plan t log is
+  pub seen : Seen system bound plan t log is
   pub values_are : seen.values ≡ values
   pub put : present ≡ with_pieces before (pieces_of system plan is)
   pub counted : count ≡ length is
 
 -- and the inputs were set to them for a step to another point
-pub record Departed (system : System) (plan : Plan) (olds : List Instance) (before : SinkView) (t to : ℕ) (mids : List Instance) (present : SinkView) (count : ℕ) : Type 0 where
+pub record Departed (system : System) (bound : Bound) (plan : Plan) (olds : List Instance) (before : SinkView) (t to : ℕ) (mids : List Instance) (present : SinkView) (count : ℕ) : Type 0 where
   pub log : List Sent
   pub is : List Instant
   pub told : Told log olds mids
-  pub departs : Departs system plan t to log is
+  pub departs : Departs system bound plan t to log is
   pub put : present ≡ with_pieces before (pieces_of system plan is)
   pub counted : count ≡ length is
 
@@ -104,8 +105,8 @@ length_more is i = length-append is (i ∷ [])
 pub fits_on : (system : System) (log : List Sent) (olds mids : List Instance) → shapes olds ≡ shapes_of system → Told log olds mids → shapes mids ≡ shapes_of system
 fits_on system log olds mids fits told = shapes_same log olds mids told ∙ fits
 
-module _ (system : System) (plan : Plan) (olds : List Instance) (before : SinkView) (fits : shapes olds ≡ shapes_of system) where
-  pub header_cut : (after : SinkView) (count : ℕ) → count ≡ 0 → CutsPiece before (header_of system plan) after → Follows system plan olds olds before after count (Err B.Write)
+module _ (system : System) (bound : Bound) (plan : Plan) (olds : List Instance) (before : SinkView) (fits : shapes olds ≡ shapes_of system) where
+  pub header_cut : (after : SinkView) (count : ℕ) → count ≡ 0 → CutsPiece before (header_of system plan) after → Follows system bound plan olds olds before after count (Err B.Write)
   header_cut after count none cut = record {
     log = [];
     is = [];
@@ -120,8 +121,8 @@ module _ (system : System) (plan : Plan) (olds : List Instance) (before : SinkVi
   }
 
   pub lead_bad : (news : List Instance) (after : SinkView) (count : ℕ) (bad : BadAnswer) (b : Break) → B.Ends (record { end = E.Bad bad; point = plan.start }) ≡ b → count ≡ 0 →
-      after ≡ with_piece before (header_of system plan) → Initializes system plan olds news (Err bad) → Follows system plan olds news before after count (Err b)
-  lead_bad news after count bad b is none put s = subst (λ (x : Break). Follows system plan olds news before after count (Err x)) is (record {
+      after ≡ with_piece before (header_of system plan) → Initializes system bound plan olds news (Err bad) → Follows system bound plan olds news before after count (Err b)
+  lead_bad news after count bad b is none put s = subst (λ (x : Break). Follows system bound plan olds news before after count (Err x)) is (record {
     log = s.log;
     is = [];
     told = s.told;
@@ -129,8 +130,8 @@ module _ (system : System) (plan : Plan) (olds : List Instance) (before : SinkVi
     goes = (refl, (inl (record { stops = s.says; point_is = refl; is_is = refl }), put));
   })
 
-  pub here_first : (news : List Instance) (after : SinkView) (count : ℕ) → count ≡ 0 → after ≡ with_piece before (header_of system plan) → (s : Initializes system plan olds news (Ok tt)) →
-      Here system plan olds before plan.start news after count
+  pub here_first : (news : List Instance) (after : SinkView) (count : ℕ) → count ≡ 0 → after ≡ with_piece before (header_of system plan) → (s : Initializes system bound plan olds news (Ok tt)) →
+      Here system bound plan olds before plan.start news after count
   here_first news after count none put s = record {
     log = s.log;
     is = [];
@@ -140,10 +141,10 @@ module _ (system : System) (plan : Plan) (olds : List Instance) (before : SinkVi
     counted = none;
   }
 
-  module _ (t : ℕ) (mids news : List Instance) (present : SinkView) (count : ℕ) (h : Here system plan olds before t mids present count) (earlier : List (Option ℤ)) (known : length earlier ≡ length system.ports) where
+  module _ (t : ℕ) (mids news : List Instance) (present : SinkView) (count : ℕ) (h : Here system bound plan olds before t mids present count) (earlier : List (Option ℤ)) (known : length earlier ≡ length system.ports) where
     -- a bad answer to a Get
-    pub reads_badly : (values : List (Option ℤ)) (b : Break) → ReadsAt system t earlier values mids news (Err b) → Follows system plan olds news before present count (Err b)
-    reads_badly values b given = broken_by (λ r. Walks system I.at_point earlier (numbers system.instant_order) values mids news r) t (λ (x : Break). Follows system plan olds news before present count (Err x)) (λ bad s. record {
+    pub reads_badly : (values : List (Option ℤ)) (b : Break) → ReadsAt system t earlier values mids news (Err b) → Follows system bound plan olds news before present count (Err b)
+    reads_badly values b given = broken_by (λ r. Walks system I.at_point earlier (numbers system.instant_order) values mids news r) t (λ (x : Break). Follows system bound plan olds news before present count (Err x)) (λ bad s. record {
       log = h.log ++ s.log;
       is = h.is;
       told = told_on olds mids news h.log s.log h.told s.told;
@@ -167,7 +168,7 @@ module _ (system : System) (plan : Plan) (olds : List Instance) (before : SinkVi
     }) b given
 
     module _ (values : List (Option ℤ)) (places : length values ≡ length system.ports) (s : Walks system I.at_point earlier (numbers system.instant_order) values mids news (Ok tt)) where
-      abbrev read_seen : Seen system plan t (h.log ++ s.log) (h.is ++ instant_at t values ∷ [])
+      abbrev read_seen : Seen system bound plan t (h.log ++ s.log) (h.is ++ instant_at t values ∷ [])
       read_seen = record {
         values = values;
         before = h.log;
@@ -180,7 +181,7 @@ module _ (system : System) (plan : Plan) (olds : List Instance) (before : SinkVi
       }
 
       -- the instant was put
-      pub shown : (after : SinkView) (more : ℕ) → after ≡ with_piece present (instant_text t 0 values) → more ≡ count + 1 → Shown system plan olds before t news values after more
+      pub shown : (after : SinkView) (more : ℕ) → after ≡ with_piece present (instant_text t 0 values) → more ≡ count + 1 → Shown system bound plan olds before t news values after more
       shown after more put counted = record {
         log = h.log ++ s.log;
         is = h.is ++ instant_at t values ∷ [];
@@ -193,8 +194,8 @@ module _ (system : System) (plan : Plan) (olds : List Instance) (before : SinkVi
 
       -- its put failed
       pub cut_there : (after : SinkView) (left : ℕ) (b : Break) → b ≡ B.Write → CutsPiece present (instant_text t 0 values) after → left ≡ count →
-          Follows system plan olds news before after left (Err b)
-      cut_there after left b is cut counted = subst (λ (x : Break). Follows system plan olds news before after left (Err x)) (sym is) (record {
+          Follows system bound plan olds news before after left (Err b)
+      cut_there after left b is cut counted = subst (λ (x : Break). Follows system bound plan olds news before after left (Err x)) (sym is) (record {
         log = h.log ++ s.log;
         is = h.is;
         told = told_on olds mids news h.log s.log h.told s.told;
@@ -213,30 +214,30 @@ module _ (system : System) (plan : Plan) (olds : List Instance) (before : SinkVi
         };
       })
 
-  module _ (t : ℕ) (mids : List Instance) (values : List (Option ℤ)) (present : SinkView) (count : ℕ) (h : Shown system plan olds before t mids values present count) where
-    pub stops_there : t ≡ plan.stop → Follows system plan olds mids before present count (Ok (record { end = E.Stop; point = t }))
+  module _ (t : ℕ) (mids : List Instance) (values : List (Option ℤ)) (present : SinkView) (count : ℕ) (h : Shown system bound plan olds before t mids values present count) where
+    pub stops_there : t ≡ plan.stop → Follows system bound plan olds mids before present count (Ok (record { end = E.Stop; point = t }))
     stops_there is = record {
       log = h.log;
       is = h.is;
       told = h.told;
       counted_is = h.counted;
-      goes = (refl, ((is, subst (λ (n : ℕ). Seen system plan n h.log h.is) is h.seen), h.put));
+      goes = (refl, ((is, subst (λ (n : ℕ). Seen system bound plan n h.log h.is) is h.seen), h.put));
     }
 
     pub unfit_there : (component : CompId) (e : ℕ) → IsBoundOf plan t e → first_unfit system plan (e - t) ≡ Some component.0 →
-        Follows system plan olds mids before present count (Ok (record { end = E.FixedStep component t e; point = t }))
-    unfit_there component e bound unfit = record {
+        Follows system bound plan olds mids before present count (Ok (record { end = E.FixedStep component t e; point = t }))
+    unfit_there component e end_is unfit = record {
       log = h.log;
       is = h.is;
       told = h.told;
       counted_is = h.counted;
-      goes = (refl, ((refl, record { seen = h.seen; bound = bound; unfit = unfit }), h.put));
+      goes = (refl, ((refl, record { seen = h.seen; end_is = end_is; unfit = unfit }), h.put));
     }
 
     module _ (news : List Instance) (e : ℕ) (step : IsStep system plan t e) where
       -- a bad answer to a Set
-      pub sets_badly : (b : Break) → SetsAt system t values mids news (Err b) → Follows system plan olds news before present count (Err b)
-      sets_badly b given = broken_by (λ r. Walks system (before_step values) values (port_order system) values mids news r) t (λ (x : Break). Follows system plan olds news before present count (Err x)) (λ bad s. record {
+      pub sets_badly : (b : Break) → SetsAt system t values mids news (Err b) → Follows system bound plan olds news before present count (Err b)
+      sets_badly b given = broken_by (λ r. Walks system (before_step values) values (port_order system) values mids news r) t (λ (x : Break). Follows system bound plan olds news before present count (Err x)) (λ bad s. record {
         log = h.log ++ s.log;
         is = h.is;
         told = told_on olds mids news h.log s.log h.told s.told;
@@ -258,7 +259,7 @@ module _ (system : System) (plan : Plan) (olds : List Instance) (before : SinkVi
         );
       }) b given
 
-      pub departed : Walks system (before_step values) values (port_order system) values mids news (Ok tt) → Departed system plan olds before t e news present count
+      pub departed : Walks system (before_step values) values (port_order system) values mids news (Ok tt) → Departed system bound plan olds before t e news present count
       departed s = record {
         log = h.log ++ s.log;
         is = h.is;
@@ -275,15 +276,15 @@ module _ (system : System) (plan : Plan) (olds : List Instance) (before : SinkVi
         counted = h.counted;
       }
 
-  module _ (t e : ℕ) (mids : List Instance) (present : SinkView) (count : ℕ) (h : Departed system plan olds before t e mids present count) (news : List Instance) where
+  module _ (t e : ℕ) (mids : List Instance) (present : SinkView) (count : ℕ) (h : Departed system bound plan olds before t e mids present count) (news : List Instance) where
     same : shapes mids ≡ shapes_of system
     same = fits_on system h.log olds mids fits h.told
 
     abbrev steps_of : List Shape → List Asking
     steps_of ss = to_each (λ (shape : Shape). C.DoStep t (e - t)) ss
 
-    pub steps_badly : (b : Break) → StepsAt t (e - t) mids news (Err b) → Follows system plan olds news before present count (Err b)
-    steps_badly b given = broken_by (λ r. Round (steps_of (shapes mids)) any_asks_to_end mids news r) t (λ (x : Break). Follows system plan olds news before present count (Err x)) (λ bad s. record {
+    pub steps_badly : (b : Break) → StepsAt t (e - t) mids news (Err b) → Follows system bound plan olds news before present count (Err b)
+    steps_badly b given = broken_by (λ r. Round (steps_of (shapes mids)) any_asks_to_end mids news r) t (λ (x : Break). Follows system bound plan olds news before present count (Err x)) (λ bad s. record {
       log = h.log ++ s.log;
       is = h.is;
       told = told_on olds mids news h.log s.log h.told s.told;
@@ -304,7 +305,7 @@ module _ (system : System) (plan : Plan) (olds : List Instance) (before : SinkVi
       );
     }) b given
 
-    pub asked_there : (s : Round (steps_of (shapes mids)) any_asks_to_end mids news (Ok true)) → Follows system plan olds news before present count (Ok (record { end = E.Asked e; point = e }))
+    pub asked_there : (s : Round (steps_of (shapes mids)) any_asks_to_end mids news (Ok true)) → Follows system bound plan olds news before present count (Ok (record { end = E.Asked e; point = e }))
     asked_there s = record {
       log = h.log ++ s.log;
       is = h.is;
@@ -330,7 +331,7 @@ module _ (system : System) (plan : Plan) (olds : List Instance) (before : SinkVi
       );
     }
 
-    pub here_on : (s : Round (steps_of (shapes mids)) any_asks_to_end mids news (Ok false)) → Here system plan olds before e news present count
+    pub here_on : (s : Round (steps_of (shapes mids)) any_asks_to_end mids news (Ok false)) → Here system bound plan olds before e news present count
     here_on s =
         let d = h.departs in
         let seen = d.seen in

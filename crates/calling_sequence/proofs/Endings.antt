@@ -1,6 +1,7 @@
 -- The end line behind the course of a run.
 use Rattle.std.proofs.Common.{◌⊎◌, ℕ, List, [], ◌∷◌, Result, Ok, Err, inl, inr, refl, sym, ap, ◌∙◌, subst}
 use Rattle.sim_base.specs.Sink.{SinkView, with_piece}
+use Rattle.system_model.specs.declared.bound.Bound.{Bound}
 use Rattle.system_model.specs.declared.plan.Plan.{Plan}
 use Rattle.system_model.specs.declared.system.System.{System}
 use Rattle.system_model.specs.Text.{Instant, end_text}
@@ -16,8 +17,8 @@ use Rattle.calling_sequence.specs.Puts.{CutsPiece, with_pieces}
 use Rattle.calling_sequence.specs.Steps.{Comes, Concludes, Goes, PutsEnd}
 use Rattle.calling_sequence.proofs.Courses.{pieces_append}
 
-module _ (system : System) (plan : Plan) (log : List Sent) (is : List Instant) (before present after : SinkView) where
-  ends_whole : (end : RunEnd) → PutsWhole system plan log is end before after → EndsBy system plan log is end before after
+module _ (system : System) (bound : Bound) (plan : Plan) (log : List Sent) (is : List Instant) (before present after : SinkView) where
+  ends_whole : (end : RunEnd) → PutsWhole system bound plan log is end before after → EndsBy system bound plan log is end before after
   ends_whole E.Stop w = w
   ends_whole (E.Asked point) w = w
   ends_whole (E.EventLimit point) w = w
@@ -25,9 +26,9 @@ module _ (system : System) (plan : Plan) (log : List Sent) (is : List Instant) (
   ends_whole (E.Bad bad) w = w
   ends_whole E.WriteFault w = absurd w.1
 
-  ends_put : (ending : Ending) (end : RunEnd) → Comes system plan log is before present ending → PutsEnd ending end present after → EndsBy system plan log is end before after
+  ends_put : (ending : Ending) (end : RunEnd) → Comes system bound plan log is before present ending → PutsEnd ending end present after → EndsBy system bound plan log is end before after
   ends_put ending end (finishes, put) (inl (same, last)) =
-      subst (λ (e : RunEnd). EndsBy system plan log is e before after) (sym same)
+      subst (λ (e : RunEnd). EndsBy system bound plan log is e before after) (sym same)
       (ends_whole ending.end (
         ending.point,
         finishes,
@@ -35,23 +36,23 @@ module _ (system : System) (plan : Plan) (log : List Sent) (is : List Instant) (
             ∙ sym (pieces_append before (pieces_of system plan is) (end_text (kind_of_end ending.end) ending.point ∷ [])),
       ))
   ends_put ending end (finishes, put) (inr (same, cut)) =
-      subst (λ (e : RunEnd). EndsBy system plan log is e before after) (sym same) (record {
+      subst (λ (e : RunEnd). EndsBy system bound plan log is e before after) (sym same) (record {
         pieces = pieces_of system plan is;
         piece = end_text (kind_of_end ending.end) ending.point;
         interrupted = inr (inr (record { end = ending.end; point = ending.point; finishes = finishes; pieces_are = refl; piece_is = refl }));
         cuts = subst (λ (v : SinkView). CutsPiece v (end_text (kind_of_end ending.end) ending.point) after) put cut;
       })
 
-  early : (pieces : List (List ℕ)) (piece : List ℕ) → AtHeader system plan log is pieces piece ⊎ AtInstant system plan log is pieces piece → Interrupted system plan log is pieces piece
+  early : (pieces : List (List ℕ)) (piece : List ℕ) → AtHeader system plan log is pieces piece ⊎ AtInstant system bound plan log is pieces piece → Interrupted system bound plan log is pieces piece
   early pieces piece (inl h) = inl h
   early pieces piece (inr i) = inr (inl i)
 
   -- how a run ends, by its course and its end line
-  pub ends_of : (outcome : Result Ending Break) (end : RunEnd) → Goes system plan log is before present outcome → Concludes outcome end present after → EndsBy system plan log is end before after
+  pub ends_of : (outcome : Result Ending Break) (end : RunEnd) → Goes system bound plan log is before present outcome → Concludes outcome end present after → EndsBy system bound plan log is end before after
   ends_of (Ok ending) end (well, comes) puts = ends_put ending end comes puts
   ends_of (Err (B.Ends ending)) end (badly, comes) puts = ends_put ending end comes puts
   ends_of (Err B.Write) end cuts (same, none) =
-      subst (λ (e : RunEnd). EndsBy system plan log is e before after) (sym same) (record {
+      subst (λ (e : RunEnd). EndsBy system bound plan log is e before after) (sym same) (record {
         pieces = cuts.pieces;
         piece = cuts.piece;
         interrupted = early cuts.pieces cuts.piece cuts.interrupted;

@@ -1,6 +1,7 @@
 pub mod Chains
 pub mod Walks
 pub mod Phases
+pub mod Bindings
 pub mod Sizes
 pub mod Stands
 pub mod Courses

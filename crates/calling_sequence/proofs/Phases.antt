@@ -33,7 +33,7 @@ get_leads : (v w : View) (e : Exchange) → Led v e w → IsGet e → w.phase �
 get_leads v w e l (kind, reference, is) = l.phase ∙ ap (λ (c : Call). entered v.fixed.shape (counted v.phase e.call) c l.reply) is
 
 -- and so does a good Set, but for the marks
-set_leads : (v w : View) (e : Exchange) → Led v e w → (s : IsSet e) → w.phase ≡ record (counted v.phase e.call) { marks = marks_after_set v.phase.state v.fixed.shape v.phase.marks s.1 }
+pub set_leads : (v w : View) (e : Exchange) → Led v e w → (s : IsSet e) → w.phase ≡ record (counted v.phase e.call) { marks = marks_after_set v.phase.state v.fixed.shape v.phase.marks s.1 }
 set_leads v w e l (kind, reference, value, is) = l.phase ∙ ap (λ (c : Call). entered v.fixed.shape (counted v.phase e.call) c l.reply) is
 
 none_of_none : (n : ℕ) → list_any (λ (flag : Bool). flag) (replicate n false) ≡ false

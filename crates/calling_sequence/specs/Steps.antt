@@ -4,6 +4,7 @@ use Rattle.sim_base.specs.Sink.{SinkView, with_piece}
 use Rattle.value_types.specs.declared.shape.Shape.{Shape}
 use Rattle.fmi_calls.specs.declared.call.Call.TheVariants as C
 use Rattle.fmu_peer.specs.CloseAll.{Instance}
+use Rattle.system_model.specs.declared.bound.Bound.{Bound}
 use Rattle.system_model.specs.declared.plan.Plan.{Plan}
 use Rattle.system_model.specs.declared.system.System.{System}
 use Rattle.system_model.specs.declared.plan.EndKind.{EndKind}
@@ -26,17 +27,17 @@ use Rattle.slot_calls.specs.Log.{Sent, Told}
 use Rattle.slot_calls.specs.Stage.{Round, shapes, to_each}
 use Rattle.calling_sequence.specs.Puts.{CutsPiece, with_pieces}
 
--- ---- Initialization Mode
+-- ---- parameters, and Initialization Mode
 
--- by this log its values were found, or a bad answer stopped it
-abbrev pub InitializesBy : System → Plan → List Sent → Result (Unit {0}) BadAnswer → Type 0
-InitializesBy system plan log (Ok x) = IsInitialized system plan log
-InitializesBy system plan log (Err bad) = StopsInitializing system plan bad log
+-- by this log the parameters were set and the values of Initialization Mode found, or a bad answer stopped it
+abbrev pub InitializesBy : System → Bound → Plan → List Sent → Result (Unit {0}) BadAnswer → Type 0
+InitializesBy system bound plan log (Ok x) = IsInitialized system bound plan log
+InitializesBy system bound plan log (Err bad) = StopsInitializing system bound plan bad log
 
-pub record Initializes (system : System) (plan : Plan) (olds news : List Instance) (result : Result (Unit {0}) BadAnswer) : Type 0 where
+pub record Initializes (system : System) (bound : Bound) (plan : Plan) (olds news : List Instance) (result : Result (Unit {0}) BadAnswer) : Type 0 where
   pub log : List Sent
   pub told : Told log olds news
-  pub says : InitializesBy system plan log result
+  pub says : InitializesBy system bound plan log result
 
 -- ---- at a point
 
@@ -66,28 +67,28 @@ StepsAt t size olds news result = SaysAt (λ r. Round (to_each (λ (shape : Shap
 -- ---- the way to the end
 
 -- the run came to its end, and all was put but its end line
-abbrev pub Comes : System → Plan → List Sent → List Instant → SinkView → SinkView → Ending → Type 0
-Comes system plan log is before after ending = Finishes system plan ending.end ending.point log is × (after ≡ with_pieces before (pieces_of system plan is))
+abbrev pub Comes : System → Bound → Plan → List Sent → List Instant → SinkView → SinkView → Ending → Type 0
+Comes system bound plan log is before after ending = Finishes system bound plan ending.end ending.point log is × (after ≡ with_pieces before (pieces_of system plan is))
 
 -- a put failed before that
-pub record Cuts (system : System) (plan : Plan) (log : List Sent) (is : List Instant) (before after : SinkView) : Type 0 where
+pub record Cuts (system : System) (bound : Bound) (plan : Plan) (log : List Sent) (is : List Instant) (before after : SinkView) : Type 0 where
   pub pieces : List (List ℕ)
   pub piece : List ℕ
-  pub interrupted : AtHeader system plan log is pieces piece ⊎ AtInstant system plan log is pieces piece
+  pub interrupted : AtHeader system plan log is pieces piece ⊎ AtInstant system bound plan log is pieces piece
   pub put : CutsPiece (with_pieces before pieces) piece after
 
 -- a bad answer breaks it off, and so does a put that failed
-abbrev pub Goes : System → Plan → List Sent → List Instant → SinkView → SinkView → Result Ending Break → Type 0
-Goes system plan log is before after (Ok ending) = (ends_well ending.end ≡ true) × Comes system plan log is before after ending
-Goes system plan log is before after (Err (B.Ends ending)) = (ends_well ending.end ≡ false) × Comes system plan log is before after ending
-Goes system plan log is before after (Err B.Write) = Cuts system plan log is before after
+abbrev pub Goes : System → Bound → Plan → List Sent → List Instant → SinkView → SinkView → Result Ending Break → Type 0
+Goes system bound plan log is before after (Ok ending) = (ends_well ending.end ≡ true) × Comes system bound plan log is before after ending
+Goes system bound plan log is before after (Err (B.Ends ending)) = (ends_well ending.end ≡ false) × Comes system bound plan log is before after ending
+Goes system bound plan log is before after (Err B.Write) = Cuts system bound plan log is before after
 
-pub record Follows (system : System) (plan : Plan) (olds news : List Instance) (before after : SinkView) (counted : ℕ) (result : Result Ending Break) : Type 0 where
+pub record Follows (system : System) (bound : Bound) (plan : Plan) (olds news : List Instance) (before after : SinkView) (counted : ℕ) (result : Result Ending Break) : Type 0 where
   pub log : List Sent
   pub is : List Instant
   pub told : Told log olds news
   pub counted_is : counted ≡ length is
-  pub goes : Goes system plan log is before after result
+  pub goes : Goes system bound plan log is before after result
 
 -- ---- the end
 
@@ -108,9 +109,9 @@ Concludes (Err (B.Ends ending)) end before after = PutsEnd ending end before aft
 Concludes (Err B.Write) end before after = (end ≡ E.WriteFault) × (after ≡ before)
 
 -- a run over slots
-pub record RunsSlots (system : System) (plan : Plan) (olds news : List Instance) (before after : SinkView) (counted : ℕ) (end : RunEnd) : Type 0 where
+pub record RunsSlots (system : System) (bound : Bound) (plan : Plan) (olds news : List Instance) (before after : SinkView) (counted : ℕ) (end : RunEnd) : Type 0 where
   pub log : List Sent
   pub is : List Instant
   pub told : Told log olds news
-  pub ends : EndsBy system plan log is end before after
+  pub ends : EndsBy system bound plan log is end before after
   pub counted_is : counted ≡ length is

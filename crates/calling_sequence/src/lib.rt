@@ -2,6 +2,7 @@
 #![tactic(auto)]
 
 mod ending;
+mod parameters;
 mod run;
 mod run_end;
 

@@ -9,6 +9,7 @@ ghost use Rattle.calling_sequence.specs.declared.ending.Break.TheVariants as Bre
 ghost use Rattle.calling_sequence.specs.Course.{first_unfit, header_of, kind_of_end};
 ghost use Rattle.calling_sequence.specs.Place.{IsAt, IsDeparting, IsMade};
 ghost use Rattle.calling_sequence.specs.Puts.{CutsPiece};
+ghost use Rattle.system_model.specs.Bounds.{BindsParameters};
 ghost use Rattle.system_model.specs.Sound.{IsSound};
 ghost use Rattle.system_model.specs.Text.{instant_text};
 ghost use Rattle.slot_calls.specs.Carried.{IsWide};
@@ -18,26 +19,29 @@ ghost use Rattle.calling_sequence.specs.Steps.{Concludes, Follows, HoldsEnds, In
 ghost use Rattle.calling_sequence.specs.Plans.{IsPlan};
 ghost use Rattle.calling_sequence.specs.Systems.{IsBuilt};
 
+use crate::parameters::set_parameters;
 use crate::{Break, Ending, RunEnd};
 use event_iteration::{InitialReads, instant, set_inputs};
 use fmu_peer::{Peer, Slot};
 use sim_base::{CompId, Sink};
 use slot_calls::{Ask, BadAnswer, each, round};
-use system_model::{Component, EndKind, Plan, System};
+use system_model::{Bound, Component, EndKind, Plan, System};
 use trace_text::{put_end, put_header, put_instant};
 
 /// Follows the calling sequence of Co-Simulation from instances that were made to the end of the run. It puts the header,
-/// leads each instance through Initialization Mode, and then at each point reads the outputs, puts the instant, sets the
-/// connected inputs and steps all instances to the next grid point or the stop. It puts one piece for the header and one for
-/// each instant, and not the end line. Points and sizes of steps are counts over the plan's resolution.
+/// sets the bound parameters, leads each instance through Initialization Mode, and then at each point reads the outputs,
+/// puts the instant, sets the connected inputs and steps all instances to the next grid point or the stop. It puts one piece
+/// for the header and one for each instant, and not the end line. Points and sizes of steps are counts over the plan's
+/// resolution.
 ///
-/// No FMU has event mode or returns early. There is a slot for each component, in their order and of its shape; each instance
-/// was made, and is held in the state of its phase. `reads` was made for the system, `values` has a place for each port and
-/// `text` room for each text of the system, whatever stands in them, and `instants`, the number of instants that were put,
-/// begins at 0. No memory is taken.
+/// No FMU has event mode or returns early, and the bound values are for parameters of the components. There is a slot for
+/// each component, in their order and of its shape; each instance was made, and is held in the state of its phase. `reads`
+/// was made for the system, `values` has a place for each port and `text` room for each text of the system, whatever stands
+/// in them, and `instants`, the number of instants that were put, begins at 0. No memory is taken.
 pub fn follow<L: Peer, O: Sink>(
     slots: &mut [Slot<L>],
     system: &System,
+    bound: &Bound,
     plan: &Plan,
     reads: &InitialReads,
     values: &mut [Option<i128>],
@@ -47,6 +51,7 @@ pub fn follow<L: Peer, O: Sink>(
 ) -> Result<Ending, Break>
     requires sound { IsSound system.now }
     requires built { IsBuilt system.now }
+    requires bound { BindsParameters system.now bound.now }
     requires few { length slots.old ≤ 2 ^ 32 }
     requires shapes { shapes (instances L.view slots.old) ≡ shapes_of system.now }
     requires plan { IsPlan plan.now }
@@ -56,10 +61,13 @@ pub fn follow<L: Peer, O: Sink>(
     requires places { length values.old ≡ length system.now.ports }
     requires room { HoldsEach system.now (length text.old) }
     requires none { instants.old ≡ 0 }
-    ensures { Follows system.now plan.now (instances L.view slots.old) (instances L.view slots.new) (O.view out.old) (O.view out.new) instants.new result }
+    ensures { Follows system.now bound.now plan.now (instances L.view slots.old) (instances L.view slots.new) (O.view out.old) (O.view out.new) instants.new result }
 {
     put_head(system, plan, text, out)?;
-    at_point(initialize(slots, system, plan, reads, values), plan.start)?;
+    at_point(
+        initialize(slots, system, bound, plan, reads, values),
+        plan.start,
+    )?;
     let mut t = plan.start;
     'points: loop {
         read_at(slots, system, t, values)?;
@@ -70,21 +78,21 @@ pub fn follow<L: Peer, O: Sink>(
                 point: t,
             });
         }
-        let bound = next_bound(plan, t);
-        let size = bound - t;
+        let to = next_bound(plan, t);
+        let size = to - t;
         if let Some(component) = first_unfit(system, plan, size) {
             return Ok(Ending {
                 end: RunEnd::FixedStep {
                     component,
                     at: t,
-                    end: bound,
+                    end: to,
                 },
                 point: t,
             });
         }
         set_at(slots, system, t, values)?;
         let is_asked = step_at(slots, t, size)?;
-        t = bound;
+        t = to;
         if is_asked {
             return Ok(Ending {
                 end: RunEnd::Asked { point: t },
@@ -99,6 +107,7 @@ pub fn follow<L: Peer, O: Sink>(
 pub fn run_slots<L: Peer, O: Sink>(
     slots: &mut [Slot<L>],
     system: &System,
+    bound: &Bound,
     plan: &Plan,
     reads: &InitialReads,
     values: &mut [Option<i128>],
@@ -108,6 +117,7 @@ pub fn run_slots<L: Peer, O: Sink>(
 ) -> RunEnd
     requires sound { IsSound system.now }
     requires built { IsBuilt system.now }
+    requires bound { BindsParameters system.now bound.now }
     requires few { length slots.old ≤ 2 ^ 32 }
     requires shapes { shapes (instances L.view slots.old) ≡ shapes_of system.now }
     requires plan { IsPlan plan.now }
@@ -117,9 +127,11 @@ pub fn run_slots<L: Peer, O: Sink>(
     requires places { length values.old ≡ length system.now.ports }
     requires room { HoldsEach system.now (length text.old) }
     requires none { instants.old ≡ 0 }
-    ensures { RunsSlots system.now plan.now (instances L.view slots.old) (instances L.view slots.new) (O.view out.old) (O.view out.new) instants.new result }
+    ensures { RunsSlots system.now bound.now plan.now (instances L.view slots.old) (instances L.view slots.new) (O.view out.old) (O.view out.new) instants.new result }
 {
-    let outcome = follow(slots, system, plan, reads, values, text, instants, out);
+    let outcome = follow(
+        slots, system, bound, plan, reads, values, text, instants, out,
+    );
     conclude(outcome, text, out)
 }
 
@@ -175,15 +187,17 @@ fn put_head<O: Sink>(
     }
 }
 
-// Leads each FMU into Step Mode through Initialization Mode, where it finds the values.
+// Sets the bound parameters, and leads each FMU into Step Mode through Initialization Mode, where it finds the values.
 fn initialize<L: Peer>(
     slots: &mut [Slot<L>],
     system: &System,
+    bound: &Bound,
     plan: &Plan,
     reads: &InitialReads,
     values: &mut [Option<i128>],
 ) -> Result<(), BadAnswer>
     requires sound { IsSound system.now }
+    requires bound { BindsParameters system.now bound.now }
     requires few { length slots.old ≤ 2 ^ 32 }
     requires shapes { shapes (instances L.view slots.old) ≡ shapes_of system.now }
     requires plan { plan.now.start ≤ plan.now.stop }
@@ -194,8 +208,9 @@ fn initialize<L: Peer>(
     ensures live { OnOk result (All (LiveSlot L.view) slots.new) }
     ensures at { OnOk result (All (Stands (IsAt plan.now.start plan.now.stop plan.now.step) L.view) slots.new) }
     ensures fitting { OnOk result (AreFitting system.now values.new) }
-    ensures initializes { Initializes system.now plan.now (instances L.view slots.old) (instances L.view slots.new) result }
+    ensures initializes { Initializes system.now bound.now plan.now (instances L.view slots.old) (instances L.view slots.new) result }
 {
+    set_parameters(slots, bound)?;
     each(
         slots,
         Ask::EnterInitialization {

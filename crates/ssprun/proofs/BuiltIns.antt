@@ -14,7 +14,6 @@ use Rattle.bench_fmus.specs.BuiltInView.{built_in_view}
 use Rattle.bench_fmus.specs.Counter.{counter}
 use Rattle.bench_fmus.specs.Models.{behaviour_of}
 use Rattle.built_in_laws.specs.BuiltInRuns.{BuiltInsBehaveWell, IsBuiltIn}
-use Rattle.system_model.specs.declared.bound.BoundValue.{BoundValue}
 use Rattle.system_model.specs.declared.system.Component.{Component}
 use Rattle.system_model.specs.declared.system.System.{System}
 use Rattle.run_model.specs.Behaved.{WellBehaved}
@@ -70,7 +69,7 @@ module _ (behave : BuiltInsBehaveWell) (h : Happened) (task : Task) (system : Sy
 
   -- their run
   abbrev run : Run
-  run = record { system = system; bound = record { components = []; unreached = 0 }; machines = map machine_in t.olds; plan = task.plan }
+  run = record { system = system; bound = task.bound; machines = map machine_in t.olds; plan = task.plan }
 
   tell : TellMachines t.olds (map machine_in t.olds)
   tell = record {
@@ -109,9 +108,9 @@ module _ (behave : BuiltInsBehaveWell) (h : Happened) (task : Task) (system : Sy
     run = run;
     parts = same.parts;
     plan_is = same.plan_is;
-    unbound = All-nil (λ (values : List BoundValue). values ≡ []);
+    bound_is = same.bound_is;
     built_in = record { count = length-map t.olds machine_in ∙ t.peers.each; each = built_in };
-    writes = t.writes run (record { system_is = refl; unbound = All-nil (λ (values : List BoundValue). values ≡ []); tell = tell }) refl well news_quiet;
+    writes = t.writes run (record { system_is = refl; bound_is = refl; tell = tell }) refl well news_quiet;
   }
 
 pub built_in_exact : BuiltInsBehaveWell → (h : Happened) → TraceRow h → BuiltInRow h

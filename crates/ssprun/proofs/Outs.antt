@@ -2,6 +2,7 @@
 use Rattle.std.proofs.Common.{◌≡◌, ℕ, List, [], ◌∷◌, refl, sym, ap, ◌∙◌, subst, arith}
 use Rattle.sim_base.specs.Causes.{Rose, one_more}
 use Rattle.sim_base.specs.Sink.{SinkView, with_piece}
+use Rattle.system_model.specs.declared.bound.Bound.{Bound}
 use Rattle.system_model.specs.declared.plan.Plan.{Plan}
 use Rattle.system_model.specs.declared.system.System.{System}
 use Rattle.system_model.specs.Text.{Instant}
@@ -33,17 +34,17 @@ TellsOut (E.FixedStep component at end) before after = after ≡ before
 TellsOut (E.Bad bad) before after = after ≡ before
 TellsOut E.WriteFault before after = Rose before after
 
-whole_same : (system : System) (plan : Plan) (log : List Sent) (is : List Instant) (end : RunEnd) (before after : SinkView) → PutsWhole system plan log is end before after → after.faults ≡ before.faults
-whole_same system plan log is end before after w =
+whole_same : (system : System) (bound : Bound) (plan : Plan) (log : List Sent) (is : List Instant) (end : RunEnd) (before after : SinkView) → PutsWhole system bound plan log is end before after → after.faults ≡ before.faults
+whole_same system bound plan log is end before after w =
     ap (λ (s : SinkView). s.faults) w.2 ∙ pieces_faults before (trace_pieces system plan is (kind_of_end end) w.0)
 
-tells : (system : System) (plan : Plan) (log : List Sent) (is : List Instant) (end : RunEnd) (before after : SinkView) → EndsBy system plan log is end before after → TellsOut end before.faults after.faults
-tells system plan log is E.Stop before after e = whole_same system plan log is E.Stop before after e
-tells system plan log is (E.Asked point) before after e = whole_same system plan log is (E.Asked point) before after e
-tells system plan log is (E.EventLimit point) before after e = whole_same system plan log is (E.EventLimit point) before after e
-tells system plan log is (E.FixedStep component at end) before after e = whole_same system plan log is (E.FixedStep component at end) before after e
-tells system plan log is (E.Bad bad) before after e = whole_same system plan log is (E.Bad bad) before after e
-tells system plan log is E.WriteFault before after e = cut_rose before e.pieces e.piece after e.cuts
+tells : (system : System) (bound : Bound) (plan : Plan) (log : List Sent) (is : List Instant) (end : RunEnd) (before after : SinkView) → EndsBy system bound plan log is end before after → TellsOut end before.faults after.faults
+tells system bound plan log is E.Stop before after e = whole_same system bound plan log is E.Stop before after e
+tells system bound plan log is (E.Asked point) before after e = whole_same system bound plan log is (E.Asked point) before after e
+tells system bound plan log is (E.EventLimit point) before after e = whole_same system bound plan log is (E.EventLimit point) before after e
+tells system bound plan log is (E.FixedStep component at end) before after e = whole_same system bound plan log is (E.FixedStep component at end) before after e
+tells system bound plan log is (E.Bad bad) before after e = whole_same system bound plan log is (E.Bad bad) before after e
+tells system bound plan log is E.WriteFault before after e = cut_rose before e.pieces e.piece after e.cuts
 
 pub tells_out : (task : Task) (system : System) (end : RunEnd) (old new : Scene) → HasRun task system end old new → TellsOut end old.out.faults new.out.faults
 tells_out task system end old new (Went g) =
@@ -51,6 +52,6 @@ tells_out task system end old new (Went g) =
     subst (λ (e : RunEnd). TellsOut e old.out.faults new.out.faults) g.end_is
     (subst (λ (s : SinkView). TellsOut a.end s.faults new.out.faults) g.before_is
     (subst (λ (s : SinkView). TellsOut a.end a.before.faults s.faults) g.after_is
-    (tells a.system a.plan g.lived.log g.lived.is a.end a.before a.after g.lived.text)))
+    (tells a.system a.bound a.plan g.lived.log g.lived.is a.end a.before a.after g.lived.text)))
 tells_out task system end old new (Broke bad is fails) =
     subst (λ (e : RunEnd). TellsOut e old.out.faults new.out.faults) (sym is) (ap (λ (s : SinkView). s.faults) fails.out)

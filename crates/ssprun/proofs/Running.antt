@@ -1,12 +1,16 @@
 -- From peers that were started to what holds of their run.
-use Rattle.std.proofs.Common.{◌≡◌, ℕ, ◌-◌, ◌<◌, ◌==◌, Bool, true, false, not, List, ◌++◌, Some, None, refl, sym, ap, ◌∙◌, subst, arith, length}
+use Rattle.std.proofs.Common.{◌≡◌, ℕ, ◌-◌, ◌<◌, ◌==◌, Bool, true, false, not, List, [], ◌∷◌, ◌++◌, Some, None, refl, sym, ap, ◌∙◌, subst, arith, length, map}
 use Rattle.std.specs.Prelude.{if◌then◌else◌, position}
+use Rattle.std.specs.List.{AllZip, IsDistinct}
 use Rattle.std.proofs.lemmas.List.{length-map}
+use Rattle.std.proofs.lemmas.List.Elements.{All-nil}
 use Rattle.std.proofs.lemmas.Option.{none-some as none_some, same_Some, slice_get_within}
 use Rattle.sim_base.specs.Sink.{SinkView}
 use Rattle.value_types.proofs.IndexLemmas.{placed_within}
 use Rattle.fmi_calls.specs.Next.{fresh}
 use Rattle.fmu_peer.specs.View.{View}
+use Rattle.system_model.specs.declared.bound.Bound.{Bound}
+use Rattle.system_model.specs.declared.bound.BoundValue.{BoundValue}
 use Rattle.system_model.specs.declared.plan.Plan.{Plan}
 use Rattle.system_model.specs.declared.system.Component.{Component}
 use Rattle.system_model.specs.declared.system.System.{System}
@@ -19,7 +23,8 @@ use Rattle.step_master.specs.declared.prepare_end.PrepareFault.{PrepareFault}
 use Rattle.step_master.specs.declared.prepare_end.PrepareFault.TheVariants as F
 use Rattle.step_master.specs.Lived.{Account, Lived, LivesAreOver, Unmade, UnmadeIsClosed}
 use Rattle.step_master.specs.Master.{FailsToPrepare, Standing}
-use Rattle.step_master.specs.Traced.{ToldRun, ToldTrace, ToldUnmade}
+use Rattle.step_master.specs.Traced.{IsRunOf, ToldRun, ToldTrace, ToldUnmade}
+use Rattle.system_model.specs.Bounds.{AreParameterValues, BindsParameters, IsParameterValue}
 use Rattle.system_model.specs.Sound.{IsSound}
 use Rattle.step_master.specs.Lives.{AreLives, EndsLives, Life}
 use Rattle.slot_calls.specs.Log.{Sent}
@@ -28,7 +33,7 @@ use Rattle.step_master.specs.System.{ArePeersOf}
 use Rattle.command_line.specs.Line.{IsWithin}
 use Rattle.ssprun.specs.Peers.{AreStarted}
 use Rattle.ssprun.specs.Happened.{Scene}
-use Rattle.ssprun.specs.Runs.{CanRun, Fails, Goes, NamesOne, RunsPeers, Task}
+use Rattle.ssprun.specs.Runs.{CanRun, Fails, Goes, NamesOne, RunsPeers, Task, unbound}
 use Rattle.ssprun.proofs.PeerLemmas.{started_at}
 
 -- ---- before the run
@@ -67,29 +72,43 @@ lives_count : (system : System) (olds news : List View) (log : List Sent) (lives
 lives_count system olds news log lives are =
     sym (length-map lives (λ (l : Life). l.source)) ∙ ap (λ (xs : List ℕ). length xs) are.sources_are ∙ length-map system.components (λ (c : Component). c.source.0)
 
-ends_named : (system : System) (plan : Plan) (olds news : List View) (log run : List Sent) (lives : List Life) (is : _) (end : RunEnd) (before after : _) → AreLives system olds news log lives → EndsLives end lives →
-    EndsBy system plan run is end before after → NamesOne (length system.components) end
-ends_named system plan olds news log run lives is E.Stop before after are ends by = tt
-ends_named system plan olds news log run lives is (E.Asked point) before after are ends by = tt
-ends_named system plan olds news log run lives is (E.EventLimit point) before after are ends by = absurd by.1
-ends_named system plan olds news log run lives is (E.FixedStep component at end) before after are ends by = unfit_within system plan (end - at) component.0 by.1.1.unfit
-ends_named system plan olds news log run lives is (E.Bad bad) before after are ends by =
+ends_named : (system : System) (bound : Bound) (plan : Plan) (olds news : List View) (log run : List Sent) (lives : List Life) (is : _) (end : RunEnd) (before after : _) → AreLives system olds news log lives → EndsLives end lives →
+    EndsBy system bound plan run is end before after → NamesOne (length system.components) end
+ends_named system bound plan olds news log run lives is E.Stop before after are ends by = tt
+ends_named system bound plan olds news log run lives is (E.Asked point) before after are ends by = tt
+ends_named system bound plan olds news log run lives is (E.EventLimit point) before after are ends by = absurd by.1
+ends_named system bound plan olds news log run lives is (E.FixedStep component at end) before after are ends by = unfit_within system plan (end - at) component.0 by.1.1.unfit
+ends_named system bound plan olds news log run lives is (E.Bad bad) before after are ends by =
     subst (λ (n : ℕ). bad.component.0 < n) (lives_count system olds news log lives are) (slice_get_within lives bad.component.0 ends.life ends.here)
-ends_named system plan olds news log run lives is E.WriteFault before after are ends by = tt
+ends_named system bound plan olds news log run lives is E.WriteFault before after are ends by = tt
 
 pub lived_names : (a : Account) → Lived a → NamesOne (length a.system.components) a.end
-lived_names a l = ends_named a.system a.plan a.olds a.news (l.made ++ l.log) l.log l.lives l.is a.end a.before a.after l.are l.ends l.text
+lived_names a l = ends_named a.system a.bound a.plan a.olds a.news (l.made ++ l.log) l.log l.lives l.is a.end a.before a.after l.are l.ends l.text
 
 pub unmade_names : (system : System) (olds news : List View) (bad : BadAnswer) → Unmade system olds bad news → bad.component.0 < length system.components
 unmade_names system olds news bad u =
     subst (λ (n : ℕ). bad.component.0 < n) (lives_count system olds news u.log u.lives u.are) (slice_get_within u.lives bad.component.0 u.least.life u.least.here)
 
+-- ---- parameters
+
+abbrev pub bound_of : List (List BoundValue) → Bound
+bound_of lists = record { components = lists; unreached = 0 }
+
+none_bound : (cs : List Component) → AllZip (λ (c : Component) (values : List BoundValue). AreParameterValues c.shape values) cs (map (λ (c : Component). []) cs)
+unfolding IsDistinct
+none_bound [] = tt
+none_bound (c ∷ cs) = (record { each = All-nil (IsParameterValue c.shape); once = tt }, none_bound cs)
+
+-- no values are those for parameters of any system
+pub unbound_binds : (system : System) → BindsParameters system (unbound system)
+unbound_binds system = none_bound system.components
+
 -- ---- from what the master says
 
 -- the account of a run, by what its master is behind it
-abbrev pub account_of : System → Plan → List View → List View → SinkView → SinkView → Standing → RunEnd → Account
-account_of system plan olds news before after done end =
-    record { system = system; plan = plan; olds = olds; news = news; before = before; after = after; instants = done.instants; end = end }
+abbrev pub account_of : System → Bound → Plan → List View → List View → SinkView → SinkView → Standing → RunEnd → Account
+account_of system bound plan olds news before after done end =
+    record { system = system; bound = bound; plan = plan; olds = olds; news = news; before = before; after = after; instants = done.instants; end = end }
 
 lives_news : (system : System) (olds news : List View) (log : List Sent) (lives : List Life) → AreLives system olds news log lives → length news ≡ length system.components
 lives_news system olds news log lives are =
@@ -98,11 +117,12 @@ lives_news system olds news log lives are =
 pub lived_news : (a : Account) → Lived a → length a.news ≡ length a.system.components
 lived_news a l = lives_news a.system a.olds a.news (l.made ++ l.log) l.lives l.are
 
-pub goes : (a : Account) (task : Task) (old new : Scene) → CanRun a.system → IsPlan a.plan → a.plan ≡ task.plan → a.before ≡ old.out → a.after ≡ new.out →
+pub goes : (a : Account) (task : Task) (old new : Scene) → CanRun a.system → BindsParameters a.system a.bound → IsPlan a.plan → a.bound ≡ task.bound → a.plan ≡ task.plan → a.before ≡ old.out → a.after ≡ new.out →
     RunsPeers task a.system a.olds a.news old.spawner new.spawner → Lived a → LivesAreOver → ToldRun → ToldTrace → Goes task a.system a.end old new
-goes a task old new can planned plan before after peers lived over run trace = record {
+goes a task old new can binds planned bound plan before after peers lived over run trace = record {
   account = a;
   system_is = refl;
+  bound_is = bound;
   plan_is = plan;
   end_is = refl;
   before_is = before;
@@ -111,8 +131,8 @@ goes a task old new can planned plan before after peers lived over run trace = r
   sound = can.sound;
   lived = lived;
   over = over a.system a.olds a.news (lived.made ++ lived.log) lived.lives lived.are;
-  so_far = λ r of is. run a r can.sound can.built of (is ∙ sym plan) lived;
-  well = λ r of is well. trace a r can.sound can.built planned of (is ∙ sym plan) well lived;
+  so_far = λ r of is. run a r can.sound can.built (subst (λ (b : Bound). IsRunOf a.system b a.olds r) (sym bound) of) (is ∙ sym plan) lived;
+  well = λ r of is well. trace a r can.sound can.built binds planned (subst (λ (b : Bound). IsRunOf a.system b a.olds r) (sym bound) of) (is ∙ sym plan) well lived;
 }
 
 pub fails : (task : Task) (system : System) (bad : BadAnswer) (olds news : List View) (old new : Scene) → CanRun system → RunsPeers task system olds news old.spawner new.spawner →
@@ -124,7 +144,7 @@ fails task system bad olds news old new can peers unmade out over told = record 
   sound = can.sound;
   unmade = unmade;
   over = over system olds news unmade.log unmade.lives unmade.are;
-  well = λ r of well. told system olds news bad r can.sound of well unmade;
+  well = λ r of well. told system task.bound olds news bad r can.sound of well unmade;
   out = out;
 }
 

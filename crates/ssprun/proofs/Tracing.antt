@@ -79,7 +79,7 @@ module _ (h : Happened) (task : Task) (system : System) (quiet : Rose h.err.faul
 
   -- by the end
   ended : (end : RunEnd) (e : End) (g : Goes task system end h.old.run h.new.run) → IsEndOf (names_of system) end e → Reports (end_message e) (end_status e) h.status h.err h.err_after →
-      All (λ (v : View). v.faults ≡ 0) g.account.news → TracesWell g.account r end → EndsBy g.account.system g.account.plan g.lived.log g.lived.is end g.account.before g.account.after → WritesTrace h r
+      All (λ (v : View). v.faults ≡ 0) g.account.news → TracesWell g.account r end → EndsBy g.account.system g.account.bound g.account.plan g.lived.log g.lived.is end g.account.before g.account.after → WritesTrace h r
   ended E.Stop e g named p none t by =
       let put : Reports (end_message O.Stop) (end_status O.Stop) h.status h.err h.err_after = subst (λ (x : End). Reports (end_message x) (end_status x) h.status h.err h.err_after) named p in
       whole g.account K.Stop g.account.plan.stop g.system_is g.plan_is g.before_is g.after_is t put
@@ -90,7 +90,7 @@ module _ (h : Happened) (task : Task) (system : System) (quiet : Rose h.err.faul
   ended (E.FixedStep component at end) e g named p none t by =
       let put : Reports (Some (fixed_message named.0 at end)) 9 h.status h.err h.err_after = subst (λ (x : End). Reports (end_message x) (end_status x) h.status h.err h.err_after) named.2 p in
       let said = put_line (fixed_message named.0 at end) 9 h put quiet in
-      let bound : IsBoundOf task.plan at end = subst (λ (x : Plan). IsBoundOf x at end) g.plan_is by.1.1.bound in
+      let bound : IsBoundOf task.plan at end = subst (λ (x : Plan). IsBoundOf x at end) g.plan_is by.1.1.end_is in
       whole g.account K.Fixed at g.system_is g.plan_is g.before_is g.after_is t (said.0, component.0, named.0, end, named.1, bound, said.1)
   ended (E.Bad bad) e g named p none t by = none_rose g.account.olds g.account.news none t.1
   ended E.WriteFault e g named p none t by = choose t
@@ -123,7 +123,7 @@ run_traces end e task system h named (Went g) p quiet = record {
   same = lives_same g.account.system g.account.olds g.account.news (g.lived.made ++ g.lived.log) g.lived.lives g.lived.are;
   sound = g.sound;
   writes = λ r of planned well none. ended h task system quiet r of.system_is planned end e g named p none (g.well r of planned well)
-      (subst (λ (x : RunEnd). EndsBy g.account.system g.account.plan g.lived.log g.lived.is x g.account.before g.account.after) g.end_is g.lived.text);
+      (subst (λ (x : RunEnd). EndsBy g.account.system g.account.bound g.account.plan g.lived.log g.lived.is x g.account.before g.account.after) g.end_is g.lived.text);
 }
 run_traces end e task system h named (Broke bad is f) p quiet = record {
   olds = f.olds;
@@ -169,6 +169,7 @@ trace_exact o line plan loaded h f p planned knows calm quiet (inr s) =
       system = it.loaded.system;
       same = record {
         plan_is = same_Some it.plan plan (sym it.planned ∙ planned);
+        bound_is = ap (λ (cs : List Component). record { components = map (λ (c : Component). []) cs; unreached = 0 }) (ap (λ (x : Loaded). x.system.components) same ∙ s.agree.0.0);
         folders_are = ap (λ (x : Loaded). x.folders) same ∙ s.agree.1;
         parts = (ap (λ (x : Loaded). x.system.components) same ∙ s.agree.0.0, ap (λ (x : Loaded). x.system.ports) same ∙ s.agree.0.1);
       };

@@ -16,7 +16,7 @@ use Rattle.ssprun.specs.declared.outcome.Outcome.TheVariants.{Words, Memory, Fil
 use Rattle.ssprun.specs.declared.outcome.End.{End}
 use Rattle.ssprun.specs.Happened.{Scene, Stage}
 use Rattle.ssprun.specs.Message.{CutsShort, size_text}
-use Rattle.ssprun.specs.Runs.{FailsToStart, HasRun, IsEndOf, TakesBack, Task, names_of}
+use Rattle.ssprun.specs.Runs.{FailsToStart, HasRun, IsEndOf, TakesBack, Task, names_of, unbound}
 
 -- no peer was started, and nothing was put
 abbrev pub Calm : Scene → Scene → Type 0
@@ -40,7 +40,7 @@ LoadsLine line loaded old new = Loads (search_for line) (Found loaded) old new
 
 -- what is to be run of it
 abbrev pub task_of : Plan → Loaded → Task
-task_of plan loaded = record { plan = plan; folders = loaded.folders }
+task_of plan loaded = record { plan = plan; bound = unbound loaded.system; folders = loaded.folders }
 
 -- ---- a run
 

@@ -31,7 +31,6 @@ use Rattle.calling_sequence.specs.declared.run_end.RunEnd.{RunEnd}
 use Rattle.calling_sequence.specs.declared.run_end.RunEnd.TheVariants as E
 use Rattle.calling_sequence.specs.Course.{IsBoundOf, trace_pieces}
 use Rattle.calling_sequence.specs.Puts.{CutsPiece, with_pieces}
-use Rattle.step_master.specs.System.{IsUnbound}
 use Rattle.step_master.specs.Traced.{IsRunOf}
 use Rattle.bench_fmus.specs.declared.bench.Bench.{Bench}
 use Rattle.bench_fmus.specs.Spawners.{bench_view}
@@ -48,7 +47,7 @@ use Rattle.ssprun.specs.Facts.{Calm, FailsToTell, LoadsLine, TellsSize, search_f
 use Rattle.ssprun.specs.Happened.{Happened, Scene}
 use Rattle.ssprun.specs.Peers.{AreKnown, IsFirstUnknown}
 use Rattle.ssprun.specs.Message.{CutsShort, file_message, start_message, fixed_message, bad_message, why_status}
-use Rattle.ssprun.specs.Runs.{FailsToStart, HasRun, IsUnasked, RunsPeers, Task, names_of}
+use Rattle.ssprun.specs.Runs.{FailsToStart, HasRun, IsUnasked, RunsPeers, Task, names_of, unbound}
 
 -- ---- what err holds
 
@@ -314,11 +313,12 @@ pub record Traces (h : Happened) (task : Task) (system : System) : Type 0 where
   pub peers : RunsPeers task system olds news h.old.run.spawner h.new.run.spawner
   pub same : map (λ (v : View). v.fixed) news ≡ map (λ (v : View). v.fixed) olds
   pub sound : IsSound system
-  pub writes : (r : Run) → IsRunOf system olds r → r.plan ≡ task.plan → WellBehaved r → All (λ (v : View). v.faults ≡ 0) news → WritesTrace h r
+  pub writes : (r : Run) → IsRunOf system task.bound olds r → r.plan ≡ task.plan → WellBehaved r → All (λ (v : View). v.faults ≡ 0) news → WritesTrace h r
 
--- what is run is a system with the same components and ports, in the same folders
+-- what is run is a system with the same components and ports, in the same folders, and no parameter is bound
 pub record IsRunAs (loaded : Loaded) (plan : Plan) (task : Task) (system : System) : Type 0 where
   pub plan_is : task.plan ≡ plan
+  pub bound_is : task.bound ≡ unbound loaded.system
   pub folders_are : task.folders ≡ loaded.folders
   pub parts : HaveSameParts system loaded.system
 
@@ -365,7 +365,7 @@ pub record TracesBuiltIns (h : Happened) (plan : Plan) (system : System) : Type 
   pub run : Run
   pub parts : HaveSameParts run.system system
   pub plan_is : run.plan ≡ plan
-  pub unbound : IsUnbound run.bound
+  pub bound_is : run.bound ≡ unbound system
   pub built_in : HasBuiltIns run
   pub writes : WritesTrace h run
 

@@ -5,6 +5,7 @@ use Rattle.fmi_calls.specs.Next.{fresh}
 use Rattle.fmu_peer.specs.Answer.{IsLink}
 use Rattle.fmu_peer.specs.Start.{SpawnerView, with_failure}
 use Rattle.fmu_peer.specs.View.{View}
+use Rattle.system_model.specs.declared.bound.Bound.{Bound}
 use Rattle.system_model.specs.declared.plan.Plan.{Plan}
 use Rattle.system_model.specs.declared.system.Component.{Component}
 use Rattle.system_model.specs.declared.system.System.{System}
@@ -26,9 +27,10 @@ use Rattle.ssprun.specs.Happened.{Scene}
 use Rattle.system_files.specs.Loads.{IsNamed}
 use Rattle.ssprun.specs.Peers.{AreKnown, AreStarted, with_all_retired, with_all_started}
 
--- what is to be run: a plan, and the folders in which the peers are started
+-- what is to be run: a plan, the values that parameters are bound to, and the folders in which the peers are started
 pub record Task : Type 0 where
   pub plan : Plan
+  pub bound : Bound
   pub folders : List (List ℕ)
 
 -- a system that can be run, with names and tokens within their limits
@@ -43,6 +45,10 @@ HasFolders folders system = length folders ≡ length system.components
 
 abbrev pub names_of : System → List (List ℕ)
 names_of system = map (λ (c : Component). c.name) system.components
+
+-- no parameter of a component has a value, since no binding is read
+abbrev pub unbound : System → Bound
+unbound system = record { components = map (λ (c : Component). []) system.components; unreached = 0 }
 
 -- ---- peers that weren't asked
 
@@ -91,6 +97,7 @@ pub record RunsPeers (task : Task) (system : System) (olds news : List View) (ol
 pub record Goes (task : Task) (system : System) (end : RunEnd) (old new : Scene) : Type 0 where
   pub account : Account
   pub system_is : account.system ≡ system
+  pub bound_is : account.bound ≡ task.bound
   pub plan_is : account.plan ≡ task.plan
   pub end_is : account.end ≡ end
   pub before_is : account.before ≡ old.out
@@ -99,8 +106,8 @@ pub record Goes (task : Task) (system : System) (end : RunEnd) (old new : Scene)
   pub sound : IsSound system
   pub lived : Lived account
   pub over : AreOver lived.lives
-  pub so_far : (r : Run) → IsRunOf system account.olds r → r.plan ≡ task.plan → PutsRun account r end
-  pub well : (r : Run) → IsRunOf system account.olds r → r.plan ≡ task.plan → WellBehaved r → TracesWell account r end
+  pub so_far : (r : Run) → IsRunOf system task.bound account.olds r → r.plan ≡ task.plan → PutsRun account r end
+  pub well : (r : Run) → IsRunOf system task.bound account.olds r → r.plan ≡ task.plan → WellBehaved r → TracesWell account r end
 
 -- the answer to an Instantiate isn't good, and nothing was put; each peer that isn't spared is over
 pub record Fails (task : Task) (system : System) (bad : BadAnswer) (old new : Scene) : Type 0 where
@@ -110,7 +117,7 @@ pub record Fails (task : Task) (system : System) (bad : BadAnswer) (old new : Sc
   pub sound : IsSound system
   pub unmade : Unmade system olds bad news
   pub over : AreOver unmade.lives
-  pub well : (r : Run) → IsRunOf system olds r → WellBehaved r → IsLink bad.why × SomeRose olds news
+  pub well : (r : Run) → IsRunOf system task.bound olds r → WellBehaved r → IsLink bad.why × SomeRose olds news
   pub out : new.out ≡ old.out
 
 -- a run with this end

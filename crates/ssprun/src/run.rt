@@ -1,14 +1,15 @@
-ghost use Rattle.std.specs.Prelude.{◌≡◌, ◌+◌, ◌<◌, ◌≤◌, ◌^◌, IfSome, length, map};
+ghost use Rattle.std.specs.Prelude.{[], ◌≡◌, ◌+◌, ◌<◌, ◌≤◌, ◌^◌, IfOk, IfSome, length, map};
 ghost use Rattle.command_line.specs.Line.{IsWithin, KeepsLimits, directory_of, line_of, plan_of, resolution_of, texts};
 ghost use Rattle.fmu_peer.specs.Start.{SpawnerView};
 ghost use Rattle.run_model.specs.Laws.{OneTrace};
 ghost use Rattle.sim_base.specs.Sink.{SinkView};
+ghost use Rattle.system_model.specs.Bounds.{BindsParameters};
 ghost use Rattle.system_model.specs.declared.system.System.{System};
 ghost use Rattle.ssprun.specs.Facts.{CheckFacts, Facts, LineFacts, PlanFacts, RunFacts, subject_of};
 ghost use Rattle.ssprun.specs.Happened.{happened, scene, stage};
 ghost use Rattle.ssprun.specs.Peers.{AreKnown, AreStarted, StartsUpTo, with_all_started};
 ghost use Rattle.ssprun.specs.Rows.{KeepsRows};
-ghost use Rattle.ssprun.specs.Runs.{CanRun, HasFolders, Task, names_of};
+ghost use Rattle.ssprun.specs.Runs.{CanRun, HasFolders, Task, names_of, unbound};
 
 use crate::message::write_size;
 use crate::naming::Naming;
@@ -21,11 +22,11 @@ use command_line::{CommandLine, WordsFault, read_words};
 use fmu_peer::{Spawner, StartFault};
 use run_model::one_trace;
 use sim_base::{Folder, Items, Sink, Text};
-use std::alloc::Global;
+use std::alloc::{AllocError, Global};
 use std::thread::Threads;
 use step_master::{Master, PrepareEnd, PrepareFault, RunEnd, lives_of_peers, runs_of_machines};
 use system_files::{Loaded, Subject, load};
-use system_model::{Bound, Plan, System};
+use system_model::{Bound, BoundValue, Component, Plan, System};
 
 /// Does what the words of a command line say, and answers the program's status.
 ///
@@ -154,9 +155,50 @@ fn run_loaded<R: Threads + Sync, S: Spawner, O: Sink>(
 {
     let Loaded { system, folders } = loaded;
     match plan {
-        Some(plan) => run_system(rt, alloc, plan, system, folders.as_slice(), spawner, out),
+        Some(plan) => {
+            let Ok(bound) = unbound(alloc, &system) else {
+                return Report::memory(alloc);
+            };
+            run_system(
+                rt,
+                alloc,
+                plan,
+                system,
+                bound,
+                folders.as_slice(),
+                spawner,
+                out,
+            )
+        }
         None => tell_size(alloc, &system, out),
     }
+}
+
+// No value for any parameter, since no binding is read.
+fn unbound(alloc: Global, system: &System) -> Result<Bound, AllocError>
+    ensures { IfOk result (λ bound. bound ≡ unbound system.now) }
+{
+    let components = empty_lists(alloc, system.components.as_slice())?;
+    Ok(Bound {
+        components: Items::from_vec(components),
+        unreached: 0,
+    })
+}
+
+// A list without values for each component.
+fn empty_lists(
+    alloc: Global,
+    components: &[Component],
+) -> Result<Vec<Items<BoundValue>>, AllocError>
+    ensures { IfOk result (λ lists. lists.items ≡ map (λ c. []) components.now) }
+{
+    components.iter().map(|_| no_values(alloc)).collect(alloc)
+}
+
+fn no_values(alloc: Global) -> Items<BoundValue>
+    ensures { result ≡ [] }
+{
+    Items::from_vec(Vec::new(alloc))
 }
 
 // Tells the size of a system.
@@ -174,14 +216,16 @@ fn run_system<R: Threads + Sync, S: Spawner, O: Sink>(
     alloc: Global,
     plan: Plan,
     system: System,
+    bound: Bound,
     folders: &[Text],
     spawner: &mut S,
     out: &mut O,
 ) -> Report
     requires within { IsWithin plan }
     requires runnable { CanRun system }
+    requires bound { BindsParameters system bound }
     requires folders { HasFolders folders.now system }
-    ensures { RunFacts result.outcome (record { plan = plan; folders = folders.now }) system
+    ensures { RunFacts result.outcome (record { plan = plan; bound = bound; folders = folders.now }) system
         (scene (S.view spawner.old) (O.view out.old)) (scene (S.view spawner.new) (O.view out.new)) }
 {
     let components = system.components.as_slice();
@@ -193,7 +237,7 @@ fn run_system<R: Threads + Sync, S: Spawner, O: Sink>(
     };
     match start_each(alloc, folders, components, room, spawner) {
         Ok(peers) => run_peers(
-            rt, alloc, plan, system, folders, naming, peers, spawner, out,
+            rt, alloc, plan, system, bound, folders, naming, peers, spawner, out,
         ),
         Err(unstarted) => give_up(alloc, naming, unstarted, spawner),
     }
@@ -231,6 +275,7 @@ fn run_peers<R: Threads + Sync, S: Spawner, O: Sink>(
     alloc: Global,
     plan: Plan,
     system: System,
+    bound: Bound,
     folders: &[Text],
     naming: Naming,
     peers: Vec<S::Link>,
@@ -239,19 +284,16 @@ fn run_peers<R: Threads + Sync, S: Spawner, O: Sink>(
 ) -> Report
     requires within { IsWithin plan }
     requires runnable { CanRun system }
+    requires bound { BindsParameters system bound }
     requires names { naming.names.items ≡ names_of system }
     requires each { length peers.items ≡ length system.components }
     requires started { AreStarted folders.now system.components (map S.Link.view peers.items) }
     requires fewer { length (S.view spawner.old).retired + length peers.items ≤ (S.view spawner.old).started }
     ensures { (before : SpawnerView) → AreKnown before system.components → S.view spawner.old ≡ with_all_started before (length peers.items) →
-        RunFacts result.outcome (record { plan = plan; folders = folders.now }) system (scene before (O.view out.old)) (scene (S.view spawner.new) (O.view out.new)) }
+        RunFacts result.outcome (record { plan = plan; bound = bound; folders = folders.now }) system (scene before (O.view out.old)) (scene (S.view spawner.new) (O.view out.new)) }
 {
     lives_of_peers();
     runs_of_machines();
-    let bound = Bound {
-        components: Items::from_vec(Vec::new(alloc)),
-        unreached: 0,
-    };
     match Master::prepare(alloc, system, bound, peers, plan) {
         Ok(master) => {
             let mut master = master;

@@ -13,10 +13,12 @@ use Rattle.fmi_calls.specs.Worth.{grade_of}
 use Rattle.fmu_peer.specs.declared.peer.Exchange.{Exchange}
 use Rattle.fmu_peer.specs.Answer.{IsFirstBad, IsWhy}
 use Rattle.fmu_peer.specs.Talk as T
+use Rattle.system_model.specs.declared.bound.Bound.{Bound}
 use Rattle.system_model.specs.declared.plan.Plan.{Plan}
 use Rattle.system_model.specs.declared.system.Component.{Component}
 use Rattle.system_model.specs.declared.system.Port.{Port}
 use Rattle.system_model.specs.declared.system.System.{System}
+use Rattle.system_model.specs.Bounds.{BindsParameters}
 use Rattle.system_model.specs.Ports.{numbers}
 use Rattle.system_model.specs.Text.{Instant}
 use Rattle.slot_calls.specs.declared.bad_answer.BadAnswer.{BadAnswer}
@@ -31,8 +33,9 @@ use Rattle.event_iteration.specs.Turns.{IsPaired, Rules, sent_of}
 use Rattle.event_iteration.proofs.Permits.{shape_of_component}
 use Rattle.calling_sequence.specs.declared.run_end.RunEnd.{RunEnd}
 use Rattle.calling_sequence.specs.declared.run_end.RunEnd.TheVariants as E
-use Rattle.calling_sequence.specs.Course.{AtStart, ByStep, Came, Departs, Entering, Finding, Finishes, Interrupted, IsInitialized, Leaving, Seen, StopsInitializing, entering, leaving}
+use Rattle.calling_sequence.specs.Course.{AtStart, Binding, ByStep, Came, Departs, Entering, Finding, Finishes, Interrupted, IsInitialized, Leaving, Seen, StopsInitializing, binding, entering, leaving}
 use Rattle.calling_sequence.proofs.Chains.{first_same, none_before, other, part_all, rest_same, same, skips, takes}
+use Rattle.step_master.proofs.Configured.{binding_all}
 use Rattle.step_master.proofs.Prepared.{is_within}
 
 -- the first bad answer of a log: behind it the instances up to that have no exchange
@@ -101,6 +104,16 @@ each_to_one call n i (s ∷ ss) w = All-cons (IsToOne n) (record { component = i
 
 pub to_each_to_one : (call : Shape → Call) (ss : List Shape) → All (IsToOne (length ss)) (to_each call ss)
 to_each_to_one call ss = each_to_one call (length ss) 0 ss (omega arith)
+
+-- the Sets of parameters are to components
+pub binding_to_one : (system : System) (bound : Bound) → BindsParameters system bound → All (IsToOne (length (shapes_of system))) (binding bound)
+binding_to_one system bound binds =
+    let e = length-map system.components (λ (c : Component). c.shape) in
+    λ i d w.
+    let a = binding_all system bound binds i d w in
+    let inside = is_within system.components a.place a.component a.of in
+    let at = a.at in
+    omega (arith, e, inside, at)
 
 -- so is one in their midst
 amid : (n : ℕ) (front : List Sent) (last : Sent) (back : List Sent) (left : List Asking) → All (IsToOne n) (askings (front ++ last ∷ back) ++ left) → last.component < n
@@ -206,30 +219,33 @@ EndsLog ss (E.FixedStep component at end) log = All (IsGoodOf ss) log
 EndsLog ss (E.Bad bad) log = EndsBadly ss bad log
 EndsLog ss E.WriteFault log = All (IsGoodOf ss) log ⊎ ((bad : BadAnswer) × EndsBadly ss bad log)
 
-module _ (system : System) (plan : Plan) (made : List Sent) (good : All (IsGoodOf (shapes_of system)) made) where
+pub begins_good : (system : System) (bound : Bound) (plan : Plan) (log : List Sent) → IsInitialized system bound plan log → All (IsGoodOf (shapes_of system)) log
+begins_good system bound plan log i =
+    let Good : Sent → Type 0 = IsGoodOf (shapes_of system) in
+    subst (All Good) (sym i.log_is)
+    (All-append Good i.set (i.entered ++ (i.found ++ i.left)) i.sets.good
+    (All-append Good i.entered (i.found ++ i.left) i.enters.good
+    (All-append Good i.found i.left (walk_good system (initially system) (no_values system) (numbers system.initial_order) i.values i.found i.finds) i.leaves.good)))
+
+module _ (system : System) (bound : Bound) (plan : Plan) (binds : BindsParameters system bound) (made : List Sent) (good : All (IsGoodOf (shapes_of system)) made) where
   abbrev ss : List Shape
   ss = shapes_of system
 
   on : (log a b : List Sent) → log ≡ a ++ b → All (IsGoodOf ss) a → All (IsGoodOf ss) b → All (IsGoodOf ss) log
   on log a b is x y = subst (All (IsGoodOf ss)) (sym is) (All-append (IsGoodOf ss) a b x y)
 
-  pub begins_good : (log : List Sent) → IsInitialized system plan log → All (IsGoodOf ss) log
-  begins_good log i =
-      on log i.entered (i.found ++ i.left) i.log_is i.enters.good
-      (All-append (IsGoodOf ss) i.found i.left (walk_good system (initially system) (no_values system) (numbers system.initial_order) i.values i.found i.finds) i.leaves.good)
-
-  came_good : (t : ℕ) (log : List Sent) (is : List Instant) → Came system plan t log is → All (IsGoodOf ss) log
-  came_good _ _ _ (AtStart t log is initialized at none) = begins_good log initialized
+  came_good : (t : ℕ) (log : List Sent) (is : List Instant) → Came system bound plan t log is → All (IsGoodOf ss) log
+  came_good _ _ _ (AtStart t log is initialized at none) = begins_good system bound plan log initialized
   came_good _ _ _ (ByStep t log is from values before reads sets steps js came read step set stepped asks log_is is_is) =
       on log before (reads ++ (sets ++ steps)) log_is (came_good from before js came)
       (All-append (IsGoodOf ss) reads (sets ++ steps) (walk_good system at_point read.before (numbers system.instant_order) values reads read.explains)
       (All-append (IsGoodOf ss) sets steps (walk_good system (before_step values) values (port_order system) values sets set) stepped.good))
 
-  seen_good : (t : ℕ) (log : List Sent) (is : List Instant) → Seen system plan t log is → All (IsGoodOf ss) log
+  seen_good : (t : ℕ) (log : List Sent) (is : List Instant) → Seen system bound plan t log is → All (IsGoodOf ss) log
   seen_good t log is s =
       on log s.before s.reads s.log_is (came_good t s.before s.earlier s.came) (walk_good system at_point s.read.before (numbers system.instant_order) s.values s.reads s.read.explains)
 
-  departs_good : (t to : ℕ) (log : List Sent) (is : List Instant) → Departs system plan t to log is → All (IsGoodOf ss) log
+  departs_good : (t to : ℕ) (log : List Sent) (is : List Instant) → Departs system bound plan t to log is → All (IsGoodOf ss) log
   departs_good t to log is s =
       on log s.before s.sets s.log_is (seen_good t s.before is s.seen) (walk_good system (before_step s.seen.values) s.seen.values (port_order system) s.seen.values s.sets s.set)
 
@@ -240,17 +256,22 @@ module _ (system : System) (plan : Plan) (made : List Sent) (good : All (IsGoodO
   deeper : (bad : BadAnswer) (log before more : List Sent) → log ≡ before ++ more → EndsBadly ss bad ((made ++ before) ++ more) → EndsBadly ss bad (made ++ log)
   deeper bad log before more is b = subst (EndsBadly ss bad) (append_assoc made before more ∙ ap (λ (l : List Sent). made ++ l) (sym is)) b
 
-  initializing_log : (bad : BadAnswer) (log : List Sent) → StopsInitializing system plan bad log → EndsBadly ss bad (made ++ log)
-  initializing_log bad log (Entering stops) = stops_badly ss bad made log good (entering system plan) (to_each_to_one _ ss) stops
-  initializing_log bad log (Finding entered found values enters finds log_is) =
-      deeper bad log entered found log_is (walk_badly system (initially system) (no_values system) (numbers system.initial_order) bad values found (made ++ entered) (behind_made entered enters.good) finds)
-  initializing_log bad log (Leaving entered found left values enters finds stops log_is) =
-      deeper bad log (entered ++ found) left (log_is ∙ sym (append_assoc entered found left))
-      (stops_badly ss bad (made ++ (entered ++ found)) left
-      (behind_made (entered ++ found) (All-append (IsGoodOf ss) entered found enters.good (walk_good system (initially system) (no_values system) (numbers system.initial_order) values found finds)))
+  initializing_log : (bad : BadAnswer) (log : List Sent) → StopsInitializing system bound plan bad log → EndsBadly ss bad (made ++ log)
+  initializing_log bad log (Binding stops) = stops_badly ss bad made log good (binding bound) (binding_to_one system bound binds) stops
+  initializing_log bad log (Entering set entered sets stops log_is) =
+      deeper bad log set entered log_is (stops_badly ss bad (made ++ set) entered (behind_made set sets.good) (entering system plan) (to_each_to_one _ ss) stops)
+  initializing_log bad log (Finding set entered found values sets enters finds log_is) =
+      deeper bad log (set ++ entered) found (log_is ∙ sym (append_assoc set entered found))
+      (walk_badly system (initially system) (no_values system) (numbers system.initial_order) bad values found (made ++ (set ++ entered))
+      (behind_made (set ++ entered) (All-append (IsGoodOf ss) set entered sets.good enters.good)) finds)
+  initializing_log bad log (Leaving set entered found left values sets enters finds stops log_is) =
+      deeper bad log (set ++ (entered ++ found)) left (log_is ∙ ap (λ (l : List Sent). set ++ l) (sym (append_assoc entered found left)) ∙ sym (append_assoc set (entered ++ found) left))
+      (stops_badly ss bad (made ++ (set ++ (entered ++ found))) left
+      (behind_made (set ++ (entered ++ found)) (All-append (IsGoodOf ss) set (entered ++ found) sets.good
+      (All-append (IsGoodOf ss) entered found enters.good (walk_good system (initially system) (no_values system) (numbers system.initial_order) values found finds))))
       (leaving system) (to_each_to_one _ ss) stops)
 
-  pub finishes_log : (end : RunEnd) (point : ℕ) (log : List Sent) (is : List Instant) → Finishes system plan end point log is → EndsLog ss end (made ++ log)
+  pub finishes_log : (end : RunEnd) (point : ℕ) (log : List Sent) (is : List Instant) → Finishes system bound plan end point log is → EndsLog ss end (made ++ log)
   finishes_log E.Stop point log is f = behind_made log (seen_good plan.stop log is f.1)
   finishes_log (E.Asked at) point log is f = let w = f.1 in behind_made log (on log w.before w.steps w.log_is (departs_good w.from at w.before is w.departs) w.answered.good)
   finishes_log (E.EventLimit at) point log is f = absurd f
@@ -275,7 +296,7 @@ module _ (system : System) (plan : Plan) (made : List Sent) (good : All (IsGoodO
   put_log (E.Bad bad) log e = inr (bad, e)
   put_log E.WriteFault log e = e
 
-  pub interrupted_log : (log : List Sent) (is : List Instant) (pieces : List (List ℕ)) (piece : List ℕ) → Interrupted system plan log is pieces piece → EndsLog ss E.WriteFault (made ++ log)
+  pub interrupted_log : (log : List Sent) (is : List Instant) (pieces : List (List ℕ)) (piece : List ℕ) → Interrupted system bound plan log is pieces piece → EndsLog ss E.WriteFault (made ++ log)
   interrupted_log log is pieces piece (inl h) = inl (behind_made log (subst (All (IsGoodOf ss)) (sym h.log_is) (All-nil (IsGoodOf ss))))
   interrupted_log log is pieces piece (inr (inl i)) = inl (behind_made log (seen_good i.t log (is ++ i.i ∷ []) i.seen))
   interrupted_log log is pieces piece (inr (inr e)) = put_log e.end (made ++ log) (finishes_log e.end e.point log is e.finishes)

@@ -22,10 +22,10 @@ use Rattle.event_iteration.proofs.Finding as F
 use Rattle.calling_sequence.specs.Course.{Finds, IsInitialized, entering}
 use Rattle.calling_sequence.specs.Systems.{IsBuilt}
 use Rattle.step_master.specs.Master.{making}
-use Rattle.step_master.specs.System.{IsUnbound}
 use Rattle.step_master.proofs.Badly.{walk_good}
+use Rattle.step_master.proofs.Configured.{configured_states}
 use Rattle.step_master.proofs.Looking.{replies_first, replies_then, stage_states, states_on}
-use Rattle.step_master.proofs.Quiet.{AreNever, beginning_never, initializing_all, initializing_is}
+use Rattle.step_master.proofs.Quiet.{AreNever, beginning_never, initializing_all}
 use Rattle.step_master.proofs.SideBySide.{AreAll, all_on, each_same}
 use Rattle.step_master.proofs.WalksBack.{finding_back}
 
@@ -44,15 +44,14 @@ pub record Begins (r : Run) (log : List Sent) : Type 0 where
   pub solves : SolvesInitially r W
   pub here : IsHere r r.plan.start (states_by r (I.instantiated r) log) (I.beginning r W)
 
-module _ (r : Run) (sound : IsSound r.system) (built : IsBuilt r.system) (unbound : IsUnbound r.bound) (machines : AreMachines r) where
+module _ (r : Run) (sound : IsSound r.system) (built : IsBuilt r.system) (machines : AreMachines r) where
   -- each was made
   pub made_states : (made : List Sent) → IsAnswered (shapes_of r.system) (making r.system) made → AreReplies r (I.first_states r) made → states_by r (I.first_states r) made ≡ I.instantiated r
   made_states made answered replies = stage_states r (I.first_states r) instantiate_of made answered replies
 
   -- each entered Initialization Mode
-  pub entered_states : (entered : List Sent) → IsAnswered (shapes_of r.system) (entering r.system r.plan) entered → AreReplies r (I.instantiated r) entered → states_by r (I.instantiated r) entered ≡ I.initializing r
-  entered_states entered answered replies =
-      stage_states r (I.instantiated r) (λ (shape : Shape). C.EnterInitialization r.plan.start r.plan.stop) entered answered replies ∙ sym (initializing_is r sound built unbound machines.count)
+  pub entered_states : (entered : List Sent) → IsAnswered (shapes_of r.system) (entering r.system r.plan) entered → AreReplies r (I.configured r) entered → states_by r (I.configured r) entered ≡ I.initializing r
+  entered_states entered answered replies = stage_states r (I.configured r) (λ (shape : Shape). C.EnterInitialization r.plan.start r.plan.stop) entered answered replies
 
   -- the inputs were set to the solution's values
   pub found_states : (W : List (Option ℤ)) → SolvesInitially r W → (values : List (Option ℤ)) (found : List Sent) → Finds r.system values found → AreReplies r (I.initializing r) found → states_by r (I.initializing r) found ≡ I.initialized r W
@@ -68,24 +67,28 @@ module _ (r : Run) (sound : IsSound r.system) (built : IsBuilt r.system) (unboun
     first = refl;
     never = beginning_never r sound built W;
     states = refl;
-    all = all_on r (I.initialized r W) (all_on r (I.initializing r) (initializing_all r sound built unbound machines.count) _) _;
+    all = all_on r (I.initialized r W) (all_on r (I.initializing r) (initializing_all r sound built machines.count) _) _;
     reached = B.AtFirst (I.beginning r W) W solves refl;
   }
 
   -- there the run begins
-  pub begins_here : (log : List Sent) → IsInitialized r.system r.plan log → AreReplies r (I.instantiated r) log → Begins r log
+  pub begins_here : (log : List Sent) → IsInitialized r.system r.bound r.plan log → AreReplies r (I.instantiated r) log → Begins r log
   begins_here log i replies =
       let rest : List Sent = i.found ++ i.left in
+      let behind_sets : List Sent = i.entered ++ rest in
       let whole = subst (AreReplies r (I.instantiated r)) i.log_is replies in
-      let entered = entered_states i.entered i.enters (replies_first r (I.instantiated r) i.entered rest whole) in
-      let inside : AreReplies r (I.initializing r) rest = subst (λ (ss : List MachineState). AreReplies r ss rest) entered (replies_then r (I.instantiated r) i.entered rest i.enters.good whole) in
+      let configured = configured_states r i.set i.sets in
+      let ready : AreReplies r (I.configured r) behind_sets = subst (λ (ss : List MachineState). AreReplies r ss behind_sets) configured (replies_then r (I.instantiated r) i.set behind_sets i.sets.good whole) in
+      let entered = entered_states i.entered i.enters (replies_first r (I.configured r) i.entered rest ready) in
+      let inside : AreReplies r (I.initializing r) rest = subst (λ (ss : List MachineState). AreReplies r ss rest) entered (replies_then r (I.configured r) i.entered rest i.enters.good ready) in
       let W = solvable_initially r sound machines in
       let found = found_states W.0 W.1 i.values i.found i.finds (replies_first r (I.initializing r) i.found i.left inside) in
       let good = walk_good r.system (initially r.system) (no_values r.system) (numbers r.system.initial_order) i.values i.found i.finds in
       let behind : AreReplies r (I.initialized r W.0) i.left = subst (λ (ss : List MachineState). AreReplies r ss i.left) found (replies_then r (I.initializing r) i.found i.left good inside) in
       let left = stage_states r (I.initialized r W.0) (λ (shape : Shape). C.ExitInitialization) i.left i.leaves behind in
       let all : states_by r (I.instantiated r) log ≡ (I.beginning r W.0).states =
-      ap (states_by r (I.instantiated r)) i.log_is ∙ states_on r (I.instantiated r) i.entered rest ∙ ap (λ (ss : List MachineState). states_by r ss rest) entered
+      ap (states_by r (I.instantiated r)) i.log_is ∙ states_on r (I.instantiated r) i.set behind_sets ∙ ap (λ (ss : List MachineState). states_by r ss behind_sets) configured
+      ∙ states_on r (I.configured r) i.entered rest ∙ ap (λ (ss : List MachineState). states_by r ss rest) entered
       ∙ states_on r (I.initializing r) i.found i.left ∙ ap (λ (ss : List MachineState). states_by r ss i.left) found ∙ left in
       record {
         W = W.0;

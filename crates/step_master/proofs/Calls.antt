@@ -50,11 +50,11 @@ own_all P k (a ∷ xs) all =
 
 -- ---- one call to each
 
-takes_call : (b : Bool) (c : Call) (cs : List Call) → b ≡ true → (if b then c ∷ cs else cs) ≡ c ∷ cs
+pub takes_call : (b : Bool) (c : Call) (cs : List Call) → b ≡ true → (if b then c ∷ cs else cs) ≡ c ∷ cs
 takes_call true c cs h = refl
 takes_call false c cs h = absurd (cc)
 
-skips_call : (b : Bool) (c : Call) (cs : List Call) → b ≡ false → (if b then c ∷ cs else cs) ≡ cs
+pub skips_call : (b : Bool) (c : Call) (cs : List Call) → b ≡ false → (if b then c ∷ cs else cs) ≡ cs
 skips_call true c cs h = absurd (cc)
 skips_call false c cs h = refl
 

@@ -33,7 +33,6 @@ use Rattle.calling_sequence.specs.Course as Co
 use Rattle.calling_sequence.specs.Course.{AtStart, ByStep, Came, Seen, instant_at, stepping}
 use Rattle.calling_sequence.specs.Systems.{IsBuilt}
 use Rattle.calling_sequence.proofs.Chains.{part_all}
-use Rattle.step_master.specs.System.{IsUnbound}
 use Rattle.step_master.specs.Traced.{CameTo, AtFirst, IsFront, Onward, Behind}
 use Rattle.step_master.proofs.Badly.{begins_good, walk_good}
 use Rattle.step_master.proofs.Begun.{IsHere, begins_here}
@@ -181,35 +180,34 @@ module _ (r : Run) (sound : IsSound r.system) (built : IsBuilt r.system) (machin
       (traced_on r kind end x.s x.earlier (instant_of x.s values ∷ []) x.came
       (Last x.s values (instant_of x.s values ∷ []) kind end x.solves (leads_here r sound built t (states_by r first log) x.s x.here values x.solves (Ends kind end) d) refl))
 
-  module _ (unbound : IsUnbound r.bound) where
-    pub reaches : (t : ℕ) (log : List Sent) (is : List Instant) → Came r.system r.plan t log is → AreReplies r first log → Reaches r t log is
-    reaches _ _ _ (AtStart t log is initialized at none) replies =
-        let b = begins_here r sound built unbound machines log initialized replies in record {
-          s = I.beginning r b.W;
-          came = AtFirst (I.beginning r b.W) is b.W b.solves refl none;
-          good = begins_good r.system r.plan [] (All-nil (IsGoodOf (shapes_of r.system))) log initialized;
-          here = subst (λ (n : ℕ). IsHere r n (states_by r first log) (I.beginning r b.W)) (sym at) b.here;
-        }
-    reaches _ _ _ (ByStep t log is from values before reads more steps js came read step set answered asks log_is is_is) replies =
-        let whole : log ≡ ((before ++ reads) ++ more) ++ steps = log_is ∙ sym (append_assoc before reads (more ++ steps)) ∙ sym (append_assoc (before ++ reads) more steps) in
-        let all = subst (AreReplies r first) whole replies in
-        let ready = replies_first r first ((before ++ reads) ++ more) steps all in
-        let front = replies_first r first (before ++ reads) more ready in
-        let old = reaches from before js came (replies_first r first before reads front) in
-        let x = sees from before reads js values old read front in
-        let y = sets from (before ++ reads) more (js ++ instant_at from values ∷ []) values x set in
-        let z = steps_on from t ((before ++ reads) ++ more) steps (js ++ instant_at from values ∷ []) values y step answered all asks in
-        subst (λ (l : List Sent). Reaches r t l is) (sym whole) (subst (Reaches r t (((before ++ reads) ++ more) ++ steps)) (sym is_is) z)
+  pub reaches : (t : ℕ) (log : List Sent) (is : List Instant) → Came r.system r.bound r.plan t log is → AreReplies r first log → Reaches r t log is
+  reaches _ _ _ (AtStart t log is initialized at none) replies =
+      let b = begins_here r sound built machines log initialized replies in record {
+        s = I.beginning r b.W;
+        came = AtFirst (I.beginning r b.W) is b.W b.solves refl none;
+        good = begins_good r.system r.bound r.plan log initialized;
+        here = subst (λ (n : ℕ). IsHere r n (states_by r first log) (I.beginning r b.W)) (sym at) b.here;
+      }
+  reaches _ _ _ (ByStep t log is from values before reads more steps js came read step set answered asks log_is is_is) replies =
+      let whole : log ≡ ((before ++ reads) ++ more) ++ steps = log_is ∙ sym (append_assoc before reads (more ++ steps)) ∙ sym (append_assoc (before ++ reads) more steps) in
+      let all = subst (AreReplies r first) whole replies in
+      let ready = replies_first r first ((before ++ reads) ++ more) steps all in
+      let front = replies_first r first (before ++ reads) more ready in
+      let old = reaches from before js came (replies_first r first before reads front) in
+      let x = sees from before reads js values old read front in
+      let y = sets from (before ++ reads) more (js ++ instant_at from values ∷ []) values x set in
+      let z = steps_on from t ((before ++ reads) ++ more) steps (js ++ instant_at from values ∷ []) values y step answered all asks in
+      subst (λ (l : List Sent). Reaches r t l is) (sym whole) (subst (Reaches r t (((before ++ reads) ++ more) ++ steps)) (sym is_is) z)
 
-    pub sees_all : (t : ℕ) (log : List Sent) (is : List Instant) (seen : Seen r.system r.plan t log is) → AreReplies r first log → Sees r t log is seen.values
-    sees_all t log is seen replies =
-        let all = subst (AreReplies r first) seen.log_is replies in
-        let old = reaches t seen.before seen.earlier seen.came (replies_first r first seen.before seen.reads all) in
-        let x = sees t seen.before seen.reads seen.earlier seen.values old seen.read all in
-        subst (λ (l : List Sent). Sees r t l is seen.values) (sym seen.log_is) (subst (λ (xs : List Instant). Sees r t (seen.before ++ seen.reads) xs seen.values) (sym seen.is_is) x)
+  pub sees_all : (t : ℕ) (log : List Sent) (is : List Instant) (seen : Seen r.system r.bound r.plan t log is) → AreReplies r first log → Sees r t log is seen.values
+  sees_all t log is seen replies =
+      let all = subst (AreReplies r first) seen.log_is replies in
+      let old = reaches t seen.before seen.earlier seen.came (replies_first r first seen.before seen.reads all) in
+      let x = sees t seen.before seen.reads seen.earlier seen.values old seen.read all in
+      subst (λ (l : List Sent). Sees r t l is seen.values) (sym seen.log_is) (subst (λ (xs : List Instant). Sees r t (seen.before ++ seen.reads) xs seen.values) (sym seen.is_is) x)
 
-    pub sets_all : (t to : ℕ) (log : List Sent) (is : List Instant) (d : Co.Departs r.system r.plan t to log is) → AreReplies r first log → Sets r t log is d.seen.values
-    sets_all t to log is d replies =
-        let all = subst (AreReplies r first) d.log_is replies in
-        let x = sees_all t d.before is d.seen (replies_first r first d.before d.sets all) in
-        subst (λ (l : List Sent). Sets r t l is d.seen.values) (sym d.log_is) (sets t d.before d.sets is d.seen.values x d.set)
+  pub sets_all : (t to : ℕ) (log : List Sent) (is : List Instant) (d : Co.Departs r.system r.bound r.plan t to log is) → AreReplies r first log → Sets r t log is d.seen.values
+  sets_all t to log is d replies =
+      let all = subst (AreReplies r first) d.log_is replies in
+      let x = sees_all t d.before is d.seen (replies_first r first d.before d.sets all) in
+      subst (λ (l : List Sent). Sets r t l is d.seen.values) (sym d.log_is) (sets t d.before d.sets is d.seen.values x d.set)

@@ -2,6 +2,7 @@ mod Along
 mod Badly
 mod Begun
 mod Calls
+mod Configured
 mod Existing
 mod Followed
 mod Leaving

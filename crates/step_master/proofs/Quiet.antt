@@ -1,6 +1,6 @@
 -- Runs of systems without event mode: no Clock ticks, each point has one instant, and before a step the inputs are set.
-use Rattle.std.proofs.Common.{◌≡◌, ℕ, zero, suc, ℤ, Bool, true, false, List, [], ◌∷◌, Option, Some, None, refl, sym, ap, ap₂, ◌∙◌, subst, arith, length}
-use Rattle.std.specs.Prelude.{All, ◌||◌, ◌&&◌, if◌then◌else◌, option_map, slice_index_or}
+use Rattle.std.proofs.Common.{◌≡◌, ℕ, zero, suc, ℤ, Bool, true, false, List, [], ◌∷◌, Option, Some, None, refl, sym, ap, ap₂, ◌∙◌, subst, length}
+use Rattle.std.specs.Prelude.{◌||◌, ◌&&◌, if◌then◌else◌, option_map}
 use Rattle.std.specs.List.{list_any, slice_get}
 use Rattle.std.proofs.lemmas.List.{get_or_default, length-map}
 use Rattle.std.proofs.lemmas.List.Folds.{list_any_none}
@@ -10,7 +10,6 @@ use Rattle.fmi_calls.specs.declared.call.Reply.{Reply}
 use Rattle.fmu_peer.specs.Machine.{Machine, MachineState, after}
 use Rattle.fmu_peer.specs.Mode.{instantiate_of}
 use Rattle.system_model.specs.declared.plan.Plan.{Plan}
-use Rattle.system_model.specs.declared.bound.BoundValue.{BoundValue}
 use Rattle.system_model.specs.declared.system.Component.{Component}
 use Rattle.system_model.specs.declared.system.Port.{Port}
 use Rattle.system_model.specs.declared.system.Role.{Role}
@@ -28,7 +27,6 @@ use Rattle.run_model.specs.Steps.{AtTick, IsBound, IsMark, OnGrid, OnStop, SomeT
 use Rattle.run_model.specs.Timers.{TicksAt, is_armed_for}
 use Rattle.event_iteration.proofs.AtPoint.{no_clock}
 use Rattle.calling_sequence.specs.Systems.{IsBuilt}
-use Rattle.step_master.specs.System.{IsUnbound}
 use Rattle.step_master.proofs.Prepared.{get_here, got}
 use Rattle.step_master.proofs.SideBySide.{AreAll, all_on, each_same, each_stays, none_of}
 
@@ -93,27 +91,18 @@ module _ (r : Run) (sound : IsSound r.system) (built : IsBuilt r.system) where
 
   -- ---- the beginning
 
-  module _ (unbound : IsUnbound r.bound) (machines : length r.machines ≡ length r.system.components) where
+  module _ (machines : length r.machines ≡ length r.system.components) where
     pub first_all : AreAll r (I.first_states r)
     first_all = record { machines = machines; states = length-map r.machines (λ (m : Machine). m.first) ∙ machines }
 
     pub made_all : AreAll r (I.instantiated r)
     made_all = all_on r (I.first_states r) first_all (λ i c m s. after m s (instantiate_of c.shape))
 
-    none_bound : (values : List (List BoundValue)) (i : ℕ) → All (λ (vs : List BoundValue). vs ≡ []) values → slice_index_or values i [] ≡ []
-    none_bound [] i all = refl
-    none_bound (vs ∷ values) zero all = all 0 [] (omega arith)
-    none_bound (vs ∷ values) (suc i) all = none_bound values i (λ k d w. all (suc k) d (omega (arith, w)))
-
-    -- no parameter is set
-    pub configured_is : I.configured r ≡ I.instantiated r
-    configured_is = each_stays r (I.instantiated r) made_all (λ i c m s. I.with_bound m (I.bound_values r i) s) (λ i c m s fmu. ap (λ vs. I.with_bound m vs s) (none_bound r.bound.components i unbound))
-
-    pub initializing_is : I.initializing r ≡ each r (I.instantiated r) (λ i c m s. after m s (I.enter_initialization r))
-    initializing_is = ap (λ ss. each r ss (λ i c m s. after m s (I.enter_initialization r))) configured_is
+    pub configured_all : AreAll r (I.configured r)
+    configured_all = all_on r (I.instantiated r) made_all (λ i c m s. I.with_bound m (I.bound_values r i) s)
 
     pub initializing_all : AreAll r (I.initializing r)
-    initializing_all = subst (AreAll r) (sym initializing_is) (all_on r (I.instantiated r) made_all (λ i c m s. after m s (I.enter_initialization r)))
+    initializing_all = all_on r (I.configured r) configured_all (λ i c m s. after m s (I.enter_initialization r))
 
   -- ---- no Clock
 

@@ -7,6 +7,7 @@ use Rattle.std.proofs.lemmas.Option.{same_Some, slice_get-map}
 use Rattle.fmu_peer.specs.Machine.{Machine, MachineState}
 use Rattle.fmu_peer.specs.View.{View}
 use Rattle.system_model.specs.declared.plan.EndKind.TheVariants as K
+use Rattle.system_model.specs.declared.bound.Bound.{Bound}
 use Rattle.system_model.specs.declared.plan.Plan.{Plan}
 use Rattle.system_model.specs.declared.system.Component.{Component}
 use Rattle.system_model.specs.declared.system.System.{System}
@@ -29,7 +30,7 @@ use Rattle.step_master.specs.Lives.{AreLives, IsLife, Life}
 use Rattle.slot_calls.specs.Log.{Sent}
 use Rattle.calling_sequence.specs.Puts.{CutsPiece, with_pieces}
 use Rattle.calling_sequence.specs.Systems.{IsBuilt}
-use Rattle.step_master.specs.System.{IsUnbound, TellTheirs}
+use Rattle.step_master.specs.System.{TellTheirs}
 use Rattle.step_master.specs.Traced.{AtFirst, Before, CameTo, CutsFront, IsFront, PutsRun, PutsTrace, TellMachines, ToldRun}
 use Rattle.step_master.proofs.Begun.{made_states}
 use Rattle.step_master.proofs.Followed.{front_seen, reaches, sees_all, sets_all, steps_end, trace_seen}
@@ -92,7 +93,7 @@ replies_of r olds news log lives are tell i c m s fmu =
 
 -- ---- the end
 
-module _ (r : Run) (sound : IsSound r.system) (built : IsBuilt r.system) (machines : AreMachines r) (unbound : IsUnbound r.bound) where
+module _ (r : Run) (sound : IsSound r.system) (built : IsBuilt r.system) (machines : AreMachines r) where
   abbrev first : List MachineState
   first = I.instantiated r
 
@@ -100,59 +101,59 @@ module _ (r : Run) (sound : IsSound r.system) (built : IsBuilt r.system) (machin
   pub front_none : IsFront r []
   front_none = let W = solvable_initially r sound machines in Before (I.beginning r W.0) (AtFirst (I.beginning r W.0) [] W.0 W.1 refl refl)
 
-  seen_front : (t : ℕ) (log : List Sent) (is : List Instant) → Seen r.system r.plan t log is → AreReplies r first log → IsFront r is
-  seen_front t log is seen replies = front_seen r sound built machines t log is seen.values (sees_all r sound built machines unbound t log is seen replies)
+  seen_front : (t : ℕ) (log : List Sent) (is : List Instant) → Seen r.system r.bound r.plan t log is → AreReplies r first log → IsFront r is
+  seen_front t log is seen replies = front_seen r sound built machines t log is seen.values (sees_all r sound built machines t log is seen replies)
 
   -- in front of the last calls
   front_replies : (log before more : List Sent) → log ≡ before ++ more → AreReplies r first log → AreReplies r first before
   front_replies log before more is replies = replies_first r first before more (subst (AreReplies r first) is replies)
 
-  departs_front : (t to : ℕ) (log : List Sent) (is : List Instant) → Departs r.system r.plan t to log is → AreReplies r first log → IsFront r is
+  departs_front : (t to : ℕ) (log : List Sent) (is : List Instant) → Departs r.system r.bound r.plan t to log is → AreReplies r first log → IsFront r is
   departs_front t to log is d replies = seen_front t d.before is d.seen (front_replies log d.before d.sets d.log_is replies)
 
   -- the instants so far are a front of the run
-  pub finish_front : (end : RunEnd) (point : ℕ) (log : List Sent) (is : List Instant) → Finishes r.system r.plan end point log is → AreReplies r first log → IsFront r is
+  pub finish_front : (end : RunEnd) (point : ℕ) (log : List Sent) (is : List Instant) → Finishes r.system r.bound r.plan end point log is → AreReplies r first log → IsFront r is
   finish_front E.Stop point log is f replies = seen_front r.plan.stop log is f.1 replies
   finish_front (E.Asked at) point log is f replies = let w = f.1 in departs_front w.from at w.before is w.departs (front_replies log w.before w.steps w.log_is replies)
   finish_front (E.EventLimit at) point log is f replies = absurd f
   finish_front (E.FixedStep component at end) point log is f replies = seen_front at log is f.1.seen replies
   finish_front (E.Bad bad) point log is (inl w) replies = subst (IsFront r) (sym w.is_is) front_none
   finish_front (E.Bad bad) point log is (inr (inl w)) replies =
-      let x = reaches r sound built machines unbound point w.before is w.came (front_replies log w.before w.reads w.log_is replies) in Before x.s x.came
+      let x = reaches r sound built machines point w.before is w.came (front_replies log w.before w.reads w.log_is replies) in Before x.s x.came
   finish_front (E.Bad bad) point log is (inr (inr (inl w))) replies = seen_front point w.before is w.seen (front_replies log w.before w.sets w.log_is replies)
   finish_front (E.Bad bad) point log is (inr (inr (inr w))) replies = departs_front point w.to w.before is w.departs (front_replies log w.before w.steps w.log_is replies)
   finish_front E.WriteFault point log is f replies = absurd f
 
   -- at the stop
-  pub stop_trace : (log : List Sent) (is : List Instant) → Seen r.system r.plan r.plan.stop log is → AreReplies r first log → IsTrace r is K.Stop r.plan.stop
+  pub stop_trace : (log : List Sent) (is : List Instant) → Seen r.system r.bound r.plan r.plan.stop log is → AreReplies r first log → IsTrace r is K.Stop r.plan.stop
   stop_trace log is seen replies =
-      let x = sees_all r sound built machines unbound r.plan.stop log is seen replies in
+      let x = sees_all r sound built machines r.plan.stop log is seen replies in
       trace_seen r sound built machines r.plan.stop log is seen.values x K.Stop r.plan.stop (P.AtStop (Ends K.Stop r.plan.stop) x.here.point (ap (Ends K.Stop) (sym x.here.point)))
 
   -- where an answer asked for it
-  pub asked_trace : (point : ℕ) (log : List Sent) (is : List Instant) → WhereAsked r.system r.plan point log is → AreReplies r first log → IsTrace r is K.Asked point
+  pub asked_trace : (point : ℕ) (log : List Sent) (is : List Instant) → WhereAsked r.system r.bound r.plan point log is → AreReplies r first log → IsTrace r is K.Asked point
   asked_trace point log is w replies =
       let on = subst (AreReplies r first) w.log_is replies in
-      let x = sets_all r sound built machines unbound w.from point w.before is w.departs (replies_first r first w.before w.steps on) in
+      let x = sets_all r sound built machines w.from point w.before is w.departs (replies_first r first w.before w.steps on) in
       trace_seen r sound built machines w.from x.before is w.departs.seen.values x.seen K.Asked point
       (steps_end r sound built machines w.from point w.before w.steps is w.departs.seen.values x w.departs.step w.answered on w.asks)
 
   -- where a component takes no such step
-  pub fixed_trace : (component at end : ℕ) (log : List Sent) (is : List Instant) → WhereFixed r.system r.plan component at end log is → AreReplies r first log → IsTrace r is K.Fixed at
+  pub fixed_trace : (component at end : ℕ) (log : List Sent) (is : List Instant) → WhereFixed r.system r.bound r.plan component at end log is → AreReplies r first log → IsTrace r is K.Fixed at
   fixed_trace component at end log is w replies =
-      let x = sees_all r sound built machines unbound at log is w.seen replies in
+      let x = sees_all r sound built machines at log is w.seen replies in
       trace_seen r sound built machines at log is w.seen.values x K.Fixed at
-      (P.WhereFixed (Ends K.Fixed at) component end (lacks_here r sound built at (states_by r first log) x.s x.here w.seen.values x.solves end component w.bound w.unfit) (ap (Ends K.Fixed) (sym x.here.point)))
+      (P.WhereFixed (Ends K.Fixed at) component end (lacks_here r sound built at (states_by r first log) x.s x.here w.seen.values x.solves end component w.end_is w.unfit) (ap (Ends K.Fixed) (sym x.here.point)))
 
 -- ---- the law
 
--- an account of a run of this system and plan
-abbrev account : System → Plan → Account → Account
-account system plan a = record a { system = system; plan = plan }
+-- an account of a run of this system by this plan, with these values of the parameters
+abbrev account : System → Bound → Plan → Account → Account
+account system bound plan a = record a { system = system; bound = bound; plan = plan }
 
-module _ (r : Run) (b : Account) (sound : IsSound r.system) (built : IsBuilt r.system) (unbound : IsUnbound r.bound) (tell : TellMachines b.olds r.machines) (lived : Lived (account r.system r.plan b)) where
+module _ (r : Run) (b : Account) (sound : IsSound r.system) (built : IsBuilt r.system) (tell : TellMachines b.olds r.machines) (lived : Lived (account r.system r.bound r.plan b)) where
   abbrev a : Account
-  a = account r.system r.plan b
+  a = account r.system r.bound r.plan b
 
   machines : AreMachines r
   machines = are_machines r b.olds b.news (lived.made ++ lived.log) lived.lives lived.are tell lived.machines
@@ -163,11 +164,11 @@ module _ (r : Run) (b : Account) (sound : IsSound r.system) (built : IsBuilt r.s
   -- behind what was made
   pub replies : AreReplies r (I.instantiated r) lived.log
   replies = subst (λ (ss : List MachineState). AreReplies r ss lived.log)
-      (made_states r sound built unbound machines lived.made lived.making (replies_first r (I.first_states r) lived.made lived.log all_replies))
+      (made_states r sound built machines lived.made lived.making (replies_first r (I.first_states r) lived.made lived.log all_replies))
       (replies_then r (I.first_states r) lived.made lived.log lived.making.good all_replies)
 
   abbrev Text : RunEnd → Type 0
-  Text end = PutsWhole r.system r.plan lived.log lived.is end b.before b.after
+  Text end = PutsWhole r.system r.bound r.plan lived.log lived.is end b.before b.after
 
   puts_trace : (end : RunEnd) (point at : ℕ) → b.after ≡ with_pieces b.before (trace_pieces r.system r.plan lived.is (kind_of_end end) point) → point ≡ at → IsTrace r lived.is (kind_of_end end) at → PutsTrace a r (kind_of_end end) at
   puts_trace end point at put same trace = record {
@@ -176,16 +177,16 @@ module _ (r : Run) (b : Account) (sound : IsSound r.system) (built : IsBuilt r.s
     text = record { counted = lived.counted; put = put ∙ ap (λ (n : ℕ). with_pieces b.before (trace_pieces r.system r.plan lived.is (kind_of_end end) n)) same };
   }
 
-  cut_front : (pieces : List (List ℕ)) (piece : List ℕ) → CutsPiece (with_pieces b.before pieces) piece b.after → Interrupted r.system r.plan lived.log lived.is pieces piece → CutsFront a r
+  cut_front : (pieces : List (List ℕ)) (piece : List ℕ) → CutsPiece (with_pieces b.before pieces) piece b.after → Interrupted r.system r.bound r.plan lived.log lived.is pieces piece → CutsFront a r
   cut_front pieces piece cut (inl h) = record {
     is = lived.is;
-    front = subst (IsFront r) (sym h.is_is) (front_none r sound built machines unbound);
+    front = subst (IsFront r) (sym h.is_is) (front_none r sound built machines);
     counted = lived.counted;
     cut = inl (subst (λ (p : List ℕ). CutsPiece b.before p b.after) h.piece_is (subst (λ (ps : List (List ℕ)). CutsPiece (with_pieces b.before ps) piece b.after) h.pieces_are cut));
   }
   cut_front pieces piece cut (inr (inl i)) =
-      let all = seen_front r sound built machines unbound i.t lived.log (lived.is ++ i.i ∷ []) i.seen replies in
-      let old = reaches r sound built machines unbound i.t i.seen.before i.seen.earlier i.seen.came (front_replies r sound built machines unbound lived.log i.seen.before i.seen.reads i.seen.log_is replies) in
+      let all = seen_front r sound built machines i.t lived.log (lived.is ++ i.i ∷ []) i.seen replies in
+      let old = reaches r sound built machines i.t i.seen.before i.seen.earlier i.seen.came (front_replies r sound built machines lived.log i.seen.before i.seen.reads i.seen.log_is replies) in
       record {
         is = lived.is;
         front = Before old.s (subst (CameTo r old.s) (sym (same_front lived.is i.seen.earlier i.i (instant_at i.t i.seen.values) i.seen.is_is)) old.came);
@@ -194,21 +195,21 @@ module _ (r : Run) (b : Account) (sound : IsSound r.system) (built : IsBuilt r.s
       }
   cut_front pieces piece cut (inr (inr e)) = record {
     is = lived.is;
-    front = finish_front r sound built machines unbound e.end e.point lived.log lived.is e.finishes replies;
+    front = finish_front r sound built machines e.end e.point lived.log lived.is e.finishes replies;
     counted = lived.counted;
     cut = inr (piece, inr (kind_of_end e.end, e.point, e.piece_is), subst (λ (ps : List (List ℕ)). CutsPiece (with_pieces b.before ps) piece b.after) e.pieces_are cut);
   }
 
-  puts_run : (end : RunEnd) → EndsBy r.system r.plan lived.log lived.is end b.before b.after → PutsRun a r end
-  puts_run E.Stop (point, f, put) = puts_trace E.Stop point r.plan.stop put f.0 (stop_trace r sound built machines unbound lived.log lived.is f.1 replies)
-  puts_run (E.Asked at) (point, f, put) = puts_trace (E.Asked at) point at put f.0 (asked_trace r sound built machines unbound at lived.log lived.is f.1 replies)
+  puts_run : (end : RunEnd) → EndsBy r.system r.bound r.plan lived.log lived.is end b.before b.after → PutsRun a r end
+  puts_run E.Stop (point, f, put) = puts_trace E.Stop point r.plan.stop put f.0 (stop_trace r sound built machines lived.log lived.is f.1 replies)
+  puts_run (E.Asked at) (point, f, put) = puts_trace (E.Asked at) point at put f.0 (asked_trace r sound built machines at lived.log lived.is f.1 replies)
   puts_run (E.EventLimit at) (point, f, put) = absurd f
   puts_run (E.FixedStep component at end) (point, f, put) =
-      puts_trace (E.FixedStep component at end) point at put f.0 (fixed_trace r sound built machines unbound component.0 at end lived.log lived.is f.1 replies)
+      puts_trace (E.FixedStep component at end) point at put f.0 (fixed_trace r sound built machines component.0 at end lived.log lived.is f.1 replies)
   puts_run (E.Bad bad) (point, f, put) = record {
     is = lived.is;
     point = point;
-    front = finish_front r sound built machines unbound (E.Bad bad) point lived.log lived.is f replies;
+    front = finish_front r sound built machines (E.Bad bad) point lived.log lived.is f replies;
     text = record { counted = lived.counted; put = put };
   }
   puts_run E.WriteFault w = cut_front w.pieces w.piece w.cuts w.interrupted
@@ -218,6 +219,7 @@ module _ (r : Run) (b : Account) (sound : IsSound r.system) (built : IsBuilt r.s
 
 pub told_run : ToldRun
 told_run a r sound built run plan_is lived =
-    let e : a ≡ account r.system r.plan a = ap₂ (λ (s : System) (p : Plan). account s p a) (sym run.system_is) (sym plan_is) in
+    let e : a ≡ account r.system r.bound r.plan a =
+    ap₂ (λ (s : System) (p : Plan). account s a.bound p a) (sym run.system_is) (sym plan_is) ∙ ap (λ (x : Bound). account r.system x r.plan a) (sym run.bound_is) in
     subst (λ (x : Account). PutsRun x r x.end) (sym e)
-    (puts r a (subst IsSound (sym run.system_is) sound) (subst IsBuilt (sym run.system_is) built) run.unbound run.tell (subst Lived e lived))
+    (puts r a (subst IsSound (sym run.system_is) sound) (subst IsBuilt (sym run.system_is) built) run.tell (subst Lived e lived))

@@ -12,9 +12,11 @@ use Rattle.fmu_peer.specs.Machine.{MachineState}
 use Rattle.fmu_peer.specs.View.{View}
 use Rattle.system_model.specs.declared.plan.EndKind.{EndKind}
 use Rattle.system_model.specs.declared.plan.EndKind.TheVariants as K
+use Rattle.system_model.specs.declared.bound.Bound.{Bound}
 use Rattle.system_model.specs.declared.plan.Plan.{Plan}
 use Rattle.system_model.specs.declared.system.Component.{Component}
 use Rattle.system_model.specs.declared.system.System.{System}
+use Rattle.system_model.specs.Bounds.{BindsParameters}
 use Rattle.system_model.specs.Sound.{IsSound}
 use Rattle.system_model.specs.Text.{Instant, end_text}
 use Rattle.run_model.specs.Behaved.{WellBehaved}
@@ -35,7 +37,6 @@ use Rattle.calling_sequence.specs.Puts.{CutsPiece, with_pieces}
 use Rattle.run_model.proofs.InitiallySolvable.{solvable_initially}
 use Rattle.calling_sequence.specs.Plans.{IsPlan}
 use Rattle.calling_sequence.specs.Systems.{IsBuilt}
-use Rattle.step_master.specs.System.{IsUnbound}
 use Rattle.step_master.specs.Traced.{AtFirst, CutsTrace, PutsRun, SomeRose, TellMachines, ToldTrace, ToldUnmade, TracesWell}
 use Rattle.calling_sequence.proofs.Chains.{same, takes}
 use Rattle.step_master.proofs.Begun.{begins_at}
@@ -94,20 +95,20 @@ unmade_by r olds news bad well tell u =
     (lost.link, rose_of r.system olds news u.log u.lives bad.why u.are lost)
 
 pub told_unmade : ToldUnmade
-told_unmade system olds news bad r sound run well u = unmade_by r olds news bad well run.tell (subst (λ (s : System). Unmade s olds bad news) (sym run.system_is) u)
+told_unmade system bound olds news bad r sound run well u = unmade_by r olds news bad well run.tell (subst (λ (s : System). Unmade s olds bad news) (sym run.system_is) u)
 
 -- ---- points
 
 -- a run's points are between start and stop
-came_within : (system : System) (plan : Plan) (t : ℕ) (log : List Sent) (is : List Instant) → IsPlan plan → Came system plan t log is → (plan.start ≤ t) × (t ≤ plan.stop)
-came_within system plan _ _ _ p (AtStart t log is initialized at none) = (omega (arith, at), let o = p.ordered in omega (arith, at, o))
-came_within system plan _ _ _ p (ByStep t log is from values before reads sets steps js came read step set answered asks log_is is_is) =
-    let old = came_within system plan from before js p came in
+came_within : (system : System) (bound : Bound) (plan : Plan) (t : ℕ) (log : List Sent) (is : List Instant) → IsPlan plan → Came system bound plan t log is → (plan.start ≤ t) × (t ≤ plan.stop)
+came_within system bound plan _ _ _ p (AtStart t log is initialized at none) = (omega (arith, at), let o = p.ordered in omega (arith, at, o))
+came_within system bound plan _ _ _ p (ByStep t log is from values before reads sets steps js came read step set answered asks log_is is_is) =
+    let old = came_within system bound plan from before js p came in
     let begun = old.0 in
     let later = step.bound.bound.later in
     (omega (arith, begun, later), step.bound.bound.least plan.stop step.bound.before_stop (OnStop refl))
 
-module _ (r : Run) (sound : IsSound r.system) (built : IsBuilt r.system) (machines : AreMachines r) (unbound : IsUnbound r.bound) (well : WellBehaved r) where
+module _ (r : Run) (sound : IsSound r.system) (built : IsBuilt r.system) (machines : AreMachines r) (binds : BindsParameters r.system r.bound) (well : WellBehaved r) where
   abbrev first : List MachineState
   first = I.instantiated r
 
@@ -115,24 +116,24 @@ module _ (r : Run) (sound : IsSound r.system) (built : IsBuilt r.system) (machin
   count = length r.system.components
 
   -- a bad answer that ends the run was lost
-  pub finish_lost : (bad : BadAnswer) (point : ℕ) (log : List Sent) (is : List Instant) → Finishes r.system r.plan (E.Bad bad) point log is → AreReplies r first log → IsLost count log bad.why
-  finish_lost bad point log is (inl w) told = lost_initializing r sound built machines well unbound bad log told w.stops
+  pub finish_lost : (bad : BadAnswer) (point : ℕ) (log : List Sent) (is : List Instant) → Finishes r.system r.bound r.plan (E.Bad bad) point log is → AreReplies r first log → IsLost count log bad.why
+  finish_lost bad point log is (inl w) told = lost_initializing r sound built machines well binds bad log told w.stops
   finish_lost bad point log is (inr (inl w)) told =
       let on = subst (AreReplies r first) w.log_is told in
-      let x = reaches r sound built machines unbound point w.before is w.came (replies_first r first w.before w.reads on) in
+      let x = reaches r sound built machines point w.before is w.came (replies_first r first w.before w.reads on) in
       let found = solution r sound built machines point (states_by r first w.before) x.s x.here in
       subst (λ (l : List Sent). IsLost count l bad.why) (sym w.log_is)
       (lost_behind count w.before w.reads bad.why
       (lost_reading r sound built machines well point (states_by r first w.before) x.s x.here found.0 found.1 bad w.earlier w.values w.reads (replies_then r first w.before w.reads x.good on) w.stops))
   finish_lost bad point log is (inr (inr (inl w))) told =
       let on = subst (AreReplies r first) w.log_is told in
-      let x = sees_all r sound built machines unbound point w.before is w.seen (replies_first r first w.before w.sets on) in
+      let x = sees_all r sound built machines point w.before is w.seen (replies_first r first w.before w.sets on) in
       subst (λ (l : List Sent). IsLost count l bad.why) (sym w.log_is)
       (lost_behind count w.before w.sets bad.why
       (lost_setting r sound built machines well point (states_by r first w.before) x.s x.here w.seen.values x.solves bad w.to w.step w.sets (replies_then r first w.before w.sets x.good on) w.stops))
   finish_lost bad point log is (inr (inr (inr w))) told =
       let on = subst (AreReplies r first) w.log_is told in
-      let x = sets_all r sound built machines unbound point w.to w.before is w.departs (replies_first r first w.before w.steps on) in
+      let x = sets_all r sound built machines point w.to w.before is w.departs (replies_first r first w.before w.steps on) in
       let inside : AreReplies r (set_all r w.departs.seen.values (states_by r first x.before)) w.steps =
       subst (λ (ss : List MachineState). AreReplies r ss w.steps) x.states (replies_then r first w.before w.steps x.good on) in
       subst (λ (l : List Sent). IsLost count l bad.why) (sym w.log_is)
@@ -152,7 +153,7 @@ module _ (r : Run) (sound : IsSound r.system) (built : IsBuilt r.system) (machin
     whole_none =
         let W = solvable_initially r sound machines in
         let s = I.beginning r W.0 in
-        let here = begins_at r sound built unbound machines W.0 W.1 in
+        let here = begins_at r sound built machines W.0 W.1 in
         let V = solution r sound built machines r.plan.start s.states s here in
         let rest = rest_from r sound built machines well plan r.plan.start s.states s here (omega arith) plan.ordered V.0 V.1 in
         record {
@@ -163,11 +164,11 @@ module _ (r : Run) (sound : IsSound r.system) (built : IsBuilt r.system) (machin
         }
 
     -- and one behind what was seen
-    pub whole_seen : (t : ℕ) (log : List Sent) (is : List Instant) → Seen r.system r.plan t log is → AreReplies r first log → Whole is
+    pub whole_seen : (t : ℕ) (log : List Sent) (is : List Instant) → Seen r.system r.bound r.plan t log is → AreReplies r first log → Whole is
     whole_seen t log is seen told =
-        let x = sees_all r sound built machines unbound t log is seen told in
+        let x = sees_all r sound built machines t log is seen told in
         let V = seen.values in
-        let between = came_within r.system r.plan t seen.before seen.earlier plan seen.came in
+        let between = came_within r.system r.bound r.plan t seen.before seen.earlier plan seen.came in
         let rest = rest_from r sound built machines well plan t (states_by r first log) x.s x.here between.0 between.1 V x.solves in
         record {
           kind = rest.kind;
@@ -187,23 +188,23 @@ pieces_behind system plan is i rest kind point =
     ap (λ (ps : List (List ℕ)). header_of system plan ∷ (ps ++ end_text kind point ∷ [])) (map-append text_of is (i ∷ rest))
     ∙ ap (λ (ps : List (List ℕ)). header_of system plan ∷ ps) (append_assoc (map text_of is) (text_of i ∷ map text_of rest) (end_text kind point ∷ []))
 
-abbrev account : System → Plan → Account → Account
-account system plan a = record a { system = system; plan = plan }
+abbrev account : System → Bound → Plan → Account → Account
+account system bound plan a = record a { system = system; bound = bound; plan = plan }
 
-module _ (r : Run) (b : Account) (sound : IsSound r.system) (built : IsBuilt r.system) (plan : IsPlan r.plan) (unbound : IsUnbound r.bound) (tell : TellMachines b.olds r.machines) (well : WellBehaved r)
-    (lived : Lived (account r.system r.plan b)) where
+module _ (r : Run) (b : Account) (sound : IsSound r.system) (built : IsBuilt r.system) (plan : IsPlan r.plan) (binds : BindsParameters r.system r.bound) (tell : TellMachines b.olds r.machines) (well : WellBehaved r)
+    (lived : Lived (account r.system r.bound r.plan b)) where
   abbrev a : Account
-  a = account r.system r.plan b
+  a = account r.system r.bound r.plan b
 
   machines : AreMachines r
   machines = are_machines r b.olds b.news (lived.made ++ lived.log) lived.lives lived.are tell lived.machines
 
   told : AreReplies r (I.instantiated r) lived.log
-  told = replies r b sound built unbound tell lived
+  told = replies r b sound built tell lived
 
-  bad_end : (bad : BadAnswer) (point : ℕ) → Finishes r.system r.plan (E.Bad bad) point lived.log lived.is → IsLink bad.why × SomeRose b.olds b.news
+  bad_end : (bad : BadAnswer) (point : ℕ) → Finishes r.system r.bound r.plan (E.Bad bad) point lived.log lived.is → IsLink bad.why × SomeRose b.olds b.news
   bad_end bad point f =
-      let lost = finish_lost r sound built machines unbound well bad point lived.log lived.is f told in
+      let lost = finish_lost r sound built machines binds well bad point lived.log lived.is f told in
       (lost.link, rose_of r.system b.olds b.news (lived.made ++ lived.log) lived.lives bad.why lived.are (lost_behind (length r.system.components) lived.made lived.log bad.why lost))
 
   module _ (pieces : List (List ℕ)) (piece : List ℕ) (cut : CutsPiece (with_pieces b.before pieces) piece b.after) where
@@ -222,29 +223,29 @@ module _ (r : Run) (b : Account) (sound : IsSound r.system) (built : IsBuilt r.s
     }
 
     -- the put of an end line
-    cut_end : (end : RunEnd) (point : ℕ) → Finishes r.system r.plan end point lived.log lived.is → pieces ≡ pieces_of r.system r.plan lived.is → piece ≡ end_text (kind_of_end end) point → SomeRose b.olds b.news ⊎ CutsTrace a r
+    cut_end : (end : RunEnd) (point : ℕ) → Finishes r.system r.bound r.plan end point lived.log lived.is → pieces ≡ pieces_of r.system r.plan lived.is → piece ≡ end_text (kind_of_end end) point → SomeRose b.olds b.news ⊎ CutsTrace a r
     cut_end E.Stop point f pieces_are piece_is =
-        inr (cut_trace lived.is K.Stop point (subst (IsTrace r lived.is K.Stop) (sym f.0) (stop_trace r sound built machines unbound lived.log lived.is f.1 told)) [] _ _ pieces_are piece_is refl)
+        inr (cut_trace lived.is K.Stop point (subst (IsTrace r lived.is K.Stop) (sym f.0) (stop_trace r sound built machines lived.log lived.is f.1 told)) [] _ _ pieces_are piece_is refl)
     cut_end (E.Asked at) point f pieces_are piece_is =
-        inr (cut_trace lived.is K.Asked point (subst (IsTrace r lived.is K.Asked) (sym f.0) (asked_trace r sound built machines unbound at lived.log lived.is f.1 told)) [] _ _ pieces_are piece_is refl)
+        inr (cut_trace lived.is K.Asked point (subst (IsTrace r lived.is K.Asked) (sym f.0) (asked_trace r sound built machines at lived.log lived.is f.1 told)) [] _ _ pieces_are piece_is refl)
     cut_end (E.EventLimit at) point f pieces_are piece_is = absurd f
     cut_end (E.FixedStep component at end) point f pieces_are piece_is =
-        inr (cut_trace lived.is K.Fixed point (subst (IsTrace r lived.is K.Fixed) (sym f.0) (fixed_trace r sound built machines unbound component.0 at end lived.log lived.is f.1 told)) [] _ _ pieces_are piece_is refl)
+        inr (cut_trace lived.is K.Fixed point (subst (IsTrace r lived.is K.Fixed) (sym f.0) (fixed_trace r sound built machines component.0 at end lived.log lived.is f.1 told)) [] _ _ pieces_are piece_is refl)
     cut_end (E.Bad bad) point f pieces_are piece_is = inl (bad_end bad point f).1
     cut_end E.WriteFault point f pieces_are piece_is = absurd f
 
-    cuts : Interrupted r.system r.plan lived.log lived.is pieces piece → SomeRose b.olds b.news ⊎ CutsTrace a r
+    cuts : Interrupted r.system r.bound r.plan lived.log lived.is pieces piece → SomeRose b.olds b.news ⊎ CutsTrace a r
     cuts (inl h) =
-        let w = whole_none r sound built machines unbound well plan in
+        let w = whole_none r sound built machines binds well plan in
         inr (cut_trace w.rest w.kind w.point w.trace (map text_of w.rest ++ end_text w.kind w.point ∷ []) [] (header_of r.system r.plan) h.pieces_are h.piece_is refl)
     cuts (inr (inl i)) =
-        let w = whole_seen r sound built machines unbound well plan i.t lived.log (lived.is ++ i.i ∷ []) i.seen told in
+        let w = whole_seen r sound built machines binds well plan i.t lived.log (lived.is ++ i.i ∷ []) i.seen told in
         let trace : IsTrace r (lived.is ++ i.i ∷ w.rest) w.kind w.point = subst (λ (xs : List Instant). IsTrace r xs w.kind w.point) (append_assoc lived.is (i.i ∷ []) w.rest) w.trace in
         inr (cut_trace (lived.is ++ i.i ∷ w.rest) w.kind w.point trace (map text_of w.rest ++ end_text w.kind w.point ∷ []) (pieces_of r.system r.plan lived.is) (text_of i.i) i.pieces_are i.piece_is
         (pieces_behind r.system r.plan lived.is i.i w.rest w.kind w.point))
     cuts (inr (inr e)) = cut_end e.end e.point e.finishes e.pieces_are e.piece_is
 
-  traces_by : (end : RunEnd) → EndsBy r.system r.plan lived.log lived.is end b.before b.after → PutsRun a r end → TracesWell a r end
+  traces_by : (end : RunEnd) → EndsBy r.system r.bound r.plan lived.log lived.is end b.before b.after → PutsRun a r end → TracesWell a r end
   traces_by E.Stop ends run = run
   traces_by (E.Asked at) ends run = run
   traces_by (E.EventLimit at) ends run = run
@@ -253,10 +254,13 @@ module _ (r : Run) (b : Account) (sound : IsSound r.system) (built : IsBuilt r.s
   traces_by E.WriteFault w run = cuts w.pieces w.piece w.cuts w.interrupted
 
   pub traces : TracesWell a r b.end
-  traces = traces_by b.end lived.text (puts r b sound built unbound tell lived)
+  traces = traces_by b.end lived.text (puts r b sound built tell lived)
 
 pub told_trace : ToldTrace
-told_trace a r sound built plan run plan_is well lived =
-    let e : a ≡ account r.system r.plan a = ap₂ (λ (s : System) (p : Plan). account s p a) (sym run.system_is) (sym plan_is) in
+told_trace a r sound built binds plan run plan_is well lived =
+    let e : a ≡ account r.system r.bound r.plan a =
+    ap₂ (λ (s : System) (p : Plan). account s a.bound p a) (sym run.system_is) (sym plan_is) ∙ ap (λ (x : Bound). account r.system x r.plan a) (sym run.bound_is) in
+    let own : BindsParameters r.system r.bound =
+    subst (λ (y : System). BindsParameters y r.bound) (sym run.system_is) (subst (BindsParameters a.system) (sym run.bound_is) binds) in
     subst (λ (x : Account). TracesWell x r x.end) (sym e)
-    (traces r a (subst IsSound (sym run.system_is) sound) (subst IsBuilt (sym run.system_is) built) (subst IsPlan (sym plan_is) plan) run.unbound run.tell well (subst Lived e lived))
+    (traces r a (subst IsSound (sym run.system_is) sound) (subst IsBuilt (sym run.system_is) built) (subst IsPlan (sym plan_is) plan) own run.tell well (subst Lived e lived))

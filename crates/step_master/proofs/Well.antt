@@ -1,12 +1,12 @@
 -- The calls of a run of machines that behave well are answered well, each where the run comes to it.
-use Rattle.std.proofs.Common.{◌≡◌, ℕ, suc, ◌-◌, ◌==◌, ℤ, Bool, true, false, inl, inr, List, [], ◌∷◌, ◌++◌, Option, Some, None, refl, sym, ap, ◌∙◌, subst, append_assoc, arith, length}
+use Rattle.std.proofs.Common.{◌≡◌, ℕ, suc, ◌-◌, ◌==◌, ℤ, Bool, true, false, inl, inr, List, [], ◌∷◌, ◌++◌, Option, Some, None, refl, sym, ap, ◌∙◌, subst, append_assoc, arith, length, get_or}
 use Rattle.std.specs.Prelude.{All, IfSome, IsSomeAnd, if◌then◌else◌, option_map}
 use Rattle.std.specs.List.{AllZip, slice_get}
 use Rattle.std.proofs.lemmas.Bool.{eqb-true}
 use Rattle.std.proofs.lemmas.List.{length-map}
 use Rattle.std.proofs.lemmas.List.Elements.{All-head, All-tail}
 use Rattle.std.proofs.lemmas.Option.{same_Some}
-use Rattle.value_types.specs.Shape.{variable_at}
+use Rattle.value_types.specs.Shape.{is_clock_type, variable_at}
 use Rattle.value_types.specs.Values.{Fits}
 use Rattle.value_types.specs.declared.shape.Causality.TheVariants as V
 use Rattle.value_types.specs.declared.shape.Shape.{Shape}
@@ -18,17 +18,19 @@ use Rattle.fmi_calls.specs.Worth.{grade_of}
 use Rattle.fmu_peer.specs.declared.peer.Exchange.{Exchange}
 use Rattle.fmu_peer.specs.Machine.{Machine, MachineState, after, written}
 use Rattle.fmu_peer.specs.Mode.{instantiate_of}
+use Rattle.system_model.specs.declared.bound.BoundValue.{BoundValue}
 use Rattle.system_model.specs.declared.system.Component.{Component}
 use Rattle.system_model.specs.declared.system.Port.{Port}
 use Rattle.system_model.specs.declared.system.Role.{Role}
 use Rattle.system_model.specs.declared.system.Role.TheVariants.{Input, Output, ClockInput, ClockOutput, TimeClock}
 use Rattle.system_model.specs.Ports.{is_output_role, numbers, source_of}
+use Rattle.system_model.specs.Bounds.{BindsParameters, IsParameterValue}
 use Rattle.system_model.specs.Sound.{IsSound}
 use Rattle.system_model.proofs.SoundLemmas.{clock_type_of, is_input_of, place_of}
-use Rattle.run_model.specs.Behaved.{AnswersAt, AnswersWell, Initializing, IsAnsweredWell, IsSetting, Stepping, WellBehaved}
+use Rattle.run_model.specs.Behaved.{AnswersAt, AnswersWell, Configuring, Initializing, IsAnsweredWell, IsSetting, Stepping, WellBehaved}
 use Rattle.run_model.specs.Equations.{Solves, fed}
 use Rattle.run_model.specs.Initial as I
-use Rattle.run_model.specs.Initial.{SolvesInitially, is_read}
+use Rattle.run_model.specs.Initial.{SolvesInitially, is_read, set_call}
 use Rattle.run_model.specs.Inputs.{state_with}
 use Rattle.run_model.specs.Machines.{AreFitting, AreMachines}
 use Rattle.run_model.specs.Run.{IsFmu, Run, Situation, value}
@@ -37,9 +39,9 @@ use Rattle.run_model.proofs.InitiallySolvable.{solvable_initially}
 use Rattle.run_model.proofs.Midst.{looks_initially}
 use Rattle.run_model.proofs.States.{fmu_before}
 use Rattle.slot_calls.specs.declared.bad_answer.BadAnswer.{BadAnswer}
-use Rattle.slot_calls.specs.Log.{Sent, askings, part}
+use Rattle.slot_calls.specs.Log.{Asking, Sent, asking_of, askings, part}
 use Rattle.slot_calls.specs.Replies.{AreReplies, state_by}
-use Rattle.slot_calls.specs.Stage.{FailsIn, StopsAt, shapes_of}
+use Rattle.slot_calls.specs.Stage.{FailsIn, IsAnswered, StopsAt, shapes_of}
 use Rattle.event_iteration.specs.Explains.{ExplainsUntil}
 use Rattle.event_iteration.specs.Initialization.{asks_initially, initially, is_set_from_feed, no_values}
 use Rattle.event_iteration.specs.Instants.{asks_at_point, at_point}
@@ -48,19 +50,20 @@ use Rattle.event_iteration.proofs.AtPoint.{clockless, no_clock}
 use Rattle.event_iteration.proofs.Finding.{midst_along}
 use Rattle.event_iteration.proofs.Permits.{fed_fits, keeps, value_type}
 use Rattle.event_iteration.proofs.Rounds.{fits_none, places_none}
-use Rattle.calling_sequence.specs.Course.{Entering, Finding, Leaving, IsStep, StopsInitializing, stepping}
+use Rattle.calling_sequence.specs.Course.{Binding, Entering, Finding, Leaving, IsStep, StopsInitializing, binding, stepping}
 use Rattle.calling_sequence.specs.Systems.{IsBuilt}
 use Rattle.calling_sequence.proofs.Chains.{part_all}
 use Rattle.step_master.specs.Master.{making}
-use Rattle.step_master.specs.System.{IsUnbound}
 use Rattle.step_master.proofs.Badly.{walk_good}
 use Rattle.step_master.proofs.Begun.{IsHere, entered_states, found_states}
+use Rattle.step_master.proofs.Configured.{IsParameterSet, amid_all, binding_all, configured_states}
 use Rattle.step_master.proofs.Existing.{departed_here, steps_well}
 use Rattle.step_master.proofs.Followed.{of_calls, walk_gets}
-use Rattle.step_master.proofs.Links.{IsLost, lost_behind, lost_fails, lost_stops, lost_walk}
+use Rattle.step_master.proofs.Links.{IsLost, lost_at, lost_behind, lost_fails, lost_stops, lost_walk}
 use Rattle.step_master.proofs.Looking.{gets_stay, replies_first, replies_then}
 use Rattle.step_master.proofs.Onward.{done_states, set_are_all, set_here}
-use Rattle.step_master.proofs.Quiet.{configured_is, initializing_all, made_all, no_event}
+use Rattle.step_master.proofs.Prepared.{is_within}
+use Rattle.step_master.proofs.Quiet.{configured_all, initializing_all, made_all, no_event}
 use Rattle.step_master.proofs.SideBySide.{all_on, fmu_on}
 use Rattle.step_master.proofs.WalkCalls.{Reads, Uses, Writes, finding_uses, part_walk, reading_reads, setting_writes, walk_all}
 use Rattle.step_master.proofs.WalksBack.{IsWalked, finding_back}
@@ -99,6 +102,26 @@ like_by m s (e ∷ es) all =
     let one = like_one m s e.call head.0 head.1 in
     let more = like_by m (after m s e.call) es (All-tail Uses_in e es all) in
     record { numbers = more.numbers ∙ one.numbers; values = more.values ∙ one.values }
+
+-- the Set of a parameter
+abbrev Sets_in : Exchange → Type 0
+Sets_in e = (b : BoundValue) × (e.call ≡ set_call b)
+
+like_sets : (m : Machine) (s : MachineState) (es : List Exchange) → All Sets_in es → IsLike s (state_by m s es)
+like_sets m s [] all = record { numbers = refl; values = refl }
+like_sets m s (e ∷ es) all =
+    let head = All-head Sets_in e es all in
+    let one : IsLike s (after m s e.call) = subst (λ (c : Call). IsLike s (after m s c)) (sym head.1) (record { numbers = refl; values = written_many m.references s.values head.0.reference head.0.value }) in
+    let more = like_sets m (after m s e.call) es (All-tail Sets_in e es all) in
+    record { numbers = more.numbers ∙ one.numbers; values = more.values ∙ one.values }
+
+-- a parameter may be set to a value of its type
+sets_configuring : (shape : Shape) (b : BoundValue) → IsParameterValue shape b → IsSetting Configuring shape (set_call b)
+sets_configuring shape b h = (
+  value_type b.kind (ap is_clock_type (sym h.kind) ∙ h.no_clock),
+  h.fits,
+  subst (λ (o : Option Variable). IsSomeAnd o (λ (v : Variable). (v.kind ≡ Some b.kind) × (v.causality ≡ V.Parameter))) (sym h.at) (h.kind, h.parameter),
+)
 
 if_is : {X : Type 0} (b : Bool) (o : Option X) (x : X) → (if b then o else None) ≡ Some x → (b ≡ true) × (o ≡ Some x)
 if_is true o x h = (refl, h)
@@ -142,9 +165,9 @@ module _ (r : Run) (sound : IsSound r.system) (built : IsBuilt r.system) (machin
 
   -- ---- into Step Mode
 
-  module _ (unbound : IsUnbound r.bound) where
-    enters_well : (i : ℕ) → AnswersWell r (I.instantiated r) i (λ shape. I.enter_initialization r)
-    enters_well i = subst (λ (ss : List MachineState). AnswersWell r ss i (λ shape. I.enter_initialization r)) (configured_is r sound built unbound machines.count) (well i).before.enter
+  module _ (binds : BindsParameters r.system r.bound) where
+    enters_well : (i : ℕ) → AnswersWell r (I.configured r) i (λ shape. I.enter_initialization r)
+    enters_well i = (well i).before.enter
 
     module _ (bad : BadAnswer) (values : List (Option ℤ)) (found : List Sent) (u : ExplainsUntil r.system (initially r.system) (no_values r.system) (numbers r.system.initial_order) bad values found) (replies : AreReplies r (I.initializing r) found) where
       abbrev port : Port
@@ -202,31 +225,64 @@ module _ (r : Run) (sound : IsSound r.system) (built : IsBuilt r.system) (machin
 
       lost_finding : IsLost count found bad.why
       lost_finding =
-          lost_walk r (I.initializing r) (initializing_all r sound built unbound machines.count) bad found replies (initially r.system) (no_values r.system) (numbers r.system.initial_order) values u
+          lost_walk r (I.initializing r) (initializing_all r sound built machines.count) bad found replies (initially r.system) (no_values r.system) (numbers r.system.initial_order) values u
           (λ c m s fmu.
           let old = fmu_before r (I.initializing r) (λ i d n y. state_by n y (part i u.front)) port.component.0 c m s fmu in
           subst (λ (y : MachineState). IsAnsweredWell c.shape m y u.last.exchange.call) (sym old.is) (call_well c m old.before old.fmu port.role refl u.last.exchange.call u.stops.asks))
 
-    pub lost_initializing : (bad : BadAnswer) (log : List Sent) → AreReplies r (I.instantiated r) log → StopsInitializing r.system r.plan bad log → IsLost count log bad.why
-    lost_initializing bad log replies (Entering stops) =
-        lost_stops r (I.instantiated r) (made_all r sound built unbound machines.count) bad log replies (λ (shape : Shape). C.EnterInitialization r.plan.start r.plan.stop) stops enters_well
-    lost_initializing bad log replies (Finding entered found values enters finds log_is) =
-        let whole = subst (AreReplies r (I.instantiated r)) log_is replies in
-        let states = entered_states r sound built unbound machines entered enters (replies_first r (I.instantiated r) entered found whole) in
-        let inside : AreReplies r (I.initializing r) found = subst (λ (ss : List MachineState). AreReplies r ss found) states (replies_then r (I.instantiated r) entered found enters.good whole) in
-        subst (λ (l : List Sent). IsLost count l bad.why) (sym log_is) (lost_behind count entered found bad.why (lost_finding bad values found finds inside))
-    lost_initializing bad log replies (Leaving entered found left values enters finds stops log_is) =
-        let whole = subst (AreReplies r (I.instantiated r)) log_is replies in
-        let states = entered_states r sound built unbound machines entered enters (replies_first r (I.instantiated r) entered (found ++ left) whole) in
-        let inside : AreReplies r (I.initializing r) (found ++ left) = subst (λ (ss : List MachineState). AreReplies r ss (found ++ left)) states (replies_then r (I.instantiated r) entered (found ++ left) enters.good whole) in
+    -- the Set of a parameter
+    lost_binding : (bad : BadAnswer) (log : List Sent) → AreReplies r (I.instantiated r) log → StopsAt (shapes_of r.system) (binding r.bound) bad log → IsLost count log bad.why
+    lost_binding bad log replies s =
+        let P : Asking → Type 0 = IsParameterSet 0 r.system.components in
+        let all : All P (askings (s.front ++ s.last ∷ []) ++ s.left) =
+        subst (All P) (s.calls_are ∙ ap (λ (l : List Sent). askings l ++ s.left) s.log_is) (binding_all r.system r.bound binds) in
+        let parts = amid_all P s.front s.last [] s.left all in
+        let own : IsParameterSet 0 r.system.components (asking_of s.last) = parts.0 in
+        let k = s.last.component in
+        let place : own.place ≡ k = (let e = own.at in omega (arith, e)) in
+        let front : All Sets_in (part k s.front) =
+        part_all (λ n e. Sets_in e) k s.front (λ i d w. let set : IsParameterSet 0 r.system.components (asking_of (get_or s.front i d)) = parts.1 i d w in (set.value, set.call_is)) in
+        subst (λ (l : List Sent). IsLost count l bad.why) (sym s.log_is)
+        (lost_at r (I.instantiated r) (made_all r sound built machines.count) s.front s.last [] bad.why (subst (AreReplies r (I.instantiated r)) s.log_is replies) s.first.good s.first.why
+        (let inside = is_within r.system.components own.place own.component own.of in omega (arith, inside, place))
+        (λ c m state fmu.
+        let old = fmu_before r (I.instantiated r) (λ i d n y. state_by n y (part i s.front)) k c m state fmu in
+        let like = like_sets m old.before (part k s.front) front in
+        let same : own.component ≡ c = same_Some _ _ (sym own.of ∙ ap (slice_get r.system.components) place ∙ fmu.component) in
+        let is : IsParameterValue c.shape own.value = subst (λ (d : Component). IsParameterValue d.shape own.value) same own.is in
+        subst (λ (y : MachineState). IsAnsweredWell c.shape m y s.last.exchange.call) (sym old.is)
+        (subst (IsAnsweredWell c.shape m (state_by m old.before (part k s.front))) (sym own.call_is)
+        ((well k).before.parameters c m old.before (state_by m old.before (part k s.front)) (set_call own.value) old.fmu like.numbers like.values (sets_configuring c.shape own.value is)))))
+
+    -- behind the Sets
+    module _ (set more : List Sent) (sets : IsAnswered (shapes_of r.system) (binding r.bound) set) (replies : AreReplies r (I.instantiated r) (set ++ more)) where
+      set_replies : AreReplies r (I.configured r) more
+      set_replies = subst (λ (ss : List MachineState). AreReplies r ss more) (configured_states r set sets) (replies_then r (I.instantiated r) set more sets.good replies)
+
+    pub lost_initializing : (bad : BadAnswer) (log : List Sent) → AreReplies r (I.instantiated r) log → StopsInitializing r.system r.bound r.plan bad log → IsLost count log bad.why
+    lost_initializing bad log replies (Binding stops) = lost_binding bad log replies stops
+    lost_initializing bad log replies (Entering set entered sets stops log_is) =
+        let ready = set_replies set entered sets (subst (AreReplies r (I.instantiated r)) log_is replies) in
+        subst (λ (l : List Sent). IsLost count l bad.why) (sym log_is)
+        (lost_behind count set entered bad.why
+        (lost_stops r (I.configured r) (configured_all r sound built machines.count) bad entered ready (λ (shape : Shape). C.EnterInitialization r.plan.start r.plan.stop) stops enters_well))
+    lost_initializing bad log replies (Finding set entered found values sets enters finds log_is) =
+        let ready = set_replies set (entered ++ found) sets (subst (AreReplies r (I.instantiated r)) log_is replies) in
+        let states = entered_states r sound built machines entered enters (replies_first r (I.configured r) entered found ready) in
+        let inside : AreReplies r (I.initializing r) found = subst (λ (ss : List MachineState). AreReplies r ss found) states (replies_then r (I.configured r) entered found enters.good ready) in
+        subst (λ (l : List Sent). IsLost count l bad.why) (sym (log_is ∙ sym (append_assoc set entered found))) (lost_behind count (set ++ entered) found bad.why (lost_finding bad values found finds inside))
+    lost_initializing bad log replies (Leaving set entered found left values sets enters finds stops log_is) =
+        let ready = set_replies set (entered ++ (found ++ left)) sets (subst (AreReplies r (I.instantiated r)) log_is replies) in
+        let states = entered_states r sound built machines entered enters (replies_first r (I.configured r) entered (found ++ left) ready) in
+        let inside : AreReplies r (I.initializing r) (found ++ left) = subst (λ (ss : List MachineState). AreReplies r ss (found ++ left)) states (replies_then r (I.configured r) entered (found ++ left) enters.good ready) in
         let good = walk_good r.system (initially r.system) (no_values r.system) (numbers r.system.initial_order) values found finds in
         let S = solvable_initially r sound machines in
         let behind : AreReplies r (I.initialized r S.0) left =
-        subst (λ (ss : List MachineState). AreReplies r ss left) (found_states r sound built unbound machines S.0 S.1 values found finds (replies_first r (I.initializing r) found left inside))
+        subst (λ (ss : List MachineState). AreReplies r ss left) (found_states r sound built machines S.0 S.1 values found finds (replies_first r (I.initializing r) found left inside))
         (replies_then r (I.initializing r) found left good inside) in
-        subst (λ (l : List Sent). IsLost count l bad.why) (sym (log_is ∙ sym (append_assoc entered found left)))
-        (lost_behind count (entered ++ found) left bad.why
-        (lost_stops r (I.initialized r S.0) (all_on r (I.initializing r) (initializing_all r sound built unbound machines.count) _) bad left behind (λ (shape : Shape). C.ExitInitialization) stops
+        subst (λ (l : List Sent). IsLost count l bad.why) (sym (log_is ∙ sym (append_assoc set entered (found ++ left)) ∙ sym (append_assoc (set ++ entered) found left)))
+        (lost_behind count ((set ++ entered) ++ found) left bad.why
+        (lost_stops r (I.initialized r S.0) (all_on r (I.initializing r) (initializing_all r sound built machines.count) _) bad left behind (λ (shape : Shape). C.ExitInitialization) stops
         (λ i. ((well i).initially S.0 S.1).exit)))
 
   -- ---- at a point

@@ -21,9 +21,11 @@ use Rattle.fmu_peer.specs.CloseAll.{ClosesOne, Closing, InOrder, Instance, after
 use Rattle.fmu_peer.specs.Lean.{IsLean}
 use Rattle.fmu_peer.specs.Talk as T
 use Rattle.fmu_peer.specs.View.{View}
+use Rattle.system_model.specs.declared.bound.Bound.{Bound}
 use Rattle.system_model.specs.declared.plan.Plan.{Plan}
 use Rattle.system_model.specs.declared.system.Component.{Component}
 use Rattle.system_model.specs.declared.system.System.{System}
+use Rattle.system_model.specs.Bounds.{BindsParameters}
 use Rattle.system_model.specs.Sound.{IsSound}
 use Rattle.system_model.specs.Text.{Instant}
 use Rattle.slot_calls.specs.declared.bad_answer.BadAnswer.{BadAnswer}
@@ -240,7 +242,7 @@ module _ (system : System) (olds : List View) (peers : ArePeersOf system olds) (
 
 -- ---- the laws
 
-module _ (system : System) (plan : Plan) (sound : IsSound system) (made log : List Sent) (is : List Instant) (making_is : IsAnswered (shapes_of system) (making system) made) where
+module _ (system : System) (bound : Bound) (plan : Plan) (sound : IsSound system) (binds : BindsParameters system bound) (made log : List Sent) (is : List Instant) (making_is : IsAnswered (shapes_of system) (making system) made) where
   behind_made : (k : ℕ) → IsNeeded k (making system ++ askings log) → IsNeeded k (askings (made ++ log))
   behind_made k need = subst (IsNeeded k) (ap (λ (l : List Asking). l ++ askings log) (sym making_is.calls_are) ∙ sym (askings_append made log)) need
 
@@ -251,37 +253,38 @@ module _ (system : System) (plan : Plan) (sound : IsSound system) (made log : Li
     some_shape : Shape
     some_shape = (got system.components k within).0.shape
 
-    finished_needed : (end : RunEnd) (point : ℕ) → Finishes system plan end point log is → IsNeeded k (making system ++ askings log)
-    finished_needed end point f = finishes_needed system plan sound k some_shape in_shapes end point log is f
+    finished_needed : (end : RunEnd) (point : ℕ) → Finishes system bound plan end point log is → IsNeeded k (making system ++ askings log)
+    finished_needed end point f = finishes_needed system sound k some_shape in_shapes bound plan binds end point log is f
 
-    ended_needed : (end : RunEnd) (before after : SinkView) → EndsBy system plan log is end before after → IsNeeded k (making system ++ askings log)
+    ended_needed : (end : RunEnd) (before after : SinkView) → EndsBy system bound plan log is end before after → IsNeeded k (making system ++ askings log)
     ended_needed E.Stop before after e = finished_needed E.Stop e.0 e.1
     ended_needed (E.Asked point) before after e = finished_needed (E.Asked point) e.0 e.1
     ended_needed (E.EventLimit point) before after e = finished_needed (E.EventLimit point) e.0 e.1
     ended_needed (E.FixedStep component at end) before after e = finished_needed (E.FixedStep component at end) e.0 e.1
     ended_needed (E.Bad bad) before after e = finished_needed (E.Bad bad) e.0 e.1
-    ended_needed E.WriteFault before after e = interrupted_needed system plan sound k some_shape in_shapes log is e.pieces e.piece e.interrupted
+    ended_needed E.WriteFault before after e = interrupted_needed system sound k some_shape in_shapes bound plan binds log is e.pieces e.piece e.interrupted
 
-  ended_log : (end : RunEnd) (before after : SinkView) → EndsBy system plan log is end before after → EndsLog (shapes_of system) end (made ++ log)
-  ended_log E.Stop before after e = finishes_log system plan made making_is.good E.Stop e.0 log is e.1
-  ended_log (E.Asked point) before after e = finishes_log system plan made making_is.good (E.Asked point) e.0 log is e.1
-  ended_log (E.EventLimit point) before after e = finishes_log system plan made making_is.good (E.EventLimit point) e.0 log is e.1
-  ended_log (E.FixedStep component at end) before after e = finishes_log system plan made making_is.good (E.FixedStep component at end) e.0 log is e.1
-  ended_log (E.Bad bad) before after e = finishes_log system plan made making_is.good (E.Bad bad) e.0 log is e.1
-  ended_log E.WriteFault before after e = interrupted_log system plan made making_is.good log is e.pieces e.piece e.interrupted
+  ended_log : (end : RunEnd) (before after : SinkView) → EndsBy system bound plan log is end before after → EndsLog (shapes_of system) end (made ++ log)
+  ended_log E.Stop before after e = finishes_log system bound plan binds made making_is.good E.Stop e.0 log is e.1
+  ended_log (E.Asked point) before after e = finishes_log system bound plan binds made making_is.good (E.Asked point) e.0 log is e.1
+  ended_log (E.EventLimit point) before after e = finishes_log system bound plan binds made making_is.good (E.EventLimit point) e.0 log is e.1
+  ended_log (E.FixedStep component at end) before after e = finishes_log system bound plan binds made making_is.good (E.FixedStep component at end) e.0 log is e.1
+  ended_log (E.Bad bad) before after e = finishes_log system bound plan binds made making_is.good (E.Bad bad) e.0 log is e.1
+  ended_log E.WriteFault before after e = interrupted_log system bound plan binds made making_is.good log is e.pieces e.piece e.interrupted
 
-module _ (a : Account) (ready done : Standing) (sound : IsSound a.system) (peers : ArePeersOf a.system a.olds) (prepares : Prepares a.system a.plan a.olds ready)
+module _ (a : Account) (ready done : Standing) (sound : IsSound a.system) (binds : BindsParameters a.system a.bound) (peers : ArePeersOf a.system a.olds) (prepares : Prepares a.system a.bound a.plan a.olds ready)
     (runs : Runs ready done a.before a.after a.end) (closes : Closes done.instances a.news) where
-  text : EndsBy a.system a.plan runs.log runs.is a.end a.before a.after
-  text = subst (λ (s : System). EndsBy s a.plan runs.log runs.is a.end a.before a.after) prepares.system_is
-      (subst (λ (p : Plan). EndsBy ready.system p runs.log runs.is a.end a.before a.after) prepares.plan_is runs.ends)
+  text : EndsBy a.system a.bound a.plan runs.log runs.is a.end a.before a.after
+  text = subst (λ (s : System). EndsBy s a.bound a.plan runs.log runs.is a.end a.before a.after) prepares.system_is
+      (subst (λ (x : Bound). EndsBy ready.system x a.plan runs.log runs.is a.end a.before a.after) prepares.bound_is
+      (subst (λ (p : Plan). EndsBy ready.system ready.bound p runs.log runs.is a.end a.before a.after) prepares.plan_is runs.ends))
 
   told : Told (prepares.log ++ runs.log) (seated a.system.components a.olds) done.instances
   told = told_on (seated a.system.components a.olds) ready.instances done.instances prepares.log runs.log prepares.told runs.told
 
   needed : (k : ℕ) → k < length a.system.components → IsNeeded k (askings (prepares.log ++ runs.log))
-  needed k w = behind_made a.system a.plan sound prepares.log runs.log runs.is prepares.answered k
-      (ended_needed a.system a.plan sound prepares.log runs.log runs.is prepares.answered k w a.end a.before a.after text)
+  needed k w = behind_made a.system a.bound a.plan sound binds prepares.log runs.log runs.is prepares.answered k
+      (ended_needed a.system a.bound a.plan sound binds prepares.log runs.log runs.is prepares.answered k w a.end a.before a.after text)
 
   lived_by : a.instants ≡ done.instants → Lived a
   lived_by count = record {
@@ -294,18 +297,18 @@ module _ (a : Account) (ready done : Standing) (sound : IsSound a.system) (peers
     text = text;
     counted = count ∙ runs.counted;
     ends = ends_lives a.system a.olds peers (prepares.log ++ runs.log) done.instances a.news told closes needed a.end
-        (ended_log a.system a.plan sound prepares.log runs.log runs.is prepares.answered a.end a.before a.after text);
+        (ended_log a.system a.bound a.plan sound binds prepares.log runs.log runs.is prepares.answered a.end a.before a.after text);
     machines = prepares.machines;
   }
 
 pub run_is_lived : RunIsLived
-run_is_lived a ready done sound peers prepares runs closes count = lived_by a ready done sound peers prepares runs closes count
+run_is_lived a ready done sound binds peers prepares runs closes count = lived_by a ready done sound binds peers prepares runs closes count
 
 pub unmade_is_closed : UnmadeIsClosed
 unmade_is_closed system olds news bad sound peers u =
     let needed : (k : ℕ) → k < length system.components → IsNeeded k (askings u.log) =
     (λ k w. let e = length-map system.components (λ (c : Component). c.shape) in
-    making_needed system no_plan sound k (got system.components k w).0.shape (omega (arith, e, w)) bad u.log u.stops) in
+    making_needed system sound k (got system.components k w).0.shape (omega (arith, e, w)) bad u.log u.stops) in
     record {
       log = u.log;
       lives = lives system olds peers u.log u.mids news u.told u.closes needed;
@@ -313,9 +316,7 @@ unmade_is_closed system olds news bad sound peers u =
       are = are_lives system olds peers u.log u.mids news u.told u.closes needed;
       least = bad_lives system olds peers u.log u.mids news u.told u.closes needed bad
           (stops_badly (shapes_of system) bad [] u.log (All-nil (IsGoodOf (shapes_of system))) (making system) (to_each_to_one _ (shapes_of system)) u.stops);
-    } where
-      no_plan : Plan
-      no_plan = record { resolution = 1; start = 0; step = 1; stop = 0; limit = 0 }
+    }
 
 -- ---- over
 

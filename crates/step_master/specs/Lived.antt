@@ -2,8 +2,10 @@
 use Rattle.std.specs.Prelude.{◌≡◌, ℕ, List, ◌++◌, length}
 use Rattle.sim_base.specs.Sink.{SinkView}
 use Rattle.fmu_peer.specs.View.{View}
+use Rattle.system_model.specs.declared.bound.Bound.{Bound}
 use Rattle.system_model.specs.declared.plan.Plan.{Plan}
 use Rattle.system_model.specs.declared.system.System.{System}
+use Rattle.system_model.specs.Bounds.{BindsParameters}
 use Rattle.system_model.specs.Sound.{IsSound}
 use Rattle.system_model.specs.Text.{Instant}
 use Rattle.slot_calls.specs.declared.bad_answer.BadAnswer.{BadAnswer}
@@ -15,9 +17,10 @@ use Rattle.step_master.specs.Master.{Closes, IsUnmade, Prepares, Runs, Standing,
 use Rattle.slot_calls.specs.Stage.{IsAnswered, StopsAt, shapes_of}
 use Rattle.step_master.specs.System.{ArePeersOf, TellTheirs}
 
--- a run: what was run, its peers and its sink before and after, the number of instants that were put, and how it ended
+-- a run: what was run, with which values of the parameters, its peers and its sink before and after, the number of instants that were put, and how it ended
 pub record Account : Type 0 where
   pub system : System
+  pub bound : Bound
   pub plan : Plan
   pub olds : List View
   pub news : List View
@@ -34,7 +37,7 @@ pub record Lived (a : Account) : Type 0 where
   pub lives : List Life
   pub making : IsAnswered (shapes_of a.system) (making a.system) made
   pub are : AreLives a.system a.olds a.news (made ++ log) lives
-  pub text : EndsBy a.system a.plan log is a.end a.before a.after
+  pub text : EndsBy a.system a.bound a.plan log is a.end a.before a.after
   pub counted : a.instants ≡ length is
   pub ends : EndsLives a.end lives
   pub machines : TellTheirs a.system a.olds
@@ -51,8 +54,8 @@ pub record Unmade (system : System) (olds : List View) (bad : BadAnswer) (news :
 
 -- a system that was prepared, run and closed
 abbrev pub RunIsLived : Type 0
-RunIsLived = (a : Account) (ready done : Standing) → IsSound a.system → ArePeersOf a.system a.olds →
-    Prepares a.system a.plan a.olds ready → Runs ready done a.before a.after a.end → Closes done.instances a.news → a.instants ≡ done.instants → Lived a
+RunIsLived = (a : Account) (ready done : Standing) → IsSound a.system → BindsParameters a.system a.bound → ArePeersOf a.system a.olds →
+    Prepares a.system a.bound a.plan a.olds ready → Runs ready done a.before a.after a.end → Closes done.instances a.news → a.instants ≡ done.instants → Lived a
 
 -- a system that couldn't be prepared
 abbrev pub UnmadeIsClosed : Type 0

@@ -4,6 +4,7 @@ use Rattle.sim_base.specs.Sink.{SinkView}
 use Rattle.fmu_peer.specs.CloseAll.{ClosesAll, Instance}
 use Rattle.fmu_peer.specs.Mode.{instantiate_of}
 use Rattle.fmu_peer.specs.View.{View}
+use Rattle.system_model.specs.declared.bound.Bound.{Bound}
 use Rattle.system_model.specs.declared.plan.Plan.{Plan}
 use Rattle.system_model.specs.declared.system.System.{System}
 use Rattle.system_model.specs.Text.{Instant}
@@ -17,9 +18,10 @@ use Rattle.step_master.specs.Seats.{seated, views_of}
 use Rattle.slot_calls.specs.Stage.{IsAnswered, StopsAt, shapes_of, to_each}
 use Rattle.step_master.specs.System.{TellTheirs}
 
--- what it runs, its instances in the order of the components, whether it was run, and how many instants it put
+-- what it runs, with which values of the parameters, its instances in the order of the components, whether it was run, and how many instants it put
 pub record Standing : Type 0 where
   pub system : System
+  pub bound : Bound
   pub plan : Plan
   pub instances : List Instance
   pub was_run : Bool
@@ -40,11 +42,12 @@ abbrev pub making : System → List Asking
 making system = to_each instantiate_of (shapes_of system)
 
 -- each instance was made, and nothing else was sent; what the peers tell are machines of their shapes
-pub record Prepares (system : System) (plan : Plan) (views : List View) (new : Standing) : Type 0 where
+pub record Prepares (system : System) (bound : Bound) (plan : Plan) (views : List View) (new : Standing) : Type 0 where
   pub log : List Sent
   pub told : Told log (seated system.components views) new.instances
   pub answered : IsAnswered (shapes_of system) (making system) log
   pub system_is : new.system ≡ system
+  pub bound_is : new.bound ≡ bound
   pub plan_is : new.plan ≡ plan
   pub unrun : new.was_run ≡ false
   pub none : new.instants ≡ 0
@@ -70,8 +73,9 @@ pub record Runs (old new : Standing) (before after : SinkView) (end : RunEnd) : 
   pub log : List Sent
   pub is : List Instant
   pub told : Told log old.instances new.instances
-  pub ends : EndsBy old.system old.plan log is end before after
+  pub ends : EndsBy old.system old.bound old.plan log is end before after
   pub system_is : new.system ≡ old.system
+  pub bound_is : new.bound ≡ old.bound
   pub plan_is : new.plan ≡ old.plan
   pub run : new.was_run ≡ true
   pub counted : new.instants ≡ length is

@@ -1,6 +1,7 @@
 -- What a master is to its callers, by its fields.
 use Rattle.fmu_peer.specs.View.{View}
 use Rattle.step_master.specs.declared.master.Master.{Master}
+use Rattle.system_model.specs.Bounds.{BindsParameters}
 use Rattle.system_model.specs.Sound.{IsSound}
 use Rattle.step_master.specs.Kept.{AreMade, AreSlots, HasRoom}
 use Rattle.step_master.specs.Master.{Standing}
@@ -12,6 +13,7 @@ use Rattle.std.specs.Prelude.{◌≡◌, false}
 abbrev pub standing : {L : Type 0} {g : _} → (L → View) → Master L g → Standing
 standing view m = record {
   system = m.system;
+  bound = m.bound;
   plan = m.plan;
   instances = instances view m.seats.slots.items;
   was_run = m.was_run;
@@ -23,6 +25,7 @@ pub record IsReady {L : Type 0} {g : _} (view : L → View) (m : Master L g) : T
   pub unrun : m.was_run ≡ false
   pub sound : IsSound m.system
   pub built : IsBuilt m.system
+  pub binds : BindsParameters m.system m.bound
   pub plan : IsPlan m.plan
   pub slots : AreSlots view m.system m.seats.slots.items
   pub room : HasRoom m.system m.room.reads m.room.values.items m.room.text.items

@@ -1,18 +1,12 @@
 -- Which systems and peers a master takes (SSP 1.0: components and connectors; FMI 3.0, 4.2.1).
-use Rattle.std.specs.Prelude.{◌≡◌, ℕ, List, [], length, All, Some, IfSome}
+use Rattle.std.specs.Prelude.{◌≡◌, ℕ, List, [], length, Some, IfSome}
 use Rattle.std.specs.List.{slice_get}
 use Rattle.value_types.specs.declared.shape.Shape.{Shape}
 use Rattle.fmi_calls.specs.Next.{fresh}
 use Rattle.fmu_peer.specs.Machine.{IsLawful, IsMachineOf, Machine}
 use Rattle.fmu_peer.specs.View.{View}
-use Rattle.system_model.specs.declared.bound.Bound.{Bound}
-use Rattle.system_model.specs.declared.bound.BoundValue.{BoundValue}
 use Rattle.system_model.specs.declared.system.Component.{Component}
 use Rattle.system_model.specs.declared.system.System.{System}
-
--- no parameter is bound, which isn't built
-abbrev pub IsUnbound : Bound → Type 0
-IsUnbound bound = All (λ (values : List BoundValue). values ≡ []) bound.components
 
 -- a peer of this shape before its first call
 pub record IsNew (shape : Shape) (v : View) : Type 0 where

@@ -5,9 +5,11 @@ use Rattle.sim_base.specs.Causes.{Rose}
 use Rattle.fmu_peer.specs.Answer.{IsLink}
 use Rattle.fmu_peer.specs.Machine.{Machine}
 use Rattle.fmu_peer.specs.View.{View}
+use Rattle.system_model.specs.declared.bound.Bound.{Bound}
 use Rattle.system_model.specs.declared.plan.EndKind.{EndKind}
 use Rattle.system_model.specs.declared.plan.EndKind.TheVariants as K
 use Rattle.system_model.specs.declared.system.System.{System}
+use Rattle.system_model.specs.Bounds.{BindsParameters}
 use Rattle.system_model.specs.Sound.{IsSound}
 use Rattle.system_model.specs.Text.{Instant, end_text}
 use Rattle.run_model.specs.Run.{Run, Situation}
@@ -24,7 +26,6 @@ use Rattle.step_master.specs.Lived.{Account, Lived, Unmade}
 use Rattle.calling_sequence.specs.Puts.{CutsPiece, with_pieces}
 use Rattle.calling_sequence.specs.Plans.{IsPlan}
 use Rattle.calling_sequence.specs.Systems.{IsBuilt}
-use Rattle.step_master.specs.System.{IsUnbound}
 
 -- ---- machines
 
@@ -33,10 +34,10 @@ pub record TellMachines (views : List View) (machines : List Machine) : Type 0 w
   pub count : length machines ≡ length views
   pub each : (i : ℕ) (v : View) (m : Machine) → slice_get views i ≡ Some v → slice_get machines i ≡ Some m → (v.fixed.machine ≡ Some m) × (v.state ≡ Some m.first)
 
--- a run of the system with these machines, in which no parameter is bound
-pub record IsRunOf (system : System) (views : List View) (r : Run) : Type 0 where
+-- a run of the system with these values of its parameters and these machines
+pub record IsRunOf (system : System) (bound : Bound) (views : List View) (r : Run) : Type 0 where
   pub system_is : r.system ≡ system
-  pub unbound : IsUnbound r.bound
+  pub bound_is : r.bound ≡ bound
   pub tell : TellMachines views r.machines
 
 -- ---- the run so far
@@ -129,12 +130,12 @@ TracesWell a r E.WriteFault = SomeRose a.olds a.news ⊎ CutsTrace a r
 
 -- the instants that were put are those of the run of told machines
 abbrev pub ToldRun : Type 0
-ToldRun = (a : Account) (r : Run) → IsSound a.system → IsBuilt a.system → IsRunOf a.system a.olds r → r.plan ≡ a.plan → Lived a → PutsRun a r a.end
+ToldRun = (a : Account) (r : Run) → IsSound a.system → IsBuilt a.system → IsRunOf a.system a.bound a.olds r → r.plan ≡ a.plan → Lived a → PutsRun a r a.end
 
 -- of told machines that behave well the text of their trace is put
 abbrev pub ToldTrace : Type 0
-ToldTrace = (a : Account) (r : Run) → IsSound a.system → IsBuilt a.system → IsPlan a.plan → IsRunOf a.system a.olds r → r.plan ≡ a.plan → WellBehaved r → Lived a → TracesWell a r a.end
+ToldTrace = (a : Account) (r : Run) → IsSound a.system → IsBuilt a.system → BindsParameters a.system a.bound → IsPlan a.plan → IsRunOf a.system a.bound a.olds r → r.plan ≡ a.plan → WellBehaved r → Lived a → TracesWell a r a.end
 
 -- and their system is prepared, but for a call that failed
 abbrev pub ToldUnmade : Type 0
-ToldUnmade = (system : System) (olds news : List View) (bad : BadAnswer) (r : Run) → IsSound system → IsRunOf system olds r → WellBehaved r → Unmade system olds bad news → IsLink bad.why × SomeRose olds news
+ToldUnmade = (system : System) (bound : Bound) (olds news : List View) (bad : BadAnswer) (r : Run) → IsSound system → IsRunOf system bound olds r → WellBehaved r → Unmade system olds bad news → IsLink bad.why × SomeRose olds news

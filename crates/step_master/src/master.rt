@@ -1,8 +1,9 @@
 ghost use Rattle.std.specs.Prelude.{◌≡◌, IfOk, IfErr, map};
+ghost use Rattle.system_model.specs.Bounds.{BindsParameters};
 ghost use Rattle.system_model.specs.Sound.{IsSound};
 ghost use Rattle.calling_sequence.specs.Plans.{IsPlan};
 ghost use Rattle.calling_sequence.specs.Systems.{IsBuilt};
-ghost use Rattle.step_master.specs.System.{ArePeersOf, IsUnbound};
+ghost use Rattle.step_master.specs.System.{ArePeersOf};
 
 use crate::room::Room;
 use crate::seats::Seats;
@@ -17,6 +18,7 @@ use system_model::{Bound, Plan, System};
 /// The FMUs of a system with all memory of their run. It can't be let go: it is closed.
 pub struct Master<L: Peer> {
     system: System,
+    bound: Bound,
     plan: Plan,
     seats: Seats<L>,
     room: Room,
@@ -33,17 +35,17 @@ impl<L: Peer> Master<L> {
     pub fn prepare(
         alloc: Global,
         system: System,
-        _bound: Bound,
+        bound: Bound,
         peers: Vec<L>,
         plan: Plan,
     ) -> Result<Master<L>, PrepareEnd<L>>
         requires sound { IsSound system }
         requires built { IsBuilt system }
-        requires unbound { IsUnbound _bound }
+        requires bound { BindsParameters system bound }
         requires peers { ArePeersOf system (map L.view peers.items) }
         requires plan { IsPlan plan }
         ensures ready { IfOk result (IsReady L.view) }
-        ensures ok { IfOk result (λ master. Prepares system plan (map L.view peers.items) (standing L.view master)) }
+        ensures ok { IfOk result (λ master. Prepares system bound plan (map L.view peers.items) (standing L.view master)) }
         ensures err { IfErr result (λ end. FailsToPrepare system (map L.view peers.items) end.fault (map L.view end.peers.items)) }
     {
         let Ok(room) = Room::new(alloc, &system) else {
@@ -56,6 +58,7 @@ impl<L: Peer> Master<L> {
             Ok(mut seats) => match seats.make() {
                 Ok(()) => Ok(Master {
                     system,
+                    bound,
                     plan,
                     seats,
                     room,
@@ -74,8 +77,9 @@ impl<L: Peer> Master<L> {
         }
     }
 
-    /// Runs the system by its plan: the header, Initialization Mode, and then an instant, the Sets of the inputs and a step
-    /// from one point to the next, until the run ends. It puts the trace, one piece for the header, one for each instant, and one for the end.
+    /// Runs the system by its plan: the header, the Sets of the bound parameters, Initialization Mode, and then an instant,
+    /// the Sets of the inputs and a step from one point to the next, until the run ends. It puts the trace, one piece for
+    /// the header, one for each instant, and one for the end.
     /// It takes no memory.
     pub fn run<R: Threads + Sync, O: Sink>(&mut self, _rt: &R, out: &mut O) -> RunEnd
         requires { IsReady L.view self.old }
@@ -85,6 +89,7 @@ impl<L: Peer> Master<L> {
         run_slots(
             &mut self.seats.slots,
             &self.system,
+            &self.bound,
             &self.plan,
             &self.room.reads,
             &mut self.room.values,
@@ -101,6 +106,7 @@ impl<L: Peer> Master<L> {
     {
         let Master {
             system: _,
+            bound: _,
             plan: _,
             seats,
             room: _,

@@ -4,5 +4,6 @@ pub mod Needs
 pub mod Orders
 pub mod Shapes
 pub mod Sound
+pub mod Bounds
 pub mod Outputs
 pub mod Example

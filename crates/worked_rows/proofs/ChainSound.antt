@@ -4,6 +4,10 @@ use Rattle.std.specs.Prelude.{All, Some, codes, false, slice_get, true}
 use Rattle.std.proofs.lemmas.List.Elements.{All-append, All-cons, All-nil}
 use Rattle.std.proofs.lemmas.List.{take_all, take_more}
 use Rattle.std.proofs.lemmas.Option.{none-some as none_some, same_Some}
+use Rattle.std.specs.List.{AllZip, IsDistinct}
+use Rattle.system_model.specs.Bounds.{AreParameterValues, BindsParameters, IsParameterValue}
+use Rattle.system_model.specs.declared.bound.Bound.{Bound}
+use Rattle.system_model.specs.declared.bound.BoundValue.{BoundValue}
 use Rattle.system_model.specs.declared.system.Component.{Component}
 use Rattle.system_model.specs.declared.system.System.{System}
 use Rattle.system_model.specs.Sound.{IsSound}
@@ -59,6 +63,13 @@ chain_built system is = subst IsBuilt (sym is) (record {
   no_event = both (λ (c : Component). c.shape.has_event_mode ≡ false) of_first of_second refl refl;
   no_early = both (λ (c : Component). c.shape.might_return_early ≡ false) of_first of_second refl refl;
 })
+
+pub chain_unbound : (system : System) (bound : Bound) → system ≡ chain → bound.components ≡ [] ∷ [] ∷ [] → BindsParameters system bound
+unfolding IsDistinct
+chain_unbound system bound is none =
+    subst (λ (s : System). BindsParameters s bound) (sym is)
+    (subst (λ (lists : List (List BoundValue)). AllZip (λ (of : Component) (values : List BoundValue). AreParameterValues of.shape values) chain.components lists) (sym none)
+    (record { each = All-nil (IsParameterValue of_first.shape); once = tt }, (record { each = All-nil (IsParameterValue of_second.shape); once = tt }, tt)))
 
 pub chain_peers : (a b : View) → IsNew (gain_on []) a → IsNew (gain_on (2 ∷ [])) b → ArePeersOf chain (a ∷ b ∷ [])
 chain_peers a b new_a new_b = record { len = refl; each = each }

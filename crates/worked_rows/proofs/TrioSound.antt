@@ -1,7 +1,7 @@
 -- The three FMUs side by side are a system that a master takes, and so are peers that were started for them.
-use Rattle.std.proofs.Common.{◌≡◌, ℕ, zero, suc, ◌<◌, ℤ, pos, Bool, true, false, [], ◌∷◌, length, refl, sym, subst, arith, All, nat_eq, ◌⊎◌, inr}
-use Rattle.std.specs.Prelude.{Some, None, codes, slice_get}
-use Rattle.std.specs.List.{IsDistinct}
+use Rattle.std.proofs.Common.{◌≡◌, ℕ, zero, suc, ◌<◌, ℤ, pos, Bool, true, false, [], ◌∷◌, ap, ◌∙◌, length, refl, sym, subst, arith, All, nat_eq, ◌⊎◌, inr}
+use Rattle.std.specs.Prelude.{List, Some, None, codes, slice_get}
+use Rattle.std.specs.List.{AllZip, IsDistinct}
 use Rattle.std.proofs.lemmas.Option.{none-some as none_some, same_Some}
 use Rattle.std.proofs.lemmas.List.Elements.{All-nil, All-cons}
 use Rattle.std.proofs.lemmas.Map.Keys.{IsDistinct-cons}
@@ -12,6 +12,9 @@ use Rattle.value_types.specs.declared.shape.Dependency.{Dependency}
 use Rattle.value_types.specs.declared.shape.Knowns.TheVariants.{AllInputs, Listed}
 use Rattle.value_types.specs.Shape.{is_clock, is_input_port}
 use Rattle.value_types.specs.Values.{Fits}
+use Rattle.system_model.specs.Bounds.{AreParameterValues, BindsParameters, IsParameterValue}
+use Rattle.system_model.specs.declared.bound.Bound.{Bound}
+use Rattle.system_model.specs.declared.bound.BoundValue.{BoundValue}
 use Rattle.system_model.specs.declared.system.Component.{Component}
 use Rattle.system_model.specs.declared.system.Port.{Port}
 use Rattle.system_model.specs.declared.system.Role.TheVariants.{Output}
@@ -24,7 +27,7 @@ use Rattle.system_model.proofs.OutputsSound.{outputs_sound}
 use Rattle.fmu_peer.specs.View.{View}
 use Rattle.calling_sequence.specs.Systems.{IsBuilt}
 use Rattle.step_master.specs.System.{ArePeersOf, IsNew}
-use Rattle.worked_rows.specs.Trio.{component, counting, number, on_nothing, port, trio}
+use Rattle.worked_rows.specs.Trio.{AreIncValues, component, counting, inc_value, number, on_nothing, port, trio}
 
 all2 : {X : Type 0} (P : X → Type 0) (x y : X) → P x → P y → All P (x ∷ y ∷ [])
 all2 P x y a b = All-cons P x (y ∷ []) a (All-cons P y [] b (All-nil P))
@@ -107,6 +110,34 @@ built = record {
 
 pub trio_built : (system : System) → system ≡ trio → IsBuilt system
 trio_built system is = subst IsBuilt (sym is) built
+
+-- ---- parameters
+
+-- a number of 32 bits is a value for what a counter counts by
+inc_alone : (inc : ℤ) → Fits T.Int32 inc → AreIncValues (inc_value inc ∷ [])
+unfolding IsDistinct
+inc_alone inc fits by varies = record {
+  each = All-cons (IsParameterValue (counting by varies)) (inc_value inc) []
+      (record { variable = number (codes "inc") 1 V.Parameter (Some by); at = refl; parameter = refl; kind = refl; no_clock = refl; fits = fits })
+      (All-nil (IsParameterValue (counting by varies)));
+  once = (tt, tt);
+}
+
+pub inc_bound : (values : List BoundValue) (b : BoundValue) → values ≡ b ∷ [] → b ≡ inc_value b.value → Fits T.Int32 b.value → AreIncValues values
+inc_bound values b is value fits = subst AreIncValues (sym (is ∙ ap (λ (x : BoundValue). x ∷ []) value)) (inc_alone b.value fits)
+
+-- and so is none
+pub inc_unbound : (values : List BoundValue) → values ≡ [] → AreIncValues values
+unfolding IsDistinct
+inc_unbound values none = subst AreIncValues (sym none) (λ by varies. record { each = All-nil (IsParameterValue (counting by varies)); once = tt })
+
+pub trio_bound : (a b c : List BoundValue) → AreIncValues a → AreIncValues b → AreIncValues c → (bound : Bound) → bound.components ≡ a ∷ b ∷ c ∷ [] → BindsParameters trio bound
+trio_bound a b c of_a of_b of_c bound is =
+    subst (λ (lists : List (List BoundValue)). AllZip (λ (of : Component) (values : List BoundValue). AreParameterValues of.shape values) trio.components lists) (sym is)
+    (of_a (pos 2) true, (of_b (pos 2) true, (of_c (pos 5) false, tt)))
+
+pub trio_binds : (system : System) (bound : Bound) → system ≡ trio → BindsParameters trio bound → BindsParameters system bound
+trio_binds system bound is binds = subst (λ (s : System). BindsParameters s bound) (sym is) binds
 
 -- ---- peers
 

@@ -8,6 +8,8 @@ use Rattle.value_types.specs.declared.shape.Variable.{Variable}
 use Rattle.value_types.specs.declared.shape.Knowns.TheVariants.{Listed}
 use Rattle.value_types.specs.declared.shape.Dependency.{Dependency}
 use Rattle.value_types.specs.declared.shape.Shape.{Shape}
+use Rattle.system_model.specs.declared.bound.BoundValue.{BoundValue}
+use Rattle.system_model.specs.Bounds.{AreParameterValues}
 use Rattle.system_model.specs.declared.system.Component.{Component}
 use Rattle.system_model.specs.declared.system.Role.TheVariants.{Output}
 use Rattle.system_model.specs.declared.system.Port.{Port}
@@ -46,6 +48,14 @@ counting by varies = record {
   dependencies = on_nothing ∷ [];
   initial_dependencies = on_nothing ∷ [];
 }
+
+-- what it counts by is bound to this number
+abbrev pub inc_value : ℤ → BoundValue
+inc_value by = record { kind = T.Int32; reference = 1; value = by }
+
+-- they are values for the parameters of each counter
+abbrev pub AreIncValues : List BoundValue → Type 0
+AreIncValues values = (by : ℤ) (varies : Bool) → AreParameterValues (counting by varies) values
 
 -- ---- the system
 

@@ -7,13 +7,13 @@ use crate::chain::make_chain;
 use crate::trio::{Ran, run_system, start};
 use bench_fmus::Bench;
 use fmu_peer::{Peer, Spawner, StartFault};
-use sim_base::MemSink;
-use std::alloc::Global;
+use sim_base::{Items, MemSink};
+use std::alloc::{AllocError, Global};
 use std::process::Abort;
 use std::test::Fail;
 use std::thread::Threads;
 use step_master::RunEnd;
-use system_model::System;
+use system_model::{Bound, System};
 
 // A peer for each gain.
 #[tactic(auto, using(crate::proofs::ChainSound::chain_peers))]
@@ -37,6 +37,20 @@ where
     Ok(peers)
 }
 
+// No value for any parameter.
+fn make_unbound(alloc: Global) -> Result<Bound, AllocError>
+    ensures { IfOk result (λ bound. bound.components ≡ [] ∷ [] ∷ []) }
+{
+    let components = vec![in alloc;
+        Items::from_vec(Vec::new(alloc)),
+        Items::from_vec(Vec::new(alloc)),
+    ]?;
+    Ok(Bound {
+        components: Items::from_vec(components),
+        unreached: 0,
+    })
+}
+
 #[tactic(auto, using(crate::proofs::ChainSound::chain_sound, crate::proofs::ChainSound::chain_built))]
 fn run_chain<R: Abort + Threads + Sync, S: Spawner>(
     rt: &R,
@@ -50,8 +64,11 @@ where
     let Ok(system) = make_chain(alloc) else {
         return Err(StartFault::Memory);
     };
+    let Ok(bound) = make_unbound(alloc) else {
+        return Err(StartFault::Memory);
+    };
     let peers = start_chain(rt, alloc, spawner, &system)?;
-    Ok(run_system(rt, alloc, system, peers, 20, out))
+    Ok(run_system(rt, alloc, system, bound, peers, 20, out))
 }
 
 // Worked out by hand, where k is 3 and the first input starts at 5: the first shows the 15 that it holds from the end of

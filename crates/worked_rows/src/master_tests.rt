@@ -11,6 +11,7 @@ use std::alloc::{AllocError, Global};
 use std::process::Abort;
 use std::test::Fail;
 use step_master::{BadAnswer, PrepareFault, RunEnd};
+use value_types::PortType;
 
 const MAKE: Call = Call::Instantiate {
     event_mode: false,
@@ -39,6 +40,22 @@ macro_rules! stepped {
                 end: $end,
             },
         )
+    };
+}
+
+macro_rules! inc {
+    ($value:expr) => {
+        Call::Set {
+            kind: PortType::Int32,
+            reference: 1,
+            value: $value,
+        }
+    };
+}
+
+macro_rules! bound {
+    ($value:expr) => {
+        good!(inc!($value), Content::Set)
     };
 }
 
@@ -73,10 +90,13 @@ macro_rules! bad {
     };
 }
 
-// Three talks, the second with the first of one source, and the puts that fail; how the run ends or why it isn't
+const UNBOUND: [Option<i32>; 3] = [None; 3];
+
+// Three talks, the second with the first of one source, what each counts by where that is bound, and the puts that fail; how the run ends or why it isn't
 // prepared, how many instants and pieces are put or fail, and the text.
 struct Case {
     talks: [&'static [Exchange]; 3],
+    incs: [Option<i32>; 3],
     failing: &'static [u64],
     end: Result<RunEnd, PrepareFault>,
     instants: u128,
@@ -84,13 +104,14 @@ struct Case {
     text: &'static str,
 }
 
-static CASES: [Case; 12] = [
+static CASES: [Case; 14] = [
     Case {
         talks: [
             whole!(3, 4, 5),
             whole!(18_446_744_073_709_551_614, 0, 1),
             whole!(7, 2_147_483_647, 8),
         ],
+        incs: UNBOUND,
         failing: &[],
         end: Ok(RunEnd::Stop),
         instants: 3,
@@ -128,11 +149,72 @@ static CASES: [Case; 12] = [
                 FREED,
             ],
         ],
+        incs: UNBOUND,
         failing: &[],
         end: Ok(RunEnd::Asked { point: 10 }),
         instants: 1,
         puts: 3,
         text: "trace 1 1000 0 20\nport 0 Int32 first y\nport 1 Int32 second y\nport 2 Int32 third y\nat 0 0\n0 3\n1 4\n2 5\nend asked 10\n",
+    },
+    // Parameters are set before Initialization Mode, but not that of the second, which is unbound.
+    Case {
+        talks: [
+            &[
+                MADE,
+                bound!(5),
+                ENTERED,
+                EXITED,
+                read!(0),
+                stepped!(0, 10, true),
+                TERMINATED,
+                FREED,
+            ],
+            &[
+                MADE,
+                ENTERED,
+                EXITED,
+                read!(1),
+                FIRST_STEP,
+                TERMINATED,
+                FREED,
+            ],
+            &[
+                MADE,
+                bound!(-1),
+                ENTERED,
+                EXITED,
+                read!(2),
+                FIRST_STEP,
+                TERMINATED,
+                FREED,
+            ],
+        ],
+        incs: [Some(5), None, Some(-1)],
+        failing: &[],
+        end: Ok(RunEnd::Asked { point: 10 }),
+        instants: 1,
+        puts: 3,
+        text: "trace 1 1000 0 20\nport 0 Int32 first y\nport 1 Int32 second y\nport 2 Int32 third y\nat 0 0\n0 0\n1 1\n2 2\nend asked 10\n",
+    },
+    // The Set of the second: that of the third isn't sent, and each is freed.
+    Case {
+        talks: [
+            &[MADE, bound!(5), FREED],
+            &[MADE, refused!(inc!(7), Kind::Set, BadStatus::Error), FREED],
+            &[MADE, FREED],
+        ],
+        incs: [Some(5), Some(7), Some(8)],
+        failing: &[],
+        end: Ok(RunEnd::Bad(bad!(
+            1,
+            Why::Refused {
+                call: inc!(7),
+                status: BadStatus::Error,
+            }
+        ))),
+        instants: 0,
+        puts: 2,
+        text: "trace 1 1000 0 20\nport 0 Int32 first y\nport 1 Int32 second y\nport 2 Int32 third y\nend fault 0\n",
     },
     // A Get of the second: the third isn't read, and the point has no instant.
     Case {
@@ -166,6 +248,7 @@ static CASES: [Case; 12] = [
                 FREED,
             ],
         ],
+        incs: UNBOUND,
         failing: &[],
         end: Ok(RunEnd::Bad(bad!(
             1,
@@ -201,6 +284,7 @@ static CASES: [Case; 12] = [
             ],
             &[MADE, ENTERED, EXITED, read!(5), wrong!(STEP), FREED],
         ],
+        incs: UNBOUND,
         failing: &[],
         end: Ok(RunEnd::Bad(bad!(
             1,
@@ -234,6 +318,7 @@ static CASES: [Case; 12] = [
                 FREED,
             ],
         ],
+        incs: UNBOUND,
         failing: &[],
         end: Ok(RunEnd::Bad(bad!(
             0,
@@ -269,6 +354,7 @@ static CASES: [Case; 12] = [
             ],
             &[MADE, ENTERED, EXITED, read!(5), failed!(STEP)],
         ],
+        incs: UNBOUND,
         failing: &[],
         end: Ok(RunEnd::Bad(bad!(
             2,
@@ -297,6 +383,7 @@ static CASES: [Case; 12] = [
             ],
             &[MADE, ENTERED, FREED],
         ],
+        incs: UNBOUND,
         failing: &[],
         end: Ok(RunEnd::Bad(bad!(
             1,
@@ -316,6 +403,7 @@ static CASES: [Case; 12] = [
             &[refused!(MAKE, Kind::Instantiate, BadStatus::Discard)],
             &[],
         ],
+        incs: UNBOUND,
         failing: &[],
         end: Err(PrepareFault::Bad(bad!(
             1,
@@ -331,6 +419,7 @@ static CASES: [Case; 12] = [
     // The put of the header fails: no call follows but those of the closing.
     Case {
         talks: [&[MADE, FREED], &[MADE, FREED], &[MADE, FREED]],
+        incs: [Some(5); 3],
         failing: &[0],
         end: Ok(RunEnd::WriteFault),
         instants: 0,
@@ -371,6 +460,7 @@ static CASES: [Case; 12] = [
                 FREED,
             ],
         ],
+        incs: UNBOUND,
         failing: &[2],
         end: Ok(RunEnd::WriteFault),
         instants: 1,
@@ -380,6 +470,7 @@ static CASES: [Case; 12] = [
     // The put of the end line fails.
     Case {
         talks: [whole!(1, 1, 1), whole!(2, 2, 2), whole!(3, 3, 3)],
+        incs: UNBOUND,
         failing: &[4],
         end: Ok(RunEnd::WriteFault),
         instants: 3,
@@ -398,6 +489,7 @@ static CASES: [Case; 12] = [
             ],
             &[MADE, ENTERED, EXITED, TERMINATED, FREED],
         ],
+        incs: UNBOUND,
         failing: &[1],
         end: Ok(RunEnd::WriteFault),
         instants: 0,
@@ -436,7 +528,7 @@ fn a_run_by_scripts_has_its_text_its_end_and_its_talks(rt: HostRuntime) -> Resul
             end,
             instants,
             peers,
-        } = run_trio(&rt, alloc, 20, &mut scripts, &mut out)?;
+        } = run_trio(&rt, alloc, case.incs, 20, &mut scripts, &mut out)?;
         assert_eq!(rt; out.bytes.as_slice(), case.text.as_bytes(), "{}", case.text);
         assert_eq!(rt; end, case.end, "{}", case.text);
         assert_eq!(rt; instants, case.instants, "{}", case.text);
@@ -446,20 +538,29 @@ fn a_run_by_scripts_has_its_text_its_end_and_its_talks(rt: HostRuntime) -> Resul
     Ok(())
 }
 
-// The stop of a run of three counters, how it ends, and its text.
-static COUNTS: [(u64, RunEnd, &str); 3] = [
+// What each of three counters counts by where that is bound, the stop of their run, how it ends, and its text.
+static COUNTS: [([Option<i32>; 3], u64, RunEnd, &str); 4] = [
     (
+        UNBOUND,
         20,
         RunEnd::Stop,
         "trace 1 1000 0 20\nport 0 Int32 first y\nport 1 Int32 second y\nport 2 Int32 third y\nat 0 0\n0 0\n1 0\n2 0\nat 10 0\n0 2\n1 2\n2 5\nat 20 0\n0 4\n1 4\n2 10\nend stop 20\n",
     ),
     (
+        UNBOUND,
         0,
         RunEnd::Stop,
         "trace 1 1000 0 0\nport 0 Int32 first y\nport 1 Int32 second y\nport 2 Int32 third y\nat 0 0\n0 0\n1 0\n2 0\nend stop 0\n",
     ),
+    (
+        [Some(5), None, Some(-1)],
+        20,
+        RunEnd::Stop,
+        "trace 1 1000 0 20\nport 0 Int32 first y\nport 1 Int32 second y\nport 2 Int32 third y\nat 0 0\n0 0\n1 0\n2 0\nat 10 0\n0 5\n1 2\n2 -1\nat 20 0\n0 10\n1 4\n2 -2\nend stop 20\n",
+    ),
     // The last step would be shorter, which the third doesn't take.
     (
+        UNBOUND,
         15,
         RunEnd::FixedStep {
             component: CompId(2),
@@ -473,11 +574,11 @@ static COUNTS: [(u64, RunEnd, &str); 3] = [
 #[test]
 fn counters_side_by_side_have_their_text(rt: HostRuntime) -> Result<(), Fail> {
     let alloc = rt.alloc();
-    for (stop, wanted, text) in COUNTS {
+    for (incs, stop, wanted, text) in COUNTS {
         let mut bench = Bench::new(alloc, None, Vec::new(alloc));
         let mut out = MemSink::with_room(alloc, 400, 8, Vec::new(alloc))?;
         assert!(rt; stop <= 1 << 62);
-        let Ran { end, .. } = run_trio(&rt, alloc, stop, &mut bench, &mut out)?;
+        let Ran { end, .. } = run_trio(&rt, alloc, incs, stop, &mut bench, &mut out)?;
         assert_eq!(rt; out.bytes.as_slice(), text.as_bytes(), "{text}");
         assert_eq!(rt; end, Ok(wanted), "{text}");
     }

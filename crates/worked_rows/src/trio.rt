@@ -1,9 +1,12 @@
 //! Three FMUs side by side, the first two of one source: their system, their peers, and a run of them.
 ghost use Rattle.std.specs.Prelude.{◌≡◌, ◌≤◌, ◌^◌, [], ◌∷◌, IfOk, map};
+ghost use Rattle.value_types.specs.Values.{Fits};
+ghost use Rattle.value_types.specs.declared.values.PortType.TheVariants as PortType;
+ghost use Rattle.system_model.specs.Bounds.{BindsParameters};
 ghost use Rattle.system_model.specs.Sound.{IsSound};
 ghost use Rattle.calling_sequence.specs.Systems.{IsBuilt};
 ghost use Rattle.step_master.specs.System.{ArePeersOf, IsNew};
-ghost use Rattle.worked_rows.specs.Trio.{component, counting, in_turn, number, on_nothing, port, trio};
+ghost use Rattle.worked_rows.specs.Trio.{AreIncValues, component, counting, in_turn, inc_value, number, on_nothing, port, trio};
 
 use fmu_peer::{Peer, Spawner, StartFault};
 use sim_base::{CompId, Items, MemSink, PortId, SourceId, Text};
@@ -11,7 +14,7 @@ use std::alloc::{AllocError, Global};
 use std::process::Abort;
 use std::thread::Threads;
 use step_master::{Master, PrepareEnd, PrepareFault, RunEnd};
-use system_model::{Bound, Component, Plan, Port, Role, System};
+use system_model::{Bound, BoundValue, Component, Plan, Port, Role, System};
 use value_types::{ByReference, Causality, Dependency, Knowns, PortType, Shape, Variable};
 
 pub(crate) fn make_number(
@@ -123,6 +126,44 @@ fn make_trio(alloc: Global) -> Result<System, AllocError>
     })
 }
 
+// The value that `inc` is bound to.
+fn inc_value(inc: i32) -> BoundValue
+    ensures value { result ≡ inc_value result.value }
+    ensures fits { Fits PortType.Int32 result.value }
+{
+    BoundValue {
+        kind: PortType::Int32,
+        reference: 1,
+        value: inc.into(),
+    }
+}
+
+// The value of `inc`, where it is bound.
+fn make_values(alloc: Global, inc: Option<i32>) -> Result<Items<BoundValue>, AllocError>
+    ensures { IfOk result AreIncValues }
+{
+    match inc {
+        Some(inc) => Ok(Items::from_vec(vec![in alloc; inc_value(inc)]?)),
+        None => Ok(Items::from_vec(Vec::new(alloc))),
+    }
+}
+
+// What each counts by, where that is bound.
+fn make_bound(alloc: Global, incs: [Option<i32>; 3]) -> Result<Bound, AllocError>
+    ensures { IfOk result (λ bound. BindsParameters trio bound) }
+{
+    let [first, second, third] = incs;
+    let components = vec![in alloc;
+        make_values(alloc, first)?,
+        make_values(alloc, second)?,
+        make_values(alloc, third)?,
+    ]?;
+    Ok(Bound {
+        components: Items::from_vec(components),
+        unreached: 0,
+    })
+}
+
 pub(crate) fn start<S: Spawner>(
     rt: &impl Abort,
     alloc: Global,
@@ -169,11 +210,12 @@ pub(crate) struct Ran<L: Peer> {
     pub(crate) peers: Vec<L>,
 }
 
-/// Runs the three FMUs from 0 to the stop by steps of 10, and closes them.
+/// Runs the three FMUs from 0 to the stop by steps of 10, each with `inc` bound where a value is given, and closes them.
 #[tactic(auto, using(crate::proofs::TrioSound::trio_built))]
 pub(crate) fn run_trio<R: Abort + Threads + Sync, S: Spawner>(
     rt: &R,
     alloc: Global,
+    incs: [Option<i32>; 3],
     stop: u64,
     spawner: &mut S,
     out: &mut MemSink,
@@ -185,8 +227,11 @@ where
     let Ok(system) = make_trio(alloc) else {
         return Err(StartFault::Memory);
     };
+    let Ok(bound) = make_bound(alloc, incs) else {
+        return Err(StartFault::Memory);
+    };
     let peers = start_trio(rt, alloc, spawner, &system)?;
-    Ok(run_system(rt, alloc, system, peers, stop, out))
+    Ok(run_system(rt, alloc, system, bound, peers, stop, out))
 }
 
 /// Runs a system from 0 to the stop by steps of 10, and closes it.
@@ -194,19 +239,17 @@ pub(crate) fn run_system<R: Threads + Sync, L: Peer>(
     rt: &R,
     alloc: Global,
     system: System,
+    bound: Bound,
     peers: Vec<L>,
     stop: u64,
     out: &mut MemSink,
 ) -> Ran<L>
     requires sound { IsSound system }
     requires built { IsBuilt system }
+    requires bound { BindsParameters system bound }
     requires peers { ArePeersOf system (map L.view peers.items) }
     requires stop { stop ≤ 2 ^ 62 }
 {
-    let bound = Bound {
-        components: Items::from_vec(Vec::new(alloc)),
-        unreached: 0,
-    };
     let plan = Plan {
         resolution: 1000,
         start: 0,

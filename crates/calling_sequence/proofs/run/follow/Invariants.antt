@@ -12,7 +12,7 @@ invariant-points g l =
     record {
       live : All (LiveSlot view) l.slots;
       at : All (Stands (IsAt l.t l.plan.stop l.plan.step) view) l.slots;
-      here : Here l.system l.plan (instances view l.fn.slots) (g.O.Sink.view l.fn.out) l.t (instances view l.slots) (g.O.Sink.view l.out) l.instants;
+      here : Here l.system l.bound l.plan (instances view l.fn.slots) (g.O.Sink.view l.fn.out) l.t (instances view l.slots) (g.O.Sink.view l.out) l.instants;
       few : l.instants ≤ l.t;
       begun : l.plan.start ≤ l.t;
       within : l.t ≤ l.plan.stop;

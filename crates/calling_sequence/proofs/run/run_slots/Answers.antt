@@ -8,6 +8,6 @@ returns g c =
       log = f.log;
       is = f.is;
       told = f.told;
-      ends = ends_of c.args.system.now c.args.plan.now f.log f.is _ _ _ c.follow-outcome.result c.conclude.result f.goes c.conclude.ensures;
+      ends = ends_of c.args.system.now c.args.bound.now c.args.plan.now f.log f.is _ _ _ c.follow-outcome.result c.conclude.result f.goes c.conclude.ensures;
       counted_is = f.counted_is;
     }

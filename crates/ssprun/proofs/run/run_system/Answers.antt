@@ -1,13 +1,14 @@
 use Rattle.std.proofs.Common.{List, ℕ, map, ap, subst, ◌∙◌}
 use Rattle.std.proofs.lemmas.List.{length-map}
 use Rattle.system_model.specs.declared.system.Component.{Component}
+use Rattle.system_model.specs.declared.bound.Bound.{Bound}
 use Rattle.system_model.specs.declared.plan.Plan.{Plan}
 use Rattle.ssprun.specs.Peers.{StartsEach, StartsUpTo, with_all_started}
 use Rattle.ssprun.specs.Runs.{Task}
 use Rattle.ssprun.proofs.run.run_system.Goals as goal
 
-abbrev task_with : Plan → List (List ℕ) → Task
-task_with plan folders = record { plan = plan; folders = folders }
+abbrev task_with : Plan → Bound → List (List ℕ) → Task
+task_with plan bound folders = record { plan = plan; bound = bound; folders = folders }
 
 pub returns-in-Ok-start_each : goal.returns-in-Ok-start_each
 returns-in-Ok-start_each g c =
@@ -24,5 +25,5 @@ returns-in-Err g c =
     let peers = map g.S.Link.Peer.view u.peers.items in
     let starts : StartsUpTo c.args.folders.now c.args.system.components u.component.0 u.fault peers old (g.S.Spawner.view c.start_each.new.spawner) =
     subst (λ (cs : List Component). StartsUpTo c.args.folders.now cs u.component.0 u.fault peers old (g.S.Spawner.view c.start_each.new.spawner)) c.as_slice-components.ensures c.in-Err.ensures.err in
-    c.give_up.ensures (task_with c.args.plan c.args.folders.now) c.args.system old (g.O.Sink.view c.args.out.now)
+    c.give_up.ensures (task_with c.args.plan c.args.bound c.args.folders.now) c.args.system old (g.O.Sink.view c.args.out.now)
     (c.in-Ok.ensures ∙ ap (map (λ (x : Component). x.name)) c.as_slice-components.ensures) starts

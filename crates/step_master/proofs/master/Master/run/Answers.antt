@@ -17,6 +17,7 @@ returns g c =
       told = subst (λ news. Told r.log (instances view slots.items) (instances view news)) (sym back) (subst (λ olds. Told r.log (instances view olds) (instances view c.run_slots.new.slots)) is r.told);
       ends = r.ends;
       system_is = refl;
+      bound_is = refl;
       plan_is = refl;
       run = refl;
       counted = r.counted_is;
