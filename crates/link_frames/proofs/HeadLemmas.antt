@@ -1,0 +1,301 @@
+-- The head of a frame and the numbers that are read from it.
+use Rattle.std.proofs.Common.{◌≡◌, ℕ, zero, suc, ◌-◌, ◌<◌, ◌≤◌, ◌^◌, inl, inr, List, [], ◌∷◌, ◌++◌, length, refl, sym, ap, ◌∙◌, append-nil, arith}
+use Rattle.std.specs.Int.{w32, w64, to_be_bytes, from_be_bytes}
+use Rattle.std.proofs.lemmas.Nat.{be_bytes_4, be_bytes_8, from_be_bytes-to_be_bytes_4, from_be_bytes-to_be_bytes_8}
+use Rattle.std.specs.Prelude.{slice_index}
+use Rattle.fmi_calls.specs.KindFacts.{facts_of}
+use Rattle.fmi_calls.specs.declared.call.Kind.{Kind}
+use Rattle.fmi_calls.specs.declared.call.Kind.TheVariants as K
+use Rattle.link_frames.specs.declared.field.Spans.{Spans}
+use Rattle.link_frames.specs.declared.head.Head.{Head}
+use Rattle.link_frames.specs.declared.layout.Form.{Form}
+use Rattle.link_frames.specs.Field.{AreBytes, Field, InSpans, number}
+use Rattle.link_frames.specs.Head.{InRange, head, numbers_of, spelling}
+use Rattle.link_frames.specs.Layout.{any, between, kind_at, row_by, zero_only}
+use Rattle.link_frames.specs.Numbers.{Reads}
+
+-- ---- numbers of kinds
+
+pub number_again : (kind : Kind) → kind_at (facts_of kind).number ≡ kind
+number_again K.Instantiate = refl
+number_again K.EnterInitialization = refl
+number_again K.ExitInitialization = refl
+number_again K.EnterEvent = refl
+number_again K.EnterStep = refl
+number_again K.DoStep = refl
+number_again K.Update = refl
+number_again K.Get = refl
+number_again K.Set = refl
+number_again K.GetClock = refl
+number_again K.SetClock = refl
+number_again K.GetInterval = refl
+number_again K.GetShift = refl
+number_again K.Save = refl
+number_again K.Restore = refl
+number_again K.Free = refl
+number_again K.Terminate = refl
+number_again K.FreeInstance = refl
+
+pub record IsKindNumber (n : ℕ) : Type 0 where
+  pub from : 1 ≤ n
+  pub upto : n ≤ 18
+
+pub number_in : (kind : Kind) → IsKindNumber (facts_of kind).number
+number_in K.Instantiate = record { from = omega arith; upto = omega arith }
+number_in K.EnterInitialization = record { from = omega arith; upto = omega arith }
+number_in K.ExitInitialization = record { from = omega arith; upto = omega arith }
+number_in K.EnterEvent = record { from = omega arith; upto = omega arith }
+number_in K.EnterStep = record { from = omega arith; upto = omega arith }
+number_in K.DoStep = record { from = omega arith; upto = omega arith }
+number_in K.Update = record { from = omega arith; upto = omega arith }
+number_in K.Get = record { from = omega arith; upto = omega arith }
+number_in K.Set = record { from = omega arith; upto = omega arith }
+number_in K.GetClock = record { from = omega arith; upto = omega arith }
+number_in K.SetClock = record { from = omega arith; upto = omega arith }
+number_in K.GetInterval = record { from = omega arith; upto = omega arith }
+number_in K.GetShift = record { from = omega arith; upto = omega arith }
+number_in K.Save = record { from = omega arith; upto = omega arith }
+number_in K.Restore = record { from = omega arith; upto = omega arith }
+number_in K.Free = record { from = omega arith; upto = omega arith }
+number_in K.Terminate = record { from = omega arith; upto = omega arith }
+number_in K.FreeInstance = record { from = omega arith; upto = omega arith }
+
+pub kind_again : (n : ℕ) → IsKindNumber n → (facts_of (kind_at n)).number ≡ n
+kind_again zero h = absurd (omega (arith, h.from))
+kind_again (suc zero) h = refl
+kind_again (suc (suc zero)) h = refl
+kind_again (suc (suc (suc zero))) h = refl
+kind_again (suc (suc (suc (suc zero)))) h = refl
+kind_again (suc (suc (suc (suc (suc zero))))) h = refl
+kind_again (suc (suc (suc (suc (suc (suc zero)))))) h = refl
+kind_again (suc (suc (suc (suc (suc (suc (suc zero))))))) h = refl
+kind_again (suc (suc (suc (suc (suc (suc (suc (suc zero)))))))) h = refl
+kind_again (suc (suc (suc (suc (suc (suc (suc (suc (suc zero))))))))) h = refl
+kind_again (suc (suc (suc (suc (suc (suc (suc (suc (suc (suc zero)))))))))) h = refl
+kind_again (suc (suc (suc (suc (suc (suc (suc (suc (suc (suc (suc zero))))))))))) h = refl
+kind_again (suc (suc (suc (suc (suc (suc (suc (suc (suc (suc (suc (suc zero)))))))))))) h = refl
+kind_again (suc (suc (suc (suc (suc (suc (suc (suc (suc (suc (suc (suc (suc zero))))))))))))) h = refl
+kind_again (suc (suc (suc (suc (suc (suc (suc (suc (suc (suc (suc (suc (suc (suc zero)))))))))))))) h = refl
+kind_again (suc (suc (suc (suc (suc (suc (suc (suc (suc (suc (suc (suc (suc (suc (suc zero))))))))))))))) h = refl
+kind_again (suc (suc (suc (suc (suc (suc (suc (suc (suc (suc (suc (suc (suc (suc (suc (suc zero)))))))))))))))) h = refl
+kind_again (suc (suc (suc (suc (suc (suc (suc (suc (suc (suc (suc (suc (suc (suc (suc (suc (suc zero))))))))))))))))) h = refl
+kind_again (suc (suc (suc (suc (suc (suc (suc (suc (suc (suc (suc (suc (suc (suc (suc (suc (suc (suc zero)))))))))))))))))) h = refl
+kind_again (suc (suc (suc (suc (suc (suc (suc (suc (suc (suc (suc (suc (suc (suc (suc (suc (suc (suc (suc n))))))))))))))))))) h = absurd (omega (arith, h.upto))
+
+-- ---- numbers in spans
+
+pub in_between : (low high n : ℕ) → low ≤ n → n ≤ high → InSpans (between low high) n
+in_between low high n le ge = inl (record { from = le; upto = ge })
+
+pub record IsBetween (low high n : ℕ) : Type 0 where
+  pub from : low ≤ n
+  pub upto : n ≤ high
+
+pub is_between : (low high n : ℕ) → InSpans (between low high) n → IsBetween low high n
+is_between low high n h =
+    elim h [
+      | inl s ↦ record { from = s.from; upto = s.upto }
+      | inr s ↦ record { from = s.from; upto = s.upto }
+    ]
+
+pub is_zero : (n : ℕ) → InSpans zero_only n → n ≡ 0
+is_zero n h = omega (arith, (is_between 0 0 n h).upto)
+
+pub in_zero : InSpans zero_only 0
+in_zero = in_between 0 0 0 (omega arith) (omega arith)
+
+pub in_any : (n : ℕ) → n < 2 ^ 64 → InSpans any n
+in_any n lt = in_between 0 (2 ^ 64 - 1) n (omega arith) (omega (arith, lt))
+
+-- ---- numbers in bytes
+
+number_4 : (bs : List ℕ) → length bs ≡ 4 → number 0 bs ≡ from_be_bytes w32 bs
+number_4 [] e = absurd (omega (arith, e))
+number_4 (a ∷ []) e = absurd (omega (arith, e))
+number_4 (a ∷ b ∷ []) e = absurd (omega (arith, e))
+number_4 (a ∷ b ∷ c ∷ []) e = absurd (omega (arith, e))
+number_4 (a ∷ b ∷ c ∷ d ∷ []) e = omega arith
+number_4 (a ∷ b ∷ c ∷ d ∷ x ∷ rest) e = absurd (omega (arith, e))
+
+number_8 : (bs : List ℕ) → length bs ≡ 8 → number 0 bs ≡ from_be_bytes w64 bs
+number_8 [] e = absurd (omega (arith, e))
+number_8 (a ∷ []) e = absurd (omega (arith, e))
+number_8 (a ∷ b ∷ []) e = absurd (omega (arith, e))
+number_8 (a ∷ b ∷ c ∷ []) e = absurd (omega (arith, e))
+number_8 (a ∷ b ∷ c ∷ d ∷ []) e = absurd (omega (arith, e))
+number_8 (a ∷ b ∷ c ∷ d ∷ x ∷ []) e = absurd (omega (arith, e))
+number_8 (a ∷ b ∷ c ∷ d ∷ x ∷ y ∷ []) e = absurd (omega (arith, e))
+number_8 (a ∷ b ∷ c ∷ d ∷ x ∷ y ∷ z ∷ []) e = absurd (omega (arith, e))
+number_8 (a ∷ b ∷ c ∷ d ∷ x ∷ y ∷ z ∷ w ∷ []) e = omega arith
+number_8 (a ∷ b ∷ c ∷ d ∷ x ∷ y ∷ z ∷ w ∷ v ∷ rest) e = absurd (omega (arith, e))
+
+field_1 : (spans : Spans) (n : ℕ) → n < 256 → InSpans spans n → Field 1 spans n (n ∷ [])
+field_1 spans n lt h = record { size_is = refl; are_bytes = (lt, tt); number = omega arith; span = h }
+
+field_4 : (spans : Spans) (n : ℕ) → n < 2 ^ 32 → InSpans spans n → Field 4 spans n (to_be_bytes w32 n)
+field_4 spans n lt h = record {
+  size_is = refl;
+  are_bytes = (omega arith, (omega arith, (omega arith, (omega arith, tt))));
+  number = number_4 (to_be_bytes w32 n) refl ∙ from_be_bytes-to_be_bytes_4 n lt;
+  span = h;
+}
+
+field_8 : (spans : Spans) (n : ℕ) → n < 2 ^ 64 → InSpans spans n → Field 8 spans n (to_be_bytes w64 n)
+field_8 spans n lt h = record {
+  size_is = refl;
+  are_bytes = (omega arith, (omega arith, (omega arith, (omega arith, (omega arith, (omega arith, (omega arith, (omega arith, tt))))))));
+  number = number_8 (to_be_bytes w64 n) refl ∙ from_be_bytes-to_be_bytes_8 n lt;
+  span = h;
+}
+
+byte_small : (bs : List ℕ) → AreBytes bs → (i : ℕ) → slice_index bs i < 256
+byte_small [] h i = omega arith
+byte_small (b ∷ bs) h zero = h.0
+byte_small (b ∷ bs) h (suc i) = byte_small bs h.1 i
+
+-- the bytes of a number are its only ones
+record Only (n : ℕ) (bytes spelled : List ℕ) (limit : ℕ) : Type 0 where
+  below : n < limit
+  is : bytes ≡ spelled
+
+only_1 : (spans : Spans) (n : ℕ) (bs : List ℕ) → Field 1 spans n bs → Only n bs (n ∷ []) 256
+only_1 spans n [] h = absurd (omega (arith, h.size_is))
+only_1 spans n (a ∷ []) h =
+    let same : a ≡ n = omega (arith, h.number) in
+    record { below = omega (arith, h.are_bytes.0, same); is = ap (λ (x : ℕ). x ∷ []) same }
+only_1 spans n (a ∷ b ∷ rest) h = absurd (omega (arith, h.size_is))
+
+only_4 : (spans : Spans) (n : ℕ) (bs : List ℕ) → Field 4 spans n bs → Only n bs (to_be_bytes w32 n) (2 ^ 32)
+only_4 spans n bs h =
+    let is : n ≡ from_be_bytes w32 bs = sym h.number ∙ number_4 bs h.size_is in
+    let small = byte_small bs h.are_bytes in
+    record { below = omega (arith, is, small 0, small 1, small 2, small 3); is = sym (be_bytes_4 bs n h.size_is small is) }
+
+only_8 : (spans : Spans) (n : ℕ) (bs : List ℕ) → Field 8 spans n bs → Only n bs (to_be_bytes w64 n) (2 ^ 64)
+only_8 spans n bs h =
+    let is : n ≡ from_be_bytes w64 bs = sym h.number ∙ number_8 bs h.size_is in
+    let small = byte_small bs h.are_bytes in
+    record { below = omega (arith, is, small 0, small 1, small 2, small 3, small 4, small 5, small 6, small 7); is = sym (be_bytes_8 bs n h.size_is small is) }
+
+-- ---- the head
+
+pub head_same : (k d f r a b k' d' f' r' a' b' : ℕ) → k ≡ k' → d ≡ d' → f ≡ f' → r ≡ r' → a ≡ a' → b ≡ b' → head k d f r a b ≡ head k' d' f' r' a' b'
+head_same k d f r a b k' d' f' r' a' b' e1 e2 e3 e4 e5 e6 = rw (e1, e2, e3, e4, e5, e6) refl
+
+pub head_length : (h : Head) → length (spelling h) ≡ 24
+unfolding spelling
+head_length h = refl
+
+-- each number lies in its spans
+pub record Allowed (form : Form) (kind : Kind) (h : Head) : Type 0 where
+  pub detail : InSpans (row_by form kind 0 0 0).detail h.detail
+  pub flags : InSpans (row_by form kind h.detail 0 0).flags h.flags
+  pub reference : InSpans (row_by form kind h.detail h.flags 0).reference h.reference
+  pub first : InSpans (row_by form kind h.detail h.flags h.reference).first h.first
+  pub last : InSpans (row_by form kind h.detail h.flags h.reference).last h.last
+
+pub record IsHead (form : Form) (h : Head) : Type 0 where
+  pub kind : IsKindNumber h.kind
+  pub detail : h.detail < 256
+  pub flags : h.flags < 256
+  pub in_range : InRange h
+  pub allowed : Allowed form (kind_at h.kind) h
+
+pub head_reads : (form : Form) (h : Head) → IsHead form h → Reads form 7 [] (numbers_of h) (spelling h)
+unfolding spelling
+head_reads form h is =
+    let a = is.allowed in
+    record {
+      number = h.kind;
+      front = h.kind ∷ [];
+      rest = _;
+      both = refl;
+      is_first = field_1 (between 1 18) h.kind (omega (arith, is.kind.upto)) (in_between 1 18 h.kind is.kind.from is.kind.upto);
+      is_next = record {
+        number = h.detail;
+        front = h.detail ∷ [];
+        rest = _;
+        both = refl;
+        is_first = field_1 _ h.detail is.detail a.detail;
+        is_next = record {
+          number = h.flags;
+          front = h.flags ∷ [];
+          rest = _;
+          both = refl;
+          is_first = field_1 _ h.flags is.flags a.flags;
+          is_next = record {
+            number = 0;
+            front = 0 ∷ [];
+            rest = _;
+            both = refl;
+            is_first = field_1 zero_only 0 (omega arith) in_zero;
+            is_next = record {
+              number = h.reference;
+              front = to_be_bytes w32 h.reference;
+              rest = _;
+              both = refl;
+              is_first = field_4 _ h.reference is.in_range.reference a.reference;
+              is_next = record {
+                number = h.first;
+                front = to_be_bytes w64 h.first;
+                rest = _;
+                both = refl;
+                is_first = field_8 _ h.first is.in_range.first a.first;
+                is_next = record {
+                  number = h.last;
+                  front = to_be_bytes w64 h.last;
+                  rest = [];
+                  both = sym (append-nil (to_be_bytes w64 h.last));
+                  is_first = field_8 _ h.last is.in_range.last a.last;
+                  is_next = (refl, refl);
+                };
+              };
+            };
+          };
+        };
+      };
+    }
+
+pub record HeadRead (form : Form) (all bytes : List ℕ) : Type 0 where
+  pub head : Head
+  pub is : IsHead form head
+  pub all_is : all ≡ numbers_of head
+  pub spelled : bytes ≡ spelling head
+
+joined : (bytes f1 r1 f2 r2 f3 r3 f4 r4 f5 r5 f6 r6 f7 r7 w a b : List ℕ) (k d f z : ℕ) → bytes ≡ f1 ++ r1 → r1 ≡ f2 ++ r2 → r2 ≡ f3 ++ r3 → r3 ≡ f4 ++ r4 → r4 ≡ f5 ++ r5 → r5 ≡ f6 ++ r6 → r6 ≡ f7 ++ r7 → r7 ≡ []
+    → f1 ≡ k ∷ [] → f2 ≡ d ∷ [] → f3 ≡ f ∷ [] → f4 ≡ z ∷ [] → z ≡ 0 → f5 ≡ w → f6 ≡ a → f7 ≡ b → bytes ≡ (k ∷ d ∷ f ∷ 0 ∷ []) ++ (w ++ (a ++ b))
+joined bytes f1 r1 f2 r2 f3 r3 f4 r4 f5 r5 f6 r6 f7 r7 w a b k d f z e1 e2 e3 e4 e5 e6 e7 e8 g1 g2 g3 g4 zero_is g5 g6 g7 =
+    rw (e1, e2, e3, e4, e5, e6, e7, e8, g1, g2, g3, g4, zero_is, g5, g6, g7, append-nil b) refl
+
+pub read_head : (form : Form) (all bytes : List ℕ) → Reads form 7 [] all bytes → HeadRead form all bytes
+unfolding spelling
+read_head form all bytes p1 =
+    let p2 = p1.is_next in
+    let p3 = p2.is_next in
+    let p4 = p3.is_next in
+    let p5 = p4.is_next in
+    let p6 = p5.is_next in
+    let p7 = p6.is_next in
+    let end = p7.is_next in
+    let kind = is_between 1 18 p1.number p1.is_first.span in
+    let zero_is : p4.number ≡ 0 = is_zero p4.number p4.is_first.span in
+    let o1 = only_1 _ p1.number p1.front p1.is_first in
+    let o2 = only_1 _ p2.number p2.front p2.is_first in
+    let o3 = only_1 _ p3.number p3.front p3.is_first in
+    let o4 = only_1 _ p4.number p4.front p4.is_first in
+    let o5 = only_4 _ p5.number p5.front p5.is_first in
+    let o6 = only_8 _ p6.number p6.front p6.is_first in
+    let o7 = only_8 _ p7.number p7.front p7.is_first in
+    record {
+      head = head p1.number p2.number p3.number p5.number p6.number p7.number;
+      is = record {
+        kind = record { from = kind.from; upto = kind.upto };
+        detail = o2.below;
+        flags = o3.below;
+        in_range = record { reference = o5.below; first = o6.below; last = o7.below };
+        allowed = record { detail = p2.is_first.span; flags = p3.is_first.span; reference = p5.is_first.span; first = p6.is_first.span; last = p7.is_first.span };
+      };
+      all_is = end.0 ∙ ap (λ (z : ℕ). p1.number ∷ p2.number ∷ p3.number ∷ z ∷ p5.number ∷ p6.number ∷ p7.number ∷ []) zero_is;
+      spelled = joined bytes p1.front p1.rest p2.front p2.rest p3.front p3.rest p4.front p4.rest p5.front p5.rest p6.front p6.rest p7.front p7.rest _ _ _ p1.number p2.number p3.number p4.number
+          p1.both p2.both p3.both p4.both p5.both p6.both p7.both end.1 o1.is o2.is o3.is o4.is zero_is o5.is o6.is o7.is;
+    }

@@ -1,0 +1,14 @@
+pub mod TakingLemmas
+pub mod SpanLemmas
+pub mod FieldLemmas
+pub mod BehindLemmas
+pub mod RowLemmas
+pub mod NumbersLemmas
+pub mod HeadLemmas
+pub mod MapLemmas
+pub mod ReplyLemmas
+pub mod CharLemmas
+pub mod TextLemmas
+pub mod WordLemmas
+pub mod CallLemmas
+pub mod ListLemmas

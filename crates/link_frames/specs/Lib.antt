@@ -1,0 +1,8 @@
+pub mod Taking
+pub mod Field
+pub mod Layout
+pub mod Numbers
+pub mod Head
+pub mod Reply
+pub mod Text
+pub mod Call
