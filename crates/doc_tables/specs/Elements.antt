@@ -3,7 +3,7 @@
 use Rattle.std.specs.Prelude.{◌≡◌, ℕ, Bool, true, false, not, ◌==◌, List, [], length, Option, Some, None, unwrap_or, option_and_then, slice_get, bytes_eq}
 use Rattle.std.specs.Option.{option_map_or}
 use Rattle.doc_grammar.specs.Nodes.{Node}
-use Rattle.doc_tree.specs.Elements.{value_at}
+use Rattle.doc_tree.specs.Elements.{children_of, value_at}
 use Rattle.doc_tree.specs.Path.{name_at, parent_at}
 
 -- ---- names, attributes and places; past the last element there is none of them
@@ -23,6 +23,10 @@ text_of t k name = unwrap_or (attribute t k name) []
 
 abbrev pub parent : List Node → ℕ → Option ℕ
 parent t k = parent_at t k
+
+-- the elements that stand directly in this one
+abbrev pub children : List Node → ℕ → List ℕ
+children t k = option_map_or (λ (n : Node). children_of t k) (slice_get t k) []
 
 -- the root, in which all others stand
 abbrev pub is_root : List Node → ℕ → Bool

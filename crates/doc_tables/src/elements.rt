@@ -1,6 +1,6 @@
-//! What elements are called, say and stand in. Past the last element there is no name, no attribute and no parent.
+//! What elements are called, say and stand in, and what stands in them. Past the last element there is nothing of that.
 ghost use Rattle.std.specs.Prelude.{◌≡◌, ◌<◌, ◌↔◌, IfSome, IsTrue, option_copied};
-ghost use Rattle.doc_tables.specs.Elements.{Lacks, LacksText, attribute, filled, is_in, is_named, is_root, name_of, parent, text_of};
+ghost use Rattle.doc_tables.specs.Elements.{Lacks, LacksText, attribute, children, filled, is_in, is_named, is_root, name_of, parent, text_of};
 
 use doc_tree::Tree;
 
@@ -49,6 +49,17 @@ pub fn parent(tree: &Tree, node: usize) -> Option<usize>
         tree.parent(node)
     } else {
         None
+    }
+}
+
+/// The elements that stand directly in this one, in document order.
+pub fn children(tree: &Tree, node: usize) -> &[usize]
+    ensures { result.now ≡ children tree.now node }
+{
+    if node < tree.len() {
+        tree.children(node)
+    } else {
+        &[]
     }
 }
 

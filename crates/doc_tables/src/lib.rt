@@ -9,7 +9,7 @@ mod scopes;
 mod tests;
 
 pub use elements::{
-    attribute, filled, is_in_root, is_named, lacks, lacks_text, name, parent, text_of,
+    attribute, children, filled, is_in_root, is_named, lacks, lacks_text, name, parent, text_of,
 };
 pub use names::NamePlaces;
 pub use refusals::refusal;

@@ -1,6 +1,6 @@
 use crate::{
-    NamePlaces, ScopedPlaces, attribute, filled, is_in_root, is_named, lacks, lacks_text, name,
-    parent, refusal, text_of,
+    NamePlaces, ScopedPlaces, attribute, children, filled, is_in_root, is_named, lacks, lacks_text,
+    name, parent, refusal, text_of,
 };
 use doc_tree::{DescriptionRule, Refusal, Rule, read_tree};
 use std::test::Fail;
@@ -47,6 +47,8 @@ fn elements_tell_what_they_are(rt: HostRuntime) -> Result<(), Fail> {
     assert!(rt; is_named(&tree, 2, "b") && is_in_root(&tree, 2) && !is_in_root(&tree, 4));
     assert!(rt; lacks(&tree, 3, "n") && !lacks(&tree, 2, "n") && lacks_text(&tree, 2, "n"));
     assert_eq!(rt; text_of(&tree, 5, "n"), "y");
+    assert_eq!(rt; children(&tree, 3), [4, 5].as_slice());
+    assert!(rt; children(&tree, 5).is_empty() && children(&tree, 6).is_empty());
     let refused = refusal(alloc, 4, Rule::Description(DescriptionRule::NameTwice));
     assert!(rt;
         matches!(

@@ -3,13 +3,15 @@ use Rattle.std.specs.Prelude.{ℕ}
 use Rattle.doc_grammar.specs.declared.reasons.Rule as grammar
 use Rattle.doc_grammar.specs.declared.reasons.Rule.TheVariants.{NotUtf8, Malformed, Doctype, TooDeep, AttributeTwice}
 use Rattle.doc_tree.specs.declared.rule.Rule.{Rule}
-use Rattle.doc_tree.specs.declared.rule.Rule.TheVariants.{Document, Description, Unbuilt, System, Flattening, Loop, TooManyPorts}
+use Rattle.doc_tree.specs.declared.rule.Rule.TheVariants.{Document, Description, Unbuilt, System, Flattening, Loop, TooManyPorts, Parameters}
 use Rattle.doc_tree.specs.declared.rule.DescriptionRule.{DescriptionRule}
 use Rattle.doc_tree.specs.declared.rule.DescriptionRule.TheVariants as d
 use Rattle.doc_tree.specs.declared.rule.SystemRule.{SystemRule}
 use Rattle.doc_tree.specs.declared.rule.SystemRule.TheVariants as s
 use Rattle.doc_tree.specs.declared.rule.FlatteningRule.{FlatteningRule}
 use Rattle.doc_tree.specs.declared.rule.FlatteningRule.TheVariants as f
+use Rattle.doc_tree.specs.declared.rule.ParameterRule.{ParameterRule}
+use Rattle.doc_tree.specs.declared.rule.ParameterRule.TheVariants as p
 
 -- of documents: the text is one of the subset of XML 1.0
 abbrev pub document_number : grammar.Rule → ℕ
@@ -59,6 +61,16 @@ flattening_number f.EndTwice = 43
 flattening_number f.TooWide = 44
 flattening_number f.FedClock = 45
 
+-- of sets of parameter values and of their mappings (SSP 1.0: SSV and SSM)
+abbrev pub parameter_number : ParameterRule → ℕ
+parameter_number p.Structure = 50
+parameter_number p.Incomplete = 51
+parameter_number p.OtherClass = 52
+parameter_number p.OutOfRange = 53
+parameter_number p.Transformation = 54
+parameter_number p.NoMapEntry = 55
+parameter_number p.NamesTwo = 56
+
 -- of all
 abbrev pub number : Rule → ℕ
 number (Document rule) = document_number rule
@@ -68,3 +80,4 @@ number (System rule) = system_number rule
 number (Flattening rule) = flattening_number rule
 number Loop = 46
 number TooManyPorts = 49
+number (Parameters rule) = parameter_number rule

@@ -1,5 +1,5 @@
 ghost use Rattle.std.specs.Prelude.{◌≡◌};
-ghost use Rattle.doc_tree.specs.Rules.{description_number, document_number, flattening_number, number, system_number};
+ghost use Rattle.doc_tree.specs.Rules.{description_number, document_number, flattening_number, number, parameter_number, system_number};
 
 use crate::DocumentRule;
 
@@ -20,6 +20,8 @@ pub enum Rule {
     Loop,
     /// 49: the ports are more than a system may have
     TooManyPorts,
+    /// 50 to 56: a rule of sets of parameter values and of their mappings, at an element
+    Parameters(ParameterRule),
 }
 
 /// The rules of a model description, in the order of their numbers.
@@ -132,6 +134,37 @@ pub enum FlatteningRule {
     FedClock,
 }
 
+/// The rules of sets of parameter values and of their mappings, in the order of their numbers. Those from 52 on are also
+/// about the parameters that a value reaches.
+#[derive(Clone, Copy, Debug, PartialEq, Eq)]
+pub enum ParameterRule {
+    /// 50: there isn't just one set, or mapping, of version 1.0
+    Structure,
+    /// 51: something required is absent, or a value doesn't read as its type
+    Incomplete,
+    /// 52: a value reaches a parameter of another class
+    OtherClass,
+    /// 53: a value reaches a parameter whose type doesn't hold it
+    OutOfRange,
+    /// 54: a transformation doesn't read, or reaches a parameter of another class
+    Transformation,
+    /// 55: a mapping of values has no entry for a value
+    NoMapEntry,
+    /// 56: a name is that of two parameters
+    NamesTwo,
+}
+
+/// The rules of sets of parameter values and of their mappings, in the order of their numbers.
+pub const PARAMETER_RULES: [ParameterRule; 7] = [
+    ParameterRule::Structure,
+    ParameterRule::Incomplete,
+    ParameterRule::OtherClass,
+    ParameterRule::OutOfRange,
+    ParameterRule::Transformation,
+    ParameterRule::NoMapEntry,
+    ParameterRule::NamesTwo,
+];
+
 impl Rule {
     /// The number of the rule.
     pub fn number(self) -> u32
@@ -145,6 +178,7 @@ impl Rule {
             Rule::Flattening(rule) => rule.number(),
             Rule::Loop => 46,
             Rule::TooManyPorts => 49,
+            Rule::Parameters(rule) => rule.number(),
         }
     }
 }
@@ -203,6 +237,22 @@ impl FlatteningRule {
             FlatteningRule::EndTwice => 43,
             FlatteningRule::TooWide => 44,
             FlatteningRule::FedClock => 45,
+        }
+    }
+}
+
+impl ParameterRule {
+    fn number(self) -> u32
+        ensures { result ≡ parameter_number self }
+    {
+        match self {
+            ParameterRule::Structure => 50,
+            ParameterRule::Incomplete => 51,
+            ParameterRule::OtherClass => 52,
+            ParameterRule::OutOfRange => 53,
+            ParameterRule::Transformation => 54,
+            ParameterRule::NoMapEntry => 55,
+            ParameterRule::NamesTwo => 56,
         }
     }
 }

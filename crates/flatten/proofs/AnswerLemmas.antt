@@ -7,7 +7,7 @@ use Rattle.doc_tree.specs.Rules.{number}
 use Rattle.doc_tree.specs.declared.refusal.Refusal.{Refusal}
 use Rattle.doc_tree.specs.declared.refusal.Refusal.TheVariants.{At, Memory}
 use Rattle.doc_tree.specs.declared.rule.Rule.{Rule}
-use Rattle.doc_tree.specs.declared.rule.Rule.TheVariants.{Document, Description, Unbuilt, System as OfSystem, Flattening, Loop, TooManyPorts}
+use Rattle.doc_tree.specs.declared.rule.Rule.TheVariants.{Document, Description, Unbuilt, System as OfSystem, Flattening, Loop, TooManyPorts, Parameters}
 use Rattle.doc_tree.specs.declared.rule.FlatteningRule.TheVariants as f
 use Rattle.doc_tables.specs.Answers.{IsRefusal, Refuses}
 use Rattle.doc_tables.proofs.AnswerLemmas.{refuses}
@@ -51,6 +51,7 @@ told t shapes (Flattening f.TooWide) node h = refl
 told t shapes (Flattening f.FedClock) node h = refl
 told t shapes Loop node h = absurd h
 told t shapes TooManyPorts node h = refl
+told t shapes (Parameters rule) node h = absurd h
 
 same_node : (t : SystemTree) (shapes : List Shape) (j k : ℕ) (a b : Rule) → IsFirstViolation t shapes j a → IsFirstViolation t shapes k b → j ≡ k
 same_node t shapes j k a b x y = elim (cases_order j k) [

@@ -10,14 +10,14 @@ use Rattle.std.proofs.lemmas.Slice.Zip.{AllZip-long}
 use Rattle.doc_grammar.specs.Nodes.{Node}
 use Rattle.doc_tree.specs.Elements.{child_if, children_from, is_parent}
 use Rattle.doc_tree.specs.declared.rule.SystemRule.TheVariants as r
-use Rattle.doc_tables.specs.Elements.{filled, is_named, parent}
+use Rattle.doc_tables.specs.Elements.{children, filled, is_named, parent}
 use Rattle.ssd_tree.specs.declared.tree.Owner.{Owner}
 use Rattle.ssd_tree.specs.declared.tree.Owner.TheVariants.{System, Component}
 use Rattle.ssd_tree.specs.declared.tree.Connector.{Connector}
 use Rattle.ssd_tree.specs.declared.tree.Connection.{Connection}
 use Rattle.ssd_tree.specs.declared.tree.ComponentPart.{ComponentPart}
 use Rattle.ssd_tree.specs.declared.tree.SystemTree.{SystemTree}
-use Rattle.ssd_tree.specs.Elements.{IsComponent, IsSystem, Outermost, children}
+use Rattle.ssd_tree.specs.Elements.{IsComponent, IsSystem, Outermost}
 use Rattle.ssd_tree.specs.Parts.{Describes, InInner, InOutermost, IsComponentPart, IsConnectionPart, IsConnectorPart, IsFullName, PartNodes, owner_node}
 use Rattle.ssd_tree.specs.Rules.{IsSound, system_count}
 use Rattle.system_model.proofs.Lists.{all_by_place, at_contains, contains_at, true_false}

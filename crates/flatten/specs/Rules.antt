@@ -15,7 +15,7 @@ use Rattle.value_types.specs.Joint as types
 use Rattle.value_types.specs.Joint.{class_of}
 use Rattle.value_types.specs.Shape.{is_port, timing_at}
 use Rattle.doc_tree.specs.declared.rule.Rule.{Rule}
-use Rattle.doc_tree.specs.declared.rule.Rule.TheVariants.{Document, Description, Unbuilt, System, Flattening, Loop, TooManyPorts}
+use Rattle.doc_tree.specs.declared.rule.Rule.TheVariants.{Document, Description, Unbuilt, System, Flattening, Loop, TooManyPorts, Parameters}
 use Rattle.doc_tree.specs.declared.rule.FlatteningRule.{FlatteningRule}
 use Rattle.doc_tree.specs.declared.rule.FlatteningRule.TheVariants as f
 use Rattle.doc_tree.specs.Rules.{number}
@@ -158,6 +158,7 @@ Violates t shapes (Flattening rule) node = Breaks t shapes rule node
 Violates t shapes Loop node = ⊥
 -- 49: a component with which the ports are more than a system may have
 Violates t shapes TooManyPorts node = HasTooManyPorts t shapes node
+Violates t shapes (Parameters rule) node = ⊥
 
 -- the first violation: at the first element in document order that breaks a rule, the one of the least number
 abbrev pub IsFirstViolation : SystemTree → List Shape → ℕ → Rule → Type 0

@@ -1,11 +1,11 @@
 -- A document has one tree of systems.
-use Rattle.std.proofs.Common.{◌≡◌, ℕ, true, false, ◌++◌, List, [], ◌∷◌, Option, Some, None, slice_get, codes, refl, sym, ap, ◌∙◌, subst, inl}
+use Rattle.std.proofs.Common.{◌≡◌, ℕ, Bool, true, false, ◌++◌, List, [], ◌∷◌, Option, Some, None, slice_get, codes, refl, sym, ap, ◌∙◌, subst, inl}
 use Rattle.std.specs.List.{AllZip}
-use Rattle.std.proofs.lemmas.Option.{same_Some}
+use Rattle.std.proofs.lemmas.Option.{same_Some, none-some}
 use Rattle.sim_base.specs.Path.{plain_path}
 use Rattle.doc_grammar.specs.Nodes.{Node}
 use Rattle.doc_tree.specs.declared.rule.SystemRule.TheVariants as r
-use Rattle.doc_tables.specs.Elements.{attribute, parent, is_named}
+use Rattle.doc_tables.specs.Elements.{attribute, parent, is_named, key_if, Lacks}
 use Rattle.doc_tables.specs.Tables.{IsFirstWith}
 use Rattle.ssd_tree.specs.declared.tree.Owner.{Owner}
 use Rattle.ssd_tree.specs.declared.tree.Owner.TheVariants.{System, Component}
@@ -14,12 +14,15 @@ use Rattle.ssd_tree.specs.declared.tree.ComponentPart.{ComponentPart}
 use Rattle.ssd_tree.specs.declared.tree.Connector.{Connector}
 use Rattle.ssd_tree.specs.declared.tree.Connection.{Connection}
 use Rattle.ssd_tree.specs.declared.tree.Binding.{Binding}
+use Rattle.ssd_tree.specs.declared.tree.Origin.{Origin}
+use Rattle.ssd_tree.specs.declared.tree.Origin.TheVariants.{File, Inline}
+use Rattle.ssd_tree.specs.declared.tree.SourceBase.{SourceBase}
 use Rattle.ssd_tree.specs.declared.tree.SystemTree.{SystemTree}
-use Rattle.ssd_tree.specs.Elements.{holder, connector_key, element_key, IsSystem, IsComponent, IsConnector, IsConnection, IsBinding}
+use Rattle.ssd_tree.specs.Elements.{both, holder, connector_key, element_key, IsSystem, IsComponent, IsConnector, IsConnection, IsBinding, IsMappingOf, mapping_key, first_child}
 use Rattle.ssd_tree.specs.Listings.{IsRising}
 use Rattle.ssd_tree.specs.Ends.{IsPartNamed, IsEnd}
 use Rattle.ssd_tree.specs.Rules.{IsSound}
-use Rattle.ssd_tree.specs.Parts.{PartNodes, ListsParts, IsFullName, InOutermost, InInner, IsPlaceOf, owner_node, IsSystemPart, IsComponentPart, IsConnectorPart, IsConnectionPart, IsBindingPart, Describes}
+use Rattle.ssd_tree.specs.Parts.{PartNodes, ListsParts, IsFullName, InOutermost, InInner, IsPlaceOf, owner_node, IsSystemPart, IsComponentPart, IsConnectorPart, IsConnectionPart, IsBindingPart, HasPath, IsOrigin, IsMappingOrigin, Describes}
 use Rattle.ssd_tree.proofs.ListingLemmas.{one_place, one_listing, contains_at}
 use Rattle.ssd_tree.proofs.ElementLemmas.{holder_cases, named_once, system_no_component, one_first}
 
@@ -66,6 +69,42 @@ one_place_of nodes rising (Some i) b None p q = absurd p
 one_place_of nodes rising None b (Some k) p q = absurd p
 one_place_of nodes rising (Some i) None (Some k) p q = absurd q
 
+-- ---- where parameters are given
+
+path_absent : (t : List Node) (k : ℕ) (path : List ℕ) → HasPath t k path → Lacks t k (codes "source") → ⊥
+path_absent t k path has none = none-some has.0 (sym none ∙ has.1)
+
+one_path : (t : List Node) (k : ℕ) (a b : List ℕ) → HasPath t k a → HasPath t k b → a ≡ b
+one_path t k a b p q = p.2 ∙ ap plain_path (same_Some p.0 q.0 (sym p.1 ∙ q.1)) ∙ sym q.2
+
+one_origin : (t : List Node) (k : ℕ) (inner : Option ℕ) (a b : Origin) → IsOrigin t k inner a → IsOrigin t k inner b → a ≡ b
+one_origin t k inner (File base path) (File base' path') p q =
+    ap (λ (z : SourceBase). File z path) (p.1 ∙ sym q.1) ∙ ap (λ (z : List ℕ). File base' z) (one_path t k path path' p.0 q.0)
+one_origin t k inner (File base path) (Inline node) p q = absurd (path_absent t k path p.0 q.0)
+one_origin t k inner (Inline node) (File base path) p q = absurd (path_absent t k path q.0 p.0)
+one_origin t k inner (Inline node) (Inline node') p q = ap (λ (z : ℕ). Inline z) (same_Some node node' (sym p.1 ∙ q.1))
+
+-- a binding has one mapping
+pub mapping_keyed : (t : List Node) (m k : ℕ) → IsMappingOf t m k → mapping_key t m ≡ Some (k, codes "ParameterMapping")
+mapping_keyed t m k is =
+    ap (λ (b : Bool). key_if b (both (parent t m) (Some (codes "ParameterMapping")))) is.0 ∙ ap (λ (o : Option ℕ). both o (Some (codes "ParameterMapping"))) is.1
+
+mapping_first : (t : List Node) (m k : ℕ) → IsMappingOf t m k → IsFirstWith (mapping_key t) (k, codes "ParameterMapping") m
+mapping_first t m k is =
+    let key : mapping_key t m ≡ Some (k, codes "ParameterMapping") = mapping_keyed t m k is in
+    (key, λ j lower e. is.3 ((k, codes "ParameterMapping"), key, (j, lower, e)))
+
+pub one_mapping_of : (t : List Node) (m n k : ℕ) → IsMappingOf t m k → IsMappingOf t n k → m ≡ n
+one_mapping_of t m n k p q = one_first (mapping_key t) (k, codes "ParameterMapping") m n (mapping_first t m k p) (mapping_first t n k q)
+
+one_mapping : (t : List Node) (k : ℕ) (a b : Option Origin) → IsMappingOrigin t k a → IsMappingOrigin t k b → a ≡ b
+one_mapping t k None None p q = refl
+one_mapping t k None (Some b) p q = absurd (p q.0 q.1)
+one_mapping t k (Some a) None p q = absurd (q p.0 p.1)
+one_mapping t k (Some a) (Some b) p q =
+    let same : q.0 ≡ p.0 = one_mapping_of t q.0 p.0 k q.1 p.1 in
+    ap (λ (z : Origin). Some z) (one_origin t p.0 (Some p.0) a b p.2 (subst (λ (m : ℕ). IsOrigin t m (Some m) b) same q.2))
+
 module _ (t : List Node) (nodes : PartNodes) (lists : ListsParts t nodes) where
   apart : (i j k : ℕ) → slice_get nodes.systems i ≡ Some k → slice_get nodes.components j ≡ Some k → ⊥
   apart i j k p q =
@@ -111,7 +150,10 @@ module _ (t : List Node) (nodes : PartNodes) (lists : ListsParts t nodes) where
   one_binding k x y p q =
       let node : x.node ≡ y.node = p.node ∙ sym q.node in
       let owner : x.owner ≡ y.owner = one_owner_of x.owner y.owner (holder t k (codes "ParameterBindings")) p.part q.part p.of q.of p.owner q.owner in
-      λ i. record { node = node i; owner = owner i }
+      let prefix : x.prefix ≡ y.prefix = p.prefix ∙ sym q.prefix in
+      let values : x.values ≡ y.values = one_origin t k (first_child t k (codes "ParameterValues")) x.values y.values p.values q.values in
+      let mapping : x.mapping ≡ y.mapping = one_mapping t k x.mapping y.mapping p.mapping q.mapping in
+      λ i. record { node = node i; owner = owner i; prefix = prefix i; values = values i; mapping = mapping i }
 
 -- ---- connections
 

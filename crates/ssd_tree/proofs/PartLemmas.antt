@@ -1,6 +1,6 @@
 -- What soundness gives the parts: names, kinds and ends that are there.
-use Rattle.std.proofs.Common.{◌≡◌, ◌⊎◌, ℕ, ◌<◌, Bool, true, false, ◌||◌, ◌+◌, ◌-◌, take, get_or, List, [], ◌∷◌, ◌++◌, length, Option, Some, None, IsSome, MatchOption, unwrap_or, codes, refl, sym, ap, ◌∙◌, subst, inl, inr}
-use Rattle.std.specs.List.{AllZip, Contains}
+use Rattle.std.proofs.Common.{◌≡◌, ◌⊎◌, ℕ, ◌<◌, Bool, true, false, ◌||◌, if◌then◌else◌, ◌+◌, ◌-◌, take, get_or, List, [], ◌∷◌, ◌++◌, length, Option, Some, None, IsSome, MatchOption, unwrap_or, codes, refl, sym, ap, ◌∙◌, subst, inl, inr}
+use Rattle.std.specs.List.{AllZip, Contains, find, list_any}
 use Rattle.std.specs.Option.{option_to_list}
 use Rattle.std.proofs.lemmas.Bool.{both_ways}
 use Rattle.std.proofs.lemmas.List.{take_more, append-nil}
@@ -9,16 +9,17 @@ use Rattle.std.proofs.lemmas.Slice.Zip.{all_zipped_more}
 use Rattle.std.proofs.lemmas.Option.{same_Some, none-some}
 use Rattle.doc_grammar.specs.Nodes.{Node}
 use Rattle.doc_tree.specs.declared.rule.SystemRule.TheVariants as r
-use Rattle.doc_tables.specs.Elements.{attribute, parent, is_named, text_of, filled}
+use Rattle.doc_tables.specs.Elements.{attribute, children, parent, is_named, text_of, filled, Lacks}
+use Rattle.doc_tables.specs.Tables.{Finds, IsFirstWith}
 use Rattle.doc_tables.proofs.TableLemmas.{or_cases, key_if_true}
-use Rattle.ssd_tree.specs.Elements.{holder, both, element_key, kind_of, IsSystem, Outermost, Inner, IsComponent, IsPart, IsOfPart, IsConnector, IsConnection}
+use Rattle.ssd_tree.specs.Elements.{first_child, has_child, holder, both, element_key, mapping_key, kind_of, IsSystem, Outermost, Inner, IsComponent, IsPart, IsOfPart, IsConnector, IsConnection, IsBinding, IsMappingOf}
 use Rattle.ssd_tree.specs.Listings.{IsListing}
 use Rattle.ssd_tree.specs.Ends.{IsPartNamed, IsEnd}
 use Rattle.ssd_tree.specs.Parts.{IsFullName, InOutermost, InInner}
 use Rattle.ssd_tree.specs.Paths.{Climbs, LeadsOut}
 use Rattle.ssd_tree.specs.Rules.{IsSound}
 use Rattle.ssd_tree.proofs.ElementLemmas.{key_if_is}
-use Rattle.ssd_tree.proofs.OneLemmas.{alone_in_root}
+use Rattle.ssd_tree.proofs.OneLemmas.{alone_in_root, mapping_keyed}
 
 -- ---- what is there
 
@@ -87,12 +88,47 @@ component_else t k part list is h none = at is.2
     at (inl system) = absurd (none (subst (IsSystem t) same system))
     at (inr component) = subst (IsComponent t) same component
 
--- ---- ends are connectors
+-- ---- where parameters are given
 
 both_scoped : (scope : Option ℕ) (name : Option (List ℕ)) (s : ℕ) (n : List ℕ) → both scope name ≡ Some (s, n) → scope ≡ Some s
 both_scoped None name s n h = absurd (none-some (s, n) h)
 both_scoped (Some a) None s n h = absurd (none-some (s, n) h)
 both_scoped (Some a) (Some name) s n h = ap (λ (z : ℕ). Some z) (ap (λ (p : ℕ × List ℕ). p.0) (same_Some (a, name) (s, n) h))
+
+found_some : {A : Type 0} (p : A → Bool) (xs : List A) → list_any p xs ≡ true → IsSome (find p xs)
+found_some p [] h = absurd (both_ways false refl h)
+found_some p (x ∷ xs) h = at (p x) (found_some p xs) h
+  where
+    at : (b : Bool) → (list_any p xs ≡ true → IsSome (find p xs)) → (b || list_any p xs) ≡ true → IsSome (if b then Some x else find p xs)
+    at true rest e = refl
+    at false rest e = rest e
+
+-- a binding without a file has values of its own
+pub values_there : (t : List Node) (k : ℕ) → IsSound t → IsBinding t k → Lacks t k (codes "source") → IsSome (first_child t k (codes "ParameterValues"))
+values_there t k sound is none =
+    elim (has_child t k (codes "ParameterValues")) as (λ b. has_child t k (codes "ParameterValues") ≡ b → IsSome (first_child t k (codes "ParameterValues"))) [
+      | true ↦ λ e. found_some (λ c. is_named t c (codes "ParameterValues")) (children t k) e
+      | false ↦ λ e. absurd (sound r.Incomplete k (inr (inr (inr (is, none, e)))))
+    ] refl
+
+pub mapping_none : (t : List Node) (k : ℕ) (o : Option ℕ) → o ≡ None → Finds (mapping_key t) (k, codes "ParameterMapping") o → (m : ℕ) → IsMappingOf t m k → ⊥
+mapping_none t k None e none m is = none (m, mapping_keyed t m k is)
+mapping_none t k (Some x) e found m is = absurd (none-some x (sym e))
+
+pub mapping_some : (t : List Node) (k m : ℕ) (o : Option ℕ) → IsBinding t k → o ≡ Some m → Finds (mapping_key t) (k, codes "ParameterMapping") o → IsMappingOf t m k
+mapping_some t k m None binding e none = absurd (none-some m e)
+mapping_some t k m (Some x) binding e found = of m (subst (IsFirstWith (mapping_key t) (k, codes "ParameterMapping")) (same_Some x m e) found)
+  where
+    of : (m : ℕ) → IsFirstWith (mapping_key t) (k, codes "ParameterMapping") m → IsMappingOf t m k
+    of m first =
+        let inside = key_if_is (is_named t m (codes "ParameterMapping")) (both (parent t m) (Some (codes "ParameterMapping"))) (k, codes "ParameterMapping") first.0 in (
+          key_if_true (is_named t m (codes "ParameterMapping")) _ (k, codes "ParameterMapping") first.0,
+          both_scoped (parent t m) (Some (codes "ParameterMapping")) k (codes "ParameterMapping") inside,
+          binding,
+          λ again. first.1 again.2.0 again.2.1 (again.2.2 ∙ sym again.1 ∙ first.0),
+        )
+
+-- ---- ends are connectors
 
 element_part : (t : List Node) (k s : ℕ) (n : List ℕ) → IsSystem t s → element_key t k ≡ Some (s, n) → IsPart t k
 element_part t k s n system h =

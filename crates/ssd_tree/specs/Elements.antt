@@ -1,11 +1,9 @@
 -- The elements of a system structure description, and what each is for (SSP 1.0: SystemStructureDescription, System, Component).
 -- A tree is the list of its elements in document order; an element is named by its place.
-use Rattle.std.specs.Prelude.{◌≡◌, ◌⊎◌, ℕ, Bool, true, ◌||◌, List, [], ◌∷◌, Option, Some, None, option_and_then, slice_get, codes, bytes_eq, if◌then◌else◌}
-use Rattle.std.specs.Option.{option_map_or}
+use Rattle.std.specs.Prelude.{◌≡◌, ◌⊎◌, ℕ, Bool, true, ◌||◌, List, [], ◌∷◌, Option, Some, None, option_and_then, find, codes, bytes_eq, if◌then◌else◌}
 use Rattle.std.specs.List.{list_any}
 use Rattle.doc_grammar.specs.Nodes.{Node}
-use Rattle.doc_tree.specs.Elements.{children_of}
-use Rattle.doc_tables.specs.Elements.{name_of, is_named, attribute, parent, key_if, filled}
+use Rattle.doc_tables.specs.Elements.{name_of, is_named, attribute, children, parent, key_if, filled}
 use Rattle.doc_tables.specs.Tables.{IsRepeated}
 use Rattle.ssd_tree.specs.declared.tree.ConnectorKind.{ConnectorKind}
 use Rattle.ssd_tree.specs.declared.tree.ConnectorKind.TheVariants as kind
@@ -14,12 +12,12 @@ use Rattle.ssd_tree.specs.declared.tree.TypeChild.TheVariants as child
 
 -- ---- what stands in what
 
--- the elements that stand directly in this one; past the last element there are none
-abbrev pub children : List Node → ℕ → List ℕ
-children t k = option_map_or (λ (n : Node). children_of t k) (slice_get t k) []
-
 abbrev pub has_child : List Node → ℕ → List ℕ → Bool
 has_child t k name = list_any (λ c. is_named t c name) (children t k)
+
+-- of several elements of a name that stand directly in this one the first counts
+abbrev pub first_child : List Node → ℕ → List ℕ → Option ℕ
+first_child t k name = find (λ c. is_named t c name) (children t k)
 
 -- the element whose list of this name this one stands in
 abbrev pub holder : List Node → ℕ → List ℕ → Option ℕ

@@ -1,9 +1,10 @@
 -- What a system structure description says (SSP 1.0): the tree of systems that it denotes.
-use Rattle.std.specs.Prelude.{◌≡◌, ℕ, List, ◌∷◌, ◌++◌, Option, Some, None, slice_get, codes}
+use Rattle.std.specs.Prelude.{◌≡◌, ℕ, false, List, ◌∷◌, ◌++◌, Option, Some, None, slice_get, codes, bytes_eq, if◌then◌else◌}
 use Rattle.std.specs.List.{AllZip}
+use Rattle.std.specs.Option.{option_map_or}
 use Rattle.sim_base.specs.Path.{plain_path}
 use Rattle.doc_grammar.specs.Nodes.{Node}
-use Rattle.doc_tables.specs.Elements.{attribute, parent}
+use Rattle.doc_tables.specs.Elements.{attribute, parent, text_of, Lacks}
 use Rattle.ssd_tree.specs.declared.tree.Owner.{Owner}
 use Rattle.ssd_tree.specs.declared.tree.Owner.TheVariants.{System, Component}
 use Rattle.ssd_tree.specs.declared.tree.SystemPart.{SystemPart}
@@ -11,8 +12,12 @@ use Rattle.ssd_tree.specs.declared.tree.ComponentPart.{ComponentPart}
 use Rattle.ssd_tree.specs.declared.tree.Connector.{Connector}
 use Rattle.ssd_tree.specs.declared.tree.Connection.{Connection}
 use Rattle.ssd_tree.specs.declared.tree.Binding.{Binding}
+use Rattle.ssd_tree.specs.declared.tree.Origin.{Origin}
+use Rattle.ssd_tree.specs.declared.tree.Origin.TheVariants.{File, Inline}
+use Rattle.ssd_tree.specs.declared.tree.SourceBase.{SourceBase}
+use Rattle.ssd_tree.specs.declared.tree.SourceBase.TheVariants as base
 use Rattle.ssd_tree.specs.declared.tree.SystemTree.{SystemTree}
-use Rattle.ssd_tree.specs.Elements.{holder, IsSystem, IsComponent, IsConnector, IsConnection, IsBinding, kind_of, type_of}
+use Rattle.ssd_tree.specs.Elements.{first_child, holder, IsSystem, IsComponent, IsConnector, IsConnection, IsBinding, IsMappingOf, kind_of, type_of}
 use Rattle.ssd_tree.specs.Listings.{IsListing}
 use Rattle.ssd_tree.specs.Ends.{IsStart, IsStop}
 
@@ -56,6 +61,26 @@ owner_node nodes (Component place) = slice_get nodes.components place
 abbrev pub HasPath : List Node → ℕ → List ℕ → Type 0
 HasPath t k path = (source : List ℕ) × (attribute t k (codes "source") ≡ Some source) × (path ≡ plain_path source)
 
+-- ---- where values and mappings of parameters are given (SSP 1.0: ParameterBinding, ParameterMapping; source, sourceBase)
+
+-- below the component's folder where `sourceBase` is `component`, and else below the description's
+abbrev pub base_of : Option (List ℕ) → SourceBase
+base_of sort = if option_map_or (λ text. bytes_eq text (codes "component")) sort false then base.Component else base.Description
+
+-- in the file that the element's `source` names; where it has none, within this one
+abbrev pub IsOrigin : List Node → ℕ → Option ℕ → Origin → Type 0
+IsOrigin t k inner (File base path) = HasPath t k path × (base ≡ base_of (attribute t k (codes "sourceBase")))
+IsOrigin t k inner (Inline node) = Lacks t k (codes "source") × (inner ≡ Some node)
+
+-- the values of a binding, in a file or in its first ParameterValues
+abbrev pub IsValuesOrigin : List Node → ℕ → Origin → Type 0
+IsValuesOrigin t k origin = IsOrigin t k (first_child t k (codes "ParameterValues")) origin
+
+-- the mapping of a binding, by its first ParameterMapping: in a file or in that element
+abbrev pub IsMappingOrigin : List Node → ℕ → Option Origin → Type 0
+IsMappingOrigin t k None = (m : ℕ) → IsMappingOf t m k → ⊥
+IsMappingOrigin t k (Some origin) = (m : ℕ) × IsMappingOf t m k × IsOrigin t m (Some m) origin
+
 -- ---- parts
 
 pub record IsSystemPart (t : List Node) (nodes : PartNodes) (k : ℕ) (x : SystemPart) : Type 0 where
@@ -92,6 +117,9 @@ pub record IsBindingPart (t : List Node) (nodes : PartNodes) (k : ℕ) (x : Bind
   pub part : ℕ
   pub of : holder t k (codes "ParameterBindings") ≡ Some part
   pub owner : owner_node nodes x.owner ≡ Some part
+  pub prefix : x.prefix ≡ text_of t k (codes "prefix")
+  pub values : IsValuesOrigin t k x.values
+  pub mapping : IsMappingOrigin t k x.mapping
 
 -- ---- the whole
 

@@ -6,10 +6,10 @@ use Rattle.doc_grammar.specs.Nodes.{Node}
 use Rattle.doc_tree.specs.declared.rule.SystemRule.{SystemRule}
 use Rattle.doc_tree.specs.declared.rule.SystemRule.TheVariants as r
 use Rattle.doc_tree.specs.Rules.{system_number}
-use Rattle.doc_tables.specs.Elements.{name_of, is_named, attribute, Lacks, LacksText}
+use Rattle.doc_tables.specs.Elements.{name_of, is_named, attribute, children, Lacks, LacksText}
 use Rattle.doc_tables.specs.Tables.{IsRepeated}
 use Rattle.doc_tables.specs.Violations as all
-use Rattle.ssd_tree.specs.Elements.{children, has_child, IsSystem, IsComponent, IsPart, IsConnector, IsConnection, IsBinding, IsMappingOf, IsOfSystem, element_key, connector_key, kind_of}
+use Rattle.ssd_tree.specs.Elements.{has_child, IsSystem, IsComponent, IsPart, IsConnector, IsConnection, IsBinding, IsMappingOf, IsOfSystem, element_key, connector_key, kind_of}
 use Rattle.ssd_tree.specs.Listings.{IsListing}
 use Rattle.ssd_tree.specs.Sources.{is_path}
 use Rattle.ssd_tree.specs.Ends.{IsStart, IsStop, start_kind, end_kind}

@@ -1,22 +1,11 @@
 //! What the elements of a system structure description are called, stand in and say.
 ghost use Rattle.std.specs.Prelude.{◌≡◌, ◌<◌, IfSome, option_copied};
 ghost use Rattle.doc_tables.specs.Places.{scoped};
-ghost use Rattle.ssd_tree.specs.Elements.{both, children, connector_key, connector_kind, element_key, has_child, holder, kind_of, mapping_key, type_child, type_of};
+ghost use Rattle.ssd_tree.specs.Elements.{both, connector_key, connector_kind, element_key, first_child, has_child, holder, kind_of, mapping_key, type_child, type_of};
 
 use crate::tree::{ConnectorKind, TypeChild};
-use doc_tables::{attribute, filled, is_named, name, parent};
+use doc_tables::{attribute, children, filled, is_named, name, parent};
 use doc_tree::Tree;
-
-/// The elements that stand directly in this one.
-pub(crate) fn children(tree: &Tree, node: usize) -> &[usize]
-    ensures { result.now ≡ children tree.now node }
-{
-    if node < tree.len() {
-        tree.children(node)
-    } else {
-        &[]
-    }
-}
 
 /// Whether an element of this name stands directly in this one.
 pub(crate) fn has_child(tree: &Tree, node: usize, wanted: &str) -> bool
@@ -25,6 +14,16 @@ pub(crate) fn has_child(tree: &Tree, node: usize, wanted: &str) -> bool
     children(tree, node)
         .iter()
         .any(|child| is_named(tree, *child, wanted))
+}
+
+/// The first element of this name that stands directly in this one.
+pub(crate) fn first_child(tree: &Tree, node: usize, wanted: &str) -> Option<usize>
+    ensures { result ≡ first_child tree.now node wanted.now }
+{
+    children(tree, node)
+        .iter()
+        .copied()
+        .find(|child| is_named(tree, *child, wanted))
 }
 
 /// The element whose list of this name this one stands in, which is before it.

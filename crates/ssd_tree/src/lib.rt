@@ -18,6 +18,6 @@ mod tree;
 pub use indexed::MOST_COMPONENTS;
 pub use reader::read_ssd;
 pub use tree::{
-    Binding, ComponentPart, Connection, Connector, ConnectorKind, Owner, SystemPart, SystemTree,
-    TypeChild,
+    Binding, ComponentPart, Connection, Connector, ConnectorKind, Origin, Owner, SourceBase,
+    SystemPart, SystemTree, TypeChild,
 };

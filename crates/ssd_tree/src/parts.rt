@@ -1,18 +1,21 @@
 //! What a sound document says: its systems, components, connectors, connections and bindings.
 ghost use Rattle.std.specs.Prelude.{◌≡◌, ℕ, IfOk, IsSome, codes, slice_get};
 ghost use Rattle.std.specs.List.{AllZip};
-ghost use Rattle.doc_tables.specs.Elements.{attribute};
+ghost use Rattle.doc_tables.specs.Elements.{attribute, Lacks};
 ghost use Rattle.ssd_tree.specs.Elements.{holder, IsBinding, IsComponent, IsConnection, IsConnector, IsOfPart, IsPart, IsSystem};
 ghost use Rattle.ssd_tree.specs.Indexed.{IsIndexed, nodes_of};
-ghost use Rattle.ssd_tree.specs.Parts.{Describes, HasPath, IsBindingPart, IsComponentPart, IsConnectionPart, IsConnectorPart, IsFullName, IsPlaceOf, IsSystemPart, owner_node};
+ghost use Rattle.ssd_tree.specs.Parts.{base_of, Describes, HasPath, IsBindingPart, IsComponentPart, IsConnectionPart, IsConnectorPart, IsFullName, IsMappingOrigin, IsOrigin, IsPlaceOf, IsSystemPart, IsValuesOrigin, owner_node};
 ghost use Rattle.ssd_tree.specs.Paths.{LeadsOut};
 ghost use Rattle.ssd_tree.specs.Rules.{IsSound};
 
-use crate::elements::{holder, kind_of, type_of};
+use crate::elements::{first_child, holder, kind_of, type_of};
 use crate::indexed::IndexedTree;
 use crate::listings::known_place;
-use crate::tree::{Binding, ComponentPart, Connection, Connector, Owner, SystemPart, SystemTree};
-use doc_tables::{attribute, text_of};
+use crate::tree::{
+    Binding, ComponentPart, Connection, Connector, Origin, Owner, SourceBase, SystemPart,
+    SystemTree,
+};
+use doc_tables::{attribute, lacks, text_of};
 use doc_tree::Tree;
 use sim_base::{Items, Text, plain_path};
 use std::alloc::{AllocError, Global};
@@ -25,13 +28,54 @@ fn text(alloc: Global, tree: &Tree, node: usize, name: &str) -> Result<Text, All
     Text::from_str(alloc, attribute(tree, node, name).unwrap())
 }
 
-// The path of a component's FMU.
+// The path of an element's file.
 fn source(alloc: Global, tree: &Tree, node: usize) -> Result<Text, AllocError>
     requires { IsSome (attribute tree.now node (codes "source")) }
     ensures { IfOk result (HasPath tree.now node) }
 {
     let source = attribute(tree, node, "source").unwrap();
     Ok(Text::from_string(plain_path(alloc, source)?))
+}
+
+// Below which folder the file of an element stands.
+fn source_base(tree: &Tree, node: usize) -> SourceBase
+    ensures { result ≡ base_of (attribute tree.now node (codes "sourceBase")) }
+{
+    match attribute(tree, node, "sourceBase") {
+        Some("component") => SourceBase::Component,
+        _ => SourceBase::Description,
+    }
+}
+
+// In the file that the element's `source` names; where it has none, within this one.
+fn origin(
+    alloc: Global,
+    tree: &Tree,
+    node: usize,
+    inner: Option<usize>,
+) -> Result<Origin, AllocError>
+    requires { Lacks tree.now node (codes "source") → IsSome inner }
+    ensures { IfOk result (IsOrigin tree.now node inner) }
+{
+    if lacks(tree, node, "source") {
+        return Ok(Origin::Inline {
+            node: inner.unwrap(),
+        });
+    }
+    Ok(Origin::File {
+        base: source_base(tree, node),
+        path: source(alloc, tree, node)?,
+    })
+}
+
+// Where the values of a binding are given.
+fn values(alloc: Global, tree: &Tree, node: usize) -> Result<Origin, AllocError>
+    requires sound { IsSound tree.now }
+    requires is { IsBinding tree.now node }
+    ensures { IfOk result (IsValuesOrigin tree.now node) }
+{
+    let inner = first_child(tree, node, "ParameterValues");
+    origin(alloc, tree, node, inner)
 }
 
 // The elements from this one out to the outermost System, which isn't among them.
@@ -200,15 +244,31 @@ impl IndexedTree<'_> {
         }
     }
 
-    fn binding_part(&self, node: usize) -> Binding
+    // Where the mapping of a binding is given, if it has one.
+    fn mapping(&self, alloc: Global, node: usize) -> Result<Option<Origin>, AllocError>
         requires indexed { IsIndexed self.now }
         requires is { IsBinding self.now.tree.now node }
-        ensures { IsBindingPart self.now.tree.now (nodes_of self.now.lists) node result }
+        ensures { IfOk result (IsMappingOrigin self.now.tree.now node) }
     {
-        Binding {
+        match self.mappings.find(node, "ParameterMapping") {
+            Some(mapping) => Ok(Some(origin(alloc, self.tree, mapping, Some(mapping))?)),
+            None => Ok(None),
+        }
+    }
+
+    fn binding_part(&self, alloc: Global, node: usize) -> Result<Binding, AllocError>
+        requires indexed { IsIndexed self.now }
+        requires sound { IsSound self.now.tree.now }
+        requires is { IsBinding self.now.tree.now node }
+        ensures { IfOk result (IsBindingPart self.now.tree.now (nodes_of self.now.lists) node) }
+    {
+        Ok(Binding {
             node,
             owner: self.owner(node, "ParameterBindings"),
-        }
+            prefix: Text::from_str(alloc, text_of(self.tree, node, "prefix"))?,
+            values: values(alloc, self.tree, node)?,
+            mapping: self.mapping(alloc, node)?,
+        })
     }
 
     fn system_parts(&self, alloc: Global) -> Result<Vec<SystemPart>, AllocError>
@@ -260,12 +320,13 @@ impl IndexedTree<'_> {
     }
 
     fn binding_parts(&self, alloc: Global) -> Result<Vec<Binding>, AllocError>
-        requires { IsIndexed self.now }
+        requires indexed { IsIndexed self.now }
+        requires sound { IsSound self.now.tree.now }
         ensures { IfOk result (λ v. AllZip (IsBindingPart self.now.tree.now (nodes_of self.now.lists)) self.now.lists.bindings.items v.items) }
     {
         let mut parts = Vec::new(alloc);
         for node in &self.lists.bindings {
-            parts.push(self.binding_part(*node))?;
+            parts.push(self.binding_part(alloc, *node)?)?;
         }
         Ok(parts)
     }

@@ -8,10 +8,10 @@ ghost use Rattle.ssd_tree.specs.Indexed.{IsIndexed};
 ghost use Rattle.doc_tree.specs.declared.rule.SystemRule.TheVariants as r;
 ghost use Rattle.ssd_tree.specs.Rules.{has_transformation, has_version, BindingHasNoSource, ComponentHasNoSource, HasNoPath, HasNoSource, HasOtherType, MappingHasNoSource, is_of_type, is_transformation, IsFirstViolation, IsIncomplete, IsIncompleteBinding, IsIncompleteComponent, IsIncompleteConnection, IsIncompleteConnector, IsIncompleteEntry, IsIncompletePart, IsIncompleteRoot, IsIncompleteSystem, IsOtherStructure, IsSound, ReadsBelowSystem, system_count, Violates};
 
-use crate::elements::{children, has_child, kind_of};
+use crate::elements::{has_child, kind_of};
 use crate::indexed::IndexedTree;
 use crate::sources::has_no_path;
-use doc_tables::{attribute, is_named, lacks, lacks_text, name, parent};
+use doc_tables::{attribute, children, is_named, lacks, lacks_text, name, parent};
 use doc_tree::{SYSTEM_RULES, SystemRule, Tree};
 use std::alloc::{AllocError, Global};
 

@@ -1,4 +1,6 @@
-use crate::{ConnectorKind, MOST_COMPONENTS, Owner, SystemTree, TypeChild, read_ssd};
+use crate::{
+    ConnectorKind, MOST_COMPONENTS, Origin, Owner, SourceBase, SystemTree, TypeChild, read_ssd,
+};
 use doc_tree::{Refusal, read_tree};
 use std::alloc::{AllocError, Global};
 use std::test::Fail;
@@ -184,6 +186,58 @@ const REFUSED_ELEMENTS: [(&str, usize, u32); 34] = [
 const NESTED: &str =
     r#"<ssd:SystemStructureDescription xmlns:ssd="x" version="1.0" name="d"><ssd:System name="root"><ssd:Elements><ssd:Component name="c" source="./c/." type="application/x-fmu-sharedlibrary"><ssd:Connectors><ssd:Connector name="y" kind="output"><ssc:Integer/></ssd:Connector></ssd:Connectors><ssd:ParameterBindings><ssd:ParameterBinding><ssd:ParameterValues/></ssd:ParameterBinding></ssd:ParameterBindings></ssd:Component><ssd:System name="A"><ssd:Connectors><ssd:Connector name="u" kind="input"/></ssd:Connectors><ssd:Elements><ssd:System name="B"><ssd:Connectors><ssd:Connector name="u" kind="input"><a/><ssc:Boolean/><ssc:Integer/></ssd:Connector></ssd:Connectors><ssd:Elements><ssd:Component name="g" source="lib/./g.fmu/"/></ssd:Elements></ssd:System></ssd:Elements><ssd:Connections><ssd:Connection startConnector="u" endElement="B" endConnector="u"/></ssd:Connections></ssd:System></ssd:Elements><ssd:Connections><ssd:Connection startElement="c" startConnector="y" endElement="A" endConnector="u"/></ssd:Connections></ssd:System></ssd:SystemStructureDescription>"#;
 
+/// A parameter binding of a component, element 5 of its document; its prefix, and where its values and its mapping are:
+/// a folder and a path, or an element.
+const BINDINGS: [(&str, &str, Given, Option<Given>); 5] = [
+    (
+        r#"<ParameterBinding source="a/./v.ssv"/>"#,
+        "",
+        Given::File(SourceBase::Description, "a/v.ssv"),
+        None,
+    ),
+    (
+        r#"<ParameterBinding prefix="p." source="v" sourceBase="component"><ParameterValues/></ParameterBinding>"#,
+        "p.",
+        Given::File(SourceBase::Component, "v"),
+        None,
+    ),
+    (
+        r#"<ParameterBinding><x/><ParameterValues/><ParameterValues/></ParameterBinding>"#,
+        "",
+        Given::Inline(7),
+        None,
+    ),
+    (
+        r#"<ParameterBinding sourceBase="SSD" source="v"><ParameterMapping sourceBase="component"/><ParameterMapping source="m"/></ParameterBinding>"#,
+        "",
+        Given::File(SourceBase::Description, "v"),
+        Some(Given::Inline(6)),
+    ),
+    (
+        r#"<ParameterBinding><ParameterValues><ParameterMapping/></ParameterValues><ParameterMapping sourceBase="component" source="m/"/></ParameterBinding>"#,
+        "",
+        Given::Inline(6),
+        Some(Given::File(SourceBase::Component, "m")),
+    ),
+];
+
+/// Where values or a mapping are: a folder and a path, or an element.
+#[derive(Clone, Copy, Debug, PartialEq)]
+enum Given {
+    File(SourceBase, &'static str),
+    Inline(usize),
+}
+
+fn is_given(origin: &Origin, given: Given) -> bool {
+    match (origin, given) {
+        (Origin::File { base, path }, Given::File(wanted, text)) => {
+            *base == wanted && path.as_str() == text
+        }
+        (Origin::Inline { node }, Given::Inline(wanted)) => *node == wanted,
+        _ => false,
+    }
+}
+
 fn with_elements(alloc: Global, elements: &str) -> Result<String, AllocError> {
     format!(in alloc;
         "<SystemStructureDescription version=\"1.0\" name=\"d\"><System name=\"s\"><Elements>{elements}</Elements></System></SystemStructureDescription>"
@@ -298,6 +352,30 @@ fn a_nested_system_is_read(rt: HostRuntime) -> Result<(), Fail> {
     assert_eq!(rt; read.connectors.len(), 3);
     assert_eq!(rt; read.connections.len(), 2);
     assert_eq!(rt; read.bindings.len(), 1);
+    Ok(())
+}
+
+#[test]
+fn bindings_are_read(rt: HostRuntime) -> Result<(), Fail> {
+    let alloc = rt.alloc();
+    for (binding, prefix, values, mapping) in BINDINGS {
+        let elements = format!(in alloc;
+            "<Component name=\"c\" source=\"c\"><ParameterBindings>{binding}</ParameterBindings></Component>"
+        )?;
+        let document = with_elements(alloc, elements.as_str())?;
+        let tree = read_tree(alloc, document.as_bytes())?;
+        let read = read_ssd(alloc, &tree)?;
+        assert_eq!(rt; read.bindings.len(), 1);
+        for bound in read.bindings.as_slice() {
+            assert_eq!(rt; bound.node, 5, "{binding}");
+            assert_eq!(rt; bound.prefix.as_str(), prefix, "{binding}");
+            assert!(rt; is_given(&bound.values, values), "{binding}");
+            match (&bound.mapping, mapping) {
+                (Some(origin), Some(given)) => assert!(rt; is_given(origin, given), "{binding}"),
+                (origin, given) => assert!(rt; origin.is_none() && given.is_none(), "{binding}"),
+            }
+        }
+    }
     Ok(())
 }
 

@@ -67,11 +67,33 @@ pub struct Connection {
     pub end: usize,
 }
 
-/// A binding of parameters, and whose it is.
+/// Below which folder a file of parameters stands (SSP 1.0, `sourceBase`).
 #[derive(Clone, Copy, Debug, PartialEq, Eq)]
+pub enum SourceBase {
+    /// that of the system structure description
+    Description,
+    /// that of the component's FMU
+    Component,
+}
+
+/// Where the values or the mapping of a binding are given.
+#[derive(Debug, Drop)]
+pub enum Origin {
+    /// In a file. `path` is without the segments that lead nowhere.
+    File { base: SourceBase, path: Text },
+    /// Within the element with this number: the ParameterValues or the ParameterMapping of the binding.
+    Inline { node: usize },
+}
+
+/// A binding of parameters, and whose it is (SSP 1.0, ParameterBinding).
+#[derive(Debug, Drop)]
 pub struct Binding {
     pub node: usize,
     pub owner: Owner,
+    /// what stands before the name of each parameter; empty where it isn't given
+    pub prefix: Text,
+    pub values: Origin,
+    pub mapping: Option<Origin>,
 }
 
 /// What a system structure description says. Each list is in document order; the outermost System is the first.

@@ -7,9 +7,9 @@ use Rattle.ssd_tree.proofs.indexed.IndexedTree.binding_parts.Goals as goal
 
 pub binding_part-requires-clause-is : goal.binding_part-requires-clause-is
 binding_part-requires-clause-is c =
-    listed_one (IsBinding c.args.self.now.tree.now) c.args.self.now.lists.bindings.items c.deref-node-items.result.now c.requires.lists.bindings c.deref-node-items.ensures.value c.loop-node.node-index (omega arith)
+    listed_one (IsBinding c.args.self.now.tree.now) c.args.self.now.lists.bindings.items c.deref-node-items.result.now c.requires.indexed.lists.bindings c.deref-node-items.ensures.value c.loop-node.node-index (omega arith)
 
 pub loop-node-preserved : goal.loop-node-preserved
 loop-node-preserved c =
     part_more (IsBindingPart c.args.self.now.tree.now (nodes_of c.args.self.now.lists)) c.args.self.now.lists.bindings.items c.deref-node-items.result.now c.loop-node.parts.items c.push.new.self.items
-    c.loop-node.node-index c.binding_part.result c.deref-node-items.ensures.value (omega arith) c.loop-node.invariant c.binding_part.ensures c.in_ok-push.ensures.items
+    c.loop-node.node-index c.in_ok-binding_part.field-0 c.deref-node-items.ensures.value (omega arith) c.loop-node.invariant c.in_ok-binding_part.ensures c.in_ok-push.ensures.items
