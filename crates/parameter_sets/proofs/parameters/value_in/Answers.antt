@@ -1,0 +1,14 @@
+use Rattle.std.proofs.Common.{codes, sym, ◌∙◌}
+use Rattle.parameter_sets.specs.Numbers.{IsBoolean, IsWhole}
+use Rattle.parameter_sets.proofs.ReadLemmas.{no_boolean, no_integer, unread}
+use Rattle.parameter_sets.proofs.parameters.value_in.Goals as goal
+
+pub returns-in_err-whole : goal.returns-in_err-whole
+returns-in_err-whole c =
+    rw c.from_residual.ensures
+    (no_integer c.args.tree.now c.args.node (sym c.is_named.ensures ∙ c.if-is_named.true) (unread (IsWhole c.args.tree.now c.args.node (codes "value")) c.whole.result c.in_err-whole.was c.whole.ensures.exact))
+
+pub returns-in_err-boolean : goal.returns-in_err-boolean
+returns-in_err-boolean c =
+    rw c.from_residual-in_err-boolean.ensures
+    (no_boolean c.args.tree.now c.args.node (sym c.is_named-else-is_named.ensures ∙ c.if-is_named-2.true) (unread (IsBoolean c.args.tree.now c.args.node (codes "value")) c.boolean.result c.in_err-boolean.was c.boolean.ensures.exact))

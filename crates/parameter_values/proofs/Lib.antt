@@ -1,0 +1,3 @@
+pub mod LinearLemmas
+pub mod LastLemmas
+pub mod MapLemmas
