@@ -1,3 +1,4 @@
 mod Weights
 mod Order
 pub mod NameLemmas
+mod NamedLemmas

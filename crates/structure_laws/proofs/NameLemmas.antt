@@ -76,7 +76,7 @@ module _ (t : List Node) (in_order : IsInOrder t) where
 -- ---- all components
 
 -- what holds of all that stands beside anything
-each_beside : {X Y : Type 0} (R : X → Y → Type 0) (Q : Y → Type 0) → ((x : X) (y : Y) → R x y → Q y) → (xs : List X) (ys : List Y) → AllZip R xs ys → All Q ys
+pub each_beside : {X Y : Type 0} (R : X → Y → Type 0) (Q : Y → Type 0) → ((x : X) (y : Y) → R x y → Q y) → (xs : List X) (ys : List Y) → AllZip R xs ys → All Q ys
 each_beside R Q h [] [] zip = All-nil Q
 each_beside R Q h [] (y ∷ ys) zip = absurd zip
 each_beside R Q h (x ∷ xs) [] zip = absurd zip

@@ -3,4 +3,4 @@
 
 mod laws;
 
-pub use laws::read_structures;
+pub use laws::{named_trees, read_structures};

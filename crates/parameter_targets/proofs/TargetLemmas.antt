@@ -1,0 +1,280 @@
+-- What elements see, by the tables of names and paths.
+use Rattle.std.proofs.Common.{◌≡◌, ◌⊎◌, ◌↔◌, ◌<◌, ◌≤◌, ◌+◌, ℕ, List, [], ◌∷◌, ◌++◌, length, take, get_or, map, Some, refl, sym, ap, ◌∙◌, subst, inl, inr, arith, append_assoc}
+use Rattle.std.specs.List.{slice_get, Contains}
+use Rattle.std.proofs.lemmas.Bool.{cases_lt}
+use Rattle.std.proofs.lemmas.List.{append_cancel_left, length_push, take_all, take_more}
+use Rattle.std.proofs.lemmas.List.Elements.{All-contains, Contains-append_left, Contains-push, Contains-push_cases}
+use Rattle.std.proofs.lemmas.Option.{same_Some, slice_get_within}
+use Rattle.value_types.specs.declared.shape.Shape.{Shape}
+use Rattle.value_types.specs.declared.shape.Variable.{Variable}
+use Rattle.ssd_tree.specs.declared.tree.Owner.TheVariants.{System, Component}
+use Rattle.ssd_tree.specs.declared.tree.ComponentPart.{ComponentPart}
+use Rattle.ssd_tree.specs.declared.tree.SystemTree.{SystemTree}
+use Rattle.parameter_targets.specs.declared.names.ParameterNames.{ParameterNames}
+use Rattle.parameter_targets.specs.declared.paths.Path.{Path}
+use Rattle.parameter_targets.specs.declared.target.Target.{Target}
+use Rattle.parameter_targets.specs.declared.targets.Targets.{Targets}
+use Rattle.parameter_targets.specs.Named.{BeginsWithScope, IsInScope, IsNamedTree}
+use Rattle.parameter_targets.specs.Scopes.{IsScope, IsTarget, IsWithin, Sees, SeesBelow, SeesName}
+use Rattle.parameter_targets.specs.Tables.{AreAllNames, AreNames, AreTargets, IsNamed, IsNamedAt, IsNamedIn, IsPath, IsPathText, IsSeenBelow, TellsPath}
+use Rattle.parameter_targets.proofs.ListLemmas.{contains_at, place_of, push_cases, read_at}
+use Rattle.parameter_targets.proofs.PathLemmas.{begins_within, scope_once}
+use Rattle.parameter_targets.proofs.RowLemmas.{begins_around}
+
+-- ---- names of all components
+
+pub all_names_none : AreAllNames [] []
+all_names_none = record { names_len = refl; each = λ i s n is there. absurd (let w = slice_get_within [] i s is in omega (arith, w)) }
+
+pub all_names_more : (shapes : List Shape) (names : List ParameterNames) (s : Shape) (n : ParameterNames) → AreNames s.variables n → AreAllNames shapes names → AreAllNames (shapes ++ s ∷ []) (names ++ n ∷ [])
+all_names_more shapes names s n are was = record {
+  names_len = length_push names n ∙ ap (λ k. k + 1) was.names_len ∙ sym (length_push shapes s);
+  each = λ i x y is there. each i x y (push_cases shapes s i x is) (push_cases names n i y there);
+}
+  where
+    each : (i : ℕ) (x : Shape) (y : ParameterNames) → (slice_get shapes i ≡ Some x) ⊎ ((i ≡ length shapes) × (s ≡ x)) → (slice_get names i ≡ Some y) ⊎ ((i ≡ length names) × (n ≡ y)) → AreNames x.variables y
+    each i x y (inl a) (inl b) = was.each i x y a b
+    each i x y (inl a) (inr b) = let l = slice_get_within shapes i x a in let e = b.0 in let len = was.names_len in absurd (omega (arith, l, e, len))
+    each i x y (inr a) (inl b) = let l = slice_get_within names i y b in let e = a.0 in let len = was.names_len in absurd (omega (arith, l, e, len))
+    each i x y (inr a) (inr b) = subst (λ (z : Shape). AreNames z.variables y) a.1 (subst (AreNames s.variables) b.1 are)
+
+-- ---- parameters of a component, one more after another
+
+-- these variables of the component, and those seen before
+abbrev pub PutsTargets : List Target → List Target → ℕ → (ℕ → Type 0) → Type 0
+PutsTargets start now component P = (t : Target) → Contains now t ↔ (Contains start t ⊎ ((t.component ≡ component) × P t.variable))
+
+abbrev pub target_of : ℕ → ℕ → Target
+target_of component variable = record { component = component; variable = variable }
+
+pub puts_nothing : (start : List Target) (component : ℕ) → PutsTargets start start component (λ v. Contains (take 0 (let x : List ℕ = [] in x)) v)
+puts_nothing start component t = (λ c. inl c, by)
+  where
+    by : Contains start t ⊎ ((t.component ≡ component) × Contains (take 0 (let x : List ℕ = [] in x)) t.variable) → Contains start t
+    by (inl c) = c
+    by (inr h) = absurd (let c = h.1 in omega (arith, c.1))
+
+pub puts_place : (start old now : List Target) (component : ℕ) (places : List ℕ) (i d : ℕ) → i < length places → now ≡ old ++ target_of component (get_or places i d) ∷ [] → PutsTargets start old component (Contains (take i places)) → PutsTargets start now component (Contains (take (i + 1) places))
+puts_place start old now component places i d less pushed was t = (
+  λ c. there (Contains-push_cases old (target_of component place) t (subst (λ (z : List Target). Contains z t) pushed c)),
+  λ h. subst (λ (z : List Target). Contains z t) (sym pushed) (back h),
+)
+  where
+    place : ℕ
+    place = get_or places i d
+
+    more : take (i + 1) places ≡ take i places ++ place ∷ []
+    more = take_more places i d less
+
+    kept : Contains start t ⊎ ((t.component ≡ component) × Contains (take i places) t.variable) → Contains start t ⊎ ((t.component ≡ component) × Contains (take (i + 1) places) t.variable)
+    kept (inl c) = inl c
+    kept (inr h) = inr (h.0, subst (λ z. Contains z t.variable) (sym more) (Contains-append_left (take i places) (place ∷ []) t.variable h.1))
+
+    there : Contains old t ⊎ (target_of component place ≡ t) → Contains start t ⊎ ((t.component ≡ component) × Contains (take (i + 1) places) t.variable)
+    there (inl c) = kept ((was t).0 c)
+    there (inr e) = inr (ap (λ (z : Target). z.component) (sym e), subst (λ z. Contains z t.variable) (sym more) (subst (Contains (take i places ++ place ∷ [])) (ap (λ (z : Target). z.variable) e) (Contains-push (take i places) place)))
+
+    last : t.component ≡ component → Contains (take i places) t.variable ⊎ (place ≡ t.variable) → Contains (old ++ target_of component place ∷ []) t
+    last same (inl c) = Contains-append_left old (target_of component place ∷ []) t ((was t).1 (inr (same, c)))
+    last same (inr e) = subst (Contains (old ++ target_of component place ∷ [])) (ap (λ v. target_of component v) e ∙ ap (λ k. target_of k t.variable) (sym same)) (Contains-push old (target_of component place))
+
+    back : Contains start t ⊎ ((t.component ≡ component) × Contains (take (i + 1) places) t.variable) → Contains (old ++ target_of component place ∷ []) t
+    back (inl c) = Contains-append_left old (target_of component place ∷ []) t ((was t).1 (inl c))
+    back (inr h) = last h.0 (Contains-push_cases (take i places) place t.variable (subst (λ z. Contains z t.variable) more h.1))
+
+pub puts_as : (start now : List Target) (component : ℕ) (P Q : ℕ → Type 0) → ((v : ℕ) → P v ↔ Q v) → PutsTargets start now component P → PutsTargets start now component Q
+puts_as start now component P Q each was t = (λ c. there ((was t).0 c), λ h. (was t).1 (back h))
+  where
+    there : Contains start t ⊎ ((t.component ≡ component) × P t.variable) → Contains start t ⊎ ((t.component ≡ component) × Q t.variable)
+    there (inl c) = inl c
+    there (inr h) = inr (h.0, (each t.variable).0 h.1)
+
+    back : Contains start t ⊎ ((t.component ≡ component) × Q t.variable) → Contains start t ⊎ ((t.component ≡ component) × P t.variable)
+    back (inl c) = inl c
+    back (inr h) = inr (h.0, (each t.variable).1 h.1)
+
+pub named_in : (shapes : List Shape) (component : ℕ) (s : Shape) (name : List ℕ) (v : ℕ) → slice_get shapes component ≡ Some s → IsNamedAt s.variables name v ↔ IsNamedIn shapes component name v
+named_in shapes component s name v is = (λ h. record { shape = s; is = is; named = h }, λ h. subst (λ (z : Shape). IsNamedAt z.variables name v) (same_Some h.shape s (sym h.is ∙ is)) h.named)
+
+-- ---- what a component sees
+
+pub target_is : (shapes : List Shape) (target : Target) (name : List ℕ) → IsNamedIn shapes target.component name target.variable → (v : Variable) × (IsTarget shapes target v × IsNamed v name)
+target_is shapes target name h = (h.named.0, (record { shape = h.shape; of = h.is; at = h.named.1; parameter = h.named.2.parameter; known = h.named.2.known }, h.named.2))
+
+pub named_target : (shapes : List Shape) (target : Target) (name : List ℕ) (v : Variable) → IsTarget shapes target v → (called : IsNamed v name) → IsNamedIn shapes target.component name target.variable
+named_target shapes target name v is called = record { shape = is.shape; is = is.of; named = (v, is.at, called) }
+
+pub sees_own : (t : SystemTree) (shapes : List Shape) (i : ℕ) (name : List ℕ) (target : Target) → ((target.component ≡ i) × IsNamedIn shapes i name target.variable) ↔ Sees t shapes (Component i) name target
+sees_own t shapes i name target = (there, back)
+  where
+    there : (target.component ≡ i) × IsNamedIn shapes i name target.variable → Sees t shapes (Component i) name target
+    there h =
+        let is = target_is shapes target name (subst (λ z. IsNamedIn shapes z name target.variable) (sym h.0) h.1) in
+        record { variable = is.0; is = is.1.0; own = name; called = is.1.1.called; seen = (h.0, refl) }
+
+    back : Sees t shapes (Component i) name target → (target.component ≡ i) × IsNamedIn shapes i name target.variable
+    back s =
+        let named = named_target shapes target s.own s.variable s.is (record { parameter = s.is.parameter; known = s.is.known; called = s.called }) in
+        (s.seen.0, subst (λ z. IsNamedIn shapes i z target.variable) (sym s.seen.1) (subst (λ z. IsNamedIn shapes z s.own target.variable) s.seen.0 named))
+
+-- ---- what a System sees
+
+pub sees_below : (targets : Targets) (s : ℕ) (name : List ℕ) (target : Target) → IsNamedTree targets.tree.now → IsSeenBelow targets s name target ↔ Sees targets.tree.now targets.shapes.now (System s) name target
+sees_below targets s name target named = (there, back)
+  where
+    t : SystemTree
+    t = targets.tree.now
+
+    shapes : List Shape
+    shapes = targets.shapes.now
+
+    there : IsSeenBelow targets s name target → Sees targets.tree.now targets.shapes.now (System s) name target
+    there h =
+        let is = target_is shapes target h.own h.named in
+        let p = h.path in
+        record {
+          variable = is.0;
+          is = is.1.0;
+          own = h.own;
+          called = is.1.1.called;
+          seen = record {
+            part = p.part;
+            is = p.is;
+            within = p.within;
+            scope = p.path.scope;
+            scope_is = p.path.scope_is;
+            full = ap (λ z. p.path.scope ++ z) h.is ∙ sym (append_assoc p.path.scope h.text (46 ∷ h.own)) ∙ ap (λ z. z ++ 46 ∷ h.own) p.path.is;
+          };
+        }
+
+    back : Sees targets.tree.now targets.shapes.now (System s) name target → IsSeenBelow targets s name target
+    back sees =
+        let b = sees.seen in
+        let begins = begins_around t target.component b.part s named b.is b.within in
+        let scopes : begins.scope ≡ b.scope = scope_once t s begins.scope b.scope begins.scope_is b.scope_is in
+        let name_is : b.part.name ≡ b.scope ++ begins.own = begins.is ∙ ap (λ z. z ++ begins.own) scopes in
+        record {
+          text = begins.own;
+          path = record { part = b.part; is = b.is; within = b.within; path = record { scope = b.scope; scope_is = b.scope_is; is = sym name_is } };
+          own = sees.own;
+          is = append_cancel_left b.scope name (begins.own ++ 46 ∷ sees.own) (b.full ∙ ap (λ z. z ++ 46 ∷ sees.own) name_is ∙ append_assoc b.scope begins.own (46 ∷ sees.own));
+          named = named_target shapes target sees.own sees.variable sees.is (record { parameter = sees.is.parameter; known = sees.is.known; called = sees.called });
+        }
+
+-- ---- the walk over the paths of a System
+
+-- seen by one of these paths
+pub record IsSeenBy (targets : Targets) (name : List ℕ) (ats : List ℕ) (target : Target) : Type 0 where
+  pub at : ℕ
+  pub in_row : Contains ats at
+  pub path : Path
+  pub is : slice_get targets.paths.all.items at ≡ Some path
+  pub component_is : path.component ≡ target.component
+  pub own : List ℕ
+  pub name_is : name ≡ path.text.now ++ 46 ∷ own
+  pub named : IsNamedIn targets.shapes.now target.component own target.variable
+
+abbrev pub SeesBy : Targets → List ℕ → List ℕ → List Target → Type 0
+SeesBy targets name ats seen = (target : Target) → Contains seen target ↔ IsSeenBy targets name ats target
+
+pub sees_by_none : (targets : Targets) (name ats : List ℕ) → SeesBy targets name (take 0 ats) []
+sees_by_none targets name ats target = (λ c. absurd (omega (arith, c.1)), λ h. absurd (let c = h.in_row in omega (arith, c.1)))
+
+by_more : (targets : Targets) (name ats : List ℕ) (i d : ℕ) (target : Target) → i < length ats → IsSeenBy targets name (take i ats) target → IsSeenBy targets name (take (i + 1) ats) target
+by_more targets name ats i d target less h = record {
+  at = h.at;
+  in_row = subst (λ z. Contains z h.at) (sym (take_more ats i d less)) (Contains-append_left (take i ats) (get_or ats i d ∷ []) h.at h.in_row);
+  path = h.path;
+  is = h.is;
+  component_is = h.component_is;
+  own = h.own;
+  name_is = h.name_is;
+  named = h.named;
+}
+
+by_last : (targets : Targets) (name ats : List ℕ) (i d : ℕ) (target : Target) (path : Path) → i < length ats → slice_get targets.paths.all.items (get_or ats i d) ≡ Some path → IsSeenBy targets name (take (i + 1) ats) target
+    → IsSeenBy targets name (take i ats) target ⊎ ((path.component ≡ target.component) × ((own : List ℕ) × (name ≡ path.text.now ++ 46 ∷ own) × IsNamedIn targets.shapes.now target.component own target.variable))
+by_last targets name ats i d target path less is h = by (Contains-push_cases (take i ats) (get_or ats i d) h.at (subst (λ z. Contains z h.at) (take_more ats i d less) h.in_row))
+  where
+    by : Contains (take i ats) h.at ⊎ (get_or ats i d ≡ h.at) → IsSeenBy targets name (take i ats) target ⊎ ((path.component ≡ target.component) × ((own : List ℕ) × (name ≡ path.text.now ++ 46 ∷ own) × IsNamedIn targets.shapes.now target.component own target.variable))
+    by (inl c) = inl (record { at = h.at; in_row = c; path = h.path; is = h.is; component_is = h.component_is; own = h.own; name_is = h.name_is; named = h.named })
+    by (inr e) =
+        let same : h.path ≡ path = same_Some h.path path (sym h.is ∙ ap (slice_get targets.paths.all.items) (sym e) ∙ is) in
+        inr (ap (λ (z : Path). z.component) (sym same) ∙ h.component_is, (h.own, h.name_is ∙ ap (λ (z : Path). z.text.now ++ 46 ∷ h.own) same, h.named))
+
+-- the next path doesn't begin the name
+pub sees_by_other : (targets : Targets) (name ats : List ℕ) (i d : ℕ) (seen : List Target) (path : Path) → i < length ats → slice_get targets.paths.all.items (get_or ats i d) ≡ Some path → ((own : List ℕ) → name ≡ path.text.now ++ 46 ∷ own → ⊥)
+    → SeesBy targets name (take i ats) seen → SeesBy targets name (take (i + 1) ats) seen
+sees_by_other targets name ats i d seen path less is none was target = (λ c. by_more targets name ats i d target less ((was target).0 c), λ h. by (by_last targets name ats i d target path less is h))
+  where
+    by : IsSeenBy targets name (take i ats) target ⊎ ((path.component ≡ target.component) × ((own : List ℕ) × (name ≡ path.text.now ++ 46 ∷ own) × IsNamedIn targets.shapes.now target.component own target.variable)) → Contains seen target
+    by (inl h) = (was target).1 h
+    by (inr h) = absurd (none h.1.0 h.1.1)
+
+-- it begins the name
+pub sees_by_next : (targets : Targets) (name ats : List ℕ) (i d : ℕ) (old new : List Target) (path : Path) (own : List ℕ) → i < length ats → slice_get targets.paths.all.items (get_or ats i d) ≡ Some path → name ≡ path.text.now ++ 46 ∷ own
+    → PutsTargets old new path.component (IsNamedIn targets.shapes.now path.component own) → SeesBy targets name (take i ats) old → SeesBy targets name (take (i + 1) ats) new
+sees_by_next targets name ats i d old new path own less is begins puts was target = (λ c. there ((puts target).0 c), λ h. (puts target).1 (back (by_last targets name ats i d target path less is h)))
+  where
+    there : Contains old target ⊎ ((target.component ≡ path.component) × IsNamedIn targets.shapes.now path.component own target.variable) → IsSeenBy targets name (take (i + 1) ats) target
+    there (inl c) = by_more targets name ats i d target less ((was target).0 c)
+    there (inr h) = record {
+      at = get_or ats i d;
+      in_row = subst (λ z. Contains z (get_or ats i d)) (sym (take_more ats i d less)) (Contains-push (take i ats) (get_or ats i d));
+      path = path;
+      is = is;
+      component_is = sym h.0;
+      own = own;
+      name_is = begins;
+      named = subst (λ z. IsNamedIn targets.shapes.now z own target.variable) (sym h.0) h.1;
+    }
+
+    back : IsSeenBy targets name (take i ats) target ⊎ ((path.component ≡ target.component) × ((o : List ℕ) × (name ≡ path.text.now ++ 46 ∷ o) × IsNamedIn targets.shapes.now target.component o target.variable))
+        → Contains old target ⊎ ((target.component ≡ path.component) × IsNamedIn targets.shapes.now path.component own target.variable)
+    back (inl h) = inl ((was target).1 h)
+    back (inr h) =
+        let cut : 46 ∷ h.1.0 ≡ 46 ∷ own = append_cancel_left path.text.now (46 ∷ h.1.0) (46 ∷ own) (sym h.1.1 ∙ begins) in
+        let same : h.1.0 ≡ own = cc in
+        inr (sym h.0, subst (λ z. IsNamedIn targets.shapes.now z own target.variable) (sym h.0) (subst (λ z. IsNamedIn targets.shapes.now target.component z target.variable) same h.1.2))
+
+pub sees_by_all : (targets : Targets) (s : ℕ) (name : List ℕ) (n : ℕ) (seen : List Target) → AreTargets targets → length (get_or targets.paths.below s []) ≤ n → SeesBy targets name (take n (get_or targets.paths.below s [])) seen
+    → (target : Target) → Contains seen target ↔ IsSeenBelow targets s name target
+sees_by_all targets s name n seen are past was target = (λ c. there ((was target).0 c), λ h. (was target).1 (back h))
+  where
+    row : List ℕ
+    row = get_or targets.paths.below s []
+
+    whole : take n row ≡ row
+    whole = take_all n row past
+
+    there : IsSeenBy targets name (take n row) target → IsSeenBelow targets s name target
+    there h = record {
+      text = h.path.text.now;
+      path = (are.paths.each s target.component h.path.text.now).0 (record { at = h.at; in_row = subst (λ z. Contains z h.at) whole h.in_row; path = h.path; is = h.is; component_is = h.component_is; text_is = refl });
+      own = h.own;
+      is = h.name_is;
+      named = h.named;
+    }
+
+    back : IsSeenBelow targets s name target → IsSeenBy targets name (take n row) target
+    back h =
+        let told = (are.paths.each s target.component h.text).1 h.path in
+        record {
+          at = told.at;
+          in_row = subst (λ z. Contains z told.at) (sym whole) told.in_row;
+          path = told.path;
+          is = told.is;
+          component_is = told.component_is;
+          own = h.own;
+          name_is = h.is ∙ ap (λ z. z ++ 46 ∷ h.own) (sym told.text_is);
+          named = h.named;
+        }
+
+-- a path is that of a component
+pub path_component : (targets : Targets) (s at : ℕ) (path : Path) → AreTargets targets → Contains (get_or targets.paths.below s []) at → path ≡ get_or targets.paths.all.items at path → path.component < length targets.shapes.now
+path_component targets s at path are in_row is =
+    let there = read_at targets.paths.all.items targets.paths.all.items at path refl (are.paths.rows.within s at in_row) is in
+    let h = (are.paths.each s path.component path.text.now).0 (record { at = at; in_row = in_row; path = path; is = there; component_is = refl; text_is = refl }) in
+    let w = slice_get_within targets.tree.now.components path.component h.part h.is in
+    let l = are.shapes in
+    omega (arith, w, l)

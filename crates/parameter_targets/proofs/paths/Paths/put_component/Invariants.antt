@@ -1,0 +1,8 @@
+use Rattle.parameter_targets.proofs.RowLemmas.{IsPutting, ahead}
+use Rattle.parameter_targets.proofs.paths.Paths.put_component.Given as goal
+
+abbrev pub invariant-loop-current : goal.invariant-loop-current
+invariant-loop-current l = IsPutting l.tree l.fn.self l.self l.component l.part l.current
+
+abbrev pub decreases-loop-current : goal.decreases-loop-current
+decreases-loop-current l = ahead l.current

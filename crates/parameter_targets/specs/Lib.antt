@@ -1,0 +1,4 @@
+pub mod Scopes
+pub mod Named
+pub mod Chains
+pub mod Tables

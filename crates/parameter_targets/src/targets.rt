@@ -1,0 +1,115 @@
+//! The parameters that Systems and Components see.
+ghost use Rattle.std.specs.Prelude.{◌≡◌, ◌⊎◌, ◌↔◌, ◌<◌, IfOk, OnOk, Contains, length};
+ghost use Rattle.value_types.specs.declared.shape.Shape.{Shape};
+ghost use Rattle.parameter_targets.specs.declared.target.Target.{Target};
+ghost use Rattle.parameter_targets.specs.Named.{IsNamedTree, IsOwner};
+ghost use Rattle.parameter_targets.specs.Scopes.{Sees};
+ghost use Rattle.parameter_targets.specs.Tables.{AreAllNames, AreTargets, IsNamedIn, IsSeenBelow};
+
+use crate::Target;
+use crate::names::ParameterNames;
+use crate::paths::{Paths, behind};
+use ssd_tree::{Owner, SystemTree};
+use std::alloc::{AllocError, Global};
+use value_types::Shape;
+
+/// The parameters of the components of a tree of systems, as its Systems and Components see them.
+#[derive(Drop)]
+pub struct Targets<'a> {
+    tree: &'a SystemTree,
+    shapes: &'a [Shape],
+    /// of each component
+    names: Vec<ParameterNames<'a>>,
+    paths: Paths<'a>,
+}
+
+fn names_of<'a>(alloc: Global, shapes: &'a [Shape]) -> Result<Vec<ParameterNames<'a>>, AllocError>
+    ensures { IfOk result (λ names. AreAllNames shapes.now names.items) }
+{
+    let mut names = Vec::new(alloc);
+    for shape in shapes {
+        names.push(ParameterNames::of(alloc, shape.variables.as_slice())?)?;
+    }
+    Ok(names)
+}
+
+impl<'a> Targets<'a> {
+    /// The parameters of all components, where each shape is a component's.
+    pub fn new(
+        alloc: Global,
+        tree: &'a SystemTree,
+        shapes: &'a [Shape],
+    ) -> Result<Targets<'a>, AllocError>
+        requires tree { IsNamedTree tree.now }
+        requires shapes { length shapes.now ≡ length tree.now.components }
+        ensures targets { IfOk result AreTargets }
+        ensures tree { IfOk result (λ targets. targets.tree.now ≡ tree.now) }
+        ensures shapes { IfOk result (λ targets. targets.shapes.now ≡ shapes.now) }
+    {
+        Ok(Targets {
+            tree,
+            shapes,
+            names: names_of(alloc, shapes)?,
+            paths: Paths::of(alloc, tree)?,
+        })
+    }
+
+    // Puts the parameters of a component that have the name behind others.
+    fn put_named(
+        &self,
+        alloc: Global,
+        seen: &mut Vec<Target>,
+        component: usize,
+        name: &str,
+    ) -> Result<(), AllocError>
+        requires targets { AreTargets self.now }
+        requires within { component < length self.now.shapes.now }
+        ensures { OnOk result ((target : Target) → Contains seen.new.items target ↔ (Contains seen.old.items target ⊎ ((target.component ≡ component) × IsNamedIn self.now.shapes.now component name.now target.variable))) }
+    {
+        let places = self.names[component].places_of(alloc, name)?;
+        for variable in &places {
+            seen.push(Target {
+                component,
+                variable: *variable,
+            })?;
+        }
+        Ok(())
+    }
+
+    // Puts the parameters that a System sees under the name behind none.
+    fn seen_below(
+        &self,
+        alloc: Global,
+        system: usize,
+        name: &str,
+    ) -> Result<Vec<Target>, AllocError>
+        requires targets { AreTargets self.now }
+        requires within { system < length self.now.tree.now.systems }
+        ensures { IfOk result (λ seen. (target : Target) → Contains seen.items target ↔ IsSeenBelow self.now system name.now target) }
+    {
+        let mut seen = Vec::new(alloc);
+        for at in self.paths.below.row(system) {
+            let path = &self.paths.all[*at];
+            if let Some(own) = behind(name, path.text) {
+                self.put_named(alloc, &mut seen, path.component, own)?;
+            }
+        }
+        Ok(seen)
+    }
+
+    /// All parameters that the element sees under the name; one may stand there more than once.
+    pub fn seen(&self, alloc: Global, owner: Owner, name: &str) -> Result<Vec<Target>, AllocError>
+        requires targets { AreTargets self.now }
+        requires owner { IsOwner self.now.tree.now owner }
+        ensures { IfOk result (λ seen. (target : Target) → Contains seen.items target ↔ Sees self.now.tree.now self.now.shapes.now owner name.now target) }
+    {
+        match owner {
+            Owner::System(system) => self.seen_below(alloc, system, name),
+            Owner::Component(component) => {
+                let mut seen = Vec::new(alloc);
+                self.put_named(alloc, &mut seen, component, name)?;
+                Ok(seen)
+            }
+        }
+    }
+}

@@ -1,0 +1,168 @@
+-- What a document without violation says is a tree whose names are those of its Systems.
+use Rattle.std.proofs.Common.{◌≡◌, ◌⊎◌, ℕ, ◌<◌, List, [], ◌∷◌, ◌++◌, length, get_or, Option, Some, None, IsSomeAnd, MatchOption, codes, refl, sym, ap, ◌∙◌, subst, inl, inr, arith, append_assoc}
+use Rattle.std.specs.List.{AllZip, slice_get}
+use Rattle.std.proofs.lemmas.Bool.{cases_order}
+use Rattle.std.proofs.lemmas.Option.{get_or_from_slice_get, none-some, same_Some, slice_get_within}
+use Rattle.std.proofs.lemmas.Slice.Zip.{AllZip-left, AllZip-long, AllZip-right}
+use Rattle.doc_grammar.specs.Nodes.{Node}
+use Rattle.doc_tree.specs.Elements.{IsBelow, IsInOrder}
+use Rattle.doc_tables.specs.Elements.{attribute, parent}
+use Rattle.ssd_tree.specs.declared.tree.Owner.{Owner}
+use Rattle.ssd_tree.specs.declared.tree.Owner.TheVariants.{System, Component}
+use Rattle.ssd_tree.specs.declared.tree.Binding.{Binding}
+use Rattle.ssd_tree.specs.declared.tree.ComponentPart.{ComponentPart}
+use Rattle.ssd_tree.specs.declared.tree.SystemPart.{SystemPart}
+use Rattle.ssd_tree.specs.declared.tree.SystemTree.{SystemTree}
+use Rattle.ssd_tree.specs.Elements.{holder}
+use Rattle.ssd_tree.specs.Parts.{Describes, InInner, InOutermost, IsBindingPart, IsComponentPart, IsFullName, IsPlaceOf, IsSystemPart, owner_node}
+use Rattle.ssd_tree.specs.Rules.{IsSound}
+use Rattle.ssd_tree.proofs.ElementLemmas.{holder_cases}
+use Rattle.ssd_tree.proofs.OneLemmas.{alone_in_root}
+use Rattle.structure_laws.proofs.NameLemmas.{each_beside}
+use Rattle.parameter_targets.specs.Named.{IsInScope, IsNamedTree, IsOwner}
+use Rattle.parameter_targets.specs.Scopes.{IsScope, Inner, Outermost}
+
+-- ---- lists side by side
+
+-- what stands beside an item of the second list
+beside : {A B : Type 0} (R : A → B → Type 0) (xs : List A) (ys : List B) → AllZip R xs ys → (i : ℕ) (y : B) → slice_get ys i ≡ Some y → (x : A) × (slice_get xs i ≡ Some x) × R x y
+beside {A} {B} R xs ys all i y e =
+    pick (slice_get xs i) refl (subst (λ (o : Option B). MatchOption o (Unit {0}) (λ z. IsSomeAnd (slice_get xs i) (λ x. R x z))) e (AllZip-right R xs ys all i))
+  where
+    pick : (o : Option A) → slice_get xs i ≡ o → IsSomeAnd o (λ x. R x y) → (x : A) × (slice_get xs i ≡ Some x) × R x y
+    pick None f h = absurd h
+    pick (Some x) f h = (x, f, h)
+
+-- what stands beside an item of the first list
+across : {A B : Type 0} (R : A → B → Type 0) (xs : List A) (ys : List B) → AllZip R xs ys → (i : ℕ) (x : A) → slice_get xs i ≡ Some x → (y : B) × (slice_get ys i ≡ Some y) × R x y
+across {A} {B} R xs ys all i x e =
+    pick (slice_get ys i) refl (subst (λ (o : Option A). MatchOption o (Unit {0}) (λ z. IsSomeAnd (slice_get ys i) (R z))) e (AllZip-left R xs ys all i))
+  where
+    pick : (o : Option B) → slice_get ys i ≡ o → IsSomeAnd o (R x) → (y : B) × (slice_get ys i ≡ Some y) × R x y
+    pick None f h = absurd h
+    pick (Some y) f h = (y, f, h)
+
+-- ---- places
+
+-- the element that has the place
+placed : (nodes : List ℕ) (place : ℕ) (o : Option ℕ) → IsPlaceOf nodes (Some place) o → (k : ℕ) × (o ≡ Some k) × (slice_get nodes place ≡ Some k)
+placed nodes place None h = absurd h
+placed nodes place (Some k) h = (k, refl, h)
+
+unplaced : (nodes : List ℕ) (p o : Option ℕ) → IsPlaceOf nodes p o → o ≡ None → p ≡ None
+unplaced nodes None o h e = refl
+unplaced nodes (Some place) None h e = absurd h
+unplaced nodes (Some place) (Some k) h e = absurd (none-some k (sym e))
+
+has_place : (nodes : List ℕ) (p : Option ℕ) (k : ℕ) (o : Option ℕ) → IsPlaceOf nodes p o → o ≡ Some k → (place : ℕ) × (p ≡ Some place) × (slice_get nodes place ≡ Some k)
+has_place nodes p k None h e = absurd (none-some k e)
+has_place nodes None k (Some j) h e = absurd h
+has_place nodes (Some place) k (Some j) h e = (place, refl, h ∙ e)
+
+module _ (t : List Node) (in_order : IsInOrder t) where
+  behind : (k p : ℕ) → parent t k ≡ Some p → p < k
+  behind k p e = subst (IsBelow k) e (in_order k)
+
+  holder_behind : (k system : ℕ) (list : List ℕ) → holder t k list ≡ Some system → system < k
+  holder_behind k system list e =
+      let parts = holder_cases t k system list e in
+      omega (arith, behind k parts.0 parts.1, behind parts.0 system parts.3)
+
+  module _ (tree : SystemTree) (sound : IsSound t) (describes : Describes t tree) where
+    -- the element of a System, by its place
+    element : (s : ℕ) (part : SystemPart) → slice_get tree.systems s ≡ Some part → (k : ℕ) × (slice_get describes.nodes.systems s ≡ Some k) × IsSystemPart t describes.nodes k part
+    element s part e = beside (IsSystemPart t describes.nodes) describes.nodes.systems tree.systems describes.systems s part e
+
+    lower : (i j a b : ℕ) → slice_get describes.nodes.systems i ≡ Some a → slice_get describes.nodes.systems j ≡ Some b → a < b → i < j
+    lower i j a b p q less = at (cases_order i j)
+      where
+        at : (i ≡ j) ⊎ ((i < j) ⊎ (j < i)) → i < j
+        at (inl e) =
+            let same : a ≡ b = same_Some a b (sym p ∙ ap (λ (z : ℕ). slice_get describes.nodes.systems z) e ∙ q) in
+            absurd (omega (arith, same, less))
+        at (inr (inl h)) = h
+        at (inr (inr h)) =
+            let first : get_or describes.nodes.systems i 0 ≡ a = get_or_from_slice_get describes.nodes.systems i a 0 p in
+            let second : get_or describes.nodes.systems j 0 ≡ b = get_or_from_slice_get describes.nodes.systems j b 0 q in
+            let rises : get_or describes.nodes.systems j 0 < get_or describes.nodes.systems i 0 = describes.lists.systems.rising j i h (slice_get_within describes.nodes.systems i a p) in
+            absurd (omega (arith, first, second, rises, less))
+
+    outer : (s above : ℕ) (part : SystemPart) → slice_get tree.systems s ≡ Some part → part.parent ≡ Some above → above < s
+    outer s above part e up =
+        let here = element s part e in
+        let around = placed describes.nodes.systems above (holder t here.0 (codes "Elements")) (subst (λ (p : Option ℕ). IsPlaceOf describes.nodes.systems p (holder t here.0 (codes "Elements"))) up here.2.outer) in
+        lower above s around.0 here.0 around.2 here.1 (holder_behind here.0 around.0 (codes "Elements") around.1)
+
+    long : length tree.systems ≡ length describes.nodes.systems
+    long = AllZip-long (IsSystemPart t describes.nodes) describes.nodes.systems tree.systems describes.systems
+
+    component_long : length tree.components ≡ length describes.nodes.components
+    component_long = AllZip-long (IsComponentPart t describes.nodes) describes.nodes.components tree.components describes.components
+
+    component_within : (k : ℕ) (c : ComponentPart) → IsComponentPart t describes.nodes k c → c.system < length tree.systems
+    component_within k c is =
+        let around = placed describes.nodes.systems c.system (holder t k (codes "Elements")) is.system in
+        let low = slice_get_within describes.nodes.systems c.system around.0 around.2 in
+        let same = long in
+        omega (arith, low, same)
+
+    owned : (owner : Owner) (k : ℕ) → owner_node describes.nodes owner ≡ Some k → IsOwner tree owner
+    owned (System place) k e = let low = slice_get_within describes.nodes.systems place k e in let same = long in omega (arith, low, same)
+    owned (Component place) k e = let low = slice_get_within describes.nodes.components place k e in let same = component_long in omega (arith, low, same)
+
+    -- a full name is the names of the Systems around, and its own
+    record Scoped (k place : ℕ) (name : List ℕ) : Type 0 where
+      scope : List ℕ
+      scope_is : IsScope tree place scope
+      own : List ℕ
+      own_is : attribute t k (codes "name") ≡ Some own
+      name_is : name ≡ scope ++ own
+
+    scoped : (k place around : ℕ) (name : List ℕ) → IsFullName t k name → holder t k (codes "Elements") ≡ Some around → slice_get describes.nodes.systems place ≡ Some around → Scoped k place name
+    scoped k place around name (InOutermost _ out _ up root own) here at =
+        let same : out ≡ around = same_Some out around (sym up ∙ here) in
+        let part = across (IsSystemPart t describes.nodes) describes.nodes.systems tree.systems describes.systems place around at in
+        let alone : part.0.parent ≡ None = unplaced describes.nodes.systems part.0.parent (holder t around (codes "Elements")) part.2.outer (no_holder around (subst (λ (z : ℕ). parent t z ≡ Some 0) same root)) in
+        record { scope = []; scope_is = Outermost place part.0 [] part.1 alone refl; own = name; own_is = own; name_is = refl }
+      where
+        no_holder : (s : ℕ) → parent t s ≡ Some 0 → holder t s (codes "Elements") ≡ None
+        no_holder s root = by (holder t s (codes "Elements")) refl
+          where
+            by : (o : Option ℕ) → holder t s (codes "Elements") ≡ o → o ≡ None
+            by None e = refl
+            by (Some p) e = absurd (alone_in_root t s p sound root e)
+    scoped k place around name (InInner _ system out above own up inner full named) here at =
+        let same : system ≡ around = same_Some system around (sym up ∙ here) in
+        let part = across (IsSystemPart t describes.nodes) describes.nodes.systems tree.systems describes.systems place around at in
+        let held : holder t around (codes "Elements") ≡ Some out = subst (λ (z : ℕ). holder t z (codes "Elements") ≡ Some out) same inner in
+        let above_place = has_place describes.nodes.systems part.0.parent out (holder t around (codes "Elements")) part.2.outer held in
+        let rest = scoped system above_place.0 out above full inner above_place.2 in
+        let own_name : part.0.name ≡ rest.own = same_Some part.0.name rest.own (sym part.2.name ∙ subst (λ (z : ℕ). attribute t z (codes "name") ≡ Some rest.own) same rest.own_is) in
+        record {
+          scope = rest.scope ++ (part.0.name ++ 46 ∷ []);
+          scope_is = Inner place above_place.0 part.0 rest.scope (rest.scope ++ (part.0.name ++ 46 ∷ [])) part.1 above_place.1 rest.scope_is refl;
+          own = own;
+          own_is = named;
+          name_is = joined rest.scope rest.own part.0.name above own own_name rest.name_is;
+        }
+      where
+        joined : (scope own' name' above own : List ℕ) → name' ≡ own' → above ≡ scope ++ own' → above ++ 46 ∷ own ≡ (scope ++ (name' ++ 46 ∷ [])) ++ own
+        joined scope own' name' above own e f =
+            ap (λ (zs : List ℕ). zs ++ 46 ∷ own) (f ∙ ap (λ (zs : List ℕ). scope ++ zs) (sym e))
+            ∙ append_assoc scope name' (46 ∷ own)
+            ∙ ap (λ (zs : List ℕ). scope ++ zs) (sym (append_assoc name' (46 ∷ []) own))
+            ∙ sym (append_assoc scope (name' ++ 46 ∷ []) own)
+
+    in_scope : (k : ℕ) (c : ComponentPart) → IsComponentPart t describes.nodes k c → IsInScope tree c
+    in_scope k c is =
+        let around = placed describes.nodes.systems c.system (holder t k (codes "Elements")) is.system in
+        let parts = scoped k c.system around.0 c.name is.name around.1 around.2 in
+        record { scope = parts.scope; scope_is = parts.scope_is; own = parts.own; is = parts.name_is }
+
+    pub named_tree : IsNamedTree tree
+    named_tree = record {
+      outer = outer;
+      within = each_beside (IsComponentPart t describes.nodes) (λ (c : ComponentPart). c.system < length tree.systems) component_within describes.nodes.components tree.components describes.components;
+      scopes = each_beside (IsComponentPart t describes.nodes) (IsInScope tree) in_scope describes.nodes.components tree.components describes.components;
+      owners = each_beside (IsBindingPart t describes.nodes) (λ (b : Binding). IsOwner tree b.owner) (λ k b is. owned b.owner is.part is.owner) describes.nodes.bindings tree.bindings describes.bindings;
+    }
