@@ -1,17 +1,17 @@
 -- The names of parameters, one variable after another.
-use Rattle.std.proofs.Common.{◌≡◌, ◌⊎◌, ◌↔◌, ◌<◌, ◌≤◌, ◌+◌, ℕ, Bool, true, false, Bor, List, [], ◌∷◌, ◌++◌, length, take, get_or, map, Option, Some, None, refl, sym, ap, ◌∙◌, subst, inl, inr, arith}
+use Rattle.std.proofs.Common.{◌≡◌, ◌⊎◌, ◌↔◌, ◌<◌, ◌≤◌, ◌+◌, ℕ, true, Bor, List, [], ◌∷◌, ◌++◌, length, take, get_or, map, Option, Some, None, refl, sym, ap, ◌∙◌, subst, inl, inr, arith}
 use Rattle.std.specs.List.{slice_get, Contains}
 use Rattle.std.specs.Option.{is_some, option_map, unwrap_or}
 use Rattle.std.proofs.lemmas.Bool.{cases_lt}
 use Rattle.std.proofs.lemmas.List.{length-map, take_more, take_all}
 use Rattle.std.proofs.lemmas.List.Elements.{Contains-append_left, Contains-push, Contains-push_cases}
-use Rattle.std.proofs.lemmas.Option.{same_Some, slice_get-get_or, slice_get-map, slice_get_within}
+use Rattle.std.proofs.lemmas.Option.{same_Some, slice_get-map, slice_get_within}
 use Rattle.value_types.specs.Shape.{is_parameter}
 use Rattle.value_types.specs.declared.shape.Variable.{Variable}
 use Rattle.parameter_targets.specs.Chains.{FindsFrom, text_at}
 use Rattle.parameter_targets.specs.Scopes.{IsCalled}
 use Rattle.parameter_targets.specs.Tables.{AreWalked, IsNamed, IsNamedAt, entry_of, text_of}
-use Rattle.parameter_targets.proofs.ListLemmas.{contains_at, in_push, place_of, push_cases, push_kept, push_last}
+use Rattle.parameter_targets.proofs.ListLemmas.{contains_at, in_push, place_of}
 
 abbrev pub Entries : Type 0
 Entries = List (Bor (List ℕ) × ℕ)

@@ -1,14 +1,13 @@
 -- Scopes of Systems, and what is left of names behind them.
-use Rattle.std.proofs.Common.{◌≡◌, ◌⊎◌, ◌↔◌, ◌<◌, ◌≤◌, ◌+◌, ℕ, zero, suc, Bor, List, [], ◌∷◌, ◌++◌, length, set, get_or, Option, Some, None, refl, sym, ap, ◌∙◌, subst, inl, inr, arith, append_assoc}
-use Rattle.std.specs.List.{slice_get, Contains}
+use Rattle.std.proofs.Common.{◌≡◌, ◌+◌, ℕ, List, [], ◌∷◌, ◌++◌, Option, Some, None, refl, sym, ap, ◌∙◌, subst, append_assoc}
+use Rattle.std.specs.List.{slice_get}
 use Rattle.std.proofs.lemmas.List.{append_cancel_left}
-use Rattle.std.proofs.lemmas.Option.{same_Some, slice_get_within}
+use Rattle.std.proofs.lemmas.Option.{same_Some}
 use Rattle.ssd_tree.specs.declared.tree.SystemPart.{SystemPart}
-use Rattle.ssd_tree.specs.declared.tree.ComponentPart.{ComponentPart}
 use Rattle.ssd_tree.specs.declared.tree.SystemTree.{SystemTree}
-use Rattle.parameter_targets.specs.Named.{BeginsWithScope, IsNamedTree}
+use Rattle.parameter_targets.specs.Named.{BeginsWithScope}
 use Rattle.parameter_targets.specs.Scopes.{IsDepth, AtTop, Below, IsScope, Outermost, Inner, IsWithin, Same, Deeper}
-use Rattle.parameter_targets.specs.Tables.{IsPath, IsPathText}
+use Rattle.parameter_targets.specs.Tables.{IsPathText}
 
 none_some : {A : Type 0} (x : A) → ◌≡◌ {A = Option A} None (Some x) → ⊥
 none_some x e = cc

@@ -1,24 +1,25 @@
 -- What elements see, by the tables of names and paths.
-use Rattle.std.proofs.Common.{◌≡◌, ◌⊎◌, ◌↔◌, ◌<◌, ◌≤◌, ◌+◌, ℕ, List, [], ◌∷◌, ◌++◌, length, take, get_or, map, Some, refl, sym, ap, ◌∙◌, subst, inl, inr, arith, append_assoc}
+use Rattle.std.proofs.Common.{◌≡◌, ◌⊎◌, ◌↔◌, ◌<◌, ◌≤◌, ◌+◌, ℕ, List, [], ◌∷◌, ◌++◌, length, take, get_or, Some, refl, sym, ap, ◌∙◌, subst, inl, inr, arith, append_assoc, map, Option, None, Bor}
 use Rattle.std.specs.List.{slice_get, Contains}
-use Rattle.std.proofs.lemmas.Bool.{cases_lt}
-use Rattle.std.proofs.lemmas.List.{append_cancel_left, length_push, take_all, take_more}
-use Rattle.std.proofs.lemmas.List.Elements.{All-contains, Contains-append_left, Contains-push, Contains-push_cases}
-use Rattle.std.proofs.lemmas.Option.{same_Some, slice_get_within}
+use Rattle.std.proofs.lemmas.List.{append_cancel_left, length-map, length_push, map-append, take_all, take_more}
+use Rattle.std.proofs.lemmas.List.Elements.{Contains-append_left, Contains-push, Contains-push_cases}
+use Rattle.std.proofs.lemmas.Option.{get_or_from_slice_get, same_Some, slice_get-get_or, slice_get-map, slice_get_within}
+use Rattle.std.specs.Option.{option_map}
+use Rattle.name_fronts.specs.Fronts.{AreFronts, texts}
 use Rattle.value_types.specs.declared.shape.Shape.{Shape}
 use Rattle.value_types.specs.declared.shape.Variable.{Variable}
 use Rattle.ssd_tree.specs.declared.tree.Owner.TheVariants.{System, Component}
-use Rattle.ssd_tree.specs.declared.tree.ComponentPart.{ComponentPart}
 use Rattle.ssd_tree.specs.declared.tree.SystemTree.{SystemTree}
 use Rattle.parameter_targets.specs.declared.names.ParameterNames.{ParameterNames}
 use Rattle.parameter_targets.specs.declared.paths.Path.{Path}
+use Rattle.parameter_targets.specs.declared.paths.Paths.{Paths}
 use Rattle.parameter_targets.specs.declared.target.Target.{Target}
 use Rattle.parameter_targets.specs.declared.targets.Targets.{Targets}
-use Rattle.parameter_targets.specs.Named.{BeginsWithScope, IsInScope, IsNamedTree}
-use Rattle.parameter_targets.specs.Scopes.{IsScope, IsTarget, IsWithin, Sees, SeesBelow, SeesName}
-use Rattle.parameter_targets.specs.Tables.{AreAllNames, AreNames, AreTargets, IsNamed, IsNamedAt, IsNamedIn, IsPath, IsPathText, IsSeenBelow, TellsPath}
-use Rattle.parameter_targets.proofs.ListLemmas.{contains_at, place_of, push_cases, read_at}
-use Rattle.parameter_targets.proofs.PathLemmas.{begins_within, scope_once}
+use Rattle.parameter_targets.specs.Named.{IsNamedTree}
+use Rattle.parameter_targets.specs.Scopes.{IsTarget, Sees}
+use Rattle.parameter_targets.specs.Tables.{AreAllFronts, AreAllNames, AreNames, AreNear, AreTargets, IsNamed, IsNamedAt, IsNamedIn, IsSeenBelow, row_texts, path_text}
+use Rattle.parameter_targets.proofs.ListLemmas.{contains_at, element_at, place_of, push_cases, read_at}
+use Rattle.parameter_targets.proofs.PathLemmas.{scope_once}
 use Rattle.parameter_targets.proofs.RowLemmas.{begins_around}
 
 -- ---- names of all components
@@ -237,36 +238,33 @@ sees_by_next targets name ats i d old new path own less is begins puts was targe
         let same : h.1.0 ≡ own = cc in
         inr (sym h.0, subst (λ z. IsNamedIn targets.shapes.now z own target.variable) (sym h.0) (subst (λ z. IsNamedIn targets.shapes.now target.component z target.variable) same h.1.2))
 
-pub sees_by_all : (targets : Targets) (s : ℕ) (name : List ℕ) (n : ℕ) (seen : List Target) → AreTargets targets → length (get_or targets.paths.below s []) ≤ n → SeesBy targets name (take n (get_or targets.paths.below s [])) seen
-    → (target : Target) → Contains seen target ↔ IsSeenBelow targets s name target
-sees_by_all targets s name n seen are past was target = (λ c. there ((was target).0 c), λ h. (was target).1 (back h))
+pub sees_by_all : (targets : Targets) (s : ℕ) (name ats : List ℕ) (n : ℕ) (seen : List Target) → AreTargets targets → AreNear targets.paths s name ats → length ats ≤ n → SeesBy targets name (take n ats) seen → (target : Target) → Contains seen target ↔ IsSeenBelow targets s name target
+sees_by_all targets s name ats n seen are near past was target = (λ c. there ((was target).0 c), λ h. (was target).1 (back h))
   where
-    row : List ℕ
-    row = get_or targets.paths.below s []
+    whole : take n ats ≡ ats
+    whole = take_all n ats past
 
-    whole : take n row ≡ row
-    whole = take_all n row past
-
-    there : IsSeenBy targets name (take n row) target → IsSeenBelow targets s name target
+    there : IsSeenBy targets name (take n ats) target → IsSeenBelow targets s name target
     there h = record {
       text = h.path.text.now;
-      path = (are.paths.each s target.component h.path.text.now).0 (record { at = h.at; in_row = subst (λ z. Contains z h.at) whole h.in_row; path = h.path; is = h.is; component_is = h.component_is; text_is = refl });
+      path = (are.paths.each s target.component h.path.text.now).0 (record { at = h.at; in_row = near.only h.at (subst (λ z. Contains z h.at) whole h.in_row); path = h.path; is = h.is; component_is = h.component_is; text_is = refl });
       own = h.own;
       is = h.name_is;
       named = h.named;
     }
 
-    back : IsSeenBelow targets s name target → IsSeenBy targets name (take n row) target
+    back : IsSeenBelow targets s name target → IsSeenBy targets name (take n ats) target
     back h =
         let told = (are.paths.each s target.component h.text).1 h.path in
+        let begins : name ≡ told.path.text.now ++ 46 ∷ h.own = h.is ∙ ap (λ z. z ++ 46 ∷ h.own) (sym told.text_is) in
         record {
           at = told.at;
-          in_row = subst (λ z. Contains z told.at) (sym whole) told.in_row;
+          in_row = subst (λ z. Contains z told.at) (sym whole) (near.each told.at told.path (46 ∷ h.own) told.in_row told.is begins);
           path = told.path;
           is = told.is;
           component_is = told.component_is;
           own = h.own;
-          name_is = h.is ∙ ap (λ z. z ++ 46 ∷ h.own) (sym told.text_is);
+          name_is = begins;
           named = h.named;
         }
 
@@ -278,3 +276,64 @@ path_component targets s at path are in_row is =
     let w = slice_get_within targets.tree.now.components path.component h.part h.is in
     let l = are.shapes in
     omega (arith, w, l)
+
+-- ---- the paths that begin a name
+
+pub fronts_none : (paths : Paths) (fronts : List (List (List ℕ))) → fronts ≡ [] → AreAllFronts paths 0 fronts
+fronts_none paths fronts e = record { fronts_len = ap length e; each = λ s f is. absurd (let w = slice_get_within fronts s f is in let l = ap length e in omega (arith, w, l)) }
+
+pub fronts_more : (paths : Paths) (n : ℕ) (old new : List (List (List ℕ))) (front : List (List ℕ)) → front ≡ row_texts paths n → new ≡ old ++ front ∷ [] → AreAllFronts paths n old → AreAllFronts paths (n + 1) new
+fronts_more paths n old new front is pushed was = record {
+  fronts_len = ap length pushed ∙ length_push old front ∙ ap (λ k. k + 1) was.fronts_len;
+  each = λ s f e. each s f (push_cases old front s f (subst (λ z. slice_get z s ≡ Some f) pushed e));
+}
+  where
+    each : (s : ℕ) (f : List (List ℕ)) → (slice_get old s ≡ Some f) ⊎ ((s ≡ length old) × (front ≡ f)) → f ≡ row_texts paths s
+    each s f (inl e) = was.each s f e
+    each s f (inr h) = sym h.1 ∙ is ∙ ap (row_texts paths) (sym (h.0 ∙ was.fronts_len))
+
+-- the places of the fronts lead to those of the row
+pub near_of : (paths : Paths) (s : ℕ) (name : List ℕ) (places ats : List ℕ) → AreFronts (row_texts paths s) name places → ((at : ℕ) → Contains ats at ↔ ((k : ℕ) × (Contains places k × (slice_get (get_or paths.below s []) k ≡ Some at)))) → AreNear paths s name ats
+near_of paths s name places ats fronts led = record {
+  only = λ at c. let h = (led at).0 c in contains_at (get_or paths.below s []) h.0 at h.1.1;
+  each = λ at path rest in_row is begins.
+      let k = place_of (get_or paths.below s []) at in_row in
+      let there : slice_get (row_texts paths s) k.0 ≡ Some path.text.now = slice_get-map (λ a. path_text (slice_get paths.all.items a)) (get_or paths.below s []) k.0 ∙ ap (option_map (λ a. path_text (slice_get paths.all.items a))) k.1 ∙ ap (λ o. Some (path_text o)) is in
+      (led at).1 (k.0, (fronts.each k.0 (record { path = path.text.now; at = there; front = (rest, begins) }), k.1));
+}
+
+-- a place of a front is one of the row
+pub front_within : (paths : Paths) (s k : ℕ) (name : List ℕ) (places : List ℕ) → AreFronts (row_texts paths s) name places → Contains places k → k < length (get_or paths.below s [])
+front_within paths s k name places fronts c =
+    let h = fronts.only k c in
+    let w = slice_get_within (row_texts paths s) k h.path h.at in
+    let l = length-map (get_or paths.below s []) (λ at. path_text (slice_get paths.all.items at)) in
+    omega (arith, w, l)
+
+-- the elements of a row at some places
+pub led_all : (row : List ℕ) (places ats : List ℕ) (i : ℕ) → length places ≤ i → ats ≡ map (λ k. get_or row k 0) (take i places) → ((k : ℕ) → Contains places k → k < length row) → (at : ℕ) → Contains ats at ↔ ((k : ℕ) × (Contains places k × (slice_get row k ≡ Some at)))
+led_all row places ats i past is within at = (λ c. there (subst (λ z. Contains z at) whole c), λ h. subst (λ z. Contains z at) (sym whole) (back h))
+  where
+    whole : ats ≡ map (λ k. get_or row k 0) places
+    whole = is ∙ ap (map (λ k. get_or row k 0)) (take_all i places past)
+
+    there : Contains (map (λ k. get_or row k 0) places) at → (k : ℕ) × (Contains places k × (slice_get row k ≡ Some at))
+    there c =
+        let p = place_of (map (λ k. get_or row k 0) places) at c in
+        let j = element_at places p.0 (let w = slice_get_within (map (λ k. get_or row k 0) places) p.0 at p.1 in let l = length-map places (λ k. get_or row k 0) in omega (arith, w, l)) in
+        let inside = contains_at places p.0 j.0 j.1 in
+        let value : get_or row j.0 0 ≡ at = same_Some (get_or row j.0 0) at (sym (slice_get-map (λ k. get_or row k 0) places p.0 ∙ ap (option_map (λ k. get_or row k 0)) j.1) ∙ p.1) in
+        (j.0, (inside, slice_get-get_or row j.0 0 (within j.0 inside) ∙ ap Some value))
+
+    back : (k : ℕ) × (Contains places k × (slice_get row k ≡ Some at)) → Contains (map (λ k. get_or row k 0) places) at
+    back h =
+        let p = place_of places h.0 h.1.0 in
+        let value : get_or row h.0 0 ≡ at = get_or_from_slice_get row h.0 at 0 h.1.1 in
+        contains_at (map (λ k. get_or row k 0) places) p.0 at (slice_get-map (λ k. get_or row k 0) places p.0 ∙ ap (option_map (λ k. get_or row k 0)) p.1 ∙ ap Some value)
+
+pub texts_more : (paths : Paths) (row : List ℕ) (i : ℕ) (old new : List (Bor (List ℕ))) (b : Bor (List ℕ)) (p : Path) → i < length row → new ≡ old ++ b ∷ [] → b.now ≡ p.text.now → slice_get paths.all.items (get_or row i 0) ≡ Some p
+    → texts old ≡ map (λ at. path_text (slice_get paths.all.items at)) (take i row) → texts new ≡ map (λ at. path_text (slice_get paths.all.items at)) (take (i + 1) row)
+texts_more paths row i old new b p less pushed text is was =
+    let f : ℕ → List ℕ = λ at. path_text (slice_get paths.all.items at) in
+    let here : b.now ≡ f (get_or row i 0) = text ∙ ap path_text (sym is) in
+    ap texts pushed ∙ map-append (λ (x : Bor (List ℕ)). x.now) old (b ∷ []) ∙ ap (λ z. z ++ b.now ∷ []) was ∙ ap (λ z. map f (take i row) ++ z ∷ []) here ∙ sym (map-append f (take i row) (get_or row i 0 ∷ [])) ∙ ap (map f) (sym (take_more row i 0 less))

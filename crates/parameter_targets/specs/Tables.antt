@@ -1,5 +1,5 @@
 -- The tables by which names lead to parameters.
-use Rattle.std.specs.Prelude.{◌≡◌, ◌⊎◌, ◌↔◌, ◌<◌, ◌≤◌, ℕ, true, List, ◌∷◌, ◌++◌, map, length, Option, Some, is_some, slice_get, slice_index_or, [], Contains}
+use Rattle.std.specs.Prelude.{◌≡◌, ◌↔◌, ◌<◌, ◌≤◌, ℕ, true, List, ◌∷◌, ◌++◌, map, length, Option, Some, None, is_some, slice_get, slice_index_or, [], Contains}
 use Rattle.std.specs.Borrow.{Bor}
 use Rattle.value_types.specs.Shape.{is_parameter}
 use Rattle.value_types.specs.declared.shape.Shape.{Shape}
@@ -98,6 +98,26 @@ pub record ArePaths (t : SystemTree) (paths : Paths) : Type 0 where
   pub rows : AreRows (length t.systems) paths
   pub each : (s component : ℕ) (text : List ℕ) → TellsPath paths s component text ↔ IsPath t s component text
 
+-- ---- the paths that begin a name
+
+abbrev pub path_text : Option Path → List ℕ
+path_text None = []
+path_text (Some p) = p.text.now
+
+-- the paths in the row of a System
+abbrev pub row_texts : Paths → ℕ → List (List ℕ)
+row_texts paths s = map (λ at. path_text (slice_get paths.all.items at)) (slice_index_or paths.below s [])
+
+-- those of the first n Systems
+pub record AreAllFronts (paths : Paths) (n : ℕ) (fronts : List (List (List ℕ))) : Type 0 where
+  pub fronts_len : length fronts ≡ n
+  pub each : (s : ℕ) (front : List (List ℕ)) → slice_get fronts s ≡ Some front → front ≡ row_texts paths s
+
+-- places of the row of a System, among them all whose paths begin the name
+pub record AreNear (paths : Paths) (s : ℕ) (name : List ℕ) (ats : List ℕ) : Type 0 where
+  pub only : (at : ℕ) → Contains ats at → Contains (slice_index_or paths.below s []) at
+  pub each : (at : ℕ) (path : Path) (rest : List ℕ) → Contains (slice_index_or paths.below s []) at → slice_get paths.all.items at ≡ Some path → name ≡ path.text.now ++ rest → Contains ats at
+
 -- ---- the whole
 
 -- for each component the names of its parameters, and the paths of all
@@ -106,6 +126,7 @@ pub record AreTargets (targets : Targets) : Type 0 where
   pub tree : IsNamedTree targets.tree.now
   pub shapes : length targets.shapes.now ≡ length targets.tree.now.components
   pub paths : ArePaths targets.tree.now targets.paths
+  pub fronts : AreAllFronts targets.paths (length targets.paths.below) targets.fronts.items
 
 -- the System sees the parameter by the path of its component and a name of its own
 pub record IsSeenBelow (targets : Targets) (s : ℕ) (name : List ℕ) (target : Target) : Type 0 where

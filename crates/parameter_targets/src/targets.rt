@@ -4,11 +4,12 @@ ghost use Rattle.value_types.specs.declared.shape.Shape.{Shape};
 ghost use Rattle.parameter_targets.specs.declared.target.Target.{Target};
 ghost use Rattle.parameter_targets.specs.Named.{IsNamedTree, IsOwner};
 ghost use Rattle.parameter_targets.specs.Scopes.{Sees};
-ghost use Rattle.parameter_targets.specs.Tables.{AreAllNames, AreTargets, IsNamedIn, IsSeenBelow};
+ghost use Rattle.parameter_targets.specs.Tables.{AreAllFronts, AreAllNames, AreNear, AreRows, AreTargets, IsNamedIn, IsSeenBelow, row_texts};
 
 use crate::Target;
 use crate::names::ParameterNames;
 use crate::paths::{Paths, behind};
+use name_fronts::Fronts;
 use ssd_tree::{Owner, SystemTree};
 use std::alloc::{AllocError, Global};
 use value_types::Shape;
@@ -21,6 +22,32 @@ pub struct Targets<'a> {
     /// of each component
     names: Vec<ParameterNames<'a>>,
     paths: Paths<'a>,
+    /// for each System its paths, ready for the question which of them begin a name
+    fronts: Vec<Fronts<'a>>,
+}
+
+// The paths of a System, made ready.
+fn row_fronts<'a>(alloc: Global, paths: &Paths<'a>, system: usize) -> Result<Fronts<'a>, AllocError>
+    requires rows { AreRows (length paths.now.below) paths.now }
+    requires within { system < length paths.now.below }
+    ensures { IfOk result (λ fronts. fronts ≡ row_texts paths.now system) }
+{
+    let mut texts = Vec::new(alloc);
+    for at in paths.below.row(system) {
+        texts.push(paths.all[*at].text.as_bytes())?;
+    }
+    Fronts::new(alloc, texts)
+}
+
+fn all_fronts<'a>(alloc: Global, paths: &Paths<'a>) -> Result<Vec<Fronts<'a>>, AllocError>
+    requires { AreRows (length paths.now.below) paths.now }
+    ensures { IfOk result (λ fronts. AreAllFronts paths.now (length paths.now.below) fronts.items) }
+{
+    let mut fronts = Vec::new(alloc);
+    for system in 0..paths.below.len() {
+        fronts.push(row_fronts(alloc, paths, system)?)?;
+    }
+    Ok(fronts)
 }
 
 fn names_of<'a>(alloc: Global, shapes: &'a [Shape]) -> Result<Vec<ParameterNames<'a>>, AllocError>
@@ -46,11 +73,14 @@ impl<'a> Targets<'a> {
         ensures tree { IfOk result (λ targets. targets.tree.now ≡ tree.now) }
         ensures shapes { IfOk result (λ targets. targets.shapes.now ≡ shapes.now) }
     {
+        let paths = Paths::of(alloc, tree)?;
+        let fronts = all_fronts(alloc, &paths)?;
         Ok(Targets {
             tree,
             shapes,
             names: names_of(alloc, shapes)?,
-            paths: Paths::of(alloc, tree)?,
+            paths,
+            fronts,
         })
     }
 
@@ -76,7 +106,22 @@ impl<'a> Targets<'a> {
         Ok(())
     }
 
-    // Puts the parameters that a System sees under the name behind none.
+    // The paths of a System that begin the name.
+    fn near(&self, alloc: Global, system: usize, name: &str) -> Result<Vec<usize>, AllocError>
+        requires targets { AreTargets self.now }
+        requires within { system < length self.now.tree.now.systems }
+        ensures { IfOk result (λ ats. AreNear self.now.paths system name.now ats.items) }
+    {
+        let row = self.paths.below.row(system);
+        let places = self.fronts[system].fronts(alloc, name.as_bytes())?;
+        let mut ats = Vec::new(alloc);
+        for place in &places {
+            ats.push(row[*place])?;
+        }
+        Ok(ats)
+    }
+
+    // The parameters that a System sees under the name.
     fn seen_below(
         &self,
         alloc: Global,
@@ -88,7 +133,8 @@ impl<'a> Targets<'a> {
         ensures { IfOk result (λ seen. (target : Target) → Contains seen.items target ↔ IsSeenBelow self.now system name.now target) }
     {
         let mut seen = Vec::new(alloc);
-        for at in self.paths.below.row(system) {
+        let ats = self.near(alloc, system, name)?;
+        for at in &ats {
             let path = &self.paths.all[*at];
             if let Some(own) = behind(name, path.text) {
                 self.put_named(alloc, &mut seen, path.component, own)?;

@@ -1,6 +1,5 @@
 use Rattle.std.proofs.Common.{◌≡◌, ℕ, Bor, List, ◌∷◌, ◌++◌, Option, Some, None, sym, ap, ◌∙◌, refl, arith}
 use Rattle.std.specs.Option.{IfNone, IfSome, IsSome}
-use Rattle.parameter_targets.specs.Tables.{IsPathText}
 use Rattle.parameter_targets.proofs.ListLemmas.{read_at}
 use Rattle.parameter_targets.proofs.PathLemmas.{begins_above, left_behind, path_at_top, path_below}
 use Rattle.parameter_targets.proofs.paths.+path_from.Goals as goal

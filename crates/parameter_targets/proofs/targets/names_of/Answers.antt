@@ -1,8 +1,7 @@
-use Rattle.std.proofs.Common.{◌≡◌, ◌+◌, ◌∷◌, ◌++◌, [], List, take, get_or, sym, ap, ◌∙◌, subst}
+use Rattle.std.proofs.Common.{◌≡◌, ◌+◌, ◌∷◌, ◌++◌, [], List, take, sym, ap, ◌∙◌, subst}
 use Rattle.std.proofs.lemmas.List.{take_more}
 use Rattle.value_types.specs.declared.shape.Shape.{Shape}
 use Rattle.value_types.specs.declared.shape.Variable.{Variable}
-use Rattle.parameter_targets.specs.declared.names.ParameterNames.{ParameterNames}
 use Rattle.parameter_targets.specs.Tables.{AreAllNames, AreNames}
 use Rattle.parameter_targets.proofs.TargetLemmas.{all_names_more}
 use Rattle.parameter_targets.proofs.targets.names_of.Goals as goal

@@ -1,5 +1,4 @@
 use Rattle.std.proofs.Common.{◌≡◌, ◌+◌, ◌-◌, length, map, subst, arith}
-use Rattle.std.proofs.lemmas.List.{length-map}
 use Rattle.parameter_targets.specs.Chains.{IsChainedFrom}
 use Rattle.parameter_targets.specs.Tables.{text_of}
 use Rattle.parameter_targets.proofs.ChainLemmas.{text_is}

@@ -1,9 +1,6 @@
-use Rattle.std.proofs.Common.{◌≡◌, ◌+◌, ◌<◌, ◌≤◌, ◌^◌, ℕ, length, get_or, sym, ap, ◌∙◌, subst, refl, arith, rules}
-use Rattle.ssd_tree.specs.declared.tree.Owner.{Owner}
-use Rattle.ssd_tree.specs.declared.tree.Owner.TheVariants.{System, Component}
-use Rattle.ssd_tree.specs.declared.tree.ComponentPart.{ComponentPart}
+use Rattle.std.proofs.Common.{◌+◌, ◌<◌, ◌^◌, length, sym, subst, refl, arith, rules}
 use Rattle.parameter_targets.specs.Named.{IsOwner}
-use Rattle.parameter_targets.specs.Scopes.{IsDepth, IsLevel}
+use Rattle.parameter_targets.specs.Scopes.{IsLevel}
 use Rattle.parameter_targets.proofs.LevelLemmas.{depth_of_part, depth_read}
 use Rattle.parameter_targets.proofs.ListLemmas.{read_at}
 use Rattle.parameter_targets.proofs.levels.Levels.level.Goals as goal

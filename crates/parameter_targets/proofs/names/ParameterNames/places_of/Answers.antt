@@ -1,12 +1,10 @@
-use Rattle.std.proofs.Common.{◌≡◌, ◌+◌, ◌<◌, length, map, Some, None, sym, ap, ◌∙◌, subst, refl, arith}
-use Rattle.std.specs.List.{slice_get}
+use Rattle.std.proofs.Common.{◌+◌, ◌<◌, length, map, Some, sym, ap, ◌∙◌, subst, arith}
 use Rattle.std.proofs.lemmas.List.{length-map}
-use Rattle.std.proofs.lemmas.Option.{slice_get_read, slice_get-get_or}
+use Rattle.std.proofs.lemmas.Option.{slice_get-get_or}
 use Rattle.parameter_targets.specs.Chains.{FindsFrom, text_at}
 use Rattle.parameter_targets.specs.Tables.{AreWalked, text_of}
 use Rattle.parameter_targets.proofs.ChainLemmas.{left, left_smaller}
-use Rattle.parameter_targets.proofs.ListLemmas.{element_at}
-use Rattle.parameter_targets.proofs.NameLemmas.{walked_all, walked_more, walked_none}
+use Rattle.parameter_targets.proofs.NameLemmas.{walked_all, walked_more}
 use Rattle.parameter_targets.proofs.names.ParameterNames.places_of.Goals as goal
 
 pub loop-next-preserved : goal.loop-next-preserved

@@ -1,5 +1,5 @@
-use Rattle.std.proofs.Common.{length, replicate, [], ap, ◌∙◌, arith}
-use Rattle.parameter_targets.proofs.RowLemmas.{paths_all, paths_more, paths_none}
+use Rattle.std.proofs.Common.{arith}
+use Rattle.parameter_targets.proofs.RowLemmas.{paths_all, paths_more}
 use Rattle.parameter_targets.proofs.paths.Paths.of.Goals as goal
 
 pub loop-component-preserved : goal.loop-component-preserved

@@ -1,4 +1,4 @@
-use Rattle.std.proofs.Common.{◌≡◌, ◌∷◌, [], ◌++◌, List, ℕ, length, get_or, set, ap, ◌∙◌, rules}
+use Rattle.std.proofs.Common.{◌≡◌, ◌∷◌, [], ◌++◌, length, get_or, set, ap, ◌∙◌, rules}
 use Rattle.parameter_targets.proofs.RowLemmas.{rows_more, tells_more}
 use Rattle.parameter_targets.proofs.paths.Paths.put.Goals as goal
 

@@ -1,9 +1,9 @@
-use Rattle.std.proofs.Common.{◌≡◌, ◌+◌, ◌<◌, ◌↔◌, ℕ, List, length, get_or, take, Some, sym, ap, ◌∙◌, subst, refl, arith}
+use Rattle.std.proofs.Common.{◌≡◌, take, sym, ◌∙◌, subst, refl, arith}
 use Rattle.std.specs.List.{Contains}
 use Rattle.std.proofs.lemmas.List.{take_all}
 use Rattle.parameter_targets.specs.Tables.{IsNamedIn}
 use Rattle.parameter_targets.proofs.ListLemmas.{element_at, read_at}
-use Rattle.parameter_targets.proofs.TargetLemmas.{PutsTargets, named_in, puts_as, puts_nothing, puts_place}
+use Rattle.parameter_targets.proofs.TargetLemmas.{named_in, puts_as, puts_place}
 use Rattle.parameter_targets.proofs.targets.Targets.put_named.Goals as goal
 
 pub places_of-requires : goal.places_of-requires

@@ -1,15 +1,12 @@
-use Rattle.std.proofs.Common.{◌≡◌, ◌↔◌, ◌⊎◌, List, [], Result, Ok, Err, sym, ap, ◌∙◌, subst, inl, inr, arith}
+use Rattle.std.proofs.Common.{◌≡◌, ◌↔◌, ◌⊎◌, List, [], Result, Ok, Err, sym, subst, inl, inr, arith}
 use Rattle.std.specs.Result.{IfOk}
 use Rattle.std.specs.List.{Contains}
 use Rattle.std.specs.declared.alloc.AllocError.{AllocError}
 use Rattle.std.specs.declared.alloc.Global.{Global}
 use Rattle.std.specs.declared.vec.Vec.{Vec}
-use Rattle.ssd_tree.specs.declared.tree.Owner.{Owner}
-use Rattle.ssd_tree.specs.declared.tree.Owner.TheVariants.{System, Component}
 use Rattle.parameter_targets.specs.declared.target.Target.{Target}
 use Rattle.parameter_targets.specs.Scopes.{Sees}
-use Rattle.parameter_targets.specs.Tables.{IsNamedIn}
-use Rattle.parameter_targets.proofs.TargetLemmas.{PutsTargets, sees_below, sees_own}
+use Rattle.parameter_targets.proofs.TargetLemmas.{sees_below, sees_own}
 use Rattle.parameter_targets.proofs.targets.Targets.seen.Goals as goal
 
 seen_system : (r : Result (Vec Target Global) AllocError) (P Q : Target → Type 0) → ((t : Target) → P t ↔ Q t) → IfOk r (λ (v : Vec Target Global). (t : Target) → Contains v.items t ↔ P t) → IfOk r (λ (v : Vec Target Global). (t : Target) → Contains v.items t ↔ Q t)

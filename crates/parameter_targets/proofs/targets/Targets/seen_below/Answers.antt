@@ -1,41 +1,45 @@
-use Rattle.std.proofs.Common.{◌≡◌, ◌+◌, ◌<◌, ◌∷◌, ◌++◌, [], ℕ, List, length, get_or, take, Some, sym, ap, ◌∙◌, subst, refl, arith, rules}
-use Rattle.std.specs.List.{slice_get, Contains}
+use Rattle.std.proofs.Common.{◌≡◌, ◌+◌, ◌∷◌, ◌++◌, [], ℕ, List, length, get_or, take, sym, ap, subst, refl, arith, rules}
+use Rattle.std.specs.List.{Contains}
 use Rattle.std.proofs.lemmas.List.Elements.{Contains-get_or}
-use Rattle.std.proofs.lemmas.Option.{slice_get_within}
 use Rattle.std.specs.Option.{IfNone}
 use Rattle.std.specs.declared.alloc.Global.{Global}
 use Rattle.std.specs.declared.vec.Vec.{Vec}
 use Rattle.parameter_targets.specs.declared.target.Target.{Target}
 use Rattle.parameter_targets.proofs.ListLemmas.{read_at}
-use Rattle.parameter_targets.proofs.TargetLemmas.{SeesBy, path_component, sees_by_all, sees_by_next, sees_by_none, sees_by_other}
+use Rattle.parameter_targets.proofs.TargetLemmas.{SeesBy, path_component, sees_by_all, sees_by_next, sees_by_other}
 use Rattle.parameter_targets.proofs.targets.Targets.seen_below.Goals as goal
 use Rattle.parameter_targets.proofs.targets.Targets.seen_below.Goals.{in-Some+in_ok-put_named, in_default}
 
 pub index-path-requires : goal.index-path-requires
 index-path-requires c =
     let self = c.args.self.now in
-    let row = get_or self.paths.below c.args.system [] in
+    let ats = c.deref-at-items.result.now in
     let i = c.loop-at.at-index in
-    let less = c.loop-at-test.true in
-    let within = c.requires.targets.paths.rows.within c.args.system (get_or c.row-at-items.result.now i 0) (subst (λ z. Contains z (get_or c.row-at-items.result.now i 0)) c.row-at-items.ensures (Contains-get_or c.row-at-items.result.now i 0 less)) in
+    let at = get_or ats i 0 in
+    let near = c.in_ok-ats.ensures in
+    let in_row = near.only at (subst (λ z. Contains z at) c.deref-at-items.ensures.value (Contains-get_or ats i 0 c.loop-at-test.true)) in
+    let within = c.requires.targets.paths.rows.within c.args.system at in_row in
     search rules
 
 pub put_named-requires-clause-within : goal.put_named-requires-clause-within
 put_named-requires-clause-within c =
     let self = c.args.self.now in
+    let ats = c.deref-at-items.result.now in
     let i = c.loop-at.at-index in
-    let at = get_or c.row-at-items.result.now i 0 in
-    let in_row = subst (λ z. Contains z at) c.row-at-items.ensures (Contains-get_or c.row-at-items.result.now i 0 c.loop-at-test.true) in
+    let at = get_or ats i 0 in
+    let near = c.in_ok-ats.ensures in
+    let in_row = near.only at (subst (λ z. Contains z at) c.deref-at-items.ensures.value (Contains-get_or ats i 0 c.loop-at-test.true)) in
     path_component self c.args.system at c.index-path.result.now c.requires.targets in_row c.index-path.ensures
 
 pub loop-at-preserved : goal.loop-at-preserved
 loop-at-preserved c =
     let self = c.args.self.now in
     let name = c.args.name.now in
-    let ats = c.row-at-items.result.now in
+    let ats = c.deref-at-items.result.now in
     let i = c.loop-at.at-index in
     let at = get_or ats i 0 in
-    let in_row = subst (λ z. Contains z at) c.row-at-items.ensures (Contains-get_or ats i 0 c.loop-at-test.true) in
+    let near = c.in_ok-ats.ensures in
+    let in_row = near.only at (subst (λ z. Contains z at) c.deref-at-items.ensures.value (Contains-get_or ats i 0 c.loop-at-test.true)) in
     let is = read_at self.paths.all.items self.paths.all.items at c.index-path.result.now refl (c.requires.targets.paths.rows.within c.args.system at in_row) c.index-path.ensures in
     elim c.match-behind.branch [
       | in-Some+in_ok-put_named w ↦ subst (λ (z : Vec Target Global). SeesBy self name (take (i + 1) ats) z.items) (sym w.seen-is)
@@ -47,5 +51,6 @@ loop-at-preserved c =
 pub returns : goal.returns
 returns c =
     let self = c.args.self.now in
-    let past = ap length c.row-at-items.ensures in
-    sees_by_all self c.args.system c.args.name.now c.loop-at.at-index c.loop-at.seen.items c.requires.targets (let l = c.loop-at-test.false in omega (arith, l, past)) (subst (λ z. SeesBy self c.args.name.now (take c.loop-at.at-index z) c.loop-at.seen.items) c.row-at-items.ensures c.loop-at.invariant)
+    let past = ap length c.deref-at-items.ensures.value in
+    sees_by_all self c.args.system c.args.name.now c.in_ok-ats.ats.items c.loop-at.at-index c.loop-at.seen.items c.requires.targets c.in_ok-ats.ensures (let l = c.loop-at-test.false in omega (arith, l, past))
+    (subst (λ z. SeesBy self c.args.name.now (take c.loop-at.at-index z) c.loop-at.seen.items) c.deref-at-items.ensures.value c.loop-at.invariant)

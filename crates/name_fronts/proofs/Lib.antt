@@ -1,0 +1,4 @@
+pub mod OrderLemmas
+pub mod PushLemmas
+pub mod SortLemmas
+pub mod StepLemmas
