@@ -1,0 +1,11 @@
+pub mod FaultLemmas
+pub mod OnceLemmas
+pub mod VisitLemmas
+pub mod MapLemmas
+pub mod WinnerLemmas
+pub mod GatherLemmas
+pub mod MoveLemmas
+pub mod WalkLemmas
+pub mod BoundLemmas
+pub mod LawLemmas
+pub mod EngineLemmas
