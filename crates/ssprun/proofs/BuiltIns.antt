@@ -103,7 +103,7 @@ module _ (behave : BuiltInsBehaveWell) (h : Happened) (task : Task) (system : Sy
   well : WellBehaved run
   well i = behave run t.sound i (λ c m of_c of_m. built_in i c m of_c of_m)
 
-  pub traced : (plan : Plan) (loaded : Loaded) → IsRunAs loaded plan task system → TracesBuiltIns h plan loaded.system
+  pub traced : (plan : Plan) (loaded : Loaded) → IsRunAs loaded plan task system → TracesBuiltIns h plan loaded
   traced plan loaded same = record {
     run = run;
     parts = same.parts;

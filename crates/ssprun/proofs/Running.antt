@@ -33,7 +33,7 @@ use Rattle.step_master.specs.System.{ArePeersOf}
 use Rattle.command_line.specs.Line.{IsWithin}
 use Rattle.ssprun.specs.Peers.{AreStarted}
 use Rattle.ssprun.specs.Happened.{Scene}
-use Rattle.ssprun.specs.Runs.{CanRun, Fails, Goes, NamesOne, RunsPeers, Task, unbound}
+use Rattle.ssprun.specs.Runs.{CanRun, Fails, Goes, NamesOne, RunsPeers, Task}
 use Rattle.ssprun.proofs.PeerLemmas.{started_at}
 
 -- ---- before the run
@@ -88,20 +88,6 @@ lived_names a l = ends_named a.system a.bound a.plan a.olds a.news (l.made ++ l.
 pub unmade_names : (system : System) (olds news : List View) (bad : BadAnswer) → Unmade system olds bad news → bad.component.0 < length system.components
 unmade_names system olds news bad u =
     subst (λ (n : ℕ). bad.component.0 < n) (lives_count system olds news u.log u.lives u.are) (slice_get_within u.lives bad.component.0 u.least.life u.least.here)
-
--- ---- parameters
-
-abbrev pub bound_of : List (List BoundValue) → Bound
-bound_of lists = record { components = lists; unreached = 0 }
-
-none_bound : (cs : List Component) → AllZip (λ (c : Component) (values : List BoundValue). AreParameterValues c.shape values) cs (map (λ (c : Component). []) cs)
-unfolding IsDistinct
-none_bound [] = tt
-none_bound (c ∷ cs) = (record { each = All-nil (IsParameterValue c.shape); once = tt }, none_bound cs)
-
--- no values are those for parameters of any system
-pub unbound_binds : (system : System) → BindsParameters system (unbound system)
-unbound_binds system = none_bound system.components
 
 -- ---- from what the master says
 

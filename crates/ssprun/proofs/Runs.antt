@@ -50,7 +50,7 @@ of_run Checked line h is it f = absurd f
 of_run Untold line h is it f = absurd f
 
 of_check : (o : Outcome) (line : Line) (h : Happened) (loaded : Loaded) → IsLine h.words line → plan_of line ≡ None → LoadsLine line loaded h.old.folder h.new.folder →
-    CheckFacts o loaded.system h.old.run h.new.run → Course o h
+    CheckFacts o loaded h.old.run h.new.run → Course o h
 of_check Words line h loaded is none loads f = absurd f
 of_check Memory line h loaded is none loads f = absurd f
 of_check (File path fault) line h loaded is none loads f = absurd f

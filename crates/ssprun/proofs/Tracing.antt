@@ -30,6 +30,7 @@ use Rattle.ssprun.specs.declared.outcome.End.TheVariants as O
 use Rattle.ssprun.specs.Message.{CutsShort, Reports, end_message, end_status, fixed_message, size_text}
 use Rattle.system_model.specs.declared.system.Port.{Port}
 use Rattle.sim_base.specs.Sink.{with_piece}
+use Rattle.system_model.specs.declared.bound.Bound.{Bound}
 use Rattle.system_loading.specs.Assembly.{HaveSameParts}
 use Rattle.system_files.specs.declared.loaded.Loaded.{Loaded}
 use Rattle.ssprun.specs.Facts.{CheckFacts, LineFacts, RunFacts, task_of}
@@ -169,8 +170,8 @@ trace_exact o line plan loaded h f p planned knows calm quiet (inr s) =
       system = it.loaded.system;
       same = record {
         plan_is = same_Some it.plan plan (sym it.planned ∙ planned);
-        bound_is = ap (λ (cs : List Component). record { components = map (λ (c : Component). []) cs; unreached = 0 }) (ap (λ (x : Loaded). x.system.components) same ∙ s.agree.0.0);
-        folders_are = ap (λ (x : Loaded). x.folders) same ∙ s.agree.1;
+        bound_is = ap (λ (x : Loaded). x.bound) same ∙ s.agree.1;
+        folders_are = ap (λ (x : Loaded). x.folders) same ∙ s.agree.2;
         parts = (ap (λ (x : Loaded). x.system.components) same ∙ s.agree.0.0, ap (λ (x : Loaded). x.system.ports) same ∙ s.agree.0.1);
       };
       traces = t;
@@ -178,33 +179,36 @@ trace_exact o line plan loaded h f p planned knows calm quiet (inr s) =
 
 -- ---- the size
 
-check_size : (o : Outcome) (system : System) (h : Happened) → CheckFacts o system h.old.run h.new.run → HasPut o h → (Rose h.err.faults h.err_after.faults → ⊥) → WritesSize h system
-check_size Words system h f p quiet = absurd f
-check_size Memory system h f p quiet = absurd f
-check_size (File path fault) system h f p quiet = absurd f
-check_size (Start name cause) system h f p quiet = absurd f
-check_size (Ran e) system h f p quiet = absurd f
-check_size Checked system h f p quiet = Sized p.0 f
-check_size Untold system h f p quiet = Cut (put_line (codes "write\n") 10 h p quiet).0 f
+check_size : (o : Outcome) (loaded : Loaded) (h : Happened) → CheckFacts o loaded h.old.run h.new.run → HasPut o h → (Rose h.err.faults h.err_after.faults → ⊥) → WritesSize h loaded
+check_size Words loaded h f p quiet = absurd f
+check_size Memory loaded h f p quiet = absurd f
+check_size (File path fault) loaded h f p quiet = absurd f
+check_size (Start name cause) loaded h f p quiet = absurd f
+check_size (Ran e) loaded h f p quiet = absurd f
+check_size Checked loaded h f p quiet = Sized p.0 f
+check_size Untold loaded h f p quiet = Cut (put_line (codes "write\n") 10 h p quiet).0 f
 
 -- the size, by components and ports
-abbrev size_by : List Component → List Port → List ℕ
-size_by components ports = size_text (record { components = components; ports = ports; instant_order = []; initial_order = [] })
+abbrev size_by : ℕ → List Component → List Port → List ℕ
+size_by unreached components ports = size_text (record { components = components; ports = ports; instant_order = []; initial_order = [] }) unreached
 
--- the size of a system is that of each with its components and ports
-same_size : (one other : System) → HaveSameParts one other → size_text one ≡ size_text other
+abbrev size_of : Loaded → List ℕ
+size_of loaded = size_text loaded.system loaded.bound.unreached
+
+-- the size of a system is that of each with its components, ports and values of parameters
+same_size : (one other : Loaded) → HaveSameParts one.system other.system → one.bound ≡ other.bound → size_of one ≡ size_of other
 unfolding size_text
-same_size one other same = ap₂ size_by same.0 same.1
+same_size one other same bound = ap₂ (size_by one.bound.unreached) same.0 same.1 ∙ ap (λ (b : Bound). size_text other.system b.unreached) bound
 
-size_writes : (one other : System) (h : Happened) → HaveSameParts one other → WritesSize h one → WritesSize h other
-size_writes one other h same (Sized status t) = Sized status (record { spawner = t.spawner; out = t.out ∙ ap (with_piece h.old.run.out) (same_size one other same) })
-size_writes one other h same (Cut status t) =
-    Cut status (record { spawner = t.spawner; out = subst (λ (x : List ℕ). CutsShort x h.old.run.out h.new.run.out) (same_size one other same) t.out })
+size_writes : (one other : Loaded) (h : Happened) → HaveSameParts one.system other.system → one.bound ≡ other.bound → WritesSize h one → WritesSize h other
+size_writes one other h same bound (Sized status t) = Sized status (record { spawner = t.spawner; out = t.out ∙ ap (with_piece h.old.run.out) (same_size one other same bound) })
+size_writes one other h same bound (Cut status t) =
+    Cut status (record { spawner = t.spawner; out = subst (λ (x : List ℕ). CutsShort x h.old.run.out h.new.run.out) (same_size one other same bound) t.out })
 
 pub check_exact : (o : Outcome) (line : Line) (loaded : Loaded) (h : Happened) → LineFacts o line h.old h.new → HasPut o h → plan_of line ≡ None → (Rose h.err.faults h.err_after.faults → ⊥) →
-    (o ≡ Memory) ⊎ LoadsAlike line h o loaded → ((h.status ≡ 11) × IsIdle h) ⊎ WritesSize h loaded.system
+    (o ≡ Memory) ⊎ LoadsAlike line h o loaded → ((h.status ≡ 11) × IsIdle h) ⊎ WritesSize h loaded
 check_exact o line loaded h f p none quiet (inl e) = inl (wanting o line h f p quiet e)
 check_exact o line loaded h f p none quiet (inr s) =
     by_plan o line h s.made s.loads s.facts
     (λ it same g. planned_unplanned it.plan (plan_of line) it.planned none)
-    (λ unplanned g. inr (size_writes s.made.system loaded.system h s.agree.0 (check_size o s.made.system h g p quiet)))
+    (λ unplanned g. inr (size_writes s.made loaded h s.agree.0 s.agree.1 (check_size o s.made h g p quiet)))

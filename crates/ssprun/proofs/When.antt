@@ -223,7 +223,7 @@ run_case Untold line h is it f says = absurd f
 
 -- or checked
 check_case : (o : Outcome) (line : Line) (h : Happened) (loaded : Loaded) → IsLine h.words line → plan_of line ≡ None → LoadsLine line loaded h.old.folder h.new.folder →
-    CheckFacts o loaded.system h.old.run h.new.run → Put h (message o) → WhenIs (of_outcome o) h
+    CheckFacts o loaded h.old.run h.new.run → Put h (message o) → WhenIs (of_outcome o) h
 check_case Words line h loaded is none loads f says = absurd f
 check_case Memory line h loaded is none loads f says = absurd f
 check_case (File path fault) line h loaded is none loads f says = absurd f
@@ -236,7 +236,7 @@ check_case Untold line h loaded is none loads f says = (says, cut_short_rose _ h
 pub by_plan : {A : Type 0} (o : Outcome) (line : Line) (h : Happened) (loaded : Loaded) → LoadsLine line loaded h.old.folder h.new.folder →
     PlanFacts (plan_of line) o loaded h.old.run h.new.run →
     ((it : IsOfRun h line) → it.loaded ≡ loaded → RunFacts o (task_of it.plan it.loaded) it.loaded.system h.old.run h.new.run → A) →
-    (plan_of line ≡ None → CheckFacts o loaded.system h.old.run h.new.run → A) → A
+    (plan_of line ≡ None → CheckFacts o loaded h.old.run h.new.run → A) → A
 by_plan {A} o line h loaded loads facts on_run on_check = by (plan_of line) refl facts
   where
     by : (plan : Option Plan) → plan_of line ≡ plan → PlanFacts plan o loaded h.old.run h.new.run → A

@@ -16,7 +16,7 @@ use Rattle.ssprun.specs.declared.outcome.Outcome.TheVariants.{Words, Memory, Fil
 use Rattle.ssprun.specs.declared.outcome.End.{End}
 use Rattle.ssprun.specs.Happened.{Scene, Stage}
 use Rattle.ssprun.specs.Message.{CutsShort, size_text}
-use Rattle.ssprun.specs.Runs.{FailsToStart, HasRun, IsEndOf, TakesBack, Task, names_of, unbound}
+use Rattle.ssprun.specs.Runs.{FailsToStart, HasRun, IsEndOf, TakesBack, Task, names_of}
 
 -- no peer was started, and nothing was put
 abbrev pub Calm : Scene → Scene → Type 0
@@ -40,7 +40,7 @@ LoadsLine line loaded old new = Loads (search_for line) (Found loaded) old new
 
 -- what is to be run of it
 abbrev pub task_of : Plan → Loaded → Task
-task_of plan loaded = record { plan = plan; bound = unbound loaded.system; folders = loaded.folders }
+task_of plan loaded = record { plan = plan; bound = loaded.bound; folders = loaded.folders }
 
 -- ---- a run
 
@@ -61,28 +61,28 @@ RunFacts Untold task system old new = ⊥
 -- ---- a check
 
 -- no peer was started, and the size of the system was put in one piece
-pub record TellsSize (system : System) (old new : Scene) : Type 0 where
+pub record TellsSize (loaded : Loaded) (old new : Scene) : Type 0 where
   pub spawner : new.spawner ≡ old.spawner
-  pub out : new.out ≡ with_piece old.out (size_text system)
+  pub out : new.out ≡ with_piece old.out (size_text loaded.system loaded.bound.unreached)
 
 -- no peer was started, and that put failed
-pub record FailsToTell (system : System) (old new : Scene) : Type 0 where
+pub record FailsToTell (loaded : Loaded) (old new : Scene) : Type 0 where
   pub spawner : new.spawner ≡ old.spawner
-  pub out : CutsShort (size_text system) old.out new.out
+  pub out : CutsShort (size_text loaded.system loaded.bound.unreached) old.out new.out
 
-abbrev pub CheckFacts : Outcome → System → Scene → Scene → Type 0
-CheckFacts Words system old new = ⊥
-CheckFacts Memory system old new = ⊥
-CheckFacts (File path fault) system old new = ⊥
-CheckFacts (Start name fault) system old new = ⊥
-CheckFacts (Ran e) system old new = ⊥
-CheckFacts Checked system old new = TellsSize system old new
-CheckFacts Untold system old new = FailsToTell system old new
+abbrev pub CheckFacts : Outcome → Loaded → Scene → Scene → Type 0
+CheckFacts Words loaded old new = ⊥
+CheckFacts Memory loaded old new = ⊥
+CheckFacts (File path fault) loaded old new = ⊥
+CheckFacts (Start name fault) loaded old new = ⊥
+CheckFacts (Ran e) loaded old new = ⊥
+CheckFacts Checked loaded old new = TellsSize loaded old new
+CheckFacts Untold loaded old new = FailsToTell loaded old new
 
 -- what holds of an outcome once the system is known: of a run where there is a plan, else of a check
 abbrev pub PlanFacts : Option Plan → Outcome → Loaded → Scene → Scene → Type 0
 PlanFacts (Some plan) outcome loaded old new = RunFacts outcome (task_of plan loaded) loaded.system old new
-PlanFacts None outcome loaded old new = CheckFacts outcome loaded.system old new
+PlanFacts None outcome loaded old new = CheckFacts outcome loaded old new
 
 abbrev pub SystemFacts : Line → Outcome → Loaded → Scene → Scene → Type 0
 SystemFacts line outcome loaded old new = PlanFacts (plan_of line) outcome loaded old new

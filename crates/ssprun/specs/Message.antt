@@ -107,10 +107,10 @@ abbrev pub feeds_in : System → ℕ
 feeds_in system = count_by (λ (port : Port). is_some (source_of port.role)) system.ports
 
 -- the line of a check: how many components, ports and feeds, and how many names of parameters that reach nothing
-unfoldable pub size_text : System → List ℕ
-size_text system =
+unfoldable pub size_text : System → ℕ → List ℕ
+size_text system unreached =
     codes "components " ++ decimal (length system.components) ++ codes " ports " ++ decimal (length system.ports) ++ codes " feeds " ++ decimal (feeds_in system)
-    ++ codes " unreached 0\n"
+    ++ codes " unreached " ++ decimal unreached ++ codes "\n"
 
 -- ---- the room for a line
 

@@ -47,7 +47,7 @@ use Rattle.ssprun.specs.Facts.{Calm, FailsToTell, LoadsLine, TellsSize, search_f
 use Rattle.ssprun.specs.Happened.{Happened, Scene}
 use Rattle.ssprun.specs.Peers.{AreKnown, IsFirstUnknown}
 use Rattle.ssprun.specs.Message.{CutsShort, file_message, start_message, fixed_message, bad_message, why_status}
-use Rattle.ssprun.specs.Runs.{FailsToStart, HasRun, IsUnasked, RunsPeers, Task, names_of, unbound}
+use Rattle.ssprun.specs.Runs.{FailsToStart, HasRun, IsUnasked, RunsPeers, Task, names_of}
 
 -- ---- what err holds
 
@@ -126,8 +126,8 @@ abbrev pub RunsTo : Happened → Line → RunEnd → Type 0
 RunsTo h line end = (it : IsOfRun h line) × HasRun (task_of it.plan it.loaded) it.loaded.system end h.old.run h.new.run
 
 -- the line asks for a check of what was loaded, and this holds of it
-abbrev pub OnCheck : Happened → Line → (System → Scene → Scene → Type 0) → Type 0
-OnCheck h line P = (loaded : Loaded) × (plan_of line ≡ None) × LoadsLine line loaded h.old.folder h.new.folder × P loaded.system h.old.run h.new.run
+abbrev pub OnCheck : Happened → Line → (Loaded → Scene → Scene → Type 0) → Type 0
+OnCheck h line P = (loaded : Loaded) × (plan_of line ≡ None) × LoadsLine line loaded h.old.folder h.new.folder × P loaded h.old.run h.new.run
 
 -- 0: the run came to its end, or the size of the system was told, and err holds what it held
 pub data HasEnded (h : Happened) (line : Line) : Type 0 where
@@ -315,10 +315,10 @@ pub record Traces (h : Happened) (task : Task) (system : System) : Type 0 where
   pub sound : IsSound system
   pub writes : (r : Run) → IsRunOf system task.bound olds r → r.plan ≡ task.plan → WellBehaved r → All (λ (v : View). v.faults ≡ 0) news → WritesTrace h r
 
--- what is run is a system with the same components and ports, in the same folders, and no parameter is bound
+-- what is run is a system with the same components and ports, in the same folders, with the same values of parameters
 pub record IsRunAs (loaded : Loaded) (plan : Plan) (task : Task) (system : System) : Type 0 where
   pub plan_is : task.plan ≡ plan
-  pub bound_is : task.bound ≡ unbound loaded.system
+  pub bound_is : task.bound ≡ loaded.bound
   pub folders_are : task.folders ≡ loaded.folders
   pub parts : HaveSameParts system loaded.system
 
@@ -339,14 +339,14 @@ pub record TraceRow (h : Happened) : Type 0 where
 -- ---- a check
 
 -- the line of the size, or a front of it where its put failed and the status is 10
-pub data WritesSize (h : Happened) (system : System) : Type 0 where
-  Sized : (h.status ≡ 0) → TellsSize system h.old.run h.new.run → WritesSize h system
-  Cut : (h.status ≡ 10) → FailsToTell system h.old.run h.new.run → WritesSize h system
+pub data WritesSize (h : Happened) (loaded : Loaded) : Type 0 where
+  Sized : (h.status ≡ 0) → TellsSize loaded h.old.run h.new.run → WritesSize h loaded
+  Cut : (h.status ≡ 10) → FailsToTell loaded h.old.run h.new.run → WritesSize h loaded
 
 -- the size: where the files say a system, and no read or put on err failed, or for want of memory nothing
 pub record CheckRow (h : Happened) : Type 0 where
   pub when : (line : Line) (loaded : Loaded) → IsLine h.words line → plan_of line ≡ None → IsToFind h line (Found loaded) → (Rose h.err.faults h.err_after.faults → ⊥) →
-      ((h.status ≡ 11) × IsIdle h) ⊎ WritesSize h loaded.system
+      ((h.status ≡ 11) × IsIdle h) ⊎ WritesSize h loaded
 
 -- ---- built-in machines
 
@@ -360,12 +360,12 @@ pub record HasBuiltIns (r : Run) : Type 0 where
   pub count : length r.machines ≡ length r.system.components
   pub each : (i : ℕ) (c : Component) (m : Machine) → slice_get r.system.components i ≡ Some c → slice_get r.machines i ≡ Some m → IsBuiltIn c.shape m
 
--- the trace of the system's built-in machines, in which no parameter is bound
-pub record TracesBuiltIns (h : Happened) (plan : Plan) (system : System) : Type 0 where
+-- the trace of the system's built-in machines
+pub record TracesBuiltIns (h : Happened) (plan : Plan) (loaded : Loaded) : Type 0 where
   pub run : Run
-  pub parts : HaveSameParts run.system system
+  pub parts : HaveSameParts run.system loaded.system
   pub plan_is : run.plan ≡ plan
-  pub bound_is : run.bound ≡ unbound system
+  pub bound_is : run.bound ≡ loaded.bound
   pub built_in : HasBuiltIns run
   pub writes : WritesTrace h run
 
@@ -374,7 +374,7 @@ pub record BuiltInRow (h : Happened) : Type 0 where
   pub when : IsOverBench h → (line : Line) (plan : Plan) (loaded : Loaded) → IsLine h.words line → plan_of line ≡ Some plan → IsToFind h line (Found loaded) →
       AreKnown h.old.run.spawner loaded.system.components →
       (Rose h.old.run.spawner.faults h.new.run.spawner.faults → ⊥) → (Rose h.err.faults h.err_after.faults → ⊥) → All (λ (v : View). v.faults ≡ 0) h.new.run.spawner.retired →
-      ((h.status ≡ 11) × IsIdle h) ⊎ TracesBuiltIns h plan loaded.system
+      ((h.status ≡ 11) × IsIdle h) ⊎ TracesBuiltIns h plan loaded
 
 -- each peer that was started was taken back once: uncalled, or behind a run in which its talk is legal, lean and closed, and puts and ends are those of the run; a check starts none, and puts the size
 pub data PeerRow (h : Happened) : Type 0 where

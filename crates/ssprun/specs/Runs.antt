@@ -46,10 +46,6 @@ HasFolders folders system = length folders ≡ length system.components
 abbrev pub names_of : System → List (List ℕ)
 names_of system = map (λ (c : Component). c.name) system.components
 
--- no parameter of a component has a value, since no binding is read
-abbrev pub unbound : System → Bound
-unbound system = record { components = map (λ (c : Component). []) system.components; unreached = 0 }
-
 -- ---- peers that weren't asked
 
 -- a peer before its first call

@@ -2,6 +2,8 @@
 #![tactic(auto)]
 
 mod args;
+#[cfg(test)]
+mod binding_tests;
 mod files;
 mod frame;
 #[cfg(test)]

@@ -206,12 +206,13 @@ fn append_ports(ports: &[PortId], text: &mut [u8], at: usize) -> usize
     end
 }
 
-/// Writes the size of a system to the front of `text`, and answers the length.
+/// Writes the size of a system, with so many names of parameters that reach nothing, to the front of `text`, and answers
+/// the length.
 #[tactic(auto, unfolding(crate::specs::Message::size_text))]
-pub(crate) fn write_size(system: &System, text: &mut [u8]) -> usize
+pub(crate) fn write_size(system: &System, unreached: u64, text: &mut [u8]) -> usize
     requires { 128 ≤ length text.old }
     ensures length { result ≤ length text.new }
-    ensures text { take result text.new ≡ size_text system.now }
+    ensures text { take result text.new ≡ size_text system.now unreached }
 {
     let at = append(b"components ", text, 0);
     let at = append_number(system.components.len() as u64, text, at);
@@ -219,7 +220,9 @@ pub(crate) fn write_size(system: &System, text: &mut [u8]) -> usize
     let at = append_number(system.ports.len() as u64, text, at);
     let at = append(b" feeds ", text, at);
     let at = append_number(count_feeds(system.ports.as_slice()) as u64, text, at);
-    append(b" unreached 0\n", text, at)
+    let at = append(b" unreached ", text, at);
+    let at = append_number(unreached, text, at);
+    append(b"\n", text, at)
 }
 
 fn count_feeds(ports: &[Port]) -> usize

@@ -42,7 +42,7 @@ const FOLDERS: &[(&str, &str)] = &[
 ];
 
 // A structure, and the status and the line that it is refused with.
-static REFUSED: [(Structure, u8, &str); 47] = [
+static REFUSED: [(Structure, u8, &str); 43] = [
     (
         Structure::Whole(r#"<a><b></a>"#),
         4,
@@ -188,20 +188,6 @@ static REFUSED: [(Structure, u8, &str); 47] = [
     ),
     (
         Structure::Of(
-            r#"<Elements><Component name="a" source="counter"><ParameterBindings><ParameterBinding source="v.ssv"/></ParameterBindings></Component></Elements>"#,
-        ),
-        4,
-        "refused 29 d/SystemStructure.ssd /SystemStructureDescription[1]/System[1]/Elements[1]/Component[1]/ParameterBindings[1]/ParameterBinding[1]\n",
-    ),
-    (
-        Structure::Of(
-            r#"<ParameterBindings><ParameterBinding><ParameterValues/></ParameterBinding></ParameterBindings>"#,
-        ),
-        4,
-        "refused 29 d/SystemStructure.ssd /SystemStructureDescription[1]/System[1]/ParameterBindings[1]/ParameterBinding[1]\n",
-    ),
-    (
-        Structure::Of(
             r#"<Elements><Component name="a" source="counter"/><Component name="e" source="event"/></Elements>"#,
         ),
         4,
@@ -275,20 +261,6 @@ static REFUSED: [(Structure, u8, &str); 47] = [
         4,
         "refused 29 d/early/modelDescription.xml /fmiModelDescription[1]\n",
     ),
-    (
-        Structure::Of(
-            r#"<Elements><Component name="a" source="counter"><ParameterBindings><ParameterBinding source="v.ssv"/></ParameterBindings></Component><Component name="b" source="counter"><ParameterBindings><ParameterBinding source="v.ssv"/></ParameterBindings></Component></Elements><ParameterBindings><ParameterBinding source="v.ssv"/></ParameterBindings>"#,
-        ),
-        4,
-        "refused 29 d/SystemStructure.ssd /SystemStructureDescription[1]/System[1]/Elements[1]/Component[1]/ParameterBindings[1]/ParameterBinding[1]\n",
-    ),
-    (
-        Structure::Of(
-            r#"<ParameterBindings><ParameterBinding source="v.ssv"/></ParameterBindings><Elements><Component name="a" source="counter"><ParameterBindings><ParameterBinding source="v.ssv"/></ParameterBindings></Component></Elements>"#,
-        ),
-        4,
-        "refused 29 d/SystemStructure.ssd /SystemStructureDescription[1]/System[1]/ParameterBindings[1]/ParameterBinding[1]\n",
-    ),
     // The structure's own rules come before a description that is missing.
     (
         Structure::Of(
@@ -349,13 +321,13 @@ static REFUSED: [(Structure, u8, &str); 47] = [
         4,
         "refused 40 d/SystemStructure.ssd /SystemStructureDescription[1]/System[1]/Elements[1]/Component[3]/Connectors[1]/Connector[1]\n",
     ),
-    // A loop comes before what isn't built yet.
+    // The files of bindings come before a loop, and a loop before what isn't built yet.
     (
         Structure::Of(
             r#"<Elements><Component name="g1" source="gain"><Connectors><Connector name="u" kind="input"/><Connector name="y" kind="output"/></Connectors><ParameterBindings><ParameterBinding source="v.ssv"/></ParameterBindings></Component><Component name="g2" source="gain"><Connectors><Connector name="u" kind="input"/><Connector name="y" kind="output"/></Connectors></Component></Elements><Connections><Connection startElement="g1" startConnector="y" endElement="g2" endConnector="u"/><Connection startElement="g2" startConnector="y" endElement="g1" endConnector="u"/></Connections>"#,
         ),
-        4,
-        "refused 46 d/SystemStructure.ssd /SystemStructureDescription[1]/System[1] ports 0 3 2 1\n",
+        3,
+        "missing d/v.ssv\n",
     ),
     (
         Structure::Of(
@@ -364,13 +336,12 @@ static REFUSED: [(Structure, u8, &str); 47] = [
         4,
         "refused 46 d/SystemStructure.ssd /SystemStructureDescription[1]/System[1] ports 0 3 2 1\n",
     ),
-    // A binding comes before a description.
     (
         Structure::Of(
             r#"<Elements><Component name="a" source="event"/><Component name="b" source="counter"><ParameterBindings><ParameterBinding source="v.ssv"/></ParameterBindings></Component></Elements>"#,
         ),
-        4,
-        "refused 29 d/SystemStructure.ssd /SystemStructureDescription[1]/System[1]/Elements[1]/Component[2]/ParameterBindings[1]/ParameterBinding[1]\n",
+        3,
+        "missing d/v.ssv\n",
     ),
 ];
 
@@ -539,33 +510,46 @@ fn a_system_has_65536_ports(rt: HostRuntime) -> Result<(), Fail> {
     Ok(())
 }
 
-// The description's bytes are the most that are read, or one more.
+// The bytes of a description or of a binding's file are the most that are read, or one more.
 #[test]
 fn a_file_has_16_mebibytes(rt: HostRuntime) -> Result<(), Fail> {
     let alloc = rt.alloc();
-    let elements = repeated_components(alloc, "large", 1)?;
+    let plain = repeated_components(alloc, "large", 1)?;
+    let bound =
+        r#"<Component name="c" source="counter"><ParameterBindings><ParameterBinding source="v.ssv"/></ParameterBindings></Component>"#;
     let cases = [
         (
-            16_777_216,
+            plain.as_str(),
+            "d/large/modelDescription.xml",
+            vec![in alloc; b'x'; 16_777_216]?,
             4,
-            "refused 2 d/large/modelDescription.xml byte 0
-",
+            "refused 2 d/large/modelDescription.xml byte 0\n",
         ),
         (
-            16_777_217,
+            plain.as_str(),
+            "d/large/modelDescription.xml",
+            vec![in alloc; b'x'; 16_777_217]?,
             3,
-            "big d/large/modelDescription.xml
-",
+            "big d/large/modelDescription.xml\n",
+        ),
+        (
+            bound,
+            "d/v.ssv",
+            vec![in alloc; b' '; 16_777_217]?,
+            3,
+            "big d/v.ssv\n",
+        ),
+        // no text begins with this byte
+        (
+            bound,
+            "d/v.ssv",
+            vec![in alloc; 255; 1]?,
+            4,
+            "refused 1 d/v.ssv byte 0\n",
         ),
     ];
-    for (length, status, err) in cases {
-        let bytes = vec![in alloc; b'x'; length]?;
-        let mut folder = folder_with(
-            alloc,
-            elements.as_str(),
-            "d/large/modelDescription.xml",
-            bytes,
-        )?;
+    for (elements, path, bytes, status, err) in cases {
+        let mut folder = folder_with(alloc, elements, path, bytes)?;
         assert_refused(&rt, alloc, &mut folder, CHECK, status, err)?;
     }
     Ok(())

@@ -6,10 +6,11 @@ ghost use Rattle.sim_base.specs.Sink.{SinkView};
 ghost use Rattle.system_model.specs.Bounds.{BindsParameters};
 ghost use Rattle.system_model.specs.declared.system.System.{System};
 ghost use Rattle.ssprun.specs.Facts.{CheckFacts, Facts, LineFacts, PlanFacts, RunFacts, subject_of};
+ghost use Rattle.system_files.specs.declared.loaded.Loaded.{Loaded};
 ghost use Rattle.ssprun.specs.Happened.{happened, scene, stage};
 ghost use Rattle.ssprun.specs.Peers.{AreKnown, AreStarted, StartsUpTo, with_all_started};
 ghost use Rattle.ssprun.specs.Rows.{KeepsRows};
-ghost use Rattle.ssprun.specs.Runs.{CanRun, HasFolders, Task, names_of, unbound};
+ghost use Rattle.ssprun.specs.Runs.{CanRun, HasFolders, Task, names_of};
 
 use crate::message::write_size;
 use crate::naming::Naming;
@@ -21,12 +22,12 @@ use built_in_laws::built_in_runs;
 use command_line::{CommandLine, WordsFault, read_words};
 use fmu_peer::{Spawner, StartFault};
 use run_model::one_trace;
-use sim_base::{Folder, Items, Sink, Text};
-use std::alloc::{AllocError, Global};
+use sim_base::{Folder, Sink, Text};
+use std::alloc::Global;
 use std::thread::Threads;
 use step_master::{Master, PrepareEnd, PrepareFault, RunEnd, lives_of_peers, runs_of_machines};
 use system_files::{Loaded, Subject, load};
-use system_model::{Bound, BoundValue, Component, Plan, System};
+use system_model::{Bound, Plan, System};
 
 /// Does what the words of a command line say, and answers the program's status.
 ///
@@ -149,64 +150,37 @@ fn run_loaded<R: Threads + Sync, S: Spawner, O: Sink>(
 ) -> Report
     requires within { IfSome plan IsWithin }
     requires runnable { CanRun loaded.system }
+    requires bound { BindsParameters loaded.system loaded.bound }
     requires folders { HasFolders loaded.folders loaded.system }
     ensures { PlanFacts plan result.outcome loaded
         (scene (S.view spawner.old) (O.view out.old)) (scene (S.view spawner.new) (O.view out.new)) }
 {
-    let Loaded { system, folders } = loaded;
+    let Loaded {
+        system,
+        bound,
+        folders,
+    } = loaded;
     match plan {
-        Some(plan) => {
-            let Ok(bound) = unbound(alloc, &system) else {
-                return Report::memory(alloc);
-            };
-            run_system(
-                rt,
-                alloc,
-                plan,
-                system,
-                bound,
-                folders.as_slice(),
-                spawner,
-                out,
-            )
-        }
-        None => tell_size(alloc, &system, out),
+        Some(plan) => run_system(
+            rt,
+            alloc,
+            plan,
+            system,
+            bound,
+            folders.as_slice(),
+            spawner,
+            out,
+        ),
+        None => tell_size(alloc, &system, bound.unreached, out),
     }
 }
 
-// No value for any parameter, since no binding is read.
-fn unbound(alloc: Global, system: &System) -> Result<Bound, AllocError>
-    ensures { IfOk result (λ bound. bound ≡ unbound system.now) }
-{
-    let components = empty_lists(alloc, system.components.as_slice())?;
-    Ok(Bound {
-        components: Items::from_vec(components),
-        unreached: 0,
-    })
-}
-
-// A list without values for each component.
-fn empty_lists(
-    alloc: Global,
-    components: &[Component],
-) -> Result<Vec<Items<BoundValue>>, AllocError>
-    ensures { IfOk result (λ lists. lists.items ≡ map (λ c. []) components.now) }
-{
-    components.iter().map(|_| no_values(alloc)).collect(alloc)
-}
-
-fn no_values(alloc: Global) -> Items<BoundValue>
-    ensures { result ≡ [] }
-{
-    Items::from_vec(Vec::new(alloc))
-}
-
 // Tells the size of a system.
-fn tell_size<O: Sink>(alloc: Global, system: &System, out: &mut O) -> Report
-    ensures { (spawner : SpawnerView) → CheckFacts result.outcome system.now (scene spawner (O.view out.old)) (scene spawner (O.view out.new)) }
+fn tell_size<O: Sink>(alloc: Global, system: &System, unreached: u64, out: &mut O) -> Report
+    ensures { (spawner : SpawnerView) (loaded : Loaded) → loaded.system ≡ system.now → loaded.bound.unreached ≡ unreached → CheckFacts result.outcome loaded (scene spawner (O.view out.old)) (scene spawner (O.view out.new)) }
 {
     let mut text = [0u8; 128];
-    let length = write_size(system, &mut text);
+    let length = write_size(system, unreached, &mut text);
     Report::checked(alloc, out.put(&text[..length]).is_ok())
 }
 

@@ -380,7 +380,7 @@ static CASES: [Case; 38] = [
     },
 ];
 
-fn describe_system(alloc: Global, inside: &str) -> Result<String, AllocError> {
+pub(crate) fn describe_system(alloc: Global, inside: &str) -> Result<String, AllocError> {
     format!(in alloc;
         "<SystemStructureDescription version=\"1.0\" name=\"s\"><System name=\"s\">{inside}</System></SystemStructureDescription>"
     )

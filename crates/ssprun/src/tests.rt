@@ -327,7 +327,7 @@ const NOT_STARTED: Answer = Ok(Reply::Refused {
     status: BadStatus::Discard,
 });
 
-const OTHER_KIND: Answer = Ok(Reply::Refused {
+pub(crate) const OTHER_KIND: Answer = Ok(Reply::Refused {
     kind: Kind::FreeInstance,
     status: BadStatus::Fatal,
 });
@@ -555,7 +555,11 @@ pub(crate) fn split_words(alloc: Global, line: &str) -> Result<Vec<String>, Allo
     Ok(words)
 }
 
-fn describe_counter(alloc: Global, kind: &str, start: &str) -> Result<String, AllocError> {
+pub(crate) fn describe_counter(
+    alloc: Global,
+    kind: &str,
+    start: &str,
+) -> Result<String, AllocError> {
     format!(in alloc;
         "{BEFORE}<{kind} name=\"inc\" valueReference=\"1\" causality=\"parameter\" variability=\"fixed\" start=\"{start}\"/><{kind} name=\"y\" valueReference=\"2\" causality=\"output\" variability=\"discrete\"/>{BEHIND}"
     )

@@ -1,18 +1,25 @@
 -- From the end of a step to that of the loading.
-use Rattle.std.proofs.Common.{◌≡◌, ◌⊎◌, ◌≤◌, ◌^◌, ℕ, List, [], ◌∷◌, ◌++◌, length, refl, sym, ap, ◌∙◌, subst, inl, inr, append_assoc, append-nil}
+use Rattle.std.proofs.Common.{◌≡◌, ◌⊎◌, ◌≤◌, ◌^◌, ℕ, Option, Some, List, [], ◌∷◌, ◌++◌, length, refl, sym, ap, ◌∙◌, subst, inl, inr, append_assoc, append-nil}
 use Rattle.std.specs.Prelude.{Vec, Ok, Err}
 use Rattle.std.specs.declared.alloc.Global.{Global}
-use Rattle.std.specs.List.{AllZip}
+use Rattle.std.specs.List.{AllZip, flat_map}
 use Rattle.sim_base.specs.Folder.{FolderView, KeepsLimit, NotesRead, with_asked, with_failed}
 use Rattle.sim_base.specs.declared.folder.ReadFault.{ReadFault}
 use Rattle.sim_base.specs.declared.folder.ReadFault.TheVariants as r
+use Rattle.sim_base.specs.declared.numbers.PortId.{PortId}
 use Rattle.value_types.specs.declared.shape.Shape.{Shape}
 use Rattle.doc_tree.specs.declared.place.Place.{Place}
 use Rattle.doc_tree.specs.declared.rule.Rule.{Rule}
+use Rattle.ssd_tree.specs.declared.tree.Binding.{Binding}
 use Rattle.ssd_tree.specs.declared.tree.ComponentPart.{ComponentPart}
+use Rattle.ssd_tree.specs.declared.tree.Origin.{Origin}
+use Rattle.ssd_tree.specs.declared.tree.Origin.TheVariants.{File, Inline}
+use Rattle.ssd_tree.specs.declared.tree.SourceBase.{SourceBase}
 use Rattle.system_loading.specs.declared.fault.Fault.{Fault}
 use Rattle.system_loading.specs.declared.fault.Fault.TheVariants as f
 use Rattle.system_loading.specs.declared.outline.Outline.{Outline}
+use Rattle.system_loading.specs.declared.parameters.GivenBinding.{GivenBinding}
+use Rattle.system_loading.specs.declared.parameters.GivenSet.{GivenSet}
 use Rattle.system_loading.specs.Faults.{TellsFirst}
 use Rattle.system_loading.specs.Readings.{BreaksAlone}
 use Rattle.system_files.specs.declared.loaded.Loaded.{Loaded}
@@ -22,11 +29,13 @@ use Rattle.system_files.specs.declared.named.NamedFile.{NamedFile}
 use Rattle.system_files.specs.declared.named.FileFault.{FileFault}
 use Rattle.system_files.specs.declared.named.FileFault.TheVariants.{Unread, Missing, TooBig, Broken}
 use Rattle.system_files.specs.Files.{Absent, Faulty, Flaw, LacksFile, Long, structure_path, with_all_asked}
-use Rattle.system_files.specs.Loads.{AsksSome, ComesTo, EndsLoading, Loads, Nothing, ReadsSome, Taken, ToOutline, ToShape, UpTo}
-use Rattle.system_files.specs.Order.{ComesAlone, Fails, Found, Search, asked_for, files_before, model_path}
-use Rattle.system_files.specs.Steps.{AtRule, AtShape, AtStructure, EndsAt, EndsModels, EndsOutline, EndsShapes, EndsTogether, FailsModel, FailsStructure, HasShapeAlone, NoOutlineRoom, NoShapeRoom, NoSystemRoom, OfShapes, OfSystem, OutlinesAlone, TakesModels, TakesShapes, fault_end, paths_of, unread_end}
+use Rattle.system_files.specs.Loads.{AsksSome, ComesTo, EndsLoading, FileFails, Loads, Nothing, OfMapping, OfValues, ReadsSome, Taken, TakenBindings, ToOutline, ToPart, ToShape, UpTo}
+use Rattle.system_files.specs.Order.{ComesAlone, Fails, Found, LacksPart, ReachesBindings, Search, asked_for, asked_with, binding_files, files_before, mapping_files, model_path, outline_path, part_files, part_path, part_told}
+use Rattle.system_files.specs.Steps.{AtBinding, AtMapping, AtParameter, AtRule, AtShape, AtStructure, AtValues, EndsAt, EndsBinding, EndsBindings, EndsModels, EndsOutline, EndsPart, EndsShapes, EndsTogether, EndsWithin, FailsMapping, FailsMappingWithin, FailsModel, FailsStructure, FailsValues, FailsValuesWithin, HasShapeAlone, IsValuesAlone, NoBindingRoom, NoOutlineRoom, NoShapeRoom, NoSystemRoom, OfBindings, OfShapes, OfSystem, OutlinesAlone, SaysValues, SaysValuesWithin, TakesBindings, TakesModels, TakesParts, TakesShapes, fault_end, paths_of, unread_end}
+use Rattle.system_files.proofs.BindingLemmas.{all_before, part_before}
 use Rattle.system_files.proofs.FileLemmas.{Answers, read_absent, read_file, read_long}
-use Rattle.system_files.proofs.OnlyLemmas.{ReachesAlone, no_outline_alone, no_shape_alone, no_system_alone, reached, whole_alone}
+use Rattle.system_files.proofs.OnlyLemmas.{ReachesAlone, ReachesBindingsAlone, no_binding_alone, no_outline_alone, no_set_alone, no_shape_alone, no_system_alone, reached, reached_bindings, whole_alone}
+use Rattle.system_files.proofs.PartLemmas.{InMappingAlone, InValuesAlone, is_values}
 use Rattle.system_files.proofs.ShapeLemmas.{asked_then, none_asked}
 
 -- ---- the end at one file
@@ -89,6 +98,85 @@ ends_outline s ended old new (AtStructure sys h) =
 ends_outline s ended old new (NoOutlineRoom is told) =
     subst (λ (e : LoadEnd). EndsLoading s e old new) (sym is) (record { asked = []; some = Nothing [] refl; told = told ∙ none_asked old })
 
+-- ---- at a binding
+
+-- the end at an element of the outline, which breaks a rule alone
+within_end : (s : Search) (old new : FolderView) (path : List ℕ) (asked : List (List ℕ)) (Spoils : Rule → Place → Type 0) →
+    ((rule : Rule) (place : Place) → Spoils rule place → ComesAlone s old asked (Fails path (Faulty rule place []))) → AsksSome s old asked → new ≡ with_all_asked old asked →
+    (ended : LoadEnd) → EndsWithin Spoils path ended → EndsLoading s ended old new
+within_end s old new path asked Spoils alone some told (end.File file fault) h =
+    let rule = h.0 in
+    let place = h.1.0 in
+    let path_is = h.1.1 in
+    let fault_is = h.1.2 in
+    subst (λ (x : FileFault). FileFails s x file.path old new) (sym fault_is) (record {
+      asked = asked;
+      comes = subst (λ (p : List ℕ). ComesAlone s old asked (Fails p (Faulty rule place []))) (sym path_is) (alone rule place h.1.3);
+      told = told;
+    })
+within_end s old new path asked Spoils alone some told end.Memory h = record { asked = asked; some = some; told = told }
+
+module _ (s : Search) (o : Outline) (old : FolderView) (shapes : List Shape) (taken : List Binding) (given : List GivenBinding) (b : Binding) (rest : List Binding)
+    (reach : ReachesBindingsAlone s old o shapes taken given (b ∷ rest)) (before : FolderView) (before_is : before ≡ with_all_asked old (asked_with s o taken)) where
+  reaches : ReachesBindings s old o shapes taken given (b ∷ rest)
+  reaches = reached_bindings s old o shapes taken given (b ∷ rest) reach
+
+  to_values : (base : SourceBase) (source : List ℕ) → b.values ≡ File base source →
+      ComesTo s old (asked_with s o taken ++ part_path s.directory o b.owner base source ∷ []) (part_path s.directory o b.owner base source)
+  to_values base source e =
+      ToPart o shapes taken given b rest (part_path s.directory o b.owner base source ∷ []) _ _ reaches
+      (OfValues base source _ _ e (sym (ap (part_files s.directory o b.owner) e)) refl) refl
+
+  no_values : (origin : Origin) (flaw : Flaw) → b.values ≡ origin → LacksPart FailsValues FailsValuesWithin s.directory old o b.owner origin flaw →
+      ComesAlone s old (asked_with s o taken ++ part_files s.directory o b.owner origin) (Fails (part_told s.subject s.directory o b.owner origin) flaw)
+  no_values origin flaw e l =
+      no_set_alone s old o shapes taken given b rest (part_files s.directory o b.owner origin) (part_told s.subject s.directory o b.owner origin) flaw reach
+      (InValuesAlone _ _ flaw (subst (λ (x : Origin). LacksPart FailsValues FailsValuesWithin s.directory old o b.owner x flaw) (sym e) l)
+      (sym (ap (part_files s.directory o b.owner) e)) (sym (ap (part_told s.subject s.directory o b.owner) e)))
+
+  values_asked : (origin : Origin) → b.values ≡ origin → AsksSome s old (asked_with s o taken ++ part_files s.directory o b.owner origin)
+  values_asked (File base source) e = UpTo _ (part_path s.directory o b.owner base source) (to_values base source e)
+  values_asked (Inline node) e = TakenBindings o shapes taken given (b ∷ rest) _ reaches (append-nil (asked_with s o taken))
+
+  ends_values : (origin : Origin) (ended : LoadEnd) (new : FolderView) → b.values ≡ origin →
+      EndsPart FailsValues FailsValuesWithin s.subject s.directory o b.owner origin ended before new → EndsLoading s ended old new
+  ends_values (File base source) ended new e h =
+      ends_at s old (part_path s.directory o b.owner base source) (asked_with s o taken) (asked_with s o taken ++ part_path s.directory o b.owner base source ∷ []) FailsValues
+      (to_values base source e) (λ flaw l. no_values (File base source) flaw e l) (TakenBindings o shapes taken given (b ∷ rest) _ reaches refl) before before_is refl ended new h
+  ends_values (Inline node) ended new e h =
+      within_end s old new (outline_path s.subject s.directory) (asked_with s o taken ++ []) (FailsValuesWithin o node)
+      (λ rule place w. no_values (Inline node) (Faulty rule place []) e (rule, (place, w, refl))) (values_asked (Inline node) e)
+      (h.0 ∙ before_is ∙ ap (with_all_asked old) (sym (append-nil (asked_with s o taken)))) ended h.1
+
+  module _ (set : GivenSet) (middle : FolderView) (values : IsValuesAlone s.directory before o b.owner b.values set)
+      (middle_is : middle ≡ with_all_asked before (part_files s.directory o b.owner b.values)) where
+    set_alone : IsValuesAlone s.directory old o b.owner b.values set
+    set_alone = part_before SaysValues SaysValuesWithin s.directory old before (asked_with s o taken) o b.owner b.values set before_is values
+
+    middle_told : middle ≡ with_all_asked old (asked_with s o taken ++ part_files s.directory o b.owner b.values)
+    middle_told = asked_then old before middle (asked_with s o taken) (part_files s.directory o b.owner b.values) before_is middle_is
+
+    ends_mapping : (origin : Origin) (ended : LoadEnd) (new : FolderView) → b.mapping ≡ Some origin →
+        EndsPart FailsMapping FailsMappingWithin s.subject s.directory o b.owner origin ended middle new → EndsLoading s ended old new
+    ends_mapping (File base source) ended new m h =
+        ends_at s old (part_path s.directory o b.owner base source) (asked_with s o taken ++ part_files s.directory o b.owner b.values) (asked_with s o taken ++ binding_files s.directory o b) FailsMapping
+        (ToPart o shapes taken given b rest (binding_files s.directory o b) _ _ reaches (OfMapping set base source _ _ (is_values s old o b set set_alone) m refl refl) refl)
+        (λ flaw l. no_set_alone s old o shapes taken given b rest (binding_files s.directory o b) (part_path s.directory o b.owner base source) flaw reach
+        (InMappingAlone (File base source) set _ _ flaw set_alone m l refl refl))
+        (values_asked b.values refl) middle middle_told
+        (ap (λ (x : Option Origin). asked_with s o taken ++ (part_files s.directory o b.owner b.values ++ mapping_files s.directory o b.owner x)) m
+        ∙ sym (append_assoc (asked_with s o taken) (part_files s.directory o b.owner b.values) (part_path s.directory o b.owner base source ∷ []))) ended new h
+    ends_mapping (Inline node) ended new m h =
+        within_end s old new (outline_path s.subject s.directory) (asked_with s o taken ++ part_files s.directory o b.owner b.values) (FailsMappingWithin o node)
+        (λ rule place w. no_set_alone s old o shapes taken given b rest (part_files s.directory o b.owner b.values) (outline_path s.subject s.directory) (Faulty rule place []) reach
+        (InMappingAlone (Inline node) set _ _ (Faulty rule place []) set_alone m (rule, (place, w, refl))
+        (sym (append-nil (part_files s.directory o b.owner b.values)) ∙ ap (λ (x : Option Origin). part_files s.directory o b.owner b.values ++ mapping_files s.directory o b.owner x) (sym m)) refl))
+        (values_asked b.values refl) (h.0 ∙ middle_told) ended h.1
+
+  pub ends_binding : (ended : LoadEnd) (new : FolderView) → EndsBinding s.subject s.directory o b ended before new → EndsLoading s ended old new
+  ends_binding ended new (AtValues h) = ends_values b.values ended new refl h
+  ends_binding ended new (AtMapping set origin middle values middle_is m h) = ends_mapping set middle values middle_is origin ended new m h
+
 -- ---- after there is one
 
 module _ (s : Search) (o : Outline) (old mid : FolderView) (outline : OutlinesAlone s.subject s.directory old o)
@@ -99,12 +187,24 @@ module _ (s : Search) (o : Outline) (old mid : FolderView) (outline : OutlinesAl
   all_told : (cs : List ComponentPart) (new : FolderView) → new ≡ with_all_asked mid (paths_of s.directory cs) → new ≡ with_all_asked old (asked_for s cs)
   all_told cs new is = asked_then old mid new (files_before s.subject s.directory) (paths_of s.directory cs) told is
 
+  -- the first bindings behind all shapes
+  parts_reach : (shapes : List Shape) (taken : List Binding) (given : List GivenBinding) (rest : List Binding) (middle new : FolderView) → o.systems.bindings ≡ taken ++ rest →
+      TakesShapes s.per_second s.directory o.systems.components shapes mid middle → TakesBindings s.directory o taken given middle new →
+      ReachesBindingsAlone s old o shapes taken given rest × (new ≡ with_all_asked old (asked_with s o taken))
+  parts_reach shapes taken given rest middle new is t g =
+      let middle_is = all_told o.systems.components middle t.told in (
+        record { outline = outline; shaped = each_before o.systems.components shapes t.each; is = is; each = all_before s.directory old middle (asked_for s o.systems.components) o taken given middle_is g.each },
+        asked_then old middle new (asked_for s o.systems.components) (flat_map (binding_files s.directory o) taken) middle_is g.told,
+      )
+
+  all_reach : (shapes : List Shape) (given : List GivenBinding) (new : FolderView) → TakesParts s o shapes given mid new →
+      ReachesBindingsAlone s old o shapes o.systems.bindings given [] × (new ≡ with_all_asked old (asked_with s o o.systems.bindings))
+  all_reach shapes given new t = parts_reach shapes o.systems.bindings given [] t.mid new (sym (append-nil o.systems.bindings)) t.takes t.gives
+
   pub loads : (loaded : Loaded) (new : FolderView) → TakesModels s o loaded mid new → Loads s (Found loaded) old new
-  loads loaded new t = record {
-    asked = asked_for s o.systems.components;
-    comes = whole_alone s old o t.shapes loaded outline (each_before o.systems.components t.shapes t.takes.each) t.makes t.folders;
-    told = all_told o.systems.components new t.takes.told;
-  }
+  loads loaded new t =
+      let h = all_reach t.shapes t.given new t.takes in
+      record { asked = asked_with s o o.systems.bindings; comes = whole_alone s old o t.shapes t.given h.0 loaded t.is; told = h.1 }
 
   some_taken : (taken : List ComponentPart) (shapes : List Shape) (rest : List ComponentPart) → o.systems.components ≡ taken ++ rest →
       AllZip (HasShapeAlone s.per_second s.directory mid) taken shapes → ReachesAlone s old o taken shapes rest
@@ -131,18 +231,41 @@ module _ (s : Search) (o : Outline) (old mid : FolderView) (outline : OutlinesAl
   ends_shapes ended new (NoShapeRoom taken shapes rest is each ended_is new_is) =
       subst (λ (e : LoadEnd). EndsLoading s e old new) (sym ended_is) (ends_taken taken shapes rest new is each new_is)
 
-  ends_together : (shapes : List Shape) (ended : LoadEnd) (new : FolderView) → TakesShapes s.per_second s.directory o.systems.components shapes mid new → EndsTogether s o shapes ended →
-      EndsLoading s ended old new
-  ends_together shapes ended new t (AtRule component rule place ports file broken in_file is) =
-      subst (λ (e : LoadEnd). EndsLoading s e old new) (sym is) (record {
-        asked = asked_for s o.systems.components;
-        comes = no_system_alone s old o shapes component rule place ports file.path outline (each_before o.systems.components shapes t.each) broken in_file;
-        told = all_told o.systems.components new t.told;
-      })
-  ends_together shapes ended new t (NoSystemRoom is) =
+  ends_bindings : (shapes : List Shape) (middle : FolderView) (ended : LoadEnd) (new : FolderView) → TakesShapes s.per_second s.directory o.systems.components shapes mid middle →
+      EndsBindings s.subject s.directory o ended middle new → EndsLoading s ended old new
+  ends_bindings shapes middle ended new t (AtBinding taken given b rest before is takes h) =
+      let r = parts_reach shapes taken given (b ∷ rest) middle before is t takes in
+      ends_binding s o old shapes taken given b rest r.0 before r.1 ended new h
+  ends_bindings shapes middle ended new t (NoBindingRoom is new_is) =
       subst (λ (e : LoadEnd). EndsLoading s e old new) (sym is)
-      (ends_taken o.systems.components shapes [] new (sym (append-nil o.systems.components)) t.each t.told)
+      (ends_taken o.systems.components shapes [] new (sym (append-nil o.systems.components)) t.each (new_is ∙ t.told))
+
+  ends_together : (shapes : List Shape) (given : List GivenBinding) (ended : LoadEnd) (new : FolderView) → TakesParts s o shapes given mid new → EndsTogether s o shapes given ended →
+      EndsLoading s ended old new
+  ends_together shapes given ended new t (AtParameter n in_mapping rule place ports file broken in_file none is) =
+      let r = all_reach shapes given new t in
+      subst (λ (e : LoadEnd). EndsLoading s e old new) (sym is) (record {
+        asked = asked_with s o o.systems.bindings;
+        comes = subst (λ (xs : List PortId). ComesAlone s old (asked_with s o o.systems.bindings) (Fails file.path (Faulty rule place xs))) (sym none)
+            (no_binding_alone s old o shapes given r.0 n in_mapping rule place file.path broken in_file);
+        told = r.1;
+      })
+  ends_together shapes given ended new t (AtRule bound component rule place ports file binds broken in_file is) =
+      let r = all_reach shapes given new t in
+      subst (λ (e : LoadEnd). EndsLoading s e old new) (sym is) (record {
+        asked = asked_with s o o.systems.bindings;
+        comes = no_system_alone s old o shapes given r.0 bound component rule place ports file.path binds broken in_file;
+        told = r.1;
+      })
+  ends_together shapes given ended new t (NoSystemRoom is) =
+      let r = all_reach shapes given new t in
+      subst (λ (e : LoadEnd). EndsLoading s e old new) (sym is) (record {
+        asked = asked_with s o o.systems.bindings;
+        some = TakenBindings o shapes o.systems.bindings given [] _ (reached_bindings s old o shapes o.systems.bindings given [] r.0) refl;
+        told = r.1;
+      })
 
   pub ends_models : (ended : LoadEnd) (new : FolderView) → EndsModels s o ended mid new → EndsLoading s ended old new
   ends_models ended new (OfShapes h) = ends_shapes ended new h
-  ends_models ended new (OfSystem shapes t h) = ends_together shapes ended new t h
+  ends_models ended new (OfBindings shapes middle t h) = ends_bindings shapes middle ended new t h
+  ends_models ended new (OfSystem shapes given t h) = ends_together shapes given ended new t h

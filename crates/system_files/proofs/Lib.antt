@@ -1,7 +1,9 @@
 pub mod ListLemmas
 pub mod FileLemmas
+pub mod PartLemmas
 pub mod OnlyLemmas
 pub mod UseLemmas
 pub mod ShapeLemmas
+pub mod BindingLemmas
 pub mod EndLemmas
 pub mod SoundLemmas

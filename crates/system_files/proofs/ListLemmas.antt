@@ -1,6 +1,8 @@
 -- Lists of which something holds element by element.
-use Rattle.std.proofs.Common.{◌≡◌, List, [], ◌∷◌, ◌++◌, refl, ap₂, subst, sym}
-use Rattle.std.specs.List.{AllZip}
+use Rattle.std.proofs.Common.{◌≡◌, ◌<◌, ◌+◌, ℕ, List, [], ◌∷◌, ◌++◌, drop, get_or, length, take, refl, ap, ap₂, ◌∙◌, subst, sym, append-nil}
+use Rattle.std.specs.List.{AllZip, flat_map}
+use Rattle.std.proofs.lemmas.List.Concat.{flat_map-append, flat_map-cons}
+use Rattle.std.proofs.lemmas.List.{drop_more, take-append-drop, take_more}
 
 heads : {X : Type 0} (x y : X) (xs ys : List X) → x ∷ xs ≡ y ∷ ys → x ≡ y
 heads x y xs ys e = cc
@@ -55,3 +57,18 @@ zip_once R Q once [] (y ∷ ys) zs h k = absurd h
 zip_once R Q once (x ∷ xs) [] zs h k = absurd h
 zip_once R Q once (x ∷ xs) (y ∷ ys) [] h k = absurd k
 zip_once {X} {Y} R Q once (x ∷ xs) (y ∷ ys) (z ∷ zs) h k = ap₂ (λ (a : Y) (more : List Y). a ∷ more) (once x y z h.0 k.0) (zip_once R Q once xs ys zs h.1 k.1)
+
+-- ---- by places in the list
+
+-- the list up to an element, the element, and the rest
+pub parted : {X : Type 0} (xs : List X) (n : ℕ) (x : X) → n < length xs → x ≡ get_or xs n x → xs ≡ take n xs ++ x ∷ drop (n + 1) xs
+parted {X} xs n x below is =
+    sym (take-append-drop n xs) ∙ ap (λ (ys : List X). take n xs ++ ys)
+    (drop_more xs n x below ∙ ap (λ (y : X). y ∷ drop (n + 1) xs) (sym is))
+
+pub one_more : {X : Type 0} (xs : List X) (n : ℕ) (x : X) → n < length xs → x ≡ get_or xs n x → take n xs ++ x ∷ [] ≡ take (n + 1) xs
+one_more {X} xs n x below is = ap (λ (y : X). take n xs ++ y ∷ []) is ∙ sym (take_more xs n x below)
+
+-- one more element
+pub flat_map_more : {X Y : Type 0} (f : X → List Y) (xs : List X) (x : X) → flat_map f (xs ++ x ∷ []) ≡ flat_map f xs ++ f x
+flat_map_more {X} {Y} f xs x = flat_map-append f xs (x ∷ []) ∙ ap (λ (ys : List Y). flat_map f xs ++ ys) (flat_map-cons f x [] ∙ append-nil (f x))

@@ -1,5 +1,5 @@
 -- Where a folder tells its files, what is found alone is all that the order of reading comes to.
-use Rattle.std.proofs.Common.{◌≡◌, ℕ, List, [], ◌∷◌, ◌++◌, Option, Some, None, IfSome, refl, sym, ap, ◌∙◌, subst}
+use Rattle.std.proofs.Common.{◌≡◌, ℕ, Bool, ap₂, List, [], ◌∷◌, ◌++◌, Option, Some, None, IfSome, refl, sym, ap, ◌∙◌, subst}
 use Rattle.std.specs.Prelude.{IsSomeAnd, slice_get}
 use Rattle.std.specs.List.{AllZip}
 use Rattle.std.proofs.lemmas.List.{append-nil}
@@ -8,18 +8,24 @@ use Rattle.sim_base.specs.declared.numbers.PortId.{PortId}
 use Rattle.value_types.specs.declared.shape.Shape.{Shape}
 use Rattle.doc_tree.specs.declared.place.Place.{Place}
 use Rattle.doc_tree.specs.declared.rule.Rule.{Rule}
+use Rattle.system_model.specs.declared.bound.Bound.{Bound}
+use Rattle.ssd_tree.specs.declared.tree.Binding.{Binding}
 use Rattle.ssd_tree.specs.declared.tree.ComponentPart.{ComponentPart}
+use Rattle.ssd_tree.specs.declared.tree.Origin.{Origin}
 use Rattle.system_loading.specs.declared.outline.Outline.{Outline}
-use Rattle.system_loading.specs.Assembly.{BreaksTogether, BreaksTogetherAlone, Makes, MakesAlone}
+use Rattle.system_loading.specs.declared.parameters.GivenBinding.{GivenBinding}
+use Rattle.system_loading.specs.Assembly.{BreaksTogether, BreaksTogetherAlone, Makes}
+use Rattle.system_loading.specs.Binding.{Binds, BindsAlone, BreaksBinding, BreaksBindingAlone}
 use Rattle.system_loading.specs.Readings.{BreaksModel, BreaksStructure, IsModel, IsStructure}
 use Rattle.system_files.specs.declared.loaded.Loaded.{Loaded}
 use Rattle.system_files.specs.declared.subject.Subject.{Subject}
 use Rattle.system_files.specs.declared.subject.Subject.TheVariants as what
 use Rattle.system_files.specs.Files.{Faulty, Flaw, LacksFile, structure_path}
-use Rattle.system_files.specs.Order.{Agree, Comes, ComesAlone, Fails, Finding, Found, HasShape, IsToldIn, NoOutline, NoShape, NoSystem, Outlines, Reaches, Search, Whole, asked_for, folders_of, model_path}
-use Rattle.system_files.specs.Steps.{FailsModel, FailsStructure, HasShapeAlone, OutlinesAlone}
+use Rattle.system_files.specs.Order.{Agree, Comes, ComesAlone, Fails, Finding, Found, HasShape, IsBindingToldIn, IsGiven, IsToldIn, LacksBinding, NoBinding, NoOutline, NoSet, NoShape, NoSystem, Outlines, Reaches, ReachesBindings, Search, Whole, asked_for, asked_with, folders_of, model_path, origin_of, part_told}
+use Rattle.system_files.specs.Steps.{FailsModel, FailsStructure, HasShapeAlone, IsGivenAlone, IsLoaded, OutlinesAlone}
 use Rattle.system_files.proofs.FileLemmas.{flawed_once, flawed_unsaid, is_flawed, is_said, said_once, said_unflawed}
 use Rattle.system_files.proofs.ListLemmas.{Each, each_in, stops_once, zip_left, zip_once, zip_then}
+use Rattle.system_files.proofs.PartLemmas.{LacksBindingAlone, binding_once, binding_stop, given_once, given_sound, is_given, lacks_binding}
 
 -- ---- what is found alone is found
 
@@ -45,6 +51,20 @@ reached s folder o taken shapes rest a = record {
 pub reached_all : (s : Search) (folder : FolderView) (o : Outline) (shapes : List Shape) → OutlinesAlone s.subject s.directory folder o →
     AllZip (HasShapeAlone s.per_second s.directory folder) o.systems.components shapes → ReachesAlone s folder o o.systems.components shapes []
 reached_all s folder o shapes outline each = record { outline = outline; is = sym (append-nil o.systems.components); each = each }
+
+-- the file of a part of a binding is one
+binding_told_once : (s : Search) (o : Outline) (n : ℕ) (in_mapping : Bool) (one other : List ℕ) → IsBindingToldIn s o n in_mapping one → IsBindingToldIn s o n in_mapping other → one ≡ other
+binding_told_once s o n in_mapping one other a b = by (slice_get o.systems.bindings n) a b
+  where
+    of : (b : Binding) (origin : Option Origin) → IsSomeAnd origin (λ x. one ≡ part_told s.subject s.directory o b.owner x) →
+        IsSomeAnd origin (λ x. other ≡ part_told s.subject s.directory o b.owner x) → one ≡ other
+    of b None h k = absurd h
+    of b (Some origin) h k = h ∙ sym k
+
+    by : (b : Option Binding) → IsSomeAnd b (λ (b : Binding). IsSomeAnd (origin_of in_mapping b) (λ x. one ≡ part_told s.subject s.directory o b.owner x)) →
+        IsSomeAnd b (λ (b : Binding). IsSomeAnd (origin_of in_mapping b) (λ x. other ≡ part_told s.subject s.directory o b.owner x)) → one ≡ other
+    by None h k = absurd h
+    by (Some b) h k = of b (origin_of in_mapping b) h k
 
 -- the file of a rule is one
 told_once : (s : Search) (o : Outline) (component : Option ℕ) (one other : List ℕ) → IsToldIn s o component one → IsToldIn s o component other → one ≡ other
@@ -87,8 +107,10 @@ module _ (s : Search) (folder : FolderView) (at : List ℕ → Option (List ℕ)
         (refl, flawed_once IsStructure BreaksStructure folder at is (structure_path s.directory) flaw flaw2 a f),
   )
   no_outline_only flaw sys a others other (NoShape o taken shapes c rest flaw2 asked finding reach f asked_is finding_is) = absurd (no_outline o flaw sys a reach.outline)
-  no_outline_only flaw sys a others other (NoSystem o shapes component rule place ports path asked finding reach f told asked_is finding_is) = absurd (no_outline o flaw sys a reach.outline)
-  no_outline_only flaw sys a others other (Whole o shapes loaded asked finding reach f folders asked_is finding_is) = absurd (no_outline o flaw sys a reach.outline)
+  no_outline_only flaw sys a others other (NoSet o2 shapes2 taken2 given2 b2 rest2 files2 path2 flaw2 asked finding reach f asked_is finding_is) = absurd (no_outline o2 flaw sys a reach.reaches.outline)
+  no_outline_only flaw sys a others other (NoBinding o2 shapes2 given2 n2 in_mapping2 rule2 place2 path2 asked finding reach f told2 asked_is finding_is) = absurd (no_outline o2 flaw sys a reach.reaches.outline)
+  no_outline_only flaw sys a others other (NoSystem o2 shapes2 given2 bound2 component2 rule2 place2 ports2 path2 asked finding reach binds2 f told2 asked_is finding_is) = absurd (no_outline o2 flaw sys a reach.reaches.outline)
+  no_outline_only flaw sys a others other (Whole o2 shapes2 given2 loaded2 asked finding reach binds2 f folders2 asked_is finding_is) = absurd (no_outline o2 flaw sys a reach.reaches.outline)
 
   -- ---- components with a shape, or with a flaw
 
@@ -133,8 +155,10 @@ module _ (s : Search) (folder : FolderView) (at : List ℕ → Option (List ℕ)
           subst (Agree (Fails (model_path s.directory c) flaw)) (sym finding_is)
               (ap (model_path s.directory) stops.1, flawed_once (IsModel s.per_second) (BreaksModel s.per_second) folder at is (model_path s.directory c) flaw flaw2 lacks here),
         )
-    no_shape_only others other (NoSystem o2 shapes2 component rule place ports path asked finding reach f told asked_is finding_is) = absurd (not_all o2 shapes2 reach.outline reach.each)
-    no_shape_only others other (Whole o2 shapes2 loaded asked finding reach f folders asked_is finding_is) = absurd (not_all o2 shapes2 reach.outline reach.each)
+    no_shape_only others other (NoSet o2 shapes2 taken2 given2 b2 rest2 files2 path2 flaw2 asked finding reach f asked_is finding_is) = absurd (not_all o2 shapes2 reach.reaches.outline reach.reaches.each)
+    no_shape_only others other (NoBinding o2 shapes2 given2 n2 in_mapping2 rule2 place2 path2 asked finding reach f told2 asked_is finding_is) = absurd (not_all o2 shapes2 reach.reaches.outline reach.reaches.each)
+    no_shape_only others other (NoSystem o2 shapes2 given2 bound2 component2 rule2 place2 ports2 path2 asked finding reach binds2 f told2 asked_is finding_is) = absurd (not_all o2 shapes2 reach.reaches.outline reach.reaches.each)
+    no_shape_only others other (Whole o2 shapes2 given2 loaded2 asked finding reach binds2 f folders2 asked_is finding_is) = absurd (not_all o2 shapes2 reach.reaches.outline reach.reaches.each)
 
   -- ---- all descriptions are taken
 
@@ -161,33 +185,131 @@ module _ (s : Search) (folder : FolderView) (at : List ℕ → Option (List ℕ)
         let same = same_parts o2 shapes2 reach in
         subst (λ (x : Outline). P x shapes) (sym same.0) (subst (P o2) (sym same.1) p)
 
-    all_asked : (o2 : Outline) (shapes2 : List Shape) → Reaches s folder o2 o2.systems.components shapes2 [] → asked_for s o.systems.components ≡ asked_for s o2.systems.components
-    all_asked o2 shapes2 reach = ap (λ (x : Outline). asked_for s x.systems.components) (same_parts o2 shapes2 reach).0
+    -- ---- the bindings
 
-    pub no_system_only : (component : Option ℕ) (rule : Rule) (place : Place) (ports : List PortId) (path : List ℕ) → BreaksTogetherAlone o shapes component rule place ports →
-        IsToldIn s o component path → Agrees s folder (asked_for s o.systems.components) (Fails path (Faulty rule place ports))
-    no_system_only component rule place ports path a told others other (NoOutline flaw2 asked finding sys f asked_is finding_is) = absurd (outline_unflawed o flaw2 outline sys f)
-    no_system_only component rule place ports path a told others other (NoShape o2 taken2 shapes2 c2 rest2 flaw2 asked finding reach f asked_is finding_is) =
-        absurd (no_flaw o2 taken2 shapes2 c2 rest2 flaw2 reach f)
-    no_system_only component rule place ports path a told others other (NoSystem o2 shapes2 component2 rule2 place2 ports2 path2 asked finding reach f told2 asked_is finding_is) =
-        let only = a.only component2 rule2 place2 ports2 (back (λ x xs. BreaksTogether x xs component2 rule2 place2 ports2) o2 shapes2 reach f) in
-        let there : IsToldIn s o component path2 = subst (λ (n : Option ℕ). IsToldIn s o n path2) (sym only.0) (back (λ x xs. IsToldIn s x component2 path2) o2 shapes2 reach told2) in
-        (all_asked o2 shapes2 reach ∙ sym asked_is, subst (Agree (Fails path (Faulty rule place ports))) (sym finding_is) (told_once s o component path path2 told there, only.1))
-    no_system_only component rule place ports path a told others other (Whole o2 shapes2 loaded asked finding reach f folders asked_is finding_is) =
-        absurd (a.none loaded.system (back (λ x xs. Makes x xs loaded.system) o2 shapes2 reach f))
+    abbrev GoodBinding : Binding → Type 0
+    GoodBinding b = (given : GivenBinding) × IsGiven s.directory folder o b given
 
-    pub whole_only : (loaded : Loaded) → MakesAlone o shapes loaded.system → loaded.folders ≡ folders_of s.directory o → Agrees s folder (asked_for s o.systems.components) (Found loaded)
-    whole_only loaded a folders others other (NoOutline flaw2 asked finding sys f asked_is finding_is) = absurd (outline_unflawed o flaw2 outline sys f)
-    whole_only loaded a folders others other (NoShape o2 taken2 shapes2 c2 rest2 flaw2 asked finding reach f asked_is finding_is) = absurd (no_flaw o2 taken2 shapes2 c2 rest2 flaw2 reach f)
-    whole_only loaded a folders others other (NoSystem o2 shapes2 component2 rule2 place2 ports2 path2 asked finding reach f told2 asked_is finding_is) =
-        absurd (a.none component2 rule2 place2 ports2 (back (λ x xs. BreaksTogether x xs component2 rule2 place2 ports2) o2 shapes2 reach f))
-    whole_only loaded a folders others other (Whole o2 shapes2 loaded2 asked finding reach f folders2 asked_is finding_is) = (
-      all_asked o2 shapes2 reach ∙ sym asked_is,
-      subst (Agree (Found loaded)) (sym finding_is) (
-        a.only loaded2.system (back (λ x xs. Makes x xs loaded2.system) o2 shapes2 reach f),
-        folders ∙ sym (back (λ x xs. loaded2.folders ≡ folders_of s.directory x) o2 shapes2 reach folders2),
-      ),
-    )
+    abbrev BadBinding : Binding → Type 0
+    BadBinding b = (files : List (List ℕ)) × ((path : List ℕ) × ((flaw : Flaw) × LacksBinding s folder o b files path flaw))
+
+    bindings_sound : (bs : List Binding) (given : List GivenBinding) → AllZip (IsGivenAlone s.directory folder o) bs given → Each (λ b. BadBinding b → ⊥) bs
+    bindings_sound bs given a =
+        zip_left (IsGivenAlone s.directory folder o) (λ b. BadBinding b → ⊥) (λ b g h bad. given_sound s folder o b at is g bad.0 bad.1.0 bad.1.1.0 h bad.1.1.1) bs given a
+
+    bindings_good : (bs : List Binding) (given : List GivenBinding) → AllZip (IsGiven s.directory folder o) bs given → Each GoodBinding bs
+    bindings_good bs given f = zip_left (IsGiven s.directory folder o) GoodBinding (λ b g h. (g, h)) bs given f
+
+    -- ---- a binding isn't taken
+
+    module _ (taken : List Binding) (given : List GivenBinding) (b : Binding) (rest : List Binding) (files : List (List ℕ)) (path : List ℕ) (flaw : Flaw)
+        (bindings_are : o.systems.bindings ≡ taken ++ b ∷ rest) (gives : AllZip (IsGivenAlone s.directory folder o) taken given) (lacks : LacksBindingAlone s folder o b files path flaw) where
+      stop : GoodBinding b → ⊥
+      stop good = binding_stop s folder o b at is good.0 files path flaw lacks good.1
+
+      -- some bindings cannot all be taken
+      not_all_given : (o2 : Outline) (shapes2 : List Shape) (given2 : List GivenBinding) → ReachesBindings s folder o2 shapes2 o2.systems.bindings given2 [] → ⊥
+      not_all_given o2 shapes2 given2 reach =
+          let here = back (λ x xs. ReachesBindings s folder x xs x.systems.bindings given2 []) o2 shapes2 reach.reaches reach in
+          stop (each_in GoodBinding taken b rest (subst (Each GoodBinding) bindings_are (bindings_good o.systems.bindings given2 here.each)))
+
+      pub no_set_only : Agrees s folder (asked_with s o taken ++ files) (Fails path flaw)
+      no_set_only others other (NoOutline flaw2 asked finding sys f asked_is finding_is) = absurd (outline_unflawed o flaw2 outline sys f)
+      no_set_only others other (NoShape o2 taken2 shapes2 c2 rest2 flaw2 asked finding reach f asked_is finding_is) = absurd (no_flaw o2 taken2 shapes2 c2 rest2 flaw2 reach f)
+      no_set_only others other (NoSet o2 shapes2 taken2 given2 b2 rest2 files2 path2 flaw2 asked finding reach f asked_is finding_is) =
+          let here = back (λ x xs. ReachesBindings s folder x xs taken2 given2 (b2 ∷ rest2)) o2 shapes2 reach.reaches reach in
+          let bad : LacksBinding s folder o b2 files2 path2 flaw2 = back (λ x xs. LacksBinding s folder x b2 files2 path2 flaw2) o2 shapes2 reach.reaches f in
+          let is2 : asked ≡ asked_with s o taken2 ++ files2 = back (λ x xs. asked ≡ asked_with s x taken2 ++ files2) o2 shapes2 reach.reaches asked_is in
+          let stops = stops_once GoodBinding BadBinding taken taken2 b b2 rest rest2 (sym bindings_are ∙ here.is) (bindings_sound taken given gives) stop
+          (bindings_good taken2 given2 here.each) (files2, (path2, (flaw2, bad))) in
+          let once = binding_once s folder o b at is files files2 path path2 flaw flaw2 lacks (subst (λ (x : Binding). LacksBinding s folder o x files2 path2 flaw2) (sym stops.1) bad) in (
+            ap₂ (λ (bs : List Binding) (more : List (List ℕ)). asked_with s o bs ++ more) stops.0 once.0 ∙ sym is2,
+            subst (Agree (Fails path flaw)) (sym finding_is) (once.1, once.2),
+          )
+      no_set_only others other (NoBinding o2 shapes2 given2 n2 in_mapping2 rule2 place2 path2 asked finding reach f told2 asked_is finding_is) = absurd (not_all_given o2 shapes2 given2 reach)
+      no_set_only others other (NoSystem o2 shapes2 given2 bound2 component2 rule2 place2 ports2 path2 asked finding reach binds2 f told2 asked_is finding_is) = absurd (not_all_given o2 shapes2 given2 reach)
+      no_set_only others other (Whole o2 shapes2 given2 loaded2 asked finding reach binds2 f folders2 asked_is finding_is) = absurd (not_all_given o2 shapes2 given2 reach)
+
+    -- ---- all bindings are taken
+
+    module _ (given : List GivenBinding) (gives : AllZip (IsGivenAlone s.directory folder o) o.systems.bindings given) where
+      no_bad : (o2 : Outline) (shapes2 : List Shape) (taken2 : List Binding) (given2 : List GivenBinding) (b2 : Binding) (rest2 : List Binding) (files2 : List (List ℕ)) (path2 : List ℕ) (flaw2 : Flaw) →
+          ReachesBindings s folder o2 shapes2 taken2 given2 (b2 ∷ rest2) → LacksBinding s folder o2 b2 files2 path2 flaw2 → ⊥
+      no_bad o2 shapes2 taken2 given2 b2 rest2 files2 path2 flaw2 reach f =
+          let here = back (λ x xs. ReachesBindings s folder x xs taken2 given2 (b2 ∷ rest2)) o2 shapes2 reach.reaches reach in
+          let bad : LacksBinding s folder o b2 files2 path2 flaw2 = back (λ x xs. LacksBinding s folder x b2 files2 path2 flaw2) o2 shapes2 reach.reaches f in
+          each_in (λ x. BadBinding x → ⊥) taken2 b2 rest2 (subst (Each (λ x. BadBinding x → ⊥)) here.is (bindings_sound o.systems.bindings given gives)) (files2, (path2, (flaw2, bad)))
+
+      same_given : (given2 : List GivenBinding) → AllZip (IsGiven s.directory folder o) o.systems.bindings given2 → given ≡ given2
+      same_given given2 f =
+          zip_once (IsGivenAlone s.directory folder o) (IsGiven s.directory folder o) (λ b one other h k. given_once s folder o b at is one other h k) o.systems.bindings given given2 gives f
+
+      -- another outline with shapes and bindings is this one with these
+      all_back : (P : Outline → List Shape → List GivenBinding → Type 0) (o2 : Outline) (shapes2 : List Shape) (given2 : List GivenBinding) →
+          ReachesBindings s folder o2 shapes2 o2.systems.bindings given2 [] → P o2 shapes2 given2 → P o shapes given
+      all_back P o2 shapes2 given2 reach p =
+          let here = back (λ x xs. ReachesBindings s folder x xs x.systems.bindings given2 []) o2 shapes2 reach.reaches reach in
+          subst (P o shapes) (sym (same_given given2 here.each)) (back (λ x xs. P x xs given2) o2 shapes2 reach.reaches p)
+
+      all_asked : (o2 : Outline) (shapes2 : List Shape) (given2 : List GivenBinding) → ReachesBindings s folder o2 shapes2 o2.systems.bindings given2 [] →
+          asked_with s o o.systems.bindings ≡ asked_with s o2 o2.systems.bindings
+      all_asked o2 shapes2 given2 reach = all_back (λ x xs gs. asked_with s x x.systems.bindings ≡ asked_with s o2 o2.systems.bindings) o2 shapes2 given2 reach refl
+
+      pub no_binding_only : (n : ℕ) (in_mapping : Bool) (rule : Rule) (place : Place) (path : List ℕ) → BreaksBindingAlone o shapes given n in_mapping rule place →
+          IsBindingToldIn s o n in_mapping path → Agrees s folder (asked_with s o o.systems.bindings) (Fails path (Faulty rule place []))
+      no_binding_only n in_mapping rule place path a told others other (NoOutline flaw2 asked finding sys f asked_is finding_is) = absurd (outline_unflawed o flaw2 outline sys f)
+      no_binding_only n in_mapping rule place path a told others other (NoShape o2 taken2 shapes2 c2 rest2 flaw2 asked finding reach f asked_is finding_is) =
+          absurd (no_flaw o2 taken2 shapes2 c2 rest2 flaw2 reach f)
+      no_binding_only n in_mapping rule place path a told others other (NoSet o2 shapes2 taken2 given2 b2 rest2 files2 path2 flaw2 asked finding reach f asked_is finding_is) = absurd (no_bad o2 shapes2 taken2 given2 b2 rest2 files2 path2 flaw2 reach f)
+      no_binding_only n in_mapping rule place path a told others other (NoBinding o2 shapes2 given2 n2 in_mapping2 rule2 place2 path2 asked finding reach f told2 asked_is finding_is) =
+          let only = a.only n2 in_mapping2 rule2 place2 (all_back (λ x xs gs. BreaksBinding x xs gs n2 in_mapping2 rule2 place2) o2 shapes2 given2 reach f) in
+          let there = all_back (λ x xs gs. IsBindingToldIn s x n2 in_mapping2 path2) o2 shapes2 given2 reach told2 in
+          let here : IsBindingToldIn s o n in_mapping path2 =
+          subst (λ (m : ℕ). IsBindingToldIn s o m in_mapping path2) (sym only.0) (subst (λ (x : Bool). IsBindingToldIn s o n2 x path2) (sym only.1) there) in (
+            all_asked o2 shapes2 given2 reach ∙ sym asked_is,
+            subst (Agree (Fails path (Faulty rule place []))) (sym finding_is) (binding_told_once s o n in_mapping path path2 told here, (only.2, only.3)),
+          )
+      no_binding_only n in_mapping rule place path a told others other (NoSystem o2 shapes2 given2 bound2 component2 rule2 place2 ports2 path2 asked finding reach binds2 f told2 asked_is finding_is) = absurd (a.none bound2 (all_back (λ x xs gs. Binds x xs gs bound2) o2 shapes2 given2 reach binds2))
+      no_binding_only n in_mapping rule place path a told others other (Whole o2 shapes2 given2 loaded2 asked finding reach binds2 f folders2 asked_is finding_is) =
+          absurd (a.none loaded2.bound (all_back (λ x xs gs. Binds x xs gs loaded2.bound) o2 shapes2 given2 reach binds2))
+
+      module _ (bound : Bound) (binds : BindsAlone o shapes given bound) where
+        no_broken : (o2 : Outline) (shapes2 : List Shape) (given2 : List GivenBinding) (n2 : ℕ) (in_mapping2 : Bool) (rule2 : Rule) (place2 : Place) →
+            ReachesBindings s folder o2 shapes2 o2.systems.bindings given2 [] → BreaksBinding o2 shapes2 given2 n2 in_mapping2 rule2 place2 → ⊥
+        no_broken o2 shapes2 given2 n2 in_mapping2 rule2 place2 reach f =
+            binds.none n2 in_mapping2 rule2 place2 (all_back (λ x xs gs. BreaksBinding x xs gs n2 in_mapping2 rule2 place2) o2 shapes2 given2 reach f)
+
+        pub no_system_only : (component : Option ℕ) (rule : Rule) (place : Place) (ports : List PortId) (path : List ℕ) → BreaksTogetherAlone o shapes component rule place ports →
+            IsToldIn s o component path → Agrees s folder (asked_with s o o.systems.bindings) (Fails path (Faulty rule place ports))
+        no_system_only component rule place ports path a told others other (NoOutline flaw2 asked finding sys f asked_is finding_is) = absurd (outline_unflawed o flaw2 outline sys f)
+        no_system_only component rule place ports path a told others other (NoShape o2 taken2 shapes2 c2 rest2 flaw2 asked finding reach f asked_is finding_is) =
+            absurd (no_flaw o2 taken2 shapes2 c2 rest2 flaw2 reach f)
+        no_system_only component rule place ports path a told others other (NoSet o2 shapes2 taken2 given2 b2 rest2 files2 path2 flaw2 asked finding reach f asked_is finding_is) = absurd (no_bad o2 shapes2 taken2 given2 b2 rest2 files2 path2 flaw2 reach f)
+        no_system_only component rule place ports path a told others other (NoBinding o2 shapes2 given2 n2 in_mapping2 rule2 place2 path2 asked finding reach f told2 asked_is finding_is) = absurd (no_broken o2 shapes2 given2 n2 in_mapping2 rule2 place2 reach f)
+        no_system_only component rule place ports path a told others other (NoSystem o2 shapes2 given2 bound2 component2 rule2 place2 ports2 path2 asked finding reach binds2 f told2 asked_is finding_is) =
+            let only = a.only component2 rule2 place2 ports2 (all_back (λ x xs gs. BreaksTogether x xs component2 rule2 place2 ports2) o2 shapes2 given2 reach f) in
+            let there : IsToldIn s o component path2 =
+            subst (λ (n : Option ℕ). IsToldIn s o n path2) (sym only.0) (all_back (λ x xs gs. IsToldIn s x component2 path2) o2 shapes2 given2 reach told2) in (
+              all_asked o2 shapes2 given2 reach ∙ sym asked_is,
+              subst (Agree (Fails path (Faulty rule place ports))) (sym finding_is) (told_once s o component path path2 told there, only.1),
+            )
+        no_system_only component rule place ports path a told others other (Whole o2 shapes2 given2 loaded2 asked finding reach binds2 f folders2 asked_is finding_is) = absurd (a.none loaded2.system (all_back (λ x xs gs. Makes x xs loaded2.system) o2 shapes2 given2 reach f))
+
+      pub whole_only : (loaded : Loaded) → IsLoaded s.directory o shapes given loaded → Agrees s folder (asked_with s o o.systems.bindings) (Found loaded)
+      whole_only loaded a others other (NoOutline flaw2 asked finding sys f asked_is finding_is) = absurd (outline_unflawed o flaw2 outline sys f)
+      whole_only loaded a others other (NoShape o2 taken2 shapes2 c2 rest2 flaw2 asked finding reach f asked_is finding_is) = absurd (no_flaw o2 taken2 shapes2 c2 rest2 flaw2 reach f)
+      whole_only loaded a others other (NoSet o2 shapes2 taken2 given2 b2 rest2 files2 path2 flaw2 asked finding reach f asked_is finding_is) = absurd (no_bad o2 shapes2 taken2 given2 b2 rest2 files2 path2 flaw2 reach f)
+      whole_only loaded a others other (NoBinding o2 shapes2 given2 n2 in_mapping2 rule2 place2 path2 asked finding reach f told2 asked_is finding_is) = absurd (no_broken loaded.bound a.binds o2 shapes2 given2 n2 in_mapping2 rule2 place2 reach f)
+      whole_only loaded a others other (NoSystem o2 shapes2 given2 bound2 component2 rule2 place2 ports2 path2 asked finding reach binds2 f told2 asked_is finding_is) =
+          absurd (a.makes.none component2 rule2 place2 ports2 (all_back (λ x xs gs. BreaksTogether x xs component2 rule2 place2 ports2) o2 shapes2 given2 reach f))
+      whole_only loaded a others other (Whole o2 shapes2 given2 loaded2 asked finding reach binds2 f folders2 asked_is finding_is) = (
+        all_asked o2 shapes2 given2 reach ∙ sym asked_is,
+        subst (Agree (Found loaded)) (sym finding_is) (
+          a.makes.only loaded2.system (all_back (λ x xs gs. Makes x xs loaded2.system) o2 shapes2 given2 reach f),
+          a.binds.only loaded2.bound (all_back (λ x xs gs. Binds x xs gs loaded2.bound) o2 shapes2 given2 reach binds2),
+          a.folders ∙ sym (all_back (λ x xs gs. loaded2.folders ≡ folders_of s.directory x) o2 shapes2 given2 reach folders2),
+        ),
+      )
 
 -- ---- alone
 
@@ -216,20 +338,53 @@ no_shape_alone s folder o taken shapes c rest flaw a lacks = record {
       (λ at is. no_shape_only s folder at is o taken shapes c rest flaw a lacks);
 }
 
-pub no_system_alone : (s : Search) (folder : FolderView) (o : Outline) (shapes : List Shape) (component : Option ℕ) (rule : Rule) (place : Place) (ports : List PortId) (path : List ℕ) →
-    OutlinesAlone s.subject s.directory folder o → AllZip (HasShapeAlone s.per_second s.directory folder) o.systems.components shapes →
-    BreaksTogetherAlone o shapes component rule place ports → IsToldIn s o component path →
-    ComesAlone s folder (asked_for s o.systems.components) (Fails path (Faulty rule place ports))
-no_system_alone s folder o shapes component rule place ports path outline each a told = record {
-  comes = NoSystem o shapes component rule place ports path _ _ (reached s folder o o.systems.components shapes [] (reached_all s folder o shapes outline each)) a.broken told refl refl;
-  only = known folder (Agrees s folder (asked_for s o.systems.components) (Fails path (Faulty rule place ports)))
-      (λ at is. no_system_only s folder at is o shapes outline each component rule place ports path a told);
+-- the outline has these shapes, and the first bindings give what they give alone
+pub record ReachesBindingsAlone (s : Search) (folder : FolderView) (o : Outline) (shapes : List Shape) (taken : List Binding) (given : List GivenBinding) (rest : List Binding) : Type 0 where
+  pub outline : OutlinesAlone s.subject s.directory folder o
+  pub shaped : AllZip (HasShapeAlone s.per_second s.directory folder) o.systems.components shapes
+  pub is : o.systems.bindings ≡ taken ++ rest
+  pub each : AllZip (IsGivenAlone s.directory folder o) taken given
+
+pub reached_bindings : (s : Search) (folder : FolderView) (o : Outline) (shapes : List Shape) (taken : List Binding) (given : List GivenBinding) (rest : List Binding) →
+    ReachesBindingsAlone s folder o shapes taken given rest → ReachesBindings s folder o shapes taken given rest
+reached_bindings s folder o shapes taken given rest a = record {
+  reaches = reached s folder o o.systems.components shapes [] (reached_all s folder o shapes a.outline a.shaped);
+  is = a.is;
+  each = zip_then (IsGivenAlone s.directory folder o) (IsGiven s.directory folder o) (λ b g h. is_given s folder o b g h) taken given a.each;
 }
 
-pub whole_alone : (s : Search) (folder : FolderView) (o : Outline) (shapes : List Shape) (loaded : Loaded) →
-    OutlinesAlone s.subject s.directory folder o → AllZip (HasShapeAlone s.per_second s.directory folder) o.systems.components shapes →
-    MakesAlone o shapes loaded.system → loaded.folders ≡ folders_of s.directory o → ComesAlone s folder (asked_for s o.systems.components) (Found loaded)
-whole_alone s folder o shapes loaded outline each a folders = record {
-  comes = Whole o shapes loaded _ _ (reached s folder o o.systems.components shapes [] (reached_all s folder o shapes outline each)) a.is folders refl refl;
-  only = known folder (Agrees s folder (asked_for s o.systems.components) (Found loaded)) (λ at is. whole_only s folder at is o shapes outline each loaded a folders);
+pub no_set_alone : (s : Search) (folder : FolderView) (o : Outline) (shapes : List Shape) (taken : List Binding) (given : List GivenBinding) (b : Binding) (rest : List Binding)
+    (files : List (List ℕ)) (path : List ℕ) (flaw : Flaw) → ReachesBindingsAlone s folder o shapes taken given (b ∷ rest) → LacksBindingAlone s folder o b files path flaw →
+    ComesAlone s folder (asked_with s o taken ++ files) (Fails path flaw)
+no_set_alone s folder o shapes taken given b rest files path flaw a lacks = record {
+  comes = NoSet o shapes taken given b rest files path flaw _ _ (reached_bindings s folder o shapes taken given (b ∷ rest) a) (lacks_binding s folder o b files path flaw lacks) refl refl;
+  only = known folder (Agrees s folder (asked_with s o taken ++ files) (Fails path flaw))
+      (λ at is. no_set_only s folder at is o shapes a.outline a.shaped taken given b rest files path flaw a.is a.each lacks);
 }
+
+-- all bindings give what they give alone
+module _ (s : Search) (folder : FolderView) (o : Outline) (shapes : List Shape) (given : List GivenBinding) (a : ReachesBindingsAlone s folder o shapes o.systems.bindings given []) where
+  reach_all : ReachesBindings s folder o shapes o.systems.bindings given []
+  reach_all = reached_bindings s folder o shapes o.systems.bindings given [] a
+
+  pub no_binding_alone : (n : ℕ) (in_mapping : Bool) (rule : Rule) (place : Place) (path : List ℕ) → BreaksBindingAlone o shapes given n in_mapping rule place →
+      IsBindingToldIn s o n in_mapping path → ComesAlone s folder (asked_with s o o.systems.bindings) (Fails path (Faulty rule place []))
+  no_binding_alone n in_mapping rule place path broken told = record {
+    comes = NoBinding o shapes given n in_mapping rule place path _ _ reach_all broken.broken told refl refl;
+    only = known folder (Agrees s folder (asked_with s o o.systems.bindings) (Fails path (Faulty rule place [])))
+        (λ at is. no_binding_only s folder at is o shapes a.outline a.shaped given a.each n in_mapping rule place path broken told);
+  }
+
+  pub no_system_alone : (bound : Bound) (component : Option ℕ) (rule : Rule) (place : Place) (ports : List PortId) (path : List ℕ) → BindsAlone o shapes given bound →
+      BreaksTogetherAlone o shapes component rule place ports → IsToldIn s o component path → ComesAlone s folder (asked_with s o o.systems.bindings) (Fails path (Faulty rule place ports))
+  no_system_alone bound component rule place ports path binds broken told = record {
+    comes = NoSystem o shapes given bound component rule place ports path _ _ reach_all binds.is broken.broken told refl refl;
+    only = known folder (Agrees s folder (asked_with s o o.systems.bindings) (Fails path (Faulty rule place ports)))
+        (λ at is. no_system_only s folder at is o shapes a.outline a.shaped given a.each bound binds component rule place ports path broken told);
+  }
+
+  pub whole_alone : (loaded : Loaded) → IsLoaded s.directory o shapes given loaded → ComesAlone s folder (asked_with s o o.systems.bindings) (Found loaded)
+  whole_alone loaded l = record {
+    comes = Whole o shapes given loaded _ _ reach_all l.binds.is l.makes.is l.folders refl refl;
+    only = known folder (Agrees s folder (asked_with s o o.systems.bindings) (Found loaded)) (λ at is. whole_only s folder at is o shapes a.outline a.shaped given a.each loaded l);
+  }

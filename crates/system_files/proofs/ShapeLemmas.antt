@@ -2,7 +2,7 @@
 use Rattle.std.proofs.Common.{◌≡◌, ◌<◌, ◌≤◌, ◌+◌, ℕ, zero, suc, List, [], ◌∷◌, ◌++◌, length, map, take, drop, get_or, Option, Some, refl, sym, ap, ◌∙◌, subst, inl, inr, arith, append_assoc, append-nil}
 use Rattle.std.specs.Prelude.{slice_get}
 use Rattle.std.specs.List.{AllZip}
-use Rattle.std.proofs.lemmas.List.{drop_more, length-take-le, map-append, take-append-drop, take_more}
+use Rattle.std.proofs.lemmas.List.{length-take-le, map-append, take-append-drop}
 use Rattle.std.proofs.lemmas.Slice.Zip.{AllZip-long}
 use Rattle.sim_base.specs.Folder.{FolderView}
 use Rattle.value_types.specs.declared.shape.Shape.{Shape}
@@ -14,7 +14,7 @@ use Rattle.system_files.specs.declared.loading.LoadEnd.TheVariants as end
 use Rattle.system_files.specs.Files.{Holds, first_uses, with_all_asked}
 use Rattle.system_files.specs.Order.{model_path}
 use Rattle.system_files.specs.Steps.{AtShape, Copied, EndsAt, EndsNext, EndsShapes, FailsModel, HasShapeAlone, IsNew, NoCopy, NoRead, NoShapeRoom, Read, TakesNext, paths_of}
-use Rattle.system_files.proofs.ListLemmas.{zip_push}
+use Rattle.system_files.proofs.ListLemmas.{one_more, parted, zip_push}
 use Rattle.system_files.proofs.UseLemmas.{IsAmong, new_path, same_path, uses_new, uses_seen}
 
 -- nothing was asked for
@@ -75,15 +75,6 @@ module _ (per_second : ℕ) (directory : List ℕ) (old : FolderView) where
         AtShape taken shapes c rest refl each (paths_new is_new) (subst (λ (v : FolderView). EndsAt (FailsModel per_second) (model_path directory c) ended v new) told h)
 
 -- ---- by places in the list
-
--- the list up to an element, the element, and the rest
-parted : (components : List ComponentPart) (n : ℕ) (c : ComponentPart) → n < length components → c ≡ get_or components n c → components ≡ take n components ++ c ∷ drop (n + 1) components
-parted components n c below is =
-    sym (take-append-drop n components) ∙ ap (λ (cs : List ComponentPart). take n components ++ cs)
-    (drop_more components n c below ∙ ap (λ (x : ComponentPart). x ∷ drop (n + 1) components) (sym is))
-
-one_more : (components : List ComponentPart) (n : ℕ) (c : ComponentPart) → n < length components → c ≡ get_or components n c → take n components ++ c ∷ [] ≡ take (n + 1) components
-one_more components n c below is = ap (λ (x : ComponentPart). take n components ++ x ∷ []) is ∙ sym (take_more components n c below)
 
 module _ (per_second : ℕ) (directory : List ℕ) (old mid : FolderView) (components : List ComponentPart) (n : ℕ) (c : ComponentPart) (shapes : List Shape)
     (below : n < length components) (is : c ≡ get_or components n c) (each : AllZip (HasShapeAlone per_second directory old) (take n components) shapes)

@@ -1,7 +1,8 @@
 -- What is taken is sound, and its names are short.
-use Rattle.std.proofs.Common.{◌≡◌, ℕ, zero, suc, ◌<◌, ◌≤◌, ◌^◌, Bool, List, [], ◌∷◌, length, Option, Some, None, IfSome, refl, sym, ap, subst, arith}
-use Rattle.std.specs.Prelude.{All, slice_get}
+use Rattle.std.proofs.Common.{◌≡◌, ℕ, zero, suc, ◌<◌, ◌≤◌, ◌^◌, Bool, List, [], ◌∷◌, length, Option, Some, None, IfSome, refl, sym, ap, ◌∙◌, ◌+◌, ◌*◌, subst, arith}
+use Rattle.std.specs.Prelude.{All, IsSome, IsSomeAnd, false, slice_get}
 use Rattle.std.specs.List.{AllZip, position}
+use Rattle.std.specs.Option.{option_map}
 use Rattle.std.proofs.lemmas.List.Elements.{All-cons, All-nil}
 use Rattle.std.proofs.lemmas.List.Quantifiers.{position-Some}
 use Rattle.std.proofs.lemmas.Slice.Zip.{AllZip-long}
@@ -16,18 +17,41 @@ use Rattle.doc_tree.specs.declared.place.Place.{Place}
 use Rattle.doc_tree.specs.declared.rule.Rule.{Rule}
 use Rattle.ssd_tree.specs.declared.tree.ComponentPart.{ComponentPart}
 use Rattle.ssd_tree.specs.declared.tree.SystemTree.{SystemTree}
+use Rattle.doc_grammar.specs.Nodes.{Node}
+use Rattle.doc_tree.specs.declared.rule.ParameterRule.{ParameterRule}
+use Rattle.doc_tree.specs.declared.rule.ParameterRule.TheVariants as p
 use Rattle.flatten.specs.Given.{AreShapesOf, IsWhole}
+use Rattle.parameter_binding.specs.declared.sets.BindingSets.{BindingSets}
+use Rattle.parameter_binding.specs.declared.sets.MappingOf.{MappingOf}
+use Rattle.parameter_binding.specs.Binds.{Triple, mapping_of}
+use Rattle.parameter_binding.specs.Rules as rules
+use Rattle.parameter_targets.specs.Named.{IsNamedTree}
+use Rattle.parameter_values.specs.Ranges.{AreInRange}
+use Rattle.parameter_values.specs.declared.set.Mapping.{Mapping}
+use Rattle.ssd_tree.specs.declared.tree.Binding.{Binding}
+use Rattle.ssd_tree.specs.declared.tree.Origin.{Origin}
+use Rattle.ssd_tree.specs.declared.tree.Owner.{Owner}
+use Rattle.system_model.specs.declared.bound.Bound.{Bound}
+use Rattle.system_model.specs.declared.bound.BoundValue.{BoundValue}
+use Rattle.system_model.specs.Bounds.{AreParameterValues, BindsParameters}
 use Rattle.system_loading.specs.declared.assembly.AssemblyFault.{AssemblyFault}
 use Rattle.system_loading.specs.declared.assembly.AssemblyFault.TheVariants as together
 use Rattle.system_loading.specs.declared.outline.Outline.{Outline}
-use Rattle.system_loading.specs.Assembly.{BreaksTogether, ByBinding, ByLoop, ByPart, ByShape, Makes, is_unbuilt}
+use Rattle.system_loading.specs.Assembly.{BreaksTogether, ByLoop, ByPart, ByShape, Makes, is_unbuilt}
 use Rattle.system_loading.specs.Faults.{TellsTogether}
-use Rattle.system_loading.specs.Outlines.{lone_name, lone_tree}
+use Rattle.system_loading.specs.declared.binding.BindingFault.{BindingFault}
+use Rattle.system_loading.specs.declared.binding.BindingFault.TheVariants as binds
+use Rattle.system_loading.specs.declared.parameters.GivenBinding.{GivenBinding}
+use Rattle.system_loading.specs.declared.parameters.GivenMapping.{GivenMapping}
+use Rattle.system_loading.specs.Binding.{AreReady, TellsBinding, sets_at, sets_from, sets_of}
+use Rattle.system_loading.specs.Outlines.{lone_name, lone_outline, lone_tree}
 use Rattle.system_loading.specs.Readings.{IsModel, IsStructure}
 use Rattle.system_files.specs.declared.subject.Subject.{Subject}
 use Rattle.system_files.specs.declared.subject.Subject.TheVariants as what
 use Rattle.system_files.specs.Loads.{IsNamed}
-use Rattle.system_files.specs.Steps.{HasComponent, HasShapeAlone, OutlinesAlone}
+use Rattle.system_files.specs.Steps.{HasBindingPart, HasComponent, HasDocument, HasParts, HasShapeAlone, IsGivenAlone, IsMappingAlone, OutlinesAlone}
+use Rattle.system_files.specs.Order.{origin_of}
+use Rattle.system_files.proofs.ListLemmas.{zip_then}
 
 -- the partner of an element
 zip_at : {X Y : Type 0} (R : X → Y → Type 0) (xs : List X) (ys : List Y) → AllZip R xs ys → (k : ℕ) (y : Y) → slice_get ys k ≡ Some y → (x : X) × (slice_get xs k ≡ Some x) × R x y
@@ -57,6 +81,18 @@ outline_short law what.Fmu directory folder o a =
     (All-nil (λ (c : ComponentPart). length c.name ≤ 2 ^ 24)))
 outline_short law what.System directory folder o a = all_by_place (λ (c : ComponentPart). length c.name ≤ 2 ^ 24) o.systems.components
     (λ k c at. within (length c.name) (length a.2.0) (all_at (λ (c : ComponentPart). length c.name ≤ length a.2.0) o.systems.components k c (law a.2.0 o a.2.3.is) at) a.2.2)
+
+pub outline_named : ((bytes : List ℕ) (o : Outline) → IsStructure bytes o → IsNamedTree o.systems) → IsNamedTree lone_tree →
+    (subject : Subject) (directory : List ℕ) (folder : FolderView) (o : Outline) → OutlinesAlone subject directory folder o → IsNamedTree o.systems
+outline_named law lone what.Fmu directory folder o a = subst (λ (x : Outline). IsNamedTree x.systems) (sym a) lone
+outline_named law lone what.System directory folder o a = law a.2.0 o a.2.3.is
+
+none_below : HasDocument lone_outline
+none_below n below = absurd (omega (arith, below))
+
+pub outline_document : (subject : Subject) (directory : List ℕ) (folder : FolderView) (o : Outline) → OutlinesAlone subject directory folder o → HasDocument o
+outline_document what.Fmu directory folder o a = subst HasDocument (sym a) none_below
+outline_document what.System directory folder o a = λ n below. subst (λ (d : Option (List Node)). IsSome d) (sym a.2.3.is.describes.0) refl
 
 -- ---- the shapes
 
@@ -111,7 +147,120 @@ has_component o shapes (together.Broken component rule place ports) len told = b
         IfSome component (λ n. n < length o.systems.components)
     by component rule place ports (ByPart c node r p l first is at none) = here component is
     by component rule place ports (ByLoop c node r p l unordered loop is rule_is at) = here component is
-    by component rule place ports (ByBinding c binding rest r p l ordered bound is rule_is at none) = here component is
-    by component rule place ports (ByShape c first r p l ordered unbound found is rule_is at none) =
+    by component rule place ports (ByShape c first r p l ordered found is rule_is at none) =
         subst (λ (n : Option ℕ). IfSome n (λ n. n < length o.systems.components)) (sym is) (subst (λ (m : ℕ). first < m) len (position_below is_unbuilt shapes first found))
 has_component o shapes together.Memory len told = tt
+
+-- ---- what the bindings give
+
+sets_long : (n : ℕ) (given : List GivenBinding) → length (sets_from n given) ≡ length given
+sets_long n [] = refl
+sets_long n (g ∷ given) = ap suc (sets_long (suc n) given)
+
+sets_in_range : (directory : List ℕ) (folder : FolderView) (o : Outline) (n : ℕ) (bs : List Binding) (given : List GivenBinding) → AllZip (IsGivenAlone directory folder o) bs given →
+    All (λ (sets : BindingSets). AreInRange sets.values.set) (sets_from n given)
+sets_in_range directory folder o n [] [] each = All-nil (λ (sets : BindingSets). AreInRange sets.values.set)
+sets_in_range directory folder o n [] (g ∷ given) each = absurd each
+sets_in_range directory folder o n (b ∷ bs) [] each = absurd each
+sets_in_range directory folder o n (b ∷ bs) (g ∷ given) each =
+    All-cons (λ (sets : BindingSets). AreInRange sets.values.set) (sets_at n g) (sets_from (suc n) given) each.0.range (sets_in_range directory folder o (suc n) bs given each.1)
+
+pub are_ready : (directory : List ℕ) (folder : FolderView) (o : Outline) (shapes : List Shape) (given : List GivenBinding) → IsNamedTree o.systems → AreShapesOf o.systems shapes →
+    AllZip (IsGivenAlone directory folder o) o.systems.bindings given → AreReady o shapes given
+are_ready directory folder o shapes given tree a each = record {
+  tree = tree;
+  shapes_len = a.len;
+  sound = a.sound;
+  sets_len = sets_long 0 given ∙ AllZip-long (IsGivenAlone directory folder o) o.systems.bindings given each;
+  ranges = sets_in_range directory folder o 0 o.systems.bindings given each;
+}
+
+mapping_there : (directory : List ℕ) (folder : FolderView) (o : Outline) (owner : Owner) (origin : Option Origin) (given : Option GivenMapping) →
+    IsMappingAlone directory folder o owner origin given → IsSome given → IsSome origin
+mapping_there directory folder o owner None None h some = some
+mapping_there directory folder o owner None (Some given) h some = absurd h
+mapping_there directory folder o owner (Some origin) given h some = refl
+
+pub has_parts : (directory : List ℕ) (folder : FolderView) (o : Outline) (bs : List Binding) (given : List GivenBinding) → AllZip (IsGivenAlone directory folder o) bs given → HasParts bs given
+has_parts directory folder o bs given each =
+    zip_then (IsGivenAlone directory folder o) (λ (b : Binding) (g : GivenBinding). IsSome g.mapping → IsSome b.mapping)
+    (λ b g h some. mapping_there directory folder o b.owner b.mapping g.mapping h.mapping some) bs given each
+
+-- ---- rules of what they give
+
+mapped : (n : ℕ) (g : GivenBinding) → IsSome (mapping_of (sets_at n g)) → IsSome g.mapping
+mapped n g some = by g.mapping some
+  where
+    by : (m : Option GivenMapping) → IsSome (option_map (λ (x : MappingOf). x.mapping) (option_map (λ (x : GivenMapping). record { file = 2 * n + 1; mapping = x.mapping }) m)) → IsSome m
+    by None some = some
+    by (Some x) some = refl
+
+mapping_at : (n k : ℕ) (bs : List Binding) (given : List GivenBinding) (b : Binding) (sets : BindingSets) → HasParts bs given → slice_get bs k ≡ Some b →
+    slice_get (sets_from n given) k ≡ Some sets → IsSome (mapping_of sets) → IsSome b.mapping
+mapping_at n k [] [] b sets parts at has some = absurd (cc)
+mapping_at n k [] (g ∷ given) b sets parts at has some = absurd parts
+mapping_at n k (c ∷ bs) [] b sets parts at has some = absurd parts
+mapping_at n zero (c ∷ bs) (g ∷ given) b sets parts at has some =
+    let same : c ≡ b = cc in
+    let here : sets ≡ sets_at n g = cc in
+    subst (λ (x : Binding). IsSome x.mapping) same (parts.0 (mapped n g (subst (λ (x : BindingSets). IsSome (mapping_of x)) here some)))
+mapping_at n (suc k) (c ∷ bs) (g ∷ given) b sets parts at has some = mapping_at (suc n) k bs given b sets parts.1 at has some
+
+-- the part of a binding in which a fault is told is there
+pub has_binding_part : (o : Outline) (shapes : List Shape) (given : List GivenBinding) (fault : BindingFault) → HasParts o.systems.bindings given → TellsBinding o shapes given fault → HasBindingPart o fault
+has_binding_part o shapes given binds.Memory parts told = tt
+has_binding_part o shapes given (binds.Broken n in_mapping rule place) parts told =
+    let e = told.broken in
+    subst (λ (k : ℕ). IsSomeAnd (slice_get o.systems.bindings k) (λ (b : Binding). IsSome (origin_of in_mapping b))) (sym e.binding_is)
+    (subst (λ (m : Bool). IsSomeAnd (slice_get o.systems.bindings e.at.binding) (λ (b : Binding). IsSome (origin_of m b))) (sym e.mapping_is)
+    (by e.broken e.at e.first.broken.0 e.first.broken.1))
+  where
+    There : rules.Place → Type 0
+    There at = IsSomeAnd (slice_get o.systems.bindings at.binding) (λ (b : Binding). IsSome (origin_of at.in_mapping b))
+
+    set_there : (at : rules.Place) (k : ℕ) (b : Binding) → slice_get o.systems.bindings k ≡ Some b → k ≡ at.binding → at.in_mapping ≡ false → There at
+    set_there at k b is same in_set =
+        subst (λ (m : Bool). IsSomeAnd (slice_get o.systems.bindings at.binding) (λ (b : Binding). IsSome (origin_of m b))) (sym in_set)
+        (subst (λ (j : ℕ). IsSomeAnd (slice_get o.systems.bindings j) (λ (b : Binding). IsSome (Some b.values))) same
+        (subst (λ (x : Option Binding). IsSomeAnd x (λ (b : Binding). IsSome (Some b.values))) (sym is) refl))
+
+    some_mapping : (m : Option Mapping) (x : Mapping) → m ≡ Some x → IsSome m
+    some_mapping m x e = subst (λ (y : Option Mapping). IsSome y) (sym e) refl
+
+    by : (rule : ParameterRule) (at : rules.Place) (c : Triple) → rules.Breaks o.systems shapes (sets_of given) rule at c → There at
+    by p.Structure at c h = absurd h
+    by p.Incomplete at c h = absurd h
+    by p.OtherClass at c h = set_there at c.binding h.of.reaches.binding h.of.reaches.is.is h.binding h.in_set
+    by p.OutOfRange at c h = set_there at c.binding h.of.reaches.binding h.of.reaches.is.is h.binding h.in_set
+    by p.NoMapEntry at c h = set_there at c.binding h.of.reaches.binding h.of.reaches.is.is h.binding h.in_set
+    by p.NamesTwo at c h = set_there at c.binding h.reaches.binding h.reaches.is.is h.binding h.in_set
+    by p.Transformation at c h =
+        let b = h.of.reaches.binding in
+        let there : IsSome b.mapping =
+        mapping_at 0 c.binding o.systems.bindings given b h.of.reaches.is.given parts h.of.reaches.is.is h.of.reaches.is.has (some_mapping (mapping_of h.of.reaches.is.given) h.mapping h.has) in
+        subst (λ (m : Bool). IsSomeAnd (slice_get o.systems.bindings at.binding) (λ (b : Binding). IsSome (origin_of m b))) (sym h.in_mapping)
+        (subst (λ (j : ℕ). IsSomeAnd (slice_get o.systems.bindings j) (λ (b : Binding). IsSome b.mapping)) h.binding
+        (subst (λ (x : Option Binding). IsSomeAnd x (λ (b : Binding). IsSome b.mapping)) (sym h.of.reaches.is.is) there))
+
+-- ---- the values
+
+each_bound : (components : List Component) (shapes : List Shape) (values : List (List BoundValue)) → length components ≡ length shapes →
+    ((k : ℕ) (c : Component) → slice_get components k ≡ Some c → slice_get shapes k ≡ Some c.shape) → AllZip AreParameterValues shapes values →
+    AllZip (λ (c : Component) (v : List BoundValue). AreParameterValues c.shape v) components values
+each_bound [] [] [] len at each = tt
+each_bound [] [] (v ∷ values) len at each = absurd each
+each_bound [] (s ∷ shapes) values len at each = absurd (cc)
+each_bound (c ∷ components) [] values len at each = absurd (cc)
+each_bound (c ∷ components) (s ∷ shapes) [] len at each = absurd each
+each_bound (c ∷ components) (s ∷ shapes) (v ∷ values) len at each =
+    let here = at 0 c refl in
+    let same : s ≡ c.shape = cc in
+    let less : length components ≡ length shapes = omega (arith, len) in
+    (subst (λ (x : Shape). AreParameterValues x v) same each.0, each_bound components shapes values less (λ k d is. at (suc k) d is) each.1)
+
+-- the values of the shapes are those of the components
+pub binds_parameters : (o : Outline) (shapes : List Shape) (system : System) (bound : Bound) → length shapes ≡ length o.systems.components → Makes o shapes system →
+    AllZip AreParameterValues shapes bound.components → BindsParameters system bound
+binds_parameters o shapes system bound len makes each =
+    each_bound system.components shapes bound.components (makes.flattens.flat.components.len ∙ sym len)
+    (λ k c at. (makes.flattens.flat.components.each k c at).shape) each

@@ -1,17 +1,30 @@
--- The order of reading: what the files in a directory come to (SSP 1.0, SystemStructure.ssd; FMI 3.0, 2.4). First the structure of the system, then the
--- description of each FMU in the order of its first use, then the rules that they break together.
-use Rattle.std.specs.Prelude.{◌≡◌, ℕ, ◌==◌, if◌then◌else◌, List, [], ◌∷◌, ◌++◌, length, map, Option, Some, None, IfSome, IsSomeAnd, slice_get}
-use Rattle.std.specs.List.{AllZip}
+-- The order of reading: what the files in a directory come to (SSP 1.0, SystemStructure.ssd, SSV and SSM; FMI 3.0, 2.4). First the structure of the system,
+-- then the description of each FMU in the order of its first use, then the values and the mapping of each binding, then the rules that they break together.
+use Rattle.std.specs.Prelude.{◌≡◌, ℕ, Bool, true, false, ◌==◌, if◌then◌else◌, List, [], ◌∷◌, ◌++◌, length, map, Option, Some, None, IfSome, IsSomeAnd, slice_get}
+use Rattle.std.specs.List.{AllZip, flat_map}
+use Rattle.std.specs.Option.{option_map_or}
 use Rattle.sim_base.specs.Folder.{FolderView}
 use Rattle.sim_base.specs.declared.numbers.PortId.{PortId}
 use Rattle.value_types.specs.declared.shape.Shape.{Shape}
+use Rattle.system_model.specs.declared.bound.Bound.{Bound}
 use Rattle.doc_tree.specs.declared.place.Place.{Place}
 use Rattle.doc_tree.specs.declared.rule.Rule.{Rule}
+use Rattle.ssd_tree.specs.declared.tree.Binding.{Binding}
 use Rattle.ssd_tree.specs.declared.tree.ComponentPart.{ComponentPart}
+use Rattle.ssd_tree.specs.declared.tree.Origin.{Origin}
+use Rattle.ssd_tree.specs.declared.tree.Origin.TheVariants.{File, Inline}
+use Rattle.ssd_tree.specs.declared.tree.Owner.{Owner}
+use Rattle.ssd_tree.specs.declared.tree.Owner.TheVariants as owner
+use Rattle.ssd_tree.specs.declared.tree.SourceBase.{SourceBase}
+use Rattle.ssd_tree.specs.declared.tree.SourceBase.TheVariants as base
 use Rattle.system_loading.specs.declared.outline.Outline.{Outline}
+use Rattle.system_loading.specs.declared.parameters.GivenBinding.{GivenBinding}
+use Rattle.system_loading.specs.declared.parameters.GivenMapping.{GivenMapping}
+use Rattle.system_loading.specs.declared.parameters.GivenSet.{GivenSet}
 use Rattle.system_loading.specs.Assembly.{BreaksTogether, HaveSameParts, Makes}
+use Rattle.system_loading.specs.Binding as parameters
 use Rattle.system_loading.specs.Outlines.{lone_outline}
-use Rattle.system_loading.specs.Readings.{BreaksModel, BreaksStructure, IsModel, IsStructure}
+use Rattle.system_loading.specs.Readings.{BreaksMapping, BreaksMappingWithin, BreaksModel, BreaksStructure, BreaksValues, BreaksValuesWithin, IsMapping, IsMappingWithin, IsModel, IsStructure, IsValues, IsValuesWithin}
 use Rattle.system_files.specs.declared.subject.Subject.{Subject}
 use Rattle.system_files.specs.declared.subject.Subject.TheVariants as what
 use Rattle.system_files.specs.declared.loaded.Loaded.{Loaded}
@@ -69,6 +82,90 @@ pub record Reaches (s : Search) (folder : FolderView) (o : Outline) (taken : Lis
   pub is : o.systems.components ≡ taken ++ rest
   pub each : AllZip (HasShape s folder) taken shapes
 
+-- ---- the bindings
+
+-- the folder below which a part of a binding stands: that of the system, or of the FMU of the component that it is a binding of
+abbrev pub base_folder : List ℕ → Outline → Owner → SourceBase → List ℕ
+base_folder directory o owner base.Description = directory
+base_folder directory o (owner.System place) base.Component = directory
+base_folder directory o (owner.Component place) base.Component = option_map_or (folder_of directory) (slice_get o.systems.components place) directory
+
+abbrev pub part_path : List ℕ → Outline → Owner → SourceBase → List ℕ → List ℕ
+part_path directory o owner base path = base_folder directory o owner base ++ 47 ∷ path
+
+-- the files that a part of a binding asks for: its own, or none where it stands in the outline
+abbrev pub part_files : List ℕ → Outline → Owner → Origin → List (List ℕ)
+part_files directory o owner (File base path) = part_path directory o owner base path ∷ []
+part_files directory o owner (Inline node) = []
+
+-- the file in which it is told
+abbrev pub part_told : Subject → List ℕ → Outline → Owner → Origin → List ℕ
+part_told subject directory o owner (File base path) = part_path directory o owner base path
+part_told subject directory o owner (Inline node) = outline_path subject directory
+
+-- a part is this, in its file or in the outline
+abbrev pub IsPart : {A : Type 0} → (List ℕ → A → Type 0) → (Outline → ℕ → A → Type 0) → List ℕ → FolderView → Outline → Owner → Origin → A → Type 0
+IsPart Says Within directory folder o owner (File base path) given = HasFile Says folder (part_path directory o owner base path) given
+IsPart Says Within directory folder o owner (Inline node) given = Within o node given
+
+-- it isn't taken, with this flaw
+abbrev pub LacksPart : (List ℕ → Rule → Place → Type 0) → (Outline → ℕ → Rule → Place → Type 0) → List ℕ → FolderView → Outline → Owner → Origin → Flaw → Type 0
+LacksPart Breaks Within directory folder o owner (File base path) flaw = LacksFile Breaks folder (part_path directory o owner base path) flaw
+LacksPart Breaks Within directory folder o owner (Inline node) flaw = (rule : Rule) × ((place : Place) × Within o node rule place × (flaw ≡ Faulty rule place []))
+
+-- the values of a binding are these
+abbrev pub IsValuesPart : List ℕ → FolderView → Outline → Owner → Origin → GivenSet → Type 0
+IsValuesPart directory folder o owner origin given = IsPart IsValues IsValuesWithin directory folder o owner origin given
+
+-- the mapping of a binding is this, where it has one
+abbrev pub IsMappingPart : List ℕ → FolderView → Outline → Owner → Option Origin → Option GivenMapping → Type 0
+IsMappingPart directory folder o owner None None = Unit {0}
+IsMappingPart directory folder o owner None (Some given) = ⊥
+IsMappingPart directory folder o owner (Some origin) None = ⊥
+IsMappingPart directory folder o owner (Some origin) (Some given) = IsPart IsMapping IsMappingWithin directory folder o owner origin given
+
+-- the binding gives this
+pub record IsGiven (directory : List ℕ) (folder : FolderView) (o : Outline) (b : Binding) (given : GivenBinding) : Type 0 where
+  pub values : IsValuesPart directory folder o b.owner b.values given.values
+  pub mapping : IsMappingPart directory folder o b.owner b.mapping given.mapping
+
+abbrev pub mapping_files : List ℕ → Outline → Owner → Option Origin → List (List ℕ)
+mapping_files directory o owner None = []
+mapping_files directory o owner (Some origin) = part_files directory o owner origin
+
+-- the files that it asks for, its values before its mapping
+abbrev pub binding_files : List ℕ → Outline → Binding → List (List ℕ)
+binding_files directory o b = part_files directory o b.owner b.values ++ mapping_files directory o b.owner b.mapping
+
+-- its values aren't taken, or its mapping isn't: the files that are asked for up to there, the file in which it is told, and the flaw
+pub data LacksBinding (s : Search) (folder : FolderView) (o : Outline) (b : Binding) : List (List ℕ) → List ℕ → Flaw → Type 0 where
+  InValues : (files : List (List ℕ)) (path : List ℕ) (flaw : Flaw) → LacksPart BreaksValues BreaksValuesWithin s.directory folder o b.owner b.values flaw →
+      files ≡ part_files s.directory o b.owner b.values → path ≡ part_told s.subject s.directory o b.owner b.values → LacksBinding s folder o b files path flaw
+  InMapping : (origin : Origin) (given : GivenSet) (files : List (List ℕ)) (path : List ℕ) (flaw : Flaw) →
+      IsValuesPart s.directory folder o b.owner b.values given → b.mapping ≡ Some origin →
+      LacksPart BreaksMapping BreaksMappingWithin s.directory folder o b.owner origin flaw → files ≡ binding_files s.directory o b →
+      path ≡ part_told s.subject s.directory o b.owner origin → LacksBinding s folder o b files path flaw
+
+-- each component has its shape, and the first bindings give this
+pub record ReachesBindings (s : Search) (folder : FolderView) (o : Outline) (shapes : List Shape) (taken : List Binding) (given : List GivenBinding) (rest : List Binding) : Type 0 where
+  pub reaches : Reaches s folder o o.systems.components shapes []
+  pub is : o.systems.bindings ≡ taken ++ rest
+  pub each : AllZip (IsGiven s.directory folder o) taken given
+
+-- what is asked for up to these bindings
+abbrev pub asked_with : Search → Outline → List Binding → List (List ℕ)
+asked_with s o bindings = asked_for s o.systems.components ++ flat_map (binding_files s.directory o) bindings
+
+-- where a binding's set is given, or its mapping
+abbrev pub origin_of : Bool → Binding → Option Origin
+origin_of false b = Some b.values
+origin_of true b = b.mapping
+
+-- the file of a binding's set, or of its mapping
+abbrev pub IsBindingToldIn : Search → Outline → ℕ → Bool → List ℕ → Type 0
+IsBindingToldIn s o n in_mapping path =
+    IsSomeAnd (slice_get o.systems.bindings n) (λ (b : Binding). IsSomeAnd (origin_of in_mapping b) (λ origin. path ≡ part_told s.subject s.directory o b.owner origin))
+
 -- ---- what it comes to
 
 -- the file of a component's description, or that of the outline
@@ -92,15 +189,23 @@ pub data Comes (s : Search) (folder : FolderView) : List (List ℕ) → Finding 
       (asked : List (List ℕ)) (finding : Finding) → Reaches s folder o taken shapes (c ∷ rest) →
       LacksFile (BreaksModel s.per_second) folder (model_path s.directory c) flaw → asked ≡ asked_for s (taken ++ c ∷ []) →
       finding ≡ Fails (model_path s.directory c) flaw → Comes s folder asked finding
-  -- all are taken, and they break a rule together
-  NoSystem : (o : Outline) (shapes : List Shape) (component : Option ℕ) (rule : Rule) (place : Place) (ports : List PortId) (path : List ℕ)
-      (asked : List (List ℕ)) (finding : Finding) → Reaches s folder o o.systems.components shapes [] →
-      BreaksTogether o shapes component rule place ports → IsToldIn s o component path → asked ≡ asked_for s o.systems.components →
+  -- all descriptions and the bindings before one are taken, and its own values or mapping aren't
+  NoSet : (o : Outline) (shapes : List Shape) (taken : List Binding) (given : List GivenBinding) (b : Binding) (rest : List Binding) (files : List (List ℕ)) (path : List ℕ)
+      (flaw : Flaw) (asked : List (List ℕ)) (finding : Finding) → ReachesBindings s folder o shapes taken given (b ∷ rest) → LacksBinding s folder o b files path flaw →
+      asked ≡ asked_with s o taken ++ files → finding ≡ Fails path flaw → Comes s folder asked finding
+  -- all are taken, and what a binding gives breaks a rule by the parameters that it reaches
+  NoBinding : (o : Outline) (shapes : List Shape) (given : List GivenBinding) (n : ℕ) (in_mapping : Bool) (rule : Rule) (place : Place) (path : List ℕ)
+      (asked : List (List ℕ)) (finding : Finding) → ReachesBindings s folder o shapes o.systems.bindings given [] → parameters.BreaksBinding o shapes given n in_mapping rule place →
+      IsBindingToldIn s o n in_mapping path → asked ≡ asked_with s o o.systems.bindings → finding ≡ Fails path (Faulty rule place []) → Comes s folder asked finding
+  -- the bindings give values, and the structure and the descriptions break a rule together
+  NoSystem : (o : Outline) (shapes : List Shape) (given : List GivenBinding) (bound : Bound) (component : Option ℕ) (rule : Rule) (place : Place) (ports : List PortId)
+      (path : List ℕ) (asked : List (List ℕ)) (finding : Finding) → ReachesBindings s folder o shapes o.systems.bindings given [] → parameters.Binds o shapes given bound →
+      BreaksTogether o shapes component rule place ports → IsToldIn s o component path → asked ≡ asked_with s o o.systems.bindings →
       finding ≡ Fails path (Faulty rule place ports) → Comes s folder asked finding
   -- they make a system
-  Whole : (o : Outline) (shapes : List Shape) (loaded : Loaded) (asked : List (List ℕ)) (finding : Finding) →
-      Reaches s folder o o.systems.components shapes [] → Makes o shapes loaded.system → loaded.folders ≡ folders_of s.directory o →
-      asked ≡ asked_for s o.systems.components → finding ≡ Found loaded → Comes s folder asked finding
+  Whole : (o : Outline) (shapes : List Shape) (given : List GivenBinding) (loaded : Loaded) (asked : List (List ℕ)) (finding : Finding) →
+      ReachesBindings s folder o shapes o.systems.bindings given [] → parameters.Binds o shapes given loaded.bound → Makes o shapes loaded.system →
+      loaded.folders ≡ folders_of s.directory o → asked ≡ asked_with s o o.systems.bindings → finding ≡ Found loaded → Comes s folder asked finding
 
 -- ---- in one way
 
@@ -111,10 +216,10 @@ AreAlike Long Long = Unit {0}
 AreAlike (Faulty rule place ports) (Faulty other at loop) = (rule ≡ other) × (place ≡ at)
 AreAlike _ _ = ⊥
 
--- the same file with the same flaw, or the same system but for the orders of its ports
+-- the same file with the same flaw, or the same system but for the orders of its ports, with the same values of parameters
 abbrev pub Agree : Finding → Finding → Type 0
 Agree (Fails path flaw) (Fails other another) = (path ≡ other) × AreAlike flaw another
-Agree (Found one) (Found other) = HaveSameParts one.system other.system × (one.folders ≡ other.folders)
+Agree (Found one) (Found other) = HaveSameParts one.system other.system × (one.bound ≡ other.bound) × (one.folders ≡ other.folders)
 Agree (Fails path flaw) (Found other) = ⊥
 Agree (Found one) (Fails path flaw) = ⊥
 

@@ -1,6 +1,6 @@
 -- What each step of a loading finds alone, and how it ends.
-use Rattle.std.specs.Prelude.{◌≡◌, ◌⊎◌, ℕ, ◌<◌, List, [], ◌∷◌, ◌++◌, map, Option, Some, IfSome, length, slice_get}
-use Rattle.std.specs.List.{AllZip}
+use Rattle.std.specs.Prelude.{◌≡◌, ◌⊎◌, ℕ, ◌<◌, Bool, List, [], ◌∷◌, ◌++◌, map, Option, Some, None, IfSome, IsSome, IsSomeAnd, length, slice_get}
+use Rattle.std.specs.List.{AllZip, flat_map}
 use Rattle.sim_base.specs.Folder.{FolderView, with_asked, with_failed}
 use Rattle.sim_base.specs.declared.folder.ReadFault.{ReadFault}
 use Rattle.sim_base.specs.declared.folder.ReadFault.TheVariants as r
@@ -8,16 +8,28 @@ use Rattle.sim_base.specs.declared.numbers.PortId.{PortId}
 use Rattle.value_types.specs.declared.shape.Shape.{Shape}
 use Rattle.doc_tree.specs.declared.place.Place.{Place}
 use Rattle.doc_tree.specs.declared.rule.Rule.{Rule}
+use Rattle.system_model.specs.declared.bound.Bound.{Bound}
+use Rattle.parameter_values.specs.Ranges.{AreInRange}
+use Rattle.ssd_tree.specs.declared.tree.Binding.{Binding}
 use Rattle.ssd_tree.specs.declared.tree.ComponentPart.{ComponentPart}
+use Rattle.ssd_tree.specs.declared.tree.Origin.{Origin}
+use Rattle.ssd_tree.specs.declared.tree.Origin.TheVariants.{File, Inline}
+use Rattle.ssd_tree.specs.declared.tree.Owner.{Owner}
 use Rattle.flatten.specs.Flat.{source_at}
 use Rattle.system_loading.specs.declared.fault.Fault.{Fault}
 use Rattle.system_loading.specs.declared.fault.Fault.TheVariants as f
 use Rattle.system_loading.specs.declared.assembly.AssemblyFault.{AssemblyFault}
 use Rattle.system_loading.specs.declared.assembly.AssemblyFault.TheVariants as together
+use Rattle.system_loading.specs.declared.binding.BindingFault.{BindingFault}
+use Rattle.system_loading.specs.declared.binding.BindingFault.TheVariants as binds
 use Rattle.system_loading.specs.declared.outline.Outline.{Outline}
+use Rattle.system_loading.specs.declared.parameters.GivenBinding.{GivenBinding}
+use Rattle.system_loading.specs.declared.parameters.GivenMapping.{GivenMapping}
+use Rattle.system_loading.specs.declared.parameters.GivenSet.{GivenSet}
 use Rattle.system_loading.specs.Assembly.{BreaksTogetherAlone, MakesAlone}
+use Rattle.system_loading.specs.Binding.{BindsAlone, BreaksBindingAlone}
 use Rattle.system_loading.specs.Outlines.{lone_outline}
-use Rattle.system_loading.specs.Readings.{BreaksAlone, BreaksModel, BreaksStructure, IsModel, IsStructure, SaysAlone}
+use Rattle.system_loading.specs.Readings.{BreaksAlone, BreaksMapping, BreaksMappingWithin, BreaksModel, BreaksStructure, BreaksValues, BreaksValuesWithin, IsMapping, IsMappingWithin, IsModel, IsStructure, IsValues, IsValuesWithin, SaysAlone}
 use Rattle.system_files.specs.declared.loaded.Loaded.{Loaded}
 use Rattle.system_files.specs.declared.loading.LoadEnd.{LoadEnd}
 use Rattle.system_files.specs.declared.loading.LoadEnd.TheVariants as end
@@ -27,7 +39,7 @@ use Rattle.system_files.specs.declared.named.FileFault.TheVariants.{Unread, Miss
 use Rattle.system_files.specs.declared.subject.Subject.{Subject}
 use Rattle.system_files.specs.declared.subject.Subject.TheVariants as what
 use Rattle.system_files.specs.Files.{Absent, Faulty, HasFile, LacksFile, Long, first_uses, structure_path, with_all_asked}
-use Rattle.system_files.specs.Order.{IsToldIn, Search, folders_of, model_path}
+use Rattle.system_files.specs.Order.{IsBindingToldIn, IsPart, IsToldIn, Search, binding_files, folders_of, model_path, origin_of, outline_path, part_files, part_path}
 
 -- ---- a file alone
 
@@ -44,6 +56,33 @@ SaysStructure bytes outline = SaysAlone (IsStructure bytes) (BreaksStructure byt
 
 abbrev pub FailsStructure : List ℕ → Rule → Place → Type 0
 FailsStructure bytes rule place = BreaksAlone (IsStructure bytes) (BreaksStructure bytes) rule place
+
+-- the same of a set of parameter values
+abbrev pub SaysValues : List ℕ → GivenSet → Type 0
+SaysValues bytes given = SaysAlone (IsValues bytes) (BreaksValues bytes) given
+
+abbrev pub FailsValues : List ℕ → Rule → Place → Type 0
+FailsValues bytes rule place = BreaksAlone (IsValues bytes) (BreaksValues bytes) rule place
+
+-- the same of a mapping of parameters
+abbrev pub SaysMapping : List ℕ → GivenMapping → Type 0
+SaysMapping bytes given = SaysAlone (IsMapping bytes) (BreaksMapping bytes) given
+
+abbrev pub FailsMapping : List ℕ → Rule → Place → Type 0
+FailsMapping bytes rule place = BreaksAlone (IsMapping bytes) (BreaksMapping bytes) rule place
+
+-- the same of what stands in the outline
+abbrev pub SaysValuesWithin : Outline → ℕ → GivenSet → Type 0
+SaysValuesWithin o node given = SaysAlone (IsValuesWithin o node) (BreaksValuesWithin o node) given
+
+abbrev pub FailsValuesWithin : Outline → ℕ → Rule → Place → Type 0
+FailsValuesWithin o node rule place = BreaksAlone (IsValuesWithin o node) (BreaksValuesWithin o node) rule place
+
+abbrev pub SaysMappingWithin : Outline → ℕ → GivenMapping → Type 0
+SaysMappingWithin o node given = SaysAlone (IsMappingWithin o node) (BreaksMappingWithin o node) given
+
+abbrev pub FailsMappingWithin : Outline → ℕ → Rule → Place → Type 0
+FailsMappingWithin o node rule place = BreaksAlone (IsMappingWithin o node) (BreaksMappingWithin o node) rule place
 
 -- why the file at a path isn't taken
 abbrev pub FaultAt : (List ℕ → Rule → Place → Type 0) → List ℕ → FileFault → FolderView → FolderView → Type 0
@@ -123,27 +162,114 @@ pub data EndsShapes (per_second : ℕ) (directory : List ℕ) (components : List
       AllZip (HasShapeAlone per_second directory old) taken shapes → ended ≡ end.Memory → new ≡ with_all_asked old (paths_of directory taken) →
       EndsShapes per_second directory components ended old new
 
+-- ---- the bindings
+
+-- an outline that has bindings has a document
+abbrev pub HasDocument : Outline → Type 0
+HasDocument o = (n : ℕ) → n < length o.systems.bindings → IsSome o.document
+
+-- the end at an element of the outline, which is told in the file at a path
+abbrev pub EndsWithin : (Rule → Place → Type 0) → List ℕ → LoadEnd → Type 0
+EndsWithin Breaks path (end.File file fault) = (rule : Rule) × ((place : Place) × (file.path ≡ path) × (fault ≡ Broken rule place []) × Breaks rule place)
+EndsWithin Breaks path end.Memory = Unit {0}
+
+-- the end tells the fault in the file at a path, unless memory is wanting
+abbrev pub TellsWithin : Fault → List ℕ → LoadEnd → Type 0
+TellsWithin (f.Broken rule place) path (end.File file fault) = (file.path ≡ path) × (fault ≡ Broken rule place [])
+TellsWithin f.Memory path (end.File file fault) = ⊥
+TellsWithin fault path end.Memory = Unit {0}
+
+-- the end at a part of a binding
+abbrev pub EndsPart : (List ℕ → Rule → Place → Type 0) → (Outline → ℕ → Rule → Place → Type 0) → Subject → List ℕ → Outline → Owner → Origin → LoadEnd → FolderView → FolderView → Type 0
+EndsPart Breaks Within subject directory o owner (File base path) ended old new = EndsAt Breaks (part_path directory o owner base path) ended old new
+EndsPart Breaks Within subject directory o owner (Inline node) ended old new = (new ≡ old) × EndsWithin (Within o node) (outline_path subject directory) ended
+
+-- the values of a binding, found alone
+abbrev pub IsValuesAlone : List ℕ → FolderView → Outline → Owner → Origin → GivenSet → Type 0
+IsValuesAlone directory folder o owner origin given = IsPart SaysValues SaysValuesWithin directory folder o owner origin given
+
+-- the mapping of a binding, found alone, where it has one
+abbrev pub IsMappingAlone : List ℕ → FolderView → Outline → Owner → Option Origin → Option GivenMapping → Type 0
+IsMappingAlone directory folder o owner None None = Unit {0}
+IsMappingAlone directory folder o owner None (Some given) = ⊥
+IsMappingAlone directory folder o owner (Some origin) None = ⊥
+IsMappingAlone directory folder o owner (Some origin) (Some given) = IsPart SaysMapping SaysMappingWithin directory folder o owner origin given
+
+-- the binding gives this, found alone
+pub record IsGivenAlone (directory : List ℕ) (folder : FolderView) (o : Outline) (b : Binding) (given : GivenBinding) : Type 0 where
+  pub values : IsValuesAlone directory folder o b.owner b.values given.values
+  pub mapping : IsMappingAlone directory folder o b.owner b.mapping given.mapping
+  pub range : AreInRange given.values.set
+
+-- the binding gives this, and its files were asked for
+pub record TakesBinding (directory : List ℕ) (o : Outline) (b : Binding) (given : GivenBinding) (old new : FolderView) : Type 0 where
+  pub gives : IsGivenAlone directory old o b given
+  pub told : new ≡ with_all_asked old (binding_files directory o b)
+
+-- the end at a binding: at its values, or at its mapping where the values were taken
+pub data EndsBinding (subject : Subject) (directory : List ℕ) (o : Outline) (b : Binding) (ended : LoadEnd) (old new : FolderView) : Type 0 where
+  AtValues : EndsPart FailsValues FailsValuesWithin subject directory o b.owner b.values ended old new → EndsBinding subject directory o b ended old new
+  AtMapping : (given : GivenSet) (origin : Origin) (mid : FolderView) → IsValuesAlone directory old o b.owner b.values given →
+      mid ≡ with_all_asked old (part_files directory o b.owner b.values) → b.mapping ≡ Some origin →
+      EndsPart FailsMapping FailsMappingWithin subject directory o b.owner origin ended mid new → EndsBinding subject directory o b ended old new
+
+-- each binding gives what it gives, and their files were asked for
+pub record TakesBindings (directory : List ℕ) (o : Outline) (bindings : List Binding) (given : List GivenBinding) (old new : FolderView) : Type 0 where
+  pub each : AllZip (IsGivenAlone directory old o) bindings given
+  pub told : new ≡ with_all_asked old (flat_map (binding_files directory o) bindings)
+
+-- the end before each binding is taken: at one of them, or without memory
+pub data EndsBindings (subject : Subject) (directory : List ℕ) (o : Outline) (ended : LoadEnd) (old new : FolderView) : Type 0 where
+  AtBinding : (taken : List Binding) (given : List GivenBinding) (b : Binding) (rest : List Binding) (mid : FolderView) → o.systems.bindings ≡ taken ++ b ∷ rest →
+      TakesBindings directory o taken given old mid → EndsBinding subject directory o b ended mid new → EndsBindings subject directory o ended old new
+  NoBindingRoom : ended ≡ end.Memory → new ≡ old → EndsBindings subject directory o ended old new
+
 -- ---- the system
+
+-- each binding gives a mapping where it has one
+abbrev pub HasParts : List Binding → List GivenBinding → Type 0
+HasParts bindings given = AllZip (λ (b : Binding) (g : GivenBinding). IsSome g.mapping → IsSome b.mapping) bindings given
+
+-- the part of a binding in which a fault is told stands in the outline
+abbrev pub HasBindingPart : Outline → BindingFault → Type 0
+HasBindingPart o (binds.Broken binding in_mapping rule place) = IsSomeAnd (slice_get o.systems.bindings binding) (λ (b : Binding). IsSome (origin_of in_mapping b))
+HasBindingPart o binds.Memory = Unit {0}
 
 -- the component in whose description a fault is told stands in the outline
 abbrev pub HasComponent : Outline → AssemblyFault → Type 0
 HasComponent o (together.Broken component rule place ports) = IfSome component (λ n. n < length o.systems.components)
 HasComponent o together.Memory = Unit {0}
 
--- the end at a rule that an outline and shapes break together, or without memory
-pub data EndsTogether (s : Search) (o : Outline) (shapes : List Shape) (ended : LoadEnd) : Type 0 where
-  AtRule : (component : Option ℕ) (rule : Rule) (place : Place) (ports : List PortId) (file : NamedFile) → BreaksTogetherAlone o shapes component rule place ports →
-      IsToldIn s o component file.path → ended ≡ end.File file (Broken rule place ports) → EndsTogether s o shapes ended
-  NoSystemRoom : ended ≡ end.Memory → EndsTogether s o shapes ended
+-- the end at a rule that what bindings give breaks, or that an outline and shapes break together, or without memory
+pub data EndsTogether (s : Search) (o : Outline) (shapes : List Shape) (given : List GivenBinding) (ended : LoadEnd) : Type 0 where
+  AtParameter : (n : ℕ) (in_mapping : Bool) (rule : Rule) (place : Place) (ports : List PortId) (file : NamedFile) → BreaksBindingAlone o shapes given n in_mapping rule place →
+      IsBindingToldIn s o n in_mapping file.path → ports ≡ [] → ended ≡ end.File file (Broken rule place ports) → EndsTogether s o shapes given ended
+  AtRule : (bound : Bound) (component : Option ℕ) (rule : Rule) (place : Place) (ports : List PortId) (file : NamedFile) → BindsAlone o shapes given bound →
+      BreaksTogetherAlone o shapes component rule place ports → IsToldIn s o component file.path → ended ≡ end.File file (Broken rule place ports) → EndsTogether s o shapes given ended
+  NoSystemRoom : ended ≡ end.Memory → EndsTogether s o shapes given ended
 
--- the shapes were taken, and make this system
+-- the shapes and what the bindings give were taken
+pub record TakesParts (s : Search) (o : Outline) (shapes : List Shape) (given : List GivenBinding) (old new : FolderView) : Type 0 where
+  pub mid : FolderView
+  pub takes : TakesShapes s.per_second s.directory o.systems.components shapes old mid
+  pub gives : TakesBindings s.directory o o.systems.bindings given mid new
+
+-- with these shapes the outline makes this system, and what the bindings give these values
+pub record IsLoaded (directory : List ℕ) (o : Outline) (shapes : List Shape) (given : List GivenBinding) (loaded : Loaded) : Type 0 where
+  pub binds : BindsAlone o shapes given loaded.bound
+  pub makes : MakesAlone o shapes loaded.system
+  pub folders : loaded.folders ≡ folders_of directory o
+
+-- they were taken, and make this system
 pub record TakesModels (s : Search) (o : Outline) (loaded : Loaded) (old new : FolderView) : Type 0 where
   pub shapes : List Shape
-  pub takes : TakesShapes s.per_second s.directory o.systems.components shapes old new
-  pub makes : MakesAlone o shapes loaded.system
-  pub folders : loaded.folders ≡ folders_of s.directory o
+  pub given : List GivenBinding
+  pub takes : TakesParts s o shapes given old new
+  pub is : IsLoaded s.directory o shapes given loaded
 
 -- the end after there is an outline
 pub data EndsModels (s : Search) (o : Outline) (ended : LoadEnd) (old new : FolderView) : Type 0 where
   OfShapes : EndsShapes s.per_second s.directory o.systems.components ended old new → EndsModels s o ended old new
-  OfSystem : (shapes : List Shape) → TakesShapes s.per_second s.directory o.systems.components shapes old new → EndsTogether s o shapes ended → EndsModels s o ended old new
+  OfBindings : (shapes : List Shape) (mid : FolderView) → TakesShapes s.per_second s.directory o.systems.components shapes old mid →
+      EndsBindings s.subject s.directory o ended mid new → EndsModels s o ended old new
+  OfSystem : (shapes : List Shape) (given : List GivenBinding) → TakesParts s o shapes given old new → EndsTogether s o shapes given ended → EndsModels s o ended old new

@@ -1,6 +1,7 @@
 //! The files that describe a system, read from a folder in their order: the system that they make, or the file that isn't taken and why.
 #![tactic(auto)]
 
+mod bindings;
 mod loaded;
 mod loading;
 mod named;

@@ -1,24 +1,31 @@
 //! The files of a system, read in their order.
-ghost use Rattle.std.specs.Prelude.{◌≡◌, ◌≤◌, ◌^◌, All, IfErr, IfOk, length};
+ghost use Rattle.std.specs.Prelude.{◌≡◌, ℕ, ◌≤◌, ◌^◌, All, IfErr, IfOk, length};
 ghost use Rattle.ssd_tree.specs.declared.tree.ComponentPart.{ComponentPart};
+ghost use Rattle.parameter_targets.specs.Named.{IsNamedTree};
+ghost use Rattle.system_model.specs.Bounds.{BindsParameters};
 ghost use Rattle.system_model.specs.Sound.{IsSound};
-ghost use Rattle.flatten.specs.Given.{IsWhole};
+ghost use Rattle.flatten.specs.Given.{AreShapesOf, IsWhole};
 ghost use Rattle.system_loading.specs.Assembly.{IsPlain};
+ghost use Rattle.system_loading.specs.Binding.{AreReady};
 ghost use Rattle.system_files.specs.Files.{with_all_asked};
 ghost use Rattle.system_files.specs.Loads.{EndsLoading, IsNamed, Loads};
 ghost use Rattle.system_files.specs.Order.{Found, files_before, search_of};
-ghost use Rattle.system_files.specs.Steps.{EndsModels, EndsOutline, OutlinesAlone, TakesModels};
+ghost use Rattle.system_files.specs.Steps.{EndsModels, EndsOutline, EndsTogether, HasDocument, HasParts, IsLoaded, OutlinesAlone, TakesModels};
 
+use crate::bindings::load_bindings;
 use crate::loaded::Loaded;
 use crate::named::{FileFault, NamedFile};
 use crate::paths::folders_of;
 use crate::reading::{name_structure, read_structure};
 use crate::shapes::load_shapes;
 use crate::subject::Subject;
-use crate::together::refuse_together;
+use crate::together::{refuse_binding, refuse_together};
 use sim_base::Folder;
 use std::alloc::Global;
-use system_loading::{Outline, assemble, loading_laws, lone_outline};
+use system_loading::{
+    GivenBinding, Outline, assemble, bind_parameters, loading_laws, lone_outline,
+};
+use value_types::Shape;
 
 /// Why nothing is loaded.
 #[derive(Debug, Drop)]
@@ -29,9 +36,10 @@ pub enum LoadEnd {
     Memory,
 }
 
-/// Reads the files in a directory in their order, each once: the structure of the system, where one is asked for, and the
-/// description of each FMU in the order of its first use. Answers the system that they make, where a second has
-/// `resolution` counts; or the file that isn't taken, and why (SSP 1.0, SystemStructure.ssd; FMI 3.0, 2.4).
+/// Reads the files in a directory in their order: the structure of the system, where one is asked for, the description of
+/// each FMU once, in the order of its first use, and for each binding of parameters its values and then its mapping.
+/// Answers the system that they make, where a second has `resolution` counts, and the values that its bindings give; or
+/// the file that isn't taken, and why (SSP 1.0, SystemStructure.ssd, SSV and SSM; FMI 3.0, 2.4).
 pub fn load<F: Folder>(
     alloc: Global,
     subject: Subject,
@@ -45,6 +53,7 @@ pub fn load<F: Folder>(
     ensures sound { IfOk result (λ loaded. IsSound loaded.system) }
     ensures plain { IfOk result (λ loaded. IsPlain loaded.system) }
     ensures named { IfOk result (λ loaded. All IsNamed loaded.system.components) }
+    ensures bound { IfOk result (λ loaded. BindsParameters loaded.system loaded.bound) }
     ensures err { IfErr result (λ end. EndsLoading (search_of subject directory.now resolution) end (F.view folder.old) (F.view folder.new)) }
 {
     loading_laws();
@@ -77,7 +86,7 @@ fn load_outline<F: Folder>(
     }
 }
 
-// Reads the descriptions of the FMUs, and puts the system together.
+// Reads the descriptions of the FMUs and the parameters of the bindings, and puts the system together.
 fn load_models<F: Folder>(
     alloc: Global,
     subject: Subject,
@@ -89,28 +98,58 @@ fn load_models<F: Folder>(
     requires above { 1 ≤ resolution }
     requires within { resolution ≤ 2 ^ 62 }
     requires whole { IsWhole outline.now.systems }
+    requires tree { IsNamedTree outline.now.systems }
+    requires document { HasDocument outline.now }
     requires short { All (λ (c : ComponentPart). length c.name ≤ 2 ^ 24) outline.now.systems.components }
     ensures ok { IfOk result (λ loaded. TakesModels (search_of subject directory.now resolution) outline.now loaded (F.view folder.old) (F.view folder.new)) }
     ensures sound { IfOk result (λ loaded. IsSound loaded.system) }
     ensures plain { IfOk result (λ loaded. IsPlain loaded.system) }
     ensures named { IfOk result (λ loaded. All IsNamed loaded.system.components) }
+    ensures bound { IfOk result (λ loaded. BindsParameters loaded.system loaded.bound) }
     ensures err { IfErr result (λ end. EndsModels (search_of subject directory.now resolution) outline.now end (F.view folder.old) (F.view folder.new)) }
 {
     loading_laws();
-    match load_shapes(
-        alloc,
-        directory,
-        outline.systems.components.as_slice(),
-        resolution,
-        folder,
-    ) {
-        Ok(shapes) => match assemble(alloc, outline, &shapes) {
+    let components = outline.systems.components.as_slice();
+    match load_shapes(alloc, directory, components, resolution, folder) {
+        Ok(shapes) => match load_bindings(alloc, subject, directory, outline, folder) {
+            Ok(given) => put_together(alloc, subject, directory, outline, &shapes, given),
+            Err(end) => Err(end),
+        },
+        Err(end) => Err(end),
+    }
+}
+
+// The system of an outline with these shapes, and the values that its bindings give.
+fn put_together(
+    alloc: Global,
+    subject: Subject,
+    directory: &str,
+    outline: &Outline,
+    shapes: &[Shape],
+    given: Vec<GivenBinding>,
+) -> Result<Loaded, LoadEnd>
+    requires whole { IsWhole outline.now.systems }
+    requires shapes { AreShapesOf outline.now.systems shapes.now }
+    requires ready { AreReady outline.now shapes.now given.items }
+    requires parts { HasParts outline.now.systems.bindings given.items }
+    ensures ok { IfOk result (IsLoaded directory.now outline.now shapes.now given.items) }
+    ensures sound { IfOk result (λ loaded. IsSound loaded.system) }
+    ensures plain { IfOk result (λ loaded. IsPlain loaded.system) }
+    ensures bound { IfOk result (λ loaded. BindsParameters loaded.system loaded.bound) }
+    ensures err { IfErr result (λ end. (per_second : ℕ) → EndsTogether (search_of subject directory.now per_second) outline.now shapes.now given.items end) }
+{
+    match bind_parameters(alloc, outline, shapes, given) {
+        Ok(bound) => match assemble(alloc, outline, shapes) {
             Ok(system) => match folders_of(alloc, directory, outline) {
-                Ok(folders) => Ok(Loaded { system, folders }),
+                Ok(folders) => Ok(Loaded {
+                    system,
+                    bound,
+                    folders,
+                }),
                 Err(_) => Err(LoadEnd::Memory),
             },
             Err(fault) => Err(refuse_together(alloc, subject, directory, outline, fault)),
         },
-        Err(end) => Err(end),
+        Err(fault) => Err(refuse_binding(alloc, subject, directory, outline, fault)),
     }
 }

@@ -1,10 +1,10 @@
 //! Where the files stand.
 ghost use Rattle.std.specs.Prelude.{◌≡◌, ◌++◌, IfOk};
 ghost use Rattle.system_files.specs.Files.{description_path, structure_path};
-ghost use Rattle.system_files.specs.Order.{folder_of, folders_of};
+ghost use Rattle.system_files.specs.Order.{base_folder, folder_of, folders_of, part_path};
 
 use sim_base::{Items, Text};
-use ssd_tree::ComponentPart;
+use ssd_tree::{ComponentPart, Owner, SourceBase};
 use std::alloc::{AllocError, Global};
 use system_loading::Outline;
 
@@ -39,6 +39,58 @@ pub(crate) fn folder_of(
         folder.push_str(source)?;
     }
     Ok(Text::from_string(folder))
+}
+
+/// Where the file of a part of a binding stands.
+pub(crate) fn part_path(
+    alloc: Global,
+    directory: &str,
+    outline: &Outline,
+    owner: Owner,
+    base: SourceBase,
+    source: &str,
+) -> Result<Text, AllocError>
+    ensures { IfOk result (λ path. path ≡ part_path directory.now outline.now owner base source.now) }
+{
+    let folder = base_folder(alloc, directory, outline, owner, base)?;
+    let mut path = String::from_str(alloc, folder.as_str())?;
+    path.push_str("/")?;
+    path.push_str(source)?;
+    Ok(Text::from_string(path))
+}
+
+// The folder below which the file of a part of a binding stands.
+fn base_folder(
+    alloc: Global,
+    directory: &str,
+    outline: &Outline,
+    owner: Owner,
+    base: SourceBase,
+) -> Result<Text, AllocError>
+    ensures { IfOk result (λ folder. folder ≡ base_folder directory.now outline.now owner base) }
+{
+    match base {
+        SourceBase::Description => Text::from_str(alloc, directory),
+        SourceBase::Component => owner_folder(alloc, directory, outline, owner),
+    }
+}
+
+// The folder of the FMU of a component, or the directory for a System.
+fn owner_folder(
+    alloc: Global,
+    directory: &str,
+    outline: &Outline,
+    owner: Owner,
+) -> Result<Text, AllocError>
+    ensures { IfOk result (λ folder. folder ≡ base_folder directory.now outline.now owner SourceBase.Component) }
+{
+    match owner {
+        Owner::System(_) => Text::from_str(alloc, directory),
+        Owner::Component(place) => match outline.systems.components.as_slice().get(place) {
+            Some(component) => folder_of(alloc, directory, component),
+            None => Text::from_str(alloc, directory),
+        },
+    }
 }
 
 /// Where the description of an FMU stands in its folder.

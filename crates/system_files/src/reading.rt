@@ -1,8 +1,9 @@
 //! One file, read and understood.
 ghost use Rattle.std.specs.Prelude.{◌≡◌, IfErr, IfOk};
 ghost use Rattle.sim_base.specs.Folder.{with_asked};
+ghost use Rattle.parameter_values.specs.Ranges.{AreInRange};
 ghost use Rattle.system_files.specs.Files.{HasFile, description_path, structure_path};
-ghost use Rattle.system_files.specs.Steps.{EndsAt, FailsModel, FailsStructure, SaysModel, SaysStructure, fault_end, unread_end};
+ghost use Rattle.system_files.specs.Steps.{EndsAt, FailsMapping, FailsModel, FailsStructure, FailsValues, SaysMapping, SaysModel, SaysStructure, SaysValues, fault_end, unread_end};
 
 use crate::loading::LoadEnd;
 use crate::named::{FileFault, NamedFile};
@@ -10,7 +11,9 @@ use crate::paths::{description_path, structure_path};
 use crate::room::NoMemory;
 use sim_base::{Folder, Items, MOST_FILE_BYTES, ReadFault};
 use std::alloc::Global;
-use system_loading::{Fault, Outline, read_outline, read_shape};
+use system_loading::{
+    Fault, GivenMapping, GivenSet, Outline, read_mapping, read_outline, read_shape, read_values,
+};
 use value_types::Shape;
 
 /// Reads the structure of a system.
@@ -52,6 +55,45 @@ pub(crate) fn read_model<F: Folder>(
     }
 }
 
+/// Reads a set of parameter values.
+pub(crate) fn read_set<F: Folder>(
+    alloc: Global,
+    file: NamedFile,
+    folder: &mut F,
+) -> Result<GivenSet, LoadEnd>
+    ensures ok { IfOk result (HasFile SaysValues (F.view folder.old) file.path) }
+    ensures range { IfOk result (λ given. AreInRange given.set) }
+    ensures told { IfOk result (λ given. F.view folder.new ≡ with_asked (F.view folder.old) file.path) }
+    ensures err { IfErr result (λ end. EndsAt FailsValues file.path end (F.view folder.old) (F.view folder.new)) }
+{
+    match folder.read(alloc, file.path.as_str(), MOST_FILE_BYTES) {
+        Ok(bytes) => match read_values(alloc, &bytes) {
+            Ok(given) => Ok(given),
+            Err(fault) => Err(refuse(alloc, file, fault)),
+        },
+        Err(fault) => Err(leave_unread(file, fault)),
+    }
+}
+
+/// Reads a mapping of parameters.
+pub(crate) fn read_names<F: Folder>(
+    alloc: Global,
+    file: NamedFile,
+    folder: &mut F,
+) -> Result<GivenMapping, LoadEnd>
+    ensures ok { IfOk result (HasFile SaysMapping (F.view folder.old) file.path) }
+    ensures told { IfOk result (λ given. F.view folder.new ≡ with_asked (F.view folder.old) file.path) }
+    ensures err { IfErr result (λ end. EndsAt FailsMapping file.path end (F.view folder.old) (F.view folder.new)) }
+{
+    match folder.read(alloc, file.path.as_str(), MOST_FILE_BYTES) {
+        Ok(bytes) => match read_mapping(alloc, &bytes) {
+            Ok(given) => Ok(given),
+            Err(fault) => Err(refuse(alloc, file, fault)),
+        },
+        Err(fault) => Err(leave_unread(file, fault)),
+    }
+}
+
 /// The description of an FMU in its folder, before it is read.
 pub(crate) fn name_description(alloc: Global, folder: &str) -> Result<NamedFile, NoMemory>
     ensures { IfOk result (λ file. file.path ≡ description_path folder.now) }
@@ -87,8 +129,8 @@ fn leave_unread(file: NamedFile, fault: ReadFault) -> LoadEnd
     }
 }
 
-// The end at a file that breaks a rule by itself.
-fn refuse(alloc: Global, file: NamedFile, fault: Fault) -> LoadEnd
+/// The end at a file that breaks a rule by itself.
+pub(crate) fn refuse(alloc: Global, file: NamedFile, fault: Fault) -> LoadEnd
     ensures { result ≡ fault_end file fault }
 {
     match fault {

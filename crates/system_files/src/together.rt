@@ -1,18 +1,23 @@
 //! Where the rules that files break together are told.
-ghost use Rattle.std.specs.Prelude.{ℕ, ◌<◌, List, IfOk, IfSome, length};
+ghost use Rattle.std.specs.Prelude.{ℕ, Bool, ◌<◌, List, IfOk, IfSome, IsSome, IsSomeAnd, length, slice_get};
+ghost use Rattle.ssd_tree.specs.declared.tree.Binding.{Binding};
+ghost use Rattle.system_model.specs.declared.bound.Bound.{Bound};
 ghost use Rattle.value_types.specs.declared.shape.Shape.{Shape};
+ghost use Rattle.system_loading.specs.declared.parameters.GivenBinding.{GivenBinding};
+ghost use Rattle.system_loading.specs.Binding.{BindsAlone, TellsBinding};
 ghost use Rattle.system_loading.specs.Faults.{TellsTogether};
-ghost use Rattle.system_files.specs.Order.{IsToldIn, search_of};
-ghost use Rattle.system_files.specs.Steps.{EndsTogether, HasComponent};
+ghost use Rattle.system_files.specs.Order.{IsBindingToldIn, IsToldIn, origin_of, search_of};
+ghost use Rattle.system_files.specs.Steps.{EndsTogether, HasBindingPart, HasComponent};
 
+use crate::bindings::{name_outline, name_part_told};
 use crate::loading::LoadEnd;
 use crate::named::{FileFault, NamedFile};
-use crate::reading::{name_description, name_structure};
 use crate::room::NoMemory;
 use crate::shapes::name_model;
 use crate::subject::Subject;
+use sim_base::Items;
 use std::alloc::Global;
-use system_loading::{AssemblyFault, Outline};
+use system_loading::{AssemblyFault, BindingFault, Outline};
 
 /// The end at a rule that the files break together.
 pub(crate) fn refuse_together(
@@ -23,7 +28,8 @@ pub(crate) fn refuse_together(
     fault: AssemblyFault,
 ) -> LoadEnd
     requires { HasComponent outline.now fault }
-    ensures { (per_second : ℕ) (shapes : List Shape) → TellsTogether outline.now shapes fault → EndsTogether (search_of subject directory.now per_second) outline.now shapes result }
+    ensures { (per_second : ℕ) (shapes : List Shape) (given : List GivenBinding) (bound : Bound) → BindsAlone outline.now shapes given bound → TellsTogether outline.now shapes fault →
+        EndsTogether (search_of subject directory.now per_second) outline.now shapes given result }
 {
     match fault {
         AssemblyFault::Broken {
@@ -59,9 +65,60 @@ fn name_told(
             directory,
             &outline.systems.components.as_slice()[component],
         ),
-        None => match subject {
-            Subject::Fmu => name_description(alloc, directory),
-            Subject::System => name_structure(alloc, directory),
-        },
+        None => name_outline(alloc, subject, directory),
     }
+}
+
+/// The end at a rule that what a binding gives breaks by what it reaches.
+pub(crate) fn refuse_binding(
+    alloc: Global,
+    subject: Subject,
+    directory: &str,
+    outline: &Outline,
+    fault: BindingFault,
+) -> LoadEnd
+    requires { HasBindingPart outline.now fault }
+    ensures { (per_second : ℕ) (shapes : List Shape) (given : List GivenBinding) → TellsBinding outline.now shapes given fault →
+        EndsTogether (search_of subject directory.now per_second) outline.now shapes given result }
+{
+    match fault {
+        BindingFault::Broken {
+            binding,
+            in_mapping,
+            rule,
+            place,
+        } => match name_binding(alloc, subject, directory, outline, binding, in_mapping) {
+            Ok(file) => LoadEnd::File {
+                file,
+                fault: FileFault::Broken {
+                    rule,
+                    place,
+                    ports: Items::from_vec(Vec::new(alloc)),
+                },
+            },
+            Err(_) => LoadEnd::Memory,
+        },
+        BindingFault::Memory => LoadEnd::Memory,
+    }
+}
+
+// The file of a binding's values, or of its mapping.
+fn name_binding(
+    alloc: Global,
+    subject: Subject,
+    directory: &str,
+    outline: &Outline,
+    binding: usize,
+    in_mapping: bool,
+) -> Result<NamedFile, NoMemory>
+    requires { IsSomeAnd (slice_get outline.now.systems.bindings binding) (λ (b : Binding). IsSome (origin_of in_mapping b)) }
+    ensures { IfOk result (λ file. (per_second : ℕ) → IsBindingToldIn (search_of subject directory.now per_second) outline.now binding in_mapping file.path) }
+{
+    let binding = &outline.systems.bindings.as_slice()[binding];
+    let origin = if in_mapping {
+        binding.mapping.as_ref().unwrap()
+    } else {
+        &binding.values
+    };
+    name_part_told(alloc, subject, directory, outline, binding.owner, origin)
 }

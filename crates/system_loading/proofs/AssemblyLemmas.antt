@@ -12,7 +12,6 @@ use Rattle.doc_tree.specs.declared.rule.Rule.TheVariants.{Loop, Unbuilt}
 use Rattle.doc_tables.specs.Answers.{Refuses}
 use Rattle.system_model.specs.declared.system.Component.{Component}
 use Rattle.system_model.specs.declared.system.System.{System}
-use Rattle.ssd_tree.specs.declared.tree.Binding.{Binding}
 use Rattle.flatten.specs.Answers.{Faults, GivesParts, TellsLoop}
 use Rattle.flatten.specs.Flat.{Flattens, SavesStates}
 use Rattle.flatten.specs.Rules.{IsFirstViolation, IsFitting}
@@ -20,18 +19,15 @@ use Rattle.system_loading.specs.declared.assembly.AssemblyFault.{AssemblyFault}
 use Rattle.system_loading.specs.declared.assembly.AssemblyFault.TheVariants as f
 use Rattle.system_loading.specs.declared.outline.Outline.{Outline}
 use Rattle.system_loading.specs.Outlines.{place_in, whole_place}
-use Rattle.system_loading.specs.Assembly.{is_unbuilt, IsPlain, IsOrdered, HasNoOrder, BreaksTogether, ByPart, ByLoop, ByBinding, ByShape, HaveSameParts, MakesAlone, BreaksTogetherAlone, IsBuilt}
+use Rattle.system_loading.specs.Assembly.{is_unbuilt, IsPlain, IsOrdered, HasNoOrder, BreaksTogether, ByPart, ByLoop, ByShape, HaveSameParts, MakesAlone, BreaksTogetherAlone, IsBuilt}
 use Rattle.system_loading.specs.Faults.{SaysTogether, TellsTogether, TellsUnbuilt}
-use Rattle.system_loading.proofs.BuiltLemmas.{position_some, none_at, first_of, none_first, built_events, built_early}
+use Rattle.system_loading.proofs.BuiltLemmas.{position_some, none_at, built_events, built_early}
 
 module _ (o : Outline) (shapes : List Shape) where
   -- ---- what excludes what
 
   unfit : (node : ℕ) (rule : Rule) → IsFirstViolation o.systems shapes node rule → IsFitting o.systems shapes → ⊥
   unfit node rule first fits = fits rule node first.is.broken
-
-  unbound_bound : (binding : Binding) (rest : List Binding) → o.systems.bindings ≡ [] → o.systems.bindings ≡ binding ∷ rest → ⊥
-  unbound_bound binding rest none some = cc
 
   built_unbuilt : (first : ℕ) → list_any is_unbuilt shapes ≡ false → position is_unbuilt shapes ≡ Some first → ⊥
   built_unbuilt first built at = let some : list_any is_unbuilt shapes ≡ true = position_some is_unbuilt shapes first at in cc
@@ -62,8 +58,7 @@ module _ (o : Outline) (shapes : List Shape) where
       same d m p l (ByPart d2 k m2 p2 l2 violated e f g) =
           let x = exact m k violated in (outer ∙ sym e, (is ∙ x.1, at ∙ ap (place_in o) x.0 ∙ sym f))
       same d m p l (ByLoop d2 k m2 p2 l2 none loop e f g) = absurd (unfit node rule first none.0)
-      same d m p l (ByBinding d2 binding rest m2 p2 l2 ordered bound e f g h) = absurd (unfit node rule first ordered.0)
-      same d m p l (ByShape d2 i m2 p2 l2 ordered unbound unbuilt e f g h) = absurd (unfit node rule first ordered.0)
+      same d m p l (ByShape d2 i m2 p2 l2 ordered unbuilt e f g h) = absurd (unfit node rule first ordered.0)
 
   -- ---- a loop
 
@@ -80,8 +75,7 @@ module _ (o : Outline) (shapes : List Shape) where
           (component ≡ in_description) × ((n ≡ other) × (place ≡ p))
       same d m p l (ByPart d2 k m2 p2 l2 violated e f g) = absurd (unfit k m violated none.0)
       same d m p l (ByLoop d2 k m2 p2 l2 none2 tells2 e f g) = (outer ∙ sym e, (is ∙ sym f, at ∙ ap (place_in o) (tells.at ∙ sym tells2.at) ∙ sym g))
-      same d m p l (ByBinding d2 binding rest m2 p2 l2 ordered bound e f g h) = absurd (none.1 ordered.1.0 ordered.1.1)
-      same d m p l (ByShape d2 i m2 p2 l2 ordered unbound unbuilt e f g h) = absurd (none.1 ordered.1.0 ordered.1.1)
+      same d m p l (ByShape d2 i m2 p2 l2 ordered unbuilt e f g h) = absurd (none.1 ordered.1.0 ordered.1.1)
 
   -- what flattening refuses, as a fault
   pub refusal_told : (refusal : Refusal) (file node : ℕ) (rule : Rule) (ports : List PortId) (fault : AssemblyFault) → refusal ≡ r.At file node rule ports →
@@ -114,38 +108,11 @@ module _ (o : Outline) (shapes : List Shape) where
 
   -- ---- what isn't built yet
 
-  binding_breaks : (binding : Binding) (rest : List Binding) → o.systems.bindings ≡ binding ∷ rest → IsOrdered o shapes →
-      (component : Option ℕ) (n : Rule) (place : Place) (ports : List PortId) →
-      component ≡ None → n ≡ Unbuilt → place ≡ place_in o binding.node → ports ≡ [] → BreaksTogetherAlone o shapes component n place ports
-  binding_breaks binding rest bound ordered component n place ports outer is at none = record {
-    broken = ByBinding component binding rest n place ports ordered bound outer is at none;
-    only = same;
-    none = λ system m. unbound_bound binding rest m.unbound bound;
-  }
-    where
-      same_binding : (other : Binding) (others : List Binding) → o.systems.bindings ≡ other ∷ others → binding ≡ other
-      same_binding other others e = cc
-
-      same : (in_description : Option ℕ) (other : Rule) (p : Place) (l : List PortId) → BreaksTogether o shapes in_description other p l →
-          (component ≡ in_description) × ((n ≡ other) × (place ≡ p))
-      same d m p l (ByPart d2 k m2 p2 l2 violated e f g) = absurd (unfit k m violated ordered.0)
-      same d m p l (ByLoop d2 k m2 p2 l2 none2 tells e f g) = absurd (none2.1 ordered.1.0 ordered.1.1)
-      same d m p l (ByBinding d2 other others m2 p2 l2 ordered2 bound2 e f g h) =
-          (outer ∙ sym e, (is ∙ sym f, at ∙ ap (λ (b : Binding). place_in o b.node) (same_binding other others bound2) ∙ sym g))
-      same d m p l (ByShape d2 i m2 p2 l2 ordered2 unbound unbuilt e f g h) = absurd (unbound_bound binding rest unbound bound)
-
-  pub binding_told : (binding : Binding) (ports : List PortId) (fault : AssemblyFault) → Some binding ≡ slice_get o.systems.bindings 0 → ports ≡ [] →
-      SaysTogether None Unbuilt (place_in o binding.node) ports fault → TellsUnbuilt o shapes fault
-  binding_told binding ports fault first none says = λ ordered.
-      let bound = first_of o.systems.bindings binding first in
-      told None Unbuilt (place_in o binding.node) ports fault
-      (λ component n place listed outer is at l. binding_breaks binding bound.0 bound.1 ordered component n place listed outer is at (l ∙ none)) says
-
-  shape_breaks : (first : ℕ) → o.systems.bindings ≡ [] → position is_unbuilt shapes ≡ Some first → IsOrdered o shapes →
+  shape_breaks : (first : ℕ) → position is_unbuilt shapes ≡ Some first → IsOrdered o shapes →
       (component : Option ℕ) (n : Rule) (place : Place) (ports : List PortId) →
       component ≡ Some first → n ≡ Unbuilt → place ≡ whole_place → ports ≡ [] → BreaksTogetherAlone o shapes component n place ports
-  shape_breaks first unbound unbuilt ordered component n place ports inner is at none = record {
-    broken = ByShape component first n place ports ordered unbound unbuilt inner is at none;
+  shape_breaks first unbuilt ordered component n place ports inner is at none = record {
+    broken = ByShape component first n place ports ordered unbuilt inner is at none;
     only = same;
     none = λ system m. built_unbuilt first m.built unbuilt;
   }
@@ -157,19 +124,18 @@ module _ (o : Outline) (shapes : List Shape) where
           (component ≡ in_description) × ((n ≡ other) × (place ≡ p))
       same d m p l (ByPart d2 k m2 p2 l2 violated e f g) = absurd (unfit k m violated ordered.0)
       same d m p l (ByLoop d2 k m2 p2 l2 none2 tells e f g) = absurd (none2.1 ordered.1.0 ordered.1.1)
-      same d m p l (ByBinding d2 other others m2 p2 l2 ordered2 bound e f g h) = absurd (unbound_bound other others unbound bound)
-      same d m p l (ByShape d2 i m2 p2 l2 ordered2 unbound2 unbuilt2 e f g h) = (inner ∙ same_first i unbuilt2 ∙ sym e, (is ∙ sym f, at ∙ sym g))
+      same d m p l (ByShape d2 i m2 p2 l2 ordered2 unbuilt2 e f g h) = (inner ∙ same_first i unbuilt2 ∙ sym e, (is ∙ sym f, at ∙ sym g))
 
-  pub shape_told : (first : ℕ) (fault : AssemblyFault) → None ≡ slice_get o.systems.bindings 0 → position is_unbuilt shapes ≡ Some first →
+  pub shape_told : (first : ℕ) (fault : AssemblyFault) → position is_unbuilt shapes ≡ Some first →
       SaysTogether (Some first) Unbuilt whole_place [] fault → TellsUnbuilt o shapes fault
-  shape_told first fault unbound unbuilt says = λ ordered. told (Some first) Unbuilt whole_place [] fault (shape_breaks first (none_first o.systems.bindings unbound) unbuilt ordered) says
+  shape_told first fault unbuilt says = λ ordered. told (Some first) Unbuilt whole_place [] fault (shape_breaks first unbuilt ordered) says
 
   -- ---- the system
 
   pub makes_alone : (system : System) → IsFitting o.systems shapes → Flattens o.systems shapes system →
-      ((other : System) → IsFitting o.systems shapes → Flattens o.systems shapes other → HaveSameParts system other) → IsBuilt o shapes → MakesAlone o shapes system
+      ((other : System) → IsFitting o.systems shapes → Flattens o.systems shapes other → HaveSameParts system other) → IsBuilt shapes → MakesAlone o shapes system
   makes_alone system fits flattens only built = record {
-    is = record { fits = fits; flattens = flattens; unbound = built.unbound; built = built.built };
+    is = record { fits = fits; flattens = flattens; built = built };
     only = λ other m. only other fits m.flattens;
     none = nothing;
   }
@@ -177,18 +143,17 @@ module _ (o : Outline) (shapes : List Shape) where
       nothing : (component : Option ℕ) (rule : Rule) (place : Place) (ports : List PortId) → BreaksTogether o shapes component rule place ports → ⊥
       nothing d m p l (ByPart d2 k m2 p2 l2 violated e f g) = unfit k m violated fits
       nothing d m p l (ByLoop d2 k m2 p2 l2 none tells e f g) = none.1 system flattens
-      nothing d m p l (ByBinding d2 binding rest m2 p2 l2 ordered bound e f g h) = unbound_bound binding rest built.unbound bound
-      nothing d m p l (ByShape d2 i m2 p2 l2 ordered unbound unbuilt e f g h) = built_unbuilt i built.built unbuilt
+      nothing d m p l (ByShape d2 i m2 p2 l2 ordered unbuilt e f g h) = built_unbuilt i built unbuilt
 
   -- a component has a shape of these
-  built_shape : (system : System) → Flattens o.systems shapes system → IsBuilt o shapes → (i : ℕ) (c : Component) → slice_get system.components i ≡ Some c → is_unbuilt c.shape ≡ false
-  built_shape system flattens built i c at = none_at is_unbuilt shapes i c.shape built.built (flattens.flat.components.each i c at).shape
+  built_shape : (system : System) → Flattens o.systems shapes system → IsBuilt shapes → (i : ℕ) (c : Component) → slice_get system.components i ≡ Some c → is_unbuilt c.shape ≡ false
+  built_shape system flattens built i c at = none_at is_unbuilt shapes i c.shape built (flattens.flat.components.each i c at).shape
 
-  pub saves : (system : System) → Flattens o.systems shapes system → IsBuilt o shapes → SavesStates system
+  pub saves : (system : System) → Flattens o.systems shapes system → IsBuilt shapes → SavesStates system
   saves system flattens built = λ i j early other at_i at_j apart returns.
       let never : early.shape.might_return_early ≡ false = built_early early.shape (built_shape system flattens built i early at_i) in absurd (cc)
 
-  pub plain : (system : System) → Flattens o.systems shapes system → IsBuilt o shapes → IsPlain system
+  pub plain : (system : System) → Flattens o.systems shapes system → IsBuilt shapes → IsPlain system
   plain system flattens built = record {
     no_events = λ k d within. built_events (get_or system.components k d).shape (at k d within);
     no_early = λ k d within. built_early (get_or system.components k d).shape (at k d within);

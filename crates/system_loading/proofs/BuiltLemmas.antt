@@ -39,16 +39,6 @@ module _ {A : Type 0} (p : A → Bool) where
           let found : list_any p xs ≡ true = list_any_at p xs i x (slice_get_within xs i x at) (ap p (get_or_from_slice_get xs i x x at) ∙ is) in
           cc
 
--- ---- the first of a list
-
-pub first_of : {A : Type 0} (xs : List A) (x : A) → Some x ≡ slice_get xs 0 → (rest : List A) × (xs ≡ x ∷ rest)
-first_of [] x e = absurd (cc)
-first_of (y ∷ ys) x e = (ys, cc)
-
-pub none_first : {A : Type 0} (xs : List A) → None ≡ slice_get xs 0 → xs ≡ []
-none_first [] e = refl
-none_first (y ∷ ys) e = absurd (cc)
-
 -- ---- a shape
 
 or_false : (a b c : Bool) → (a || (b || c)) ≡ false → (a ≡ false) × (c ≡ false)

@@ -2,3 +2,6 @@ pub mod AssemblyLemmas
 pub mod BuiltLemmas
 pub mod ReadingLemmas
 pub mod TokenLemmas
+pub mod WithinLemmas
+pub mod BindingLemmas
+pub mod LoneLemmas

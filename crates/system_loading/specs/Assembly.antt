@@ -9,7 +9,6 @@ use Rattle.doc_tree.specs.declared.rule.Rule.{Rule}
 use Rattle.doc_tree.specs.declared.rule.Rule.TheVariants.{Loop, Unbuilt}
 use Rattle.system_model.specs.declared.system.Component.{Component}
 use Rattle.system_model.specs.declared.system.System.{System}
-use Rattle.ssd_tree.specs.declared.tree.Binding.{Binding}
 use Rattle.flatten.specs.Answers.{TellsLoop}
 use Rattle.flatten.specs.Flat.{Flattens}
 use Rattle.flatten.specs.Rules.{IsFirstViolation, IsFitting}
@@ -48,28 +47,22 @@ pub data BreaksTogether (o : Outline) (shapes : List Shape) : Option ℕ → Rul
   -- a loop
   ByLoop : (component : Option ℕ) (node : ℕ) (rule : Rule) (place : Place) (ports : List PortId) → HasNoOrder o shapes → TellsLoop o.systems shapes node ports →
       component ≡ None → rule ≡ Loop → place ≡ place_in o node → BreaksTogether o shapes component rule place ports
-  -- a binding of parameters, which isn't built yet
-  ByBinding : (component : Option ℕ) (binding : Binding) (rest : List Binding) (rule : Rule) (place : Place) (ports : List PortId) → IsOrdered o shapes →
-      o.systems.bindings ≡ binding ∷ rest → component ≡ None → rule ≡ Unbuilt → place ≡ place_in o binding.node → ports ≡ [] →
-      BreaksTogether o shapes component rule place ports
   -- an FMU that asks for what isn't built yet
-  ByShape : (component : Option ℕ) (first : ℕ) (rule : Rule) (place : Place) (ports : List PortId) → IsOrdered o shapes → o.systems.bindings ≡ [] →
+  ByShape : (component : Option ℕ) (first : ℕ) (rule : Rule) (place : Place) (ports : List PortId) → IsOrdered o shapes →
       position is_unbuilt shapes ≡ Some first → component ≡ Some first → rule ≡ Unbuilt → place ≡ whole_place → ports ≡ [] →
       BreaksTogether o shapes component rule place ports
 
 -- ---- the system
 
 -- nothing asks for what isn't built yet
-pub record IsBuilt (o : Outline) (shapes : List Shape) : Type 0 where
-  pub unbound : o.systems.bindings ≡ []
-  pub built : list_any is_unbuilt shapes ≡ false
+abbrev pub IsBuilt : List Shape → Type 0
+IsBuilt shapes = list_any is_unbuilt shapes ≡ false
 
 -- no rule is broken, and this is the flattened system
 pub record Makes (o : Outline) (shapes : List Shape) (system : System) : Type 0 where
   pub fits : IsFitting o.systems shapes
   pub flattens : Flattens o.systems shapes system
-  pub unbound : o.systems.bindings ≡ []
-  pub built : list_any is_unbuilt shapes ≡ false
+  pub built : IsBuilt shapes
 
 -- they have the same components and ports; the orders of the ports may be others
 abbrev pub HaveSameParts : System → System → Type 0

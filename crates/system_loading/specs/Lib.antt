@@ -1,4 +1,5 @@
 pub mod Readings
 pub mod Outlines
+pub mod Binding
 pub mod Assembly
 pub mod Faults

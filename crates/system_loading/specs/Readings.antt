@@ -1,5 +1,5 @@
 -- What the bytes of a file say, or the rule that they break first.
-use Rattle.std.specs.Prelude.{◌≡◌, ℕ, List}
+use Rattle.std.specs.Prelude.{◌≡◌, ℕ, List, Option, Some, None}
 use Rattle.value_types.specs.declared.shape.Shape.{Shape}
 use Rattle.doc_grammar.specs.declared.reasons.Rule as d
 use Rattle.doc_grammar.specs.Faults.{IsFault}
@@ -9,12 +9,17 @@ use Rattle.doc_tree.specs.declared.place.Place.{Place}
 use Rattle.doc_tree.specs.declared.place.Place.TheVariants.{Byte, Element}
 use Rattle.doc_tree.specs.declared.rule.DescriptionRule.{DescriptionRule}
 use Rattle.doc_tree.specs.declared.rule.SystemRule.{SystemRule}
+use Rattle.doc_tree.specs.declared.rule.ParameterRule.{ParameterRule}
 use Rattle.doc_tree.specs.declared.rule.Rule.{Rule}
-use Rattle.doc_tree.specs.declared.rule.Rule.TheVariants.{Document, Description, System}
+use Rattle.doc_tree.specs.declared.rule.Rule.TheVariants.{Document, Description, Parameters, System}
 use Rattle.fmu_description.specs.Rules as model
 use Rattle.fmu_description.specs.Description as model_says
 use Rattle.ssd_tree.specs.Rules as structure
+use Rattle.parameter_sets.specs.Rules.{IsFirstInMapping, IsFirstInSet, IsSoundMapping, IsSoundSet}
+use Rattle.parameter_sets.specs.Sets.{DescribesMapping, DescribesSet}
 use Rattle.system_loading.specs.declared.outline.Outline.{Outline}
+use Rattle.system_loading.specs.declared.parameters.GivenMapping.{GivenMapping}
+use Rattle.system_loading.specs.declared.parameters.GivenSet.{GivenSet}
 use Rattle.system_loading.specs.Outlines.{IsOutlineOf}
 
 -- ---- any file
@@ -65,3 +70,63 @@ IsStructure bytes outline = SaysBy structure.IsSound IsOutlineOf bytes outline
 
 abbrev pub BreaksStructure : List ℕ → Rule → Place → Type 0
 BreaksStructure bytes rule place = BreaksBy (λ (r : SystemRule). System r) structure.IsFirstViolation bytes rule place
+
+-- ---- a set of parameter values, and a mapping of parameters (SSP 1.0, SSV and SSM)
+
+-- the document gives this set
+abbrev pub IsSetOf : List Node → GivenSet → Type 0
+IsSetOf t given = (given.document ≡ Some t) × DescribesSet t None given.set
+
+-- the bytes are this set
+abbrev pub IsValues : List ℕ → GivenSet → Type 0
+IsValues bytes given = SaysBy (λ t. IsSoundSet t None) IsSetOf bytes given
+
+abbrev pub BreaksValues : List ℕ → Rule → Place → Type 0
+BreaksValues bytes rule place = BreaksBy (λ (r : ParameterRule). Parameters r) (λ t k r. IsFirstInSet t None k r) bytes rule place
+
+-- the same of a mapping
+abbrev pub IsMappingOf : List Node → GivenMapping → Type 0
+IsMappingOf t given = (given.document ≡ Some t) × DescribesMapping t None given.mapping
+
+abbrev pub IsMapping : List ℕ → GivenMapping → Type 0
+IsMapping bytes given = SaysBy (λ t. IsSoundMapping t None) IsMappingOf bytes given
+
+abbrev pub BreaksMapping : List ℕ → Rule → Place → Type 0
+BreaksMapping bytes rule place = BreaksBy (λ (r : ParameterRule). Parameters r) (λ t k r. IsFirstInMapping t None k r) bytes rule place
+
+-- ---- the same within an element of the outline's document
+
+-- the outline's document has this within the element
+pub record SaysWithin {A : Type 0} (IsSound : List Node → Option ℕ → Type 0) (Describes : List Node → Option ℕ → A → Type 0) (outline : Outline) (holder : ℕ) (said : A) : Type 0 where
+  pub document : List Node
+  pub is : outline.document ≡ Some document
+  pub sound : IsSound document (Some holder)
+  pub describes : Describes document (Some holder) said
+
+-- the rule that what is within the element breaks first, and its place
+pub record BreaksWithin (IsFirst : List Node → Option ℕ → ℕ → ParameterRule → Type 0) (outline : Outline) (holder : ℕ) (rule : Rule) (place : Place) : Type 0 where
+  pub document : List Node
+  pub is : outline.document ≡ Some document
+  pub element : ℕ
+  pub broken : ParameterRule
+  pub first : IsFirst document (Some holder) element broken
+  pub rule_is : rule ≡ Parameters broken
+  pub place_is : place ≡ Element (path_to document element)
+
+abbrev pub IsSetIn : List Node → Option ℕ → GivenSet → Type 0
+IsSetIn t at given = (given.document ≡ None) × DescribesSet t at given.set
+
+abbrev pub IsMappingIn : List Node → Option ℕ → GivenMapping → Type 0
+IsMappingIn t at given = (given.document ≡ None) × DescribesMapping t at given.mapping
+
+abbrev pub IsValuesWithin : Outline → ℕ → GivenSet → Type 0
+IsValuesWithin outline holder given = SaysWithin IsSoundSet IsSetIn outline holder given
+
+abbrev pub BreaksValuesWithin : Outline → ℕ → Rule → Place → Type 0
+BreaksValuesWithin outline holder rule place = BreaksWithin IsFirstInSet outline holder rule place
+
+abbrev pub IsMappingWithin : Outline → ℕ → GivenMapping → Type 0
+IsMappingWithin outline holder given = SaysWithin IsSoundMapping IsMappingIn outline holder given
+
+abbrev pub BreaksMappingWithin : Outline → ℕ → Rule → Place → Type 0
+BreaksMappingWithin outline holder rule place = BreaksWithin IsFirstInMapping outline holder rule place

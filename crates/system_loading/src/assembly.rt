@@ -43,7 +43,7 @@ pub fn assemble(alloc: Global, outline: &Outline, shapes: &[Shape]) -> Result<Sy
     ensures plain { IfOk result IsPlain }
 {
     match flatten(alloc, &outline.systems, shapes) {
-        Ok(system) => match unbuilt(alloc, outline, shapes) {
+        Ok(system) => match unbuilt(alloc, shapes) {
             Some(fault) => Err(fault),
             None => Ok(system),
         },
@@ -60,18 +60,9 @@ pub fn assemble(alloc: Global, outline: &Outline, shapes: &[Shape]) -> Result<Sy
 }
 
 // The first part that isn't built yet.
-fn unbuilt(alloc: Global, outline: &Outline, shapes: &[Shape]) -> Option<AssemblyFault>
-    ensures { MatchOption result (IsBuilt outline.now shapes.now) (TellsUnbuilt outline.now shapes.now) }
+fn unbuilt(alloc: Global, shapes: &[Shape]) -> Option<AssemblyFault>
+    ensures { MatchOption result (IsBuilt shapes.now) (λ fault. (outline : Outline) → TellsUnbuilt outline shapes.now fault) }
 {
-    if let Some(binding) = outline.systems.bindings.get(0) {
-        return Some(told_at(
-            alloc,
-            outline,
-            binding.node,
-            Rule::Unbuilt,
-            Items::from_vec(Vec::new(alloc)),
-        ));
-    }
     match first_unbuilt(shapes) {
         Some(component) => Some(told_in(alloc, component)),
         None => None,

@@ -2,13 +2,19 @@
 #![tactic(auto)]
 
 mod assembly;
+mod binding;
 mod fault;
 mod laws;
 mod outline;
+mod parameters;
 mod reading;
 
 pub use assembly::{AssemblyFault, assemble};
+pub use binding::{BindingFault, bind_parameters};
 pub use fault::Fault;
 pub use laws::loading_laws;
 pub use outline::{Outline, lone_outline};
-pub use reading::{read_outline, read_shape};
+pub use parameters::{GivenBinding, GivenMapping, GivenSet};
+pub use reading::{
+    mapping_within, read_mapping, read_outline, read_shape, read_values, values_within,
+};

@@ -5,7 +5,7 @@ use Rattle.system_files.specs.Loads.{EndsLoading, Loads}
 use Rattle.system_files.specs.Order.{Found, search_of}
 use Rattle.system_files.specs.Steps.{EndsModels, TakesModels}
 use Rattle.system_files.proofs.EndLemmas.{ends_models, ends_outline, loads}
-use Rattle.system_files.proofs.SoundLemmas.{outline_short, outline_whole}
+use Rattle.system_files.proofs.SoundLemmas.{outline_document, outline_named, outline_short, outline_whole}
 use Rattle.system_files.proofs.loading.load.Goals as goal
 
 ok_so : (r : Result Loaded LoadEnd) (P Q : Loaded → Type 0) → ((loaded : Loaded) → P loaded → Q loaded) → IfOk r P → IfOk r Q
@@ -19,6 +19,13 @@ err_so (Err end) P Q h p = h end p
 pub load_models-requires-clause-whole : goal.load_models-requires-clause-whole
 load_models-requires-clause-whole g c =
     outline_whole c.loading_laws.ensures.whole c.loading_laws.ensures.lone c.args.subject c.args.directory.now (g.F.Folder.view c.args.folder.now) c.in-Ok.outline c.in-Ok.ensures.ok
+
+pub load_models-requires-clause-tree : goal.load_models-requires-clause-tree
+load_models-requires-clause-tree g c =
+    outline_named c.loading_laws.ensures.named c.loading_laws.ensures.lone_named c.args.subject c.args.directory.now (g.F.Folder.view c.args.folder.now) c.in-Ok.outline c.in-Ok.ensures.ok
+
+pub load_models-requires-clause-document : goal.load_models-requires-clause-document
+load_models-requires-clause-document g c = outline_document c.args.subject c.args.directory.now (g.F.Folder.view c.args.folder.now) c.in-Ok.outline c.in-Ok.ensures.ok
 
 pub load_models-requires-clause-short : goal.load_models-requires-clause-short
 load_models-requires-clause-short g c =

@@ -2,7 +2,7 @@ use Rattle.system_loading.proofs.AssemblyLemmas.{refusal_told, makes_alone, save
 use Rattle.system_loading.proofs.assembly.assemble.Goals as goal
 
 pub returns-in-Some-clause-err : goal.returns-in-Some-clause-err
-returns-in-Some-clause-err c = c.in-Some.ensures (c.in-Ok.ensures.fitting, (c.in-Ok.system, c.in-Ok.ensures.found))
+returns-in-Some-clause-err c = c.in-Some.ensures c.args.outline.now (c.in-Ok.ensures.fitting, (c.in-Ok.system, c.in-Ok.ensures.found))
 
 pub returns-in-None-clause-ok : goal.returns-in-None-clause-ok
 returns-in-None-clause-ok c =

@@ -1,4 +1,5 @@
 use Rattle.std.proofs.Common.{ℕ, ◌≤◌, List, length, codes, subst, sym}
+use Rattle.system_loading.proofs.LoneLemmas.{lone_named}
 use Rattle.system_loading.proofs.TokenLemmas.{token_within}
 use Rattle.system_loading.proofs.laws.loading_laws.Goals as goal
 
@@ -12,6 +13,12 @@ returns-clause-token c = λ per_second bytes shape is.
 
 pub returns-clause-whole : goal.returns-clause-whole
 returns-clause-whole c = λ bytes outline is. c.whole_tree.ensures is.document outline.systems is.sound is.describes.1
+
+pub returns-clause-named : goal.returns-clause-named
+returns-clause-named c = λ bytes outline is. c.named_trees.ensures bytes is.document outline.systems is.denotes is.sound is.describes.1
+
+pub returns-clause-lone_named : goal.returns-clause-lone_named
+returns-clause-lone_named c = lone_named
 
 pub returns-clause-names : goal.returns-clause-names
 returns-clause-names c = λ bytes outline is. c.read_structures.ensures.names bytes is.document outline.systems is.denotes is.sound is.describes.1

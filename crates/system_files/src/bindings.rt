@@ -1,0 +1,227 @@
+//! What bindings of parameters give, whose files are read in document order.
+ghost use Rattle.std.specs.Prelude.{◌≡◌, IfErr, IfOk, IsSome};
+ghost use Rattle.parameter_values.specs.Ranges.{AreInRange};
+ghost use Rattle.system_files.specs.Files.{with_all_asked};
+ghost use Rattle.system_files.specs.Order.{IsPart, outline_path, part_files, part_path, part_told};
+ghost use Rattle.system_files.specs.Steps.{EndsBinding, EndsBindings, EndsPart, EndsWithin, FailsMapping, FailsMappingWithin, FailsValues, FailsValuesWithin, HasDocument, IsValuesAlone, SaysMapping, SaysMappingWithin, TakesBinding, TakesBindings, TellsWithin};
+
+use crate::loading::LoadEnd;
+use crate::named::NamedFile;
+use crate::paths::part_path;
+use crate::reading::{name_description, name_structure, read_names, read_set, refuse};
+use crate::room::NoMemory;
+use crate::subject::Subject;
+use sim_base::Folder;
+use ssd_tree::{Binding, Origin, Owner, SourceBase};
+use std::alloc::Global;
+use system_loading::{
+    Fault, GivenBinding, GivenMapping, GivenSet, Outline, mapping_within, values_within,
+};
+
+/// What each binding of an outline gives, in document order: its values, and then its mapping.
+pub(crate) fn load_bindings<F: Folder>(
+    alloc: Global,
+    subject: Subject,
+    directory: &str,
+    outline: &Outline,
+    folder: &mut F,
+) -> Result<Vec<GivenBinding>, LoadEnd>
+    requires { HasDocument outline.now }
+    ensures ok { IfOk result (λ given. TakesBindings directory.now outline.now outline.now.systems.bindings given.items (F.view folder.old) (F.view folder.new)) }
+    ensures err { IfErr result (λ end. EndsBindings subject directory.now outline.now end (F.view folder.old) (F.view folder.new)) }
+{
+    let bindings = outline.systems.bindings.as_slice();
+    let Ok(room) = Vec::with_capacity(alloc, bindings.len()) else {
+        return Err(LoadEnd::Memory);
+    };
+    let mut given = room;
+    for place in 0..bindings.len() {
+        let binding = &bindings[place];
+        match load_binding(alloc, subject, directory, outline, binding, folder) {
+            Ok(one) => given.push_reserved(one),
+            Err(end) => return Err(end),
+        }
+    }
+    Ok(given)
+}
+
+// What a binding gives: its values, and then its mapping.
+fn load_binding<F: Folder>(
+    alloc: Global,
+    subject: Subject,
+    directory: &str,
+    outline: &Outline,
+    binding: &Binding,
+    folder: &mut F,
+) -> Result<GivenBinding, LoadEnd>
+    requires { IsSome outline.now.document }
+    ensures ok { IfOk result (λ given. TakesBinding directory.now outline.now binding.now given (F.view folder.old) (F.view folder.new)) }
+    ensures err { IfErr result (λ end. EndsBinding subject directory.now outline.now binding.now end (F.view folder.old) (F.view folder.new)) }
+{
+    match load_values(
+        alloc,
+        subject,
+        directory,
+        outline,
+        binding.owner,
+        &binding.values,
+        folder,
+    ) {
+        Ok(values) => match &binding.mapping {
+            Some(origin) => match load_mapping(
+                alloc,
+                subject,
+                directory,
+                outline,
+                binding.owner,
+                origin,
+                folder,
+            ) {
+                Ok(mapping) => Ok(GivenBinding {
+                    values,
+                    mapping: Some(mapping),
+                }),
+                Err(end) => Err(end),
+            },
+            None => Ok(GivenBinding {
+                values,
+                mapping: None,
+            }),
+        },
+        Err(end) => Err(end),
+    }
+}
+
+// The values of a binding, from their file or from the outline.
+fn load_values<F: Folder>(
+    alloc: Global,
+    subject: Subject,
+    directory: &str,
+    outline: &Outline,
+    owner: Owner,
+    origin: &Origin,
+    folder: &mut F,
+) -> Result<GivenSet, LoadEnd>
+    requires { IsSome outline.now.document }
+    ensures ok { IfOk result (IsValuesAlone directory.now (F.view folder.old) outline.now owner origin.now) }
+    ensures range { IfOk result (λ given. AreInRange given.set) }
+    ensures told { IfOk result (λ given. F.view folder.new ≡ with_all_asked (F.view folder.old) (part_files directory.now outline.now owner origin.now)) }
+    ensures err { IfErr result (λ end. EndsPart FailsValues FailsValuesWithin subject directory.now outline.now owner origin.now end (F.view folder.old) (F.view folder.new)) }
+{
+    match origin {
+        Origin::File { base, path } => match name_part(
+            alloc,
+            directory,
+            outline,
+            owner,
+            *base,
+            path.as_str(),
+        ) {
+            Ok(file) => read_set(alloc, file, folder),
+            Err(_) => Err(LoadEnd::Memory),
+        },
+        Origin::Inline { node } => match values_within(alloc, outline, *node) {
+            Ok(given) => Ok(given),
+            Err(fault) => Err(refuse_within(alloc, subject, directory, fault)),
+        },
+    }
+}
+
+// The mapping of a binding, from its file or from the outline.
+fn load_mapping<F: Folder>(
+    alloc: Global,
+    subject: Subject,
+    directory: &str,
+    outline: &Outline,
+    owner: Owner,
+    origin: &Origin,
+    folder: &mut F,
+) -> Result<GivenMapping, LoadEnd>
+    requires { IsSome outline.now.document }
+    ensures ok { IfOk result (IsPart SaysMapping SaysMappingWithin directory.now (F.view folder.old) outline.now owner origin.now) }
+    ensures told { IfOk result (λ given. F.view folder.new ≡ with_all_asked (F.view folder.old) (part_files directory.now outline.now owner origin.now)) }
+    ensures err { IfErr result (λ end. EndsPart FailsMapping FailsMappingWithin subject directory.now outline.now owner origin.now end (F.view folder.old) (F.view folder.new)) }
+{
+    match origin {
+        Origin::File { base, path } => match name_part(
+            alloc,
+            directory,
+            outline,
+            owner,
+            *base,
+            path.as_str(),
+        ) {
+            Ok(file) => read_names(alloc, file, folder),
+            Err(_) => Err(LoadEnd::Memory),
+        },
+        Origin::Inline { node } => match mapping_within(alloc, outline, *node) {
+            Ok(given) => Ok(given),
+            Err(fault) => Err(refuse_within(alloc, subject, directory, fault)),
+        },
+    }
+}
+
+// The file of a part of a binding, before it is read.
+fn name_part(
+    alloc: Global,
+    directory: &str,
+    outline: &Outline,
+    owner: Owner,
+    base: SourceBase,
+    source: &str,
+) -> Result<NamedFile, NoMemory>
+    ensures { IfOk result (λ file. file.path ≡ part_path directory.now outline.now owner base source.now) }
+{
+    NamedFile::new(
+        alloc,
+        part_path(alloc, directory, outline, owner, base, source)?,
+    )
+}
+
+/// The file that tells the outline.
+pub(crate) fn name_outline(
+    alloc: Global,
+    subject: Subject,
+    directory: &str,
+) -> Result<NamedFile, NoMemory>
+    ensures { IfOk result (λ file. file.path ≡ outline_path subject directory.now) }
+{
+    match subject {
+        Subject::Fmu => name_description(alloc, directory),
+        Subject::System => name_structure(alloc, directory),
+    }
+}
+
+/// The file in which a part of a binding is told.
+pub(crate) fn name_part_told(
+    alloc: Global,
+    subject: Subject,
+    directory: &str,
+    outline: &Outline,
+    owner: Owner,
+    origin: &Origin,
+) -> Result<NamedFile, NoMemory>
+    ensures { IfOk result (λ file. file.path ≡ part_told subject directory.now outline.now owner origin.now) }
+{
+    match origin {
+        Origin::File { base, path } => name_part(
+            alloc,
+            directory,
+            outline,
+            owner,
+            *base,
+            path.as_str(),
+        ),
+        Origin::Inline { .. } => name_outline(alloc, subject, directory),
+    }
+}
+
+// The end at an element of the outline that breaks a rule by itself.
+fn refuse_within(alloc: Global, subject: Subject, directory: &str, fault: Fault) -> LoadEnd
+    ensures { TellsWithin fault (outline_path subject directory.now) result }
+{
+    match name_outline(alloc, subject, directory) {
+        Ok(file) => refuse(alloc, file, fault),
+        Err(_) => LoadEnd::Memory,
+    }
+}
