@@ -1,5 +1,5 @@
 -- From the winners of all triples to the values of all parameters.
-use Rattle.std.proofs.Common.{◌≡◌, ◌⊎◌, ◌↔◌, ◌<◌, ◌≤◌, ◌+◌, ℕ, zero, suc, Bool, true, false, Result, Ok, Err, IsSomeAnd, List, [], ◌∷◌, ◌++◌, length, Option, Some, None, IsSome, refl, sym, ap, ◌∙◌, subst, inl, inr, arith}
+use Rattle.std.proofs.Common.{◌≡◌, ◌⊎◌, ◌↔◌, ◌<◌, ◌≤◌, ◌+◌, ◌-◌, ℕ, zero, suc, Bool, true, false, Result, Ok, Err, IsSomeAnd, List, [], ◌∷◌, ◌++◌, length, Option, Some, None, IsSome, refl, sym, ap, ◌∙◌, subst, inl, inr, arith}
 use Rattle.std.specs.List.{slice_get, AllZip}
 use Rattle.std.specs.Result.{IfErr, IfOk}
 use Rattle.std.proofs.lemmas.Bool.{cases_lt}
@@ -208,57 +208,29 @@ not_less p r s (inr (e, inl x)) l = omega (arith, x)
 not_less p r s (inr (e, inr (f, inl x))) l = omega (arith, x)
 not_less p r s (inr (e, inr (f, inr x))) l = let m = x.1 in omega (arith, m, l)
 
+-- the rules in the order of their numbers
+rule_at : ℕ → ParameterRule
+rule_at zero = r.Structure
+rule_at (suc zero) = r.Incomplete
+rule_at (suc (suc zero)) = r.OtherClass
+rule_at (suc (suc (suc zero))) = r.OutOfRange
+rule_at (suc (suc (suc (suc zero)))) = r.Transformation
+rule_at (suc (suc (suc (suc (suc zero))))) = r.NoMapEntry
+rule_at (suc (suc (suc (suc (suc (suc n)))))) = r.NamesTwo
+
+rule_back : (a : ParameterRule) → rule_at (parameter_number a - 50) ≡ a
+unfolding rule_at
+rule_back r.Structure = refl
+rule_back r.Incomplete = refl
+rule_back r.OtherClass = refl
+rule_back r.OutOfRange = refl
+rule_back r.Transformation = refl
+rule_back r.NoMapEntry = refl
+rule_back r.NamesTwo = refl
+
 -- a number is that of one rule
 number_once : (a b : ParameterRule) → parameter_number a ≡ parameter_number b → a ≡ b
-number_once r.Structure r.Structure e = refl
-number_once r.Structure r.Incomplete e = absurd (omega (arith, e))
-number_once r.Structure r.OtherClass e = absurd (omega (arith, e))
-number_once r.Structure r.OutOfRange e = absurd (omega (arith, e))
-number_once r.Structure r.Transformation e = absurd (omega (arith, e))
-number_once r.Structure r.NoMapEntry e = absurd (omega (arith, e))
-number_once r.Structure r.NamesTwo e = absurd (omega (arith, e))
-number_once r.Incomplete r.Structure e = absurd (omega (arith, e))
-number_once r.Incomplete r.Incomplete e = refl
-number_once r.Incomplete r.OtherClass e = absurd (omega (arith, e))
-number_once r.Incomplete r.OutOfRange e = absurd (omega (arith, e))
-number_once r.Incomplete r.Transformation e = absurd (omega (arith, e))
-number_once r.Incomplete r.NoMapEntry e = absurd (omega (arith, e))
-number_once r.Incomplete r.NamesTwo e = absurd (omega (arith, e))
-number_once r.OtherClass r.Structure e = absurd (omega (arith, e))
-number_once r.OtherClass r.Incomplete e = absurd (omega (arith, e))
-number_once r.OtherClass r.OtherClass e = refl
-number_once r.OtherClass r.OutOfRange e = absurd (omega (arith, e))
-number_once r.OtherClass r.Transformation e = absurd (omega (arith, e))
-number_once r.OtherClass r.NoMapEntry e = absurd (omega (arith, e))
-number_once r.OtherClass r.NamesTwo e = absurd (omega (arith, e))
-number_once r.OutOfRange r.Structure e = absurd (omega (arith, e))
-number_once r.OutOfRange r.Incomplete e = absurd (omega (arith, e))
-number_once r.OutOfRange r.OtherClass e = absurd (omega (arith, e))
-number_once r.OutOfRange r.OutOfRange e = refl
-number_once r.OutOfRange r.Transformation e = absurd (omega (arith, e))
-number_once r.OutOfRange r.NoMapEntry e = absurd (omega (arith, e))
-number_once r.OutOfRange r.NamesTwo e = absurd (omega (arith, e))
-number_once r.Transformation r.Structure e = absurd (omega (arith, e))
-number_once r.Transformation r.Incomplete e = absurd (omega (arith, e))
-number_once r.Transformation r.OtherClass e = absurd (omega (arith, e))
-number_once r.Transformation r.OutOfRange e = absurd (omega (arith, e))
-number_once r.Transformation r.Transformation e = refl
-number_once r.Transformation r.NoMapEntry e = absurd (omega (arith, e))
-number_once r.Transformation r.NamesTwo e = absurd (omega (arith, e))
-number_once r.NoMapEntry r.Structure e = absurd (omega (arith, e))
-number_once r.NoMapEntry r.Incomplete e = absurd (omega (arith, e))
-number_once r.NoMapEntry r.OtherClass e = absurd (omega (arith, e))
-number_once r.NoMapEntry r.OutOfRange e = absurd (omega (arith, e))
-number_once r.NoMapEntry r.Transformation e = absurd (omega (arith, e))
-number_once r.NoMapEntry r.NoMapEntry e = refl
-number_once r.NoMapEntry r.NamesTwo e = absurd (omega (arith, e))
-number_once r.NamesTwo r.Structure e = absurd (omega (arith, e))
-number_once r.NamesTwo r.Incomplete e = absurd (omega (arith, e))
-number_once r.NamesTwo r.OtherClass e = absurd (omega (arith, e))
-number_once r.NamesTwo r.OutOfRange e = absurd (omega (arith, e))
-number_once r.NamesTwo r.Transformation e = absurd (omega (arith, e))
-number_once r.NamesTwo r.NoMapEntry e = absurd (omega (arith, e))
-number_once r.NamesTwo r.NamesTwo e = refl
+number_once a b e = sym (rule_back a) ∙ ap (λ n. rule_at (n - 50)) e ∙ rule_back b
 
 breaks_binding : (t : SystemTree) (shapes : List Shape) (sets : List BindingSets) (rule : ParameterRule) (p : Place) (c : Triple) → Breaks t shapes sets rule p c → c.binding ≡ p.binding
 breaks_binding t shapes sets r.Structure p c h = absurd h
