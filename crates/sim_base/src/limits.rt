@@ -6,3 +6,6 @@ pub const MOST_FILE_BYTES: u64 = 1 << 24;
 
 /// The greatest length of an instance's name or token, in bytes.
 pub const MOST_NAME_BYTES: usize = 1 << 24;
+
+/// The most instants that a plan can allow at one point.
+pub const MOST_INSTANTS: u64 = 10_000;

@@ -1,8 +1,9 @@
 ghost use Rattle.std.specs.Prelude.{◌≤◌, length};
 
 use crate::{
-    Folder, Items, MOST_COUNTS, MOST_FILE_BYTES, MOST_NAME_BYTES, MemFile, MemFolder, MemSink,
-    ReadFault, Sink, SinkFault, Text, escape, escaped_byte, join_path,
+    Folder, Items, MOST_COUNTS, MOST_FILE_BYTES, MOST_INSTANTS, MOST_NAME_BYTES, MemFile,
+    MemFolder, MemSink, MemSource, ReadFault, Sink, SinkFault, Source, SourceFault, Text, escape,
+    escaped_byte, join_path,
 };
 use std::alloc::{AllocError, Global};
 use std::process::Abort;
@@ -117,6 +118,29 @@ fn a_sink_fails_by_its_list_and_its_room(rt: HostRuntime) -> Result<(), Fail> {
     Ok(())
 }
 
+// At each take: the room, what the source answers, and the front of the room behind it.
+const TAKES: [(usize, Result<usize, SourceFault>, &[u8]); 6] = [
+    (2, Ok(2), b"ab"),
+    (2, Err(SourceFault), b""),
+    (0, Ok(0), b""),
+    (4, Ok(1), b"c"),
+    (4, Ok(0), b""),
+    (1, Ok(0), b""),
+];
+
+#[test]
+fn a_source_gives_its_bytes_in_their_order(rt: HostRuntime) -> Result<(), Fail> {
+    let alloc = rt.alloc();
+    let mut source = MemSource::new(b"abc".to_vec(alloc)?, vec![in alloc; 1]?);
+    for (room, want, front) in TAKES {
+        let mut into = vec![in alloc; b'-'; room]?;
+        assert_eq!(rt; source.take(&mut into), want);
+        assert!(rt; into.starts_with(front));
+    }
+    assert_eq!(rt; (source.taken, source.takes, source.faults), (3, 6, 1));
+    Ok(())
+}
+
 #[test]
 fn lists_and_texts_are_what_they_were_made_of(rt: HostRuntime) -> Result<(), Fail> {
     let alloc = rt.alloc();
@@ -129,6 +153,7 @@ fn lists_and_texts_are_what_they_were_made_of(rt: HostRuntime) -> Result<(), Fai
     let text = Text::from_string(String::from_str(alloc, "u")?);
     assert_eq!(rt; text.copy(alloc)?.as_str(), "u");
     assert_eq!(rt; MOST_COUNTS, 4_611_686_018_427_387_904);
+    assert_eq!(rt; MOST_INSTANTS, 10_000);
     assert_eq!(rt;
         (MOST_FILE_BYTES, MOST_NAME_BYTES),
         (16_777_216, 16_777_216)
