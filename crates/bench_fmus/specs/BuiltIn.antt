@@ -1,5 +1,5 @@
 -- What the built-in machines have in common: the numbers of a state, the values under references, and the machine that a behaviour makes.
-use Rattle.std.specs.Prelude.{ℕ, ◌+◌, ℤ, pos, int_lt, Bool, false, List, [], ◌∷◌, slice_index_or, filter, map, Option, Some, None, unwrap_or, if◌then◌else◌}
+use Rattle.std.specs.Prelude.{ℕ, ◌+◌, ◌==◌, ℤ, pos, ◌+ℤ◌, int_lt, Bool, true, false, List, [], ◌∷◌, slice_index_or, filter, map, Option, Some, None, unwrap_or, if◌then◌else◌}
 use Rattle.value_types.specs.Shape.{is_at, is_declared}
 use Rattle.value_types.specs.Values.{word_of}
 use Rattle.value_types.specs.declared.values.PortType.TheVariants.{Clock}
@@ -16,7 +16,7 @@ use Rattle.fmi_calls.specs.declared.call.Interval.TheVariants.{NotYetKnown, Chan
 use Rattle.fmi_calls.specs.declared.call.Reply.TheVariants.{Done}
 use Rattle.fmi_calls.specs.Worth.{variability_at}
 use Rattle.fmu_peer.specs.Machine.{Machine, MachineState, is_input_clock, value_at}
-use Rattle.bench_fmus.specs.Wrapping.{wrapped}
+use Rattle.bench_fmus.specs.Wrapping.{wrapped, wrapped_int64}
 
 -- ---- a state
 
@@ -37,6 +37,10 @@ numbers_in xs = record { mark = slice_index_or xs 0 (pos 0); held = slice_index_
 -- before the first call
 abbrev pub at_first : Numbers
 at_first = record { mark = pos 0; held = pos 0; count = pos 0 }
+
+-- the count goes on by one
+abbrev pub one_more : Numbers → Numbers
+one_more n = record n { count = wrapped_int64 (n.count +ℤ pos 1) }
 
 -- the state is in Initialization Mode
 abbrev pub is_marked : Numbers → Bool
@@ -60,11 +64,17 @@ first_state variables = record { numbers = listed at_first; values = spread vari
 
 -- ---- a machine
 
--- how a machine behaves: what a reference shows, whether a step of a size asks to end the simulation, and the numbers after a call, the mark aside; each by the numbers and the values
+-- how a machine behaves: what a reference shows, where a step from a point of a size ends early, whether a step of a size asks to end the simulation, whether an Update asks for another, and the numbers after a call, the mark aside; each by the numbers and the values
 pub record Behaviour : Type 0 where
   pub shown : Shape → Numbers → List ℤ → ℕ → ℤ
+  pub early_end : Shape → List ℤ → ℕ → ℕ → Option ℕ
   pub asks_to_end : List Variable → List ℤ → ℕ → Bool
-  pub changed : List Variable → Numbers → List ℤ → Call → Numbers
+  pub asks_again : List Variable → Numbers → List ℤ → Bool
+  pub changed : Shape → Numbers → List ℤ → Call → Numbers
+
+-- the count under a reference of its own, and the value under any other
+abbrev pub count_at : ℕ → Shape → Numbers → List ℤ → ℕ → ℤ
+count_at own shape n values reference = if reference == own then n.count else value_of shape.variables values reference
 
 -- the output declares to depend on the variable under a reference, by the list of the mode
 abbrev pub is_declared_at : Shape → Numbers → ℕ → ℕ → Bool
@@ -79,14 +89,19 @@ abbrev pub interval_of : Option IntervalVariability → Interval
 interval_of (Some Countdown) = NotYetKnown
 interval_of _ = Changed (record { counter = 1; resolution = 1 })
 
+-- a step ends at its bound, or early, and then needs an event where the FMU has event mode
+abbrev pub step_content : Bool → Bool → ℕ → Option ℕ → Content
+step_content has_event_mode terminate bound None = A.DoStep false terminate false bound
+step_content has_event_mode terminate bound (Some end) = A.DoStep has_event_mode terminate true end
+
 -- what a reply carries
 abbrev pub content_of : Behaviour → Shape → Numbers → List ℤ → Call → Content
-content_of b shape n values (C.DoStep at size) = A.DoStep false (b.asks_to_end shape.variables values size) false (at + size)
+content_of b shape n values (C.DoStep at size) = step_content shape.has_event_mode (b.asks_to_end shape.variables values size) (at + size) (b.early_end shape values at size)
 content_of b shape n values (C.Get kind reference) = A.Get (word_of (wrapped kind (b.shown shape n values reference)))
 content_of b shape n values (C.GetClock reference) = A.GetClock (word_of (wrapped Clock (b.shown shape n values reference)))
 content_of b shape n values (C.GetInterval reference) = A.GetInterval (interval_of (variability_at shape reference))
 content_of b shape n values (C.GetShift reference) = A.GetShift (record { counter = 0; resolution = 1 })
-content_of b shape n values C.Update = A.Update false false None
+content_of b shape n values C.Update = A.Update (b.asks_again shape.variables n values) false None
 content_of b shape n values (C.Instantiate event_mode early_return) = A.Instantiate
 content_of b shape n values (C.EnterInitialization start stop) = A.EnterInitialization
 content_of b shape n values C.ExitInitialization = A.ExitInitialization
@@ -107,8 +122,8 @@ mark_after mark C.ExitInitialization = pos 0
 mark_after mark _ = mark
 
 -- the numbers after a call; what Set, Save, Restore and Free do is the same for every machine
-abbrev pub numbers_after : Behaviour → List Variable → Numbers → List ℤ → Call → Numbers
-numbers_after b variables n values call = record (b.changed variables n values call) { mark = mark_after n.mark call }
+abbrev pub numbers_after : Behaviour → Shape → Numbers → List ℤ → Call → Numbers
+numbers_after b shape n values call = record (b.changed shape n values call) { mark = mark_after n.mark call }
 
 abbrev pub machine_of : Behaviour → Shape → Machine
 machine_of b shape = record {
@@ -117,5 +132,5 @@ machine_of b shape = record {
   first = first_state shape.variables;
   initializing = λ numbers. is_marked (numbers_in numbers);
   look = λ s call. Done false (content_of b shape (numbers_in s.numbers) s.values call);
-  change = λ s call. listed (numbers_after b shape.variables (numbers_in s.numbers) s.values call);
+  change = λ s call. listed (numbers_after b shape (numbers_in s.numbers) s.values call);
 }

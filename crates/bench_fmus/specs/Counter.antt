@@ -1,19 +1,21 @@
 -- The machine `counter`: each step adds the parameter under reference 1 to a count, which is the output under
 -- reference 2. A step as long as the parameter under reference 3, where that is above 0, asks to end the simulation.
-use Rattle.std.specs.Prelude.{List, ℤ, pos, ◌+ℤ◌, int_lt, int_le, ◌&&◌, ◌==◌, if◌then◌else◌}
-use Rattle.value_types.specs.declared.shape.Variable.{Variable}
+use Rattle.std.specs.Prelude.{List, ℤ, pos, ◌+ℤ◌, int_lt, int_le, false, ◌&&◌, None}
+use Rattle.value_types.specs.declared.shape.Shape.{Shape}
 use Rattle.fmi_calls.specs.declared.call.Call.{Call}
 use Rattle.fmi_calls.specs.declared.call.Call.TheVariants as C
-use Rattle.bench_fmus.specs.BuiltIn.{Behaviour, Numbers, value_of}
+use Rattle.bench_fmus.specs.BuiltIn.{Behaviour, Numbers, count_at, value_of}
 use Rattle.bench_fmus.specs.Wrapping.{wrapped_int64}
 
-abbrev pub counted : List Variable → Numbers → List ℤ → Call → Numbers
-counted variables n values (C.DoStep at size) = record n { count = wrapped_int64 (n.count +ℤ value_of variables values 1) }
-counted variables n values _ = n
+abbrev pub counted : Shape → Numbers → List ℤ → Call → Numbers
+counted shape n values (C.DoStep at size) = record n { count = wrapped_int64 (n.count +ℤ value_of shape.variables values 1) }
+counted shape n values _ = n
 
 abbrev pub counter : Behaviour
 counter = record {
-  shown = λ shape n values reference. if reference == 2 then n.count else value_of shape.variables values reference;
+  shown = count_at 2;
+  early_end = λ shape values at size. None;
   asks_to_end = λ variables values size. int_lt (pos 0) (value_of variables values 3) && int_le (value_of variables values 3) (pos size);
+  asks_again = λ variables n values. false;
   changed = counted;
 }

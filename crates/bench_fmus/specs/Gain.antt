@@ -1,6 +1,6 @@
 -- The machine `gain`: its output under reference 3 is the input under reference 2 times the factor under reference 1.
 -- An input that the output doesn't depend on counts with its value when time last went on.
-use Rattle.std.specs.Prelude.{List, ℤ, false, ◌*ℤ◌, ◌==◌, if◌then◌else◌}
+use Rattle.std.specs.Prelude.{List, ℤ, false, ◌*ℤ◌, ◌==◌, None, if◌then◌else◌}
 use Rattle.value_types.specs.Shape.{is_at, is_input}
 use Rattle.value_types.specs.declared.shape.Variable.{Variable}
 use Rattle.value_types.specs.declared.shape.Shape.{Shape}
@@ -19,15 +19,17 @@ abbrev pub product : Shape → Numbers → List ℤ → ℤ
 product shape n values = wrapped_int64 (factor shape n values *ℤ seen_by shape n values 3 2)
 
 -- the input is held where Initialization Mode, an instant or a step ends
-abbrev pub holding : List Variable → Numbers → List ℤ → Call → Numbers
-holding variables n values C.ExitInitialization = record n { held = wrapped_int64 (value_of variables values 2) }
-holding variables n values C.Update = record n { held = wrapped_int64 (value_of variables values 2) }
-holding variables n values (C.DoStep at size) = record n { held = wrapped_int64 (value_of variables values 2) }
-holding variables n values _ = n
+abbrev pub holding : Shape → Numbers → List ℤ → Call → Numbers
+holding shape n values C.ExitInitialization = record n { held = wrapped_int64 (value_of shape.variables values 2) }
+holding shape n values C.Update = record n { held = wrapped_int64 (value_of shape.variables values 2) }
+holding shape n values (C.DoStep at size) = record n { held = wrapped_int64 (value_of shape.variables values 2) }
+holding shape n values _ = n
 
 abbrev pub gain : Behaviour
 gain = record {
   shown = λ shape n values reference. if reference == 3 then product shape n values else value_of shape.variables values reference;
+  early_end = λ shape values at size. None;
   asks_to_end = λ variables values size. false;
+  asks_again = λ variables n values. false;
   changed = holding;
 }

@@ -17,10 +17,12 @@ use Rattle.fmi_calls.specs.declared.call.Content.TheVariants as A
 use Rattle.fmi_calls.specs.declared.call.Reply.TheVariants.{Done}
 use Rattle.fmu_peer.specs.Machine.{IgnoresSlot, IsLawful, IsMachineOf, MachineState, changes_mode}
 use Rattle.bench_fmus.specs.declared.model.Model.{Model}
-use Rattle.bench_fmus.specs.declared.model.Model.TheVariants.{Counter, Gain}
-use Rattle.bench_fmus.specs.BuiltIn.{Behaviour, Numbers, is_declared_at, is_marked, machine_of, numbers_after, numbers_in, seen_by, value_of}
+use Rattle.bench_fmus.specs.declared.model.Model.TheVariants.{Counter, Gain, Alarm, Settle}
+use Rattle.bench_fmus.specs.BuiltIn.{Behaviour, Numbers, count_at, is_declared_at, is_marked, machine_of, numbers_after, numbers_in, seen_by, value_of}
 use Rattle.bench_fmus.specs.Counter.{counter}
 use Rattle.bench_fmus.specs.Gain.{factor, gain, product}
+use Rattle.bench_fmus.specs.Alarm.{alarm}
+use Rattle.bench_fmus.specs.Settle.{settle}
 use Rattle.bench_fmus.specs.Models.{behaviour_of}
 use Rattle.bench_fmus.specs.Wrapping.{wrapped, wrapped_int64}
 use Rattle.value_types.specs.Values.{word_of}
@@ -34,7 +36,7 @@ and_false false = refl
 
 -- only EnterInitialization and ExitInitialization change the mark
 keeps_mark : (b : Behaviour) (shape : Shape) (s : MachineState) (call : Call) → changes_mode call ≡ false →
-    is_marked (numbers_after b shape.variables (numbers_in s.numbers) s.values call) ≡ is_marked (numbers_in s.numbers)
+    is_marked (numbers_after b shape (numbers_in s.numbers) s.values call) ≡ is_marked (numbers_in s.numbers)
 keeps_mark b shape s (C.EnterInitialization start stop) other = absurd (cc)
 keeps_mark b shape s C.ExitInitialization other = absurd (cc)
 keeps_mark b shape s (C.DoStep at size) other = refl
@@ -143,7 +145,7 @@ own_is_lawful b shape own C.ExitInitialization output s xs ys looked found mode 
 own_is_lawful b shape own C.EnterEvent output s xs ys looked found mode agree = refl
 own_is_lawful b shape own C.EnterStep output s xs ys looked found mode agree = refl
 own_is_lawful b shape own (C.DoStep at size) output s xs ys looked found mode agree = absurd (cc)
-own_is_lawful b shape own C.Update output s xs ys looked found mode agree = refl
+own_is_lawful b shape own C.Update output s xs ys looked found mode agree = absurd (cc)
 own_is_lawful b shape own (C.Set kind reference value) output s xs ys looked found mode agree = refl
 own_is_lawful b shape own (C.SetClock reference) output s xs ys looked found mode agree = refl
 own_is_lawful b shape own (C.GetInterval reference) output s xs ys looked found mode agree = refl
@@ -156,8 +158,10 @@ own_is_lawful b shape own C.FreeInstance output s xs ys looked found mode agree 
 
 -- ---- each machine
 
-counter_declared : ShowsDeclared counter
-counter_declared shape n output xs ys found agree = ap (λ (x : ℤ). if output == 2 then n.count else x) (value_same shape (is_marked n) output xs ys agree found)
+count_declared : (own : ℕ) (shape : Shape) (n : Numbers) (output : ℕ) (xs ys : List ℤ) →
+    IsSomeAnd (variable_at shape.variables output) (λ (v : Variable). v.causality ≡ Output) → AgreeFor shape (is_marked n) output xs ys →
+    count_at own shape n xs output ≡ count_at own shape n ys output
+count_declared own shape n output xs ys found agree = ap (λ (x : ℤ). if output == own then n.count else x) (value_same shape (is_marked n) output xs ys agree found)
 
 module _ (shape : Shape) (n : Numbers) (xs ys : List ℤ) (agree : AgreeFor shape (is_marked n) 3 xs ys) where
   seen_same : (reference : ℕ) → seen_by shape n xs 3 reference ≡ seen_by shape n ys 3 reference
@@ -187,5 +191,7 @@ gain_declared shape n output xs ys found agree = by (output == 3) refl
     by false other = value_same shape (is_marked n) output xs ys agree found
 
 pub is_lawful : (model : Model) (shape : Shape) → IsLawful shape (machine_of (behaviour_of model) shape)
-is_lawful Counter shape = own_is_lawful counter shape counter_declared
+is_lawful Counter shape = own_is_lawful counter shape (count_declared 2)
 is_lawful Gain shape = own_is_lawful gain shape gain_declared
+is_lawful Alarm shape = own_is_lawful alarm shape (count_declared 2)
+is_lawful Settle shape = own_is_lawful settle shape (count_declared 2)

@@ -2,6 +2,8 @@ pub mod Wrapping
 pub mod BuiltIn
 pub mod Counter
 pub mod Gain
+pub mod Alarm
+pub mod Settle
 pub mod Models
 pub mod Told
 pub mod Laws

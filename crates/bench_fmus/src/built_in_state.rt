@@ -1,12 +1,12 @@
-ghost use Rattle.std.specs.Prelude.{◌≡◌, ◌+◌, ◌<◌, ◌≤◌, IfOk, false, if◌then◌else◌, int_lt, length, map, pos, set, slice_get, true, unwrap_or};
+ghost use Rattle.std.specs.Prelude.{◌≡◌, ◌+◌, ◌<◌, ◌≤◌, IfOk, false, filter, if◌then◌else◌, int_lt, length, map, pos, set, slice_get, true, unwrap_or};
 ghost use Rattle.std.specs.Option.{option_map_or};
 ghost use Rattle.fmi_calls.specs.Permission.{Permitted};
-ghost use Rattle.fmu_peer.specs.Machine.{after, written};
+ghost use Rattle.fmu_peer.specs.Machine.{after, all_written, is_input_clock, written, zero_at};
 ghost use Rattle.value_types.specs.Shape.{dependency_at, is_known};
-ghost use Rattle.bench_fmus.specs.BuiltIn.{mark_after, spread, start_of};
+ghost use Rattle.bench_fmus.specs.BuiltIn.{mark_after, spread, start_of, step_content};
 ghost use Rattle.bench_fmus.specs.Told.{number_of_flag};
 
-use crate::wrap::wrapped_word;
+use crate::wrap::{wrapped_word, wrapping_sum};
 use crate::{Model, SavedState};
 use fmi_calls::{Call, Content, Phase};
 use std::alloc::{AllocError, Global};
@@ -23,7 +23,7 @@ pub struct Numbers {
 }
 
 impl Numbers {
-    ghost use Rattle.bench_fmus.specs.BuiltIn.{at_first};
+    ghost use Rattle.bench_fmus.specs.BuiltIn.{at_first, one_more};
     ghost use Rattle.bench_fmus.specs.Told.{told};
 
     /// The numbers before the first call.
@@ -34,6 +34,16 @@ impl Numbers {
             is_initializing: false,
             held: 0,
             count: 0,
+        }
+    }
+
+    /// The count goes on by one.
+    pub(crate) fn one_more(self) -> Numbers
+        ensures { told result ≡ one_more (told self) }
+    {
+        Numbers {
+            count: wrapping_sum(self.count, 1),
+            ..self
         }
     }
 }
@@ -48,7 +58,7 @@ pub struct BuiltInState {
 }
 
 impl BuiltInState {
-    ghost use Rattle.bench_fmus.specs.BuiltIn.{content_of, first_state, is_declared_at, machine_of, numbers_after, seen_by, value_of};
+    ghost use Rattle.bench_fmus.specs.BuiltIn.{content_of, count_at, first_state, is_declared_at, machine_of, numbers_after, seen_by, value_of};
     ghost use Rattle.bench_fmus.specs.Models.{behaviour_of};
     ghost use Rattle.bench_fmus.specs.Told.{HasRoom, state_in, told, values_in};
 
@@ -72,6 +82,17 @@ impl BuiltInState {
         match variables.place_of(reference) {
             Some(place) => number_at(self.values.as_slice(), place),
             None => 0,
+        }
+    }
+
+    /// The count under a reference of its own, and the value under any other.
+    pub(crate) fn count_at(&self, shape: &Shape, own: u32, reference: u32) -> i128
+        ensures { result ≡ count_at own shape.now (told self.now.numbers) (values_in shape.now.variables self.now) reference }
+    {
+        if reference == own {
+            i128::from(self.numbers.count)
+        } else {
+            self.value(&shape.variables, reference)
         }
     }
 
@@ -107,11 +128,18 @@ impl BuiltInState {
             Call::Instantiate { .. } => Content::Instantiate,
             Call::EnterInitialization { .. } => Content::EnterInitialization,
             Call::ExitInitialization => Content::ExitInitialization,
-            Call::DoStep { at, size } => Content::DoStep {
-                event_needed: false,
-                terminate: model.asks_to_end(&shape.variables, self, size),
-                early: false,
-                end: step_end(phase.stop, at, size),
+            Call::EnterEvent => Content::EnterEvent,
+            Call::EnterStep => Content::EnterStep,
+            Call::DoStep { at, size } => step_content(
+                shape.has_event_mode,
+                model.asks_to_end(&shape.variables, self, size),
+                bound(phase.stop, at, size),
+                model.early_end(shape, self, at, size),
+            ),
+            Call::Update => Content::Update {
+                again: model.asks_again(&shape.variables, self),
+                terminate: false,
+                event_time: None,
             },
             Call::Get { kind, reference } => Content::Get {
                 word: wrapped_word(kind, model.shown(shape, self, reference)),
@@ -122,22 +150,19 @@ impl BuiltInState {
             Call::Free => Content::Free,
             Call::Terminate => Content::Terminate,
             Call::FreeInstance => Content::FreeInstance,
-            Call::EnterEvent
-            | Call::EnterStep
-            | Call::Update
-            | Call::GetClock { .. }
+            Call::GetClock { .. }
             | Call::SetClock { .. }
             | Call::GetInterval { .. }
             | Call::GetShift { .. } => unreachable!("no phase permits it yet"),
         }
     }
 
-    fn next_numbers(&self, model: Model, variables: &ByReference<Variable>, call: &Call) -> Numbers
-        ensures { told result ≡ numbers_after (behaviour_of model) variables.now (told self.now.numbers) (values_in variables.now self.now) call.now }
+    fn next_numbers(&self, model: Model, shape: &Shape, call: &Call) -> Numbers
+        ensures { told result ≡ numbers_after (behaviour_of model) shape.now (told self.now.numbers) (values_in shape.now.variables self.now) call.now }
     {
         Numbers {
             is_initializing: is_initializing_after(self.numbers.is_initializing, call),
-            ..model.changed(variables, self, call)
+            ..model.changed(shape, self, call)
         }
     }
 
@@ -161,15 +186,18 @@ impl BuiltInState {
             Call::Instantiate { .. }
             | Call::EnterInitialization { .. }
             | Call::ExitInitialization
+            | Call::EnterEvent
+            | Call::EnterStep
             | Call::DoStep { .. }
             | Call::Terminate
             | Call::FreeInstance => {
-                self.numbers = self.next_numbers(model, &shape.variables, call);
+                self.numbers = self.next_numbers(model, shape, call);
             }
-            Call::EnterEvent
-            | Call::EnterStep
-            | Call::Update
-            | Call::GetClock { .. }
+            Call::Update => {
+                self.numbers = self.next_numbers(model, shape, call);
+                untick(&shape.variables, &mut self.values);
+            }
+            Call::GetClock { .. }
             | Call::SetClock { .. }
             | Call::GetInterval { .. }
             | Call::GetShift { .. } => unreachable!("no phase permits it yet"),
@@ -200,8 +228,33 @@ impl BuiltInState {
     }
 }
 
+// What a step answers.
+fn step_content(
+    has_event_mode: bool,
+    terminate: bool,
+    bound: u64,
+    early_end: Option<u64>,
+) -> Content
+    ensures { result ≡ step_content has_event_mode terminate bound early_end }
+{
+    match early_end {
+        None => Content::DoStep {
+            event_needed: false,
+            terminate,
+            early: false,
+            end: bound,
+        },
+        Some(end) => Content::DoStep {
+            event_needed: has_event_mode,
+            terminate,
+            early: true,
+            end,
+        },
+    }
+}
+
 // The stop shows that the sum fits.
-fn step_end(_stop: u64, at: u64, size: u64) -> u64
+fn bound(_stop: u64, at: u64, size: u64) -> u64
     requires { at + size ≤ _stop }
     ensures { result ≡ at + size }
 {
@@ -234,6 +287,25 @@ fn write_value(variables: &ByReference<Variable>, values: &mut [i128], reference
         Some(place) => put(values, place, value),
         None => {}
     }
+}
+
+// Makes the input Clocks inactive.
+fn untick(variables: &ByReference<Variable>, values: &mut [i128])
+    requires { length values.old ≡ length variables.now }
+    ensures values { spread variables.now values.new ≡ all_written (map (λ v. v.reference) variables.now) (zero_at (map (λ v. v.reference) (filter is_input_clock variables.now))) (spread variables.now values.old) }
+    ensures room { length values.new ≡ length values.old }
+{
+    for variable in variables.as_slice() {
+        if is_input_clock(variable) {
+            write_value(variables, values, variable.reference, 0);
+        }
+    }
+}
+
+fn is_input_clock(variable: &Variable) -> bool
+    ensures { result ≡ is_input_clock variable.now }
+{
+    variable.is_input_port() && variable.is_clock()
 }
 
 fn put(values: &mut [i128], place: usize, value: i128)

@@ -20,11 +20,7 @@ const LONG: u32 = 3;
 pub(crate) fn shown(shape: &Shape, state: &BuiltInState, reference: u32) -> i128
     ensures { result ≡ counter.shown shape.now (told state.now.numbers) (values_in shape.now.variables state.now) reference }
 {
-    if reference == OUTPUT {
-        i128::from(state.numbers.count)
-    } else {
-        state.value(&shape.variables, reference)
-    }
+    state.count_at(shape, OUTPUT, reference)
 }
 
 pub(crate) fn asks_to_end(
@@ -39,16 +35,15 @@ pub(crate) fn asks_to_end(
 }
 
 /// The numbers after a call: a step counts.
-pub(crate) fn changed(
-    variables: &ByReference<Variable>,
-    state: &BuiltInState,
-    call: &Call,
-) -> Numbers
-    ensures { told result ≡ counted variables.now (told state.now.numbers) (values_in variables.now state.now) call.now }
+pub(crate) fn changed(shape: &Shape, state: &BuiltInState, call: &Call) -> Numbers
+    ensures { told result ≡ counted shape.now (told state.now.numbers) (values_in shape.now.variables state.now) call.now }
 {
     match *call {
         Call::DoStep { .. } => Numbers {
-            count: wrapping_sum(state.numbers.count, state.value(variables, INCREMENT)),
+            count: wrapping_sum(
+                state.numbers.count,
+                state.value(&shape.variables, INCREMENT),
+            ),
             ..state.numbers
         },
         _ => state.numbers,

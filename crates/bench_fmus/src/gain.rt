@@ -55,16 +55,12 @@ fn is_input_at(variables: &ByReference<Variable>, reference: u32) -> bool
 }
 
 /// The numbers after a call: the input is held where time goes on.
-pub(crate) fn changed(
-    variables: &ByReference<Variable>,
-    state: &BuiltInState,
-    call: &Call,
-) -> Numbers
-    ensures { told result ≡ holding variables.now (told state.now.numbers) (values_in variables.now state.now) call.now }
+pub(crate) fn changed(shape: &Shape, state: &BuiltInState, call: &Call) -> Numbers
+    ensures { told result ≡ holding shape.now (told state.now.numbers) (values_in shape.now.variables state.now) call.now }
 {
     match *call {
         Call::ExitInitialization | Call::Update | Call::DoStep { .. } => Numbers {
-            held: wrapping_value(state.value(variables, INPUT)),
+            held: wrapping_value(state.value(&shape.variables, INPUT)),
             ..state.numbers
         },
         _ => state.numbers,

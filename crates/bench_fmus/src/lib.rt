@@ -1,6 +1,7 @@
 //! Peers that need no FMU: built-in machines, and scripts of given answers, with the spawners that start them.
 #![tactic(auto)]
 
+mod alarm;
 mod bench;
 mod built_in;
 mod built_in_state;
@@ -12,6 +13,7 @@ mod retired;
 mod saved_state;
 mod script;
 mod scripts;
+mod settle;
 mod start_plan;
 #[cfg(test)]
 mod tests;

@@ -1,6 +1,6 @@
-ghost use Rattle.std.specs.Prelude.{◌≡◌};
+ghost use Rattle.std.specs.Prelude.{◌≡◌, ◌+◌, ◌<◌, ◌^◌};
 
-use crate::{BuiltInState, Numbers, counter, gain};
+use crate::{BuiltInState, Numbers, alarm, counter, gain, settle};
 use fmi_calls::Call;
 use value_types::{ByReference, Shape, Variable};
 
@@ -9,6 +9,8 @@ use value_types::{ByReference, Shape, Variable};
 pub enum Model {
     Counter,
     Gain,
+    Alarm,
+    Settle,
 }
 
 impl Model {
@@ -22,6 +24,8 @@ impl Model {
         match identifier {
             "counter" => Some(Model::Counter),
             "gain" => Some(Model::Gain),
+            "alarm" => Some(Model::Alarm),
+            "settle" => Some(Model::Settle),
             _ => None,
         }
     }
@@ -33,6 +37,25 @@ impl Model {
         match self {
             Model::Counter => counter::shown(shape, state, reference),
             Model::Gain => gain::shown(shape, state, reference),
+            Model::Alarm => alarm::shown(shape, state, reference),
+            Model::Settle => settle::shown(shape, state, reference),
+        }
+    }
+
+    /// Where a step ends early.
+    pub(crate) fn early_end(
+        self,
+        shape: &Shape,
+        state: &BuiltInState,
+        at: u64,
+        size: u64,
+    ) -> Option<u64>
+        requires { at + size < 2 ^ 64 }
+        ensures { result ≡ (behaviour_of self).early_end shape.now (values_in shape.now.variables state.now) at size }
+    {
+        match self {
+            Model::Alarm => alarm::early_end(shape, state, at, size),
+            Model::Counter | Model::Gain | Model::Settle => None,
         }
     }
 
@@ -47,22 +70,29 @@ impl Model {
     {
         match self {
             Model::Counter => counter::asks_to_end(variables, state, size),
-            Model::Gain => false,
+            Model::Gain | Model::Alarm | Model::Settle => false,
+        }
+    }
+
+    /// Whether an update asks for another.
+    pub(crate) fn asks_again(self, variables: &ByReference<Variable>, state: &BuiltInState) -> bool
+        ensures { result ≡ (behaviour_of self).asks_again variables.now (told state.now.numbers) (values_in variables.now state.now) }
+    {
+        match self {
+            Model::Settle => settle::asks_again(variables, state),
+            Model::Counter | Model::Gain | Model::Alarm => false,
         }
     }
 
     /// The numbers after a call, but for the mark of Initialization Mode.
-    pub(crate) fn changed(
-        self,
-        variables: &ByReference<Variable>,
-        state: &BuiltInState,
-        call: &Call,
-    ) -> Numbers
-        ensures { told result ≡ (behaviour_of self).changed variables.now (told state.now.numbers) (values_in variables.now state.now) call.now }
+    pub(crate) fn changed(self, shape: &Shape, state: &BuiltInState, call: &Call) -> Numbers
+        ensures { told result ≡ (behaviour_of self).changed shape.now (told state.now.numbers) (values_in shape.now.variables state.now) call.now }
     {
         match self {
-            Model::Counter => counter::changed(variables, state, call),
-            Model::Gain => gain::changed(variables, state, call),
+            Model::Counter => counter::changed(shape, state, call),
+            Model::Gain => gain::changed(shape, state, call),
+            Model::Alarm => alarm::changed(shape, state, call),
+            Model::Settle => settle::changed(shape, state, call),
         }
     }
 }

@@ -546,3 +546,166 @@ fn a_gain_multiplies(rt: HostRuntime) -> Result<(), Fail> {
     }
     Ok(())
 }
+
+struct Modes {
+    identifier: &'static str,
+    event_mode: bool,
+    early_return: bool,
+    // the value of the parameter under reference 1, and what the variable under reference 2 is
+    parameter: i128,
+    second: Causality,
+    // the calls behind EnterInitialization
+    steps: &'static [(Call, Content)],
+}
+
+macro_rules! modes {
+    ($identifier:literal $parameter:expr, event $event:expr, early $early:expr, $second:ident, $steps:expr) => {
+        Modes {
+            identifier: $identifier,
+            event_mode: $event,
+            early_return: $early,
+            parameter: $parameter,
+            second: Causality::$second,
+            steps: &$steps,
+        }
+    };
+}
+
+macro_rules! rung {
+    ($at:expr, $end:expr, event $event:expr) => {
+        (
+            Call::DoStep {
+                at: $at,
+                size: 20,
+            },
+            Content::DoStep {
+                event_needed: $event,
+                terminate: false,
+                early: true,
+                end: $end,
+            },
+        )
+    };
+}
+
+macro_rules! updated {
+    ($again:expr) => {
+        (
+            Call::Update,
+            Content::Update {
+                again: $again,
+                terminate: false,
+                event_time: None,
+            },
+        )
+    };
+}
+
+macro_rules! shows {
+    ($reference:expr, $word:expr) => {
+        (
+            Call::Get {
+                kind: PortType::Int32,
+                reference: $reference,
+            },
+            Content::Get { word: $word },
+        )
+    };
+}
+
+macro_rules! set {
+    ($value:expr) => {
+        (
+            Call::Set {
+                kind: PortType::Int32,
+                reference: 2,
+                value: $value,
+            },
+            Content::Set,
+        )
+    };
+}
+
+const EXIT: (Call, Content) = (Call::ExitInitialization, Content::ExitInitialization);
+
+const ENTER_STEP: (Call, Content) = (Call::EnterStep, Content::EnterStep);
+
+const ENTER_EVENT: (Call, Content) = (Call::EnterEvent, Content::EnterEvent);
+
+// Each machine with event mode, and those that answer otherwise there without it too.
+const MODES: [Modes; 8] = [
+    modes!("counter" 2, event true, early false, Output, [
+        EXIT, shows!(2, 0), updated!(false), ENTER_STEP, stepped!(0, 20),
+        ENTER_EVENT, shows!(2, 2), updated!(false), shows!(2, 2), ENTER_STEP, stepped!(20, 40),
+        ENTER_EVENT, shows!(2, 4),
+    ]),
+    modes!("gain" 3, event true, early false, Input, [
+        set!(5), shows!(3, 0), EXIT, shows!(3, 15), set!(7), shows!(3, 15), updated!(false), shows!(3, 21), ENTER_STEP,
+        stepped!(0, 20),
+        ENTER_EVENT, set!(1), shows!(3, 21), updated!(false), shows!(3, 3), ENTER_STEP, stepped!(20, 40),
+    ]),
+    modes!("alarm" 30, event true, early true, Output, [
+        EXIT, shows!(2, 0), updated!(false), ENTER_STEP, stepped!(0, 20), rung!(20, 30, event true),
+        ENTER_EVENT, shows!(2, 1), updated!(false), ENTER_STEP, stepped!(30, 50),
+        ENTER_EVENT, shows!(2, 1),
+    ]),
+    modes!("alarm" 30, event false, early true, Output, [
+        EXIT, stepped!(0, 20), shows!(2, 0), rung!(20, 30, event false), shows!(2, 1), stepped!(30, 50), shows!(2, 1),
+    ]),
+    modes!("alarm" 20, event false, early true, Output, [
+        EXIT, stepped!(0, 20), stepped!(20, 40), shows!(2, 0),
+    ]),
+    modes!("alarm" 30, event false, early false, Output, [
+        EXIT, stepped!(0, 20), stepped!(20, 40), shows!(2, 0),
+    ]),
+    modes!("settle" 2, event true, early false, Output, [
+        EXIT, shows!(2, 0), updated!(true), updated!(true), updated!(false), shows!(2, 3), ENTER_STEP, stepped!(0, 20),
+        ENTER_EVENT, shows!(2, 0), updated!(true), shows!(2, 1), updated!(true), updated!(false), ENTER_STEP,
+        stepped!(20, 40),
+    ]),
+    modes!("settle" 2, event false, early false, Output, [
+        EXIT, shows!(2, 0), stepped!(0, 20), shows!(2, 0),
+    ]),
+];
+
+fn modes_shape(alloc: Global, modes: &Modes) -> Result<Shape, AllocError> {
+    let variables = vec![in alloc;
+        variable(
+            alloc,
+            1,
+            PortType::Int64,
+            Causality::Parameter,
+            Some(modes.parameter)
+        )?,
+        variable(alloc, 2, PortType::Int32, modes.second, Some(0))?,
+        variable(alloc, 3, PortType::Int32, Causality::Output, None)?,
+    ]?;
+    let mut shape = shape(alloc, modes.identifier, variables)?;
+    shape.has_event_mode = modes.event_mode;
+    shape.might_return_early = modes.early_return;
+    Ok(shape)
+}
+
+#[test]
+fn each_machine_goes_through_its_modes(rt: HostRuntime) -> Result<(), Fail> {
+    let alloc = rt.alloc();
+    for modes in &MODES {
+        let shape = modes_shape(alloc, modes)?;
+        let mut bench = Bench::new(alloc, None, Vec::new(alloc));
+        let Modes {
+            event_mode,
+            early_return,
+            ..
+        } = *modes;
+        let instantiate = Call::Instantiate {
+            event_mode,
+            early_return,
+        };
+        let begin = [
+            (instantiate, Content::Instantiate),
+            (INITIALIZE, Content::EnterInitialization),
+        ];
+        drive(&rt, alloc, &mut bench, &shape, &begin, modes.steps)?;
+    }
+    Ok(())
+}

@@ -1,10 +1,12 @@
 -- The course of a run, from one part to the next.
-use Rattle.std.proofs.Common.{◌≡◌, ℕ, ◌+◌, ◌-◌, true, false, List, [], ◌∷◌, ◌++◌, Option, Some, Result, Ok, Err, inl, inr, refl, sym, ap, ◌∙◌, subst, append_assoc, length, length-append}
-use Rattle.std.specs.Prelude.{OnOk, ℤ}
+use Rattle.std.proofs.Common.{◌≡◌, ◌≢◌, ℕ, suc, ◌+◌, ◌-◌, Bool, true, false, List, [], ◌∷◌, ◌++◌, Option, Some, Result, Ok, Err, inl, inr, refl, sym, ap, ◌∙◌, subst, append_assoc, arith, length, length-append}
+use Rattle.std.specs.Prelude.{OnOk, IfOk, ◌==◌, ℤ}
+use Rattle.std.proofs.lemmas.Bool.Decides.{nat_tests}
 use Rattle.std.proofs.lemmas.List.{map-append}
 use Rattle.sim_base.specs.Sink.{SinkView, with_piece}
 use Rattle.sim_base.specs.declared.numbers.CompId.{CompId}
 use Rattle.value_types.specs.declared.shape.Shape.{Shape}
+use Rattle.fmi_calls.specs.declared.call.Call.{Call}
 use Rattle.fmi_calls.specs.declared.call.Call.TheVariants as C
 use Rattle.fmu_peer.specs.CloseAll.{Instance}
 use Rattle.system_model.specs.declared.bound.Bound.{Bound}
@@ -13,19 +15,22 @@ use Rattle.system_model.specs.declared.system.System.{System}
 use Rattle.system_model.specs.Ports.{numbers}
 use Rattle.system_model.specs.Text.{Instant, instant_text}
 use Rattle.event_iteration.specs.Explains.{ExplainsUntil, Walks}
-use Rattle.event_iteration.specs.Instants as I
+use Rattle.event_iteration.specs.declared.updates.Updated.{Updated}
+use Rattle.event_iteration.specs.Initialization.{no_values}
+use Rattle.event_iteration.specs.Instants.{in_instant}
 use Rattle.event_iteration.specs.Settings.{before_step, port_order}
+use Rattle.event_iteration.specs.Updates.{updated_by, updating}
 use Rattle.slot_calls.specs.declared.bad_answer.BadAnswer.{BadAnswer}
 use Rattle.calling_sequence.specs.declared.ending.Break.{Break}
 use Rattle.calling_sequence.specs.declared.ending.Break.TheVariants as B
 use Rattle.calling_sequence.specs.declared.ending.Ending.{Ending}
 use Rattle.calling_sequence.specs.declared.run_end.RunEnd.TheVariants as E
 use Rattle.slot_calls.specs.Carried.{any_asks_to_end}
-use Rattle.calling_sequence.specs.Course.{AtStart, ByStep, Came, Departs, IsBoundOf, IsStep, Seen, Sets, first_unfit, header_of, instant_at, pieces_of, text_of}
+use Rattle.calling_sequence.specs.Course.{Arrives, AtStart, BeforeStep, BehindStep, ByStep, ByUpdate, Came, Departs, InInitialization, InInstant, InSet, InStep, InUpdate, IsAgain, IsBoundOf, IsDone, IsStep, Leaves, Seen, Sets, Takes, first_unfit, header_of, instant_at, pieces_of, text_of}
 use Rattle.slot_calls.specs.Log.{Sent, Asking, Told}
 use Rattle.calling_sequence.specs.Puts.{CutsPiece, with_pieces}
-use Rattle.slot_calls.specs.Stage.{FailsIn, IsAnswered, Round, shapes, shapes_of, to_each}
-use Rattle.calling_sequence.specs.Steps.{Follows, Initializes, ReadsAt, SaysAt, SetsAt, StepsAt, at_point}
+use Rattle.slot_calls.specs.Stage.{FailsIn, IsAnswered, Round, Stage, StopsAt, has_events, nothing, shapes, shapes_of, to_each, to_those}
+use Rattle.calling_sequence.specs.Steps.{Follows, Initializes, SaysAt, SetsAt, StepsAt, SwitchesAt, TakesAt, TakesBy, TakesInstant, at_point}
 use Rattle.slot_calls.proofs.Logs.{told_none, told_on}
 use Rattle.slot_calls.proofs.Answered.{shapes_same}
 
@@ -59,6 +64,15 @@ pub on_point : {T : Type 0} (r : Result T BadAnswer) (t : ℕ) (q : Result T Bre
 on_point {T} (Ok x) t q P is h = subst (λ (z : Result T Break). OnOk z P) (sym is) h
 on_point {T} (Err bad) t q P is h = subst (λ (z : Result T Break). OnOk z P) (sym is) tt
 
+-- and what follows from it
+pub on_point_by : {T : Type 0} (r : Result T BadAnswer) (t : ℕ) (q : Result T Break) (P Q : Type 0) → q ≡ at_point r t → (P → Q) → OnOk r P → OnOk q Q
+on_point_by {T} (Ok x) t q P Q is f h = subst (λ (z : Result T Break). OnOk z Q) (sym is) (f h)
+on_point_by {T} (Err bad) t q P Q is f h = subst (λ (z : Result T Break). OnOk z Q) (sym is) tt
+
+pub if_point_by : {T : Type 0} (r : Result T BadAnswer) (t : ℕ) (q : Result T Break) (P Q : T → Type 0) → q ≡ at_point r t → ((x : T) → P x → Q x) → IfOk r P → IfOk q Q
+if_point_by {T} (Ok x) t q P Q is f h = subst (λ (z : Result T Break). IfOk z Q) (sym is) (f x h)
+if_point_by {T} (Err bad) t q P Q is f h = subst (λ (z : Result T Break). IfOk z Q) (sym is) tt
+
 pub says_at : {T : Type 0} (says : Result T BadAnswer → Type 0) (r : Result T BadAnswer) (t : ℕ) (q : Result T Break) → q ≡ at_point r t → says r → SaysAt says t q
 says_at says (Ok x) t q is h = subst (SaysAt says t) (sym is) h
 says_at says (Err bad) t q is h = subst (SaysAt says t) (sym is) (bad, refl, h)
@@ -70,40 +84,106 @@ broken_by says t P breaks B.Write h = absurd h
 
 -- ---- the states of the loop
 
--- the run came to a point
-pub record Here (system : System) (bound : Bound) (plan : Plan) (olds : List Instance) (before : SinkView) (t : ℕ) (mids : List Instance) (present : SinkView) (count : ℕ) : Type 0 where
+-- the run came to its n-th instant at a point, with the values of the instant before
+pub record Here (system : System) (bound : Bound) (plan : Plan) (olds : List Instance) (before : SinkView) (t n : ℕ) (values : List (Option ℤ)) (mids : List Instance) (present : SinkView) (count : ℕ) : Type 0 where
   pub log : List Sent
   pub is : List Instant
   pub told : Told log olds mids
-  pub came : Came system bound plan t log is
+  pub came : Came system bound plan t n values log is
   pub put : present ≡ with_pieces before (pieces_of system plan is)
   pub counted : count ≡ length is
 
--- the outputs of the point were read, which gave these values, and the instant was put
-pub record Shown (system : System) (bound : Bound) (plan : Plan) (olds : List Instance) (before : SinkView) (t : ℕ) (mids : List Instance) (values : List (Option ℤ)) (present : SinkView) (count : ℕ) : Type 0 where
+-- that instant was taken, with these values and what its Updates tell, and put
+pub record Shown (system : System) (bound : Bound) (plan : Plan) (olds : List Instance) (before : SinkView) (t n : ℕ) (values : List (Option ℤ)) (updated : Updated) (mids : List Instance) (present : SinkView) (count : ℕ) : Type 0 where
   pub log : List Sent
   pub is : List Instant
   pub told : Told log olds mids
   pub seen : Seen system bound plan t log is
+  pub n_is : seen.n ≡ n
   pub values_are : seen.values ≡ values
+  pub updated_is : updated_by seen.updates ≡ updated
   pub put : present ≡ with_pieces before (pieces_of system plan is)
   pub counted : count ≡ length is
 
--- and the inputs were set to them for a step to another point
-pub record Departed (system : System) (bound : Bound) (plan : Plan) (olds : List Instance) (before : SinkView) (t to : ℕ) (mids : List Instance) (present : SinkView) (count : ℕ) : Type 0 where
+-- the point is done, and those with event mode entered Step Mode for a step to another
+pub record Left (system : System) (bound : Bound) (plan : Plan) (olds : List Instance) (before : SinkView) (t to : ℕ) (values : List (Option ℤ)) (mids : List Instance) (present : SinkView) (count : ℕ) : Type 0 where
+  pub log : List Sent
+  pub is : List Instant
+  pub told : Told log olds mids
+  pub leaves : Leaves system bound plan t to log is
+  pub values_are : leaves.seen.values ≡ values
+  pub put : present ≡ with_pieces before (pieces_of system plan is)
+  pub counted : count ≡ length is
+
+-- and the inputs of the others were set
+pub record Departed (system : System) (bound : Bound) (plan : Plan) (olds : List Instance) (before : SinkView) (t to : ℕ) (values : List (Option ℤ)) (mids : List Instance) (present : SinkView) (count : ℕ) : Type 0 where
   pub log : List Sent
   pub is : List Instant
   pub told : Told log olds mids
   pub departs : Departs system bound plan t to log is
+  pub values_are : departs.leaving.seen.values ≡ values
   pub put : present ≡ with_pieces before (pieces_of system plan is)
   pub counted : count ≡ length is
+
+-- and each was stepped
+pub record Arrived (system : System) (bound : Bound) (plan : Plan) (olds : List Instance) (before : SinkView) (t to : ℕ) (values : List (Option ℤ)) (asked : Bool) (mids : List Instance) (present : SinkView) (count : ℕ) : Type 0 where
+  pub log : List Sent
+  pub is : List Instant
+  pub told : Told log olds mids
+  pub arrives : Arrives system bound plan t to log is
+  pub values_are : arrives.departs.leaving.seen.values ≡ values
+  pub asked_is : any_asks_to_end arrives.steps ≡ asked
+  pub put : present ≡ with_pieces before (pieces_of system plan is)
+  pub counted : count ≡ length is
+
+-- the instants at a point and their limit
+pub reached : (n limit : ℕ) → n + 1 ≡ limit → (suc n == limit) ≡ true
+reached n limit is = grind (arith, nat_tests)
+
+pub more_left : (n limit : ℕ) → n + 1 ≢ limit → (suc n == limit) ≡ false
+more_left n limit is = grind (arith, nat_tests)
 
 length_more : (is : List Instant) (i : Instant) → length (is ++ i ∷ []) ≡ length is + 1
 length_more is i = length-append is (i ∷ [])
 
+-- the parts of a log, one behind the other
+flat : (a b c d e f g l m n o : List Sent) → l ≡ a ++ (b ++ c) → m ≡ l ++ d → n ≡ m ++ e → o ≡ n ++ f → o ++ g ≡ a ++ (b ++ (c ++ (d ++ (e ++ (f ++ g)))))
+flat a b c d e f g l m n o l_is m_is n_is o_is =
+    ap (λ (x : List Sent). x ++ g) (o_is ∙ ap (λ (x : List Sent). x ++ f) (n_is ∙ ap (λ (x : List Sent). x ++ e) (m_is ∙ ap (λ (x : List Sent). x ++ d) l_is)))
+    ∙ append_assoc (((a ++ (b ++ c)) ++ d) ++ e) f g ∙ append_assoc ((a ++ (b ++ c)) ++ d) e (f ++ g) ∙ append_assoc (a ++ (b ++ c)) d (e ++ (f ++ g))
+    ∙ append_assoc a (b ++ c) (d ++ (e ++ (f ++ g))) ∙ ap (λ (x : List Sent). a ++ x) (append_assoc b c (d ++ (e ++ (f ++ g))))
+
 -- a log leaves the shapes those of the components
 pub fits_on : (system : System) (log : List Sent) (olds mids : List Instance) → shapes olds ≡ shapes_of system → Told log olds mids → shapes mids ≡ shapes_of system
 fits_on system log olds mids fits told = shapes_same log olds mids told ∙ fits
+
+-- an instant and its Updates
+pub takes_on : (system : System) (n : ℕ) (before values : List (Option ℤ)) (olds mids news : List Instance) → length before ≡ length system.ports → length values ≡ length system.ports → shapes olds ≡ shapes_of system →
+    Walks system (in_instant (n == 0)) before (numbers system.instant_order) values olds mids (Ok tt) → (r : Result Updated BadAnswer) → Stage (updating (shapes mids)) updated_by mids news r → TakesInstant system n before values olds news r
+takes_on system n before values olds mids news known places fits w (Ok u) s =
+    let same : shapes mids ≡ shapes_of system = fits_on system w.log olds mids fits w.told in
+    record {
+      log = w.log ++ s.log;
+      told = told_on olds mids news w.log s.log w.told s.told;
+      says = (
+        w.log,
+        s.log,
+        refl,
+        record { known = known; places = places; explains = w.says; answered = subst (λ (ss : List Shape). IsAnswered ss (updating ss) s.log) same s.says.0 },
+        s.says.1,
+      );
+    }
+takes_on system n before values olds mids news known places fits w (Err bad) s =
+    let same : shapes mids ≡ shapes_of system = fits_on system w.log olds mids fits w.told in
+    record {
+      log = w.log ++ s.log;
+      told = told_on olds mids news w.log s.log w.told s.told;
+      says = inr (w.log, s.log, refl, w.says, subst (λ (ss : List Shape). StopsAt ss (updating ss) bad s.log) same s.says);
+    }
+
+-- the calls to those with event mode, of instances with these shapes
+abbrev switching : (Shape → Call) → List Shape → List Asking
+switching call ss = to_those has_events call ss
 
 module _ (system : System) (bound : Bound) (plan : Plan) (olds : List Instance) (before : SinkView) (fits : shapes olds ≡ shapes_of system) where
   pub header_cut : (after : SinkView) (count : ℕ) → count ≡ 0 → CutsPiece before (header_of system plan) after → Follows system bound plan olds olds before after count (Err B.Write)
@@ -127,117 +207,36 @@ module _ (system : System) (bound : Bound) (plan : Plan) (olds : List Instance) 
     is = [];
     told = s.told;
     counted_is = none;
-    goes = (refl, (inl (record { stops = s.says; point_is = refl; is_is = refl }), put));
+    goes = (refl, (InInitialization (record { stops = s.says; point_is = refl; is_is = refl }), put));
   })
 
-  pub here_first : (news : List Instance) (after : SinkView) (count : ℕ) → count ≡ 0 → after ≡ with_piece before (header_of system plan) → (s : Initializes system bound plan olds news (Ok tt)) →
-      Here system bound plan olds before plan.start news after count
-  here_first news after count none put s = record {
+  pub here_first : (values : List (Option ℤ)) (news : List Instance) (after : SinkView) (count : ℕ) → values ≡ no_values system → count ≡ 0 → after ≡ with_piece before (header_of system plan) →
+      (s : Initializes system bound plan olds news (Ok tt)) → Here system bound plan olds before plan.start 0 values news after count
+  here_first values news after count empty none put s = record {
     log = s.log;
     is = [];
     told = s.told;
-    came = AtStart plan.start s.log [] s.says refl refl;
+    came = AtStart plan.start 0 values s.log [] s.says refl refl empty refl;
     put = put;
     counted = none;
   }
 
-  module _ (t : ℕ) (mids news : List Instance) (present : SinkView) (count : ℕ) (h : Here system bound plan olds before t mids present count) (earlier : List (Option ℤ)) (known : length earlier ≡ length system.ports) where
-    -- a bad answer to a Get
-    pub reads_badly : (values : List (Option ℤ)) (b : Break) → ReadsAt system t earlier values mids news (Err b) → Follows system bound plan olds news before present count (Err b)
-    reads_badly values b given = broken_by (λ r. Walks system I.at_point earlier (numbers system.instant_order) values mids news r) t (λ (x : Break). Follows system bound plan olds news before present count (Err x)) (λ bad s. record {
-      log = h.log ++ s.log;
-      is = h.is;
-      told = told_on olds mids news h.log s.log h.told s.told;
-      counted_is = h.counted;
-      goes = (
-        refl,
-        (
-          inr (inl (record {
-            before = h.log;
-            reads = s.log;
-            earlier = earlier;
-            known = known;
-            values = values;
-            came = h.came;
-            stops = s.says;
-            log_is = refl;
-          })),
-          h.put,
-        ),
-      );
-    }) b given
-
-    module _ (values : List (Option ℤ)) (places : length values ≡ length system.ports) (s : Walks system I.at_point earlier (numbers system.instant_order) values mids news (Ok tt)) where
-      abbrev read_seen : Seen system bound plan t (h.log ++ s.log) (h.is ++ instant_at t values ∷ [])
-      read_seen = record {
-        values = values;
-        before = h.log;
-        reads = s.log;
-        earlier = h.is;
-        came = h.came;
-        read = record { before = earlier; known = known; places = places; explains = s.says };
-        log_is = refl;
-        is_is = refl;
-      }
-
-      -- the instant was put
-      pub shown : (after : SinkView) (more : ℕ) → after ≡ with_piece present (instant_text t 0 values) → more ≡ count + 1 → Shown system bound plan olds before t news values after more
-      shown after more put counted = record {
-        log = h.log ++ s.log;
-        is = h.is ++ instant_at t values ∷ [];
-        told = told_on olds mids news h.log s.log h.told s.told;
-        seen = read_seen;
-        values_are = refl;
-        put = put ∙ ap (λ (v : SinkView). with_piece v (text_of (instant_at t values))) h.put ∙ pieces_more system plan before h.is (instant_at t values);
-        counted = counted ∙ ap (λ (n : ℕ). n + 1) h.counted ∙ sym (length_more h.is (instant_at t values));
-      }
-
-      -- its put failed
-      pub cut_there : (after : SinkView) (left : ℕ) (b : Break) → b ≡ B.Write → CutsPiece present (instant_text t 0 values) after → left ≡ count →
-          Follows system bound plan olds news before after left (Err b)
-      cut_there after left b is cut counted = subst (λ (x : Break). Follows system bound plan olds news before after left (Err x)) (sym is) (record {
+  module _ (t n : ℕ) (earlier : List (Option ℤ)) (mids news : List Instance) (present : SinkView) (count : ℕ) (h : Here system bound plan olds before t n earlier mids present count) (known : length earlier ≡ length system.ports)
+      (values : List (Option ℤ)) (places : length values ≡ length system.ports) where
+    takes_bad : (bad : BadAnswer) → TakesInstant system n earlier values mids news (Err bad) → Follows system bound plan olds news before present count (Err (B.Ends (record { end = E.Bad bad; point = t })))
+    takes_bad bad s = by_case s.says where
+      by_case : TakesBy system n earlier values s.log (Err bad) → Follows system bound plan olds news before present count (Err (B.Ends (record { end = E.Bad bad; point = t })))
+      by_case (inl finding) = record {
         log = h.log ++ s.log;
         is = h.is;
         told = told_on olds mids news h.log s.log h.told s.told;
-        counted_is = counted ∙ h.counted;
-        goes = record {
-          pieces = pieces_of system plan h.is;
-          piece = text_of (instant_at t values);
-          interrupted = inr (record {
-            t = t;
-            i = instant_at t values;
-            seen = read_seen;
-            pieces_are = refl;
-            piece_is = refl;
-          });
-          put = subst (λ (v : SinkView). CutsPiece v (text_of (instant_at t values)) after) h.put cut;
-        };
-      })
-
-  module _ (t : ℕ) (mids : List Instance) (values : List (Option ℤ)) (present : SinkView) (count : ℕ) (h : Shown system bound plan olds before t mids values present count) where
-    pub stops_there : t ≡ plan.stop → Follows system bound plan olds mids before present count (Ok (record { end = E.Stop; point = t }))
-    stops_there is = record {
-      log = h.log;
-      is = h.is;
-      told = h.told;
-      counted_is = h.counted;
-      goes = (refl, ((is, subst (λ (n : ℕ). Seen system bound plan n h.log h.is) is h.seen), h.put));
-    }
-
-    pub unfit_there : (component : CompId) (e : ℕ) → IsBoundOf plan t e → first_unfit system plan (e - t) ≡ Some component.0 →
-        Follows system bound plan olds mids before present count (Ok (record { end = E.FixedStep component t e; point = t }))
-    unfit_there component e end_is unfit = record {
-      log = h.log;
-      is = h.is;
-      told = h.told;
-      counted_is = h.counted;
-      goes = (refl, ((refl, record { seen = h.seen; end_is = end_is; unfit = unfit }), h.put));
-    }
-
-    module _ (news : List Instance) (e : ℕ) (step : IsStep system plan t e) where
-      -- a bad answer to a Set
-      pub sets_badly : (b : Break) → SetsAt system t values mids news (Err b) → Follows system bound plan olds news before present count (Err b)
-      sets_badly b given = broken_by (λ r. Walks system (before_step values) values (port_order system) values mids news r) t (λ (x : Break). Follows system bound plan olds news before present count (Err x)) (λ bad s. record {
+        counted_is = h.counted;
+        goes = (
+          refl,
+          (InInstant (record { n = n; before = earlier; values = values; front = h.log; found = s.log; known = known; came = h.came; stops = finding; log_is = refl }), h.put),
+        );
+      }
+      by_case (inr (found, updates, log_is, explains, stops)) = record {
         log = h.log ++ s.log;
         is = h.is;
         told = told_on olds mids news h.log s.log h.told s.told;
@@ -245,41 +244,242 @@ module _ (system : System) (bound : Bound) (plan : Plan) (olds : List Instance) 
         goes = (
           refl,
           (
-            inr (inr (inl (record {
-              to = e;
-              before = h.log;
-              sets = s.log;
-              seen = h.seen;
-              step = step;
-              stops = subst (λ (vs : List (Option ℤ)). ExplainsUntil system (before_step vs) vs (port_order system) bad vs s.log) (sym h.values_are) s.says;
-              log_is = refl;
-            }))),
+            InUpdate (record {
+              n = n;
+              before = earlier;
+              values = values;
+              front = h.log;
+              found = found;
+              updates = updates;
+              known = known;
+              places = places;
+              came = h.came;
+              explains = explains;
+              stops = stops;
+              log_is = ap (λ (l : List Sent). h.log ++ l) log_is;
+            }),
             h.put,
           ),
         );
-      }) b given
+      }
 
-      pub departed : Walks system (before_step values) values (port_order system) values mids news (Ok tt) → Departed system bound plan olds before t e news present count
-      departed s = record {
+    -- a bad answer to a call of an instant
+    pub takes_badly : (b : Break) → TakesAt system t n earlier values mids news (Err b) → Follows system bound plan olds news before present count (Err b)
+    takes_badly b given = broken_by (λ r. TakesInstant system n earlier values mids news r) t (λ (x : Break). Follows system bound plan olds news before present count (Err x)) takes_bad b given
+
+    module _ (updated : Updated) (s : TakesInstant system n earlier values mids news (Ok updated)) where
+      abbrev taken_seen : (found updates : List Sent) → s.log ≡ found ++ updates → Takes system n earlier values found updates → Seen system bound plan t (h.log ++ s.log) (h.is ++ instant_at t n values ∷ [])
+      taken_seen found updates log_is takes = record {
+        n = n;
+        before = earlier;
+        values = values;
+        front = h.log;
+        found = found;
+        updates = updates;
+        earlier = h.is;
+        came = h.came;
+        takes = takes;
+        log_is = ap (λ (l : List Sent). h.log ++ l) log_is;
+        is_is = refl;
+      }
+
+      shown_by : TakesBy system n earlier values s.log (Ok updated) → (after : SinkView) (more : ℕ) → after ≡ with_piece present (instant_text t n values) → more ≡ count + 1 →
+          Shown system bound plan olds before t n values updated news after more
+      shown_by (found, updates, log_is, takes, told) after more put counted = record {
+        log = h.log ++ s.log;
+        is = h.is ++ instant_at t n values ∷ [];
+        told = told_on olds mids news h.log s.log h.told s.told;
+        seen = taken_seen found updates log_is takes;
+        n_is = refl;
+        values_are = refl;
+        updated_is = sym told;
+        put = put ∙ ap (λ (v : SinkView). with_piece v (text_of (instant_at t n values))) h.put ∙ pieces_more system plan before h.is (instant_at t n values);
+        counted = counted ∙ ap (λ (k : ℕ). k + 1) h.counted ∙ sym (length_more h.is (instant_at t n values));
+      }
+
+      -- the instant was put
+      pub shown : (after : SinkView) (more : ℕ) → after ≡ with_piece present (instant_text t n values) → more ≡ count + 1 → Shown system bound plan olds before t n values updated news after more
+      shown after more put counted = shown_by s.says after more put counted
+
+      cut_by : TakesBy system n earlier values s.log (Ok updated) → (after : SinkView) (left : ℕ) → CutsPiece present (instant_text t n values) after → left ≡ count →
+          Follows system bound plan olds news before after left (Err B.Write)
+      cut_by (found, updates, log_is, takes, told) after left cut counted = record {
         log = h.log ++ s.log;
         is = h.is;
         told = told_on olds mids news h.log s.log h.told s.told;
-        departs = record {
-          before = h.log;
-          sets = s.log;
-          seen = h.seen;
-          step = step;
-          set = subst (λ (vs : List (Option ℤ)). Sets system vs s.log) (sym h.values_are) s.says;
-          log_is = refl;
+        counted_is = counted ∙ h.counted;
+        goes = record {
+          pieces = pieces_of system plan h.is;
+          piece = text_of (instant_at t n values);
+          interrupted = inr (record {
+            t = t;
+            i = instant_at t n values;
+            seen = taken_seen found updates log_is takes;
+            pieces_are = refl;
+            piece_is = refl;
+          });
+          put = subst (λ (v : SinkView). CutsPiece v (text_of (instant_at t n values)) after) h.put cut;
         };
-        put = h.put;
-        counted = h.counted;
       }
 
-  module _ (t e : ℕ) (mids : List Instance) (present : SinkView) (count : ℕ) (h : Departed system bound plan olds before t e mids present count) (news : List Instance) where
-    same : shapes mids ≡ shapes_of system
-    same = fits_on system h.log olds mids fits h.told
+      -- its put failed
+      pub cut_there : (after : SinkView) (left : ℕ) (b : Break) → b ≡ B.Write → CutsPiece present (instant_text t n values) after → left ≡ count →
+          Follows system bound plan olds news before after left (Err b)
+      cut_there after left b is cut counted = subst (λ (x : Break). Follows system bound plan olds news before after left (Err x)) (sym is) (cut_by s.says after left cut counted)
 
+  module _ (t n : ℕ) (values : List (Option ℤ)) (updated : Updated) (mids : List Instance) (present : SinkView) (count : ℕ) (h : Shown system bound plan olds before t n values updated mids present count) where
+    pub ends_there : updated.asked ≡ true → Follows system bound plan olds mids before present count (Ok (record { end = E.Asked t; point = t }))
+    ends_there asked = record {
+      log = h.log;
+      is = h.is;
+      told = h.told;
+      counted_is = h.counted;
+      goes = (refl, ((refl, inl (record { seen = h.seen; asks = ap (λ (u : Updated). u.asked) h.updated_is ∙ asked })), h.put));
+    }
+
+    module _ (goes_on : updated.asked ≡ false) where
+      module _ (again : updated.again ≡ true) where
+        once_more : IsAgain h.seen.updates
+        once_more = record { goes_on = ap (λ (u : Updated). u.asked) h.updated_is ∙ goes_on; again = ap (λ (u : Updated). u.again) h.updated_is ∙ again }
+
+        pub limited_there : (suc n == plan.limit) ≡ true → Follows system bound plan olds mids before present count (Ok (record { end = E.EventLimit t; point = t }))
+        limited_there limit = record {
+          log = h.log;
+          is = h.is;
+          told = h.told;
+          counted_is = h.counted;
+          goes = (refl, ((refl, record { seen = h.seen; again = once_more; limit = ap (λ (k : ℕ). suc k == plan.limit) h.n_is ∙ limit }), h.put));
+        }
+
+        -- another instant at this point
+        pub here_again : (m : ℕ) → m ≡ suc n → (suc n == plan.limit) ≡ false → Here system bound plan olds before t m values mids present count
+        here_again m m_is below =
+            let seen = h.seen in
+            subst (λ (vs : List (Option ℤ)). Here system bound plan olds before t m vs mids present count) h.values_are (record {
+              log = h.log;
+              is = h.is;
+              told = h.told;
+              came = ByUpdate t m seen.values h.log h.is seen.n seen.before seen.front seen.found seen.updates seen.earlier seen.came seen.takes once_more
+                  (ap (λ (k : ℕ). suc k == plan.limit) h.n_is ∙ below) (m_is ∙ ap suc (sym h.n_is)) seen.log_is seen.is_is;
+              put = h.put;
+              counted = h.counted;
+            })
+
+      module _ (settled : updated.again ≡ false) where
+        done_there : IsDone h.seen.updates
+        done_there = record { goes_on = ap (λ (u : Updated). u.asked) h.updated_is ∙ goes_on; settled = ap (λ (u : Updated). u.again) h.updated_is ∙ settled }
+
+        stopped : (p : ℕ) → t ≡ p → (seen : Seen system bound plan t h.log h.is) → IsDone seen.updates → (s : Seen system bound plan p h.log h.is) × IsDone s.updates
+        stopped p is seen done = subst (λ (k : ℕ). (s : Seen system bound plan k h.log h.is) × IsDone s.updates) is (seen, done)
+
+        pub stops_there : t ≡ plan.stop → Follows system bound plan olds mids before present count (Ok (record { end = E.Stop; point = t }))
+        stops_there is =
+            let at = stopped plan.stop is h.seen done_there in
+            record {
+              log = h.log;
+              is = h.is;
+              told = h.told;
+              counted_is = h.counted;
+              goes = (refl, ((is, record { seen = at.0; done = at.1 }), h.put));
+            }
+
+        pub unfit_there : (component : CompId) (e : ℕ) → IsBoundOf plan t e → first_unfit system plan (e - t) ≡ Some component.0 →
+            Follows system bound plan olds mids before present count (Ok (record { end = E.FixedStep component t e; point = t }))
+        unfit_there component e end_is unfit = record {
+          log = h.log;
+          is = h.is;
+          told = h.told;
+          counted_is = h.counted;
+          goes = (refl, ((refl, record { seen = h.seen; done = done_there; end_is = end_is; unfit = unfit }), h.put));
+        }
+
+        module _ (news : List Instance) (e : ℕ) (step : IsStep system plan t e) where
+          -- a bad answer on the way into Step Mode
+          pub leaves_badly : (b : Break) → SwitchesAt (λ (shape : Shape). C.EnterStep) t mids news (Err b) → Follows system bound plan olds news before present count (Err b)
+          leaves_badly b given = broken_by (λ r. Stage (switching (λ (shape : Shape). C.EnterStep) (shapes mids)) nothing mids news r) t (λ (x : Break). Follows system bound plan olds news before present count (Err x)) (λ bad s. record {
+            log = h.log ++ s.log;
+            is = h.is;
+            told = told_on olds mids news h.log s.log h.told s.told;
+            counted_is = h.counted;
+            goes = (
+              refl,
+              (
+                BeforeStep (record {
+                  to = e;
+                  front = h.log;
+                  leaves = s.log;
+                  seen = h.seen;
+                  done = done_there;
+                  step = step;
+                  stops = subst (λ (ss : List Shape). StopsAt ss (switching (λ (shape : Shape). C.EnterStep) ss) bad s.log) (fits_on system h.log olds mids fits h.told) s.says;
+                  log_is = refl;
+                }),
+                h.put,
+              ),
+            );
+          }) b given
+
+          pub left : SwitchesAt (λ (shape : Shape). C.EnterStep) t mids news (Ok tt) → Left system bound plan olds before t e values news present count
+          left s = record {
+            log = h.log ++ s.log;
+            is = h.is;
+            told = told_on olds mids news h.log s.log h.told s.told;
+            leaves = record {
+              front = h.log;
+              leaves = s.log;
+              seen = h.seen;
+              done = done_there;
+              step = step;
+              left = subst (λ (ss : List Shape). IsAnswered ss (switching (λ (shape : Shape). C.EnterStep) ss) s.log) (fits_on system h.log olds mids fits h.told) s.says.0;
+              log_is = refl;
+            };
+            values_are = h.values_are;
+            put = h.put;
+            counted = h.counted;
+          }
+
+  module _ (t e : ℕ) (values : List (Option ℤ)) (mids : List Instance) (present : SinkView) (count : ℕ) (h : Left system bound plan olds before t e values mids present count) (news : List Instance) where
+    -- a bad answer to a Set
+    pub sets_badly : (b : Break) → SetsAt system t values mids news (Err b) → Follows system bound plan olds news before present count (Err b)
+    sets_badly b given = broken_by (λ r. Walks system (before_step values) values (port_order system) values mids news r) t (λ (x : Break). Follows system bound plan olds news before present count (Err x)) (λ bad s. record {
+      log = h.log ++ s.log;
+      is = h.is;
+      told = told_on olds mids news h.log s.log h.told s.told;
+      counted_is = h.counted;
+      goes = (
+        refl,
+        (
+          InSet (record {
+            to = e;
+            front = h.log;
+            sets = s.log;
+            leaving = h.leaves;
+            stops = subst (λ (vs : List (Option ℤ)). ExplainsUntil system (before_step vs) vs (port_order system) bad vs s.log) (sym h.values_are) s.says;
+            log_is = refl;
+          }),
+          h.put,
+        ),
+      );
+    }) b given
+
+    pub departed : SetsAt system t values mids news (Ok tt) → Departed system bound plan olds before t e values news present count
+    departed s = record {
+      log = h.log ++ s.log;
+      is = h.is;
+      told = told_on olds mids news h.log s.log h.told s.told;
+      departs = record {
+        front = h.log;
+        sets = s.log;
+        leaving = h.leaves;
+        set = subst (λ (vs : List (Option ℤ)). Sets system vs s.log) (sym h.values_are) s.says;
+        log_is = refl;
+      };
+      values_are = h.values_are;
+      put = h.put;
+      counted = h.counted;
+    }
+
+  module _ (t e : ℕ) (values : List (Option ℤ)) (mids : List Instance) (present : SinkView) (count : ℕ) (h : Departed system bound plan olds before t e values mids present count) (news : List Instance) where
     abbrev steps_of : List Shape → List Asking
     steps_of ss = to_each (λ (shape : Shape). C.DoStep t (e - t)) ss
 
@@ -292,21 +492,51 @@ module _ (system : System) (bound : Bound) (plan : Plan) (olds : List Instance) 
       goes = (
         refl,
         (
-          inr (inr (inr (record {
+          InStep (record {
             to = e;
-            before = h.log;
+            front = h.log;
             steps = s.log;
             departs = h.departs;
-            fails = subst (λ (ss : List Shape). FailsIn ss (steps_of ss) bad s.log) same s.says;
+            fails = subst (λ (ss : List Shape). FailsIn ss (steps_of ss) bad s.log) (fits_on system h.log olds mids fits h.told) s.says;
             log_is = refl;
-          }))),
+          }),
           h.put,
         ),
       );
     }) b given
 
-    pub asked_there : (s : Round (steps_of (shapes mids)) any_asks_to_end mids news (Ok true)) → Follows system bound plan olds news before present count (Ok (record { end = E.Asked e; point = e }))
-    asked_there s = record {
+    pub arrived : (asked : Bool) → StepsAt t (e - t) mids news (Ok asked) → Arrived system bound plan olds before t e values asked news present count
+    arrived asked s = record {
+      log = h.log ++ s.log;
+      is = h.is;
+      told = told_on olds mids news h.log s.log h.told s.told;
+      arrives = record {
+        front = h.log;
+        steps = s.log;
+        departs = h.departs;
+        answered = subst (λ (ss : List Shape). IsAnswered ss (steps_of ss) s.log) (fits_on system h.log olds mids fits h.told) s.says.0;
+        log_is = refl;
+      };
+      values_are = h.values_are;
+      asked_is = sym s.says.1;
+      put = h.put;
+      counted = h.counted;
+    }
+
+  pub asked_there : (t e : ℕ) (values : List (Option ℤ)) (mids : List Instance) (present : SinkView) (count : ℕ) → Arrived system bound plan olds before t e values true mids present count →
+      Follows system bound plan olds mids before present count (Ok (record { end = E.Asked e; point = e }))
+  asked_there t e values mids present count h = record {
+    log = h.log;
+    is = h.is;
+    told = h.told;
+    counted_is = h.counted;
+    goes = (refl, ((refl, inr (record { from = t; arrives = h.arrives; asks = h.asked_is })), h.put));
+  }
+
+  module _ (t e : ℕ) (values : List (Option ℤ)) (mids : List Instance) (present : SinkView) (count : ℕ) (h : Arrived system bound plan olds before t e values false mids present count) (news : List Instance) where
+    -- a bad answer on the way into Event Mode
+    pub enters_badly : (b : Break) → SwitchesAt (λ (shape : Shape). C.EnterEvent) e mids news (Err b) → Follows system bound plan olds news before present count (Err b)
+    enters_badly b given = broken_by (λ r. Stage (switching (λ (shape : Shape). C.EnterEvent) (shapes mids)) nothing mids news r) e (λ (x : Break). Follows system bound plan olds news before present count (Err x)) (λ bad s. record {
       log = h.log ++ s.log;
       is = h.is;
       told = told_on olds mids news h.log s.log h.told s.told;
@@ -314,35 +544,34 @@ module _ (system : System) (bound : Bound) (plan : Plan) (olds : List Instance) 
       goes = (
         refl,
         (
-          (
-            refl,
-            record {
-              from = t;
-              before = h.log;
-              steps = s.log;
-              departs = h.departs;
-              answered = subst (λ (ss : List Shape). IsAnswered ss (steps_of ss) s.log) same s.says.0;
-              asks = sym s.says.1;
-              log_is = refl;
-            },
-          ),
+          BehindStep (record {
+            from = t;
+            front = h.log;
+            arrives = s.log;
+            stepped = h.arrives;
+            goes_on = h.asked_is;
+            stops = subst (λ (ss : List Shape). StopsAt ss (switching (λ (shape : Shape). C.EnterEvent) ss) bad s.log) (fits_on system h.log olds mids fits h.told) s.says;
+            log_is = refl;
+          }),
           h.put,
         ),
       );
-    }
+    }) b given
 
-    pub here_on : (s : Round (steps_of (shapes mids)) any_asks_to_end mids news (Ok false)) → Here system bound plan olds before e news present count
+    pub here_on : SwitchesAt (λ (shape : Shape). C.EnterEvent) e mids news (Ok tt) → Here system bound plan olds before e 0 values news present count
     here_on s =
-        let d = h.departs in
-        let seen = d.seen in
-        record {
+        let a = h.arrives in
+        let d = a.departs in
+        let l = d.leaving in
+        let seen = l.seen in
+        subst (λ (vs : List (Option ℤ)). Here system bound plan olds before e 0 vs news present count) h.values_are (record {
           log = h.log ++ s.log;
           is = h.is;
           told = told_on olds mids news h.log s.log h.told s.told;
-          came = ByStep e (h.log ++ s.log) h.is t seen.values seen.before seen.reads d.sets s.log seen.earlier seen.came seen.read d.step d.set
-              (subst (λ (ss : List Shape). IsAnswered ss (steps_of ss) s.log) same s.says.0) (sym s.says.1)
-              (ap (λ (l : List Sent). l ++ s.log) d.log_is ∙ append_assoc d.before d.sets s.log
-              ∙ ap (λ (l : List Sent). l ++ (d.sets ++ s.log)) seen.log_is ∙ append_assoc seen.before seen.reads (d.sets ++ s.log)) seen.is_is;
+          came = ByStep e 0 seen.values (h.log ++ s.log) h.is t seen.n seen.before seen.front seen.found seen.updates l.leaves d.sets a.steps s.log seen.earlier
+              seen.came seen.takes l.done l.step (record { left = l.left; set = d.set; stepped = a.answered }) h.asked_is
+              (subst (λ (ss : List Shape). IsAnswered ss (switching (λ (shape : Shape). C.EnterEvent) ss) s.log) (fits_on system h.log olds mids fits h.told) s.says.0)
+              refl (flat seen.front seen.found seen.updates l.leaves d.sets a.steps s.log l.front d.front a.front h.log seen.log_is l.log_is d.log_is a.log_is) seen.is_is;
           put = h.put;
           counted = h.counted;
-        }
+        })

@@ -1,6 +1,6 @@
 -- Where a good answer leads.
 use Rattle.std.proofs.Common.{◌≡◌, ℕ, ◌+◌, ◌<◌, ◌≤◌, Bool, true, false, List, inl, inr, refl, sym, ap, ◌∙◌, subst, arith, length, not, replicate, zero, suc, ◌-◌}
-use Rattle.std.specs.Prelude.{◌||◌, ◌==◌, IfSome, IsTrue, Option, Some, None, unwrap_or}
+use Rattle.std.specs.Prelude.{◌||◌, ◌==◌, if◌then◌else◌, IfSome, IsTrue, Option, Some, None, unwrap_or}
 use Rattle.std.specs.List.{list_any}
 use Rattle.std.proofs.lemmas.Bool.Decides.{nat_tests}
 use Rattle.value_types.specs.declared.shape.Shape.{Shape}
@@ -15,16 +15,21 @@ use Rattle.fmi_calls.specs.declared.call.BadStatus.{BadStatus}
 use Rattle.fmi_calls.specs.declared.call.Grade.TheVariants as G
 use Rattle.fmi_calls.specs.declared.phase.Phase.{Phase}
 use Rattle.fmi_calls.specs.declared.phase.InstanceState.{InstanceState}
-use Rattle.fmi_calls.specs.Next.{counted, entered, end_of, marks_after_set}
+use Rattle.fmi_calls.specs.declared.phase.InstanceState.TheVariants as P
+use Rattle.fmi_calls.specs.Next.{counted, entered, end_of, marks_after_set, running_state, settles, unmarked}
 use Rattle.fmi_calls.specs.Permission.{Permitted, none_marked}
 use Rattle.fmi_calls.specs.Worth.{grade_of}
 use Rattle.fmu_peer.specs.declared.peer.Exchange.{Exchange}
 use Rattle.fmu_peer.specs.View.{View, Fixed}
 use Rattle.slot_calls.proofs.Leading.{Led}
-use Rattle.event_iteration.specs.Instants.{CanBeRead}
-use Rattle.calling_sequence.specs.Place.{IsAt, IsDeparting, IsInitializing, IsMade, IsPlain, TakesSize}
+use Rattle.system_model.proofs.Lists.{true_false}
+use Rattle.run_model.specs.AfterInstant.{asks_again}
+use Rattle.event_iteration.specs.Instants.{BeginsInstant, IsRunning}
+use Rattle.event_iteration.specs.Settings.{IsUnset}
+use Rattle.event_iteration.specs.Updates.{answer_passes}
+use Rattle.calling_sequence.specs.Place.{IsAt, IsDeparting, IsInInstant, IsInitializing, IsMade, IsPlain, IsSettled, IsStepping, IsThere, TakesSize}
 use Rattle.calling_sequence.proofs.Chains.{IsGet, IsSet}
-use Rattle.calling_sequence.proofs.Walks.{IsGetOrSet}
+use Rattle.calling_sequence.proofs.Walks.{IsGetOrSet, IsOfInstant}
 
 -- ---- Gets and Sets
 
@@ -43,7 +48,7 @@ none_of_none (suc n) = none_of_none n
 pub unmarked_is : (n : ℕ) → none_marked (replicate n false) ≡ true
 unmarked_is n = ap not (none_of_none n)
 
--- ---- into Step Mode
+-- ---- Initialization Mode
 
 pub enter_leads : (start stop : ℕ) (v w : View) (e : Exchange) → IsMade v → Led v e w → e.call ≡ C.EnterInitialization start stop → IsInitializing start stop w
 enter_leads start stop v w e h l is =
@@ -74,44 +79,150 @@ finding_keeps start stop v w e h l (inr set) =
     initializing_on start stop v w e.call l.fixed
     (set_leads v w e l set ∙ ap (λ (s : InstanceState). record (counted v.phase e.call) { marks = marks_after_set s v.fixed.shape v.phase.marks set.1 }) h.state) h
 
-pub exit_leads : (start stop step : ℕ) (v w : View) (e : Exchange) → IsInitializing start stop v → Led v e w → e.call ≡ C.ExitInitialization → IsAt start stop step w
-exit_leads start stop step v w e h l is =
-    let phase : w.phase ≡ entered v.fixed.shape (counted v.phase e.call) C.ExitInitialization l.reply = l.phase ∙ ap (λ (c : Call). entered v.fixed.shape (counted v.phase e.call) c l.reply) is in
-    record {
-      there = record {
-        plain = subst (λ (f : Fixed). IsPlain f.shape) (sym l.fixed) h.plain;
-        state = ap (λ (p : Phase). p.state) phase;
-        point = ap (λ (p : Phase). p.point) phase ∙ h.point;
-        stop_is = ap (λ (p : Phase). p.stop) phase ∙ h.stop_is;
-        sized = subst (λ (o : Option ℕ). IfSome o (λ n. TakesSize step n w.fixed.shape)) (sym (ap (λ (p : Phase). p.first_size) phase ∙ h.unstepped)) tt;
-        empty = ap (λ (p : Phase). p.slot.is_full) phase ∙ h.clear.empty;
-      };
-      unset = ap (λ (p : Phase). none_marked p.marks) phase ∙ h.clear.unset;
-    }
-
 -- ---- at a point
 
 sized_on : (new old : Option ℕ) (step : ℕ) → new ≡ old → {a b : Shape} → b ≡ a → IfSome old (λ n. TakesSize step n a) → IfSome new (λ n. TakesSize step n b)
 sized_on new old step is {a} {b} same h = subst (λ (o : Option ℕ). IfSome o (λ n. TakesSize step n b)) (sym is) (subst (λ (x : Shape). IfSome old (λ n. TakesSize step n x)) (sym same) h)
 
--- what leaves all but the count and the marks leaves it there
-there_on : (t stop step : ℕ) (v w : View) (call : Call) (marks : List Bool) → w.fixed ≡ v.fixed → w.phase ≡ record (counted v.phase call) { marks = marks } → IsDeparting t stop step v → IsDeparting t stop step w
-there_on t stop step v w call marks fixed phase h = record {
+-- what leaves the point, the stop, the first size and the slot leaves it there
+there_on : (t stop step : ℕ) (v w : View) → w.fixed ≡ v.fixed → w.phase.point ≡ v.phase.point → w.phase.stop ≡ v.phase.stop → w.phase.first_size ≡ v.phase.first_size → w.phase.slot.is_full ≡ v.phase.slot.is_full →
+    IsThere t stop step v → IsThere t stop step w
+there_on t stop step v w fixed point stop_is first slot h = record {
   plain = subst (λ (f : Fixed). IsPlain f.shape) (sym fixed) h.plain;
-  state = ap (λ (p : Phase). p.state) phase ∙ h.state;
-  point = ap (λ (p : Phase). p.point) phase ∙ h.point;
-  stop_is = ap (λ (p : Phase). p.stop) phase ∙ h.stop_is;
-  sized = sized_on (w.phase.first_size) v.phase.first_size step (ap (λ (p : Phase). p.first_size) phase) (ap (λ (f : Fixed). f.shape) fixed) h.sized;
-  empty = ap (λ (p : Phase). p.slot.is_full) phase ∙ h.empty;
+  point = point ∙ h.point;
+  stop_is = stop_is ∙ h.stop_is;
+  sized = sized_on w.phase.first_size v.phase.first_size step first (ap (λ (f : Fixed). f.shape) fixed) h.sized;
+  empty = slot ∙ h.empty;
 }
 
-pub get_keeps : (t stop step : ℕ) (v w : View) (e : Exchange) → IsAt t stop step v → Led v e w → IsGet e → IsAt t stop step w
-get_keeps t stop step v w e h l get =
+pub exit_leads : (start stop step : ℕ) (v w : View) (e : Exchange) → IsInitializing start stop v → Led v e w → e.call ≡ C.ExitInitialization → IsAt start stop step w
+exit_leads start stop step v w e h l is =
+    let phase : w.phase ≡ entered v.fixed.shape (counted v.phase e.call) C.ExitInitialization l.reply = l.phase ∙ ap (λ (c : Call). entered v.fixed.shape (counted v.phase e.call) c l.reply) is in
+    record {
+      in_instant = record {
+        there = record {
+          plain = subst (λ (f : Fixed). IsPlain f.shape) (sym l.fixed) h.plain;
+          point = ap (λ (p : Phase). p.point) phase ∙ h.point;
+          stop_is = ap (λ (p : Phase). p.stop) phase ∙ h.stop_is;
+          sized = subst (λ (o : Option ℕ). IfSome o (λ n. TakesSize step n w.fixed.shape)) (sym (ap (λ (p : Phase). p.first_size) phase ∙ h.unstepped)) tt;
+          empty = ap (λ (p : Phase). p.slot.is_full) phase ∙ h.clear.empty;
+        };
+        state = ap (λ (p : Phase). p.state) phase ∙ ap (λ (f : Fixed). running_state f.shape) (sym l.fixed);
+      };
+      unset = ap (λ (p : Phase). none_marked p.marks) phase ∙ h.clear.unset;
+    }
+
+-- ---- in an instant
+
+-- before the Updates of an instant: without event mode no input is set since the last step
+pub record IsTaking (t stop step : ℕ) (v : View) : Type 0 where
+  pub in_instant : IsInInstant t stop step v
+  pub unset : v.fixed.shape.has_event_mode ≡ false → none_marked v.phase.marks ≡ true
+
+running_on : (v w : View) → w.fixed ≡ v.fixed → w.phase.state ≡ v.phase.state → IsRunning v → IsRunning w
+running_on v w fixed state h = state ∙ h ∙ ap (λ (f : Fixed). running_state f.shape) (sym fixed)
+
+instant_on : (t stop step : ℕ) (v w : View) (call : Call) (marks : List Bool) → w.fixed ≡ v.fixed → w.phase ≡ record (counted v.phase call) { marks = marks } → IsInInstant t stop step v → IsInInstant t stop step w
+instant_on t stop step v w call marks fixed phase h = record {
+  there = there_on t stop step v w fixed (ap (λ (p : Phase). p.point) phase) (ap (λ (p : Phase). p.stop) phase) (ap (λ (p : Phase). p.first_size) phase) (ap (λ (p : Phase). p.slot.is_full) phase) h.there;
+  state = running_on v w fixed (ap (λ (p : Phase). p.state) phase) h.state;
+}
+
+-- an exchange of an instant leaves the mode
+pub running_keeps : (v w : View) (e : Exchange) → IsRunning v → Led v e w → IsOfInstant v.fixed.shape e → IsRunning w
+running_keeps v w e h l (inl get) = running_on v w l.fixed (ap (λ (p : Phase). p.state) (get_leads v w e l get)) h
+running_keeps v w e h l (inr (set, events)) = running_on v w l.fixed (ap (λ (p : Phase). p.state) (set_leads v w e l set)) h
+
+pub taking_keeps : (t stop step : ℕ) (v w : View) (e : Exchange) → IsTaking t stop step v → Led v e w → IsOfInstant v.fixed.shape e → IsTaking t stop step w
+taking_keeps t stop step v w e h l (inl get) =
     let phase = get_leads v w e l get in
-    record { there = there_on t stop step v w e.call v.phase.marks l.fixed phase h.there; unset = ap (λ (p : Phase). none_marked p.marks) phase ∙ h.unset }
+    record {
+      in_instant = instant_on t stop step v w e.call v.phase.marks l.fixed phase h.in_instant;
+      unset = λ none. ap (λ (p : Phase). none_marked p.marks) phase ∙ h.unset (ap (λ (f : Fixed). f.shape.has_event_mode) (sym l.fixed) ∙ none);
+    }
+taking_keeps t stop step v w e h l (inr (set, events)) = record {
+  in_instant = instant_on t stop step v w e.call (marks_after_set v.phase.state v.fixed.shape v.phase.marks set.1) l.fixed (set_leads v w e l set) h.in_instant;
+  unset = λ none. absurd (true_false (sym (ap (λ (f : Fixed). f.shape.has_event_mode) l.fixed ∙ events) ∙ none));
+}
+
+-- an Update takes the marks away
+update_phase : (v w : View) (e : Exchange) (l : Led v e w) → e.call ≡ C.Update → w.phase ≡ record (counted v.phase e.call) { settled = settles l.reply; marks = unmarked v.fixed.shape }
+update_phase v w e l is = l.phase ∙ ap (λ (c : Call). entered v.fixed.shape (counted v.phase e.call) c l.reply) is
+
+pub update_leads : (t stop step : ℕ) (v w : View) (e : Exchange) → IsTaking t stop step v → Led v e w → e.call ≡ C.Update → IsAt t stop step w
+update_leads t stop step v w e h l is =
+    let phase = update_phase v w e l is in
+    record {
+      in_instant = record {
+        there = there_on t stop step v w l.fixed (ap (λ (p : Phase). p.point) phase) (ap (λ (p : Phase). p.stop) phase) (ap (λ (p : Phase). p.first_size) phase) (ap (λ (p : Phase). p.slot.is_full) phase) h.in_instant.there;
+        state = running_on v w l.fixed (ap (λ (p : Phase). p.state) phase) h.in_instant.state;
+      };
+      unset = ap (λ (p : Phase). none_marked p.marks) phase ∙ unmarked_is (length v.fixed.shape.variables);
+    }
+
+pub update_stays : (t stop step : ℕ) (v : View) → IsTaking t stop step v → v.fixed.shape.has_event_mode ≡ false → IsAt t stop step v
+update_stays t stop step v h none = record { in_instant = h.in_instant; unset = h.unset none }
+
+-- the answer doesn't ask for another instant
+abbrev pub IsLast : Exchange → Type 0
+IsLast e = answer_passes asks_again e.result ≡ false
+
+refused_update : (shape : Shape) (kind : Kind) (status : BadStatus) → grade_of shape C.Update (R.Refused kind status) ≡ G.Good → ⊥
+refused_update shape K.Update status h = absurd (cc)
+refused_update shape kind status h = absurd (cc)
+
+settled_by : (shape : Shape) (reply : Reply) → grade_of shape C.Update reply ≡ G.Good → asks_again reply ≡ false → settles reply ≡ true
+settled_by shape (R.Done w (A.Update again terminate event_time)) good last = ap not last
+settled_by shape (R.Done w content) good last = absurd (cc)
+settled_by shape (R.Refused kind status) good last = absurd (refused_update shape kind status good)
+
+pub update_settles : (t stop step : ℕ) (v w : View) (e : Exchange) → IsTaking t stop step v → Led v e w → e.call ≡ C.Update → IsLast e → IsSettled t stop step w
+update_settles t stop step v w e h l is last = record {
+  at = update_leads t stop step v w e h l is;
+  settled = λ events. ap (λ (p : Phase). p.settled) (update_phase v w e l is)
+      ∙ settled_by v.fixed.shape l.reply (subst (λ (c : Call). grade_of v.fixed.shape c l.reply ≡ G.Good) is l.good) (ap (answer_passes asks_again) (sym l.is) ∙ last);
+}
+
+pub update_stays_settled : (t stop step : ℕ) (v : View) → IsTaking t stop step v → v.fixed.shape.has_event_mode ≡ false → IsSettled t stop step v
+update_stays_settled t stop step v h none = record { at = update_stays t stop step v h none; settled = λ events. absurd (true_false (sym events ∙ none)) }
+
+-- ---- into Step Mode, and the inputs
+
+running_is : (shape : Shape) (b : Bool) → shape.has_event_mode ≡ b → running_state shape ≡ (if b then P.Event else P.Step)
+running_is shape b is = ap (λ (c : Bool). if c then P.Event else P.Step) is
+
+pub may_enter_step : (t stop step : ℕ) (v : View) → IsSettled t stop step v → v.fixed.shape.has_event_mode ≡ true → Permitted v.fixed.shape v.phase C.EnterStep
+may_enter_step t stop step v h events = (h.at.in_instant.state ∙ running_is v.fixed.shape true events, h.settled events)
+
+pub enter_step_leads : (t stop step : ℕ) (v w : View) (e : Exchange) → IsSettled t stop step v → Led v e w → e.call ≡ C.EnterStep → IsStepping t stop step w
+enter_step_leads t stop step v w e h l is =
+    let phase : w.phase ≡ record (counted v.phase e.call) { state = P.Step } = l.phase ∙ ap (λ (c : Call). entered v.fixed.shape (counted v.phase e.call) c l.reply) is in
+    record {
+      departing = record {
+        there = there_on t stop step v w l.fixed (ap (λ (p : Phase). p.point) phase) (ap (λ (p : Phase). p.stop) phase) (ap (λ (p : Phase). p.first_size) phase) (ap (λ (p : Phase). p.slot.is_full) phase) h.at.in_instant.there;
+        state = ap (λ (p : Phase). p.state) phase;
+      };
+      unset = ap (λ (p : Phase). none_marked p.marks) phase ∙ h.at.unset;
+    }
+
+pub enter_step_stays : (t stop step : ℕ) (v : View) → IsSettled t stop step v → v.fixed.shape.has_event_mode ≡ false → IsStepping t stop step v
+enter_step_stays t stop step v h none = record {
+  departing = record { there = h.at.in_instant.there; state = h.at.in_instant.state ∙ running_is v.fixed.shape false none };
+  unset = h.at.unset;
+}
 
 pub set_keeps : (t stop step : ℕ) (v w : View) (e : Exchange) → IsDeparting t stop step v → Led v e w → IsSet e → IsDeparting t stop step w
-set_keeps t stop step v w e h l set = there_on t stop step v w e.call (marks_after_set v.phase.state v.fixed.shape v.phase.marks set.1) l.fixed (set_leads v w e l set) h
+set_keeps t stop step v w e h l set =
+    let phase = set_leads v w e l set in
+    record {
+      there = there_on t stop step v w l.fixed (ap (λ (p : Phase). p.point) phase) (ap (λ (p : Phase). p.stop) phase) (ap (λ (p : Phase). p.first_size) phase) (ap (λ (p : Phase). p.slot.is_full) phase) h.there;
+      state = ap (λ (p : Phase). p.state) phase ∙ h.state;
+    }
+
+pub unset_at : (t stop step : ℕ) (v : View) → IsStepping t stop step v → IsUnset v
+unset_at t stop step v h = record { state = h.departing.state; unset = h.unset }
+
+-- ---- a step
 
 refused_step : (shape : Shape) (at size : ℕ) (kind : Kind) (status : BadStatus) → grade_of shape (C.DoStep at size) (R.Refused kind status) ≡ G.Good → ⊥
 refused_step shape at size K.DoStep status h = absurd (cc)
@@ -131,24 +242,26 @@ sized_next step size shape (Some n) h takes = h
 
 -- an instance at a point takes the step to another
 pub record CanStep (t b stop step : ℕ) (v : View) : Type 0 where
-  pub there : IsDeparting t stop step v
+  pub departing : IsDeparting t stop step v
   pub takes : TakesSize step (b - t) v.fixed.shape
 
-pub step_leads : (t b stop step : ℕ) → t < b → (v w : View) (e : Exchange) → CanStep t b stop step v → Led v e w → e.call ≡ C.DoStep t (b - t) → IsAt b stop step w
+pub step_leads : (t b stop step : ℕ) → t < b → (v w : View) (e : Exchange) → CanStep t b stop step v → Led v e w → e.call ≡ C.DoStep t (b - t) → IsStepping b stop step w
 step_leads t b stop step later v w e can l is =
-    let h = can.there in
+    let h = can.departing in
     let phase : w.phase ≡ entered v.fixed.shape (counted v.phase e.call) (C.DoStep t (b - t)) l.reply = l.phase ∙ ap (λ (c : Call). entered v.fixed.shape (counted v.phase e.call) c l.reply) is in
     let good : grade_of v.fixed.shape (C.DoStep t (b - t)) l.reply ≡ G.Good = subst (λ (c : Call). grade_of v.fixed.shape c l.reply ≡ G.Good) is l.good in
-    let end : end_of l.reply t ≡ t + (b - t) = good_step_end v.fixed.shape t (b - t) l.reply h.plain.no_early good in
+    let end : end_of l.reply t ≡ t + (b - t) = good_step_end v.fixed.shape t (b - t) l.reply h.there.plain good in
     record {
-      there = record {
-        plain = subst (λ (f : Fixed). IsPlain f.shape) (sym l.fixed) h.plain;
+      departing = record {
+        there = record {
+          plain = subst (λ (f : Fixed). IsPlain f.shape) (sym l.fixed) h.there.plain;
+          point = ap (λ (p : Phase). p.point) phase ∙ ap (end_of l.reply) h.there.point ∙ end ∙ omega arith;
+          stop_is = ap (λ (p : Phase). p.stop) phase ∙ h.there.stop_is;
+          sized = subst (λ (o : Option ℕ). IfSome o (λ n. TakesSize step n w.fixed.shape)) (sym (ap (λ (p : Phase). p.first_size) phase))
+              (subst (λ (f : Fixed). TakesSize step (unwrap_or v.phase.first_size (b - t)) f.shape) (sym l.fixed) (sized_next step (b - t) v.fixed.shape v.phase.first_size h.there.sized can.takes));
+          empty = ap (λ (p : Phase). p.slot.is_full) phase ∙ h.there.empty;
+        };
         state = ap (λ (p : Phase). p.state) phase ∙ h.state;
-        point = ap (λ (p : Phase). p.point) phase ∙ ap (end_of l.reply) h.point ∙ end ∙ omega arith;
-        stop_is = ap (λ (p : Phase). p.stop) phase ∙ h.stop_is;
-        sized = subst (λ (o : Option ℕ). IfSome o (λ n. TakesSize step n w.fixed.shape)) (sym (ap (λ (p : Phase). p.first_size) phase))
-            (subst (λ (f : Fixed). TakesSize step (unwrap_or v.phase.first_size (b - t)) f.shape) (sym l.fixed) (sized_next step (b - t) v.fixed.shape v.phase.first_size h.sized can.takes));
-        empty = ap (λ (p : Phase). p.slot.is_full) phase ∙ h.empty;
       };
       unset = ap (λ (p : Phase). none_marked p.marks) phase ∙ unmarked_is (length v.fixed.shape.variables);
     }
@@ -161,14 +274,42 @@ size_for false (Some n) step size h takes = grind (arith, nat_tests)
 
 pub may_step : (t b stop step : ℕ) (v : View) → CanStep t b stop step v → t < b → b ≤ stop → Permitted v.fixed.shape v.phase (C.DoStep t (b - t))
 may_step t b stop step v can later within =
-    let stop_is : v.phase.stop ≡ stop = can.there.stop_is in (
-      can.there.state,
-      sym can.there.point,
+    let there = can.departing.there in
+    let stop_is : v.phase.stop ≡ stop = there.stop_is in (
+      can.departing.state,
+      sym there.point,
       omega arith,
       omega arith,
-      size_for v.fixed.shape.has_variable_steps v.phase.first_size step (b - t) can.there.sized can.takes,
-      subst (λ (full : Bool). IsTrue (not full || v.phase.slot.point == v.phase.point)) (sym can.there.empty) refl,
+      size_for v.fixed.shape.has_variable_steps v.phase.first_size step (b - t) there.sized can.takes,
+      subst (λ (full : Bool). IsTrue (not full || v.phase.slot.point == v.phase.point)) (sym there.empty) refl,
     )
 
-pub reads_at : (t stop step : ℕ) (v : View) → IsAt t stop step v → CanBeRead v
-reads_at t stop step v h = record { state = h.there.state; unset = h.unset }
+-- ---- behind it
+
+pub may_enter_event : (t stop step : ℕ) (v : View) → IsStepping t stop step v → v.fixed.shape.has_event_mode ≡ true → Permitted v.fixed.shape v.phase C.EnterEvent
+may_enter_event t stop step v h events = (h.departing.state, events, h.departing.there.empty)
+
+pub enter_event_leads : (t stop step : ℕ) (v w : View) (e : Exchange) → IsStepping t stop step v → v.fixed.shape.has_event_mode ≡ true → Led v e w → e.call ≡ C.EnterEvent → IsAt t stop step w
+enter_event_leads t stop step v w e h events l is =
+    let phase : w.phase ≡ record (counted v.phase e.call) { state = P.Event; settled = false } = l.phase ∙ ap (λ (c : Call). entered v.fixed.shape (counted v.phase e.call) c l.reply) is in
+    record {
+      in_instant = record {
+        there = there_on t stop step v w l.fixed (ap (λ (p : Phase). p.point) phase) (ap (λ (p : Phase). p.stop) phase) (ap (λ (p : Phase). p.first_size) phase) (ap (λ (p : Phase). p.slot.is_full) phase) h.departing.there;
+        state = ap (λ (p : Phase). p.state) phase ∙ sym (running_is v.fixed.shape true events) ∙ ap (λ (f : Fixed). running_state f.shape) (sym l.fixed);
+      };
+      unset = ap (λ (p : Phase). none_marked p.marks) phase ∙ h.unset;
+    }
+
+pub enter_event_stays : (t stop step : ℕ) (v : View) → IsStepping t stop step v → v.fixed.shape.has_event_mode ≡ false → IsAt t stop step v
+enter_event_stays t stop step v h none = record {
+  in_instant = record { there = h.departing.there; state = h.departing.state ∙ sym (running_is v.fixed.shape false none) };
+  unset = h.unset;
+}
+
+-- ---- the beginning of an instant
+
+pub begins_at : (t stop step : ℕ) (v : View) → IsAt t stop step v → BeginsInstant v
+begins_at t stop step v h = record { running = h.in_instant.state; unset = h.unset }
+
+pub taking_at : (t stop step : ℕ) (v : View) → IsAt t stop step v → IsTaking t stop step v
+taking_at t stop step v h = record { in_instant = h.in_instant; unset = λ none. h.unset }

@@ -62,6 +62,6 @@ module _ {A : Type 0} (f : A → Instance) (slots : List A) (system : System) (p
       let shape_is : x.view.fixed.shape ≡ c.0.shape = own ∙ ap (λ (ss : List Shape). get_or ss k c.0.shape) fits ∙ sym (map_at shape_in system.components k c.0 c.0.shape w_there c.1) in
       let takes : TakesSize plan.step (b - t) (get_or system.components k c.0).shape = fit_by ((b - t) == plan.step) system.components (b - t) plan.step refl fit k c.0 w_there in
       record {
-        there = there k d w;
+        departing = there k d w;
         takes = subst (TakesSize plan.step (b - t)) (sym (shape_is ∙ ap shape_in c.1)) takes;
       }

@@ -1,45 +1,113 @@
 -- Where the instances stand behind walks, and what the values are that were found.
-use Rattle.std.proofs.Common.{◌≡◌, ℕ, ◌<◌, List, Option, Some, None, Result, Ok, Err, sym, ap, ◌∙◌, subst, arith, length, get_or, map}
+use Rattle.std.proofs.Common.{◌≡◌, ℕ, ◌<◌, Bool, true, false, List, [], ◌∷◌, Option, Some, None, Result, Ok, Err, refl, sym, ap, ◌∙◌, subst, arith, length, get_or, map, replicate, zero, suc}
 use Rattle.std.specs.Int.{w128}
-use Rattle.std.specs.Prelude.{All, ℤ, FitsSigned, IfSome, OnOk, slice_get}
+use Rattle.std.specs.Prelude.{All, ℤ, ◌||◌, FitsSigned, IfOk, IfSome, OnOk, slice_get}
 use Rattle.std.proofs.lemmas.Int.{ints}
 use Rattle.std.proofs.lemmas.List.{get_or_default}
+use Rattle.std.proofs.lemmas.List.Elements.{All-cons, All-nil}
 use Rattle.std.proofs.lemmas.Option.{slice_get-get_or}
+use Rattle.value_types.specs.declared.shape.Shape.{Shape}
 use Rattle.value_types.specs.declared.values.PortType.{PortType}
 use Rattle.value_types.specs.declared.values.PortType.TheVariants as T
 use Rattle.value_types.specs.Values.{Fits}
+use Rattle.fmi_calls.specs.declared.call.Call.TheVariants as C
+use Rattle.fmi_calls.specs.declared.call.Reply.{Reply}
 use Rattle.fmu_peer.specs.CloseAll.{Instance}
+use Rattle.system_model.specs.declared.system.Port.{Port}
 use Rattle.system_model.specs.declared.system.System.{System}
+use Rattle.run_model.specs.AfterInstant.{asks_again}
 use Rattle.run_model.specs.Machines.{AreFitting}
+use Rattle.run_model.specs.Run.{value}
 use Rattle.slot_calls.specs.declared.bad_answer.BadAnswer.{BadAnswer}
 use Rattle.slot_calls.specs.Carried.{IsWide}
-use Rattle.slot_calls.specs.Stage.{shapes, shapes_of}
+use Rattle.slot_calls.specs.Log.{Sent}
+use Rattle.slot_calls.specs.Stage.{Stage, has_events, nothing, shapes, shapes_of, to_those}
+use Rattle.slot_calls.proofs.Parts.{stage_those}
+use Rattle.event_iteration.specs.declared.updates.Updated.{Updated}
 use Rattle.event_iteration.specs.Explains.{Walks}
-use Rattle.event_iteration.specs.Initialization.{initially}
-use Rattle.event_iteration.specs.Instants.{at_point}
+use Rattle.event_iteration.specs.Initialization.{initially, no_values}
+use Rattle.event_iteration.specs.Instants.{IsRunning, in_instant}
 use Rattle.event_iteration.specs.Settings.{before_step}
-use Rattle.calling_sequence.specs.Place.{IsAt, IsDeparting, IsInitializing}
-use Rattle.calling_sequence.proofs.Chains.{IsGet, IsSet, keep_all}
-use Rattle.calling_sequence.proofs.Phases.{finding_keeps, get_keeps, set_keeps}
+use Rattle.event_iteration.specs.Updates.{answer_passes, any_answer, updated_by, updating}
+use Rattle.calling_sequence.specs.Place.{IsAt, IsDeparting, IsInitializing, IsSettled, IsStepping}
+use Rattle.calling_sequence.proofs.Chains.{IsSet, keep_all, stage_passing}
+use Rattle.calling_sequence.proofs.Phases.{IsLast, IsTaking, enter_event_leads, enter_event_stays, enter_step_leads, enter_step_stays, finding_keeps, running_keeps, set_keeps, taking_at, taking_keeps, update_leads, update_settles, update_stays, update_stays_settled}
 use Rattle.calling_sequence.proofs.Sizes.{there_is}
-use Rattle.calling_sequence.proofs.Walks.{IsGetOrSet, finding_goodly, reading_goodly, setting_goodly}
+use Rattle.calling_sequence.proofs.Walks.{IsGetOrSet, IsOfInstant, finding_goodly, instant_goodly, setting_goodly}
 
 module _ {A : Type 0} (f : A → Instance) (system : System) (olds news : List A) (fits : shapes (map f olds) ≡ shapes_of system) (before : List (Option ℤ)) (order : List ℕ) (values : List (Option ℤ)) where
   pub still_initializing : (start stop : ℕ) → Walks system (initially system) before order values (map f olds) (map f news) (Ok tt) → All (λ (a : A). IsInitializing start stop (f a).view) olds →
       All (λ (a : A). IsInitializing start stop (f a).view) news
   still_initializing start stop w all =
-      keep_all f (IsInitializing start stop) IsGetOrSet (finding_keeps start stop) (shapes_of system) olds news w.log w.told fits (finding_goodly system before order values w.log w.says) all
+      keep_all f (IsInitializing start stop) (λ shape. IsGetOrSet) (finding_keeps start stop) (shapes_of system) olds news w.log w.told fits (finding_goodly system before order values w.log w.says) all
 
-  pub still_at : (t : ℕ) (r : Result (Unit {0}) BadAnswer) → Walks system at_point before order values (map f olds) (map f news) r →
-      OnOk r ((stop step : ℕ) → All (λ (a : A). IsAt t stop step (f a).view) olds → All (λ (a : A). IsAt t stop step (f a).view) news)
-  still_at t (Err bad) w = tt
-  still_at t (Ok x) w = λ stop step all. keep_all f (IsAt t stop step) IsGet (get_keeps t stop step) (shapes_of system) olds news w.log w.told fits (reading_goodly system before order values w.log w.says) all
+  pub still_running : (is_first : Bool) → Walks system (in_instant is_first) before order values (map f olds) (map f news) (Ok tt) → All (λ (a : A). IsRunning (f a).view) olds → All (λ (a : A). IsRunning (f a).view) news
+  still_running is_first w all =
+      keep_all f IsRunning IsOfInstant running_keeps (shapes_of system) olds news w.log w.told fits (instant_goodly system before order values w.log is_first w.says) all
+
+  pub still_taking : (is_first : Bool) (t stop step : ℕ) → Walks system (in_instant is_first) before order values (map f olds) (map f news) (Ok tt) → All (λ (a : A). IsTaking t stop step (f a).view) olds →
+      All (λ (a : A). IsTaking t stop step (f a).view) news
+  still_taking is_first t stop step w all =
+      keep_all f (IsTaking t stop step) IsOfInstant (taking_keeps t stop step) (shapes_of system) olds news w.log w.told fits (instant_goodly system before order values w.log is_first w.says) all
 
   pub departing : (now : List (Option ℤ)) (t : ℕ) (r : Result (Unit {0}) BadAnswer) → Walks system (before_step now) before order values (map f olds) (map f news) r →
-      OnOk r ((stop step : ℕ) → All (λ (a : A). IsAt t stop step (f a).view) olds → All (λ (a : A). IsDeparting t stop step (f a).view) news)
+      OnOk r ((stop step : ℕ) → All (λ (a : A). IsStepping t stop step (f a).view) olds → All (λ (a : A). IsDeparting t stop step (f a).view) news)
   departing now t (Err bad) w = tt
   departing now t (Ok x) w = λ stop step all.
-      keep_all f (IsDeparting t stop step) IsSet (set_keeps t stop step) (shapes_of system) olds news w.log w.told fits (setting_goodly system before order values w.log now w.says) (λ k d i. (all k d i).there)
+      keep_all f (IsDeparting t stop step) (λ shape. IsSet) (set_keeps t stop step) (shapes_of system) olds news w.log w.told fits (setting_goodly system before order values w.log now w.says) (λ k d i. (all k d i).departing)
+
+-- none of the answers passes a test
+none_passes : (test : Reply → Bool) (log : List Sent) → any_answer test log ≡ false → All (λ (s : Sent). answer_passes test s.exchange.result ≡ false) log
+none_passes test [] h = All-nil (λ (s : Sent). answer_passes test s.exchange.result ≡ false)
+none_passes test (s ∷ log) h =
+    All-cons (λ (r : Sent). answer_passes test r.exchange.result ≡ false) s log (neither (answer_passes test s.exchange.result) (any_answer test log) h).0
+    (none_passes test log (neither (answer_passes test s.exchange.result) (any_answer test log) h).1) where
+      neither : (a b : Bool) → (a || b) ≡ false → (a ≡ false) × (b ≡ false)
+      neither true b h = absurd (cc)
+      neither false b h = (refl, h)
+
+-- what the calls to those with event mode leave
+module _ {A : Type 0} (f : A → Instance) (olds news : List A) where
+  updated_at : (t stop step : ℕ) (u : Updated) → Stage (updating (shapes (map f olds))) updated_by (map f olds) (map f news) (Ok u) → All (λ (a : A). IsTaking t stop step (f a).view) olds → All (λ (a : A). IsAt t stop step (f a).view) news
+  updated_at t stop step u s all =
+      stage_those f has_events (λ shape. C.Update) olds news s.log s.told s.says.0 (IsTaking t stop step) (IsAt t stop step)
+      (λ v w e p asked l is. update_leads t stop step v w e p l is) (update_stays t stop step) all
+
+  updated_settled : (t stop step : ℕ) (u : Updated) → Stage (updating (shapes (map f olds))) updated_by (map f olds) (map f news) (Ok u) → u.again ≡ false → All (λ (a : A). IsTaking t stop step (f a).view) olds →
+      All (λ (a : A). IsSettled t stop step (f a).view) news
+  updated_settled t stop step u s last all =
+      stage_passing f has_events (λ shape. C.Update) (IsTaking t stop step) (IsSettled t stop step) IsLast (update_settles t stop step) (update_stays_settled t stop step)
+      olds news s.log s.told s.says.0 (none_passes asks_again s.log (ap (λ (x : Updated). x.again) (sym s.says.1) ∙ last)) all
+
+  pub stepping_on : (t : ℕ) (r : Result (Unit {0}) BadAnswer) → Stage (to_those has_events (λ (shape : Shape). C.EnterStep) (shapes (map f olds))) nothing (map f olds) (map f news) r →
+      OnOk r ((stop step : ℕ) → All (λ (a : A). IsSettled t stop step (f a).view) olds → All (λ (a : A). IsStepping t stop step (f a).view) news)
+  stepping_on t (Err bad) s = tt
+  stepping_on t (Ok x) s = λ stop step all.
+      stage_those f has_events (λ shape. C.EnterStep) olds news s.log s.told s.says.0 (IsSettled t stop step) (IsStepping t stop step)
+      (λ v w e p asked l is. enter_step_leads t stop step v w e p l is) (enter_step_stays t stop step) all
+
+  pub at_on : (t : ℕ) (r : Result (Unit {0}) BadAnswer) → Stage (to_those has_events (λ (shape : Shape). C.EnterEvent) (shapes (map f olds))) nothing (map f olds) (map f news) r →
+      OnOk r ((stop step : ℕ) → All (λ (a : A). IsStepping t stop step (f a).view) olds → All (λ (a : A). IsAt t stop step (f a).view) news)
+  at_on t (Err bad) s = tt
+  at_on t (Ok x) s = λ stop step all.
+      stage_those f has_events (λ shape. C.EnterEvent) olds news s.log s.told s.says.0 (IsStepping t stop step) (IsAt t stop step)
+      (λ v w e p asked l is. enter_event_leads t stop step v w e p asked l is) (enter_event_stays t stop step) all
+
+-- what an instant with its Updates leaves
+module _ {A : Type 0} (f : A → Instance) (system : System) (is_first : Bool) (before : List (Option ℤ)) (order : List ℕ) (values : List (Option ℤ)) (olds mids news : List A) (fits : shapes (map f olds) ≡ shapes_of system)
+    (w : Walks system (in_instant is_first) before order values (map f olds) (map f mids) (Ok tt)) where
+  begun : (t stop step : ℕ) → All (λ (a : A). IsAt t stop step (f a).view) olds → All (λ (a : A). IsTaking t stop step (f a).view) mids
+  begun t stop step all = still_taking f system olds mids fits before order values is_first t stop step w (λ k d i. taking_at t stop step (f (get_or olds k d)).view (all k d i))
+
+  pub taken_at : (r : Result Updated BadAnswer) → Stage (updating (shapes (map f mids))) updated_by (map f mids) (map f news) r →
+      OnOk r ((t stop step : ℕ) → All (λ (a : A). IsAt t stop step (f a).view) olds → All (λ (a : A). IsAt t stop step (f a).view) news)
+  taken_at (Err bad) s = tt
+  taken_at (Ok u) s = λ t stop step all. updated_at f mids news t stop step u s (begun t stop step all)
+
+  pub taken_settled : (r : Result Updated BadAnswer) → Stage (updating (shapes (map f mids))) updated_by (map f mids) (map f news) r →
+      IfOk r (λ u. u.again ≡ false → (t stop step : ℕ) → All (λ (a : A). IsAt t stop step (f a).view) olds → All (λ (a : A). IsSettled t stop step (f a).view) news)
+  taken_settled (Err bad) s = tt
+  taken_settled (Ok u) s = λ last t stop step all. updated_settled f mids news t stop step u s last (begun t stop step all)
 
 -- a value of a type has at most 128 bits
 fits_wide : (kind : PortType) (value : ℤ) → Fits kind value → FitsSigned w128 value
@@ -66,3 +134,23 @@ wide_all system values places fits = λ k d w.
     let port = there_is system.ports k within in
     let is : slice_get system.ports k ≡ Some port.0 = slice_get-get_or system.ports k port.0 within ∙ ap Some (sym port.1) in
     weaken port.0.kind (get_or values k d) (subst (λ (o : Option ℤ). IfSome o (Fits port.0.kind)) (get_or_default values k None d w) (fits k port.0 is))
+
+-- ---- no values
+
+abbrev no_value : Option ℤ
+no_value = None
+
+nones : (ports : List Port) → replicate (length ports) no_value ≡ map (λ (port : Port). no_value) ports
+nones [] = refl
+nones (port ∷ ports) = ap (λ (vs : List (Option ℤ)). no_value ∷ vs) (nones ports)
+
+pub no_values_are : (system : System) (n : ℕ) (values : List (Option ℤ)) → values ≡ replicate n no_value → n ≡ length system.ports → values ≡ no_values system
+no_values_are system n values is places = is ∙ ap (λ (m : ℕ). replicate m no_value) places ∙ nones system.ports
+
+none_at : (ports : List Port) (p : ℕ) → value (map (λ (port : Port). no_value) ports) p ≡ None
+none_at [] p = refl
+none_at (port ∷ ports) zero = refl
+none_at (port ∷ ports) (suc p) = none_at ports p
+
+pub none_fit : (system : System) (values : List (Option ℤ)) → values ≡ no_values system → AreFitting system values
+none_fit system values is p port at = subst (λ (o : Option ℤ). IfSome o (Fits port.kind)) (sym (ap (λ (vs : List (Option ℤ)). value vs p) is ∙ none_at system.ports p)) tt

@@ -1,6 +1,6 @@
 -- The log of a walk has the calls of its turns alone, and all were answered well.
 use Rattle.std.proofs.Common.{◌≡◌, ℕ, ℤ, Bool, true, false, List, [], ◌∷◌, Option, Some, None, Result, Ok, Contains, inl, inr, ◌⊎◌, refl, sym, subst}
-use Rattle.std.specs.Prelude.{All, if◌then◌else◌, slice_get}
+use Rattle.std.specs.Prelude.{All, ◌&&◌, if◌then◌else◌, slice_get}
 use Rattle.std.specs.Option.{option_and_then, option_map, option_map_or}
 use Rattle.std.proofs.lemmas.List.Elements.{All-append, All-cons, All-nil, Contains-append_left, Contains-append_right, Contains-push}
 use Rattle.std.proofs.lemmas.Option.{same_Some}
@@ -19,12 +19,13 @@ use Rattle.system_model.specs.declared.system.Port.{Port}
 use Rattle.system_model.specs.declared.system.System.{System}
 use Rattle.run_model.specs.Equations.{fed}
 use Rattle.run_model.specs.Initial.{is_read}
+use Rattle.run_model.specs.Inputs.{is_present}
 use Rattle.run_model.specs.Run.{value}
 use Rattle.slot_calls.specs.Log.{Sent}
 use Rattle.slot_calls.specs.Stage.{shapes_of}
 use Rattle.event_iteration.specs.Explains.{Explains, all_said, call_at, said}
 use Rattle.event_iteration.specs.Initialization.{asks_initially, initially, is_set_from_feed}
-use Rattle.event_iteration.specs.Instants.{asks_at_point, at_point}
+use Rattle.event_iteration.specs.Instants.{asks_in_instant, in_instant, is_read_in_instant}
 use Rattle.event_iteration.specs.Settings.{before_step, sets_to}
 use Rattle.event_iteration.specs.Turns.{IsPaired, Rules, sent_of}
 use Rattle.event_iteration.proofs.Permits.{shape_of_component}
@@ -34,16 +35,16 @@ use Rattle.calling_sequence.proofs.Chains.{IsGet, IsGoodly, IsSet}
 abbrev IsSort : (Exchange → Type 0) → Call → Type 0
 IsSort K call = (result : Result Reply PeerFault) → K (record { call = call; result = result })
 
-module _ (system : System) (K : Exchange → Type 0) where
-  sent_goodly : (i : ℕ) (c : Component) → slice_get system.components i ≡ Some c → (call : Option Call) (reply : Option Reply) → ((k : Call) → call ≡ Some k → IsSort K k) → IsPaired c.shape call reply →
+module _ (system : System) (K : Shape → Exchange → Type 0) where
+  sent_goodly : (i : ℕ) (c : Component) → slice_get system.components i ≡ Some c → (call : Option Call) (reply : Option Reply) → ((k : Call) → call ≡ Some k → IsSort (K c.shape) k) → IsPaired c.shape call reply →
       All (IsGoodly K (shapes_of system)) (sent_of i call reply)
   sent_goodly i c of None reply sort paired = All-nil (IsGoodly K (shapes_of system))
   sent_goodly i c of (Some call) None sort paired = absurd paired
   sent_goodly i c of (Some call) (Some reply) sort paired =
       All-cons (IsGoodly K (shapes_of system)) _ []
-      (sort call refl (Ok reply), (λ d. subst (λ (s : Shape). grade_of s call reply ≡ G.Good) (shape_of_component system i c of d) paired)) (All-nil (IsGoodly K (shapes_of system)))
+      ((λ d. subst (λ (s : Shape). K s (record { call = call; result = Ok reply })) (shape_of_component system i c of d) (sort call refl (Ok reply))), (λ d. subst (λ (s : Shape). grade_of s call reply ≡ G.Good) (shape_of_component system i c of d) paired)) (All-nil (IsGoodly K (shapes_of system)))
 
-  module _ (rules : Rules) (values : List (Option ℤ)) (sort : (p : ℕ) (port : Port) (c : Component) (k : Call) → rules.asks p port c values ≡ Some k → IsSort K k) (replies : ℕ → Option Reply) where
+  module _ (rules : Rules) (values : List (Option ℤ)) (sort : (p : ℕ) (port : Port) (c : Component) (k : Call) → rules.asks p port c values ≡ Some k → IsSort (K c.shape) k) (replies : ℕ → Option Reply) where
     abbrev IsPairedAt : ℕ → Type 0
     IsPairedAt p = (port : Port) (c : Component) → slice_get system.ports p ≡ Some port → slice_get system.components port.component.0 ≡ Some c → IsPaired c.shape (rules.asks p port c values) (replies p)
 
@@ -64,19 +65,12 @@ module _ (system : System) (K : Exchange → Type 0) where
         (by_port p (paired p (Contains-append_left (p ∷ []) ps p (Contains-push [] p))) (slice_get system.ports p) refl)
         (all_goodly ps (λ q m. paired q (Contains-append_right (p ∷ []) ps q m)))
 
-  pub walk_goodly : (rules : Rules) (before : List (Option ℤ)) (taken : List ℕ) (values : List (Option ℤ)) (log : List Sent) → ((p : ℕ) (port : Port) (c : Component) (k : Call) → rules.asks p port c values ≡ Some k → IsSort K k) →
+  pub walk_goodly : (rules : Rules) (before : List (Option ℤ)) (taken : List ℕ) (values : List (Option ℤ)) (log : List Sent) → ((p : ℕ) (port : Port) (c : Component) (k : Call) → rules.asks p port c values ≡ Some k → IsSort (K c.shape) k) →
       Explains system rules before taken values log → All (IsGoodly K (shapes_of system)) log
   walk_goodly rules before taken values log sort told =
       subst (All (IsGoodly K (shapes_of system))) (sym told.log_is) (all_goodly rules values sort told.replies taken (λ p m port c is of. told.paired p port c is of m))
 
 -- ---- the calls of the walks
-
-reads : (role : Role) (port : Port) (k : Call) → asks_at_point role port ≡ Some k → IsSort IsGet k
-reads Output port k h result = (port.kind, port.reference, sym (same_Some _ _ h))
-reads (Input feed) port k h result = absurd (cc)
-reads (ClockInput feed) port k h result = absurd (cc)
-reads ClockOutput port k h result = absurd (cc)
-reads (TimeClock timing) port k h result = absurd (cc)
 
 set_of : (port : Port) (o : Option ℤ) (k : Call) → option_map (λ x. C.Set port.kind port.reference x) o ≡ Some k → IsSort IsSet k
 set_of port None k h result = absurd (cc)
@@ -97,6 +91,10 @@ if_some : {X : Type 0} (b : Bool) (o : Option X) (x : X) → (if b then o else N
 if_some true o x h = h
 if_some false o x h = absurd (cc)
 
+unless_some : {X : Type 0} (b : Bool) (o : Option X) (x : X) → (if b then None else o) ≡ Some x → o ≡ Some x
+unless_some true o x h = absurd (cc)
+unless_some false o x h = h
+
 finds : (role : Role) (ports : List Port) (read : Bool) (port : Port) (values : List (Option ℤ)) (k : Call) → asks_initially role ports read port values ≡ Some k → IsSort IsGetOrSet k
 finds (Input None) ports read port values k h result = absurd (cc)
 finds (Input (Some feed)) ports read port values k h result = inr (set_of port (fed feed values) k (if_some (is_set_from_feed ports port feed) _ k h) result)
@@ -105,12 +103,37 @@ finds (ClockInput feed) ports read port values k h result = absurd (cc)
 finds ClockOutput ports read port values k h result = absurd (cc)
 finds (TimeClock timing) ports read port values k h result = absurd (cc)
 
+-- a Get, or with event mode a Set
+abbrev pub IsOfInstant : Shape → Exchange → Type 0
+IsOfInstant shape e = IsGet e ⊎ (IsSet e × (shape.has_event_mode ≡ true))
+
+both_true : (a b : Bool) → (a && b) ≡ true → a ≡ true
+both_true true b h = refl
+both_true false b h = absurd (cc)
+
+passes : {X : Type 0} (b : Bool) (o : Option X) (x : X) → (if b then o else None) ≡ Some x → b ≡ true
+passes true o x h = refl
+passes false o x h = absurd (cc)
+
+in_instants : (shape : Shape) (role : Role) (port : Port) (is_first : Bool) (values : List (Option ℤ)) (k : Call) → asks_in_instant role port shape.has_event_mode is_first values ≡ Some k → IsSort (IsOfInstant shape) k
+in_instants shape (Input None) port is_first values k h result = absurd (cc)
+in_instants shape (Input (Some feed)) port is_first values k h result =
+    let asked = shape.has_event_mode && is_present port values in
+    let set = option_map (λ x. C.Set port.kind port.reference x) (fed feed values) in
+    inr (set_of port (fed feed values) k (if_some asked set k h) result, both_true shape.has_event_mode (is_present port values) (passes asked set k h))
+in_instants shape Output port is_first values k h result =
+    inl (port.kind, port.reference, sym (same_Some _ _ (if_some (is_read_in_instant port shape.has_event_mode is_first values) (Some (C.Get port.kind port.reference)) k h)))
+in_instants shape (ClockInput feed) port is_first values k h result = absurd (cc)
+in_instants shape ClockOutput port is_first values k h result = absurd (cc)
+in_instants shape (TimeClock timing) port is_first values k h result = absurd (cc)
+
 module _ (system : System) (before : List (Option ℤ)) (taken : List ℕ) (values : List (Option ℤ)) (log : List Sent) where
-  pub reading_goodly : Explains system at_point before taken values log → All (IsGoodly IsGet (shapes_of system)) log
-  reading_goodly told = walk_goodly system IsGet at_point before taken values log (λ p port c k h. reads port.role port k h) told
+  pub instant_goodly : (is_first : Bool) → Explains system (in_instant is_first) before taken values log → All (IsGoodly IsOfInstant (shapes_of system)) log
+  instant_goodly is_first told = walk_goodly system IsOfInstant (in_instant is_first) before taken values log (λ p port c k h. in_instants c.shape port.role port is_first values k h) told
 
-  pub setting_goodly : (now : List (Option ℤ)) → Explains system (before_step now) before taken values log → All (IsGoodly IsSet (shapes_of system)) log
-  setting_goodly now told = walk_goodly system IsSet (before_step now) before taken values log (λ p port c k h. sets port.role port (value now p) k h) told
+  pub setting_goodly : (now : List (Option ℤ)) → Explains system (before_step now) before taken values log → All (IsGoodly (λ shape. IsSet) (shapes_of system)) log
+  setting_goodly now told =
+      walk_goodly system (λ shape. IsSet) (before_step now) before taken values log (λ p port c k h. sets port.role port (value now p) k (unless_some c.shape.has_event_mode (sets_to port.role port (value now p)) k h)) told
 
-  pub finding_goodly : Explains system (initially system) before taken values log → All (IsGoodly IsGetOrSet (shapes_of system)) log
-  finding_goodly told = walk_goodly system IsGetOrSet (initially system) before taken values log (λ p port c k h. finds port.role system.ports (is_read system.ports p) port values k h) told
+  pub finding_goodly : Explains system (initially system) before taken values log → All (IsGoodly (λ shape. IsGetOrSet) (shapes_of system)) log
+  finding_goodly told = walk_goodly system (λ shape. IsGetOrSet) (initially system) before taken values log (λ p port c k h. finds port.role system.ports (is_read system.ports p) port values k h) told

@@ -1,5 +1,5 @@
 -- The run of a system by its plan, for any replies (FMI 3.0, 4.2.1: the calling sequence of Co-Simulation).
-use Rattle.std.specs.Prelude.{◌≡◌, ◌⊎◌, ℕ, ℤ, length, ◌+◌, ◌-◌, ◌<◌, ◌==◌, Bool, not, true, false, if◌then◌else◌, List, [], ◌∷◌, ◌++◌, map, Option, Some, None, position}
+use Rattle.std.specs.Prelude.{◌≡◌, ◌⊎◌, ℕ, suc, ℤ, length, ◌+◌, ◌-◌, ◌<◌, ◌==◌, Bool, not, true, false, if◌then◌else◌, List, [], ◌∷◌, ◌++◌, map, Option, Some, None, position}
 use Rattle.value_types.specs.declared.shape.Shape.{Shape}
 use Rattle.fmi_calls.specs.declared.call.Call.TheVariants as C
 use Rattle.system_model.specs.declared.bound.Bound.{Bound}
@@ -15,14 +15,15 @@ use Rattle.run_model.specs.Initial.{set_call}
 use Rattle.run_model.specs.Steps.{IsBound}
 use Rattle.event_iteration.specs.Explains.{Explains, ExplainsUntil}
 use Rattle.event_iteration.specs.Initialization.{initially, no_values}
-use Rattle.event_iteration.specs.Instants.{at_point}
+use Rattle.event_iteration.specs.Instants.{in_instant}
 use Rattle.event_iteration.specs.Settings.{before_step, port_order}
+use Rattle.event_iteration.specs.Updates.{updated_by, updating}
 use Rattle.slot_calls.specs.declared.bad_answer.BadAnswer.{BadAnswer}
 use Rattle.calling_sequence.specs.declared.run_end.RunEnd.{RunEnd}
 use Rattle.calling_sequence.specs.declared.run_end.RunEnd.TheVariants as E
 use Rattle.slot_calls.specs.Carried.{any_asks_to_end}
 use Rattle.slot_calls.specs.Log.{Sent, Asking}
-use Rattle.slot_calls.specs.Stage.{FailsIn, IsAnswered, StopsAt, shapes_of, to_each}
+use Rattle.slot_calls.specs.Stage.{FailsIn, IsAnswered, StopsAt, has_events, shapes_of, to_each, to_those}
 
 -- ---- the calls, in their order
 
@@ -44,6 +45,13 @@ entering system plan = to_each (λ (shape : Shape). C.EnterInitialization plan.s
 
 abbrev pub leaving : System → List Asking
 leaving system = to_each (λ (shape : Shape). C.ExitInitialization) (shapes_of system)
+
+-- those with event mode leave Event Mode before a step, and enter it behind one
+abbrev pub entering_step : System → List Asking
+entering_step system = to_those has_events (λ (shape : Shape). C.EnterStep) (shapes_of system)
+
+abbrev pub entering_event : System → List Asking
+entering_event system = to_those has_events (λ (shape : Shape). C.EnterEvent) (shapes_of system)
 
 -- each steps from one point to another
 abbrev pub stepping : System → ℕ → ℕ → List Asking
@@ -86,63 +94,118 @@ pub record IsInitialized (system : System) (bound : Bound) (plan : Plan) (log : 
 
 -- ---- how far a run has come
 
-abbrev pub instant_at : ℕ → List (Option ℤ) → Instant
-instant_at t values = record { t = t; n = 0; values = values }
+abbrev pub instant_at : ℕ → ℕ → List (Option ℤ) → Instant
+instant_at t n values = record { t = t; n = n; values = values }
 
--- by this log the outputs of a point were read and gave these values, in the stored order, and each connected input took its source's
-pub record Reads (system : System) (values : List (Option ℤ)) (log : List Sent) : Type 0 where
-  pub before : List (Option ℤ)
+-- by this log the n-th instant at a point went from the values of the instant before to these, in the stored order, and then each FMU with event mode was asked for what follows
+pub record Takes (system : System) (n : ℕ) (before values : List (Option ℤ)) (found updates : List Sent) : Type 0 where
   pub known : length before ≡ length system.ports
   pub places : length values ≡ length system.ports
-  pub explains : Explains system at_point before (numbers system.instant_order) values log
+  pub explains : Explains system (in_instant (n == 0)) before (numbers system.instant_order) values found
+  pub answered : IsAnswered (shapes_of system) (updating (shapes_of system)) updates
 
--- by this log each connected input that has a value was set to it, in port order
+-- none of these answers asks for the end of the run, and none for another instant: the point is done
+pub record IsDone (updates : List Sent) : Type 0 where
+  pub goes_on : (updated_by updates).asked ≡ false
+  pub settled : (updated_by updates).again ≡ false
+
+-- one asks for another instant, and none for the end
+pub record IsAgain (updates : List Sent) : Type 0 where
+  pub goes_on : (updated_by updates).asked ≡ false
+  pub again : (updated_by updates).again ≡ true
+
+-- by this log each connected input of an FMU without event mode was set to its value, where it has one, in port order
 abbrev pub Sets : System → List (Option ℤ) → List Sent → Type 0
 Sets system values log = Explains system (before_step values) values (port_order system) values log
 
--- by this log a run came to the point, behind these instants: at each the outputs were read, and behind it the inputs were set and each was stepped
-pub data Came (system : System) (bound : Bound) (plan : Plan) : ℕ → List Sent → List Instant → Type 0 where
-  AtStart : (t : ℕ) (log : List Sent) (is : List Instant) → IsInitialized system bound plan log → t ≡ plan.start → is ≡ [] → Came system bound plan t log is
-  ByStep : (t : ℕ) (log : List Sent) (is : List Instant) (from : ℕ) (values : List (Option ℤ)) (before reads sets steps : List Sent) (js : List Instant) →
-      Came system bound plan from before js → Reads system values reads → IsStep system plan from t → Sets system values sets →
-      IsAnswered (shapes_of system) (stepping system from t) steps → any_asks_to_end steps ≡ false →
-      log ≡ before ++ (reads ++ (sets ++ steps)) → is ≡ js ++ instant_at from values ∷ [] → Came system bound plan t log is
+-- the calls of a step from one point to another, in their parts: those with event mode entered Step Mode, the inputs of the others were set, and each was stepped, whatever it answered
+pub record Steps (system : System) (values : List (Option ℤ)) (from to : ℕ) (leaves sets steps : List Sent) : Type 0 where
+  pub left : IsAnswered (shapes_of system) (entering_step system) leaves
+  pub set : Sets system values sets
+  pub stepped : IsAnswered (shapes_of system) (stepping system from to) steps
 
--- the same, and the outputs were read there, which gave the last instant
+-- by this log a run came to its n-th instant at the point, with the values of the instant before it, behind these instants
+pub data Came (system : System) (bound : Bound) (plan : Plan) : ℕ → ℕ → List (Option ℤ) → List Sent → List Instant → Type 0 where
+  AtStart : (t n : ℕ) (values : List (Option ℤ)) (log : List Sent) (is : List Instant) → IsInitialized system bound plan log → t ≡ plan.start → n ≡ 0 → values ≡ no_values system → is ≡ [] →
+      Came system bound plan t n values log is
+  -- an Update asked for another instant at this point, of which there may be one more
+  ByUpdate : (t n : ℕ) (values : List (Option ℤ)) (log : List Sent) (is : List Instant) (m : ℕ) (before : List (Option ℤ)) (front found updates : List Sent) (js : List Instant) →
+      Came system bound plan t m before front js → Takes system m before values found updates → IsAgain updates → (suc m == plan.limit) ≡ false → n ≡ suc m →
+      log ≡ front ++ (found ++ updates) → is ≡ js ++ instant_at t m values ∷ [] → Came system bound plan t n values log is
+  -- the point before was done, and each was stepped from it to this one, where those with event mode entered Event Mode
+  ByStep : (t n : ℕ) (values : List (Option ℤ)) (log : List Sent) (is : List Instant) (from m : ℕ) (before : List (Option ℤ)) (front found updates leaves sets steps arrives : List Sent) (js : List Instant) →
+      Came system bound plan from m before front js → Takes system m before values found updates → IsDone updates → IsStep system plan from t → Steps system values from t leaves sets steps →
+      any_asks_to_end steps ≡ false → IsAnswered (shapes_of system) (entering_event system) arrives → n ≡ 0 →
+      log ≡ front ++ (found ++ (updates ++ (leaves ++ (sets ++ (steps ++ arrives))))) → is ≡ js ++ instant_at from m values ∷ [] → Came system bound plan t n values log is
+
+-- the same, and that instant was taken, which is the last of these
 pub record Seen (system : System) (bound : Bound) (plan : Plan) (t : ℕ) (log : List Sent) (is : List Instant) : Type 0 where
+  pub n : ℕ
+  pub before : List (Option ℤ)
   pub values : List (Option ℤ)
-  pub before : List Sent
-  pub reads : List Sent
+  pub front : List Sent
+  pub found : List Sent
+  pub updates : List Sent
   pub earlier : List Instant
-  pub came : Came system bound plan t before earlier
-  pub read : Reads system values reads
-  pub log_is : log ≡ before ++ reads
-  pub is_is : is ≡ earlier ++ instant_at t values ∷ []
+  pub came : Came system bound plan t n before front earlier
+  pub takes : Takes system n before values found updates
+  pub log_is : log ≡ front ++ (found ++ updates)
+  pub is_is : is ≡ earlier ++ instant_at t n values ∷ []
 
--- the same, and the inputs were set to the values of that instant for a step to another point
-pub record Departs (system : System) (bound : Bound) (plan : Plan) (t to : ℕ) (log : List Sent) (is : List Instant) : Type 0 where
-  pub before : List Sent
-  pub sets : List Sent
-  pub seen : Seen system bound plan t before is
+-- the same, and the point is done, from which a step to another is to be made: those with event mode entered Step Mode
+pub record Leaves (system : System) (bound : Bound) (plan : Plan) (t to : ℕ) (log : List Sent) (is : List Instant) : Type 0 where
+  pub front : List Sent
+  pub leaves : List Sent
+  pub seen : Seen system bound plan t front is
+  pub done : IsDone seen.updates
   pub step : IsStep system plan t to
-  pub set : Sets system seen.values sets
-  pub log_is : log ≡ before ++ sets
+  pub left : IsAnswered (shapes_of system) (entering_step system) leaves
+  pub log_is : log ≡ front ++ leaves
+
+-- the same, and the inputs of the others were set
+pub record Departs (system : System) (bound : Bound) (plan : Plan) (t to : ℕ) (log : List Sent) (is : List Instant) : Type 0 where
+  pub front : List Sent
+  pub sets : List Sent
+  pub leaving : Leaves system bound plan t to front is
+  pub set : Sets system leaving.seen.values sets
+  pub log_is : log ≡ front ++ sets
+
+-- the same, and each was stepped
+pub record Arrives (system : System) (bound : Bound) (plan : Plan) (from to : ℕ) (log : List Sent) (is : List Instant) : Type 0 where
+  pub front : List Sent
+  pub steps : List Sent
+  pub departs : Departs system bound plan from to front is
+  pub answered : IsAnswered (shapes_of system) (stepping system from to) steps
+  pub log_is : log ≡ front ++ steps
 
 -- ---- how it ends, but for a put that failed
 
--- all were stepped from a point, and one of the answers asked for the end
+-- the point of the stop is done
+pub record WhereStopped (system : System) (bound : Bound) (plan : Plan) (log : List Sent) (is : List Instant) : Type 0 where
+  pub seen : Seen system bound plan plan.stop log is
+  pub done : IsDone seen.updates
+
+-- an Update asked for the end
+pub record WhereEnded (system : System) (bound : Bound) (plan : Plan) (point : ℕ) (log : List Sent) (is : List Instant) : Type 0 where
+  pub seen : Seen system bound plan point log is
+  pub asks : (updated_by seen.updates).asked ≡ true
+
+-- an Update asked for another instant, and the instants at this point have reached their limit
+pub record WhereLimited (system : System) (bound : Bound) (plan : Plan) (point : ℕ) (log : List Sent) (is : List Instant) : Type 0 where
+  pub seen : Seen system bound plan point log is
+  pub again : IsAgain seen.updates
+  pub limit : (suc seen.n == plan.limit) ≡ true
+
+-- all were stepped to the point, and one of the answers asked for the end
 pub record WhereAsked (system : System) (bound : Bound) (plan : Plan) (point : ℕ) (log : List Sent) (is : List Instant) : Type 0 where
   pub from : ℕ
-  pub before : List Sent
-  pub steps : List Sent
-  pub departs : Departs system bound plan from point before is
-  pub answered : IsAnswered (shapes_of system) (stepping system from point) steps
-  pub asks : any_asks_to_end steps ≡ true
-  pub log_is : log ≡ before ++ steps
+  pub arrives : Arrives system bound plan from point log is
+  pub asks : any_asks_to_end arrives.steps ≡ true
 
--- no step was made from this point, since its size is one that the component doesn't take, the least of those; no input was set for it
+-- no step was made from this point, since its size is one that the component doesn't take, the least of those; no call was sent for it
 pub record WhereFixed (system : System) (bound : Bound) (plan : Plan) (component at end : ℕ) (log : List Sent) (is : List Instant) : Type 0 where
   pub seen : Seen system bound plan at log is
+  pub done : IsDone seen.updates
   pub end_is : IsBoundOf plan at end
   pub unfit : first_unfit system plan (end - at) ≡ Some component
 
@@ -161,45 +224,89 @@ pub record WhereInitializing (system : System) (bound : Bound) (plan : Plan) (ba
   pub point_is : point ≡ plan.start
   pub is_is : is ≡ []
 
--- a bad answer to a Get: the point has no instant
-pub record WhereReading (system : System) (bound : Bound) (plan : Plan) (bad : BadAnswer) (point : ℕ) (log : List Sent) (is : List Instant) : Type 0 where
-  pub before : List Sent
-  pub reads : List Sent
-  pub earlier : List (Option ℤ)
-  pub known : length earlier ≡ length system.ports
+-- a bad answer to a call that finds the values of an instant: it has no instant
+pub record WhereFinding (system : System) (bound : Bound) (plan : Plan) (bad : BadAnswer) (point : ℕ) (log : List Sent) (is : List Instant) : Type 0 where
+  pub n : ℕ
+  pub before : List (Option ℤ)
   pub values : List (Option ℤ)
-  pub came : Came system bound plan point before is
-  pub stops : ExplainsUntil system at_point earlier (numbers system.instant_order) bad values reads
-  pub log_is : log ≡ before ++ reads
+  pub front : List Sent
+  pub found : List Sent
+  pub known : length before ≡ length system.ports
+  pub came : Came system bound plan point n before front is
+  pub stops : ExplainsUntil system (in_instant (n == 0)) before (numbers system.instant_order) bad values found
+  pub log_is : log ≡ front ++ found
+
+-- a bad answer to an Update: nor has it
+pub record WhereUpdating (system : System) (bound : Bound) (plan : Plan) (bad : BadAnswer) (point : ℕ) (log : List Sent) (is : List Instant) : Type 0 where
+  pub n : ℕ
+  pub before : List (Option ℤ)
+  pub values : List (Option ℤ)
+  pub front : List Sent
+  pub found : List Sent
+  pub updates : List Sent
+  pub known : length before ≡ length system.ports
+  pub places : length values ≡ length system.ports
+  pub came : Came system bound plan point n before front is
+  pub explains : Explains system (in_instant (n == 0)) before (numbers system.instant_order) values found
+  pub stops : StopsAt (shapes_of system) (updating (shapes_of system)) bad updates
+  pub log_is : log ≡ front ++ (found ++ updates)
+
+-- a bad answer on the way into Step Mode
+pub record WhereLeaving (system : System) (bound : Bound) (plan : Plan) (bad : BadAnswer) (point : ℕ) (log : List Sent) (is : List Instant) : Type 0 where
+  pub to : ℕ
+  pub front : List Sent
+  pub leaves : List Sent
+  pub seen : Seen system bound plan point front is
+  pub done : IsDone seen.updates
+  pub step : IsStep system plan point to
+  pub stops : StopsAt (shapes_of system) (entering_step system) bad leaves
+  pub log_is : log ≡ front ++ leaves
 
 -- a bad answer to the Set of an input, behind the instant whose values are set
 pub record WhereSetting (system : System) (bound : Bound) (plan : Plan) (bad : BadAnswer) (point : ℕ) (log : List Sent) (is : List Instant) : Type 0 where
   pub to : ℕ
-  pub before : List Sent
+  pub front : List Sent
   pub sets : List Sent
-  pub seen : Seen system bound plan point before is
-  pub step : IsStep system plan point to
-  pub stops : ExplainsUntil system (before_step seen.values) seen.values (port_order system) bad seen.values sets
-  pub log_is : log ≡ before ++ sets
+  pub leaving : Leaves system bound plan point to front is
+  pub stops : ExplainsUntil system (before_step leaving.seen.values) leaving.seen.values (port_order system) bad leaving.seen.values sets
+  pub log_is : log ≡ front ++ sets
 
 -- a bad answer to a step, in which all were asked
 pub record WhereStepping (system : System) (bound : Bound) (plan : Plan) (bad : BadAnswer) (point : ℕ) (log : List Sent) (is : List Instant) : Type 0 where
   pub to : ℕ
-  pub before : List Sent
+  pub front : List Sent
   pub steps : List Sent
-  pub departs : Departs system bound plan point to before is
+  pub departs : Departs system bound plan point to front is
   pub fails : FailsIn (shapes_of system) (stepping system point to) bad steps
-  pub log_is : log ≡ before ++ steps
+  pub log_is : log ≡ front ++ steps
+
+-- a bad answer on the way into Event Mode, at the point that the step reached
+pub record WhereEntering (system : System) (bound : Bound) (plan : Plan) (bad : BadAnswer) (point : ℕ) (log : List Sent) (is : List Instant) : Type 0 where
+  pub from : ℕ
+  pub front : List Sent
+  pub arrives : List Sent
+  pub stepped : Arrives system bound plan from point front is
+  pub goes_on : any_asks_to_end stepped.steps ≡ false
+  pub stops : StopsAt (shapes_of system) (entering_event system) bad arrives
+  pub log_is : log ≡ front ++ arrives
+
+-- where the first answer that isn't good stands
+pub data WhereBad (system : System) (bound : Bound) (plan : Plan) (bad : BadAnswer) (point : ℕ) (log : List Sent) (is : List Instant) : Type 0 where
+  InInitialization : WhereInitializing system bound plan bad point log is → WhereBad system bound plan bad point log is
+  InInstant : WhereFinding system bound plan bad point log is → WhereBad system bound plan bad point log is
+  InUpdate : WhereUpdating system bound plan bad point log is → WhereBad system bound plan bad point log is
+  BeforeStep : WhereLeaving system bound plan bad point log is → WhereBad system bound plan bad point log is
+  InSet : WhereSetting system bound plan bad point log is → WhereBad system bound plan bad point log is
+  InStep : WhereStepping system bound plan bad point log is → WhereBad system bound plan bad point log is
+  BehindStep : WhereEntering system bound plan bad point log is → WhereBad system bound plan bad point log is
 
 -- with this log and behind these instants the run ends so, and its end line names the point
 abbrev pub Finishes : System → Bound → Plan → RunEnd → ℕ → List Sent → List Instant → Type 0
-Finishes system bound plan E.Stop point log is = (point ≡ plan.stop) × Seen system bound plan plan.stop log is
-Finishes system bound plan (E.Asked at) point log is = (point ≡ at) × WhereAsked system bound plan at log is
-Finishes system bound plan (E.EventLimit at) point log is = ⊥
+Finishes system bound plan E.Stop point log is = (point ≡ plan.stop) × WhereStopped system bound plan log is
+Finishes system bound plan (E.Asked at) point log is = (point ≡ at) × (WhereEnded system bound plan at log is ⊎ WhereAsked system bound plan at log is)
+Finishes system bound plan (E.EventLimit at) point log is = (point ≡ at) × WhereLimited system bound plan at log is
 Finishes system bound plan (E.FixedStep component at end) point log is = (point ≡ at) × WhereFixed system bound plan component.0 at end log is
-Finishes system bound plan (E.Bad bad) point log is =
-    WhereInitializing system bound plan bad point log is
-    ⊎ (WhereReading system bound plan bad point log is ⊎ (WhereSetting system bound plan bad point log is ⊎ WhereStepping system bound plan bad point log is))
+Finishes system bound plan (E.Bad bad) point log is = WhereBad system bound plan bad point log is
 Finishes system bound plan E.WriteFault point log is = ⊥
 
 -- but for a bad answer
@@ -245,7 +352,7 @@ pub record AtHeader (system : System) (plan : Plan) (log : List Sent) (is : List
   pub pieces_are : pieces ≡ []
   pub piece_is : piece ≡ header_of system plan
 
--- an instant's: its Gets are the last calls
+-- an instant's: its Updates are the last calls
 pub record AtInstant (system : System) (bound : Bound) (plan : Plan) (log : List Sent) (is : List Instant) (pieces : List (List ℕ)) (piece : List ℕ) : Type 0 where
   pub t : ℕ
   pub i : Instant

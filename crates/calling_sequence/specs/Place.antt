@@ -1,20 +1,20 @@
 -- Where the instances of a run stand (FMI 3.0, 4.2.1).
 use Rattle.std.specs.Prelude.{◌≡◌, ℕ, ◌||◌, ◌==◌, true, false, None, IfSome, IsTrue}
 use Rattle.value_types.specs.declared.shape.Shape.{Shape}
+use Rattle.fmi_calls.specs.Next.{running_state}
 use Rattle.fmi_calls.specs.Permission.{none_marked}
 use Rattle.fmi_calls.specs.declared.phase.InstanceState.TheVariants as P
 use Rattle.fmu_peer.specs.View.{View}
 
--- an FMU without event mode and without early return
-pub record IsPlain (shape : Shape) : Type 0 where
-  pub no_event : shape.has_event_mode ≡ false
-  pub no_early : shape.might_return_early ≡ false
+-- an FMU without early return
+abbrev pub IsPlain : Shape → Type 0
+IsPlain shape = shape.might_return_early ≡ false
 
 -- an FMU of this shape takes a step of the size: any, or that of the plan alone
 abbrev pub TakesSize : ℕ → ℕ → Shape → Type 0
 TakesSize step size shape = IsTrue (shape.has_variable_steps || size == step)
 
--- nothing is set since the last step, and no state is saved
+-- nothing is set, in the instant or since the last step, and no state is saved
 pub record IsClear (v : View) : Type 0 where
   pub unset : none_marked v.phase.marks ≡ true
   pub empty : v.phase.slot.is_full ≡ false
@@ -35,16 +35,35 @@ pub record IsInitializing (start stop : ℕ) (v : View) : Type 0 where
   pub unstepped : v.phase.first_size ≡ None
   pub clear : IsClear v
 
--- in Step Mode at a point, with this stop, behind steps of sizes that the plan's step allows; inputs may be set
-pub record IsDeparting (t stop step : ℕ) (v : View) : Type 0 where
+-- at a point, with this stop, behind steps of sizes that the plan's step allows, with no state saved
+pub record IsThere (t stop step : ℕ) (v : View) : Type 0 where
   pub plain : IsPlain v.fixed.shape
-  pub state : v.phase.state ≡ P.Step
   pub point : v.phase.point ≡ t
   pub stop_is : v.phase.stop ≡ stop
   pub sized : IfSome v.phase.first_size (λ size. TakesSize step size v.fixed.shape)
   pub empty : v.phase.slot.is_full ≡ false
 
--- the same, and none is set since the last step
+-- there, in an instant: in Event Mode, or without event mode in Step Mode
+pub record IsInInstant (t stop step : ℕ) (v : View) : Type 0 where
+  pub there : IsThere t stop step v
+  pub state : v.phase.state ≡ running_state v.fixed.shape
+
+-- the same at the beginning of an instant, and behind its Updates: no input is set in it, or since the last step
 pub record IsAt (t stop step : ℕ) (v : View) : Type 0 where
-  pub there : IsDeparting t stop step v
+  pub in_instant : IsInInstant t stop step v
+  pub unset : none_marked v.phase.marks ≡ true
+
+-- the same where the point is done: with event mode the last Update asked for no other
+pub record IsSettled (t stop step : ℕ) (v : View) : Type 0 where
+  pub at : IsAt t stop step v
+  pub settled : v.fixed.shape.has_event_mode ≡ true → v.phase.settled ≡ true
+
+-- there, in Step Mode before a step; inputs may be set
+pub record IsDeparting (t stop step : ℕ) (v : View) : Type 0 where
+  pub there : IsThere t stop step v
+  pub state : v.phase.state ≡ P.Step
+
+-- the same, and none is set since the last step
+pub record IsStepping (t stop step : ℕ) (v : View) : Type 0 where
+  pub departing : IsDeparting t stop step v
   pub unset : none_marked v.phase.marks ≡ true

@@ -1,7 +1,8 @@
 -- What the parts of a run leave, from the first call to the end line.
-use Rattle.std.specs.Prelude.{◌≡◌, ◌⊎◌, ℕ, ℤ, ◌≤◌, Bool, true, false, List, Option, length, Result, Ok, Err}
+use Rattle.std.specs.Prelude.{◌≡◌, ◌⊎◌, ℕ, ℤ, ◌≤◌, ◌==◌, ◌++◌, Bool, true, false, List, Option, length, Result, Ok, Err}
 use Rattle.sim_base.specs.Sink.{SinkView, with_piece}
 use Rattle.value_types.specs.declared.shape.Shape.{Shape}
+use Rattle.fmi_calls.specs.declared.call.Call.{Call}
 use Rattle.fmi_calls.specs.declared.call.Call.TheVariants as C
 use Rattle.fmu_peer.specs.CloseAll.{Instance}
 use Rattle.system_model.specs.declared.bound.Bound.{Bound}
@@ -11,8 +12,10 @@ use Rattle.system_model.specs.declared.plan.EndKind.{EndKind}
 use Rattle.system_model.specs.Text.{Instant, end_text}
 use Rattle.system_model.specs.Ports.{numbers}
 use Rattle.trace_text.specs.Room.{IsCount}
-use Rattle.event_iteration.specs.Explains.{Walks}
-use Rattle.event_iteration.specs.Instants as I
+use Rattle.event_iteration.specs.declared.updates.Updated.{Updated}
+use Rattle.event_iteration.specs.Explains.{Explains, ExplainsUntil, Walks}
+use Rattle.event_iteration.specs.Updates.{updated_by, updating}
+use Rattle.event_iteration.specs.Instants.{in_instant}
 use Rattle.event_iteration.specs.Settings.{before_step, port_order}
 use Rattle.slot_calls.specs.Carried.{any_asks_to_end}
 use Rattle.slot_calls.specs.declared.bad_answer.BadAnswer.{BadAnswer}
@@ -21,10 +24,10 @@ use Rattle.calling_sequence.specs.declared.ending.Break.TheVariants as B
 use Rattle.calling_sequence.specs.declared.ending.Ending.{Ending}
 use Rattle.calling_sequence.specs.declared.run_end.RunEnd.{RunEnd}
 use Rattle.calling_sequence.specs.declared.run_end.RunEnd.TheVariants as E
-use Rattle.calling_sequence.specs.Course.{AtHeader, AtInstant, Finishes, IsInitialized, StopsInitializing, ends_well, kind_of_end, pieces_of}
+use Rattle.calling_sequence.specs.Course.{AtHeader, AtInstant, Finishes, IsInitialized, StopsInitializing, Takes, ends_well, kind_of_end, pieces_of}
 use Rattle.calling_sequence.specs.Ends.{EndsBy}
 use Rattle.slot_calls.specs.Log.{Sent, Told}
-use Rattle.slot_calls.specs.Stage.{Round, shapes, to_each}
+use Rattle.slot_calls.specs.Stage.{Round, Stage, StopsAt, has_events, nothing, shapes, shapes_of, to_each, to_those}
 use Rattle.calling_sequence.specs.Puts.{CutsPiece, with_pieces}
 
 -- ---- parameters, and Initialization Mode
@@ -52,9 +55,25 @@ SaysAt says t (Ok x) = says (Ok x)
 SaysAt says t (Err (B.Ends ending)) = (bad : BadAnswer) × (ending ≡ record { end = E.Bad bad; point = t }) × says (Err bad)
 SaysAt says t (Err B.Write) = ⊥
 
--- the walk through the first instant, from earlier values to those of the point
-abbrev pub ReadsAt : System → ℕ → List (Option ℤ) → List (Option ℤ) → List Instance → List Instance → Result (Unit {0}) Break → Type 0
-ReadsAt system t earlier values olds news result = SaysAt (λ r. Walks system I.at_point earlier (numbers system.instant_order) values olds news r) t result
+-- an instant at a point, from the values before it to its own: by this log they were found, and each FMU with event mode was asked for what follows, which is told; or a bad answer stopped it
+abbrev pub TakesBy : System → ℕ → List (Option ℤ) → List (Option ℤ) → List Sent → Result Updated BadAnswer → Type 0
+TakesBy system n before values log (Ok u) = (found updates : List Sent) × (log ≡ found ++ updates) × Takes system n before values found updates × (u ≡ updated_by updates)
+TakesBy system n before values log (Err bad) =
+    ExplainsUntil system (in_instant (n == 0)) before (numbers system.instant_order) bad values log
+    ⊎ ((found updates : List Sent) × (log ≡ found ++ updates) × Explains system (in_instant (n == 0)) before (numbers system.instant_order) values found
+    × StopsAt (shapes_of system) (updating (shapes_of system)) bad updates)
+
+pub record TakesInstant (system : System) (n : ℕ) (before values : List (Option ℤ)) (olds news : List Instance) (result : Result Updated BadAnswer) : Type 0 where
+  pub log : List Sent
+  pub told : Told log olds news
+  pub says : TakesBy system n before values log result
+
+abbrev pub TakesAt : System → ℕ → ℕ → List (Option ℤ) → List (Option ℤ) → List Instance → List Instance → Result Updated Break → Type 0
+TakesAt system t n before values olds news result = SaysAt (λ r. TakesInstant system n before values olds news r) t result
+
+-- those with event mode enter Step Mode, or Event Mode
+abbrev pub SwitchesAt : (Shape → Call) → ℕ → List Instance → List Instance → Result (Unit {0}) Break → Type 0
+SwitchesAt call t olds news result = SaysAt (λ r. Stage (to_those has_events call (shapes olds)) nothing olds news r) t result
 
 -- the walk of the inputs, which are set to these values
 abbrev pub SetsAt : System → ℕ → List (Option ℤ) → List Instance → List Instance → Result (Unit {0}) Break → Type 0

@@ -1,27 +1,29 @@
-ghost use Rattle.std.specs.Prelude.{◌≡◌, ℕ, ◌≤◌, ◌<◌, ◌^◌, ◌+◌, [], OnOk, IfErr, IfSome, All, length, not, option_map, position};
+ghost use Rattle.std.specs.Prelude.{◌≡◌, ℕ, ◌≤◌, ◌<◌, ◌^◌, ◌+◌, false, None, [], OnOk, IfOk, IfErr, IfSome, All, length, replicate, not, option_map, position};
 ghost use Rattle.sim_base.specs.Sink.{with_piece};
 ghost use Rattle.run_model.specs.Machines.{AreFitting};
 ghost use Rattle.run_model.specs.Steps.{IsBound};
 ghost use Rattle.trace_text.specs.Room.{HoldsEach};
 ghost use Rattle.event_iteration.specs.Initialization.{AreReads};
-ghost use Rattle.event_iteration.specs.Instants.{CanBeRead, IsWithoutEvents};
+ghost use Rattle.event_iteration.specs.Instants.{BeginsInstant, IsWithoutClocks};
+ghost use Rattle.fmi_calls.specs.declared.call.Call.TheVariants as Call;
 ghost use Rattle.calling_sequence.specs.declared.ending.Break.TheVariants as Break;
 ghost use Rattle.calling_sequence.specs.Course.{first_unfit, header_of, kind_of_end};
-ghost use Rattle.calling_sequence.specs.Place.{IsAt, IsDeparting, IsMade};
+ghost use Rattle.calling_sequence.specs.Place.{IsAt, IsDeparting, IsMade, IsSettled, IsStepping};
+ghost use Rattle.event_iteration.specs.Settings.{IsUnset};
 ghost use Rattle.calling_sequence.specs.Puts.{CutsPiece};
 ghost use Rattle.system_model.specs.Bounds.{BindsParameters};
 ghost use Rattle.system_model.specs.Sound.{IsSound};
 ghost use Rattle.system_model.specs.Text.{instant_text};
 ghost use Rattle.slot_calls.specs.Carried.{IsWide};
-ghost use Rattle.slot_calls.specs.Slots.{LiveSlot, MayBeAsked, Stands, instances};
+ghost use Rattle.slot_calls.specs.Slots.{LiveSlot, MayBeAsked, MayTakePart, Stands, instances};
 ghost use Rattle.slot_calls.specs.Stage.{shapes, shapes_of};
-ghost use Rattle.calling_sequence.specs.Steps.{Concludes, Follows, HoldsEnds, Initializes, PutsEnd, ReadsAt, RunsSlots, SetsAt, StepsAt, at_point};
+ghost use Rattle.calling_sequence.specs.Steps.{Concludes, Follows, HoldsEnds, Initializes, PutsEnd, RunsSlots, SetsAt, StepsAt, SwitchesAt, TakesAt, TakesInstant, at_point};
 ghost use Rattle.calling_sequence.specs.Plans.{IsPlan};
 ghost use Rattle.calling_sequence.specs.Systems.{IsBuilt};
 
 use crate::parameters::set_parameters;
 use crate::{Break, Ending, RunEnd};
-use event_iteration::{InitialReads, instant, set_inputs};
+use event_iteration::{InitialReads, Updated, instant, set_inputs, update};
 use fmu_peer::{Peer, Slot};
 use sim_base::{CompId, Sink};
 use slot_calls::{Ask, BadAnswer, each, round};
@@ -29,12 +31,13 @@ use system_model::{Bound, Component, EndKind, Plan, System};
 use trace_text::{put_end, put_header, put_instant};
 
 /// Follows the calling sequence of Co-Simulation from instances that were made to the end of the run. It puts the header,
-/// sets the bound parameters, leads each instance through Initialization Mode, and then at each point reads the outputs,
-/// puts the instant, sets the connected inputs and steps all instances to the next grid point or the stop. It puts one piece
-/// for the header and one for each instant, and not the end line. Points and sizes of steps are counts over the plan's
-/// resolution.
+/// sets the bound parameters, and leads each instance through Initialization Mode. At each point it takes one instant after
+/// the other, until no Update asks for another: it finds the values, asks each FMU with event mode for what follows, and
+/// puts the instant. Then it steps all instances to the next grid point or the stop: those with event mode go into Step Mode
+/// and behind the step into Event Mode, and the connected inputs of the others are set before it. It puts one piece for the
+/// header and one for each instant, and not the end line. Points and sizes of steps are counts over the plan's resolution.
 ///
-/// No FMU has event mode or returns early, and the bound values are for parameters of the components. There is a slot for
+/// No port is a Clock or has one, no FMU returns early, and the bound values are for parameters of the components. There is a slot for
 /// each component, in their order and of its shape; each instance was made, and is held in the state of its phase. `reads`
 /// was made for the system, `values` has a place for each port and `text` room for each text of the system, whatever stands
 /// in them, and `instants`, the number of instants that were put, begins at 0. No memory is taken.
@@ -68,10 +71,28 @@ pub fn follow<L: Peer, O: Sink>(
         initialize(slots, system, bound, plan, reads, values),
         plan.start,
     )?;
+    clear(values);
     let mut t = plan.start;
-    'points: loop {
-        read_at(slots, system, t, values)?;
-        put_values(system, t, values, text, instants, out)?;
+    let mut n = 0;
+    'instants: loop {
+        let updated = take_instant(slots, system, t, n, values)?;
+        put_values(system, t, n, values, text, instants, out)?;
+        if updated.asked {
+            return Ok(Ending {
+                end: RunEnd::Asked { point: t },
+                point: t,
+            });
+        }
+        if updated.again {
+            n += 1;
+            if n == plan.limit {
+                return Ok(Ending {
+                    end: RunEnd::EventLimit { point: t },
+                    point: t,
+                });
+            }
+            continue;
+        }
         if t == plan.stop {
             return Ok(Ending {
                 end: RunEnd::Stop,
@@ -90,15 +111,18 @@ pub fn follow<L: Peer, O: Sink>(
                 point: t,
             });
         }
+        enter_step(slots, t)?;
         set_at(slots, system, t, values)?;
         let is_asked = step_at(slots, t, size)?;
         t = to;
+        n = 0;
         if is_asked {
             return Ok(Ending {
                 end: RunEnd::Asked { point: t },
                 point: t,
             });
         }
+        enter_event(slots, t)?;
     }
 }
 
@@ -223,30 +247,82 @@ fn initialize<L: Peer>(
     Ok(())
 }
 
-// Reads the outputs of a point, up to the first answer that isn't good.
-fn read_at<L: Peer>(
+// Takes the n-th instant at a point: it finds the values from those of the instant before, and asks each FMU with event mode
+// for what follows, up to the first answer that isn't good.
+fn take_instant<L: Peer>(
     slots: &mut [Slot<L>],
     system: &System,
     t: u64,
+    n: u64,
     values: &mut [Option<i128>],
-) -> Result<(), Break>
+) -> Result<Updated, Break>
     requires sound { IsSound system.now }
-    requires plain { IsWithoutEvents system.now }
+    requires clockless { IsWithoutClocks system.now }
+    requires few { length slots.old ≤ 2 ^ 32 }
     requires shapes { shapes (instances L.view slots.old) ≡ shapes_of system.now }
     requires live { All (LiveSlot L.view) slots.old }
-    requires readable { All (Stands CanBeRead L.view) slots.old }
+    requires begins { All (Stands BeginsInstant L.view) slots.old }
     requires places { length values.old ≡ length system.now.ports }
     requires fitting { AreFitting system.now values.old }
     ensures live { OnOk result (All (LiveSlot L.view) slots.new) }
     ensures shapes { shapes (instances L.view slots.new) ≡ shapes_of system.now }
-    ensures still { OnOk result ((stop step : ℕ) → All (Stands (IsAt t stop step) L.view) slots.old → All (Stands (IsAt t stop step) L.view) slots.new) }
+    ensures at { OnOk result ((stop step : ℕ) → All (Stands (IsAt t stop step) L.view) slots.old → All (Stands (IsAt t stop step) L.view) slots.new) }
+    ensures settled { IfOk result (λ u. u.again ≡ false → (stop step : ℕ) → All (Stands (IsAt t stop step) L.view) slots.old → All (Stands (IsSettled t stop step) L.view) slots.new) }
     ensures fitting { AreFitting system.now values.new }
-    ensures reads { ReadsAt system.now t values.old values.new (instances L.view slots.old) (instances L.view slots.new) result }
+    ensures takes { TakesAt system.now t n values.old values.new (instances L.view slots.old) (instances L.view slots.new) result }
 {
-    at_point(instant(slots, system, values), t)
+    at_point(find_and_update(slots, system, n, values), t)
 }
 
-// Sets the connected inputs for a step from a point, up to the first answer that isn't good.
+fn find_and_update<L: Peer>(
+    slots: &mut [Slot<L>],
+    system: &System,
+    n: u64,
+    values: &mut [Option<i128>],
+) -> Result<Updated, BadAnswer>
+    requires sound { IsSound system.now }
+    requires clockless { IsWithoutClocks system.now }
+    requires few { length slots.old ≤ 2 ^ 32 }
+    requires shapes { shapes (instances L.view slots.old) ≡ shapes_of system.now }
+    requires live { All (LiveSlot L.view) slots.old }
+    requires begins { All (Stands BeginsInstant L.view) slots.old }
+    requires places { length values.old ≡ length system.now.ports }
+    requires fitting { AreFitting system.now values.old }
+    ensures live { OnOk result (All (LiveSlot L.view) slots.new) }
+    ensures at { OnOk result ((t stop step : ℕ) → All (Stands (IsAt t stop step) L.view) slots.old → All (Stands (IsAt t stop step) L.view) slots.new) }
+    ensures settled { IfOk result (λ u. u.again ≡ false → (t stop step : ℕ) → All (Stands (IsAt t stop step) L.view) slots.old → All (Stands (IsSettled t stop step) L.view) slots.new) }
+    ensures fitting { AreFitting system.now values.new }
+    ensures takes { TakesInstant system.now n values.old values.new (instances L.view slots.old) (instances L.view slots.new) result }
+{
+    instant(slots, system, n == 0, values)?;
+    update(slots, system)
+}
+
+// Leads each FMU with event mode into Step Mode at a point that is done, up to the first answer that isn't good.
+fn enter_step<L: Peer>(slots: &mut [Slot<L>], t: u64) -> Result<(), Break>
+    requires few { length slots.old ≤ 2 ^ 32 }
+    requires live { All (LiveSlot L.view) slots.old }
+    requires permitted { All (Stands (MayTakePart Ask.EnterStep) L.view) slots.old }
+    ensures live { OnOk result (All (LiveSlot L.view) slots.new) }
+    ensures stepping { OnOk result ((stop step : ℕ) → All (Stands (IsSettled t stop step) L.view) slots.old → All (Stands (IsStepping t stop step) L.view) slots.new) }
+    ensures switches { SwitchesAt (λ shape. Call.EnterStep) t (instances L.view slots.old) (instances L.view slots.new) result }
+{
+    at_point(each(slots, Ask::EnterStep), t)
+}
+
+// Leads each FMU with event mode into Event Mode at the point that a step reached, up to the first answer that isn't good.
+fn enter_event<L: Peer>(slots: &mut [Slot<L>], t: u64) -> Result<(), Break>
+    requires few { length slots.old ≤ 2 ^ 32 }
+    requires live { All (LiveSlot L.view) slots.old }
+    requires permitted { All (Stands (MayTakePart Ask.EnterEvent) L.view) slots.old }
+    ensures live { OnOk result (All (LiveSlot L.view) slots.new) }
+    ensures at { OnOk result ((stop step : ℕ) → All (Stands (IsStepping t stop step) L.view) slots.old → All (Stands (IsAt t stop step) L.view) slots.new) }
+    ensures switches { SwitchesAt (λ shape. Call.EnterEvent) t (instances L.view slots.old) (instances L.view slots.new) result }
+{
+    at_point(each(slots, Ask::EnterEvent), t)
+}
+
+// Sets the connected inputs of the FMUs without event mode for a step from a point, up to the first answer that isn't good.
 fn set_at<L: Peer>(
     slots: &mut [Slot<L>],
     system: &System,
@@ -254,15 +330,14 @@ fn set_at<L: Peer>(
     values: &[Option<i128>],
 ) -> Result<(), Break>
     requires sound { IsSound system.now }
-    requires plain { IsWithoutEvents system.now }
     requires shapes { shapes (instances L.view slots.old) ≡ shapes_of system.now }
     requires live { All (LiveSlot L.view) slots.old }
-    requires unset { All (Stands CanBeRead L.view) slots.old }
+    requires unset { All (Stands IsUnset L.view) slots.old }
     requires places { length values.now ≡ length system.now.ports }
     requires fitting { AreFitting system.now values.now }
     ensures live { OnOk result (All (LiveSlot L.view) slots.new) }
     ensures shapes { shapes (instances L.view slots.new) ≡ shapes_of system.now }
-    ensures departing { OnOk result ((stop step : ℕ) → All (Stands (IsAt t stop step) L.view) slots.old → All (Stands (IsDeparting t stop step) L.view) slots.new) }
+    ensures departing { OnOk result ((stop step : ℕ) → All (Stands (IsStepping t stop step) L.view) slots.old → All (Stands (IsDeparting t stop step) L.view) slots.new) }
     ensures sets { SetsAt system.now t values.now (instances L.view slots.old) (instances L.view slots.new) result }
 {
     at_point(set_inputs(slots, system, values), t)
@@ -279,10 +354,11 @@ fn step_at<L: Peer>(slots: &mut [Slot<L>], t: u64, size: u64) -> Result<bool, Br
     at_point(round(slots, Ask::DoStep { at: t, size }), t)
 }
 
-// Puts the instant at a point with these values, and counts it.
+// Puts the n-th instant at a point with these values, and counts it.
 fn put_values<O: Sink>(
     system: &System,
     t: u64,
+    n: u64,
     values: &[Option<i128>],
     text: &mut [u8],
     instants: &mut u128,
@@ -292,13 +368,13 @@ fn put_values<O: Sink>(
     requires places { length values.now ≡ length system.now.ports }
     requires room { HoldsEach system.now (length text.old) }
     requires counts { instants.old < 2 ^ 127 }
-    ensures put { OnOk result (O.view out.new ≡ with_piece (O.view out.old) (instant_text t 0 values.now)) }
+    ensures put { OnOk result (O.view out.new ≡ with_piece (O.view out.old) (instant_text t n values.now)) }
     ensures counted { OnOk result (instants.new ≡ instants.old + 1) }
     ensures write { IfErr result (λ b. b ≡ Break.Write) }
-    ensures cut { IfErr result (λ b. CutsPiece (O.view out.old) (instant_text t 0 values.now) (O.view out.new)) }
+    ensures cut { IfErr result (λ b. CutsPiece (O.view out.old) (instant_text t n values.now) (O.view out.new)) }
     ensures uncounted { IfErr result (λ b. instants.new ≡ instants.old) }
 {
-    let length = put_instant(system, t, 0, values, text);
+    let length = put_instant(system, t, n, values, text);
     match out.put(&text[..length]) {
         Ok(()) => {
             *instants += 1;
@@ -306,6 +382,13 @@ fn put_values<O: Sink>(
         }
         Err(_) => Err(Break::Write),
     }
+}
+
+// Takes the values away: before the first instant no port has one.
+fn clear(values: &mut [Option<i128>])
+    ensures { values.new ≡ replicate (length values.old) None }
+{
+    values.fill(None);
 }
 
 // A result at a point, where a bad answer is the end.

@@ -1,5 +1,5 @@
--- The command lines of the program: `one DIR --resolution R --step H --stop T [--start S]`, `run` with the same
--- words behind it, and `check DIR --resolution R`.
+-- The command lines of the program: `one DIR --resolution R --step H --stop T [--start S] [--max-iterations N]`, `run`
+-- with the same words behind it, and `check DIR --resolution R`.
 use Rattle.std.specs.Prelude.{◌≡◌, ℕ, ◌^◌, ◌≤◌, Bool, true, false, List, [], ◌∷◌, map, find, Option, Some, None, if◌then◌else◌, codes, decimal, String, string_bytes}
 use Rattle.std.specs.Str.{bytes_eq}
 use Rattle.std.specs.declared.alloc.Global.{Global}
@@ -38,29 +38,29 @@ pub record CommandRow : Type 0 where
   pub positionals : List Word
   pub options : List OptionRow
 
--- counts go up to 2^62
-abbrev pub count_row : Word → ℕ → Option ℕ → CountRow
-count_row name least default = record { name = name; least = least; most = 2 ^ 62; default = default }
+abbrev pub count_row : Word → ℕ → ℕ → Option ℕ → CountRow
+count_row name least most default = record { name = name; least = least; most = most; default = default }
 
 abbrev pub resolution_row : CountRow
-resolution_row = count_row (codes "resolution") 1 None
+resolution_row = count_row (codes "resolution") 1 (2 ^ 62) None
 
 abbrev pub step_row : CountRow
-step_row = count_row (codes "step") 1 None
+step_row = count_row (codes "step") 1 (2 ^ 62) None
 
 abbrev pub stop_row : CountRow
-stop_row = count_row (codes "stop") 0 None
+stop_row = count_row (codes "stop") 0 (2 ^ 62) None
 
 abbrev pub start_row : CountRow
-start_row = count_row (codes "start") 0 (Some 0)
+start_row = count_row (codes "start") 0 (2 ^ 62) (Some 0)
 
--- where no option says it, so many instants at a point end a run
-abbrev pub default_limit : ℕ
-default_limit = 100
+-- the most instants at one point
+abbrev pub limit_row : CountRow
+limit_row = count_row (codes "max-iterations") 1 10000 (Some 100)
 
 -- the options of a run
 abbrev pub run_options : List OptionRow
-run_options = CountOption resolution_row ∷ CountOption step_row ∷ CountOption stop_row ∷ CountOption start_row ∷ []
+run_options =
+    CountOption resolution_row ∷ CountOption step_row ∷ CountOption stop_row ∷ CountOption start_row ∷ CountOption limit_row ∷ []
 
 -- a command with a directory and these options
 abbrev pub directory_row : Word → List OptionRow → CommandRow
@@ -163,7 +163,7 @@ pub record GivesPlan (get : Lookup) (plan : Plan) : Type 0 where
   pub step : Counts step_row (get step_row.name) plan.step
   pub stop : Counts stop_row (get stop_row.name) plan.stop
   pub start : Counts start_row (get start_row.name) plan.start
-  pub limit : plan.limit ≡ default_limit
+  pub limit : Counts limit_row (get limit_row.name) plan.limit
   pub ordered : plan.start ≤ plan.stop
 
 -- a line of a run gives the directory and the plan

@@ -4,20 +4,20 @@ ghost use Rattle.command_line.specs.Line.{Counts, count_row};
 
 use clap::ArgMatches;
 use itoa::Buffer;
-use sim_base::MOST_COUNTS;
 
 /// The count of an option: that of its value, or where it isn't given the default.
 pub(crate) fn option_count(
     matches: &ArgMatches<'_>,
     name: &str,
     least: u64,
+    most: u64,
     default: Option<u64>,
 ) -> Option<u64>
-    ensures ok { IfSome result (Counts (count_row name.now least default) (first_of name.now (rows_of (found_of matches.now)))) }
-    ensures only { (n : ℕ) → Counts (count_row name.now least default) (first_of name.now (rows_of (found_of matches.now))) n → result ≡ Some n }
+    ensures ok { IfSome result (Counts (count_row name.now least most default) (first_of name.now (rows_of (found_of matches.now)))) }
+    ensures only { (n : ℕ) → Counts (count_row name.now least most default) (first_of name.now (rows_of (found_of matches.now))) n → result ≡ Some n }
 {
     match value_of(matches, name) {
-        Some(word) => read_count(word, least),
+        Some(word) => read_count(word, least, most),
         None => default,
     }
 }
@@ -29,13 +29,13 @@ pub(crate) fn value_of<'a>(matches: &ArgMatches<'a>, name: &str) -> Option<&'a s
     matches.get_str(name)
 }
 
-// A count from the least one on.
-fn read_count(word: &str, least: u64) -> Option<u64>
-    ensures ok { IfSome result (λ n. (word.now ≡ decimal n) × (least ≤ n) × (n ≤ 2 ^ 62)) }
-    ensures only { (n : ℕ) → word.now ≡ decimal n → least ≤ n → n ≤ 2 ^ 62 → result ≡ Some n }
+// A count from the least one to the greatest.
+fn read_count(word: &str, least: u64, most: u64) -> Option<u64>
+    ensures ok { IfSome result (λ n. (word.now ≡ decimal n) × (least ≤ n) × (n ≤ most)) }
+    ensures only { (n : ℕ) → word.now ≡ decimal n → least ≤ n → n ≤ most → result ≡ Some n }
 {
     let count = read_number(word)?;
-    if least <= count && count <= MOST_COUNTS {
+    if least <= count && count <= most {
         Some(count)
     } else {
         None

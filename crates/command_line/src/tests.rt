@@ -3,34 +3,34 @@ use std::alloc::{AllocError, Global};
 use std::test::Fail;
 use system_model::Plan;
 
-// What words ask for: the directory, and the resolution, start, step and stop; of a check the resolution alone.
+// What words ask for: the directory, and the resolution, start, step, stop and limit; of a check the resolution alone.
 #[derive(Clone, Copy, Debug, PartialEq)]
 enum Asked<'a> {
-    One(&'a str, [u64; 4]),
-    Run(&'a str, [u64; 4]),
+    One(&'a str, [u64; 5]),
+    Run(&'a str, [u64; 5]),
     Check(&'a str, u64),
 }
 
 use Asked::{Check, One, Run};
 
 // Words between bars, and what they ask for.
-const LINES: [(&str, Asked<'static>); 24] = [
+const LINES: [(&str, Asked<'static>); 28] = [
     // All is right.
     (
         "one|d|--resolution|10|--step|3|--stop|7",
-        One("d", [10, 0, 3, 7]),
+        One("d", [10, 0, 3, 7, 100]),
     ),
     (
         "one|d|--resolution|10|--step|3|--stop|7|--start|5",
-        One("d", [10, 5, 3, 7]),
+        One("d", [10, 5, 3, 7, 100]),
     ),
     (
         "one|counter|--resolution|1000000000|--step|10|--stop|100",
-        One("counter", [1000000000, 0, 10, 100]),
+        One("counter", [1000000000, 0, 10, 100, 100]),
     ),
     (
         "one|../my models/c-1|--resolution|1|--step|1|--stop|0|--start|0",
-        One("../my models/c-1", [1, 0, 1, 0]),
+        One("../my models/c-1", [1, 0, 1, 0, 100]),
     ),
     (
         "one|zähler|--resolution|4611686018427387904|--step|4611686018427387904|--stop|4611686018427387904|--start|4611686018427387904",
@@ -41,24 +41,25 @@ const LINES: [(&str, Asked<'static>); 24] = [
                 4611686018427387904,
                 4611686018427387904,
                 4611686018427387904,
+                100,
             ],
         ),
     ),
     (
         "one|one|--resolution|20|--step|300|--stop|7",
-        One("one", [20, 0, 300, 7]),
+        One("one", [20, 0, 300, 7, 100]),
     ),
     (
         "run|d|--resolution|10|--step|3|--stop|7",
-        Run("d", [10, 0, 3, 7]),
+        Run("d", [10, 0, 3, 7, 100]),
     ),
     (
         "run|d|--resolution|10|--step|3|--stop|7|--start|7",
-        Run("d", [10, 7, 3, 7]),
+        Run("d", [10, 7, 3, 7, 100]),
     ),
     (
         "run|run|--resolution|1|--step|4611686018427387904|--stop|0",
-        Run("run", [1, 0, 4611686018427387904, 0]),
+        Run("run", [1, 0, 4611686018427387904, 0, 100]),
     ),
     ("check|d|--resolution|1000", Check("d", 1000)),
     (
@@ -69,40 +70,57 @@ const LINES: [(&str, Asked<'static>); 24] = [
         "check|check|--resolution|4611686018427387904",
         Check("check", 4611686018427387904),
     ),
+    // The most instants at a point.
+    (
+        "one|d|--resolution|10|--step|3|--stop|7|--max-iterations|1",
+        One("d", [10, 0, 3, 7, 1]),
+    ),
+    (
+        "one|d|--max-iterations=7|--resolution|10|--step|3|--stop|7",
+        One("d", [10, 0, 3, 7, 7]),
+    ),
+    (
+        "run|d|--resolution|10|--step|3|--stop|7|--max-iterations|10000",
+        Run("d", [10, 0, 3, 7, 10000]),
+    ),
+    (
+        "run|d|--resolution|10|--step|3|--stop|7|--start|5|--max-iterations|100",
+        Run("d", [10, 5, 3, 7, 100]),
+    ),
     // The directory is the name of another command.
     (
         "one|run|--resolution|10|--step|3|--stop|7",
-        One("run", [10, 0, 3, 7]),
+        One("run", [10, 0, 3, 7, 100]),
     ),
     (
         "run|one|--resolution|10|--step|3|--stop|7",
-        Run("one", [10, 0, 3, 7]),
+        Run("one", [10, 0, 3, 7, 100]),
     ),
     ("check|run|--resolution|10", Check("run", 10)),
     // Options with `=`, in any order, before the directory and behind it.
     (
         "one|d|--resolution=10|--step=3|--stop=7|--start=7",
-        One("d", [10, 7, 3, 7]),
+        One("d", [10, 7, 3, 7, 100]),
     ),
     (
         "one|--start|2|--stop=7|d|--step|3|--resolution=10",
-        One("d", [10, 2, 3, 7]),
+        One("d", [10, 2, 3, 7, 100]),
     ),
     (
         "one|--resolution|10|--step|3|--stop|7|d",
-        One("d", [10, 0, 3, 7]),
+        One("d", [10, 0, 3, 7, 100]),
     ),
     (
         "one|--step|3|--resolution|10|--stop|7|a=b",
-        One("a=b", [10, 0, 3, 7]),
+        One("a=b", [10, 0, 3, 7, 100]),
     ),
     (
         "run|d|--resolution=10|--step=3|--stop=7|--start=5",
-        Run("d", [10, 5, 3, 7]),
+        Run("d", [10, 5, 3, 7, 100]),
     ),
     (
         "run|--start=2|--stop|7|d|--step=3|--resolution|10",
-        Run("d", [10, 2, 3, 7]),
+        Run("d", [10, 2, 3, 7, 100]),
     ),
     ("check|d|--resolution=1000", Check("d", 1000)),
     ("check|--resolution|1000|d", Check("d", 1000)),
@@ -110,7 +128,7 @@ const LINES: [(&str, Asked<'static>); 24] = [
 ];
 
 // Words between bars that are no line.
-const OTHERS: [&str; 116] = [
+const OTHERS: [&str; 136] = [
     // A word is missing.
     "",
     "one",
@@ -151,12 +169,16 @@ const OTHERS: [&str; 116] = [
     "check|d|d|--resolution|1000",
     "check|d|--resolution|1000|d",
     "check|d|--resolution|1000|--resolution=1000",
-    // A check has no step, stop or start.
+    "one|d|--resolution|10|--step|3|--stop|7|--max-iterations|5|--max-iterations|5",
+    "run|d|--resolution|10|--step|3|--stop|7|--max-iterations=5|--max-iterations|6",
+    // A check has no step, stop or start, and no limit.
     "check|d|--resolution|1000|--step|10",
     "check|d|--resolution|1000|--step=10",
     "check|d|--resolution|1000|--stop|100",
     "check|d|--resolution|1000|--start|0",
     "check|d|--resolution|1000|--step|10|--stop|100",
+    "check|d|--resolution|1000|--max-iterations|7",
+    "check|d|--resolution|1000|--max-iterations=7",
     // The command is another, or isn't the first word.
     "two|d|--resolution|10|--step|3|--stop|7",
     "One|d|--resolution|10|--step|3|--stop|7",
@@ -190,6 +212,9 @@ const OTHERS: [&str; 116] = [
     "one|d|--Resolution|10|--step|3|--stop|7",
     "one|d|--resolution|10|---step|3|--stop|7",
     "one|d|--=10|--resolution|10|--step|3|--stop|7",
+    "one|d|--resolution|10|--step|3|--stop|7|--max-iteration|5",
+    "one|d|--resolution|10|--step|3|--stop|7|--max_iterations|5",
+    "one|d|--resolution|10|--step|3|--stop|7|--Max-Iterations|5",
     // A value is empty or begins with a hyphen.
     "one||--resolution|10|--step|3|--stop|7",
     "one|-|--resolution|10|--step|3|--stop|7",
@@ -204,6 +229,10 @@ const OTHERS: [&str; 116] = [
     "run||--resolution|10|--step|3|--stop|7",
     "check|-d|--resolution|1000",
     "check|d|--resolution|-1000",
+    "one|d|--resolution|10|--step|3|--stop|7|--max-iterations|",
+    "one|d|--resolution|10|--step|3|--stop|7|--max-iterations=",
+    "one|d|--resolution|10|--step|3|--stop|7|--max-iterations",
+    "one|d|--resolution|10|--step|3|--stop|7|--max-iterations|-1",
     // A number is beyond its limits, or the start is above the stop.
     "one|d|--resolution|0|--step|3|--stop|7",
     "one|d|--resolution|10|--step|0|--stop|7",
@@ -221,6 +250,11 @@ const OTHERS: [&str; 116] = [
     "check|d|--resolution=0",
     "check|d|--resolution|4611686018427387905",
     "check|d|--resolution|18446744073709551616",
+    "one|d|--resolution|10|--step|3|--stop|7|--max-iterations|0",
+    "run|d|--resolution|10|--step|3|--stop|7|--max-iterations=0",
+    "one|d|--resolution|10|--step|3|--stop|7|--max-iterations|10001",
+    "run|d|--resolution|10|--step|3|--stop|7|--max-iterations|10001",
+    "one|d|--resolution|10|--step|3|--stop|7|--max-iterations|18446744073709551617",
     // A number is spelled otherwise.
     "one|d|--resolution|+10|--step|3|--stop|7",
     "one|d|--resolution|010|--step|3|--stop|7",
@@ -233,6 +267,10 @@ const OTHERS: [&str; 116] = [
     "one|d|--resolution|10 |--step|3|--stop|7",
     "one|d|--resolution|10|--step|٣|--stop|7",
     "one|d|--resolution|10|--step|=3|--stop|7",
+    "one|d|--resolution|10|--step|3|--stop|7|--max-iterations|01",
+    "one|d|--resolution|10|--step|3|--stop|7|--max-iterations|+1",
+    "run|d|--resolution|10|--step|3|--stop|7|--max-iterations=007",
+    "one|d|--resolution|10|--step|3|--stop|7|--max-iterations|1.0",
     "check|d|--resolution|01000",
     "check|d|--resolution|+1000",
     "check|d|--resolution|1000.0",
@@ -246,8 +284,14 @@ fn split_words(alloc: Global, line: &str) -> Result<Vec<String>, AllocError> {
     Ok(words)
 }
 
-fn counts_of(plan: Plan) -> [u64; 4] {
-    [plan.resolution, plan.start, plan.step, plan.stop]
+fn counts_of(plan: Plan) -> [u64; 5] {
+    [
+        plan.resolution,
+        plan.start,
+        plan.step,
+        plan.stop,
+        plan.limit,
+    ]
 }
 
 fn read(alloc: Global, words: &[String]) -> Result<Asked<'_>, WordsFault> {

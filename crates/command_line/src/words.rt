@@ -12,13 +12,14 @@ use crate::counts::{option_count, value_of};
 use crate::fault::WordsFault;
 use crate::lines::read_line;
 use clap::{ArgMatches, Command};
+use sim_base::{MOST_COUNTS, MOST_INSTANTS};
 use std::alloc::{AllocError, Global};
 use system_model::Plan;
 
 // The options of a run.
-const RUN_OPTIONS: [&str; 4] = ["resolution", "step", "stop", "start"];
+const RUN_OPTIONS: [&str; 5] = ["resolution", "step", "stop", "start", "max-iterations"];
 
-// So many instants at a point end a run, where no option says it.
+// The most instants at a point, where no option says it.
 const DEFAULT_LIMIT: u64 = 100;
 
 /// What a command line asks for, by its command.
@@ -129,7 +130,7 @@ fn read_check<'a>(matches: &ArgMatches<'a>) -> Option<CheckOptions<'a>>
     ensures within { IfSome result (λ o. (1 ≤ o.resolution) × (o.resolution ≤ 2 ^ 62)) }
 {
     let directory = value_of(matches, "DIR")?;
-    let resolution = option_count(matches, "resolution", 1, None)?;
+    let resolution = option_count(matches, "resolution", 1, MOST_COUNTS, None)?;
     Some(CheckOptions {
         directory,
         resolution,
@@ -141,11 +142,17 @@ fn read_plan(matches: &ArgMatches<'_>) -> Option<Plan>
     ensures only { (plan : Plan) → GivesPlan (λ n. first_of n (rows_of (found_of matches.now))) plan → result ≡ Some plan }
 {
     let plan = Plan {
-        resolution: option_count(matches, "resolution", 1, None)?,
-        start: option_count(matches, "start", 0, Some(0))?,
-        step: option_count(matches, "step", 1, None)?,
-        stop: option_count(matches, "stop", 0, None)?,
-        limit: DEFAULT_LIMIT,
+        resolution: option_count(matches, "resolution", 1, MOST_COUNTS, None)?,
+        start: option_count(matches, "start", 0, MOST_COUNTS, Some(0))?,
+        step: option_count(matches, "step", 1, MOST_COUNTS, None)?,
+        stop: option_count(matches, "stop", 0, MOST_COUNTS, None)?,
+        limit: option_count(
+            matches,
+            "max-iterations",
+            1,
+            MOST_INSTANTS,
+            Some(DEFAULT_LIMIT),
+        )?,
     };
     if plan.start <= plan.stop {
         Some(plan)

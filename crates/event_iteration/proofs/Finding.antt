@@ -1,32 +1,26 @@
 -- Over machines the walk of Initialization Mode finds the solution, and writes it.
-use Rattle.std.proofs.Common.{◌≡◌, ℕ, zero, suc, ◌<◌, ◌+◌, ℤ, Bool, true, false, List, [], ◌∷◌, ◌++◌, Option, Some, None, Result, Ok, Err, Contains, refl, sym, ap, ap₂, ◌∙◌, subst, arith, append-nil, length, get_or}
-use Rattle.std.specs.Prelude.{All, MatchResult, not, ◌==◌, ◌||◌, if◌then◌else◌, option_and_then, option_map, slice_get}
+use Rattle.std.proofs.Common.{◌≡◌, ℕ, ◌<◌, ℤ, Bool, true, false, List, [], ◌∷◌, ◌++◌, Option, Some, None, Ok, Contains, refl, sym, ap, ap₂, ◌∙◌, subst, arith, append-nil, length, get_or}
+use Rattle.std.specs.Prelude.{All, if◌then◌else◌, option_map, slice_get}
 use Rattle.std.proofs.lemmas.List.{ext_get_or, length-map}
-use Rattle.std.proofs.lemmas.List.Elements.{All-append, All-head, All-nil, All-tail, Contains-append_left, Contains-push}
-use Rattle.std.proofs.lemmas.Option.{get_or_from_slice_get, same_Some, slice_get-map, slice_get_within}
-use Rattle.value_types.specs.declared.shape.Shape.{Shape}
+use Rattle.std.proofs.lemmas.List.Elements.{All-append, All-nil, Contains-append_left, Contains-push}
+use Rattle.std.proofs.lemmas.Option.{slice_get-map, slice_get_within}
 use Rattle.fmi_calls.specs.declared.call.Call.{Call}
 use Rattle.fmi_calls.specs.declared.call.Call.TheVariants as C
-use Rattle.fmi_calls.specs.declared.call.Grade.TheVariants as G
 use Rattle.fmi_calls.specs.declared.call.Reply.{Reply}
-use Rattle.fmi_calls.specs.Worth.{grade_of}
 use Rattle.fmu_peer.specs.declared.peer.Exchange.{Exchange}
-use Rattle.fmu_peer.specs.declared.peer.PeerFault.{PeerFault}
 use Rattle.fmu_peer.specs.CloseAll.{Instance}
-use Rattle.fmu_peer.specs.Machine.{Machine, MachineState, after}
-use Rattle.fmu_peer.specs.Talk as T
-use Rattle.fmu_peer.specs.View.{AnswersAs, Asked, Fixed, View}
+use Rattle.fmu_peer.specs.Machine.{Machine, MachineState}
 use Rattle.system_model.specs.declared.system.Component.{Component}
 use Rattle.system_model.specs.declared.system.Role.{Role}
 use Rattle.system_model.specs.declared.system.Role.TheVariants.{Input, Output, ClockInput, ClockOutput, TimeClock}
 use Rattle.system_model.specs.declared.system.Port.{Port}
 use Rattle.system_model.specs.declared.system.System.{System}
 use Rattle.system_model.specs.Needs.{InitiallyByFeed, NeedsInitially, is_unclocked, is_unclocked_at}
-use Rattle.system_model.specs.Ports.{is_clock_role, is_output_role, numbers, source_of}
+use Rattle.system_model.specs.Ports.{is_output_role, numbers, source_of}
 use Rattle.system_model.specs.Sound.{IsSound}
 use Rattle.system_model.proofs.Lists.{true_false}
-use Rattle.run_model.specs.Run.{IsFmu, Run, at_fmu, each, each_from, value}
-use Rattle.run_model.specs.Inputs.{is_present, state_with, state_written, written_at_port, written_by}
+use Rattle.run_model.specs.Run.{IsFmu, Run, at_fmu, value}
+use Rattle.run_model.specs.Inputs.{state_with, state_written, written_at_port, written_by}
 use Rattle.run_model.specs.Equations.{fed, shown, value_in}
 use Rattle.run_model.specs.Initial as I
 use Rattle.run_model.specs.Initial.{SolvesInitially, initial_value, initialized, initializing, is_read}
@@ -38,44 +32,18 @@ use Rattle.run_model.proofs.InitiallySolvable.{solvable_initially}
 use Rattle.run_model.proofs.Midst.{all_at_last_initially, keeps_beside, looks_initially, nothing_at_first, writes_at_port}
 use Rattle.run_model.proofs.States.{fmu_before}
 use Rattle.run_model.proofs.Unique.{none_in, push_cases}
-use Rattle.slot_calls.specs.Log.{Sent, Talks, Told, part}
+use Rattle.slot_calls.specs.Log.{Sent, Told, part}
 use Rattle.slot_calls.specs.Replies.{AreReplies, RepliesBy, state_by}
-use Rattle.slot_calls.specs.Stage.{shapes_of}
-use Rattle.slot_calls.proofs.Logs.{part_append, part_other, part_own, talks_fixed}
-use Rattle.slot_calls.proofs.Replying.{replies_back, replies_front, replies_of, state_by_append}
+use Rattle.slot_calls.specs.Stage.{IsGoodOf, shapes_of}
+use Rattle.slot_calls.proofs.Logs.{part_append}
+use Rattle.slot_calls.proofs.Replying.{replies_back, replies_front, state_by_append}
 use Rattle.event_iteration.specs.Initialization.{asks_initially, initially, is_set_from_feed, no_values, seen, takes_initially}
 use Rattle.event_iteration.specs.Machines.{AreAt, SolvesForMachines}
-use Rattle.event_iteration.specs.Turns.{IsPaired, Turn, Walked, sent_of}
+use Rattle.event_iteration.specs.Turns.{IsPaired, Turn, Walked}
+use Rattle.event_iteration.proofs.Clockless.{present_unclocked}
+use Rattle.event_iteration.proofs.Fmus.{after_if, are_replies, at_fmu-is, exchanges_of, fmu_on, got, none_reply, part_other_of, part_own_of, state_by_one, told_at}
 use Rattle.event_iteration.proofs.Permits.{IsQuiet, asks_quietly, quiet_part, sent_quiet}
 use Rattle.event_iteration.proofs.Walking.{Here, along, by_number, next_beside, next_here, none_at}
-
--- ---- lists over the FMUs
-
-pub got : {X : Type 0} (xs : List X) (i : ℕ) → i < length xs → (x : X) × (slice_get xs i ≡ Some x)
-got [] i w = absurd (omega (arith, w))
-got (x ∷ xs) zero w = (x, refl)
-got (x ∷ xs) (suc i) w = got xs i (omega (arith, w))
-
-each_at : {X : Type 0} (f : ℕ → Component → Machine → MachineState → X) (k i : ℕ) (cs : List Component) (ms : List Machine) (ss : List MachineState) (c : Component) (m : Machine) (s : MachineState) →
-    slice_get cs i ≡ Some c → slice_get ms i ≡ Some m → slice_get ss i ≡ Some s → slice_get (each_from f k cs ms ss) i ≡ Some (f (k + i) c m s)
-each_at f k i [] ms ss c m s of_c of_m of_s = absurd (cc)
-each_at f k i (x ∷ cs) [] ss c m s of_c of_m of_s = absurd (cc)
-each_at f k i (x ∷ cs) (y ∷ ms) [] c m s of_c of_m of_s = absurd (cc)
-each_at f k zero (x ∷ cs) (y ∷ ms) (z ∷ ss) c m s of_c of_m of_s =
-    let place : k ≡ k + 0 = omega arith in
-    ap Some (ap (λ n. f n x y z) place ∙ ap (λ (w : Component). f (k + 0) w y z) (same_Some _ _ of_c) ∙ ap (λ (w : Machine). f (k + 0) c w z) (same_Some _ _ of_m) ∙ ap (f (k + 0) c m) (same_Some _ _ of_s))
-each_at f k (suc i) (x ∷ cs) (y ∷ ms) (z ∷ ss) c m s of_c of_m of_s =
-    let place : suc k + i ≡ k + suc i = omega arith in
-    each_at f (suc k) i cs ms ss c m s of_c of_m of_s ∙ ap (λ n. Some (f n c m s)) place
-
-fmu_on : (r : Run) (states : List MachineState) (f : ℕ → Component → Machine → MachineState → MachineState) (i : ℕ) (c : Component) (m : Machine) (s : MachineState) → IsFmu r states i c m s → IsFmu r (each r states f) i c m (f i c m s)
-fmu_on r states f i c m s fmu =
-    let place : 0 + i ≡ i = omega arith in
-    record {
-      component = fmu.component;
-      machine = fmu.machine;
-      state = each_at f 0 i r.system.components r.machines states c m s fmu.component fmu.machine fmu.state ∙ ap (λ n. Some (f n c m s)) place;
-    }
 
 -- each component has a machine and a state in Initialization Mode
 record There (r : Run) (i : ℕ) (c : Component) : Type 0 where
@@ -94,55 +62,9 @@ there r machines i c of =
       fmu = fmu_on r (I.configured r) _ i c m.0 _ (fmu_on r (I.instantiated r) _ i c m.0 _ (fmu_on r (I.first_states r) _ i c m.0 m.0.first first));
     }
 
-pub at_fmu-is : {X : Type 0} (r : Run) (states : List MachineState) (i : ℕ) (c : Component) (m : Machine) (s : MachineState) (f : Component → Machine → MachineState → Option X) → IsFmu r states i c m s → at_fmu r states i f ≡ f c m s
-at_fmu-is r states i c m s f fmu =
-    ap (λ o. option_and_then (λ x. option_and_then (λ y. option_and_then (λ z. f x y z) (slice_get states i)) (slice_get r.machines i)) o) fmu.component
-    ∙ ap (λ o. option_and_then (λ y. option_and_then (λ z. f c y z) (slice_get states i)) o) fmu.machine
-    ∙ ap (λ o. option_and_then (λ z. f c m z) o) fmu.state
-
 if_same : (b : Bool) (x y : Option ℤ) → (b ≡ true → x ≡ y) → (if b then x else None) ≡ (if b then y else None)
 if_same true x y h = h refl
 if_same false x y h = refl
-
--- ---- one call and the state behind it
-
-abbrev pub exchanges_of : Option Call → Option Reply → List Exchange
-exchanges_of None reply = []
-exchanges_of (Some call) None = []
-exchanges_of (Some call) (Some reply) = record { call = call; result = Ok reply } ∷ []
-
-pub part_own_of : (i : ℕ) (call : Option Call) (reply : Option Reply) → part i (sent_of i call reply) ≡ exchanges_of call reply
-part_own_of i None reply = refl
-part_own_of i (Some call) None = refl
-part_own_of i (Some call) (Some reply) = part_own i (record { call = call; result = Ok reply })
-
-pub part_other_of : (i k : ℕ) (call : Option Call) (reply : Option Reply) → (i ≡ k → ⊥) → part i (sent_of k call reply) ≡ []
-part_other_of i k None reply other = refl
-part_other_of i k (Some call) None other = refl
-part_other_of i k (Some call) (Some reply) other = part_other i k (record { call = call; result = Ok reply }) (λ e. other (sym e))
-
-abbrev pub after_if : Machine → MachineState → Option Call → MachineState
-after_if m s None = s
-after_if m s (Some call) = after m s call
-
-pub state_by_one : (shape : Shape) (m : Machine) (s : MachineState) (call : Option Call) (reply : Option Reply) → IsPaired shape call reply → state_by m s (exchanges_of call reply) ≡ after_if m s call
-state_by_one shape m s None reply paired = refl
-state_by_one shape m s (Some call) None paired = absurd paired
-state_by_one shape m s (Some call) (Some reply) paired = refl
-
-pub none_reply : (shape : Shape) (reply : Option Reply) → IsPaired shape None reply → reply ≡ None
-none_reply shape None paired = refl
-none_reply shape (Some reply) paired = absurd paired
-
-present_unclocked : (port : Port) (V : List (Option ℤ)) → is_unclocked port ≡ true → is_present port V ≡ true
-present_unclocked port V h =
-    let parts = both (not (is_clock_role port.role)) (length port.clocks == 0) h in
-    always (is_clock_role port.role) (length port.clocks == 0) _ parts.1
-  where
-    always : (a b c : Bool) → b ≡ true → (a || b || c) ≡ true
-    always true b c e = refl
-    always false true c e = refl
-    always false false c e = absurd (true_false (sym e))
 
 -- ---- the midst of Initialization Mode
 
@@ -323,55 +245,24 @@ module _ (r : Run) (sound : IsSound r.system) (machines : AreMachines r) (W : Li
     pub quiet_is : All (IsQuiet r.system) log
     quiet_is = end.1.quiet
 
--- ---- told machines
-
--- behind good answers a told machine is in the state behind them
-pub told_state : (shape : Shape) (m : Machine) (v w : View) (es : List Exchange) → Talks v es w → T.AllGood shape es → (s : MachineState) → v.fixed.machine ≡ Some m → v.state ≡ Some s → w.state ≡ Some (state_by m s es)
-told_state shape m v w [] t good s machine state = ap (λ (x : View). x.state) t ∙ state
-told_state shape m v w (e ∷ es) (mid, may, asked, rest) good s machine state =
-    told_state shape m mid w es rest (All-tail (T.IsGood shape) e es good) (after m s e.call) (ap (λ (f : Fixed). f.machine) asked.fixed ∙ machine)
-    (next e.result asked (All-head (T.IsGood shape) e es good))
-  where
-    next : (x : Result Reply PeerFault) → Asked v e.call x mid → MatchResult x (λ reply. grade_of shape e.call reply ≡ G.Good) (λ fault. ⊥) → mid.state ≡ Some (after m s e.call)
-    next (Ok reply) asked g =
-        let here : AnswersAs (Some m) (Some s) e.call (Ok reply) mid.state =
-        subst (λ (o : Option MachineState). AnswersAs (Some m) o e.call (Ok reply) mid.state) state (subst (λ (o : Option Machine). AnswersAs o v.state e.call (Ok reply) mid.state) machine asked.state) in
-        here.1
-    next (Err fault) asked g = absurd g
-
 module _ (r : Run) (sound : IsSound r.system) (machines : AreMachines r) (olds news : List Instance) (at : AreAt r (initializing r) olds) (values : List (Option ℤ)) (log : List Sent) (told : Told log olds news)
     (walked : Walked r.system (initially r.system) (no_values r.system) (numbers r.system.initial_order) values log) where
-  has_at : (i : ℕ) (x : Instance) → slice_get olds i ≡ Some x → (y : Instance) × (slice_get news i ≡ Some y) × Talks x.view (part i log) y.view
-  has_at i x here =
-      let within = slice_get_within olds i x here in
-      let y = got news i (let e = told.len in omega (arith, e, within)) in (
-        y.0,
-        y.1,
-        subst (λ (a : Instance). Talks a.view (part i log) y.0.view) (get_or_from_slice_get olds i x x here)
-            (subst (λ (b : Instance). Talks (get_or olds i x).view (part i log) b.view) (get_or_from_slice_get news i y.0 x y.1) (told.each i x within).talks),
-      )
-
-  are_replies : AreReplies r (initializing r) log
-  are_replies i c m s fmu =
-      let x = at i c m s fmu in
-      let y = has_at i x.0 x.1 in
-      replies_of m x.0.view (part i log) y.0.view y.2 s x.2 x.3
+  abbrev replies : AreReplies r (initializing r) log
+  replies = are_replies r (initializing r) olds news at log told
 
   pub found : SolvesInitially r values × AreAt r (initialized r values) news
   found =
       let W = solvable_initially r sound machines in
-      let same : values ≡ W.0 = values_are r sound machines W.0 W.1 values log walked are_replies in (
+      let same : values ≡ W.0 = values_are r sound machines W.0 W.1 values log walked replies in (
         subst (SolvesInitially r) (sym same) W.1,
         λ i c m z fmu.
             let before = fmu_before r (initializing r) (λ j d n s. state_with r.system.ports values j n s) i c m z fmu in
-            let x = at i c m before.before before.fmu in
-            let y = has_at i x.0 x.1 in
-            let good : T.AllGood (get_or (shapes_of r.system) i c.shape) (part i log) = λ k d w. (quiet_part r.system i c.shape log (quiet_is r sound machines W.0 W.1 values log walked are_replies) k d w).1 in (
-              y.0,
-              y.1,
-              ap (λ (f : Fixed). f.machine) (talks_fixed x.0.view (part i log) y.0.view y.2) ∙ x.2,
-              told_state (get_or (shapes_of r.system) i c.shape) m x.0.view y.0.view (part i log) y.2 good before.before x.2 x.3
-                  ∙ ap Some (state_is r sound machines W.0 W.1 values log walked are_replies i c m before.before before.fmu
+            let good : All (IsGoodOf (shapes_of r.system)) log = λ k d w. (quiet_is r sound machines W.0 W.1 values log walked replies k d w).1 in
+            let behind = told_at r (initializing r) olds news at log told good i c m before.before before.fmu in (
+              behind.instance,
+              behind.is,
+              behind.machine,
+              behind.state ∙ ap Some (state_is r sound machines W.0 W.1 values log walked replies i c m before.before before.fmu
                   ∙ ap (λ (V : List (Option ℤ)). state_with r.system.ports V i m before.before) (sym same) ∙ sym before.is),
             ),
       )

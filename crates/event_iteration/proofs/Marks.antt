@@ -1,4 +1,4 @@
--- Which variables are marked behind Sets in Step Mode.
+-- Which variables are marked behind Gets and Sets.
 use Rattle.std.proofs.Common.{◌≡◌, ℕ, zero, suc, ◌+◌, ℤ, Bool, true, false, not, List, [], ◌∷◌, Option, Some, None, refl, sym, ap, ◌∙◌, subst, arith, get_or, set}
 use Rattle.std.specs.Prelude.{All, ◌==◌, if◌then◌else◌, slice_get}
 use Rattle.std.specs.List.{list_any, position_from}
@@ -14,6 +14,7 @@ use Rattle.value_types.specs.declared.shape.Variable.{Variable}
 use Rattle.value_types.specs.declared.values.PortType.{PortType}
 use Rattle.fmi_calls.specs.declared.call.Call.{Call}
 use Rattle.fmi_calls.specs.declared.call.Call.TheVariants as C
+use Rattle.fmi_calls.specs.declared.call.Reply.{Reply}
 use Rattle.fmi_calls.specs.declared.phase.InstanceState.{InstanceState}
 use Rattle.fmi_calls.specs.declared.phase.InstanceState.TheVariants as P
 use Rattle.fmi_calls.specs.declared.phase.Phase.{Phase}
@@ -59,6 +60,18 @@ marked_beside shape marks a r other = by (place_of shape.variables a) refl (plac
     by None at_a (Some k) at_r = refl
     by (Some j) at_a (Some k) at_r = get_or-set_other marks j k true false (λ same. other (places_apart shape.variables r a j (at_r ∙ ap Some same) at_a))
 
+-- whatever the state, a Set leaves the mark of each other variable
+set_beside : (state : InstanceState) (shape : Shape) (marks : List Bool) (a r : ℕ) → (r ≡ a → ⊥) → is_marked shape (marks_after_set state shape marks a) r ≡ is_marked shape marks r
+set_beside P.Event shape marks a r other = marked_beside shape marks a r other
+set_beside P.Step shape marks a r other = marked_beside shape marks a r other
+set_beside P.Fresh shape marks a r other = refl
+set_beside P.Instantiated shape marks a r other = refl
+set_beside P.Initialization shape marks a r other = refl
+set_beside P.Terminated shape marks a r other = refl
+set_beside P.Dead shape marks a r other = refl
+set_beside P.Lost shape marks a r other = refl
+set_beside P.Gone shape marks a r other = refl
+
 -- where nothing is marked, no variable is
 pub unmarked : (shape : Shape) (marks : List Bool) (r : ℕ) → none_marked marks ≡ true → is_marked shape marks r ≡ false
 unmarked shape marks r none = by (place_of shape.variables r)
@@ -73,28 +86,44 @@ unmarked shape marks r none = by (place_of shape.variables r)
     by None = refl
     by (Some k) = flag marks k none
 
--- the exchange is a good Set of a variable that isn't this one
-pub record SetsOther (shape : Shape) (r : ℕ) (e : Exchange) : Type 0 where
-  pub kind : PortType
-  pub reference : ℕ
-  pub value : ℤ
-  pub call_is : e.call ≡ C.Set kind reference value
-  pub other : r ≡ reference → ⊥
-  pub good : T.IsGood shape e
+-- ---- Gets and Sets
 
-set_leads : (state : InstanceState) → state ≡ P.Step → (shape : Shape) (marks : List Bool) (reference : ℕ) → marks_after_set state shape marks reference ≡ marked shape marks reference
-set_leads state at shape marks reference = ap (λ (s : InstanceState). marks_after_set s shape marks reference) at
+-- the call is a Get
+abbrev pub IsGet : Call → Type 0
+IsGet call = (kind : PortType) × (reference : ℕ) × (call ≡ C.Get kind reference)
 
--- behind Sets of other variables an instance in Step Mode stays there, and the variable's mark stays
-pub sets_beside : (shape : Shape) (r : ℕ) (v w : View) (es : List Exchange) → v.fixed.shape ≡ shape → Talks v es w → All (SetsOther shape r) es → v.phase.state ≡ P.Step →
-    (w.phase.state ≡ P.Step) × (is_marked shape w.phase.marks r ≡ is_marked shape v.phase.marks r)
-sets_beside shape r v w [] is t all at = (ap (λ (x : View). x.phase.state) t ∙ at, ap (λ (x : View). is_marked shape x.phase.marks r) t)
-sets_beside shape r v w (e ∷ es) is (mid, may, asked, rest) all at =
-    let head = All-head (SetsOther shape r) e es all in
-    let one = led v mid e (mid, may, asked, refl) (subst (λ (s : Shape). T.IsGood s e) (sym is) head.good) in
-    let phase : mid.phase ≡ entered v.fixed.shape (counted v.phase e.call) (C.Set head.kind head.reference head.value) one.reply = one.phase ∙ ap (λ (c : Call). entered v.fixed.shape (counted v.phase e.call) c one.reply) head.call_is in
-    let state : mid.phase.state ≡ P.Step = ap (λ (x : Phase). x.state) phase ∙ at in
-    let marks : mid.phase.marks ≡ marked shape v.phase.marks head.reference =
-    ap (λ (x : Phase). x.marks) phase ∙ set_leads v.phase.state at v.fixed.shape v.phase.marks head.reference ∙ ap (λ (s : Shape). marked s v.phase.marks head.reference) is in
-    let more = sets_beside shape r mid w es (ap (λ (f : Fixed). f.shape) asked.fixed ∙ is) rest (All-tail (SetsOther shape r) e es all) state in
-    (more.0, more.1 ∙ ap (λ ms. is_marked shape ms r) marks ∙ marked_beside shape v.phase.marks head.reference r head.other)
+-- the call is a Get, or a Set of a variable that isn't this one
+pub data Passes (r : ℕ) (call : Call) : Type 0 where
+  ByGet : IsGet call → Passes r call
+  BySet : (kind : PortType) (reference : ℕ) (value : ℤ) → call ≡ C.Set kind reference value → (r ≡ reference → ⊥) → Passes r call
+
+-- the mode stays, and the variable's mark
+abbrev Beside : Shape → ℕ → Phase → Phase → Type 0
+Beside shape r old new = (new.state ≡ old.state) × (is_marked shape new.marks r ≡ is_marked shape old.marks r)
+
+passes_one : (shape : Shape) (r : ℕ) (call : Call) → Passes r call → (phase : Phase) (reply : Reply) → Beside shape r phase (entered shape phase call reply)
+passes_one shape r call (ByGet get) phase reply = subst (λ (c : Call). Beside shape r phase (entered shape phase c reply)) (sym get.2) (refl, refl)
+passes_one shape r call (BySet kind reference value is other) phase reply =
+    subst (λ (c : Call). Beside shape r phase (entered shape phase c reply)) (sym is) (refl, set_beside phase.state shape phase.marks reference r other)
+
+-- all pass by the variable, and were answered well
+pub passes_beside : (shape : Shape) (r : ℕ) (v w : View) (es : List Exchange) → v.fixed.shape ≡ shape → Talks v es w → All (λ (e : Exchange). Passes r e.call × T.IsGood shape e) es → Beside shape r v.phase w.phase
+passes_beside shape r v w [] is t all = (ap (λ (x : View). x.phase.state) t, ap (λ (x : View). is_marked shape x.phase.marks r) t)
+passes_beside shape r v w (e ∷ es) is (mid, may, asked, rest) all =
+    let head = All-head (λ (e : Exchange). Passes r e.call × T.IsGood shape e) e es all in
+    let one = led v mid e (mid, may, asked, refl) (subst (λ (s : Shape). T.IsGood s e) (sym is) head.1) in
+    let phase : mid.phase ≡ entered shape (counted v.phase e.call) e.call one.reply = one.phase ∙ ap (λ (s : Shape). entered s (counted v.phase e.call) e.call one.reply) is in
+    let here = passes_one shape r e.call head.0 (counted v.phase e.call) one.reply in
+    let more = passes_beside shape r mid w es (ap (λ (f : Fixed). f.shape) asked.fixed ∙ is) rest (All-tail (λ (e : Exchange). Passes r e.call × T.IsGood shape e) e es all) in (
+      more.0 ∙ ap (λ (x : Phase). x.state) phase ∙ here.0,
+      more.1 ∙ ap (λ (x : Phase). is_marked shape x.marks r) phase ∙ here.1,
+    )
+
+-- behind good Gets the marks are those of before
+pub gets_leave : (shape : Shape) (v w : View) (es : List Exchange) → v.fixed.shape ≡ shape → Talks v es w → All (λ (e : Exchange). IsGet e.call × T.IsGood shape e) es → w.phase.marks ≡ v.phase.marks
+gets_leave shape v w [] is t all = ap (λ (x : View). x.phase.marks) t
+gets_leave shape v w (e ∷ es) is (mid, may, asked, rest) all =
+    let head = All-head (λ (e : Exchange). IsGet e.call × T.IsGood shape e) e es all in
+    let one = led v mid e (mid, may, asked, refl) (subst (λ (s : Shape). T.IsGood s e) (sym is) head.1) in
+    gets_leave shape mid w es (ap (λ (f : Fixed). f.shape) asked.fixed ∙ is) rest (All-tail (λ (e : Exchange). IsGet e.call × T.IsGood shape e) e es all)
+    ∙ ap (λ (x : Phase). x.marks) one.phase ∙ ap (λ (c : Call). (entered v.fixed.shape (counted v.phase e.call) c one.reply).marks) head.0.2

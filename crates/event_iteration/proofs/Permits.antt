@@ -1,5 +1,5 @@
 -- In Initialization Mode each call of the walk is permitted, and each value is one of its port's type.
-use Rattle.std.proofs.Common.{◌≡◌, ℕ, zero, suc, ◌<◌, not, ℤ, Bool, true, false, List, [], ◌∷◌, Option, Some, None, refl, sym, ap, ◌∙◌, subst, arith, length, get_or, map}
+use Rattle.std.proofs.Common.{◌≡◌, ℕ, zero, suc, ◌<◌, ℤ, Bool, true, false, List, [], ◌∷◌, Option, Some, None, refl, sym, ap, ◌∙◌, subst, arith, length, get_or, map}
 use Rattle.std.specs.Prelude.{All, IfSome, IsSomeAnd, ◌&&◌, ◌==◌, if◌then◌else◌, option_map, slice_get}
 use Rattle.std.specs.List.{AllZip}
 use Rattle.std.specs.Option.{option_map_or}
@@ -21,7 +21,7 @@ use Rattle.fmi_calls.specs.declared.call.Reply.{Reply}
 use Rattle.fmi_calls.specs.declared.phase.InstanceState.{InstanceState}
 use Rattle.fmi_calls.specs.declared.phase.Phase.{Phase}
 use Rattle.fmi_calls.specs.Next.{counted, entered}
-use Rattle.fmi_calls.specs.Permission.{Permitted, can_be_read, can_be_set, is_value_type}
+use Rattle.fmi_calls.specs.Permission.{IsReadable, IsWritable, Permitted, can_be_read, can_be_set, is_value_type}
 use Rattle.fmi_calls.specs.Worth.{grade_of}
 use Rattle.fmu_peer.specs.declared.peer.Exchange.{Exchange}
 use Rattle.fmu_peer.specs.CloseAll.{Instance}
@@ -35,7 +35,6 @@ use Rattle.system_model.specs.declared.system.System.{System}
 use Rattle.system_model.specs.Needs.{is_unclocked, is_unclocked_at}
 use Rattle.system_model.specs.Ports.{is_clock_role, is_output_role, source_of}
 use Rattle.system_model.specs.Sound.{IsSound}
-use Rattle.system_model.proofs.Lists.{true_false}
 use Rattle.system_model.proofs.SoundLemmas.{Placed, clock_type_of, is_input_of, is_output_of, place_of, source_at}
 use Rattle.run_model.specs.Run.{value}
 use Rattle.run_model.specs.Equations.{fed}
@@ -51,6 +50,7 @@ use Rattle.slot_calls.proofs.Answered.{map_at, shape_of}
 use Rattle.slot_calls.proofs.Leading.{led}
 use Rattle.event_iteration.specs.Initialization.{IsInitializing, asks_initially, initially, is_set_from_feed, seen, takes_initially}
 use Rattle.event_iteration.specs.Turns.{IsPaired, MayAsk, Walked, Begun, Went, sent_of}
+use Rattle.event_iteration.proofs.Clockless.{unclocked_parts}
 use Rattle.event_iteration.proofs.Walking.{by_number, next_beside, next_here}
 
 -- ---- types
@@ -213,41 +213,50 @@ no_references R [] ys zip h = refl
 no_references R (x ∷ xs) [] zip h = absurd zip
 no_references R (x ∷ xs) (y ∷ ys) zip h = absurd (let e : length (y ∷ ys) ≡ 0 = eqb-true (length (y ∷ ys)) 0 h in omega (arith, e))
 
-unclocked_parts : (port : Port) → is_unclocked port ≡ true → (is_clock_role port.role ≡ false) × ((length port.clocks == 0) ≡ true)
-unclocked_parts port h = by (is_clock_role port.role) refl h
-  where
-    by : (b : Bool) → is_clock_role port.role ≡ b → (not b && (length port.clocks == 0)) ≡ true → (is_clock_role port.role ≡ false) × ((length port.clocks == 0) ≡ true)
-    by true same e = absurd (true_false (sym e))
-    by false same e = (same, e)
-
-module _ (system : System) (sound : IsSound system) (p : ℕ) (port : Port) (is : slice_get system.ports p ≡ Some port) (unclocked : is_unclocked port ≡ true) (v : View) (initializing : IsInitializing v)
-    (c : Component) (of : slice_get system.components port.component.0 ≡ Some c) (shape : v.fixed.shape ≡ c.shape) where
+-- a port's variable, by the shape of its FMU
+module _ (system : System) (sound : IsSound system) (p : ℕ) (port : Port) (is : slice_get system.ports p ≡ Some port) (c : Component) (of : slice_get system.components port.component.0 ≡ Some c) (shape : Shape) (same : shape ≡ c.shape) where
   placed : Placed system p port
   placed = place_of system sound p port is
 
-  under : variable_at v.fixed.shape.variables port.reference ≡ Some placed.variable
-  under = ap (λ (s : Shape). variable_at s.variables port.reference) (shape ∙ ap (λ (x : Component). x.shape) (same_Some _ _ (sym of ∙ placed.is.of))) ∙ placed.is.there
+  under : variable_at shape.variables port.reference ≡ Some placed.variable
+  under = ap (λ (s : Shape). variable_at s.variables port.reference) (same ∙ ap (λ (x : Component). x.shape) (same_Some _ _ (sym of ∙ placed.is.of))) ∙ placed.is.there
 
-  at_under : (test : Variable → Bool) → test placed.variable ≡ true → is_at test v.fixed.shape.variables port.reference ≡ true
+  at_under : (test : Variable → Bool) → test placed.variable ≡ true → is_at test shape.variables port.reference ≡ true
   at_under test h = ap (λ o. option_map_or test o false) under ∙ h
 
-  clockless : is_at has_no_clocks v.fixed.shape.variables port.reference ≡ true
-  clockless = at_under has_no_clocks (no_references _ placed.variable.clocks port.clocks (sound.ports.clocks p port placed.component placed.variable placed.is) (unclocked_parts port unclocked).1)
+  pub without_clocks : (length port.clocks == 0) ≡ true → is_at has_no_clocks shape.variables port.reference ≡ true
+  without_clocks none = at_under has_no_clocks (no_references _ placed.variable.clocks port.clocks (sound.ports.clocks p port placed.component placed.variable placed.is) none)
 
-  value_kind : is_value_type port.kind ≡ true
-  value_kind = value_type port.kind (clock_type_of system p port placed ∙ (unclocked_parts port unclocked).0)
+  pub input_there : is_output_role port.role ≡ false → is_at (λ (x : Variable). is_input x.causality) shape.variables port.reference ≡ true
+  input_there input = at_under (λ (x : Variable). is_input x.causality) (ap is_input (is_input_of system p port placed input))
 
-  pub may_read : is_output_role port.role ≡ true → Permitted v.fixed.shape v.phase (C.Get port.kind port.reference)
+  module _ (no_clock : is_clock_role port.role ≡ false) where
+    value_kind : is_value_type port.kind ≡ true
+    value_kind = value_type port.kind (clock_type_of system p port placed ∙ no_clock)
+
+    pub readable : is_output_role port.role ≡ true → IsReadable shape port.kind port.reference
+    readable out = (value_kind, subst (λ (o : Option Variable). IsSomeAnd o (λ (x : Variable). (x.kind ≡ Some port.kind) × (x.causality ≡ V.Output))) (sym under) (placed.kind, is_output_of system p port placed out))
+
+    pub writable : IsWritable shape port.kind port.reference
+    writable = (value_kind, subst (λ (o : Option Variable). IsSomeAnd o (λ (y : Variable). y.kind ≡ Some port.kind)) (sym under) placed.kind)
+
+-- in Initialization Mode
+module _ (system : System) (sound : IsSound system) (p : ℕ) (port : Port) (is : slice_get system.ports p ≡ Some port) (unclocked : is_unclocked port ≡ true) (v : View) (initializing : IsInitializing v)
+    (c : Component) (of : slice_get system.components port.component.0 ≡ Some c) (shape : v.fixed.shape ≡ c.shape) where
+  no_clocks : is_at has_no_clocks v.fixed.shape.variables port.reference ≡ true
+  no_clocks = without_clocks system sound p port is c of v.fixed.shape shape (unclocked_parts port unclocked).1
+
+  may_read : is_output_role port.role ≡ true → Permitted v.fixed.shape v.phase (C.Get port.kind port.reference)
   may_read out = (
-    ap (λ (s : InstanceState). can_be_read s v.fixed.shape v.phase.marks port.reference) initializing ∙ clockless,
-    (value_kind, subst (λ (o : Option Variable). IsSomeAnd o (λ (x : Variable). (x.kind ≡ Some port.kind) × (x.causality ≡ V.Output))) (sym under) (placed.kind, is_output_of system p port placed out)),
+    ap (λ (s : InstanceState). can_be_read s v.fixed.shape v.phase.marks port.reference) initializing ∙ no_clocks,
+    readable system sound p port is c of v.fixed.shape shape (unclocked_parts port unclocked).0 out,
   )
 
-  pub may_write : is_output_role port.role ≡ false → (x : ℤ) → Fits port.kind x → Permitted v.fixed.shape v.phase (C.Set port.kind port.reference x)
+  may_write : is_output_role port.role ≡ false → (x : ℤ) → Fits port.kind x → Permitted v.fixed.shape v.phase (C.Set port.kind port.reference x)
   may_write input x fits = (
     ap (λ (s : InstanceState). can_be_set s v.fixed.shape v.phase.marks port.reference) initializing
-        ∙ ap (λ b. b && is_at has_no_clocks v.fixed.shape.variables port.reference) (at_under (λ (x : Variable). is_input x.causality) (ap is_input (is_input_of system p port placed input))) ∙ clockless,
-    (value_kind, subst (λ (o : Option Variable). IsSomeAnd o (λ (y : Variable). y.kind ≡ Some port.kind)) (sym under) placed.kind),
+        ∙ ap (λ b. b && is_at has_no_clocks v.fixed.shape.variables port.reference) (input_there system sound p port is c of v.fixed.shape shape input) ∙ no_clocks,
+    writable system sound p port is c of v.fixed.shape shape (unclocked_parts port unclocked).0,
     fits,
   )
 

@@ -1,8 +1,8 @@
 -- The loop over the stored order for Initialization.
-use Rattle.std.proofs.Common.{◌≡◌, ℕ, Bool, ◌<◌, ◌≤◌, ◌+◌, ℤ, List, [], ◌∷◌, ◌++◌, Option, Some, None, Ok, Err, refl, sym, ap, ◌∙◌, subst, arith, append-nil, length, get_or, map, take, drop}
+use Rattle.std.proofs.Common.{◌≡◌, ℕ, Bool, ◌<◌, ◌≤◌, ℤ, List, [], ◌∷◌, Option, Some, None, Err, refl, sym, ap, ◌∙◌, subst, arith, length, get_or, map, take}
 use Rattle.std.specs.Prelude.{All, IfSome, false, option_map, slice_get, true}
 use Rattle.std.specs.Option.{option_map_or}
-use Rattle.std.proofs.lemmas.List.{drop_more, length-map, take-append-drop, take_all, take_more}
+use Rattle.std.proofs.lemmas.List.{length-map, take_all}
 use Rattle.std.proofs.lemmas.List.Elements.{All-cons, All-head, All-nil, All-tail}
 use Rattle.std.proofs.lemmas.Option.{get_or_from_slice_get, slice_get-get_or, slice_get-map, slice_get_within}
 use Rattle.value_types.specs.Values.{Fits}
@@ -12,7 +12,7 @@ use Rattle.fmu_peer.specs.CloseAll.{Instance}
 use Rattle.system_model.specs.declared.system.Component.{Component}
 use Rattle.system_model.specs.declared.system.Port.{Port}
 use Rattle.system_model.specs.declared.system.System.{System}
-use Rattle.system_model.specs.Needs.{NeedsInitially, is_unclocked, is_unclocked_at}
+use Rattle.system_model.specs.Needs.{is_unclocked, is_unclocked_at}
 use Rattle.system_model.specs.Ports.{numbers, source_of}
 use Rattle.system_model.specs.Sound.{IsSound}
 use Rattle.system_model.proofs.Lists.{all_by_place, at_contains, true_false}
@@ -22,13 +22,10 @@ use Rattle.slot_calls.specs.declared.bad_answer.BadAnswer.{BadAnswer}
 use Rattle.slot_calls.specs.Log.{Sent, Told}
 use Rattle.slot_calls.specs.Stage.{shapes, shapes_of}
 use Rattle.slot_calls.proofs.Answered.{map_at, shape_of, shapes_same}
-use Rattle.slot_calls.proofs.Logs.{told_on}
-use Rattle.event_iteration.specs.Explains.{Explains, ExplainsUntil, Walks}
 use Rattle.event_iteration.specs.Initialization.{AreReads, IsInitializing, IsPlaced, initially, no_values}
-use Rattle.event_iteration.specs.Turns.{MayTurn, TakesTurn, Walked, Went}
-use Rattle.event_iteration.proofs.Abouts.{about_initially}
+use Rattle.event_iteration.specs.Turns.{MayTurn, TakesTurn, Walked}
 use Rattle.event_iteration.proofs.Permits.{Keeps, keeps, may_ask, still}
-use Rattle.event_iteration.proofs.Walking.{explained, none_at}
+use Rattle.event_iteration.proofs.Walking.{none_at}
 
 -- ---- the order
 
@@ -39,13 +36,6 @@ number_at order read k d same lt =
 
 pub whole_order : (order read : List PortId) (k : ℕ) → read ≡ order → length read ≤ k → take k (numbers order) ≡ numbers order
 whole_order order read k same le = take_all k (numbers order) (let n = length-map order (λ (x : PortId). x.0) in let e = ap length same in omega (arith, n, e, le))
-
-pub more_order : (order : List ℕ) (k p : ℕ) → slice_get order k ≡ Some p → take (k + 1) order ≡ take k order ++ p ∷ []
-more_order order k p is = take_more order k p (slice_get_within order k p is) ∙ ap (λ x. take k order ++ x ∷ []) (get_or_from_slice_get order k p p is)
-
-pub split_order : (order : List ℕ) (k p : ℕ) → slice_get order k ≡ Some p → order ≡ take k order ++ p ∷ drop (k + 1) order
-split_order order k p is =
-    sym (take-append-drop k order) ∙ ap (λ xs. take k order ++ xs) (drop_more order k p (slice_get_within order k p is) ∙ ap (λ x. x ∷ drop (k + 1) order) (get_or_from_slice_get order k p p is))
 
 -- what holds of each slot's instance
 pub all_instances : {A B : Type 0} (f : A → B) (P : B → Type 0) (xs : List A) → All (λ (a : A). P (f a)) xs → All P (map f xs)
@@ -106,40 +96,6 @@ module _ (system : System) (sound : IsSound system) where
         map_at shape_of mids port.component.0 x c.shape within here ∙ ap (λ (ss : List Shape). get_or ss port.component.0 c.shape) shapes_mid
         ∙ sym (map_at (λ (y : Component). y.shape) system.components port.component.0 c c.shape (slice_get_within system.components port.component.0 c of) (sym (get_or_from_slice_get system.components port.component.0 c c of))) in
         may_ask system sound values kept.fits p port is x.view state c of shape port.role refl
-
-    -- what a turn adds
-    module _ (news : List Instance) (k p : ℕ) (next : List (Option ℤ)) (taken_is : taken ≡ take k (numbers system.initial_order)) (at : slice_get (numbers system.initial_order) k ≡ Some p) where
-      pub walked_more : (turn : TakesTurn system (initially system) p values next mids news (Ok tt)) → Walked system (initially system) before (take (k + 1) (numbers system.initial_order)) next (log ++ turn.log)
-      walked_more turn = Went _ taken p turn.says.0 values next (log ++ turn.log) log turn.log (more_order (numbers system.initial_order) k p at ∙ ap (λ xs. xs ++ p ∷ []) (sym taken_is)) refl walked turn.says.1
-
-      pub walked_until : (bad : BadAnswer) (turn : TakesTurn system (initially system) p values next mids news (Err bad)) →
-          Walks system (initially system) before (numbers system.initial_order) next olds news (Err bad)
-      walked_until bad turn =
-          let split = split_order (numbers system.initial_order) k p at ∙ ap (λ xs. xs ++ p ∷ drop (k + 1) (numbers system.initial_order)) (sym taken_is) in
-          record {
-            log = log ++ turn.log;
-            told = told_on olds mids news log turn.log told turn.told;
-            says = subst (λ vs. ExplainsUntil system (initially system) before (numbers system.initial_order) bad vs (log ++ turn.log)) (sym turn.says.2) (record {
-              taken = taken;
-              p = p;
-              rest = drop (k + 1) (numbers system.initial_order);
-              order_is = split;
-              front = log;
-              last = turn.says.0;
-              log_is = ap (λ es. log ++ es) turn.says.1;
-              told = explained (λ q. is_unclocked_at system.ports q ≡ true) (NeedsInitially system) system (initially system) (about_initially system) before (numbers system.initial_order) sound.initial_order len taken _ values log split walked;
-              stops = turn.says.3;
-            });
-          }
-
-    -- the whole
-    pub walked_all : taken ≡ numbers system.initial_order → Walks system (initially system) before (numbers system.initial_order) values olds mids (Ok tt)
-    walked_all all = record {
-      log = log;
-      told = told;
-      says = subst (λ xs. Explains system (initially system) before xs values log) all
-          (explained (λ q. is_unclocked_at system.ports q ≡ true) (NeedsInitially system) system (initially system) (about_initially system) before (numbers system.initial_order) sound.initial_order len taken [] values log (sym all ∙ sym (append-nil taken)) walked);
-    }
 
     pub fits_until : {p : ℕ} {next : List (Option ℤ)} {news : List Instance} {bad : BadAnswer} → TakesTurn system (initially system) p values next mids news (Err bad) → AreFitting system next
     fits_until turn = subst (AreFitting system) (sym turn.says.2) kept.fits

@@ -28,8 +28,8 @@ use Rattle.slot_calls.proofs.Answered.{map_at, one_log, shape_of}
 use Rattle.slot_calls.proofs.Logs.{told_none, told_one}
 use Rattle.event_iteration.specs.Turns.{AsksIf, IsPaired, Rules, TakesTurn, sent_of}
 
--- the port at a place
-pub port_at : (xs ports : List Port) (p : ℕ) (port : Port) → xs ≡ ports → port ≡ get_or xs p port → p < length ports → slice_get ports p ≡ Some port
+-- the port at a place, or another thing
+pub port_at : {X : Type 0} (xs ports : List X) (p : ℕ) (port : X) → xs ≡ ports → port ≡ get_or xs p port → p < length ports → slice_get ports p ≡ Some port
 port_at xs ports p port same is within = slice_get-get_or ports p port within ∙ ap Some (ap (λ l. get_or l p port) (sym same) ∙ sym is)
 
 -- and its component

@@ -1,56 +1,76 @@
--- The turns of the first instant at a point, where no FMU has event mode (FMI 3.0, 4.2.1: Step Mode; SSP 1.0: connections): outputs are read, and inputs take the values of their sources.
-use Rattle.std.specs.Prelude.{◌≡◌, ℤ, true, false, All, List, Option, Some, None}
+-- The turns of an instant (FMI 3.0, 4.2.1: Event Mode, Step Mode; SSP 1.0: connections). With event mode inputs are set to the values of their sources and outputs are read; without event mode outputs are read in the first instant of a point, and inputs take the values of their sources without a call.
+use Rattle.std.specs.Prelude.{◌≡◌, ℤ, ◌==◌, ◌&&◌, Bool, true, if◌then◌else◌, All, List, Option, Some, None}
+use Rattle.std.specs.Option.{option_map}
 use Rattle.fmi_calls.specs.declared.call.Call.{Call}
 use Rattle.fmi_calls.specs.declared.call.Call.TheVariants as C
 use Rattle.fmi_calls.specs.declared.call.Reply.{Reply}
-use Rattle.fmi_calls.specs.declared.phase.InstanceState.TheVariants as P
+use Rattle.fmi_calls.specs.Next.{running_state}
 use Rattle.fmi_calls.specs.Permission.{none_marked}
 use Rattle.fmu_peer.specs.CloseAll.{Instance}
 use Rattle.fmu_peer.specs.View.{View}
-use Rattle.system_model.specs.declared.system.Component.{Component}
 use Rattle.system_model.specs.declared.system.Role.{Role}
 use Rattle.system_model.specs.declared.system.Role.TheVariants.{Input, Output, ClockInput, ClockOutput, TimeClock}
 use Rattle.system_model.specs.declared.system.Port.{Port}
 use Rattle.system_model.specs.declared.system.System.{System}
-use Rattle.run_model.specs.Equations.{Solves, fed}
+use Rattle.system_model.specs.Needs.{is_unclocked}
+use Rattle.run_model.specs.AfterInstant.{written}
+use Rattle.run_model.specs.Equations.{Solves, fed, value_in}
+use Rattle.run_model.specs.Inputs.{is_present}
 use Rattle.run_model.specs.Machines.{AreMachines, IsSituation}
 use Rattle.run_model.specs.Run.{Run, Situation}
-use Rattle.event_iteration.specs.Initialization.{seen}
 use Rattle.event_iteration.specs.Machines.{AreAt}
 use Rattle.event_iteration.specs.Turns.{Rules}
 
--- an output is read
-abbrev pub asks_at_point : Role → Port → Option Call
-asks_at_point Output port = Some (C.Get port.kind port.reference)
-asks_at_point (Input feed) port = None
-asks_at_point (ClockInput feed) port = None
-asks_at_point ClockOutput port = None
-asks_at_point (TimeClock timing) port = None
+-- an output is read where it is present, and without event mode in the first instant at a point
+abbrev pub is_read_in_instant : Port → Bool → Bool → List (Option ℤ) → Bool
+is_read_in_instant port has_event_mode is_first values = if has_event_mode then is_present port values else is_first
 
-abbrev pub takes_at_point : Role → Port → List (Option ℤ) → Option Reply → Option ℤ
-takes_at_point (Input None) port values reply = None
-takes_at_point (Input (Some feed)) port values reply = fed feed values
-takes_at_point Output port values reply = seen port reply
-takes_at_point (ClockInput feed) port values reply = None
-takes_at_point ClockOutput port values reply = None
-takes_at_point (TimeClock timing) port values reply = None
+-- a connected input that is present is set to its source's value, where that has one, and an output is read
+abbrev pub asks_in_instant : Role → Port → Bool → Bool → List (Option ℤ) → Option Call
+asks_in_instant (Input None) port has_event_mode is_first values = None
+asks_in_instant (Input (Some feed)) port has_event_mode is_first values =
+    if has_event_mode && is_present port values then option_map (λ x. C.Set port.kind port.reference x) (fed feed values) else None
+asks_in_instant Output port has_event_mode is_first values =
+    if is_read_in_instant port has_event_mode is_first values then Some (C.Get port.kind port.reference) else None
+asks_in_instant (ClockInput feed) port has_event_mode is_first values = None
+asks_in_instant ClockOutput port has_event_mode is_first values = None
+asks_in_instant (TimeClock timing) port has_event_mode is_first values = None
 
-abbrev pub at_point : Rules
-at_point = record {
-  asks = λ p port c values. asks_at_point port.role port;
-  takes = λ p port values last reply. takes_at_point port.role port values reply;
+-- the value that a reply carries, or the last where there is no reply
+abbrev pub seen_or : Port → Option ℤ → Option Reply → Option ℤ
+seen_or port last None = last
+seen_or port last (Some reply) = value_in port.kind reply
+
+abbrev pub takes_in_instant : Role → Port → List (Option ℤ) → Option ℤ → Option Reply → Option ℤ
+takes_in_instant (Input None) port values last reply = None
+takes_in_instant (Input (Some feed)) port values last reply = if is_present port values then fed feed values else last
+takes_in_instant Output port values last reply = seen_or port last reply
+takes_in_instant (ClockInput feed) port values last reply = None
+takes_in_instant ClockOutput port values last reply = None
+takes_in_instant (TimeClock timing) port values last reply = None
+
+-- of the first instant at a point, or of a later one
+abbrev pub in_instant : Bool → Rules
+in_instant is_first = record {
+  asks = λ p port c values. asks_in_instant port.role port c.shape.has_event_mode is_first values;
+  takes = λ p port values last reply. takes_in_instant port.role port values last reply;
 }
 
--- no FMU has event mode
-abbrev pub IsWithoutEvents : System → Type 0
-IsWithoutEvents system = All (λ (c : Component). c.shape.has_event_mode ≡ false) system.components
+-- no port is a Clock or has one
+abbrev pub IsWithoutClocks : System → Type 0
+IsWithoutClocks system = All (λ (port : Port). is_unclocked port ≡ true) system.ports
 
--- in Step Mode, and no input is set since the last step
-pub record CanBeRead (v : View) : Type 0 where
-  pub state : v.phase.state ≡ P.Step
+-- in Event Mode, or without event mode in Step Mode
+abbrev pub IsRunning : View → Type 0
+IsRunning v = v.phase.state ≡ running_state v.fixed.shape
+
+-- at the beginning of an instant: no input is set in it, or since the last step
+pub record BeginsInstant (v : View) : Type 0 where
+  pub running : IsRunning v
   pub unset : none_marked v.phase.marks ≡ true
 
--- where the instances are machines in the states of a first instant, the values solve its equations, and the states stay
-abbrev pub SolvesAtPoint : System → List (Option ℤ) → List Instance → List Instance → Type 0
-SolvesAtPoint system values olds news = (r : Run) (s : Situation) → r.system ≡ system → AreMachines r → IsSituation r s → s.n ≡ 0 → AreAt r s.states olds →
-    Solves r s values × AreAt r s.states news
+-- where the instances are machines in the states before an instant, the values solve its equations, and they have those written
+abbrev pub SolvesInInstant : System → Bool → List (Option ℤ) → List (Option ℤ) → List Instance → List Instance → Type 0
+SolvesInInstant system is_first before values olds news = (r : Run) (s : Situation) → r.system ≡ system → AreMachines r → IsSituation r s →
+    (s.n == 0) ≡ is_first → s.before ≡ before → AreAt r s.states olds →
+    Solves r s values × AreAt r (written r s values) news

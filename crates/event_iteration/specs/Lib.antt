@@ -3,4 +3,5 @@ pub mod Initialization
 pub mod Explains
 pub mod Machines
 pub mod Instants
+pub mod Updates
 pub mod Settings

@@ -1,25 +1,27 @@
-ghost use Rattle.std.specs.Prelude.{◌≡◌, ◌<◌, OnOk, All, length};
+ghost use Rattle.std.specs.Prelude.{◌≡◌, ◌<◌, None, OnOk, All, if◌then◌else◌, length};
 ghost use Rattle.system_model.specs.declared.system.Port.{Port};
 ghost use Rattle.system_model.specs.Sound.{IsSound};
 ghost use Rattle.run_model.specs.Machines.{AreFitting};
 ghost use Rattle.slot_calls.specs.Slots.{LiveSlot, Stands, instances};
 ghost use Rattle.slot_calls.specs.Stage.{shapes, shapes_of};
 ghost use Rattle.event_iteration.specs.Explains.{Walks};
-ghost use Rattle.event_iteration.specs.Instants.{CanBeRead, IsWithoutEvents};
-ghost use Rattle.event_iteration.specs.Settings.{DepartsForMachines, before_step, port_order, sets_to};
+ghost use Rattle.event_iteration.specs.Settings.{DepartsForMachines, IsUnset, before_step, port_order, sets_to};
 ghost use Rattle.event_iteration.specs.Turns.{MayTurn, TakesTurn};
 
 use crate::initialization::set_call;
-use crate::turn::ask_if;
+use crate::turn::{ask_if, has_event_mode};
 use fmi_calls::Call;
 use fmu_peer::{Peer, Slot};
 use slot_calls::BadAnswer;
 use system_model::{Port, Role, System};
 
-// The Set of a connected input to a value, if there is one.
-fn call_of(port: &Port, value: Option<i128>) -> Option<Call>
-    ensures { result ≡ sets_to port.now.role port.now value }
+// The Set of a connected input to a value, if there is one, where its FMU has no event mode.
+fn call_of(port: &Port, has_event_mode: bool, value: Option<i128>) -> Option<Call>
+    ensures { result ≡ (if has_event_mode then None else sets_to port.now.role port.now value) }
 {
+    if has_event_mode {
+        return None;
+    }
     match port.role {
         Role::Input { feed: Some(_) } => set_call(port, value),
         Role::Input { feed: None }
@@ -47,10 +49,9 @@ fn set_input<L: Peer>(
     ensures turn { TakesTurn system.now (before_step values.now) p values.now values.now (instances L.view slots.old) (instances L.view slots.new) result }
 {
     let port = &system.ports.as_slice()[p];
-    match ask_if(
-        &mut slots[port.component.0 as usize],
-        call_of(port, values[p]),
-    ) {
+    let has_event_mode = has_event_mode(system, port.component);
+    let call = call_of(port, has_event_mode, values[p]);
+    match ask_if(&mut slots[port.component.0 as usize], call) {
         Ok(_) => Ok(()),
         Err(why) => Err(BadAnswer {
             component: port.component,
@@ -59,18 +60,17 @@ fn set_input<L: Peer>(
     }
 }
 
-/// Sets each connected input that has a value, before a step, where no FMU has event mode (FMI 3.0, 4.2.1: Step Mode), in
-/// component and port order, up to the first answer that isn't good.
+/// Sets each connected input that has a value of the FMUs without event mode, before a step (FMI 3.0, 4.2.1: Step Mode), in
+/// component and port order, up to the first answer that isn't good. Each FMU is in Step Mode.
 pub fn set_inputs<L: Peer>(
     slots: &mut [Slot<L>],
     system: &System,
     values: &[Option<i128>],
 ) -> Result<(), BadAnswer>
     requires sound { IsSound system.now }
-    requires plain { IsWithoutEvents system.now }
     requires shapes { shapes (instances L.view slots.old) ≡ shapes_of system.now }
     requires live { All (LiveSlot L.view) slots.old }
-    requires unset { All (Stands CanBeRead L.view) slots.old }
+    requires unset { All (Stands IsUnset L.view) slots.old }
     requires values { length values.now ≡ length system.now.ports }
     requires fitting { AreFitting system.now values.now }
     ensures live { OnOk result (All (LiveSlot L.view) slots.new) }

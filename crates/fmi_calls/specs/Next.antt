@@ -1,5 +1,5 @@
 -- The phase after a call with its reply, or with a fault in the reply's place (FMI 3.0, 4.2.1; 2.2.3 for Discard, Error and Fatal; 2.2.6: FMU state).
-use Rattle.std.specs.Prelude.{◌≡◌, ℕ, ◌+◌, ◌-◌, ◌^◌, Bool, true, false, min, List, length, replicate, set, Option, Some, None, unwrap_or}
+use Rattle.std.specs.Prelude.{◌≡◌, ℕ, ◌+◌, ◌-◌, ◌^◌, Bool, true, false, not, if◌then◌else◌, min, List, length, replicate, set, Option, Some, None, unwrap_or}
 use Rattle.std.specs.Option.{option_map_or}
 use Rattle.value_types.specs.Shape.{place_of}
 use Rattle.value_types.specs.declared.shape.Shape.{Shape}
@@ -14,7 +14,7 @@ use Rattle.fmi_calls.specs.declared.call.Grade.{Grade}
 use Rattle.fmi_calls.specs.declared.call.Grade.TheVariants.{Good, Refused, Misreply}
 use Rattle.fmi_calls.specs.declared.phase.Phase.{Phase}
 use Rattle.fmi_calls.specs.declared.phase.InstanceState.{InstanceState}
-use Rattle.fmi_calls.specs.declared.phase.InstanceState.TheVariants.{Fresh, Instantiated, Initialization, Step, Terminated, Dead, Lost, Gone}
+use Rattle.fmi_calls.specs.declared.phase.InstanceState.TheVariants.{Fresh, Instantiated, Initialization, Event, Step, Terminated, Dead, Lost, Gone}
 use Rattle.fmi_calls.specs.Worth.{grade_of}
 use Rattle.fmi_calls.specs.Kinds.{bad_status_of}
 
@@ -29,6 +29,7 @@ fresh shape = record {
   point = 0;
   stop = 0;
   first_size = None;
+  settled = false;
   marks = unmarked shape;
   slot = record { is_full = false; point = 0; marks = unmarked shape };
   exchanges = 0;
@@ -44,8 +45,9 @@ pub record HasMarks (shape : Shape) (phase : Phase) : Type 0 where
 abbrev pub marked : Shape → List Bool → ℕ → List Bool
 marked shape marks reference = option_map_or (λ place. set marks place true) (place_of shape.variables reference) marks
 
--- the marks once a variable is set: only in Step Mode is that kept in mind
+-- the marks once a variable is set: only in Event Mode and in Step Mode is that kept in mind
 abbrev pub marks_after_set : InstanceState → Shape → List Bool → ℕ → List Bool
+marks_after_set Event shape marks reference = marked shape marks reference
 marks_after_set Step shape marks reference = marked shape marks reference
 marks_after_set _ shape marks reference = marks
 
@@ -54,11 +56,23 @@ abbrev pub end_of : Reply → ℕ → ℕ
 end_of (R.Done is_warning (A.DoStep event_needed terminate early end)) point = end
 end_of _ point = point
 
--- where a good reply leads: Save fills the slot with the point and the marks, Restore brings them back and keeps the slot, Free empties it; the calls of event mode and of Clocks, which no phase permits yet, leave it
+-- the reply to an Update asks for no other
+abbrev pub settles : Reply → Bool
+settles (R.Done is_warning (A.Update again terminate event_time)) = not again
+settles _ = false
+
+-- where Initialization Mode leads
+abbrev pub running_state : Shape → InstanceState
+running_state shape = if shape.has_event_mode then Event else Step
+
+-- where a good reply leads: an Update ends its instant and takes the marks away, as a step does; Save fills the slot with the point and the marks, Restore brings them back and keeps the slot, Free empties it; the calls of Clocks, which no phase permits yet, leave it
 abbrev pub entered : Shape → Phase → Call → Reply → Phase
 entered shape phase (C.Instantiate event_mode early_return) reply = record phase { state = Instantiated }
 entered shape phase (C.EnterInitialization start stop) reply = record phase { state = Initialization; point = start; stop = stop }
-entered shape phase C.ExitInitialization reply = record phase { state = Step }
+entered shape phase C.ExitInitialization reply = record phase { state = running_state shape; settled = false }
+entered shape phase C.EnterEvent reply = record phase { state = Event; settled = false }
+entered shape phase C.EnterStep reply = record phase { state = Step }
+entered shape phase C.Update reply = record phase { settled = settles reply; marks = unmarked shape }
 entered shape phase (C.DoStep at size) reply = record phase {
   point = end_of reply phase.point;
   first_size = Some (unwrap_or phase.first_size size);

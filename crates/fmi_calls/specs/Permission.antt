@@ -14,7 +14,7 @@ use Rattle.fmi_calls.specs.declared.call.Call.TheVariants as C
 use Rattle.fmi_calls.specs.declared.phase.Phase.{Phase}
 use Rattle.fmi_calls.specs.declared.phase.SavedPhase.{SavedPhase}
 use Rattle.fmi_calls.specs.declared.phase.InstanceState.{InstanceState}
-use Rattle.fmi_calls.specs.declared.phase.InstanceState.TheVariants.{Fresh, Instantiated, Initialization, Step, Terminated, Dead, Lost, Gone}
+use Rattle.fmi_calls.specs.declared.phase.InstanceState.TheVariants.{Fresh, Instantiated, Initialization, Event, Step, Terminated, Dead, Lost, Gone}
 
 -- ---- variables
 
@@ -31,7 +31,7 @@ IsReadable shape kind reference = IsTrue (is_value_type kind) × IsOutput shape 
 abbrev pub IsWritable : Shape → PortType → ℕ → Type 0
 IsWritable shape kind reference = IsTrue (is_value_type kind) × IsSomeAnd (variable_at shape.variables reference) (λ (v : Variable). v.kind ≡ Some kind)
 
--- ---- marks: which inputs were set since the last step
+-- ---- marks: which inputs were set, in this instant or since the last step
 
 -- the variable is marked
 abbrev pub is_marked : Shape → List Bool → ℕ → Bool
@@ -47,16 +47,18 @@ none_marked marks = not (list_any (λ flag. flag) marks)
 abbrev pub has_causality : (Causality → Bool) → Shape → ℕ → Bool
 has_causality sort shape reference = is_at (λ (v : Variable). sort v.causality) shape.variables reference
 
--- in Initialization Mode unclocked outputs may be read; in Step Mode, where there is no event mode, every output until an input is set
+-- in Initialization Mode and in Event Mode outputs without Clocks may be read; in Step Mode, where there is no event mode, every output until an input is set
 abbrev pub can_be_read : InstanceState → Shape → List Bool → ℕ → Bool
 can_be_read Initialization shape marks reference = is_at is_unclocked shape.variables reference
+can_be_read Event shape marks reference = is_at is_unclocked shape.variables reference
 can_be_read Step shape marks reference = not shape.has_event_mode && none_marked marks
 can_be_read _ shape marks reference = false
 
--- parameters may be set before Initialization Mode, unclocked inputs in it; in Step Mode, where there is no event mode, each input once before the next step
+-- parameters may be set before Initialization Mode, inputs without Clocks in it; in Event Mode each such input once in an instant; in Step Mode, where there is no event mode, each input once before the next step
 abbrev pub can_be_set : InstanceState → Shape → List Bool → ℕ → Bool
 can_be_set Instantiated shape marks reference = has_causality is_parameter shape reference
 can_be_set Initialization shape marks reference = has_causality is_input shape reference && is_at is_unclocked shape.variables reference
+can_be_set Event shape marks reference = has_causality is_input shape reference && is_at is_unclocked shape.variables reference && not (is_marked shape marks reference)
 can_be_set Step shape marks reference = has_causality is_input shape reference && not shape.has_event_mode && not (is_marked shape marks reference)
 can_be_set _ shape marks reference = false
 
@@ -64,12 +66,19 @@ can_be_set _ shape marks reference = false
 abbrev pub can_be_freed : InstanceState → Bool → Bool
 can_be_freed Instantiated has_saved = not has_saved
 can_be_freed Initialization has_saved = not has_saved
+can_be_freed Event has_saved = not has_saved
 can_be_freed Step has_saved = not has_saved
 can_be_freed Terminated has_saved = not has_saved
 can_be_freed Dead has_saved = true
 can_be_freed Fresh has_saved = false
 can_be_freed Lost has_saved = false
 can_be_freed Gone has_saved = false
+
+-- behind Initialization Mode, until it is terminated
+abbrev pub is_running : InstanceState → Bool
+is_running Event = true
+is_running Step = true
+is_running _ = false
 
 -- without variable steps each step has the size of the first
 abbrev pub IsSizeFor : Shape → Phase → ℕ → Type 0
@@ -83,14 +92,17 @@ is_of_point slot point = not slot.is_full || slot.point == point
 abbrev pub KeepsState : Shape → Phase → Bool → Type 0
 KeepsState shape phase is_full = (phase.state ≡ Step) × (shape.can_save_state ≡ true) × (phase.slot.is_full ≡ is_full)
 
--- the call is permitted: ExitInitialization only without event mode, which isn't built yet; so the calls of event mode and of Clocks are not
+-- the call is permitted; those of Clocks aren't built yet, and are not. Event Mode is left once an Update in it has asked for no other
 abbrev pub Permitted : Shape → Phase → Call → Type 0
 Permitted shape phase (C.Instantiate event_mode early_return) =
     (phase.state ≡ Fresh) × (event_mode ≡ shape.has_event_mode) × (early_return ≡ shape.might_return_early)
 Permitted shape phase (C.EnterInitialization start stop) = (phase.state ≡ Instantiated) × (start ≤ stop)
-Permitted shape phase C.ExitInitialization = (phase.state ≡ Initialization) × (shape.has_event_mode ≡ false)
+Permitted shape phase C.ExitInitialization = phase.state ≡ Initialization
+Permitted shape phase C.EnterEvent = (phase.state ≡ Step) × (shape.has_event_mode ≡ true) × (phase.slot.is_full ≡ false)
+Permitted shape phase C.EnterStep = (phase.state ≡ Event) × (phase.settled ≡ true)
 Permitted shape phase (C.DoStep at size) =
     (phase.state ≡ Step) × (at ≡ phase.point) × (0 < size) × (at + size ≤ phase.stop) × IsSizeFor shape phase size × IsTrue (is_of_point phase.slot phase.point)
+Permitted shape phase C.Update = phase.state ≡ Event
 Permitted shape phase (C.Get kind reference) =
     IsTrue (can_be_read phase.state shape phase.marks reference) × IsReadable shape kind reference
 Permitted shape phase (C.Set kind reference value) =
@@ -98,11 +110,8 @@ Permitted shape phase (C.Set kind reference value) =
 Permitted shape phase C.Save = KeepsState shape phase false
 Permitted shape phase C.Restore = KeepsState shape phase true
 Permitted shape phase C.Free = KeepsState shape phase true
-Permitted shape phase C.Terminate = (phase.state ≡ Step) × (phase.slot.is_full ≡ false)
+Permitted shape phase C.Terminate = (is_running phase.state ≡ true) × (phase.slot.is_full ≡ false)
 Permitted shape phase C.FreeInstance = IsTrue (can_be_freed phase.state phase.slot.is_full)
-Permitted shape phase C.EnterEvent = ⊥
-Permitted shape phase C.EnterStep = ⊥
-Permitted shape phase C.Update = ⊥
 Permitted shape phase (C.GetClock reference) = ⊥
 Permitted shape phase (C.SetClock reference) = ⊥
 Permitted shape phase (C.GetInterval reference) = ⊥

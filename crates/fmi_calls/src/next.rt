@@ -1,6 +1,6 @@
 ghost use Rattle.std.specs.Prelude.{◌≡◌, option_copied, length, true};
 ghost use Rattle.fmi_calls.specs.Permission.{Permitted};
-ghost use Rattle.fmi_calls.specs.Next.{HasMarks, next_of, entered, end_of, state_after_bad, restores_after, marked, marks_after_set};
+ghost use Rattle.fmi_calls.specs.Next.{HasMarks, next_of, entered, end_of, state_after_bad, restores_after, marked, marks_after_set, running_state, settles};
 
 use crate::{BadStatus, Call, Content, Grade, InstanceState, Marks, Phase, Reply, grade};
 use value_types::Shape;
@@ -50,6 +50,30 @@ fn end_of(reply: &Reply, point: u64) -> u64
     }
 }
 
+// Where Initialization Mode leads.
+fn running_state(shape: &Shape) -> InstanceState
+    ensures { result ≡ running_state shape.now }
+{
+    if shape.has_event_mode {
+        InstanceState::Event
+    } else {
+        InstanceState::Step
+    }
+}
+
+// Whether the reply to an Update asks for no other.
+fn settles(reply: &Reply) -> bool
+    ensures { result ≡ settles reply.now }
+{
+    match reply {
+        Reply::Done {
+            content: Content::Update { again, .. },
+            ..
+        } => !*again,
+        _ => false,
+    }
+}
+
 // Where a good reply leads.
 fn enter(shape: &Shape, phase: &mut Phase, call: &Call, reply: &Reply)
     requires { HasMarks shape.now phase.old }
@@ -63,7 +87,19 @@ fn enter(shape: &Shape, phase: &mut Phase, call: &Call, reply: &Reply)
             phase.point = start;
             phase.stop = stop;
         }
-        Call::ExitInitialization => phase.state = InstanceState::Step,
+        Call::ExitInitialization => {
+            phase.state = running_state(shape);
+            phase.settled = false;
+        }
+        Call::EnterEvent => {
+            phase.state = InstanceState::Event;
+            phase.settled = false;
+        }
+        Call::EnterStep => phase.state = InstanceState::Step,
+        Call::Update => {
+            phase.settled = settles(reply);
+            phase.marks.clear();
+        }
         Call::DoStep { size, .. } => {
             phase.point = end_of(reply, phase.point);
             phase.first_size = Some(phase.first_size.unwrap_or(size));
@@ -77,10 +113,7 @@ fn enter(shape: &Shape, phase: &mut Phase, call: &Call, reply: &Reply)
         Call::Free => phase.slot.is_full = false,
         Call::Terminate => phase.state = InstanceState::Terminated,
         Call::FreeInstance => phase.state = InstanceState::Gone,
-        Call::EnterEvent
-        | Call::EnterStep
-        | Call::Update
-        | Call::Get { .. }
+        Call::Get { .. }
         | Call::GetClock { .. }
         | Call::SetClock { .. }
         | Call::GetInterval { .. }
@@ -94,7 +127,7 @@ fn mark_after_set(state: InstanceState, shape: &Shape, marks: &mut Marks, refere
     ensures room { length marks.new ≡ length shape.now.variables }
 {
     match state {
-        InstanceState::Step => mark(shape, marks, reference),
+        InstanceState::Event | InstanceState::Step => mark(shape, marks, reference),
         _ => {}
     }
 }

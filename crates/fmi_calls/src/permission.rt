@@ -75,7 +75,7 @@ fn can_be_read(state: InstanceState, shape: &Shape, marks: &Marks, reference: u3
     ensures { result ≡ can_be_read state shape.now marks.now reference }
 {
     match state {
-        InstanceState::Initialization => is_unclocked(shape, reference),
+        InstanceState::Initialization | InstanceState::Event => is_unclocked(shape, reference),
         InstanceState::Step => !shape.has_event_mode && !marks.any(),
         _ => false,
     }
@@ -88,6 +88,11 @@ fn can_be_set(state: InstanceState, shape: &Shape, marks: &Marks, reference: u32
         InstanceState::Instantiated => is_parameter(shape, reference),
         InstanceState::Initialization => is_input(shape, reference)
             && is_unclocked(shape, reference),
+        InstanceState::Event => {
+            is_input(shape, reference)
+                && is_unclocked(shape, reference)
+                && !is_marked(shape, marks, reference)
+        }
         InstanceState::Step => {
             is_input(shape, reference)
                 && !shape.has_event_mode
@@ -119,9 +124,12 @@ pub fn permitted(shape: &Shape, phase: &Phase, call: &Call) -> bool
         Call::EnterInitialization { start, stop } => {
             phase.state == InstanceState::Instantiated && start <= stop
         }
-        Call::ExitInitialization => {
-            phase.state == InstanceState::Initialization && !shape.has_event_mode
+        Call::ExitInitialization => phase.state == InstanceState::Initialization,
+        Call::EnterEvent => {
+            phase.state == InstanceState::Step && shape.has_event_mode && !phase.slot.is_full
         }
+        Call::EnterStep => phase.state == InstanceState::Event && phase.settled,
+        Call::Update => phase.state == InstanceState::Event,
         Call::DoStep { at, size } => {
             phase.state == InstanceState::Step
                 && at == phase.point
@@ -150,12 +158,9 @@ pub fn permitted(shape: &Shape, phase: &Phase, call: &Call) -> bool
         Call::Restore | Call::Free => {
             phase.state == InstanceState::Step && shape.can_save_state && phase.slot.is_full
         }
-        Call::Terminate => phase.state == InstanceState::Step && !phase.slot.is_full,
+        Call::Terminate => phase.state.is_running() && !phase.slot.is_full,
         Call::FreeInstance => phase.state.can_be_freed(phase.slot.is_full),
-        Call::EnterEvent
-        | Call::EnterStep
-        | Call::Update
-        | Call::GetClock { .. }
+        Call::GetClock { .. }
         | Call::SetClock { .. }
         | Call::GetInterval { .. }
         | Call::GetShift { .. } => false,

@@ -1,5 +1,5 @@
 ghost use Rattle.std.specs.Prelude.{◌≡◌, IfOk};
-ghost use Rattle.fmi_calls.specs.Permission.{can_be_freed};
+ghost use Rattle.fmi_calls.specs.Permission.{can_be_freed, is_running};
 ghost use Rattle.fmi_calls.specs.Next.{fresh, HasMarks};
 
 use crate::Marks;
@@ -12,6 +12,7 @@ pub enum InstanceState {
     Fresh,
     Instantiated,
     Initialization,
+    Event,
     Step,
     Terminated,
     Dead,
@@ -37,7 +38,9 @@ pub struct Phase {
     pub stop: u64,
     /// the size of the first step
     pub first_size: Option<u64>,
-    /// which variables were set since the last step
+    /// in Event Mode, whether an Update stands behind its beginning and the last one asked for no other
+    pub settled: bool,
+    /// which variables were set, in Event Mode in this instant, in Step Mode since the last step
     pub marks: Marks,
     /// where Save keeps a state
     pub slot: SavedPhase,
@@ -48,6 +51,16 @@ pub struct Phase {
 }
 
 impl InstanceState {
+    /// Whether the instance is behind Initialization Mode and not terminated.
+    pub(crate) fn is_running(self) -> bool
+        ensures { result ≡ is_running self }
+    {
+        match self {
+            InstanceState::Event | InstanceState::Step => true,
+            _ => false,
+        }
+    }
+
     /// Whether the instance may be freed, with a saved state or without one.
     pub fn can_be_freed(self, has_saved: bool) -> bool
         ensures { result ≡ can_be_freed self has_saved }
@@ -55,6 +68,7 @@ impl InstanceState {
         match self {
             InstanceState::Instantiated
             | InstanceState::Initialization
+            | InstanceState::Event
             | InstanceState::Step
             | InstanceState::Terminated => { !has_saved }
             InstanceState::Dead => true,
@@ -75,6 +89,7 @@ impl Phase {
             point: 0,
             stop: 0,
             first_size: None,
+            settled: false,
             marks: Marks::none(alloc, count)?,
             slot: SavedPhase {
                 is_full: false,

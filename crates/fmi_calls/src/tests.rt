@@ -62,7 +62,7 @@ const SHORTER: Call = Call::DoStep { at: 40, size: 20 };
 const LONG: Call = Call::DoStep { at: 10, size: 91 };
 
 // Others that no phase permits: another flag, a stop before the start, no size, an input that is read, another type, a
-// value out of range, an output that is set, and the calls of event mode and of Clocks.
+// value out of range, an output that is set, the calls of event mode where there is none, and those of Clocks.
 const NEVER: [Call; 14] = [
     Call::Instantiate {
         event_mode: true,
@@ -387,6 +387,163 @@ const PATHS: [Row; 28] = [
     ),
 ];
 
+const INSTANTIATE_EVENTS: Call = Call::Instantiate {
+    event_mode: true,
+    early_return: true,
+};
+
+const ENTER_EVENT: Call = Call::EnterEvent;
+
+const ENTER_STEP: Call = Call::EnterStep;
+
+const UPDATE: Call = Call::Update;
+
+macro_rules! updated {
+    ($again:expr) => {
+        (
+            UPDATE,
+            done!(Content::Update {
+                again: $again,
+                terminate: false,
+                event_time: None,
+            }),
+        )
+    };
+}
+
+const STARTED_EVENTS: (Call, Option<Reply>) = (INSTANTIATE_EVENTS, done!(Content::Instantiate));
+
+const AGAIN: (Call, Option<Reply>) = updated!(true);
+
+const SETTLED: (Call, Option<Reply>) = updated!(false);
+
+const IN_STEP: (Call, Option<Reply>) = (ENTER_STEP, done!(Content::EnterStep));
+
+const IN_EVENT: (Call, Option<Reply>) = (ENTER_EVENT, done!(Content::EnterEvent));
+
+// The same of an FMU with event mode.
+const EVENT_PROBES: [Call; 16] = [
+    INSTANTIATE_EVENTS,
+    ENTER,
+    EXIT,
+    ENTER_EVENT,
+    ENTER_STEP,
+    UPDATE,
+    STEP,
+    SECOND,
+    GET,
+    SET,
+    SET_PARAMETER,
+    SAVE,
+    RESTORE,
+    EMPTY,
+    TERMINATE,
+    FREE,
+];
+
+const EVENT_PATHS: [Row; 13] = [
+    (
+        &[STARTED_EVENTS, ENTERED],
+        InstanceState::Initialization,
+        10,
+        &[EXIT, GET, SET, FREE],
+    ),
+    // Event Mode isn't left before an Update.
+    (
+        &[STARTED_EVENTS, ENTERED, EXITED],
+        InstanceState::Event,
+        10,
+        &[UPDATE, GET, SET, TERMINATE, FREE],
+    ),
+    // An input is set once in an instant, which an Update ends.
+    (
+        &[STARTED_EVENTS, ENTERED, EXITED, GIVEN],
+        InstanceState::Event,
+        10,
+        &[UPDATE, GET, TERMINATE, FREE],
+    ),
+    (
+        &[STARTED_EVENTS, ENTERED, EXITED, GIVEN, AGAIN],
+        InstanceState::Event,
+        10,
+        &[UPDATE, GET, SET, TERMINATE, FREE],
+    ),
+    (
+        &[STARTED_EVENTS, ENTERED, EXITED, AGAIN, SETTLED],
+        InstanceState::Event,
+        10,
+        &[ENTER_STEP, UPDATE, GET, SET, TERMINATE, FREE],
+    ),
+    (
+        &[STARTED_EVENTS, ENTERED, EXITED, SETTLED, AGAIN],
+        InstanceState::Event,
+        10,
+        &[UPDATE, GET, SET, TERMINATE, FREE],
+    ),
+    // In Step Mode nothing is read or set.
+    (
+        &[STARTED_EVENTS, ENTERED, EXITED, SETTLED, IN_STEP],
+        InstanceState::Step,
+        10,
+        &[ENTER_EVENT, STEP, SAVE, TERMINATE, FREE],
+    ),
+    (
+        &[STARTED_EVENTS, ENTERED, EXITED, SETTLED, IN_STEP, SAVED],
+        InstanceState::Step,
+        10,
+        &[STEP, RESTORE, EMPTY],
+    ),
+    (
+        &[STARTED_EVENTS, ENTERED, EXITED, SETTLED, IN_STEP, STEPPED],
+        InstanceState::Step,
+        40,
+        &[ENTER_EVENT, SECOND, SAVE, TERMINATE, FREE],
+    ),
+    (
+        &[
+            STARTED_EVENTS,
+            ENTERED,
+            EXITED,
+            SETTLED,
+            IN_STEP,
+            STEPPED,
+            IN_EVENT,
+        ],
+        InstanceState::Event,
+        40,
+        &[UPDATE, GET, SET, TERMINATE, FREE],
+    ),
+    (
+        &[
+            STARTED_EVENTS,
+            ENTERED,
+            EXITED,
+            (UPDATE, refused!(Kind::Update, BadStatus::Discard)),
+        ],
+        InstanceState::Event,
+        10,
+        &[UPDATE, GET, SET, TERMINATE, FREE],
+    ),
+    (
+        &[
+            STARTED_EVENTS,
+            ENTERED,
+            EXITED,
+            SETTLED,
+            (ENTER_STEP, refused!(Kind::EnterStep, BadStatus::Error)),
+        ],
+        InstanceState::Dead,
+        10,
+        &[FREE],
+    ),
+    (
+        &[STARTED_EVENTS, ENTERED, EXITED, SETTLED, TERMINATED],
+        InstanceState::Terminated,
+        10,
+        &[FREE],
+    ),
+];
+
 // Whether a step from 10 to 40 may end early, its early flag and end, and what that is worth.
 const STEP_ENDS: [(bool, bool, u64, Grade); 8] = [
     (true, false, 40, Grade::Good),
@@ -638,11 +795,16 @@ fn follow(
     Ok(phase)
 }
 
-#[test]
-fn phases_are_those_of_the_state_machine(rt: HostRuntime) -> Result<(), Fail> {
-    let shape = shape_of(rt.alloc(), true)?;
-    for (path, state, point, permits) in &PATHS {
-        let phase = follow(&rt, rt.alloc(), &shape, path)?;
+fn assert_phases(
+    rt: &impl Abort,
+    alloc: Global,
+    shape: &Shape,
+    rows: &[Row],
+    probes: &[Call],
+    never: &[Call],
+) -> Result<(), AllocError> {
+    for (path, state, point, permits) in rows {
+        let phase = follow(rt, alloc, shape, path)?;
         assert_eq!(rt; phase.state, *state, "behind {path:?}");
         assert_eq!(rt; phase.point, *point, "behind {path:?}");
         assert_eq!(rt; phase.exchanges(), path.len() as u64);
@@ -650,17 +812,36 @@ fn phases_are_those_of_the_state_machine(rt: HostRuntime) -> Result<(), Fail> {
         assert_eq!(rt; phase.restores(), restores as u64);
         let can_be_freed = state.can_be_freed(phase.slot.is_full);
         assert_eq!(rt; can_be_freed, permits.contains(&FREE));
-        for call in &PROBES {
+        for call in probes {
             assert_eq!(rt;
-                permitted(&shape, &phase, call),
+                permitted(shape, &phase, call),
                 permits.contains(call),
                 "{call:?} in {state:?} at {point}"
             );
         }
-        for call in &NEVER {
-            assert!(rt; !permitted(&shape, &phase, call), "{call:?}");
+        for call in never {
+            assert!(rt; !permitted(shape, &phase, call), "{call:?}");
         }
     }
+    Ok(())
+}
+
+#[test]
+fn phases_are_those_of_the_state_machine(rt: HostRuntime) -> Result<(), Fail> {
+    let shape = shape_of(rt.alloc(), true)?;
+    assert_phases(&rt, rt.alloc(), &shape, &PATHS, &PROBES, &NEVER)?;
+    let shape = Shape {
+        has_event_mode: true,
+        ..shape
+    };
+    assert_phases(
+        &rt,
+        rt.alloc(),
+        &shape,
+        &EVENT_PATHS,
+        &EVENT_PROBES,
+        &[INSTANTIATE],
+    )?;
     Ok(())
 }
 

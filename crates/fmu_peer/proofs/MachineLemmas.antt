@@ -1,5 +1,6 @@
 -- A machine's state stays one of an instance in its phase.
 use Rattle.std.proofs.Common.{◌≡◌, ℕ, Bool, true, false, Option, Some, None, refl, sym, ap, ◌∙◌, subst}
+use Rattle.std.specs.Prelude.{if◌then◌else◌}
 use Rattle.std.proofs.lemmas.Option.{same_Some}
 use Rattle.value_types.specs.declared.shape.Shape.{Shape}
 use Rattle.fmi_calls.specs.declared.call.BadStatus.{BadStatus}
@@ -15,7 +16,7 @@ use Rattle.fmi_calls.specs.declared.phase.InstanceState.TheVariants as P
 use Rattle.fmi_calls.specs.declared.phase.Phase.{Phase}
 use Rattle.fmi_calls.specs.Kinds.{bad_status_of}
 use Rattle.fmi_calls.specs.Next.{counted, entered, fresh, graded, next_of, state_after_bad}
-use Rattle.fmi_calls.specs.Permission.{Permitted}
+use Rattle.fmi_calls.specs.Permission.{Permitted, is_running}
 use Rattle.fmi_calls.specs.Worth.{grade_of}
 use Rattle.fmu_peer.specs.Machine.{IsInPhase, IsMachineOf, Machine, MachineState, SavedMachine, after, is_alive, is_discard, is_initialization, kept, put_back}
 
@@ -26,6 +27,33 @@ bad_same : (state : InstanceState) (status : BadStatus) → is_alive (state_afte
 bad_same state Discard alive = refl
 bad_same state Error alive = absurd (cc)
 bad_same state Fatal alive = absurd (cc)
+
+-- behind Initialization Mode the instance isn't in it
+not_initial : (state : InstanceState) → is_running state ≡ true → is_initialization state ≡ false
+not_initial P.Fresh at = refl
+not_initial P.Instantiated at = refl
+not_initial P.Initialization at = absurd (cc)
+not_initial P.Event at = refl
+not_initial P.Step at = refl
+not_initial P.Terminated at = refl
+not_initial P.Dead at = refl
+not_initial P.Lost at = refl
+not_initial P.Gone at = refl
+
+running_alive : (state : InstanceState) → is_running state ≡ true → is_alive state ≡ true
+running_alive P.Fresh at = refl
+running_alive P.Instantiated at = refl
+running_alive P.Initialization at = refl
+running_alive P.Event at = refl
+running_alive P.Step at = refl
+running_alive P.Terminated at = refl
+running_alive P.Dead at = absurd (cc)
+running_alive P.Lost at = absurd (cc)
+running_alive P.Gone at = absurd (cc)
+
+running_not_initial : (has_event_mode : Bool) → is_initialization (if has_event_mode then P.Event else P.Step) ≡ false
+running_not_initial true = refl
+running_not_initial false = refl
 
 module _ (shape : Shape) (p : Phase) (reply : Reply) where
   -- behind a call that leaves the state where its answer is good
@@ -47,9 +75,9 @@ module _ (shape : Shape) (p : Phase) (reply : Reply) where
       never Fatal e = cc
   instantiated event_mode early_return G.Misreply alive = absurd (cc)
 
-  terminated : (g : Grade) → p.state ≡ P.Step → is_alive (graded shape p C.Terminate reply g).state ≡ true → is_initialization (graded shape p C.Terminate reply g).state ≡ false
+  terminated : (g : Grade) → is_running p.state ≡ true → is_alive (graded shape p C.Terminate reply g).state ≡ true → is_initialization (graded shape p C.Terminate reply g).state ≡ false
   terminated G.Good at alive = refl
-  terminated G.Refused at alive = ap is_initialization (bad_same p.state (bad_status_of reply) alive ∙ at)
+  terminated G.Refused at alive = ap is_initialization (bad_same p.state (bad_status_of reply) alive) ∙ not_initial p.state at
   terminated G.Misreply at alive = absurd (cc)
 
 -- a change of mode that isn't discarded is made, or the instance isn't alive
@@ -66,10 +94,18 @@ entered_mode shape p reply start stop G.Refused other alive = absurd (undiscarde
 entered_mode shape p reply start stop G.Misreply other alive = absurd (cc)
 
 left_mode : (shape : Shape) (p : Phase) (reply : Reply) (g : Grade) → is_discard reply ≡ false → is_alive (graded shape p C.ExitInitialization reply g).state ≡ true
-    → (graded shape p C.ExitInitialization reply g).state ≡ P.Step
-left_mode shape p reply G.Good other alive = refl
+    → is_initialization (graded shape p C.ExitInitialization reply g).state ≡ false
+left_mode shape p reply G.Good other alive = running_not_initial shape.has_event_mode
 left_mode shape p reply G.Refused other alive = absurd (undiscarded p.state reply other alive)
 left_mode shape p reply G.Misreply other alive = absurd (cc)
+
+-- a change between Event Mode and Step Mode leads to neither of the others
+switched : (shape : Shape) (p : Phase) (reply : Reply) (call : Call) (g : Grade) → is_initialization (entered shape p call reply).state ≡ false
+    → ((status : BadStatus) → is_alive (state_after_bad p.state call status) ≡ true → state_after_bad p.state call status ≡ p.state) → is_initialization p.state ≡ false
+    → is_alive (graded shape p call reply g).state ≡ true → is_initialization (graded shape p call reply g).state ≡ false
+switched shape p reply call G.Good good bad old alive = good
+switched shape p reply call G.Refused good bad old alive = ap is_initialization (bad (bad_status_of reply) alive) ∙ old
+switched shape p reply call G.Misreply good bad old alive = ap is_initialization (bad Error alive) ∙ old
 
 -- ---- the machine's state
 
@@ -162,21 +198,28 @@ module _ (shape : Shape) (m : Machine) (is : IsMachineOf shape m) (phase : Phase
       (is.enters s start stop) (saved_at m phase s P.Instantiated old may.0 refl)
   in_phase_after C.ExitInitialization may =
       in_state m (new C.ExitInitialization) (after m s C.ExitInitialization) false
-      (λ alive. ap is_initialization (left_mode shape (counted phase C.ExitInitialization) (m.look s C.ExitInitialization) (grade_of shape C.ExitInitialization (m.look s C.ExitInitialization)) (is.undiscarded s C.ExitInitialization refl) alive))
-      (is.exits s) (saved_at m phase s P.Initialization old may.0 refl)
+      (λ alive. left_mode shape (counted phase C.ExitInitialization) (m.look s C.ExitInitialization) (grade_of shape C.ExitInitialization (m.look s C.ExitInitialization)) (is.undiscarded s C.ExitInitialization refl) alive)
+      (is.exits s) (saved_at m phase s P.Initialization old may refl)
   in_phase_after C.Terminate may =
       in_state m (new C.Terminate) (after m s C.Terminate) false
       (terminated shape (counted phase C.Terminate) (m.look s C.Terminate) (grade_of shape C.Terminate (m.look s C.Terminate)) may.0)
-      (is.keeps s C.Terminate refl ∙ mode_at m phase s P.Step old may.0 refl) (saved_at m phase s P.Step old may.0 refl)
+      (is.keeps s C.Terminate refl ∙ old.mode (running_alive phase.state may.0) ∙ not_initial phase.state may.0) (old.saved (running_alive phase.state may.0))
   in_phase_after C.FreeInstance may = in_none m (new C.FreeInstance) (after m s C.FreeInstance) (gone (grade_of shape C.FreeInstance (m.look s C.FreeInstance)))
     where
       gone : (g : Grade) → is_alive (graded shape (counted phase C.FreeInstance) C.FreeInstance (m.look s C.FreeInstance) g).state ≡ true → ⊥
       gone G.Good alive = cc
       gone G.Refused alive = cc
       gone G.Misreply alive = cc
-  in_phase_after C.EnterEvent may = absurd may
-  in_phase_after C.EnterStep may = absurd may
-  in_phase_after C.Update may = absurd may
+  in_phase_after C.EnterEvent may =
+      in_state m (new C.EnterEvent) (after m s C.EnterEvent) false
+      (switched shape (counted phase C.EnterEvent) (m.look s C.EnterEvent) C.EnterEvent (grade_of shape C.EnterEvent (m.look s C.EnterEvent)) refl (bad_same phase.state) (ap is_initialization may.0))
+      (is.keeps s C.EnterEvent refl ∙ mode_at m phase s P.Step old may.0 refl) (saved_at m phase s P.Step old may.0 refl)
+  in_phase_after C.EnterStep may =
+      in_state m (new C.EnterStep) (after m s C.EnterStep) false
+      (switched shape (counted phase C.EnterStep) (m.look s C.EnterStep) C.EnterStep (grade_of shape C.EnterStep (m.look s C.EnterStep)) refl (bad_same phase.state) (ap is_initialization may.0))
+      (is.keeps s C.EnterStep refl ∙ mode_at m phase s P.Event old may.0 refl) (saved_at m phase s P.Event old may.0 refl)
+  in_phase_after C.Update may =
+      in_same m phase (new C.Update) s (after m s C.Update) old (leaves C.Update refl (bad_same phase.state)) (is.keeps s C.Update refl) old.saved
   in_phase_after (C.GetClock reference) may = absurd may
   in_phase_after (C.SetClock reference) may = absurd may
   in_phase_after (C.GetInterval reference) may = absurd may

@@ -17,7 +17,7 @@ use Rattle.fmi_calls.specs.declared.phase.Phase.{Phase}
 use Rattle.fmi_calls.specs.declared.phase.InstanceState.{InstanceState}
 use Rattle.fmi_calls.specs.declared.phase.InstanceState.TheVariants as P
 use Rattle.fmi_calls.specs.KindFacts.{same_kind}
-use Rattle.fmi_calls.specs.Permission.{Permitted, can_be_freed}
+use Rattle.fmi_calls.specs.Permission.{Permitted, can_be_freed, is_running}
 use Rattle.fmi_calls.specs.Worth.{grade_of, is_valid}
 use Rattle.fmi_calls.specs.Next.{fresh, graded, counted, state_after_bad}
 use Rattle.fmi_calls.specs.Kinds.{bad_status_of}
@@ -44,30 +44,43 @@ freeable P.Lost full may (inr over) = may
 freeable P.Fresh full may (inr over) = absurd (cc)
 freeable P.Instantiated full may (inr over) = absurd (cc)
 freeable P.Initialization full may (inr over) = absurd (cc)
+freeable P.Event full may (inr over) = absurd (cc)
 freeable P.Step full may (inr over) = absurd (cc)
 freeable P.Terminated full may (inr over) = absurd (cc)
 freeable P.Gone full may (inr over) = absurd (cc)
 
-empty_if_free : (full : Bool) → can_be_freed P.Step full ≡ true → full ≡ false
-empty_if_free true may = absurd (cc)
-empty_if_free false may = refl
+-- behind Initialization Mode an instance can be freed where it keeps no state
+freed_running : (s : InstanceState) (full : Bool) → is_running s ≡ true → can_be_freed s full ≡ not full
+freed_running P.Event full at = refl
+freed_running P.Step full at = refl
+freed_running P.Fresh full at = absurd (cc)
+freed_running P.Instantiated full at = absurd (cc)
+freed_running P.Initialization full at = absurd (cc)
+freed_running P.Terminated full at = absurd (cc)
+freed_running P.Dead full at = absurd (cc)
+freed_running P.Lost full at = absurd (cc)
+freed_running P.Gone full at = absurd (cc)
 
--- freed in Step Mode, the instance keeps no state
-empty_at_step : (s : InstanceState) (full : Bool) → s ≡ P.Step → can_be_freed s full ≡ true → full ≡ false
-empty_at_step s full at may = empty_if_free full (subst (λ (x : InstanceState). can_be_freed x full ≡ true) at may)
+empty_if_not : (full : Bool) → not full ≡ true → full ≡ false
+empty_if_not true may = absurd (cc)
+empty_if_not false may = refl
+
+-- freed there, the instance keeps no state
+empty_at_step : (s : InstanceState) (full : Bool) → is_running s ≡ true → can_be_freed s full ≡ true → full ≡ false
+empty_at_step s full at may = empty_if_not full (sym (freed_running s full at) ∙ may)
 
 -- ---- behind Terminate
 
-step_is_freeable : (s : InstanceState) (full : Bool) → s ≡ P.Step → full ≡ false → can_be_freed s full ≡ true
-step_is_freeable s full at empty = subst (λ (x : InstanceState). can_be_freed x full ≡ true) (sym at) (subst (λ (b : Bool). not b ≡ true) (sym empty) refl)
+step_is_freeable : (s : InstanceState) (full : Bool) → is_running s ≡ true → full ≡ false → can_be_freed s full ≡ true
+step_is_freeable s full at empty = freed_running s full at ∙ ap not empty
 
-stuck_refused : (status : BadStatus) (p : Phase) → p.state ≡ P.Step → p.slot.is_full ≡ false → can_be_freed (state_after_bad p.state C.Terminate status) p.slot.is_full ≡ false →
+stuck_refused : (status : BadStatus) (p : Phase) → is_running p.state ≡ true → p.slot.is_full ≡ false → can_be_freed (state_after_bad p.state C.Terminate status) p.slot.is_full ≡ false →
     state_after_bad p.state C.Terminate status ≡ P.Lost
 stuck_refused Discard p at empty stuck = let free : can_be_freed p.state p.slot.is_full ≡ true = step_is_freeable p.state p.slot.is_full at empty in absurd (cc)
 stuck_refused Error p at empty stuck = absurd (cc)
 stuck_refused Fatal p at empty stuck = refl
 
-stuck_after : (shape : Shape) (p : Phase) (reply : Reply) (g : Grade) → p.state ≡ P.Step → p.slot.is_full ≡ false →
+stuck_after : (shape : Shape) (p : Phase) (reply : Reply) (g : Grade) → is_running p.state ≡ true → p.slot.is_full ≡ false →
     can_be_freed (graded shape p C.Terminate reply g).state (graded shape p C.Terminate reply g).slot.is_full ≡ false →
     (graded shape p C.Terminate reply g).state ≡ P.Lost
 stuck_after shape p reply G.Good at empty stuck = let free : not p.slot.is_full ≡ true = subst (λ (b : Bool). not b ≡ true) (sym empty) refl in absurd (cc)
@@ -75,7 +88,7 @@ stuck_after shape p reply G.Refused at empty stuck = stuck_refused (bad_status_o
 stuck_after shape p reply G.Misreply at empty stuck = absurd (cc)
 
 -- behind Terminate an instance that can't be freed is lost
-pub stuck_is_lost : (u mid : View) (result : Result Reply PeerFault) → Asked u C.Terminate result mid → u.phase.state ≡ P.Step → u.phase.slot.is_full ≡ false →
+pub stuck_is_lost : (u mid : View) (result : Result Reply PeerFault) → Asked u C.Terminate result mid → is_running u.phase.state ≡ true → u.phase.slot.is_full ≡ false →
     can_be_freed mid.phase.state mid.phase.slot.is_full ≡ false → mid.phase.state ≡ P.Lost
 stuck_is_lost u mid (Ok reply) a at empty stuck =
     ap (λ (p : Phase). p.state) a.phase
@@ -85,7 +98,7 @@ stuck_is_lost u mid (Err fault) a at empty stuck = ap (λ (p : Phase). p.state) 
 
 -- ---- talks that are shut
 
-freed_last : (shape : Shape) (p : Phase) (talk : List Exchange) (e : Exchange) → e.call ≡ C.FreeInstance → ((phase_from shape p talk).state ≡ P.Step → ⊥) → IsShut shape p (talk ++ e ∷ [])
+freed_last : (shape : Shape) (p : Phase) (talk : List Exchange) (e : Exchange) → e.call ≡ C.FreeInstance → (is_running (phase_from shape p talk).state ≡ true → ⊥) → IsShut shape p (talk ++ e ∷ [])
 freed_last shape p talk e call never = inr (inl (record { front = talk; last = e; is = refl; frees = call; terminated = λ at. absurd (never at) }))
 
 freed_terminated : (shape : Shape) (p : Phase) (talk : List Exchange) (t e : Exchange) → t.call ≡ C.Terminate → e.call ≡ C.FreeInstance → IsShut shape p (talk ++ t ∷ e ∷ [])
@@ -116,7 +129,7 @@ behind_terminate u mid w r rest p talk leads may asked (inr (never, (none, same)
     (inl (ap (λ (q : Phase). q.state) (sym (leads_on u mid C.Terminate r p talk leads asked))
     ∙ stuck_is_lost u mid r asked may.0 may.1 (never_is (can_be_freed mid.phase.state mid.phase.slot.is_full) never)))
 
-free_last : (u w : View) (sent : List Exchange) (p : Phase) (talk : List Exchange) → ((phase_from u.fixed.shape p talk).state ≡ P.Step → ⊥) →
+free_last : (u w : View) (sent : List Exchange) (p : Phase) (talk : List Exchange) → (is_running (phase_from u.fixed.shape p talk).state ≡ true → ⊥) →
     ((can_be_freed u.phase.state u.phase.slot.is_full ≡ true → ⊥) → IsShut u.fixed.shape p talk) → SendsInTurn (C.FreeInstance ∷ []) u sent w → IsShut u.fixed.shape p (talk ++ sent)
 free_last u w sent p talk no_step stuck (inl (may, (r, more, last, is, asked, (none, same)))) =
     subst (λ (es : List Exchange). IsShut u.fixed.shape p (talk ++ es)) (sym (is ∙ ap (λ (es : List Exchange). record { call = C.FreeInstance; result = r } ∷ es) none))
@@ -129,9 +142,20 @@ lost_if_stuck : (u : View) → (u.phase.state ≡ P.Lost) ⊎ (can_be_freed u.ph
 lost_if_stuck u (inl lost) free never = lost
 lost_if_stuck u (inr may) free never = absurd (never (freeable u.phase.state u.phase.slot.is_full may free))
 
-not_at_step : (u : View) → (u.phase.slot.is_full ≡ false) ⊎ (is_over u.phase.state ≡ true) → (Permitted u.fixed.shape u.phase C.Terminate → ⊥) → u.phase.state ≡ P.Step → ⊥
+never_over : (s : InstanceState) → is_running s ≡ true → is_over s ≡ true → ⊥
+never_over P.Fresh at over = cc
+never_over P.Instantiated at over = cc
+never_over P.Initialization at over = cc
+never_over P.Event at over = cc
+never_over P.Step at over = cc
+never_over P.Terminated at over = cc
+never_over P.Dead at over = cc
+never_over P.Lost at over = cc
+never_over P.Gone at over = cc
+
+not_at_step : (u : View) → (u.phase.slot.is_full ≡ false) ⊎ (is_over u.phase.state ≡ true) → (Permitted u.fixed.shape u.phase C.Terminate → ⊥) → is_running u.phase.state ≡ true → ⊥
 not_at_step u (inl empty) never at = never (at, empty)
-not_at_step u (inr over) never at = let wrong : is_over P.Step ≡ true = subst (λ (s : InstanceState). is_over s ≡ true) at over in absurd (cc)
+not_at_step u (inr over) never at = absurd (never_over u.phase.state at over)
 
 end_shut : (u w : View) (sent : List Exchange) (p : Phase) (talk : List Exchange) → u.phase ≡ phase_from u.fixed.shape p talk →
     (u.phase.state ≡ P.Lost) ⊎ (can_be_freed u.phase.state false ≡ true) → (u.phase.slot.is_full ≡ false) ⊎ (is_over u.phase.state ≡ true) →
@@ -140,7 +164,7 @@ end_shut u w sent p talk leads alive free (inl (may, (r, rest, mid, is, asked, m
     subst (λ (es : List Exchange). IsShut u.fixed.shape p (talk ++ es)) (sym is) (behind_terminate u mid w r rest p talk leads may asked more)
 end_shut u w sent p talk leads alive free (inr (never, more)) =
     let state : u.phase.state ≡ (phase_from u.fixed.shape p talk).state = ap (λ (q : Phase). q.state) leads in
-    free_last u w sent p talk (λ at. not_at_step u free never (state ∙ at))
+    free_last u w sent p talk (λ at. not_at_step u free never (ap is_running state ∙ at))
     (λ stuck. inl (sym state ∙ lost_if_stuck u alive free stuck)) more
 
 -- a talk that ends with a Free that was answered Discard
@@ -150,7 +174,7 @@ keeps_shut u w sent p talk leads full keeping (inl (may, more)) = absurd (let wr
 keeps_shut u w sent p talk leads full keeping (inr (never, inl (may, (r, rest, last, is, asked, (none, same))))) =
     subst (λ (es : List Exchange). IsShut u.fixed.shape p (talk ++ es)) (sym (is ∙ ap (λ (es : List Exchange). record { call = C.FreeInstance; result = r } ∷ es) none))
     (freed_last u.fixed.shape p talk (record { call = C.FreeInstance; result = r }) refl (λ at.
-    let empty : u.phase.slot.is_full ≡ false = empty_at_step u.phase.state u.phase.slot.is_full (ap (λ (q : Phase). q.state) leads ∙ at) may in
+    let empty : u.phase.slot.is_full ≡ false = empty_at_step u.phase.state u.phase.slot.is_full (ap (λ (q : Phase). is_running q.state) leads ∙ at) may in
     let wrong : true ≡ false = sym full ∙ empty in absurd (cc)))
 keeps_shut u w sent p talk leads full keeping (inr (never, inr (stuck, (none, same)))) =
     subst (IsShut u.fixed.shape p) (sym (ap (λ (es : List Exchange). talk ++ es) none ∙ append-nil talk)) (inr (inr keeping))
@@ -239,7 +263,7 @@ module _ (i : Instance) (w : View) (sent : List Exchange) (p : Phase) (talk : Li
 -- ---- one that wasn't called
 
 fresh_ends_none : (v w : View) (sent : List Exchange) → v.phase.state ≡ P.Fresh → SendsInTurn (closing_calls false) v sent w → sent ≡ []
-fresh_ends_none v w sent is (inl (may, more)) = absurd (let wrong : P.Fresh ≡ P.Step = sym is ∙ may.0 in cc)
+fresh_ends_none v w sent is (inl (may, more)) = absurd (let wrong : is_running P.Fresh ≡ true = ap is_running (sym is) ∙ may.0 in cc)
 fresh_ends_none v w sent is (inr (never, inl (may, more))) =
     absurd (let wrong : can_be_freed P.Fresh v.phase.slot.is_full ≡ true = subst (λ (s : InstanceState). can_be_freed s v.phase.slot.is_full ≡ true) is may in cc)
 fresh_ends_none v w sent is (inr (never, inr (stuck, (none, same)))) = none

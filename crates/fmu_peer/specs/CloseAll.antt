@@ -6,7 +6,7 @@ use Rattle.fmi_calls.specs.declared.phase.InstanceState.TheVariants as P
 use Rattle.fmi_calls.specs.Permission.{Permitted, can_be_freed}
 use Rattle.fmu_peer.specs.declared.peer.Exchange.{Exchange}
 use Rattle.fmu_peer.specs.declared.slot.Held.{Held}
-use Rattle.fmu_peer.specs.declared.slot.Held.TheVariants.{Fresh, Instantiated, Initializing, Stepping, Ended, Closed}
+use Rattle.fmu_peer.specs.declared.slot.Held.TheVariants.{Fresh, Instantiated, Initializing, Eventing, Stepping, Ended, Closed}
 use Rattle.fmu_peer.specs.declared.slot.Slot.{Slot}
 use Rattle.fmu_peer.specs.Close.{SendsInTurn, closing_calls, any_fatal}
 use Rattle.fmu_peer.specs.Mode.{is_over}
@@ -26,6 +26,7 @@ abbrev pub peer_in : {L : Type 0} {g : _} → Held L g → L
 peer_in (Fresh fmu) = fmu.peer
 peer_in (Instantiated fmu) = fmu.peer
 peer_in (Initializing fmu) = fmu.peer
+peer_in (Eventing fmu) = fmu.peer
 peer_in (Stepping fmu) = fmu.peer
 peer_in (Ended ended) = ended.peer
 peer_in (Closed peer) = peer
@@ -35,6 +36,7 @@ abbrev pub is_closed : {L : Type 0} {g : _} → Held L g → Bool
 is_closed (Fresh fmu) = false
 is_closed (Instantiated fmu) = false
 is_closed (Initializing fmu) = false
+is_closed (Eventing fmu) = false
 is_closed (Stepping fmu) = false
 is_closed (Ended ended) = false
 is_closed (Closed peer) = true

@@ -1,5 +1,6 @@
 pub mod Talk
 pub mod Lean
+pub mod Updates
 pub mod Machine
 pub mod View
 pub mod Start

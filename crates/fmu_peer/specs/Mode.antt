@@ -4,12 +4,13 @@ use Rattle.value_types.specs.declared.shape.Shape.{Shape}
 use Rattle.fmi_calls.specs.declared.call.Call.{Call}
 use Rattle.fmi_calls.specs.declared.call.Call.TheVariants as C
 use Rattle.fmi_calls.specs.declared.phase.InstanceState.{InstanceState}
-use Rattle.fmi_calls.specs.declared.phase.InstanceState.TheVariants.{Fresh, Instantiated, Initialization, Step, Terminated, Dead, Lost, Gone}
+use Rattle.fmi_calls.specs.declared.phase.InstanceState.TheVariants.{Fresh, Instantiated, Initialization, Event, Step, Terminated, Dead, Lost, Gone}
 
 abbrev same_state : InstanceState → InstanceState → Bool
 same_state Fresh Fresh = true
 same_state Instantiated Instantiated = true
 same_state Initialization Initialization = true
+same_state Event Event = true
 same_state Step Step = true
 same_state Terminated Terminated = true
 same_state Dead Dead = true

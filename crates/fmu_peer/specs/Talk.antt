@@ -1,5 +1,5 @@
 -- A talk is the list of exchanges with one instance. An exchange is a call with its reply, or with the fault in the reply's place.
-use Rattle.std.specs.Prelude.{◌≡◌, ◌⊎◌, List, [], ◌∷◌, ◌++◌, All, MatchResult, Ok}
+use Rattle.std.specs.Prelude.{◌≡◌, ◌⊎◌, true, List, [], ◌∷◌, ◌++◌, All, MatchResult, Ok}
 use Rattle.std.specs.Result.{result_ok}
 use Rattle.value_types.specs.declared.shape.Shape.{Shape}
 use Rattle.fmi_calls.specs.declared.call.Call.TheVariants as C
@@ -10,7 +10,7 @@ use Rattle.fmi_calls.specs.declared.call.Grade.TheVariants as G
 use Rattle.fmi_calls.specs.declared.phase.Phase.{Phase}
 use Rattle.fmi_calls.specs.declared.phase.InstanceState.TheVariants as P
 use Rattle.fmi_calls.specs.Worth.{grade_of}
-use Rattle.fmi_calls.specs.Permission.{Permitted}
+use Rattle.fmi_calls.specs.Permission.{Permitted, is_running}
 use Rattle.fmi_calls.specs.Next.{next_of, fresh}
 use Rattle.fmu_peer.specs.declared.peer.Exchange.{Exchange}
 
@@ -42,13 +42,13 @@ IsGood shape e = MatchResult e.result (λ reply. grade_of shape e.call reply ≡
 abbrev pub AllGood : Shape → List Exchange → Type 0
 AllGood shape talk = All (IsGood shape) talk
 
--- from this phase on the talk ends with FreeInstance, which in Step Mode stands right behind a Terminate
+-- from this phase on the talk ends with FreeInstance, which in Event Mode and in Step Mode stands right behind a Terminate
 pub record EndsFreed (shape : Shape) (phase : Phase) (talk : List Exchange) : Type 0 where
   pub front : List Exchange
   pub last : Exchange
   pub is : talk ≡ front ++ last ∷ []
   pub frees : last.call ≡ C.FreeInstance
-  pub terminated : (phase_from shape phase front).state ≡ P.Step →
+  pub terminated : is_running (phase_from shape phase front).state ≡ true →
       (before : List Exchange) × (t : Exchange) × (front ≡ before ++ t ∷ []) × (t.call ≡ C.Terminate)
 
 -- the talk ends with a Free that was answered by Discard: the state that was saved is given up with the instance

@@ -7,7 +7,10 @@ ghost use Rattle.fmu_peer.specs.Answer.{Answered, Failed};
 ghost use Rattle.fmu_peer.specs.Close.{IsClosed, can_be_closed};
 
 use crate::closing::close_unless;
-use crate::{Ended, Fresh, Initializing, Instantiated, Mode, Peer, Saved, Stepping, Why};
+use crate::running::into_running;
+use crate::{
+    Ended, Eventing, Fresh, Initializing, Instantiated, Mode, Peer, Running, Saved, Stepping, Why,
+};
 use fmi_calls::{Call, Grade, Reply, grade};
 use std::marker::PhantomData;
 use value_types::PortType;
@@ -36,11 +39,6 @@ pub struct Fmu<L: Peer, M: Mode> {
     pub peer: L,
     pub mode: PhantomData<M>,
     ghost agrees: { IsTrue (agrees M.state (L.view peer).phase.state) },
-}
-
-/// An FMU after Initialization Mode: without event mode it is in Step Mode.
-pub enum Running<L: Peer> {
-    Step(Fmu<L, Stepping>),
 }
 
 impl<L: Peer> Fmu<L, Fresh> {
@@ -100,26 +98,67 @@ impl<L: Peer> Fmu<L, Instantiated> {
 }
 
 impl<L: Peer> Fmu<L, Initializing> {
-    ghost use Rattle.fmu_peer.specs.Running.{peer_of};
+    ghost use Rattle.fmu_peer.specs.Running.{peer_of, running_mode};
 
     /// Leaves Initialization Mode.
     pub fn exit_initialization(self) -> Result<Running<L>, Ended<L>>
         requires { Permitted (L.view self.peer).fixed.shape (L.view self.peer).phase Call.ExitInitialization }
         ensures ok { IfOk result (λ running. (reply : Reply) × Answered (L.view self.peer) Call.ExitInitialization reply (L.view (peer_of running))) }
+        ensures mode { IfOk result (λ running. running_mode running ≡ (L.view (peer_of running)).phase.state) }
         ensures err { IfErr result (λ ended. Failed (L.view self.peer) Call.ExitInitialization ended.why (L.view ended.peer)) }
     {
         let Fmu { mut peer, mode: _ } = self;
         match ask(&mut peer, Call::ExitInitialization) {
-            Ok(_) => Ok(Running::Step(Fmu {
+            Ok(_) => Ok(into_running(peer)),
+            Err(why) => Err(Ended { peer, why }),
+        }
+    }
+}
+
+impl<L: Peer> Fmu<L, Eventing> {
+    /// Asks for what follows the instant (FMI 3.0: fmi3UpdateDiscreteStates).
+    pub fn update(&mut self) -> Result<Reply, Why>
+        requires { Permitted (L.view self.old.peer).fixed.shape (L.view self.old.peer).phase Call.Update }
+        ensures ok { IfOk result (λ reply. Answered (L.view self.old.peer) Call.Update reply (L.view self.new.peer)) }
+        ensures err { IfErr result (λ why. Failed (L.view self.old.peer) Call.Update why (L.view self.new.peer)) }
+    {
+        ask(&mut self.peer, Call::Update)
+    }
+
+    /// Leaves Event Mode.
+    pub fn enter_step(self) -> Result<Fmu<L, Stepping>, Ended<L>>
+        requires { Permitted (L.view self.peer).fixed.shape (L.view self.peer).phase Call.EnterStep }
+        ensures ok { IfOk result (λ fmu. (reply : Reply) × Answered (L.view self.peer) Call.EnterStep reply (L.view fmu.peer)) }
+        ensures err { IfErr result (λ ended. Failed (L.view self.peer) Call.EnterStep ended.why (L.view ended.peer)) }
+    {
+        let Fmu { mut peer, mode: _ } = self;
+        match ask(&mut peer, Call::EnterStep) {
+            Ok(_) => Ok(Fmu {
                 peer,
                 mode: PhantomData,
-            })),
+            }),
             Err(why) => Err(Ended { peer, why }),
         }
     }
 }
 
 impl<L: Peer> Fmu<L, Stepping> {
+    /// Enters Event Mode.
+    pub fn enter_event(self) -> Result<Fmu<L, Eventing>, Ended<L>>
+        requires { Permitted (L.view self.peer).fixed.shape (L.view self.peer).phase Call.EnterEvent }
+        ensures ok { IfOk result (λ fmu. (reply : Reply) × Answered (L.view self.peer) Call.EnterEvent reply (L.view fmu.peer)) }
+        ensures err { IfErr result (λ ended. Failed (L.view self.peer) Call.EnterEvent ended.why (L.view ended.peer)) }
+    {
+        let Fmu { mut peer, mode: _ } = self;
+        match ask(&mut peer, Call::EnterEvent) {
+            Ok(_) => Ok(Fmu {
+                peer,
+                mode: PhantomData,
+            }),
+            Err(why) => Err(Ended { peer, why }),
+        }
+    }
+
     /// Makes a step from a point. Point and size are counts.
     pub fn do_step(&mut self, at: u64, size: u64) -> Result<Reply, Why>
         requires { Permitted (L.view self.old.peer).fixed.shape (L.view self.old.peer).phase (Call.DoStep at size) }

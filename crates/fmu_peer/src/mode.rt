@@ -15,6 +15,9 @@ pub struct Instantiated;
 /// In Initialization Mode.
 pub struct Initializing;
 
+/// In Event Mode.
+pub struct Eventing;
+
 /// In Step Mode.
 pub struct Stepping;
 
@@ -28,6 +31,10 @@ impl Mode for Instantiated {
 
 impl Mode for Initializing {
     ghost state = { InstanceState.Initialization };
+}
+
+impl Mode for Eventing {
+    ghost state = { InstanceState.Event };
 }
 
 impl Mode for Stepping {

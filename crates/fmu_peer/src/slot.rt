@@ -2,7 +2,7 @@ ghost use Rattle.std.specs.Prelude.{◌≡◌, ◌==◌, ◌&&◌, ◌<◌, is_s
 ghost use Rattle.fmu_peer.specs.CloseAll.{Closes, ClosesAll, ClosesAt, instance_in, is_source_lost, peer_in};
 
 use crate::closing::close_peer;
-use crate::{Ended, Fmu, Fresh, Initializing, Instantiated, Peer, Saved, Stepping};
+use crate::{Ended, Eventing, Fmu, Fresh, Initializing, Instantiated, Peer, Saved, Stepping};
 use core::mem::replace_with;
 use sim_base::SourceId;
 
@@ -11,6 +11,7 @@ pub enum Held<L: Peer> {
     Fresh(Fmu<L, Fresh>),
     Instantiated(Fmu<L, Instantiated>),
     Initializing(Fmu<L, Initializing>),
+    Eventing(Fmu<L, Eventing>),
     Stepping(Fmu<L, Stepping>),
     Ended(Ended<L>),
     Closed(L),
@@ -28,6 +29,21 @@ pub struct Slot<L: Peer> {
 
 impl<L: Peer> Held<L> {
     /// The peer, wherever it stands.
+    pub fn peer(&self) -> &L
+        ensures { result.now ≡ peer_in self.now }
+    {
+        match self {
+            Held::Fresh(fmu) => &fmu.peer,
+            Held::Instantiated(fmu) => &fmu.peer,
+            Held::Initializing(fmu) => &fmu.peer,
+            Held::Eventing(fmu) => &fmu.peer,
+            Held::Stepping(fmu) => &fmu.peer,
+            Held::Ended(ended) => &ended.peer,
+            Held::Closed(peer) => peer,
+        }
+    }
+
+    /// The peer by itself, wherever it stands.
     pub fn into_peer(self) -> L
         ensures { result ≡ peer_in self }
     {
@@ -35,6 +51,7 @@ impl<L: Peer> Held<L> {
             Held::Fresh(fmu) => fmu.into_peer(),
             Held::Instantiated(fmu) => fmu.into_peer(),
             Held::Initializing(fmu) => fmu.into_peer(),
+            Held::Eventing(fmu) => fmu.into_peer(),
             Held::Stepping(fmu) => fmu.into_peer(),
             Held::Ended(ended) => ended.into_peer(),
             Held::Closed(peer) => peer,
@@ -51,7 +68,7 @@ impl<L: Peer> Slot<L> {
 }
 
 /// Closes FMUs in their order, each by the calls that it still may be sent: a state that it keeps is freed, then it is
-/// terminated from Step Mode, and freed. After a refusal with Fatal, in the run or in the closing, the instances of that
+/// terminated from Event Mode or Step Mode, and freed. After a refusal with Fatal, in the run or in the closing, the instances of that
 /// source are sent nothing more (FMI 3.0, 2.2.3). No answer keeps it from going on, and it takes no memory.
 pub fn close_all<L: Peer>(slots: &mut [Slot<L>])
     ensures { ClosesAll (map (λ s. instance_in L.view s) slots.old) (map (λ s. instance_in L.view s) slots.new) }

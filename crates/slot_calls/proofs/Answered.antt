@@ -1,7 +1,7 @@
 -- Lists of calls and their answers, one behind the other.
-use Rattle.std.proofs.Common.{◌≡◌, ℕ, zero, suc, ◌+◌, ◌<◌, ◌≤◌, List, [], ◌∷◌, ◌++◌, Ok, Err, Result, refl, sym, ap, ap₂, ◌∙◌, subst, append_assoc, arith, length, get_or, map, take, drop}
-use Rattle.std.specs.Prelude.{All}
-use Rattle.std.proofs.lemmas.List.{take_more, take-append-drop}
+use Rattle.std.proofs.Common.{◌≡◌, ℕ, zero, suc, ◌+◌, ◌<◌, ◌≤◌, Bool, true, false, List, [], ◌∷◌, ◌++◌, Ok, Err, Result, refl, sym, ap, ap₂, ◌∙◌, subst, append_assoc, arith, length, get_or, map, take, drop}
+use Rattle.std.specs.Prelude.{All, if◌then◌else◌}
+use Rattle.std.proofs.lemmas.List.{append-nil, length-take-le, take_more, take-append-drop}
 use Rattle.std.proofs.lemmas.List.Elements.{All-nil, All-cons, All-append}
 use Rattle.value_types.specs.declared.shape.Shape.{Shape}
 use Rattle.fmi_calls.specs.declared.call.Call.{Call}
@@ -11,9 +11,9 @@ use Rattle.fmu_peer.specs.CloseAll.{Instance}
 use Rattle.fmu_peer.specs.Talk.{IsGood}
 use Rattle.fmu_peer.specs.View.{Fixed}
 use Rattle.slot_calls.specs.Log.{Sent, Asking, Told, part, askings}
-use Rattle.slot_calls.specs.Stage.{IsAnswered, IsFirst, IsGoodOf, Stage, StopsAt, shapes, to_each, to_each_from}
+use Rattle.slot_calls.specs.Stage.{IsAnswered, IsFirst, IsGoodOf, Stage, StopsAt, shapes, to_those, to_those_from}
 use Rattle.slot_calls.specs.declared.bad_answer.BadAnswer.{BadAnswer}
-use Rattle.slot_calls.proofs.Logs.{told_on, askings_append, talks_fixed}
+use Rattle.slot_calls.proofs.Logs.{if_on, told_on, askings_append, talks_fixed}
 
 abbrev pub shape_of : Instance → Shape
 shape_of i = i.view.fixed.shape
@@ -97,43 +97,59 @@ module _ (ss : List Shape) (k : ℕ) (shape : Shape) (at : IsShapeAt ss k shape)
     first = first_here bad [] place (All-nil (IsGoodOf ss)) why;
   }
 
--- ---- one call to each
+-- ---- one call to those whose shape passes a test
 
-pub length_each : (call : Shape → Call) (k : ℕ) (ss : List Shape) → length (to_each_from k call ss) ≡ length ss
-length_each call k [] = refl
-length_each call k (s ∷ ss) = ap suc (length_each call (k + 1) ss)
+module _ (test : Shape → Bool) (call : Shape → Call) where
+  those_append : (k : ℕ) (rs ts : List Shape) → to_those_from k test call (rs ++ ts) ≡ to_those_from k test call rs ++ to_those_from (k + length rs) test call ts
+  those_append k [] ts = ap (λ (n : ℕ). to_those_from n test call ts) (omega arith)
+  those_append k (s ∷ rs) ts =
+      ap (λ (xs : List Asking). if test s then record { component = k; call = call s } ∷ xs else xs)
+      (those_append (k + 1) rs ts ∙ ap (λ (n : ℕ). to_those_from (k + 1) test call rs ++ to_those_from n test call ts) (omega arith))
+      ∙ if_on (test s) (record { component = k; call = call s }) (to_those_from (k + 1) test call rs) (to_those_from (k + suc (length rs)) test call ts)
 
-pub each_at : (call : Shape → Call) (k : ℕ) (ss : List Shape) (i : ℕ) (d : Asking) (e : Shape) → i < length ss → get_or (to_each_from k call ss) i d ≡ record { component = k + i; call = call (get_or ss i e) }
-each_at call k [] i d e w = absurd (omega (arith, w))
-each_at call k (s ∷ ss) zero d e w = ap (λ (n : ℕ). record { component = n; call = call s }) (omega arith)
-each_at call k (s ∷ ss) (suc i) d e w = each_at call (k + 1) ss i d e (omega (arith, w)) ∙ ap (λ (n : ℕ). record { component = n; call = call (get_or ss i e) }) (omega arith)
+  those_one : (k : ℕ) (s : Shape) → test s ≡ true → to_those_from k test call (s ∷ []) ≡ record { component = k; call = call s } ∷ []
+  those_one k s h = ap (λ (b : Bool). if b then record { component = k; call = call s } ∷ [] else []) h
 
--- the calls up to a place, and those behind it
-module _ (call : Shape → Call) (ss : List Shape) (i : ℕ) (shape : Shape) (within : i < length ss) (at : IsShapeAt ss i shape) where
-  abbrev pub asking : Asking
-  asking = record { component = i; call = call shape }
+  those_none : (k : ℕ) (s : Shape) → test s ≡ false → to_those_from k test call (s ∷ []) ≡ []
+  those_none k s h = ap (λ (b : Bool). if b then record { component = k; call = call s } ∷ [] else []) h
 
-  inside : i < length (to_each call ss)
-  inside = let e : length (to_each call ss) ≡ length ss = length_each call 0 ss in omega (arith, within, e)
+  -- behind the last of them nothing is left
+  pub those_all : (ss : List Shape) (i : ℕ) → length ss ≤ i → to_those test call (take i ss) ≡ to_those test call ss
+  those_all ss i h = ap (to_those test call) (take_whole ss i h) where
+    take_whole : (xs : List Shape) (i : ℕ) → length xs ≤ i → take i xs ≡ xs
+    take_whole [] zero h = refl
+    take_whole [] (suc i) h = refl
+    take_whole (y ∷ ys) zero h = absurd (omega (arith, h))
+    take_whole (y ∷ ys) (suc i) h = ap (λ (zs : List Shape). y ∷ zs) (take_whole ys i (omega (arith, h)))
 
-  here : get_or (to_each call ss) i asking ≡ asking
-  here = each_at call 0 ss i asking shape within
-      ∙ ap (λ (n : ℕ). record { component = n; call = call (get_or ss i shape) }) (omega arith)
-      ∙ ap (λ (s : Shape). record { component = i; call = call s }) (sym (at shape))
+  -- the calls up to a place, and those behind it
+  module _ (ss : List Shape) (i : ℕ) (shape : Shape) (within : i < length ss) (at : IsShapeAt ss i shape) where
+    abbrev pub asking : Asking
+    asking = record { component = i; call = call shape }
 
-  pub each_more : take (i + 1) (to_each call ss) ≡ take i (to_each call ss) ++ asking ∷ []
-  each_more = take_more (to_each call ss) i asking inside ∙ ap (λ (a : Asking). take i (to_each call ss) ++ a ∷ []) here
+    front_is : take (i + 1) ss ≡ take i ss ++ shape ∷ []
+    front_is = take_more ss i shape within ∙ ap (λ (s : Shape). take i ss ++ s ∷ []) (sym (at shape))
 
-  pub each_split : to_each call ss ≡ (take i (to_each call ss) ++ asking ∷ []) ++ drop (i + 1) (to_each call ss)
-  each_split = sym (take-append-drop (i + 1) (to_each call ss)) ∙ ap (λ (ys : List Asking). ys ++ drop (i + 1) (to_each call ss)) each_more
+    in_front : (k : ℕ) → k + length (take i ss) ≡ k + i
+    in_front k = ap (λ (n : ℕ). k + n) (length-take-le i ss (omega (arith, within)))
 
-pub each_all : (call : Shape → Call) (ss : List Shape) (i : ℕ) → length ss ≤ i → take i (to_each call ss) ≡ to_each call ss
-each_all call ss i h = take_whole (to_each call ss) i (let e : length (to_each call ss) ≡ length ss = length_each call 0 ss in omega (arith, h, e)) where
-  take_whole : (xs : List Asking) (i : ℕ) → length xs ≤ i → take i xs ≡ xs
-  take_whole [] zero h = refl
-  take_whole [] (suc i) h = refl
-  take_whole (y ∷ ys) zero h = absurd (omega (arith, h))
-  take_whole (y ∷ ys) (suc i) h = ap (λ (zs : List Asking). y ∷ zs) (take_whole ys i (omega (arith, h)))
+    up_to : to_those test call (take (i + 1) ss) ≡ to_those test call (take i ss) ++ to_those_from i test call (shape ∷ [])
+    up_to = ap (to_those test call) front_is ∙ those_append 0 (take i ss) (shape ∷ [])
+        ∙ ap (λ (n : ℕ). to_those test call (take i ss) ++ to_those_from n test call (shape ∷ [])) (in_front 0 ∙ omega arith)
+
+    pub those_more : test shape ≡ true → to_those test call (take (i + 1) ss) ≡ to_those test call (take i ss) ++ asking ∷ []
+    those_more asked = up_to ∙ ap (λ (xs : List Asking). to_those test call (take i ss) ++ xs) (those_one i shape asked)
+
+    pub those_same : test shape ≡ false → to_those test call (take (i + 1) ss) ≡ to_those test call (take i ss)
+    those_same unasked = up_to ∙ ap (λ (xs : List Asking). to_those test call (take i ss) ++ xs) (those_none i shape unasked) ∙ append-nil (to_those test call (take i ss))
+
+    abbrev pub behind : List Asking
+    behind = to_those_from (length (take (i + 1) ss)) test call (drop (i + 1) ss)
+
+    pub those_split : test shape ≡ true → to_those test call ss ≡ (to_those test call (take i ss) ++ asking ∷ []) ++ behind
+    those_split asked = ap (to_those test call) (sym (take-append-drop (i + 1) ss)) ∙ those_append 0 (take (i + 1) ss) (drop (i + 1) ss)
+        ∙ ap (λ (n : ℕ). to_those test call (take (i + 1) ss) ++ to_those_from n test call (drop (i + 1) ss)) (omega arith)
+        ∙ ap (λ (xs : List Asking). xs ++ behind) (those_more asked)
 
 -- ---- stages in a row, by their results
 

@@ -4,3 +4,4 @@ pub mod Leading
 pub mod Turns
 pub mod Moving
 pub mod Replying
+pub mod Parts

@@ -43,7 +43,7 @@ has_on a es b fs c h k = record {
 
 -- ---- their parts of a log
 
-if_on : {A : Type 0} (b : Bool) (x : A) (xs ys : List A) → (if b then x ∷ (xs ++ ys) else xs ++ ys) ≡ (if b then x ∷ xs else xs) ++ ys
+pub if_on : {A : Type 0} (b : Bool) (x : A) (xs ys : List A) → (if b then x ∷ (xs ++ ys) else xs ++ ys) ≡ (if b then x ∷ xs else xs) ++ ys
 if_on true x xs ys = refl
 if_on false x xs ys = refl
 

@@ -98,7 +98,15 @@ module _ (shape : Shape) where
   ends_exit (R.Done is_warning (A.DoStep event_needed terminate e end)) h = absurd (grade_no false refl h)
   ends_exit reply h = refl
 
--- ---- a Get or a Set
+  pub ends_enter_event : (reply : Reply) → grade_of shape C.EnterEvent reply ≡ G.Good → false ≡ is_terminating reply
+  ends_enter_event (R.Done is_warning (A.DoStep event_needed terminate e end)) h = absurd (grade_no false refl h)
+  ends_enter_event reply h = refl
+
+  pub ends_enter_step : (reply : Reply) → grade_of shape C.EnterStep reply ≡ G.Good → false ≡ is_terminating reply
+  ends_enter_step (R.Done is_warning (A.DoStep event_needed terminate e end)) h = absurd (grade_no false refl h)
+  ends_enter_step reply h = refl
+
+-- ---- a Get, a Set or an Update
 
 module _ (old new : View) (call : Call) where
   pub called_sent : (r : Result Reply Why) → Permitted old.fixed.shape old.phase call → IfOk r (λ reply. Answered old call reply new) → IfErr r (λ why. Failed old call why new) →

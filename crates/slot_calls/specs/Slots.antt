@@ -8,7 +8,7 @@ use Rattle.fmi_calls.specs.declared.phase.InstanceState.{InstanceState}
 use Rattle.fmi_calls.specs.declared.phase.InstanceState.TheVariants as P
 use Rattle.fmu_peer.specs.declared.peer.Exchange.{Exchange}
 use Rattle.fmu_peer.specs.declared.slot.Held.{Held}
-use Rattle.fmu_peer.specs.declared.slot.Held.TheVariants.{Fresh, Instantiated, Initializing, Stepping, Ended, Closed}
+use Rattle.fmu_peer.specs.declared.slot.Held.TheVariants.{Fresh, Instantiated, Initializing, Eventing, Stepping, Ended, Closed}
 use Rattle.fmu_peer.specs.declared.slot.Slot.{Slot}
 use Rattle.fmu_peer.specs.declared.ended.Why.{Why}
 use Rattle.fmu_peer.specs.declared.ended.Why.TheVariants as W
@@ -17,6 +17,7 @@ use Rattle.fmu_peer.specs.CloseAll.{Instance, instance_in, peer_in}
 use Rattle.fmu_peer.specs.Mode.{instantiate_of}
 use Rattle.fmu_peer.specs.View.{View}
 use Rattle.slot_calls.specs.Log.{Talks, Worth}
+use Rattle.slot_calls.specs.Stage.{everyone, has_events}
 use Rattle.slot_calls.specs.declared.ask.Ask.{Ask}
 use Rattle.slot_calls.specs.declared.ask.Ask.TheVariants as A
 
@@ -30,6 +31,7 @@ abbrev pub state_of : {L : Type 0} {g : _} → Held L g → Option InstanceState
 state_of (Fresh fmu) = Some P.Fresh
 state_of (Instantiated fmu) = Some P.Instantiated
 state_of (Initializing fmu) = Some P.Initialization
+state_of (Eventing fmu) = Some P.Event
 state_of (Stepping fmu) = Some P.Step
 state_of (Ended ended) = None
 state_of (Closed peer) = None
@@ -51,17 +53,39 @@ abbrev pub call_of : Ask → Shape → Call
 call_of A.Instantiate shape = instantiate_of shape
 call_of (A.EnterInitialization start stop) shape = C.EnterInitialization start stop
 call_of A.ExitInitialization shape = C.ExitInitialization
+call_of A.EnterEvent shape = C.EnterEvent
+call_of A.EnterStep shape = C.EnterStep
 call_of (A.DoStep at size) shape = C.DoStep at size
 
--- a Get or a Set, which leaves the mode
+-- which FMUs are asked, by their shapes: each, or each with event mode
+abbrev pub is_asked : Ask → Shape → Bool
+is_asked A.Instantiate = everyone
+is_asked (A.EnterInitialization start stop) = everyone
+is_asked A.ExitInitialization = everyone
+is_asked A.EnterEvent = has_events
+is_asked A.EnterStep = has_events
+is_asked (A.DoStep at size) = everyone
+
+-- a Get or a Set
 abbrev pub sets_or_gets : Call → Bool
 sets_or_gets (C.Get kind reference) = true
 sets_or_gets (C.Set kind reference value) = true
 sets_or_gets _ = false
 
+-- a Get, a Set or an Update, which leaves the mode
+abbrev pub keeps_mode : Call → Bool
+keeps_mode (C.Get kind reference) = true
+keeps_mode (C.Set kind reference value) = true
+keeps_mode C.Update = true
+keeps_mode _ = false
+
 -- the FMU may be asked so
 abbrev pub MayBeAsked : Ask → View → Type 0
 MayBeAsked ask v = Permitted v.fixed.shape v.phase (call_of ask v.fixed.shape)
+
+-- where it is asked, it may be
+abbrev pub MayTakePart : Ask → View → Type 0
+MayTakePart ask v = is_asked ask v.fixed.shape ≡ true → MayBeAsked ask v
 
 -- the peer was asked this call alone
 pub record Called {T : Type 0} (call : Call) (value : Exchange → T) (old new : View) (result : Result T Why) : Type 0 where

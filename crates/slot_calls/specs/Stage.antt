@@ -1,5 +1,5 @@
 -- Calls to the instances of a run in a fixed order, and the first answer that isn't good (FMI 3.0, 2.2.3: status returned by functions).
-use Rattle.std.specs.Prelude.{◌≡◌, ℕ, ◌+◌, List, [], ◌∷◌, ◌++◌, map, slice_index_or, All, Result, Ok, Err}
+use Rattle.std.specs.Prelude.{◌≡◌, ℕ, ◌+◌, Bool, true, if◌then◌else◌, List, [], ◌∷◌, ◌++◌, map, slice_index_or, All, Result, Ok, Err}
 use Rattle.value_types.specs.declared.shape.Shape.{Shape}
 use Rattle.fmi_calls.specs.declared.call.Call.{Call}
 use Rattle.fmu_peer.specs.Answer.{IsWhy}
@@ -78,13 +78,25 @@ pub record Round {T : Type 0} (calls : List Asking) (value : List Sent → T) (o
 abbrev pub nothing : List Sent → Unit {0}
 nothing log = tt
 
--- ---- one call to each
+-- ---- one call to each, or to some
 
--- from the i-th component on
-abbrev pub to_each_from : ℕ → (Shape → Call) → List Shape → List Asking
-to_each_from i call [] = []
-to_each_from i call (s ∷ ss) = record { component = i; call = call s } ∷ to_each_from (i + 1) call ss
+-- from the i-th component on, to those whose shape passes the test
+abbrev pub to_those_from : ℕ → (Shape → Bool) → (Shape → Call) → List Shape → List Asking
+to_those_from i test call [] = []
+to_those_from i test call (s ∷ ss) =
+    if test s then record { component = i; call = call s } ∷ to_those_from (i + 1) test call ss else to_those_from (i + 1) test call ss
+
+-- in their order, to those whose shape passes the test, the call that each shape says
+abbrev pub to_those : (Shape → Bool) → (Shape → Call) → List Shape → List Asking
+to_those test call ss = to_those_from 0 test call ss
+
+abbrev pub everyone : Shape → Bool
+everyone shape = true
+
+-- the FMUs with event mode
+abbrev pub has_events : Shape → Bool
+has_events shape = shape.has_event_mode
 
 -- in their order, the call that each shape says
 abbrev pub to_each : (Shape → Call) → List Shape → List Asking
-to_each call ss = to_each_from 0 call ss
+to_each call ss = to_those everyone call ss

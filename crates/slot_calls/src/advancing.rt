@@ -1,20 +1,22 @@
-ghost use Rattle.std.specs.Prelude.{◌≡◌, ◌||◌, OnOk};
+ghost use Rattle.std.specs.Prelude.{◌≡◌, ◌||◌, OnOk, Some};
 ghost use Rattle.fmi_calls.specs.Permission.{Permitted};
 ghost use Rattle.fmi_calls.specs.declared.call.Call.TheVariants as C;
 ghost use Rattle.fmi_calls.specs.declared.phase.InstanceState.TheVariants as P;
 ghost use Rattle.fmu_peer.specs.declared.slot.Held.TheVariants as Held;
 ghost use Rattle.fmu_peer.specs.CloseAll.{instance_in, peer_in};
 ghost use Rattle.fmu_peer.specs.Mode.{instantiate_of};
-ghost use Rattle.fmu_peer.specs.Running.{peer_of};
+ghost use Rattle.fmu_peer.specs.Running.{peer_of, running_mode};
 ghost use Rattle.run_model.specs.Stepping.{is_terminating};
 ghost use Rattle.slot_calls.specs.Carried.{asks_to_end};
 ghost use Rattle.slot_calls.specs.Log.{One};
-ghost use Rattle.slot_calls.specs.Slots.{IsLive, MayBeAsked, Moves, call_of, is_fatal_result, is_fatal_why};
+ghost use Rattle.slot_calls.specs.Slots.{IsLive, MayBeAsked, Moves, call_of, is_fatal_result, is_fatal_why, state_of};
 
 use crate::Ask;
 use core::mem::replace_with;
 use fmi_calls::{BadStatus, Content, Reply};
-use fmu_peer::{Fmu, Fresh, Held, Initializing, Instantiated, Peer, Running, Slot, Stepping, Why};
+use fmu_peer::{
+    Eventing, Fmu, Fresh, Held, Initializing, Instantiated, Peer, Running, Slot, Stepping, Why,
+};
 
 /// Sends the call to the FMU in a slot, and says whether its answer asks for the end of the run.
 pub fn advance<L: Peer>(slot: &mut Slot<L>, ask: Ask) -> Result<bool, Why>
@@ -75,6 +77,14 @@ fn advance_held<L: Peer>(held: Held<L>, ask: Ask) -> (Held<L>, Result<bool, Why>
             Held::Initializing(fmu) => exit_initialization(fmu),
             _ => unreachable!(),
         },
+        Ask::EnterEvent => match held {
+            Held::Stepping(fmu) => enter_event(fmu),
+            _ => unreachable!(),
+        },
+        Ask::EnterStep => match held {
+            Held::Eventing(fmu) => enter_step(fmu),
+            _ => unreachable!(),
+        },
         Ask::DoStep { at, size } => match held {
             Held::Stepping(fmu) => do_step(fmu, at, size),
             _ => unreachable!(),
@@ -117,7 +127,7 @@ fn exit_initialization<L: Peer>(fmu: Fmu<L, Initializing>) -> (Held<L>, Result<b
     ensures { Moves L.view (Held.Initializing fmu) C.ExitInitialization asks_to_end result.0 result.1 }
 {
     match fmu.exit_initialization() {
-        Ok(running) => (Held::Stepping(stepping(running)), Ok(false)),
+        Ok(running) => (held_running(running), Ok(false)),
         Err(ended) => {
             let why = ended.why;
             (Held::Ended(ended), Err(why))
@@ -125,11 +135,39 @@ fn exit_initialization<L: Peer>(fmu: Fmu<L, Initializing>) -> (Held<L>, Result<b
     }
 }
 
-fn stepping<L: Peer>(running: Running<L>) -> Fmu<L, Stepping>
-    ensures { result.peer ≡ peer_of running }
+fn held_running<L: Peer>(running: Running<L>) -> Held<L>
+    ensures peer { peer_in result ≡ peer_of running }
+    ensures state { state_of result ≡ Some (running_mode running) }
 {
     match running {
-        Running::Step(fmu) => fmu,
+        Running::Event(fmu) => Held::Eventing(fmu),
+        Running::Step(fmu) => Held::Stepping(fmu),
+    }
+}
+
+fn enter_event<L: Peer>(fmu: Fmu<L, Stepping>) -> (Held<L>, Result<bool, Why>)
+    requires permitted { Permitted (L.view fmu.peer).fixed.shape (L.view fmu.peer).phase C.EnterEvent }
+    ensures { Moves L.view (Held.Stepping fmu) C.EnterEvent asks_to_end result.0 result.1 }
+{
+    match fmu.enter_event() {
+        Ok(fmu) => (Held::Eventing(fmu), Ok(false)),
+        Err(ended) => {
+            let why = ended.why;
+            (Held::Ended(ended), Err(why))
+        }
+    }
+}
+
+fn enter_step<L: Peer>(fmu: Fmu<L, Eventing>) -> (Held<L>, Result<bool, Why>)
+    requires permitted { Permitted (L.view fmu.peer).fixed.shape (L.view fmu.peer).phase C.EnterStep }
+    ensures { Moves L.view (Held.Eventing fmu) C.EnterStep asks_to_end result.0 result.1 }
+{
+    match fmu.enter_step() {
+        Ok(fmu) => (Held::Stepping(fmu), Ok(false)),
+        Err(ended) => {
+            let why = ended.why;
+            (Held::Ended(ended), Err(why))
+        }
     }
 }
 

@@ -4,19 +4,19 @@ ghost use Rattle.fmu_peer.specs.CloseAll.{instance_in, peer_in};
 ghost use Rattle.run_model.specs.Equations.{value_in};
 ghost use Rattle.slot_calls.specs.Carried.{IsWide, get_of, reply_in, value_of, with_some};
 ghost use Rattle.slot_calls.specs.Log.{One};
-ghost use Rattle.slot_calls.specs.Slots.{Called, IsLive, Moves, sets_or_gets};
+ghost use Rattle.slot_calls.specs.Slots.{Called, IsLive, Moves, keeps_mode, sets_or_gets};
 
 use crate::advancing::is_fatal;
 use fmi_calls::{Call, Content, Reply};
-use fmu_peer::{Fmu, Held, Mode, Peer, Slot, Why};
+use fmu_peer::{Eventing, Fmu, Held, Mode, Peer, Slot, Why};
 use system_model::Port;
 use value_types::{PortType, from_word};
 
-/// Sends a Get or a Set to the FMU in a slot.
+/// Sends a Get, a Set or an Update to the FMU in a slot.
 pub fn send<L: Peer>(slot: &mut Slot<L>, call: Call) -> Result<Reply, Why>
     requires live { IsLive L.view slot.old.held }
     requires permitted { Permitted (L.view (peer_in slot.old.held)).fixed.shape (L.view (peer_in slot.old.held)).phase call }
-    requires sort { IsTrue (sets_or_gets call) }
+    requires sort { IsTrue (keeps_mode call) }
     ensures live { OnOk result (IsLive L.view slot.new.held) }
     ensures one { One call reply_in (instance_in L.view slot.old) (instance_in L.view slot.new) (with_some result) }
 {
@@ -28,14 +28,27 @@ pub fn send<L: Peer>(slot: &mut Slot<L>, call: Call) -> Result<Reply, Why>
 fn send_held<L: Peer>(held: &mut Held<L>, call: Call) -> Result<Reply, Why>
     requires live { IsLive L.view held.old }
     requires permitted { Permitted (L.view (peer_in held.old)).fixed.shape (L.view (peer_in held.old)).phase call }
-    requires sort { IsTrue (sets_or_gets call) }
+    requires sort { IsTrue (keeps_mode call) }
     ensures moves { Moves L.view held.old call reply_in held.new (with_some result) }
 {
     match held {
         Held::Instantiated(fmu) => send_to(fmu, call),
         Held::Initializing(fmu) => send_to(fmu, call),
+        Held::Eventing(fmu) => send_in_event(fmu, call),
         Held::Stepping(fmu) => send_to(fmu, call),
         _ => unreachable!(),
+    }
+}
+
+fn send_in_event<L: Peer>(fmu: &mut Fmu<L, Eventing>, call: Call) -> Result<Reply, Why>
+    requires permitted { Permitted (L.view fmu.old.peer).fixed.shape (L.view fmu.old.peer).phase call }
+    requires sort { IsTrue (keeps_mode call) }
+    ensures called { Called call reply_in (L.view fmu.old.peer) (L.view fmu.new.peer) (with_some result) }
+    ensures state { OnOk result ((L.view fmu.new.peer).phase.state ≡ (L.view fmu.old.peer).phase.state) }
+{
+    match call {
+        Call::Update => fmu.update(),
+        _ => send_to(fmu, call),
     }
 }
 

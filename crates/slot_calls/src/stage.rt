@@ -1,24 +1,27 @@
 ghost use Rattle.std.specs.Prelude.{◌≡◌, ◌≤◌, ◌^◌, OnOk, All, length};
-ghost use Rattle.fmu_peer.specs.CloseAll.{instance_in};
+ghost use Rattle.fmu_peer.specs.CloseAll.{instance_in, peer_in};
 ghost use Rattle.slot_calls.specs.Carried.{any_asks_to_end};
-ghost use Rattle.slot_calls.specs.Stage.{Round, Stage, nothing, shapes, to_each};
+ghost use Rattle.slot_calls.specs.Stage.{Round, Stage, nothing, shapes, to_each, to_those};
 ghost use Rattle.slot_calls.specs.Rounds.{joined};
-ghost use Rattle.slot_calls.specs.Slots.{LiveSlot, MayBeAsked, Stands, call_of, instances};
+ghost use Rattle.slot_calls.specs.Slots.{LiveSlot, MayBeAsked, MayTakePart, Stands, call_of, instances, is_asked};
 
 use crate::advancing::advance;
 use crate::{Ask, BadAnswer};
 use fmu_peer::{Peer, Slot, Why};
 use sim_base::CompId;
 
-/// Sends the call to each FMU in turn, up to the first answer that isn't good.
+/// Sends the call to each FMU in turn, or to each with event mode, up to the first answer that isn't good.
 pub fn each<L: Peer>(slots: &mut [Slot<L>], ask: Ask) -> Result<(), BadAnswer>
     requires few { length slots.old ≤ 2 ^ 32 }
     requires live { All (LiveSlot L.view) slots.old }
-    requires permitted { All (Stands (MayBeAsked ask) L.view) slots.old }
+    requires permitted { All (Stands (MayTakePart ask) L.view) slots.old }
     ensures live { OnOk result (All (LiveSlot L.view) slots.new) }
-    ensures stage { Stage (to_each (call_of ask) (shapes (instances L.view slots.old))) nothing (instances L.view slots.old) (instances L.view slots.new) result }
+    ensures stage { Stage (to_those (is_asked ask) (call_of ask) (shapes (instances L.view slots.old))) nothing (instances L.view slots.old) (instances L.view slots.new) result }
 {
     for place in 0..slots.len() {
+        if !is_asked(&slots[place], ask) {
+            continue;
+        }
         match advance(&mut slots[place], ask) {
             Ok(_) => {}
             Err(why) => {
@@ -30,6 +33,19 @@ pub fn each<L: Peer>(slots: &mut [Slot<L>], ask: Ask) -> Result<(), BadAnswer>
         }
     }
     Ok(())
+}
+
+// Whether the FMU in a slot is asked.
+fn is_asked<L: Peer>(slot: &Slot<L>, ask: Ask) -> bool
+    ensures { result ≡ is_asked ask (L.view (peer_in slot.now.held)).fixed.shape }
+{
+    match ask {
+        Ask::EnterEvent | Ask::EnterStep => slot.held.peer().shape().has_event_mode,
+        Ask::Instantiate
+        | Ask::EnterInitialization { .. }
+        | Ask::ExitInitialization
+        | Ask::DoStep { .. } => true,
+    }
 }
 
 /// Sends the call to each FMU, whatever the others answer, and says whether an answer asks for the end of the run, or

@@ -199,7 +199,7 @@ end_decides : (task : Task) (system : System) (end : RunEnd) (e : End) (h : Happ
     Reports (end_message e) (end_status e) h.status h.err h.err_after → (Rose h.old.run.out.faults h.new.run.out.faults → ⊥) → TellsOut end h.old.run.out.faults h.new.run.out.faults → Answers h (why_status why) (bad_message name why)
 end_decides task system E.Stop e h l talks told name why b named p quiet outs = all_good task system E.Stop h.old.run h.new.run l talks told name why b l.ends
 end_decides task system (E.Asked point) e h l talks told name why b named p quiet outs = all_good task system (E.Asked point) h.old.run h.new.run l talks told name why b l.ends
-end_decides task system (E.EventLimit point) e h l talks told name why b named p quiet outs = absurd named
+end_decides task system (E.EventLimit point) e h l talks told name why b named p quiet outs = all_good task system (E.EventLimit point) h.old.run h.new.run l talks told name why b l.ends
 end_decides task system (E.FixedStep component at end) e h l talks told name why b named p quiet outs = all_good task system (E.FixedStep component at end) h.old.run h.new.run l talks told name why b l.ends
 end_decides task system (E.Bad bad) e h l talks told name why b named p quiet outs =
     let same = same_bad task system (E.Bad bad) h.old.run h.new.run l talks told name why b bad named.0 l.ends named.1 in

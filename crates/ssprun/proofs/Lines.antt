@@ -6,7 +6,7 @@ use Rattle.sim_base.specs.Folder.{FolderView}
 use Rattle.system_model.specs.declared.system.System.{System}
 use Rattle.system_model.specs.Sound.{IsSound}
 use Rattle.command_line.specs.Line.{Check, IsWithin, KeepsLimits, Line, One, Run, plan_of, resolution_of}
-use Rattle.system_loading.specs.Assembly.{IsPlain}
+use Rattle.system_loading.specs.Assembly.{IsBuilt}
 use Rattle.system_files.specs.declared.loaded.Loaded.{Loaded}
 use Rattle.value_types.specs.declared.shape.Shape.{Shape}
 use Rattle.ssd_tree.specs.declared.tree.Binding.{Binding}
@@ -46,10 +46,10 @@ plan_within (Check line) k = tt
 
 -- ---- what is loaded
 
-pub can_run : (system : System) → IsSound system → IsPlain system → All IsNamed system.components → CanRun system
-can_run system sound plain named = record {
+pub can_run : (system : System) → IsSound system → IsBuilt system → All IsNamed system.components → CanRun system
+can_run system sound built named = record {
   sound = sound;
-  built = record { no_event = plain.no_events; no_early = plain.no_early };
+  built = record { no_clocks = built.no_clocks; no_early = built.no_early };
   each = named;
 }
 

@@ -17,7 +17,7 @@ use Rattle.ssprun.proofs.Deciding.{decides}
 use Rattle.ssprun.proofs.Runs.{course, err_higher, out_higher, peer_case, uncalled_or_run}
 use Rattle.ssprun.proofs.BuiltIns.{built_in_exact}
 use Rattle.ssprun.proofs.Tracing.{check_exact, trace_exact}
-use Rattle.ssprun.proofs.Statuses.{Status, Done, WrongWords, NoFile, BrokenRule, NoPeer, Refusal, WrongReply, FixedSize, Unwritten, NoMemory, number, of_outcome, numbered}
+use Rattle.ssprun.proofs.Statuses.{Status, Done, WrongWords, NoFile, BrokenRule, NoPeer, Refusal, WrongReply, ManyInstants, FixedSize, Unwritten, NoMemory, number, of_outcome, numbered}
 use Rattle.ssprun.proofs.When.{HasFacts, HasPut, when_is, when_unwritten}
 
 words_exact : (o : Outcome) (h : Happened) → HasFacts o h → HasPut o h → IsNoLine h → AnswersOr11 h 2 (codes "words\n")
@@ -39,15 +39,16 @@ reading_none o h (WithoutLine w) none = ap (λ (s : Stage). s.folder) w.same
 
 known : (s : Status) → IsStatus (number s)
 known Done = inl refl
-known WrongWords = inr (inl (omega arith, omega arith))
-known NoFile = inr (inl (omega arith, omega arith))
-known BrokenRule = inr (inl (omega arith, omega arith))
-known NoPeer = inr (inl (omega arith, omega arith))
-known Refusal = inr (inl (omega arith, omega arith))
-known WrongReply = inr (inl (omega arith, omega arith))
-known FixedSize = inr (inr (inl refl))
-known Unwritten = inr (inr (inr (inl refl)))
-known NoMemory = inr (inr (inr (inr refl)))
+known WrongWords = inr (omega arith, omega arith)
+known NoFile = inr (omega arith, omega arith)
+known BrokenRule = inr (omega arith, omega arith)
+known NoPeer = inr (omega arith, omega arith)
+known Refusal = inr (omega arith, omega arith)
+known WrongReply = inr (omega arith, omega arith)
+known ManyInstants = inr (omega arith, omega arith)
+known FixedSize = inr (omega arith, omega arith)
+known Unwritten = inr (omega arith, omega arith)
+known NoMemory = inr (omega arith, omega arith)
 
 any_status : (m : Option (List ℕ)) (w : ℕ) (h : Happened) → IsStatus w → Reports m w h.status h.err h.err_after → StatusRow h
 any_status None w h k p = record { known = subst IsStatus (sym p.0) k; line = inl p.1 }
@@ -95,6 +96,7 @@ keeps_rows behave o h f p = let trace = trace_row o h f p in record {
     when = λ e. when_is WrongReply o h f p (λ ten. omega arith) e;
     exact = λ peers talks name why misreply told least. decides o h p (uncalled_or_run o h (course o h f)) peers talks name why told least;
   };
+  limit = record { when = λ e. when_is ManyInstants o h f p (λ ten. omega arith) e };
   fixed = record { when = λ e. when_is FixedSize o h f p (λ ten. omega arith) e };
   write = record { when = λ e. when_unwritten o h f p e; higher = λ more. higher o h f p more };
   memory = record { when = λ e. when_is NoMemory o h f p (λ ten. omega arith) e };

@@ -57,6 +57,8 @@ plan_within plan w = record {
   step_within = w.step.1;
   ordered = w.start;
   stop_within = w.stop;
+  limit_above = let h = w.limit.0 in omega (arith, h);
+  limit_within = w.limit.1;
 }
 
 -- ---- the component that an end names
@@ -76,7 +78,7 @@ ends_named : (system : System) (bound : Bound) (plan : Plan) (olds news : List V
     EndsBy system bound plan run is end before after → NamesOne (length system.components) end
 ends_named system bound plan olds news log run lives is E.Stop before after are ends by = tt
 ends_named system bound plan olds news log run lives is (E.Asked point) before after are ends by = tt
-ends_named system bound plan olds news log run lives is (E.EventLimit point) before after are ends by = absurd by.1
+ends_named system bound plan olds news log run lives is (E.EventLimit point) before after are ends by = tt
 ends_named system bound plan olds news log run lives is (E.FixedStep component at end) before after are ends by = unfit_within system plan (end - at) component.0 by.1.1.unfit
 ends_named system bound plan olds news log run lives is (E.Bad bad) before after are ends by =
     subst (λ (n : ℕ). bad.component.0 < n) (lives_count system olds news log lives are) (slice_get_within lives bad.component.0 ends.life ends.here)

@@ -8,7 +8,7 @@ use Rattle.ssprun.specs.declared.outcome.Outcome.TheVariants.{Words, Memory, Fil
 use Rattle.system_files.specs.declared.named.FileFault.{FileFault}
 use Rattle.system_files.specs.declared.named.FileFault.TheVariants.{Unread, Missing, TooBig, Broken}
 use Rattle.ssprun.specs.declared.outcome.End.{End}
-use Rattle.ssprun.specs.declared.outcome.End.TheVariants.{Stop, Asked, FixedStep, Bad, WriteFault}
+use Rattle.ssprun.specs.declared.outcome.End.TheVariants.{Stop, Asked, EventLimit, FixedStep, Bad, WriteFault}
 use Rattle.ssprun.specs.Message.{status_of}
 
 pub data Status : Type 0 where
@@ -19,6 +19,7 @@ pub data Status : Type 0 where
   NoPeer : Status
   Refusal : Status
   WrongReply : Status
+  ManyInstants : Status
   FixedSize : Status
   Unwritten : Status
   NoMemory : Status
@@ -31,6 +32,7 @@ number BrokenRule = 4
 number NoPeer = 5
 number Refusal = 6
 number WrongReply = 7
+number ManyInstants = 8
 number FixedSize = 9
 number Unwritten = 10
 number NoMemory = 11
@@ -39,8 +41,8 @@ number NoMemory = 11
 abbrev with_number : ℕ → Option Status
 with_number n =
     if n == 0 then Some Done else if n == 2 then Some WrongWords else if n == 3 then Some NoFile else if n == 4 then Some BrokenRule
-    else if n == 5 then Some NoPeer else if n == 6 then Some Refusal else if n == 7 then Some WrongReply else if n == 9 then Some FixedSize
-    else if n == 10 then Some Unwritten else Some NoMemory
+    else if n == 5 then Some NoPeer else if n == 6 then Some Refusal else if n == 7 then Some WrongReply else if n == 8 then Some ManyInstants
+    else if n == 9 then Some FixedSize else if n == 10 then Some Unwritten else Some NoMemory
 
 with_number-number : (s : Status) → with_number (number s) ≡ Some s
 with_number-number Done = refl
@@ -50,6 +52,7 @@ with_number-number BrokenRule = refl
 with_number-number NoPeer = refl
 with_number-number Refusal = refl
 with_number-number WrongReply = refl
+with_number-number ManyInstants = refl
 with_number-number FixedSize = refl
 with_number-number Unwritten = refl
 with_number-number NoMemory = refl
@@ -75,6 +78,7 @@ of_why (Link call fault) = NoPeer
 abbrev pub of_end : End → Status
 of_end Stop = Done
 of_end Asked = Done
+of_end (EventLimit point) = ManyInstants
 of_end (FixedStep component at end) = FixedSize
 of_end (Bad component why) = of_why why
 of_end WriteFault = Unwritten
@@ -99,6 +103,7 @@ numbered (File path (Broken rule place ports)) = refl
 numbered (Start component fault) = refl
 numbered (Ran Stop) = refl
 numbered (Ran Asked) = refl
+numbered (Ran (EventLimit point)) = refl
 numbered (Ran (FixedStep component at end)) = refl
 numbered (Ran (Bad component (Refused call status))) = refl
 numbered (Ran (Bad component (Misreply call reply))) = refl

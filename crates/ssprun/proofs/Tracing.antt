@@ -27,7 +27,7 @@ use Rattle.ssprun.specs.declared.outcome.Outcome.TheVariants.{Words, Memory, Fil
 use Rattle.ssprun.specs.declared.outcome.StartCause.TheVariants.{Failed, Unknown}
 use Rattle.ssprun.specs.declared.outcome.End.{End}
 use Rattle.ssprun.specs.declared.outcome.End.TheVariants as O
-use Rattle.ssprun.specs.Message.{CutsShort, Reports, end_message, end_status, fixed_message, size_text}
+use Rattle.ssprun.specs.Message.{CutsShort, Reports, end_message, end_status, limit_message, fixed_message, size_text}
 use Rattle.system_model.specs.declared.system.Port.{Port}
 use Rattle.sim_base.specs.Sink.{with_piece}
 use Rattle.system_model.specs.declared.bound.Bound.{Bound}
@@ -87,7 +87,9 @@ module _ (h : Happened) (task : Task) (system : System) (quiet : Rose h.err.faul
   ended (E.Asked point) e g named p none t by =
       let put : Reports (end_message O.Asked) (end_status O.Asked) h.status h.err h.err_after = subst (λ (x : End). Reports (end_message x) (end_status x) h.status h.err h.err_after) named p in
       whole g.account K.Asked point g.system_is g.plan_is g.before_is g.after_is t put
-  ended (E.EventLimit point) e g named p none t by = absurd named
+  ended (E.EventLimit point) e g named p none t by =
+      let put : Reports (Some (limit_message point)) 8 h.status h.err h.err_after = subst (λ (x : End). Reports (end_message x) (end_status x) h.status h.err h.err_after) named p in
+      whole g.account K.Limit point g.system_is g.plan_is g.before_is g.after_is t (put_line (limit_message point) 8 h put quiet)
   ended (E.FixedStep component at end) e g named p none t by =
       let put : Reports (Some (fixed_message named.0 at end)) 9 h.status h.err h.err_after = subst (λ (x : End). Reports (end_message x) (end_status x) h.status h.err h.err_after) named.2 p in
       let said = put_line (fixed_message named.0 at end) 9 h put quiet in

@@ -28,11 +28,11 @@ use Rattle.system_files.specs.Loads.{FileFails}
 use Rattle.ssprun.specs.Facts.{Calm, CheckFacts, Facts, LineFacts, LoadFacts, LoadsLine, OfSystem, PlanFacts, RunFacts, Unloaded, WithLine, WithoutLine, search_for, task_of}
 use Rattle.ssprun.specs.Happened.{Happened, Scene, Stage}
 use Rattle.ssprun.specs.Peers.{with_all_started}
-use Rattle.ssprun.specs.Rows.{Ended, IsOfRun, IsUncalled, Told, Says, IsIdle, IsSilent, IsMute, memory_line, OnLine, IsNoLine, HasEnded, LacksFile, IsUnread, IsMissing, IsTooBig, BreaksRule, BreaksOffBy, LosesPeer, NotStarted, NotKnown, NotAnswering, IsRefusedWhy, IsMisreplyWhy, LacksSize}
+use Rattle.ssprun.specs.Rows.{Ended, IsOfRun, IsUncalled, Told, Says, IsIdle, IsSilent, IsMute, memory_line, OnLine, IsNoLine, HasEnded, LacksFile, IsUnread, IsMissing, IsTooBig, BreaksRule, BreaksOffBy, LosesPeer, NotStarted, NotKnown, NotAnswering, IsRefusedWhy, IsMisreplyWhy, LacksSize, ReachesLimit}
 use Rattle.ssprun.specs.Runs.{FailsToStart, HasRun, IsEndOf, NotesUnstarted, TakesBack, Task, names_of}
 use Rattle.ssprun.proofs.Outs.{tells_out}
 use Rattle.ssprun.proofs.PeerLemmas.{unasked}
-use Rattle.ssprun.proofs.Statuses.{Status, Done, WrongWords, NoFile, BrokenRule, NoPeer, Refusal, WrongReply, FixedSize, Unwritten, NoMemory, number, of_file, of_end, of_outcome, numbered, same_number}
+use Rattle.ssprun.proofs.Statuses.{Status, Done, WrongWords, NoFile, BrokenRule, NoPeer, Refusal, WrongReply, ManyInstants, FixedSize, Unwritten, NoMemory, number, of_file, of_end, of_outcome, numbered, same_number}
 use Rattle.fmu_peer.specs.Answer.{IsLink}
 
 abbrev pub HasFacts : Outcome → Happened → Type 0
@@ -67,6 +67,7 @@ WhenIs BrokenRule h = OnLine h (λ line. Calm h.old.run h.new.run × BreaksRule 
 WhenIs NoPeer h = OnLine h (LosesPeer h)
 WhenIs Refusal h = OnLine h (λ line. BreaksOffBy h line IsRefusedWhy)
 WhenIs WrongReply h = OnLine h (λ line. BreaksOffBy h line IsMisreplyWhy)
+WhenIs ManyInstants h = OnLine h (ReachesLimit h)
 WhenIs FixedSize h = OnLine h (LacksSize h)
 WhenIs Unwritten h = Says h (codes "write\n") × Rose h.old.run.out.faults h.new.run.out.faults
 WhenIs NoMemory h = IsIdle h × (h.new.run.spawner.faults ≡ h.old.run.spawner.faults) × (h.new.folder.failed ≡ h.old.folder.failed) × Says h memory_line
@@ -175,7 +176,9 @@ run_when E.Stop e line h is it named run says =
     subst (λ (x : End). WhenIs (of_end x) h) (sym named) (line, is, Ended E.Stop tt (it, run) (subst (λ (x : End). Put h (end_message x)) named says))
 run_when (E.Asked point) e line h is it named run says =
     subst (λ (x : End). WhenIs (of_end x) h) (sym named) (line, is, Ended (E.Asked point) tt (it, run) (subst (λ (x : End). Put h (end_message x)) named says))
-run_when (E.EventLimit point) e line h is it named run says = absurd named
+run_when (E.EventLimit point) e line h is it named run says =
+    subst (λ (x : End). WhenIs (of_end x) h) (sym named)
+    (line, is, record { it = it; point = point; says = subst (λ (x : End). Put h (end_message x)) named says; run = run })
 run_when (E.FixedStep component at end) e line h is it named run says =
     subst (λ (x : End). WhenIs (of_end x) h) (sym named.2) (
       line,

@@ -25,7 +25,7 @@ use Rattle.ssprun.specs.declared.outcome.Outcome.TheVariants.{Words, Memory, Fil
 use Rattle.ssprun.specs.declared.outcome.StartCause.{StartCause}
 use Rattle.ssprun.specs.declared.outcome.StartCause.TheVariants.{Failed, Unknown}
 use Rattle.ssprun.specs.declared.outcome.End.{End}
-use Rattle.ssprun.specs.declared.outcome.End.TheVariants.{Stop, Asked, FixedStep, Bad, WriteFault}
+use Rattle.ssprun.specs.declared.outcome.End.TheVariants.{Stop, Asked, EventLimit, FixedStep, Bad, WriteFault}
 use Rattle.ssprun.specs.Frame.{reply_frame}
 
 -- a call's name
@@ -69,6 +69,10 @@ unfoldable pub start_message : List ℕ → StartCause → List ℕ
 start_message component Failed = codes "link " ++ escaped component ++ codes " start\n"
 start_message component Unknown = codes "unknown " ++ escaped component ++ codes "\n"
 
+-- of a point whose instants reach their limit
+unfoldable pub limit_message : ℕ → List ℕ
+limit_message point = codes "limit " ++ decimal point ++ codes "\n"
+
 -- of a step that a component can't make, from a point to an end
 unfoldable pub fixed_message : List ℕ → ℕ → ℕ → List ℕ
 fixed_message component at end =
@@ -86,6 +90,7 @@ bad_message component (Link call fault) = codes "link " ++ escaped component ++ 
 abbrev pub end_message : End → Option (List ℕ)
 end_message Stop = None
 end_message Asked = None
+end_message (EventLimit point) = Some (limit_message point)
 end_message (FixedStep component at end) = Some (fixed_message component at end)
 end_message (Bad component why) = Some (bad_message component why)
 end_message WriteFault = Some (codes "write\n")
@@ -131,6 +136,7 @@ place_room (Broken rule place ports) = path_room place + loop_room ports
 abbrev pub end_room : End → ℕ
 end_room Stop = 0
 end_room Asked = 0
+end_room (EventLimit point) = 0
 end_room (FixedStep component at end) = room_for (length component)
 end_room (Bad component why) = room_for (length component)
 end_room WriteFault = 0
@@ -161,6 +167,7 @@ why_status (Link call fault) = 5
 abbrev pub end_status : End → ℕ
 end_status Stop = 0
 end_status Asked = 0
+end_status (EventLimit point) = 8
 end_status (FixedStep component at end) = 9
 end_status (Bad component why) = why_status why
 end_status WriteFault = 10

@@ -46,7 +46,7 @@ use Rattle.system_files.specs.Order.{Comes, Fails, Finding, Found}
 use Rattle.ssprun.specs.Facts.{Calm, FailsToTell, LoadsLine, TellsSize, search_for, task_of}
 use Rattle.ssprun.specs.Happened.{Happened, Scene}
 use Rattle.ssprun.specs.Peers.{AreKnown, IsFirstUnknown}
-use Rattle.ssprun.specs.Message.{CutsShort, file_message, start_message, fixed_message, bad_message, why_status}
+use Rattle.ssprun.specs.Message.{CutsShort, file_message, start_message, limit_message, fixed_message, bad_message, why_status}
 use Rattle.ssprun.specs.Runs.{FailsToStart, HasRun, IsUnasked, RunsPeers, Task, names_of}
 
 -- ---- what err holds
@@ -244,6 +244,16 @@ pub record MisreplyRow (h : Happened) : Type 0 where
   pub when : h.status ≡ 7 → OnLine h (λ line. BreaksOffBy h line IsMisreplyWhy)
   pub exact : DecidesBy h IsMisreplyWhy
 
+-- 8: the run ended at a point whose instants reach their limit, and with its line
+pub record ReachesLimit (h : Happened) (line : Line) : Type 0 where
+  pub it : IsOfRun h line
+  pub point : ℕ
+  pub says : Says h (limit_message point)
+  pub run : HasRun (task_of it.plan it.loaded) it.loaded.system (E.EventLimit point) h.old.run h.new.run
+
+pub record LimitRow (h : Happened) : Type 0 where
+  pub when : h.status ≡ 8 → OnLine h (ReachesLimit h)
+
 -- 9: the run ended before a step whose size a component can't take, the least of those, and with its line
 pub record LacksSize (h : Happened) (line : Line) : Type 0 where
   pub it : IsOfRun h line
@@ -281,7 +291,7 @@ pub record MemoryRow (h : Happened) : Type 0 where
 
 -- the statuses that can come
 abbrev pub IsStatus : ℕ → Type 0
-IsStatus n = (n ≡ 0) ⊎ (((2 ≤ n) × (n ≤ 7)) ⊎ ((n ≡ 9) ⊎ ((n ≡ 10) ⊎ (n ≡ 11))))
+IsStatus n = (n ≡ 0) ⊎ ((2 ≤ n) × (n ≤ 11))
 
 -- no other status comes, and err holds what it held or one line more, or a front of one
 pub record StatusRow (h : Happened) : Type 0 where
@@ -290,13 +300,13 @@ pub record StatusRow (h : Happened) : Type 0 where
 
 -- ---- the run
 
--- status and line of a trace's end: 9 with its line where a step begins that a component can't make, else 0
+-- status and line of a trace's end: 8 with its line where instants reach their limit, 9 with its line where a step begins that a component can't make, else 0
 abbrev pub ReportsEnd : Happened → System → Plan → EndKind → ℕ → Type 0
 ReportsEnd h system plan Stop point = (h.status ≡ 0) × IsSilent h
 ReportsEnd h system plan Asked point = (h.status ≡ 0) × IsSilent h
+ReportsEnd h system plan Limit point = (h.status ≡ 8) × Says h (limit_message point)
 ReportsEnd h system plan Fixed point = (h.status ≡ 9) × (place : ℕ) × (name : List ℕ) × (bound : ℕ)
     × (slice_get (names_of system) place ≡ Some name) × IsBoundOf plan point bound × Says h (fixed_message name point bound)
-ReportsEnd h system plan Limit point = ⊥
 ReportsEnd h system plan Fault point = ⊥
 
 -- out has the text of the one trace, one piece a put, and the status is that of its end; or the put of one of its pieces failed, out has those before it and a front of that, and the status is 10
@@ -393,6 +403,7 @@ pub record KeepsRows (h : Happened) : Type 0 where
   pub link : LinkRow h
   pub refusal : RefusalRow h
   pub misreply : MisreplyRow h
+  pub limit : LimitRow h
   pub fixed : FixedRow h
   pub write : WriteRow h
   pub memory : MemoryRow h

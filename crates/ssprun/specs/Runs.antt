@@ -127,7 +127,7 @@ pub data HasRun (task : Task) (system : System) (end : RunEnd) (old new : Scene)
 abbrev pub NamesOne : ℕ → RunEnd → Type 0
 NamesOne count E.Stop = Unit {0}
 NamesOne count (E.Asked point) = Unit {0}
-NamesOne count (E.EventLimit point) = ⊥
+NamesOne count (E.EventLimit point) = Unit {0}
 NamesOne count (E.FixedStep component at end) = component.0 < count
 NamesOne count (E.Bad bad) = bad.component.0 < count
 NamesOne count E.WriteFault = Unit {0}
@@ -136,7 +136,7 @@ NamesOne count E.WriteFault = Unit {0}
 abbrev pub IsEndOf : List (List ℕ) → RunEnd → End → Type 0
 IsEndOf names E.Stop e = e ≡ O.Stop
 IsEndOf names (E.Asked point) e = e ≡ O.Asked
-IsEndOf names (E.EventLimit point) e = ⊥
+IsEndOf names (E.EventLimit point) e = e ≡ O.EventLimit point
 IsEndOf names (E.FixedStep component at end) e = (name : List ℕ) × (slice_get names component.0 ≡ Some name) × (e ≡ O.FixedStep name at end)
 IsEndOf names (E.Bad bad) e = (name : List ℕ) × (slice_get names bad.component.0 ≡ Some name) × (e ≡ O.Bad name bad.why)
 IsEndOf names E.WriteFault e = e ≡ O.WriteFault

@@ -31,10 +31,10 @@ const FOLDERS: &[(&str, &str)] = &[
         "many",
         r#"<fmiModelDescription fmiVersion="3.0" modelName="many" instantiationToken="{c}"><CoSimulation modelIdentifier="counter" canGetAndSetFMUState="true" canHandleVariableCommunicationStepSize="true"/><ModelVariables><Int32 name="inc" valueReference="1" causality="parameter" variability="fixed" start="2"><Alias name="step"/></Int32><Int32 name="y" valueReference="2" causality="output" variability="discrete"/><UInt16 name="long" valueReference="3" causality="parameter" variability="fixed"/><Enumeration name="mode" valueReference="4" causality="parameter" variability="fixed"/><Float64 name="weight" valueReference="5" causality="parameter" variability="fixed" start="1.0"/><Int32 name="sum" valueReference="6" causality="calculatedParameter" variability="fixed"/><Int32 name="size" valueReference="7" causality="structuralParameter" variability="fixed" start="1"/><Int32 name="rest" valueReference="8"/><Int8 name="tiny" valueReference="9" causality="parameter" variability="fixed"/><Boolean name="on" valueReference="10" causality="parameter" variability="fixed"/></ModelVariables><ModelStructure><Output valueReference="2" dependencies=""/></ModelStructure></fmiModelDescription>"#,
     ),
-    // it has event mode
+    // it may return early
     (
-        "event",
-        r#"<fmiModelDescription fmiVersion="3.0" modelName="e" instantiationToken=""><CoSimulation modelIdentifier="counter" hasEventMode="true"/></fmiModelDescription>"#,
+        "early",
+        r#"<fmiModelDescription fmiVersion="3.0" modelName="e" instantiationToken=""><CoSimulation modelIdentifier="counter" mightReturnEarlyFromDoStep="true"/></fmiModelDescription>"#,
     ),
     // it is of another version
     (
@@ -1509,7 +1509,7 @@ static ORDER: [Case; 18] = [
     },
     Case {
         structure: Structure::Of(
-            r#"<Elements><Component name="e" source="event"/><Component name="c" source="small"><ParameterBindings><ParameterBinding source="v.ssv"/></ParameterBindings></Component></Elements>"#,
+            r#"<Elements><Component name="e" source="early"/><Component name="c" source="small"><ParameterBindings><ParameterBinding source="v.ssv"/></ParameterBindings></Component></Elements>"#,
         ),
         files: &[(
             "d/v.ssv",
@@ -1840,7 +1840,7 @@ static SCRIPTS: [ScriptCase; 7] = [
     },
 ];
 
-fn calls_of(alloc: Global, script: &Script) -> Result<Vec<Call>, AllocError> {
+pub(crate) fn calls_of(alloc: Global, script: &Script) -> Result<Vec<Call>, AllocError> {
     let mut calls = Vec::new(alloc);
     if let Some(talk) = script.talk() {
         for exchange in talk {

@@ -4,6 +4,10 @@
 mod args;
 #[cfg(test)]
 mod binding_tests;
+#[cfg(test)]
+mod event_script_tests;
+#[cfg(test)]
+mod event_tests;
 mod files;
 mod frame;
 #[cfg(test)]

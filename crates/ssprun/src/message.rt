@@ -3,7 +3,7 @@ ghost use Rattle.sim_base.specs.Escape.{escaped};
 ghost use Rattle.std.specs.List.{count_by};
 ghost use Rattle.system_model.specs.Ports.{source_of};
 ghost use Rattle.system_files.specs.Rooms.{room_for};
-ghost use Rattle.ssprun.specs.Message.{bad_message, file_message, fixed_message, loop_room, loop_text, numbers_text, path_room, place_room, place_text, size_text, start_message};
+ghost use Rattle.ssprun.specs.Message.{bad_message, file_message, fixed_message, limit_message, loop_room, loop_text, numbers_text, path_room, place_room, place_text, size_text, start_message};
 
 use crate::frame::frame_digits;
 use crate::names::{kind_name, status_name};
@@ -76,6 +76,19 @@ pub(crate) fn write_fixed_message(component: &str, point: u64, end: u64, text: &
     let at = append_number(point, text, at);
     let at = append(b" ", text, at);
     let at = append_number(end, text, at);
+    append(b"\n", text, at)
+}
+
+/// Writes the line of a point whose instants reach their limit to the front of `text`, and answers its length. The point
+/// is a count.
+#[tactic(auto, unfolding(crate::specs::Message::limit_message))]
+pub(crate) fn write_limit_message(point: u64, text: &mut [u8]) -> usize
+    requires { 27 ≤ length text.old }
+    ensures length { result ≤ length text.new }
+    ensures text { take result text.new ≡ limit_message point }
+{
+    let at = append(b"limit ", text, 0);
+    let at = append_number(point, text, at);
     append(b"\n", text, at)
 }
 

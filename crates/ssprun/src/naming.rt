@@ -66,7 +66,7 @@ impl Naming {
         match end {
             RunEnd::Stop => self.ended_so(End::Stop),
             RunEnd::Asked { .. } => self.ended_so(End::Asked),
-            RunEnd::EventLimit { .. } => unreachable!(),
+            RunEnd::EventLimit { point } => self.ended_so(End::EventLimit { point }),
             RunEnd::FixedStep { component, at, end } => {
                 let Named { name, text } = self.take(component);
                 Report {

@@ -36,6 +36,8 @@ pub(crate) enum End {
     Stop,
     /// where a component asked for the end
     Asked,
+    /// at a point whose instants reach the most that the plan allows
+    EventLimit { point: u64 },
     /// before the step from a point to an end, whose size isn't the plan's, where this component takes no other
     FixedStep { component: Text, at: u64, end: u64 },
     /// by the first answer that isn't good, of this component

@@ -1,10 +1,11 @@
 ghost use Rattle.std.specs.Prelude.{◌≡◌, ◌+◌, ◌≤◌, IsTrue, Some, false, length};
-ghost use Rattle.ssprun.specs.Message.{Reports, end_message, end_room, end_status, file_message, file_status, message, message_room, place_room, start_message, status_of, why_status};
+ghost use Rattle.ssprun.specs.Message.{Reports, end_message, end_room, end_status, file_message, file_status, limit_message, message, message_room, place_room, start_message, status_of, why_status};
 ghost use Rattle.system_files.specs.Rooms.{room_for};
 ghost use Rattle.ssprun.specs.declared.outcome.Outcome.TheVariants.{Checked, Memory, Untold, Words};
 
 use crate::message::{
-    write_bad_message, write_file_message, write_fixed_message, write_start_message,
+    write_bad_message, write_file_message, write_fixed_message, write_limit_message,
+    write_start_message,
 };
 use crate::outcome::{End, Outcome, StartCause};
 use fmu_peer::Why;
@@ -116,6 +117,7 @@ fn put_end_line<E: Sink>(end: &End, text: &mut [u8], err: &mut E) -> u8
 {
     match end {
         End::Stop | End::Asked => 0,
+        End::EventLimit { point } => put_limit_line(*point, err),
         End::FixedStep { component, at, end } => {
             let length = write_fixed_message(component.as_str(), *at, *end, text);
             put_line(&text[..length], 9, err)
@@ -126,6 +128,14 @@ fn put_end_line<E: Sink>(end: &End, text: &mut [u8], err: &mut E) -> u8
         }
         End::WriteFault => put_line(b"write\n", 10, err),
     }
+}
+
+fn put_limit_line<E: Sink>(point: u64, err: &mut E) -> u8
+    ensures { Reports (Some (limit_message point)) 8 result (E.view err.old) (E.view err.new) }
+{
+    let mut text = [0u8; 27];
+    let length = write_limit_message(point, &mut text);
+    put_line(&text[..length], 8, err)
 }
 
 fn why_status(why: &Why) -> u8

@@ -188,10 +188,10 @@ static REFUSED: [(Structure, u8, &str); 43] = [
     ),
     (
         Structure::Of(
-            r#"<Elements><Component name="a" source="counter"/><Component name="e" source="event"/></Elements>"#,
+            r#"<Elements><Component name="a" source="counter"/><Component name="e" source="event"/><Component name="b" source="ticking"/></Elements>"#,
         ),
         4,
-        "refused 29 d/event/modelDescription.xml /fmiModelDescription[1]\n",
+        "refused 29 d/ticking/modelDescription.xml /fmiModelDescription[1]\n",
     ),
     (
         Structure::Of(r#"<Elements><Component name="a" source="early"/></Elements>"#),
@@ -199,9 +199,9 @@ static REFUSED: [(Structure, u8, &str); 43] = [
         "refused 29 d/early/modelDescription.xml /fmiModelDescription[1]\n",
     ),
     (
-        Structure::Of(r#"<Elements><Component name="a" source="ticking"/></Elements>"#),
+        Structure::Of(r#"<Elements><Component name="a" source="mixed"/></Elements>"#),
         4,
-        "refused 29 d/ticking/modelDescription.xml /fmiModelDescription[1]\n",
+        "refused 29 d/mixed/modelDescription.xml /fmiModelDescription[1]\n",
     ),
     // Of two rules at one element the lesser is told.
     (
@@ -249,14 +249,14 @@ static REFUSED: [(Structure, u8, &str); 43] = [
     ),
     (
         Structure::Of(
-            r#"<Elements><Component name="e" source="event"/><Component name="f" source="early"/></Elements>"#,
+            r#"<Elements><Component name="e" source="ticking"/><Component name="f" source="early"/></Elements>"#,
         ),
         4,
-        "refused 29 d/event/modelDescription.xml /fmiModelDescription[1]\n",
+        "refused 29 d/ticking/modelDescription.xml /fmiModelDescription[1]\n",
     ),
     (
         Structure::Of(
-            r#"<Elements><Component name="f" source="early"/><Component name="e" source="event"/></Elements>"#,
+            r#"<Elements><Component name="f" source="early"/><Component name="e" source="ticking"/></Elements>"#,
         ),
         4,
         "refused 29 d/early/modelDescription.xml /fmiModelDescription[1]\n",
@@ -331,14 +331,14 @@ static REFUSED: [(Structure, u8, &str); 43] = [
     ),
     (
         Structure::Of(
-            r#"<Elements><Component name="g1" source="event"><Connectors><Connector name="u" kind="input"/><Connector name="y" kind="output"/></Connectors></Component><Component name="g2" source="event"><Connectors><Connector name="u" kind="input"/><Connector name="y" kind="output"/></Connectors></Component></Elements><Connections><Connection startElement="g1" startConnector="y" endElement="g2" endConnector="u"/><Connection startElement="g2" startConnector="y" endElement="g1" endConnector="u"/></Connections>"#,
+            r#"<Elements><Component name="f" source="early"/><Component name="g1" source="event"><Connectors><Connector name="u" kind="input"/><Connector name="y" kind="output"/></Connectors></Component><Component name="g2" source="event"><Connectors><Connector name="u" kind="input"/><Connector name="y" kind="output"/></Connectors></Component></Elements><Connections><Connection startElement="g1" startConnector="y" endElement="g2" endConnector="u"/><Connection startElement="g2" startConnector="y" endElement="g1" endConnector="u"/></Connections>"#,
         ),
         4,
         "refused 46 d/SystemStructure.ssd /SystemStructureDescription[1]/System[1] ports 0 3 2 1\n",
     ),
     (
         Structure::Of(
-            r#"<Elements><Component name="a" source="event"/><Component name="b" source="counter"><ParameterBindings><ParameterBinding source="v.ssv"/></ParameterBindings></Component></Elements>"#,
+            r#"<Elements><Component name="a" source="ticking"/><Component name="b" source="counter"><ParameterBindings><ParameterBinding source="v.ssv"/></ParameterBindings></Component></Elements>"#,
         ),
         3,
         "missing d/v.ssv\n",

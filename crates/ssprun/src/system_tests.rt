@@ -81,16 +81,16 @@ const ALONE: Structure = Structure::Of(
 );
 
 // A counter feeds a gain through two systems.
-const NESTED: Structure = Structure::Of(
+pub(crate) const NESTED: Structure = Structure::Of(
     r#"<Elements><Component name="c" source="counter"><Connectors><Connector name="y" kind="output"/></Connectors></Component><System name="A"><Connectors><Connector name="x" kind="input"/></Connectors><Elements><System name="B"><Connectors><Connector name="x" kind="input"/></Connectors><Elements><Component name="g" source="gain"><Connectors><Connector name="u" kind="input"/></Connectors></Component></Elements><Connections><Connection startConnector="x" endElement="g" endConnector="u"/></Connections></System></Elements><Connections><Connection startConnector="x" endElement="B" endConnector="x"/></Connections></System></Elements><Connections><Connection startElement="c" startConnector="y" endElement="A" endConnector="x"/></Connections>"#,
 );
 
-const RING: Structure = Structure::Of(
+pub(crate) const RING: Structure = Structure::Of(
     r#"<Elements><Component name="g1" source="gain"><Connectors><Connector name="u" kind="input"/><Connector name="y" kind="output"/></Connectors></Component><Component name="g2" source="gain"><Connectors><Connector name="u" kind="input"/><Connector name="y" kind="output"/></Connectors></Component></Elements><Connections><Connection startElement="g1" startConnector="y" endElement="g2" endConnector="u"/><Connection startElement="g2" startConnector="y" endElement="g1" endConnector="u"/></Connections>"#,
 );
 
 // One gain of the ring depends on nothing.
-const OPEN_RING: Structure = Structure::Of(
+pub(crate) const OPEN_RING: Structure = Structure::Of(
     r#"<Elements><Component name="g1" source="gain"><Connectors><Connector name="u" kind="input"/><Connector name="y" kind="output"/></Connectors></Component><Component name="g2" source="free"><Connectors><Connector name="u" kind="input"/><Connector name="y" kind="output"/></Connectors></Component></Elements><Connections><Connection startElement="g1" startConnector="y" endElement="g2" endConnector="u"/><Connection startElement="g2" startConnector="y" endElement="g1" endConnector="u"/></Connections>"#,
 );
 

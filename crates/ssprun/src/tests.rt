@@ -56,7 +56,7 @@ const WORKED: Case = Case {
 
 const REFUSED: Case = Case { out: "", ..WORKED };
 
-static CASES: [Case; 32] = [
+static CASES: [Case; 34] = [
     WORKED,
     Case {
         words: "one|d|--resolution|1000|--step|10|--stop|0",
@@ -176,16 +176,30 @@ static CASES: [Case; 32] = [
         err: "refused 46 d/modelDescription.xml /fmiModelDescription[1] ports 1 2\n",
         ..REFUSED
     },
-    // Event Mode isn't built yet.
+    // A counter with event mode has one instant at each point.
     Case {
         file: File::Whole(
-            r#"<fmiModelDescription fmiVersion="3.0" modelName="m" instantiationToken=""><CoSimulation modelIdentifier="counter" hasEventMode="true"/></fmiModelDescription>"#,
+            r#"<fmiModelDescription fmiVersion="3.0" modelName="m" instantiationToken=""><CoSimulation modelIdentifier="counter" hasEventMode="true"/><ModelVariables><Int32 name="inc" valueReference="1" causality="parameter" start="2"/><Int32 name="y" valueReference="2" causality="output"/></ModelVariables></fmiModelDescription>"#,
+        ),
+        ..WORKED
+    },
+    // Clocks aren't built yet.
+    Case {
+        file: File::Whole(
+            r#"<fmiModelDescription fmiVersion="3.0" modelName="m" instantiationToken=""><CoSimulation modelIdentifier="counter" hasEventMode="true"/><ModelVariables><Clock name="c" valueReference="1" causality="input" intervalVariability="triggered"/></ModelVariables></fmiModelDescription>"#,
         ),
         status: 4,
         err: "refused 29 d/modelDescription.xml /fmiModelDescription[1]\n",
         ..REFUSED
     },
-    // Nor is the early return from a step.
+    // One that is local is foreign.
+    Case {
+        file: File::Whole(
+            r#"<fmiModelDescription fmiVersion="3.0" modelName="m" instantiationToken=""><CoSimulation modelIdentifier="counter" hasEventMode="true"/><ModelVariables><Clock name="c" valueReference="5" intervalVariability="triggered"/><Int32 name="inc" valueReference="1" causality="parameter" start="2"/><Int32 name="y" valueReference="2" causality="output"/><Int32 name="z" valueReference="3" causality="output" clocks="5"/></ModelVariables></fmiModelDescription>"#,
+        ),
+        ..WORKED
+    },
+    // The early return from a step isn't built yet.
     Case {
         file: File::Whole(
             r#"<fmiModelDescription fmiVersion="3.0" modelName="m" instantiationToken=""><CoSimulation modelIdentifier="counter" mightReturnEarlyFromDoStep="true"/></fmiModelDescription>"#,
@@ -614,7 +628,7 @@ pub(crate) fn assert_run<R: Abort + Threads + Sync, S: Spawner>(
     spawner: &mut S,
 ) -> Result<(), AllocError> {
     let words = split_words(alloc, wanted.words)?;
-    let mut out = MemSink::with_room(alloc, 1_000, 8, wanted.outs.to_vec(alloc)?)?;
+    let mut out = MemSink::with_room(alloc, 10_000, 400, wanted.outs.to_vec(alloc)?)?;
     let mut err = MemSink::with_room(alloc, 1_000, 1, wanted.errs.to_vec(alloc)?)?;
     let status = run_words(rt, alloc, &words, folder, spawner, &mut out, &mut err);
     assert_eq!(rt;

@@ -1,5 +1,5 @@
 -- The answers of a course: all are good, or up to the first that isn't.
-use Rattle.std.proofs.Common.{◌≡◌, ◌⊎◌, inl, inr, ℕ, suc, ◌+◌, ◌<◌, ◌≤◌, ◌==◌, ℤ, List, [], ◌∷◌, ◌++◌, Option, Some, None, Ok, Contains, refl, sym, ap, ◌∙◌, subst, append_assoc, arith, length, get_or}
+use Rattle.std.proofs.Common.{◌≡◌, ◌⊎◌, inl, inr, ℕ, suc, ◌+◌, ◌<◌, ◌≤◌, ◌==◌, ℤ, Bool, List, [], ◌∷◌, ◌++◌, Option, Some, None, Ok, Contains, refl, sym, ap, ◌∙◌, subst, append_assoc, arith, length, get_or}
 use Rattle.std.specs.Prelude.{All}
 use Rattle.std.specs.List.{slice_get}
 use Rattle.std.specs.Option.{option_and_then, option_map_or}
@@ -23,18 +23,19 @@ use Rattle.system_model.specs.Ports.{numbers}
 use Rattle.system_model.specs.Text.{Instant}
 use Rattle.slot_calls.specs.declared.bad_answer.BadAnswer.{BadAnswer}
 use Rattle.slot_calls.specs.Log.{Asking, Sent, asking_of, askings, part}
-use Rattle.slot_calls.specs.Stage.{FailsIn, IsFirst, IsGoodOf, StopsAt, shapes_of, to_each, to_each_from}
+use Rattle.slot_calls.specs.Stage.{FailsIn, IsFirst, IsGoodOf, StopsAt, everyone, shapes_of, to_each, to_those, to_those_from}
 use Rattle.slot_calls.proofs.Logs.{part_append}
 use Rattle.event_iteration.specs.Explains.{Explains, ExplainsUntil, all_said, call_at, said}
 use Rattle.event_iteration.specs.Initialization.{initially, no_values}
-use Rattle.event_iteration.specs.Instants.{at_point}
+use Rattle.event_iteration.specs.Instants.{in_instant}
 use Rattle.event_iteration.specs.Settings.{before_step, port_order}
 use Rattle.event_iteration.specs.Turns.{IsPaired, Rules, sent_of}
 use Rattle.event_iteration.proofs.Permits.{shape_of_component}
 use Rattle.calling_sequence.specs.declared.run_end.RunEnd.{RunEnd}
 use Rattle.calling_sequence.specs.declared.run_end.RunEnd.TheVariants as E
-use Rattle.calling_sequence.specs.Course.{AtStart, Binding, ByStep, Came, Departs, Entering, Finding, Finishes, Interrupted, IsInitialized, Leaving, Seen, StopsInitializing, binding, entering, leaving}
-use Rattle.calling_sequence.proofs.Chains.{first_same, none_before, other, part_all, rest_same, same, skips, takes}
+use Rattle.calling_sequence.specs.Course.{Arrives, AtStart, BeforeStep, BehindStep, Binding, ByStep, ByUpdate, Came, Departs, Entering, Finding, Finishes, InInitialization, InInstant, InSet, InStep, InUpdate, Interrupted, IsInitialized, Leaves, Leaving, Seen, StopsInitializing, Takes, WhereBad, binding}
+use Rattle.calling_sequence.proofs.Chains.{part_all}
+use Rattle.slot_calls.proofs.Parts.{first_same, none_before, other, rest_same, same, skips, takes, those_within}
 use Rattle.step_master.proofs.Configured.{binding_all}
 use Rattle.step_master.proofs.Prepared.{is_within}
 
@@ -84,26 +85,26 @@ module _ (ss : List Shape) (bad : BadAnswer) (log : List Sent) (b : EndsBadly ss
 
 -- ---- one call to each
 
-alone_behind : (call : Shape → Call) (i : ℕ) (todo : List Shape) (front : List Sent) (last : Sent) (back : List Sent) → askings (front ++ last ∷ back) ≡ to_each_from i call todo →
+alone_behind : (call : Shape → Call) (i : ℕ) (todo : List Shape) (front : List Sent) (last : Sent) (back : List Sent) → askings (front ++ last ∷ back) ≡ to_those_from i everyone call todo →
     (j : ℕ) → j ≤ last.component → part j back ≡ []
 alone_behind call i [] [] last back is j w = absurd (cc)
 alone_behind call i [] (f ∷ front) last back is j w = absurd (cc)
 alone_behind call i (t ∷ todo) [] last back is j w =
-    let at : last.component ≡ i = ap (λ (a : Asking). a.component) (first_same (asking_of last) (record { component = i; call = call t }) (askings back) (to_each_from (i + 1) call todo) is) in
-    none_before call (i + 1) j todo back (rest_same (asking_of last) (record { component = i; call = call t }) (askings back) (to_each_from (i + 1) call todo) is) (omega (arith, w, at))
+    let rest = to_those_from (i + 1) everyone call todo in
+    let at : last.component ≡ i = ap (λ (a : Asking). a.component) (first_same (asking_of last) (record { component = i; call = call t }) (askings back) rest is) in
+    none_before everyone call (i + 1) j todo back (rest_same (asking_of last) (record { component = i; call = call t }) (askings back) rest is) (omega (arith, w, at))
 alone_behind call i (t ∷ todo) (f ∷ front) last back is j w =
-    alone_behind call (i + 1) todo front last back (rest_same (asking_of f) (record { component = i; call = call t }) (askings (front ++ last ∷ back)) (to_each_from (i + 1) call todo) is) j w
+    alone_behind call (i + 1) todo front last back (rest_same (asking_of f) (record { component = i; call = call t }) (askings (front ++ last ∷ back)) (to_those_from (i + 1) everyone call todo) is) j w
 
 -- the call is to one of so many
 abbrev pub IsToOne : ℕ → Asking → Type 0
 IsToOne n a = a.component < n
 
-each_to_one : (call : Shape → Call) (n i : ℕ) (ss : List Shape) → i + length ss ≤ n → All (IsToOne n) (to_each_from i call ss)
-each_to_one call n i [] w = All-nil (IsToOne n)
-each_to_one call n i (s ∷ ss) w = All-cons (IsToOne n) (record { component = i; call = call s }) (to_each_from (i + 1) call ss) (omega (arith, w)) (each_to_one call n (i + 1) ss (omega (arith, w)))
+pub to_those_to_one : (test : Shape → Bool) (call : Shape → Call) (ss : List Shape) → All (IsToOne (length ss)) (to_those test call ss)
+to_those_to_one test call ss = those_within test call (length ss) 0 ss (omega arith)
 
 pub to_each_to_one : (call : Shape → Call) (ss : List Shape) → All (IsToOne (length ss)) (to_each call ss)
-to_each_to_one call ss = each_to_one call (length ss) 0 ss (omega arith)
+to_each_to_one call ss = to_those_to_one everyone call ss
 
 -- the Sets of parameters are to components
 pub binding_to_one : (system : System) (bound : Bound) → BindsParameters system bound → All (IsToOne (length (shapes_of system))) (binding bound)
@@ -231,60 +232,94 @@ module _ (system : System) (bound : Bound) (plan : Plan) (binds : BindsParameter
   abbrev ss : List Shape
   ss = shapes_of system
 
-  on : (log a b : List Sent) → log ≡ a ++ b → All (IsGoodOf ss) a → All (IsGoodOf ss) b → All (IsGoodOf ss) log
-  on log a b is x y = subst (All (IsGoodOf ss)) (sym is) (All-append (IsGoodOf ss) a b x y)
+  abbrev Good : List Sent → Type 0
+  Good log = All (IsGoodOf ss) log
 
-  came_good : (t : ℕ) (log : List Sent) (is : List Instant) → Came system bound plan t log is → All (IsGoodOf ss) log
-  came_good _ _ _ (AtStart t log is initialized at none) = begins_good system bound plan log initialized
-  came_good _ _ _ (ByStep t log is from values before reads sets steps js came read step set stepped asks log_is is_is) =
-      on log before (reads ++ (sets ++ steps)) log_is (came_good from before js came)
-      (All-append (IsGoodOf ss) reads (sets ++ steps) (walk_good system at_point read.before (numbers system.instant_order) values reads read.explains)
-      (All-append (IsGoodOf ss) sets steps (walk_good system (before_step values) values (port_order system) values sets set) stepped.good))
+  both : (a b : List Sent) → Good a → Good b → Good (a ++ b)
+  both a b x y = All-append (IsGoodOf ss) a b x y
 
-  seen_good : (t : ℕ) (log : List Sent) (is : List Instant) → Seen system bound plan t log is → All (IsGoodOf ss) log
+  on : (log a b : List Sent) → log ≡ a ++ b → Good a → Good b → Good log
+  on log a b is x y = subst Good (sym is) (both a b x y)
+
+  found_good : (n : ℕ) (before values : List (Option ℤ)) (found : List Sent) → Explains system (in_instant (n == 0)) before (numbers system.instant_order) values found → Good found
+  found_good n before values found e = walk_good system (in_instant (n == 0)) before (numbers system.instant_order) values found e
+
+  set_good : (now values : List (Option ℤ)) (sets : List Sent) → Explains system (before_step now) values (port_order system) values sets → Good sets
+  set_good now values sets e = walk_good system (before_step now) values (port_order system) values sets e
+
+  takes_good : (n : ℕ) (before values : List (Option ℤ)) (found updates : List Sent) → Takes system n before values found updates → Good (found ++ updates)
+  takes_good n before values found updates t = both found updates (found_good n before values found t.explains) t.answered.good
+
+  came_good : (t n : ℕ) (values : List (Option ℤ)) (log : List Sent) (is : List Instant) → Came system bound plan t n values log is → Good log
+  came_good _ _ _ _ _ (AtStart t n values log is initialized at first values_are none) = begins_good system bound plan log initialized
+  came_good _ _ _ _ _ (ByUpdate t n values log is m before front found updates js came takes again limit next log_is is_is) =
+      on log front (found ++ updates) log_is (came_good t m before front js came) (takes_good m before values found updates takes)
+  came_good _ _ _ _ _ (ByStep t n values log is from m before front found updates leaves sets steps arrives js came takes done step parts asks answered first log_is is_is) =
+      on log front (found ++ (updates ++ (leaves ++ (sets ++ (steps ++ arrives))))) log_is (came_good from m before front js came)
+      (both found (updates ++ (leaves ++ (sets ++ (steps ++ arrives)))) (found_good m before values found takes.explains)
+      (both updates (leaves ++ (sets ++ (steps ++ arrives))) takes.answered.good
+      (both leaves (sets ++ (steps ++ arrives)) parts.left.good
+      (both sets (steps ++ arrives) (set_good values values sets parts.set)
+      (both steps arrives parts.stepped.good answered.good)))))
+
+  seen_good : (t : ℕ) (log : List Sent) (is : List Instant) → Seen system bound plan t log is → Good log
   seen_good t log is s =
-      on log s.before s.reads s.log_is (came_good t s.before s.earlier s.came) (walk_good system at_point s.read.before (numbers system.instant_order) s.values s.reads s.read.explains)
+      on log s.front (s.found ++ s.updates) s.log_is (came_good t s.n s.before s.front s.earlier s.came) (takes_good s.n s.before s.values s.found s.updates s.takes)
 
-  departs_good : (t to : ℕ) (log : List Sent) (is : List Instant) → Departs system bound plan t to log is → All (IsGoodOf ss) log
-  departs_good t to log is s =
-      on log s.before s.sets s.log_is (seen_good t s.before is s.seen) (walk_good system (before_step s.seen.values) s.seen.values (port_order system) s.seen.values s.sets s.set)
+  leaves_good : (t to : ℕ) (log : List Sent) (is : List Instant) → Leaves system bound plan t to log is → Good log
+  leaves_good t to log is l = on log l.front l.leaves l.log_is (seen_good t l.front is l.seen) l.left.good
 
-  behind_made : (log : List Sent) → All (IsGoodOf ss) log → All (IsGoodOf ss) (made ++ log)
-  behind_made log all = All-append (IsGoodOf ss) made log good all
+  departs_good : (t to : ℕ) (log : List Sent) (is : List Instant) → Departs system bound plan t to log is → Good log
+  departs_good t to log is d = on log d.front d.sets d.log_is (leaves_good t to d.front is d.leaving) (set_good d.leaving.seen.values d.leaving.seen.values d.sets d.set)
+
+  arrives_good : (from to : ℕ) (log : List Sent) (is : List Instant) → Arrives system bound plan from to log is → Good log
+  arrives_good from to log is a = on log a.front a.steps a.log_is (departs_good from to a.front is a.departs) a.answered.good
+
+  behind_made : (log : List Sent) → Good log → Good (made ++ log)
+  behind_made log all = both made log good all
 
   -- behind what was made and a good log
   deeper : (bad : BadAnswer) (log before more : List Sent) → log ≡ before ++ more → EndsBadly ss bad ((made ++ before) ++ more) → EndsBadly ss bad (made ++ log)
   deeper bad log before more is b = subst (EndsBadly ss bad) (append_assoc made before more ∙ ap (λ (l : List Sent). made ++ l) (sym is)) b
 
+  stops_at : (bad : BadAnswer) (log before more : List Sent) → log ≡ before ++ more → Good before → (test : Shape → Bool) (call : Shape → Call) → StopsAt ss (to_those test call ss) bad more → EndsBadly ss bad (made ++ log)
+  stops_at bad log before more is all test call stops =
+      deeper bad log before more is (stops_badly ss bad (made ++ before) more (behind_made before all) (to_those test call ss) (to_those_to_one test call ss) stops)
+
   initializing_log : (bad : BadAnswer) (log : List Sent) → StopsInitializing system bound plan bad log → EndsBadly ss bad (made ++ log)
   initializing_log bad log (Binding stops) = stops_badly ss bad made log good (binding bound) (binding_to_one system bound binds) stops
-  initializing_log bad log (Entering set entered sets stops log_is) =
-      deeper bad log set entered log_is (stops_badly ss bad (made ++ set) entered (behind_made set sets.good) (entering system plan) (to_each_to_one _ ss) stops)
+  initializing_log bad log (Entering set entered sets stops log_is) = stops_at bad log set entered log_is sets.good _ _ stops
   initializing_log bad log (Finding set entered found values sets enters finds log_is) =
       deeper bad log (set ++ entered) found (log_is ∙ sym (append_assoc set entered found))
-      (walk_badly system (initially system) (no_values system) (numbers system.initial_order) bad values found (made ++ (set ++ entered))
-      (behind_made (set ++ entered) (All-append (IsGoodOf ss) set entered sets.good enters.good)) finds)
+      (walk_badly system (initially system) (no_values system) (numbers system.initial_order) bad values found (made ++ (set ++ entered)) (behind_made (set ++ entered) (both set entered sets.good enters.good)) finds)
   initializing_log bad log (Leaving set entered found left values sets enters finds stops log_is) =
-      deeper bad log (set ++ (entered ++ found)) left (log_is ∙ ap (λ (l : List Sent). set ++ l) (sym (append_assoc entered found left)) ∙ sym (append_assoc set (entered ++ found) left))
-      (stops_badly ss bad (made ++ (set ++ (entered ++ found))) left
-      (behind_made (set ++ (entered ++ found)) (All-append (IsGoodOf ss) set (entered ++ found) sets.good
-      (All-append (IsGoodOf ss) entered found enters.good (walk_good system (initially system) (no_values system) (numbers system.initial_order) values found finds))))
-      (leaving system) (to_each_to_one _ ss) stops)
+      stops_at bad log (set ++ (entered ++ found)) left (log_is ∙ ap (λ (l : List Sent). set ++ l) (sym (append_assoc entered found left)) ∙ sym (append_assoc set (entered ++ found) left))
+      (both set (entered ++ found) sets.good (both entered found enters.good (walk_good system (initially system) (no_values system) (numbers system.initial_order) values found finds))) _ _ stops
+
+  bad_log : (bad : BadAnswer) (point : ℕ) (log : List Sent) (is : List Instant) → WhereBad system bound plan bad point log is → EndsBadly ss bad (made ++ log)
+  bad_log bad point log is (InInitialization w) = initializing_log bad log w.stops
+  bad_log bad point log is (InInstant w) =
+      deeper bad log w.front w.found w.log_is
+      (walk_badly system (in_instant (w.n == 0)) w.before (numbers system.instant_order) bad w.values w.found (made ++ w.front) (behind_made w.front (came_good point w.n w.before w.front is w.came)) w.stops)
+  bad_log bad point log is (InUpdate w) =
+      stops_at bad log (w.front ++ w.found) w.updates (w.log_is ∙ sym (append_assoc w.front w.found w.updates))
+      (both w.front w.found (came_good point w.n w.before w.front is w.came) (found_good w.n w.before w.values w.found w.explains)) _ _ w.stops
+  bad_log bad point log is (BeforeStep w) = stops_at bad log w.front w.leaves w.log_is (seen_good point w.front is w.seen) _ _ w.stops
+  bad_log bad point log is (InSet w) =
+      let now = w.leaving.seen.values in
+      deeper bad log w.front w.sets w.log_is
+      (walk_badly system (before_step now) now (port_order system) bad now w.sets (made ++ w.front) (behind_made w.front (leaves_good point w.to w.front is w.leaving)) w.stops)
+  bad_log bad point log is (InStep w) =
+      deeper bad log w.front w.steps w.log_is (fails_badly ss bad (made ++ w.front) w.steps (behind_made w.front (departs_good point w.to w.front is w.departs)) _ w.fails)
+  bad_log bad point log is (BehindStep w) = stops_at bad log w.front w.arrives w.log_is (arrives_good w.from point w.front is w.stepped) _ _ w.stops
 
   pub finishes_log : (end : RunEnd) (point : ℕ) (log : List Sent) (is : List Instant) → Finishes system bound plan end point log is → EndsLog ss end (made ++ log)
-  finishes_log E.Stop point log is f = behind_made log (seen_good plan.stop log is f.1)
-  finishes_log (E.Asked at) point log is f = let w = f.1 in behind_made log (on log w.before w.steps w.log_is (departs_good w.from at w.before is w.departs) w.answered.good)
-  finishes_log (E.EventLimit at) point log is f = absurd f
+  finishes_log E.Stop point log is f = behind_made log (seen_good plan.stop log is f.1.seen)
+  finishes_log (E.Asked at) point log is (same, inl w) = behind_made log (seen_good at log is w.seen)
+  finishes_log (E.Asked at) point log is (same, inr w) = behind_made log (arrives_good w.from at log is w.arrives)
+  finishes_log (E.EventLimit at) point log is f = behind_made log (seen_good at log is f.1.seen)
   finishes_log (E.FixedStep component at end) point log is f = behind_made log (seen_good at log is f.1.seen)
-  finishes_log (E.Bad bad) point log is (inl w) = initializing_log bad log w.stops
-  finishes_log (E.Bad bad) point log is (inr (inl w)) =
-      deeper bad log w.before w.reads w.log_is
-      (walk_badly system at_point w.earlier (numbers system.instant_order) bad w.values w.reads (made ++ w.before) (behind_made w.before (came_good point w.before is w.came)) w.stops)
-  finishes_log (E.Bad bad) point log is (inr (inr (inl w))) =
-      deeper bad log w.before w.sets w.log_is
-      (walk_badly system (before_step w.seen.values) w.seen.values (port_order system) bad w.seen.values w.sets (made ++ w.before) (behind_made w.before (seen_good point w.before is w.seen)) w.stops)
-  finishes_log (E.Bad bad) point log is (inr (inr (inr w))) =
-      deeper bad log w.before w.steps w.log_is (fails_badly ss bad (made ++ w.before) w.steps (behind_made w.before (departs_good point w.to w.before is w.departs)) _ w.fails)
+  finishes_log (E.Bad bad) point log is f = bad_log bad point log is f
   finishes_log E.WriteFault point log is f = absurd f
 
   -- where a put failed

@@ -1,20 +1,16 @@
 -- The calls of one instance among those of several.
-use Rattle.std.proofs.Common.{◌≡◌, ℕ, zero, suc, ◌+◌, ◌<◌, ◌==◌, Bool, true, false, List, [], ◌∷◌, ◌++◌, refl, ap, ◌∙◌, arith, length, get_or}
+use Rattle.std.proofs.Common.{◌≡◌, ◌≢◌, ℕ, zero, suc, ◌+◌, ◌<◌, ◌==◌, Bool, true, false, List, [], ◌∷◌, ◌++◌, Some, refl, sym, ap, ap₂, ◌∙◌, subst, append-nil, arith, length, get_or, map}
 use Rattle.std.specs.Prelude.{All, if◌then◌else◌}
-use Rattle.std.proofs.lemmas.List.Elements.{All-nil, All-cons, All-head, All-tail}
+use Rattle.std.specs.List.{slice_get}
+use Rattle.std.proofs.lemmas.List.Elements.{All-cons, All-nil}
+use Rattle.std.proofs.lemmas.Option.{same_Some}
 use Rattle.value_types.specs.declared.shape.Shape.{Shape}
 use Rattle.fmi_calls.specs.declared.call.Call.{Call}
-use Rattle.fmi_calls.specs.declared.call.Call.TheVariants as C
-use Rattle.fmi_calls.specs.KindFacts.{IsRunCall}
-use Rattle.fmu_peer.specs.Mode.{instantiate_of}
-use Rattle.system_model.specs.declared.plan.Plan.{Plan}
-use Rattle.system_model.specs.declared.system.System.{System}
-use Rattle.step_master.specs.Master.{making}
-use Rattle.calling_sequence.specs.Course.{stepping}
+use Rattle.system_model.specs.declared.system.Component.{Component}
 use Rattle.step_master.specs.Lives.{calls_in}
 use Rattle.slot_calls.specs.Log.{Asking, Sent, askings, part}
-use Rattle.slot_calls.specs.Stage.{shapes_of, to_each, to_each_from}
-use Rattle.calling_sequence.proofs.Chains.{other, same}
+use Rattle.slot_calls.specs.Stage.{everyone, has_events, to_each, to_those, to_those_from}
+use Rattle.slot_calls.proofs.Parts.{other, same}
 
 -- the calls of one of them
 abbrev pub own : ℕ → List Asking → List Call
@@ -38,16 +34,6 @@ pub own_append : (k : ℕ) (xs ys : List Asking) → own k (xs ++ ys) ≡ own k 
 own_append k [] ys = refl
 own_append k (a ∷ xs) ys = ap (λ (cs : List Call). if a.component == k then a.call ∷ cs else cs) (own_append k xs ys) ∙ if_on (a.component == k) a.call (own k xs) (own k ys)
 
-if_all : (P : Call → Type 0) (b : Bool) (c : Call) (cs : List Call) → P c → All P cs → All P (if b then c ∷ cs else cs)
-if_all P true c cs h all = All-cons P c cs h all
-if_all P false c cs h all = all
-
--- what holds of each call holds of each of these
-pub own_all : (P : Call → Type 0) (k : ℕ) (xs : List Asking) → All (λ (a : Asking). P a.call) xs → All P (own k xs)
-own_all P k [] all = All-nil P
-own_all P k (a ∷ xs) all =
-    if_all P (a.component == k) a.call (own k xs) (All-head (λ (b : Asking). P b.call) a xs all) (own_all P k xs (All-tail (λ (b : Asking). P b.call) a xs all))
-
 -- ---- one call to each
 
 pub takes_call : (b : Bool) (c : Call) (cs : List Call) → b ≡ true → (if b then c ∷ cs else cs) ≡ c ∷ cs
@@ -58,41 +44,85 @@ pub skips_call : (b : Bool) (c : Call) (cs : List Call) → b ≡ false → (if 
 skips_call true c cs h = absurd (cc)
 skips_call false c cs h = refl
 
-none_before : (call : Shape → Call) (i k : ℕ) (ss : List Shape) → k < i → own k (to_each_from i call ss) ≡ []
-none_before call i k [] w = refl
-none_before call i k (s ∷ ss) w =
-    skips_call (i == k) (call s) (own k (to_each_from (i + 1) call ss)) (other i k (λ e. absurd (omega (arith, e, w)))) ∙ none_before call (i + 1) k ss (omega (arith, w))
+-- the call of the k-th, where its shape passes the test
+abbrev pub asked_at : (Shape → Bool) → (Shape → Call) → List Shape → ℕ → List Call
+asked_at test call [] k = []
+asked_at test call (s ∷ ss) zero = if test s then call s ∷ [] else []
+asked_at test call (s ∷ ss) (suc k) = asked_at test call ss k
 
-own_from : (call : Shape → Call) (i k : ℕ) (ss : List Shape) (d : Shape) → k < length ss → own (i + k) (to_each_from i call ss) ≡ call (get_or ss k d) ∷ []
-own_from call i k [] d w = absurd (omega (arith, w))
-own_from call i zero (s ∷ ss) d w =
-    takes_call (i == i + 0) (call s) (own (i + 0) (to_each_from (i + 1) call ss)) (same i (i + 0) (omega arith))
-    ∙ ap (λ (cs : List Call). call s ∷ cs) (none_before call (i + 1) (i + 0) ss (omega arith))
-own_from call i (suc k) (s ∷ ss) d w =
-    skips_call (i == i + suc k) (call s) (own (i + suc k) (to_each_from (i + 1) call ss)) (other i (i + suc k) (λ e. absurd (omega (arith, e))))
-    ∙ ap (λ (n : ℕ). own n (to_each_from (i + 1) call ss)) (omega arith) ∙ own_from call (i + 1) k ss d (omega (arith, w))
+own_first : (b : Bool) (i k : ℕ) (c : Call) (rest : List Asking) → own k (if b then record { component = i; call = c } ∷ rest else rest) ≡ (if b then (if i == k then c ∷ [] else []) else []) ++ own k rest
+own_first true i k c rest = if_on (i == k) c [] (own k rest)
+own_first false i k c rest = refl
+
+own_here : (b : Bool) (i k : ℕ) (c : Call) (rest : List Asking) → i ≡ k → own k rest ≡ [] → own k (if b then record { component = i; call = c } ∷ rest else rest) ≡ (if b then c ∷ [] else [])
+own_here b i k c rest is none =
+    own_first b i k c rest ∙ ap₂ ◌++◌ (ap (λ (h : Bool). if b then (if h then c ∷ [] else []) else []) (same i k is)) none ∙ append-nil (if b then c ∷ [] else [])
+
+own_there : (b : Bool) (i k : ℕ) (c : Call) (rest : List Asking) → i ≢ k → own k (if b then record { component = i; call = c } ∷ rest else rest) ≡ own k rest
+own_there true i k c rest is = skips_call (i == k) c (own k rest) (other i k is)
+own_there false i k c rest is = refl
+
+none_before : (test : Shape → Bool) (call : Shape → Call) (i k : ℕ) (ss : List Shape) → k < i → own k (to_those_from i test call ss) ≡ []
+none_before test call i k [] w = refl
+none_before test call i k (s ∷ ss) w =
+    own_there (test s) i k (call s) (to_those_from (i + 1) test call ss) (λ e. absurd (omega (arith, e, w))) ∙ none_before test call (i + 1) k ss (omega (arith, w))
+
+own_from : (test : Shape → Bool) (call : Shape → Call) (i k : ℕ) (ss : List Shape) → own (i + k) (to_those_from i test call ss) ≡ asked_at test call ss k
+own_from test call i k [] = refl
+own_from test call i zero (s ∷ ss) =
+    own_here (test s) i (i + 0) (call s) (to_those_from (i + 1) test call ss) (omega arith) (none_before test call (i + 1) (i + 0) ss (omega arith))
+own_from test call i (suc k) (s ∷ ss) =
+    own_there (test s) i (i + suc k) (call s) (to_those_from (i + 1) test call ss) (λ e. absurd (omega (arith, e)))
+    ∙ ap (λ (n : ℕ). own n (to_those_from (i + 1) test call ss)) (omega arith) ∙ own_from test call (i + 1) k ss
+
+pub own_those : (test : Shape → Bool) (call : Shape → Call) (k : ℕ) (ss : List Shape) → own k (to_those test call ss) ≡ asked_at test call ss k
+own_those test call k ss = ap (λ (n : ℕ). own n (to_those test call ss)) (omega arith) ∙ own_from test call 0 k ss
+
+each_at : (call : Shape → Call) (k : ℕ) (ss : List Shape) (d : Shape) → k < length ss → asked_at everyone call ss k ≡ call (get_or ss k d) ∷ []
+each_at call k [] d w = absurd (omega (arith, w))
+each_at call zero (s ∷ ss) d w = refl
+each_at call (suc k) (s ∷ ss) d w = each_at call k ss d (omega (arith, w))
 
 -- each gets one
 pub own_each : (call : Shape → Call) (k : ℕ) (ss : List Shape) (d : Shape) → k < length ss → own k (to_each call ss) ≡ call (get_or ss k d) ∷ []
-own_each call k ss d w = ap (λ (n : ℕ). own n (to_each call ss)) (omega arith) ∙ own_from call 0 k ss d w
+own_each call k ss d w = own_those everyone call k ss ∙ each_at call k ss d w
 
--- ---- calls of a run
+-- ---- those with event mode
 
-abbrev pub Asks : Asking → Type 0
-Asks a = IsRunCall a.call
+-- whether the k-th has event mode
+abbrev pub is_event : List Shape → ℕ → Bool
+is_event [] k = false
+is_event (s ∷ ss) zero = s.has_event_mode
+is_event (s ∷ ss) (suc k) = is_event ss k
 
-each_runs : (call : Shape → Call) → ((s : Shape) → IsRunCall (call s)) → (k : ℕ) (ss : List Shape) → All Asks (to_each_from k call ss)
-each_runs call h k [] = All-nil Asks
-each_runs call h k (s ∷ ss) = All-cons Asks (record { component = k; call = call s }) (to_each_from (k + 1) call ss) (h s) (each_runs call h (k + 1) ss)
+events_at : (call : Call) (k : ℕ) (ss : List Shape) → asked_at has_events (λ (shape : Shape). call) ss k ≡ (if is_event ss k then call ∷ [] else [])
+events_at call k [] = refl
+events_at call zero (s ∷ ss) = refl
+events_at call (suc k) (s ∷ ss) = events_at call k ss
 
-pub making_runs : (system : System) → All Asks (making system)
-making_runs system = each_runs instantiate_of (λ s. refl) 0 (shapes_of system)
+-- each of them gets one
+pub own_events : (call : Call) (k : ℕ) (ss : List Shape) → own k (to_those has_events (λ (shape : Shape). call) ss) ≡ (if is_event ss k then call ∷ [] else [])
+own_events call k ss = own_those has_events (λ (shape : Shape). call) k ss ∙ events_at call k ss
 
-pub entering_runs : (plan : Plan) (ss : List Shape) → All Asks (to_each (λ (shape : Shape). C.EnterInitialization plan.start plan.stop) ss)
-entering_runs plan ss = each_runs (λ (shape : Shape). C.EnterInitialization plan.start plan.stop) (λ s. refl) 0 ss
+-- the component's flag
+pub event_of : (cs : List Component) (k : ℕ) (c : Component) → slice_get cs k ≡ Some c → is_event (map (λ (x : Component). x.shape) cs) k ≡ c.shape.has_event_mode
+event_of [] k c is = absurd (cc)
+event_of (x ∷ cs) zero c is = ap (λ (o : Component). o.shape.has_event_mode) (same_Some _ _ is)
+event_of (x ∷ cs) (suc k) c is = event_of cs k c is
 
-pub leaving_runs : (ss : List Shape) → All Asks (to_each (λ (shape : Shape). C.ExitInitialization) ss)
-leaving_runs ss = each_runs (λ (shape : Shape). C.ExitInitialization) (λ s. refl) 0 ss
+-- what holds of each call holds of that of the k-th
+asked_all : (P : Call → Type 0) (test : Shape → Bool) (call : Shape → Call) → ((s : Shape) → P (call s)) → (k : ℕ) (ss : List Shape) → All P (asked_at test call ss k)
+asked_all P test call h k [] = All-nil P
+asked_all P test call h zero (s ∷ ss) = by (test s) where
+  by : (b : Bool) → All P (if b then call s ∷ [] else [])
+  by true = All-cons P (call s) [] (h s) (All-nil P)
+  by false = All-nil P
+asked_all P test call h (suc k) (s ∷ ss) = asked_all P test call h k ss
 
-pub stepping_runs : (system : System) (from to : ℕ) → All Asks (stepping system from to)
-stepping_runs system from to = each_runs (λ (shape : Shape). C.DoStep from _) (λ s. refl) 0 (shapes_of system)
+pub those_all : (P : Call → Type 0) (test : Shape → Bool) (call : Shape → Call) → ((s : Shape) → P (call s)) → (k : ℕ) (ss : List Shape) → All P (own k (to_those test call ss))
+those_all P test call h k ss = subst (All P) (sym (own_those test call k ss)) (asked_all P test call h k ss)
+
+pub event_inside : (ss : List Shape) (k : ℕ) → is_event ss k ≡ true → k < length ss
+event_inside [] k h = absurd (cc)
+event_inside (s ∷ ss) zero h = omega arith
+event_inside (s ∷ ss) (suc k) h = let w = event_inside ss k h in omega (arith, w)

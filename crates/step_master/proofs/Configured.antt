@@ -18,11 +18,11 @@ use Rattle.run_model.specs.Run.{Run}
 use Rattle.slot_calls.specs.Log.{Asking, Sent, asking_of, askings, part}
 use Rattle.slot_calls.specs.Replies.{state_by, states_by}
 use Rattle.slot_calls.specs.Stage.{IsAnswered, shapes_of}
+use Rattle.event_iteration.proofs.Fmus.{each_same}
 use Rattle.calling_sequence.specs.Course.{binding, binding_from, sets_of}
-use Rattle.calling_sequence.proofs.Chains.{first_same, other, rest_same, same}
+use Rattle.slot_calls.proofs.Parts.{first_same, other, rest_same, same}
 use Rattle.step_master.specs.Lives.{calls_in}
 use Rattle.step_master.proofs.Calls.{own, own_append, own_calls, skips_call, takes_call}
-use Rattle.step_master.proofs.SideBySide.{each_same}
 
 -- ---- the Sets of one component
 

@@ -1,6 +1,6 @@
 -- How the calls of a run leave an instance: so that it can be closed.
 use Rattle.std.proofs.Common.{◌≡◌, ◌⊎◌, inl, inr, Bool, true, false, List, [], ◌∷◌, Option, Some, None, Result, Ok, Err, refl, sym, ap, ◌∙◌, subst}
-use Rattle.std.specs.Prelude.{All}
+use Rattle.std.specs.Prelude.{All, if◌then◌else◌}
 use Rattle.std.specs.Result.{result_ok}
 use Rattle.std.proofs.lemmas.List.Elements.{All-head, All-tail}
 use Rattle.value_types.specs.declared.shape.Shape.{Shape}
@@ -53,7 +53,13 @@ bad_state s call Fatal m h = inl refl
 entered_closable : (shape : Shape) (p : Phase) (call : Call) (reply : Reply) → IsMid call → IsClosable p → IsClosable (entered shape p call reply)
 entered_closable shape p (C.Instantiate event_mode early_return) reply m h = absurd m
 entered_closable shape p (C.EnterInitialization start stop) reply m h = record { empty = h.empty; state = inr refl }
-entered_closable shape p C.ExitInitialization reply m h = record { empty = h.empty; state = inr refl }
+entered_closable shape p C.ExitInitialization reply m h = record { empty = h.empty; state = inr (running_freed shape.has_event_mode) } where
+  running_freed : (b : Bool) → can_be_freed (if b then P.Event else P.Step) false ≡ true
+  running_freed true = refl
+  running_freed false = refl
+entered_closable shape p C.EnterEvent reply m h = record { empty = h.empty; state = inr refl }
+entered_closable shape p C.EnterStep reply m h = record { empty = h.empty; state = inr refl }
+entered_closable shape p C.Update reply m h = record { empty = h.empty; state = h.state }
 entered_closable shape p (C.DoStep at size) reply m h = record { empty = h.empty; state = h.state }
 entered_closable shape p (C.Set kind reference value) reply m h = record { empty = h.empty; state = h.state }
 entered_closable shape p C.Save reply m h = absurd (cc)
@@ -99,8 +105,17 @@ starts (C.Instantiate event_mode early_return) shape p at r may = (event_mode, e
 starts (C.EnterInitialization start stop) shape p at r may = absurd (clash at may.0) where
   clash : {s : InstanceState} → s ≡ P.Fresh → s ≡ P.Instantiated → ⊥
   clash h k = cc
-starts C.ExitInitialization shape p at r may = absurd (clash at may.0) where
+starts C.ExitInitialization shape p at r may = absurd (clash at may) where
   clash : {s : InstanceState} → s ≡ P.Fresh → s ≡ P.Initialization → ⊥
+  clash h k = cc
+starts C.EnterEvent shape p at r may = absurd (clash at may.0) where
+  clash : {s : InstanceState} → s ≡ P.Fresh → s ≡ P.Step → ⊥
+  clash h k = cc
+starts C.EnterStep shape p at r may = absurd (clash at may.0) where
+  clash : {s : InstanceState} → s ≡ P.Fresh → s ≡ P.Event → ⊥
+  clash h k = cc
+starts C.Update shape p at r may = absurd (clash at may) where
+  clash : {s : InstanceState} → s ≡ P.Fresh → s ≡ P.Event → ⊥
   clash h k = cc
 starts (C.DoStep t size) shape p at r may = absurd (clash at may.0) where
   clash : {s : InstanceState} → s ≡ P.Fresh → s ≡ P.Step → ⊥

@@ -1,6 +1,6 @@
 -- A bad answer of machines that behave well is none of theirs: the call failed.
-use Rattle.std.proofs.Common.{◌≡◌, ℕ, suc, ◌+◌, ◌<◌, ◌==◌, true, List, [], ◌∷◌, ◌++◌, Result, refl, sym, ap, ◌∙◌, subst, append_assoc, arith, length, get_or, ℤ, Option}
-use Rattle.std.specs.Prelude.{All}
+use Rattle.std.proofs.Common.{◌≡◌, ℕ, suc, ◌+◌, ◌<◌, ◌==◌, Bool, true, false, List, [], ◌∷◌, ◌++◌, Result, refl, sym, ap, ◌∙◌, subst, append_assoc, arith, length, get_or, ℤ, Option}
+use Rattle.std.specs.Prelude.{All, if◌then◌else◌}
 use Rattle.std.specs.Result.{is_err}
 use Rattle.std.proofs.lemmas.List.{append-nil, length-map}
 use Rattle.value_types.specs.declared.shape.Shape.{Shape}
@@ -12,15 +12,15 @@ use Rattle.fmu_peer.specs.declared.peer.PeerFault.{PeerFault}
 use Rattle.fmu_peer.specs.Answer.{IsLink, IsWhy}
 use Rattle.fmu_peer.specs.Machine.{Machine, MachineState}
 use Rattle.system_model.specs.declared.system.Component.{Component}
-use Rattle.run_model.specs.Behaved.{AnswersWell, IsAnsweredWell}
+use Rattle.run_model.specs.Behaved.{IsAnsweredWell}
 use Rattle.run_model.specs.Run.{IsFmu, Run}
 use Rattle.run_model.proofs.States.{fmu_before}
 use Rattle.slot_calls.specs.declared.bad_answer.BadAnswer.{BadAnswer}
 use Rattle.slot_calls.specs.Replies.{RepliesBy}
 use Rattle.step_master.specs.Lives.{is_unanswered}
 use Rattle.slot_calls.specs.Log.{Asking, Sent, asking_of, askings, part}
-use Rattle.slot_calls.specs.Stage.{FailsIn, IsGoodOf, StopsAt, shapes_of, to_each, to_each_from}
-use Rattle.calling_sequence.proofs.Chains.{first_same, other, rest_same, same, skips, takes}
+use Rattle.slot_calls.specs.Stage.{FailsIn, IsGoodOf, StopsAt, shapes_of, to_those, to_those_from}
+use Rattle.slot_calls.proofs.Parts.{first_same, other, rest_same, same, skips, takes}
 use Rattle.slot_calls.specs.Replies.{AreReplies, state_by, states_by}
 use Rattle.event_iteration.specs.Explains.{ExplainsUntil}
 use Rattle.event_iteration.specs.Turns.{Rules}
@@ -32,34 +32,50 @@ use Rattle.step_master.proofs.SideBySide.{AreAll, all_on, fmu_at}
 
 -- ---- the turn of a call
 
--- in one call to each, the call of the place, in front of which its FMU wasn't asked
-pub record IsTurn (call : Shape → Call) (i : ℕ) (todo : List Shape) (front : List Sent) (last : Sent) : Type 0 where
+-- in one call to some, the call of the place, in front of which its FMU wasn't asked
+pub record IsTurn (test : Shape → Bool) (call : Shape → Call) (i : ℕ) (todo : List Shape) (front : List Sent) (last : Sent) : Type 0 where
   pub place : ℕ
   pub at : last.component ≡ i + place
   pub within : place < length todo
   pub none : part last.component front ≡ []
+  pub asked : (d : Shape) → test (get_or todo place d) ≡ true
   pub call_is : (d : Shape) → last.exchange.call ≡ call (get_or todo place d)
 
-pub turn : (call : Shape → Call) (i : ℕ) (todo : List Shape) (front : List Sent) (last : Sent) (back : List Sent) (left : List Asking) → to_each_from i call todo ≡ askings (front ++ last ∷ back) ++ left → IsTurn call i todo front last
-turn call i [] [] last back left is = absurd (cc)
-turn call i [] (f ∷ front) last back left is = absurd (cc)
-turn call i (t ∷ todo) [] last back left is =
-    let first = first_same (record { component = i; call = call t }) (asking_of last) (to_each_from (i + 1) call todo) (askings back ++ left) is in
-    let at : i ≡ last.component = ap (λ (a : Asking). a.component) first in
-    record { place = 0; at = omega (arith, at); within = omega arith; none = refl; call_is = λ d. sym (ap (λ (a : Asking). a.call) first) }
-turn call i (t ∷ todo) (f ∷ front) last back left is =
-    let first = first_same (record { component = i; call = call t }) (asking_of f) (to_each_from (i + 1) call todo) (askings (front ++ last ∷ back) ++ left) is in
-    let at : i ≡ f.component = ap (λ (a : Asking). a.component) first in
-    let more = turn call (i + 1) todo front last back left (rest_same (record { component = i; call = call t }) (asking_of f) (to_each_from (i + 1) call todo) (askings (front ++ last ∷ back) ++ left) is) in
-    let more_at = more.at in
-    let more_within = more.within in
-    record {
-      place = suc more.place;
-      at = omega (arith, more_at);
-      within = omega (arith, more_within);
-      none = skips (f.component == last.component) f.exchange (part last.component front) (other f.component last.component (λ e. absurd (omega (arith, at, e, more_at)))) ∙ more.none;
-      call_is = more.call_is;
-    }
+module _ (test : Shape → Bool) (call : Shape → Call) (last : Sent) (back : List Sent) (left : List Asking) where
+  abbrev behind : List Sent → List Asking
+  behind front = askings (front ++ last ∷ back) ++ left
+
+  turn_first : (i : ℕ) (t : Shape) (todo : List Shape) (b : Bool) (front : List Sent) → test t ≡ b →
+      (if b then record { component = i; call = call t } ∷ to_those_from (i + 1) test call todo else to_those_from (i + 1) test call todo) ≡ behind front →
+      ((more : List Sent) → to_those_from (i + 1) test call todo ≡ behind more → IsTurn test call (i + 1) todo more last) → IsTurn test call i (t ∷ todo) front last
+  turn_first i t todo false front own is rest =
+      let more = rest front is in
+      let more_at = more.at in
+      let more_within = more.within in
+      record { place = suc more.place; at = omega (arith, more_at); within = omega (arith, more_within); none = more.none; asked = more.asked; call_is = more.call_is }
+  turn_first i t todo true [] own is rest =
+      let first = first_same (record { component = i; call = call t }) (asking_of last) (to_those_from (i + 1) test call todo) (askings back ++ left) is in
+      let at : i ≡ last.component = ap (λ (a : Asking). a.component) first in
+      record { place = 0; at = omega (arith, at); within = omega arith; none = refl; asked = λ d. own; call_is = λ d. sym (ap (λ (a : Asking). a.call) first) }
+  turn_first i t todo true (f ∷ front) own is rest =
+      let first = first_same (record { component = i; call = call t }) (asking_of f) (to_those_from (i + 1) test call todo) (behind front) is in
+      let at : i ≡ f.component = ap (λ (a : Asking). a.component) first in
+      let more = rest front (rest_same (record { component = i; call = call t }) (asking_of f) (to_those_from (i + 1) test call todo) (behind front) is) in
+      let more_at = more.at in
+      let more_within = more.within in
+      record {
+        place = suc more.place;
+        at = omega (arith, more_at);
+        within = omega (arith, more_within);
+        none = skips (f.component == last.component) f.exchange (part last.component front) (other f.component last.component (λ e. absurd (omega (arith, at, e, more_at)))) ∙ more.none;
+        asked = more.asked;
+        call_is = more.call_is;
+      }
+
+  pub turn : (i : ℕ) (todo : List Shape) (front : List Sent) → to_those_from i test call todo ≡ behind front → IsTurn test call i todo front last
+  turn i [] [] is = absurd (cc)
+  turn i [] (f ∷ front) is = absurd (cc)
+  turn i (t ∷ todo) front is = turn_first i t todo (test t) front refl is (λ more e. turn (i + 1) todo more e)
 
 -- ---- a call that failed
 
@@ -90,6 +106,10 @@ link_lost shape (Refused call status) e l w = absurd l
 link_lost shape (Misreply call reply) e l w = absurd l
 link_lost shape (Link call fault) e l w = ap (λ (r : Result _ PeerFault). is_err r) w.1
 
+-- each FMU that is asked this answers it well
+abbrev pub AnswerWell : Run → List MachineState → (Shape → Bool) → (Shape → Call) → Type 0
+AnswerWell r ss test call = (i : ℕ) (c : Component) (m : Machine) (s : MachineState) → IsFmu r ss i c m s → test c.shape ≡ true → IsAnsweredWell c.shape m s (call c.shape)
+
 module _ (r : Run) (ss : List MachineState) (all : AreAll r ss) where
   module _ (front : List Sent) (last : Sent) (back : List Sent) (why : Why) (replies : AreReplies r ss (front ++ last ∷ back)) (good : All (IsGoodOf (shapes_of r.system)) front)
       (is : (d : Shape) → IsWhy (get_or (shapes_of r.system) last.component d) why last.exchange) where
@@ -109,11 +129,11 @@ module _ (r : Run) (ss : List MachineState) (all : AreAll r ss) where
     shapes_length : length (shapes_of r.system) ≡ length r.system.components
     shapes_length = length-map r.system.components (λ (c : Component). c.shape)
 
-    -- in one call to each, that each answers well
-    pub lost_in_stage : (call : Shape → Call) (left : List Asking) → to_each call (shapes_of r.system) ≡ askings (front ++ last ∷ back) ++ left → ((i : ℕ) → AnswersWell r ss i call) →
+    -- in one call to some, that each of them answers well
+    pub lost_in_stage : (test : Shape → Bool) (call : Shape → Call) (left : List Asking) → to_those test call (shapes_of r.system) ≡ askings (front ++ last ∷ back) ++ left → AnswerWell r ss test call →
         IsLost (length r.system.components) (front ++ last ∷ back) why
-    lost_in_stage call left calls well =
-        let t = turn call 0 (shapes_of r.system) front last back left calls in
+    lost_in_stage test call left calls well =
+        let t = turn test call last back left 0 (shapes_of r.system) front calls in
         let at = t.at in
         let within = t.within in
         let len = shapes_length in
@@ -121,24 +141,25 @@ module _ (r : Run) (ss : List MachineState) (all : AreAll r ss) where
         (λ c m s fmu.
         let old = fmu_before r ss (λ j d n z. state_by n z (part j front)) last.component c m s fmu in
         let place : t.place ≡ last.component = omega (arith, at) in
-        let call_is : last.exchange.call ≡ call c.shape =
-        t.call_is c.shape ∙ ap (λ (n : ℕ). call (get_or (shapes_of r.system) n c.shape)) place ∙ ap call (sym (shape_at r ss last.component c fmu.component c.shape)) in
+        let own : get_or (shapes_of r.system) t.place c.shape ≡ c.shape = ap (λ (n : ℕ). get_or (shapes_of r.system) n c.shape) place ∙ sym (shape_at r ss last.component c fmu.component c.shape) in
+        let call_is : last.exchange.call ≡ call c.shape = t.call_is c.shape ∙ ap call own in
+        let asked : test c.shape ≡ true = ap test (sym own) ∙ t.asked c.shape in
         let state_is : s ≡ old.before = old.is ∙ ap (state_by m old.before) t.none in
         subst (λ (z : MachineState). IsAnsweredWell c.shape m z last.exchange.call) (sym state_is)
-        (subst (λ (x : Call). IsAnsweredWell c.shape m old.before x) (sym call_is) (well last.component c m old.before old.fmu)))
+        (subst (λ (x : Call). IsAnsweredWell c.shape m old.before x) (sym call_is) (well last.component c m old.before old.fmu asked)))
 
 -- ---- where calls stop or fail
 
 module _ (r : Run) (ss : List MachineState) (all : AreAll r ss) (bad : BadAnswer) (log : List Sent) (replies : AreReplies r ss log) where
-  pub lost_stops : (call : Shape → Call) → StopsAt (shapes_of r.system) (to_each call (shapes_of r.system)) bad log → ((i : ℕ) → AnswersWell r ss i call) → IsLost (length r.system.components) log bad.why
-  lost_stops call s well =
+  pub lost_stops : (test : Shape → Bool) (call : Shape → Call) → StopsAt (shapes_of r.system) (to_those test call (shapes_of r.system)) bad log → AnswerWell r ss test call → IsLost (length r.system.components) log bad.why
+  lost_stops test call s well =
       subst (λ (l : List Sent). IsLost (length r.system.components) l bad.why) (sym s.log_is)
-      (lost_in_stage r ss all s.front s.last [] bad.why (subst (AreReplies r ss) s.log_is replies) s.first.good s.first.why call s.left (s.calls_are ∙ ap (λ (l : List Sent). askings l ++ s.left) s.log_is) well)
+      (lost_in_stage r ss all s.front s.last [] bad.why (subst (AreReplies r ss) s.log_is replies) s.first.good s.first.why test call s.left (s.calls_are ∙ ap (λ (l : List Sent). askings l ++ s.left) s.log_is) well)
 
-  pub lost_fails : (call : Shape → Call) → FailsIn (shapes_of r.system) (to_each call (shapes_of r.system)) bad log → ((i : ℕ) → AnswersWell r ss i call) → IsLost (length r.system.components) log bad.why
-  lost_fails call f well =
+  pub lost_fails : (test : Shape → Bool) (call : Shape → Call) → FailsIn (shapes_of r.system) (to_those test call (shapes_of r.system)) bad log → AnswerWell r ss test call → IsLost (length r.system.components) log bad.why
+  lost_fails test call f well =
       subst (λ (l : List Sent). IsLost (length r.system.components) l bad.why) (sym f.log_is)
-      (lost_in_stage r ss all f.front f.last f.back bad.why (subst (AreReplies r ss) f.log_is replies) f.first.good f.first.why call []
+      (lost_in_stage r ss all f.front f.last f.back bad.why (subst (AreReplies r ss) f.log_is replies) f.first.good f.first.why test call []
       (sym f.calls_are ∙ ap askings f.log_is ∙ sym (append-nil (askings (f.front ++ f.last ∷ f.back)))) well)
 
   -- in a walk, at a call that its FMU answers well in its state there

@@ -1,13 +1,10 @@
 -- Logs of told machines: each reply is the machine's, in the state behind the exchanges before it.
-use Rattle.std.proofs.Common.{◌≡◌, ℕ, suc, ◌+◌, ◌<◌, ◌==◌, Bool, List, [], ◌∷◌, ◌++◌, Some, Result, Ok, refl, sym, ap, ap₂, ◌∙◌, subst, arith, length, get_or, map}
-use Rattle.std.specs.Prelude.{All, ◌||◌, MatchResult}
+use Rattle.std.proofs.Common.{◌≡◌, ℕ, suc, ◌+◌, ◌<◌, ◌==◌, Bool, true, false, List, [], ◌∷◌, ◌++◌, Some, Result, Ok, refl, sym, ap, ap₂, ◌∙◌, subst, arith, length, get_or, map}
+use Rattle.std.specs.Prelude.{All, ◌||◌, MatchResult, if◌then◌else◌}
 use Rattle.std.specs.List.{list_any, slice_get}
 use Rattle.std.proofs.lemmas.List.{length-map}
-use Rattle.std.proofs.lemmas.List.Elements.{All-head, All-tail}
 use Rattle.value_types.specs.declared.shape.Shape.{Shape}
-use Rattle.value_types.specs.declared.values.PortType.{PortType}
 use Rattle.fmi_calls.specs.declared.call.Call.{Call}
-use Rattle.fmi_calls.specs.declared.call.Call.TheVariants as C
 use Rattle.fmi_calls.specs.declared.call.Grade.TheVariants as G
 use Rattle.fmi_calls.specs.declared.call.Reply.{Reply}
 use Rattle.fmi_calls.specs.Worth.{grade_of}
@@ -27,27 +24,18 @@ use Rattle.slot_calls.specs.Carried.{any_asks_to_end, ends_by}
 use Rattle.slot_calls.specs.Replies.{AreReplies, RepliesBy, state_by, states_by}
 use Rattle.slot_calls.proofs.Replying.{replied_good, replies_back, replies_front, state_by_append}
 use Rattle.slot_calls.specs.Log.{Asking, Sent, asking_of, askings, part}
-use Rattle.slot_calls.specs.Stage.{IsAnswered, IsGoodOf, shapes_of, to_each, to_each_from}
+use Rattle.slot_calls.specs.Stage.{IsAnswered, IsGoodOf, everyone, shapes_of, to_each, to_those, to_those_from}
 use Rattle.slot_calls.proofs.Answered.{map_at}
-use Rattle.step_master.proofs.Badly.{good_part}
-use Rattle.calling_sequence.proofs.Chains.{PartIs, each_part, first_same, other, rest_same, same, skips, takes}
+use Rattle.event_iteration.proofs.Fmus.{each_same}
+use Rattle.event_iteration.proofs.Parts.{good_in_part}
+use Rattle.slot_calls.proofs.Parts.{first_same, other, part_asked, part_unasked, rest_same, same, skips, takes}
 use Rattle.slot_calls.proofs.Logs.{part_append}
 use Rattle.step_master.proofs.Prepared.{get_here, is_within}
-use Rattle.step_master.proofs.SideBySide.{AreAll, each_each, each_same}
+use Rattle.step_master.proofs.SideBySide.{AreAll, each_each}
 
 -- ---- one machine
 
--- the exchange is a Get
-abbrev pub IsGet : Exchange → Type 0
-IsGet e = (kind : PortType) × (reference : ℕ) × (e.call ≡ C.Get kind reference)
-
 module _ (m : Machine) where
-  -- Gets leave the state
-  pub gets_stay : (s : MachineState) (es : List Exchange) → All IsGet es → state_by m s es ≡ s
-  gets_stay s [] k = refl
-  gets_stay s (e ∷ es) k =
-      let head = All-head IsGet e es k in ap (λ (z : MachineState). state_by m z es) (ap (after m s) head.2) ∙ gets_stay s es (All-tail IsGet e es k)
-
   -- a bad answer to a call that is answered well is none of the machine's
   pub only_link : (shape : Shape) (s : MachineState) (e : Exchange) (es : List Exchange) (why : Why) (call : Call) → RepliesBy m s (e ∷ es) → e.call ≡ call → IsAnsweredWell shape m s call → IsWhy shape why e → IsLink why
   only_link shape s e es (Link c fault) call h is well why = tt
@@ -88,7 +76,7 @@ module _ (r : Run) (ss : List MachineState) where
   replies_then a b good h i c m z fmu =
       let old = fmu_before r ss (λ j d n s. state_by n s (part j a)) i c m z fmu in
       subst (λ (x : MachineState). RepliesBy m x (part i b)) (sym old.is)
-      (replies_back m (get_or (shapes_of r.system) i c.shape) old.before (part i a) (part i b) (good_part (shapes_of r.system) a good i c.shape)
+      (replies_back m (get_or (shapes_of r.system) i c.shape) old.before (part i a) (part i b) (good_in_part (shapes_of r.system) a good i c.shape)
       (subst (RepliesBy m old.before) (part_append i a b) (h i c m old.before old.fmu)))
 
   pub shape_at : (i : ℕ) (c : Component) → slice_get r.system.components i ≡ Some c → (d : Shape) → c.shape ≡ get_or (shapes_of r.system) i d
@@ -97,7 +85,7 @@ module _ (r : Run) (ss : List MachineState) where
   in_shapes : (i : ℕ) (c : Component) → slice_get r.system.components i ≡ Some c → i < length (shapes_of r.system)
   in_shapes i c at = let e = length-map r.system.components (λ (x : Component). x.shape) in let w = is_within r.system.components i c at in omega (arith, e, w)
 
-  -- ---- one call to each
+  -- ---- one call to some
 
   -- the one exchange with an FMU: a good reply of its machine
   pub record IsOne (log : List Sent) (call : Call) (i : ℕ) (shape : Shape) (m : Machine) (s : MachineState) : Type 0 where
@@ -107,21 +95,32 @@ module _ (r : Run) (ss : List MachineState) where
     pub result_is : exchange.result ≡ Ok (m.look s call)
     pub good : IsAnsweredWell shape m s call
 
-  module _ (call : Shape → Call) (log : List Sent) (answered : IsAnswered (shapes_of r.system) (to_each call (shapes_of r.system)) log) (replies : AreReplies r ss log) where
-    pub one_of : (i : ℕ) (c : Component) (m : Machine) (s : MachineState) → IsFmu r ss i c m s → IsOne log (call c.shape) i c.shape m s
-    one_of i c m s fmu =
-        let p = subst (λ (n : ℕ). PartIs (shapes_of r.system) n (call (get_or (shapes_of r.system) i c.shape)) log) (omega arith)
-        (each_part (shapes_of r.system) call 0 (shapes_of r.system) log answered.calls_are answered.good i c.shape (in_shapes i c fmu.component)) in
-        let call_is : p.exchange.call ≡ call c.shape = p.call_is ∙ ap call (sym (shape_at i c fmu.component c.shape)) in
+  module _ (test : Shape → Bool) (call : Shape → Call) (log : List Sent) (answered : IsAnswered (shapes_of r.system) (to_those test call (shapes_of r.system)) log) (replies : AreReplies r ss log) where
+    pub one_of : (i : ℕ) (c : Component) (m : Machine) (s : MachineState) → IsFmu r ss i c m s → test c.shape ≡ true → IsOne log (call c.shape) i c.shape m s
+    one_of i c m s fmu asked =
+        let shape_is = shape_at i c fmu.component c.shape in
+        let p = part_asked (shapes_of r.system) test call log answered i c.shape (in_shapes i c fmu.component) (ap test (sym shape_is) ∙ asked) in
+        let call_is : p.exchange.call ≡ call c.shape = p.call_is ∙ ap call (sym shape_is) in
         let one = replied_good m (get_or (shapes_of r.system) i c.shape) s p.exchange [] (p.good c.shape) (subst (RepliesBy m s) p.is (replies i c m s fmu)) in
         let result_is : p.exchange.result ≡ Ok (m.look s (call c.shape)) = one.0 ∙ ap (λ (x : Call). Ok (m.look s x)) call_is in
-        record { exchange = p.exchange; is = p.is; call_is = call_is; result_is = result_is; good = well_by p.exchange c.shape m s (call c.shape) call_is result_is (subst (λ (x : Shape). T.IsGood x p.exchange) (sym (shape_at i c fmu.component c.shape)) (p.good c.shape)) }
+        record {
+          exchange = p.exchange;
+          is = p.is;
+          call_is = call_is;
+          result_is = result_is;
+          good = well_by p.exchange c.shape m s (call c.shape) call_is result_is (subst (λ (x : Shape). T.IsGood x p.exchange) (sym shape_is) (p.good c.shape));
+        }
 
-    pub stage_states : states_by r ss log ≡ each r ss (λ i c m s. after m s (call c.shape))
-    stage_states = each_same r ss (λ i c m s. state_by m s (part i log)) (λ i c m s. after m s (call c.shape))
-        (λ i c m s fmu. let one = one_of i c m s fmu in ap (state_by m s) one.is ∙ ap (after m s) one.call_is)
+    state_if : (i : ℕ) (c : Component) (m : Machine) (s : MachineState) → IsFmu r ss i c m s → (b : Bool) → test c.shape ≡ b → state_by m s (part i log) ≡ (if b then after m s (call c.shape) else s)
+    state_if i c m s fmu true asked = let one = one_of i c m s fmu asked in ap (state_by m s) one.is ∙ ap (after m s) one.call_is
+    state_if i c m s fmu false unasked =
+        ap (state_by m s) (part_unasked (shapes_of r.system) test call log answered i c.shape (in_shapes i c fmu.component) (ap test (sym (shape_at i c fmu.component c.shape)) ∙ unasked))
 
-  any_from : (call : Shape → Call) (k : ℕ) (cs : List Component) (ms : List Machine) (zs : List MachineState) (log : List Sent) → askings log ≡ to_each_from k call (map (λ (c : Component). c.shape) cs) →
+    -- each that was asked has changed
+    pub stage_states : states_by r ss log ≡ each r ss (λ i c m s. if test c.shape then after m s (call c.shape) else s)
+    stage_states = each_same r ss (λ i c m s. state_by m s (part i log)) (λ i c m s. if test c.shape then after m s (call c.shape) else s) (λ i c m s fmu. state_if i c m s fmu (test c.shape) refl)
+
+  any_from : (call : Shape → Call) (k : ℕ) (cs : List Component) (ms : List Machine) (zs : List MachineState) (log : List Sent) → askings log ≡ to_those_from k everyone call (map (λ (c : Component). c.shape) cs) →
       length ms ≡ length cs → length zs ≡ length cs →
       ((i : ℕ) (c : Component) (m : Machine) (s : MachineState) → slice_get cs i ≡ Some c → slice_get ms i ≡ Some m → slice_get zs i ≡ Some s → IsOne log (call c.shape) (k + i) c.shape m s) →
       any_asks_to_end log ≡ list_any (λ b. b) (each_from (λ i c m s. is_terminating (m.look s (call c.shape))) k cs ms zs)
@@ -131,24 +130,24 @@ module _ (r : Run) (ss : List MachineState) where
   any_from call k (c ∷ cs) (m ∷ ms) [] log is e f h = absurd (omega (arith, f))
   any_from call k (c ∷ cs) (m ∷ ms) (z ∷ zs) [] is e f h = absurd (cc)
   any_from call k (c ∷ cs) (m ∷ ms) (z ∷ zs) (s ∷ log) is e f h =
-      let first = first_same (asking_of s) (record { component = k; call = call c.shape }) (askings log) (to_each_from (k + 1) call (map (λ (x : Component). x.shape) cs)) is in
-      let rest = rest_same (asking_of s) (record { component = k; call = call c.shape }) (askings log) (to_each_from (k + 1) call (map (λ (x : Component). x.shape) cs)) is in
+      let shapes : List Shape = map (λ (x : Component). x.shape) cs in
+      let first = first_same (asking_of s) (record { component = k; call = call c.shape }) (askings log) (to_those_from (k + 1) everyone call shapes) is in
+      let rest = rest_same (asking_of s) (record { component = k; call = call c.shape }) (askings log) (to_those_from (k + 1) everyone call shapes) is in
       let at : s.component ≡ k = ap (λ (a : Asking). a.component) first in
       let next : k + 1 ≡ suc k = omega arith in
       let one = h 0 c m z refl refl refl in
       let own : s.exchange ≡ one.exchange =
       first_same s.exchange one.exchange (part (k + 0) log) [] (sym (takes (s.component == k + 0) s.exchange (part (k + 0) log) (same s.component (k + 0) (omega (arith, at)))) ∙ one.is) in
       ap₂ (λ (a b : Bool). a || b) (ap ends_by (ap (λ (x : Exchange). x.result) own ∙ one.result_is))
-      (any_from call (suc k) cs ms zs log (rest ∙ ap (λ (n : ℕ). to_each_from n call (map (λ (x : Component). x.shape) cs)) next) (omega (arith, e)) (omega (arith, f))
+      (any_from call (suc k) cs ms zs log (rest ∙ ap (λ (n : ℕ). to_those_from n everyone call shapes) next) (omega (arith, e)) (omega (arith, f))
       (λ i d n y at_c at_m at_z.
       let more = h (suc i) d n y at_c at_m at_z in
       let skip : part (k + suc i) (s ∷ log) ≡ part (suc k + i) log = skips (s.component == k + suc i) s.exchange (part (k + suc i) log) (other s.component (k + suc i) (λ q. absurd (omega (arith, at, q)))) ∙ ap (λ (j : ℕ). part j log) (omega arith) in
       record { exchange = more.exchange; is = sym skip ∙ more.is; call_is = more.call_is; result_is = more.result_is; good = more.good }))
 
-  module _ (all : AreAll r ss) where
-    -- whether one asks for the end
-    pub any_asks : (call : Shape → Call) (log : List Sent) → IsAnswered (shapes_of r.system) (to_each call (shapes_of r.system)) log → AreReplies r ss log →
-        any_asks_to_end log ≡ list_any (λ b. b) (each r ss (λ i c m s. is_terminating (m.look s (call c.shape))))
-    any_asks call log answered replies =
-        any_from call 0 r.system.components r.machines ss log answered.calls_are all.machines all.states
-        (λ i c m s at_c at_m at_s. subst (λ (n : ℕ). IsOne log (call c.shape) n c.shape m s) (omega arith) (one_of call log answered replies i c m s (record { component = at_c; machine = at_m; state = at_s })))
+  -- whether one asks for the end, where each was asked
+  pub any_asks : AreAll r ss → (call : Shape → Call) (log : List Sent) → IsAnswered (shapes_of r.system) (to_each call (shapes_of r.system)) log → AreReplies r ss log →
+      any_asks_to_end log ≡ list_any (λ b. b) (each r ss (λ i c m s. is_terminating (m.look s (call c.shape))))
+  any_asks all call log answered replies =
+      any_from call 0 r.system.components r.machines ss log answered.calls_are all.machines all.states
+      (λ i c m s at_c at_m at_s. subst (λ (n : ℕ). IsOne log (call c.shape) n c.shape m s) (omega arith) (one_of everyone call log answered replies i c m s (record { component = at_c; machine = at_m; state = at_s }) refl))

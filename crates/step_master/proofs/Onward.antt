@@ -1,5 +1,5 @@
--- Where a run of told machines goes from a point: the values of its instant, the step and what follows.
-use Rattle.std.proofs.Common.{◌≡◌, ◌≢◌, ℕ, zero, suc, ◌+◌, ◌-◌, ◌<◌, ◌==◌, ℤ, Bool, true, false, List, [], ◌∷◌, Option, Some, None, refl, sym, ap, ap₂, ◌∙◌, subst, arith, length, map, not}
+-- Where a run of told machines goes from a point that is done: the step and what follows.
+use Rattle.std.proofs.Common.{◌≡◌, ◌≢◌, ℕ, zero, suc, ◌+◌, ◌-◌, ◌<◌, ◌==◌, Bool, true, false, List, [], ◌∷◌, Option, Some, None, refl, sym, ap, ap₂, ◌∙◌, subst, arith, length, map, not}
 use Rattle.std.specs.Prelude.{All, ◌&&◌, if◌then◌else◌, min, position, slice_index_or}
 use Rattle.std.specs.List.{list_any, slice_get}
 use Rattle.std.proofs.lemmas.List.{get_or_default}
@@ -11,31 +11,26 @@ use Rattle.value_types.proofs.IndexLemmas.{position-map}
 use Rattle.fmi_calls.specs.declared.call.Call.TheVariants as C
 use Rattle.fmu_peer.specs.Machine.{Machine, MachineState, after}
 use Rattle.system_model.specs.declared.system.Component.{Component}
-use Rattle.system_model.specs.Sound.{IsSound}
 use Rattle.run_model.specs.Run.{IsFmu, Run, Situation, each, each_from}
-use Rattle.run_model.specs.AfterInstant as F
-use Rattle.run_model.specs.AfterInstant.{Done, Following}
 use Rattle.run_model.specs.Behaved as B
 use Rattle.run_model.specs.Behaved.{IsAnsweredWell}
-use Rattle.run_model.specs.Equations.{Solves}
 use Rattle.run_model.specs.Inputs.{state_with}
 use Rattle.run_model.specs.Stepping as P
-use Rattle.run_model.specs.Stepping.{GoesOn, Next, asks_to_end, departing, end_in, is_terminating, kept_at, step_to, stepped, steppers}
-use Rattle.run_model.specs.Steps.{AllMeet, IsBound, MayAsk, Stepper, StopsFirst, least_or, met}
-use Rattle.run_model.specs.Trace.{Leads, LeadsBy}
+use Rattle.run_model.specs.Stepping.{asks_to_end, departing, end_in, is_terminating, kept_at, step_to, stepped, steppers}
+use Rattle.run_model.specs.Steps.{AllMeet, AskedFirst, IsAsked, IsBound, MayAsk, Stepper, StopsFirst, least_or, met}
 use Rattle.run_model.proofs.States.{each-get}
 use Rattle.slot_calls.specs.Carried.{any_asks_to_end}
+use Rattle.event_iteration.proofs.Fmus.{each_same}
 use Rattle.calling_sequence.specs.Course.{IsBoundOf, first_unfit, stepping}
 use Rattle.slot_calls.specs.Log.{Sent}
-use Rattle.slot_calls.specs.Stage.{IsAnswered, shapes_of}
+use Rattle.slot_calls.specs.Stage.{IsAnswered, everyone, shapes_of}
 use Rattle.calling_sequence.specs.Systems.{IsBuilt}
-use Rattle.step_master.proofs.Begun.{IsHere}
 use Rattle.slot_calls.specs.Replies.{AreReplies, states_by}
 use Rattle.step_master.proofs.Looking.{any_asks, one_of, stage_states}
 use Rattle.calling_sequence.proofs.Phases.{good_step_end}
 use Rattle.step_master.proofs.Prepared.{get_here, got, is_within}
-use Rattle.step_master.proofs.Quiet.{AreNever, bound_on, departing_is, is_done, next_never, no_early, no_event, set_all, updated_states}
-use Rattle.step_master.proofs.SideBySide.{AreAll, all_on, each_length, each_same}
+use Rattle.step_master.proofs.Quiet.{AreNever, bound_on, no_early}
+use Rattle.step_master.proofs.SideBySide.{AreAll, all_on, each_each, each_length}
 
 -- ---- lists
 
@@ -86,153 +81,136 @@ unfit_some false size step i o e h = (unequal size step e, h) where
   unequal : (a b : ℕ) → (a == b) ≡ false → a ≢ b
   unequal a b q = grind (arith, nat_tests)
 
-no_event_if : {X : Type 0} (b : Bool) (x y : X) → b ≡ false → (if b then x else y) ≡ y
-no_event_if true x y h = absurd (cc)
-no_event_if false x y h = refl
+-- a step begins at the point, where no Clock ticks
+pub record BeginsStep (r : Run) (t : ℕ) (z : Situation) : Type 0 where
+  pub point : z.t ≡ t
+  pub never : AreNever z.timers
+  pub all : AreAll r z.states
 
-module _ (r : Run) (sound : IsSound r.system) (built : IsBuilt r.system) (t : ℕ) (ss : List MachineState) (s : Situation) (here : IsHere r t ss s) (V : List (Option ℤ)) (solves : Solves r s V) where
-  -- the point is done with its first instant
-  abbrev pub done_here : Situation
-  done_here = F.updated r s V
+module _ (r : Run) (built : IsBuilt r.system) (t : ℕ) (z : Situation) (begins : BeginsStep r t z) where
+  -- those with event mode are in Step Mode, and of the others the inputs are set
+  abbrev pub departing_here : List MachineState
+  departing_here = departing r z
 
-  pub following_here : F.following r s V ≡ Done
-  following_here = is_done r sound built s V here.never
-
-  pub done_never : AreNever done_here.timers
-  done_never = next_never r sound built s V here.never
-
-  pub done_states : done_here.states ≡ ss
-  done_states = updated_states r sound built s V (subst (AreAll r) (sym here.states) here.all) ∙ here.states
-
-  -- the states with its values set
-  abbrev pub set_here : List MachineState
-  set_here = set_all r V ss
-
-  pub set_are_all : AreAll r set_here
-  set_are_all = all_on r ss here.all (λ i c m state. state_with r.system.ports V i m state)
-
-  pub departing_here : departing r done_here ≡ set_here
-  departing_here = departing_is r sound built done_here ∙ ap (set_all r V) done_states
-
-  -- what follows is what a step makes of it
-  pub leads_here : (next : Next) → P.Departs r done_here next → Leads r s V next
-  leads_here next d = subst (λ (f : Following). LeadsBy f r s V next) (sym following_here) d
-
-  -- ---- the step
+  pub departing_all : AreAll r departing_here
+  departing_all = all_on r z.states begins.all (λ i c m state. if c.shape.has_event_mode then after m state C.EnterStep else state_with r.system.ports z.before i m state)
 
   abbrev stepper_of : ℕ → ℕ → Component → Machine → MachineState → Stepper
   stepper_of at i c m state = record { has_variable_steps = c.shape.has_variable_steps; end = end_in m state at }
 
-  pub steppers_here : steppers r done_here ≡ each r set_here (stepper_of t)
-  steppers_here = ap₂ (λ (xs : List MachineState) (n : ℕ). each r xs (stepper_of n)) departing_here here.point
+  steppers_here : steppers r z ≡ each r departing_here (stepper_of t)
+  steppers_here = ap (λ (n : ℕ). each r departing_here (stepper_of n)) begins.point
 
   abbrev fixed_size : Stepper → Bool
   fixed_size x = true && not x.has_variable_steps
 
-  unvaried_here : position fixed_size (steppers r done_here) ≡ position (λ (c : Component). not c.shape.has_variable_steps) r.system.components
+  unvaried_here : position fixed_size (steppers r z) ≡ position (λ (c : Component). not c.shape.has_variable_steps) r.system.components
   unvaried_here =
       ap (position fixed_size) steppers_here
-      ∙ sym (position-map fixed_size (λ b. b) (each r set_here (stepper_of t)))
-      ∙ ap (position (λ b. b)) (map_from (stepper_of t) fixed_size (λ (c : Component). not c.shape.has_variable_steps) (λ i c m state. refl) 0 r.system.components r.machines set_here set_are_all.machines set_are_all.states)
+      ∙ sym (position-map fixed_size (λ b. b) (each r departing_here (stepper_of t)))
+      ∙ ap (position (λ b. b)) (map_from (stepper_of t) fixed_size (λ (c : Component). not c.shape.has_variable_steps) (λ i c m state. refl) 0 r.system.components r.machines departing_here departing_all.machines departing_all.states)
       ∙ position-map (λ (c : Component). not c.shape.has_variable_steps) (λ b. b) r.system.components
 
-  pub bound_here : (u : ℕ) → IsBoundOf r.plan t u → IsBound r.plan done_here.timers done_here.t u
-  bound_here u b = subst (λ (n : ℕ). IsBound r.plan done_here.timers n u) (sym here.point) (bound_on r.plan done_here.timers t u done_never b.bound)
+  bound_here : (u : ℕ) → IsBoundOf r.plan t u → IsBound r.plan z.timers z.t u
+  bound_here u b = subst (λ (n : ℕ). IsBound r.plan z.timers n u) (sym begins.point) (bound_on r.plan z.timers t u begins.never b.bound)
 
-  pub before_here : (u : ℕ) → IsBoundOf r.plan t u → done_here.t < r.plan.stop
-  before_here u b = subst (λ (n : ℕ). n < r.plan.stop) (sym here.point) b.before_stop
+  pub before_here : (u : ℕ) → IsBoundOf r.plan t u → z.t < r.plan.stop
+  before_here u b = subst (λ (n : ℕ). n < r.plan.stop) (sym begins.point) b.before_stop
 
   -- each may be asked to step so far
-  pub may_here : (u : ℕ) → first_unfit r.system r.plan (u - t) ≡ None → MayAsk (steppers r done_here) done_here.t r.plan.step u
+  may_here : (u : ℕ) → first_unfit r.system r.plan (u - t) ≡ None → MayAsk (steppers r z) z.t r.plan.step u
   may_here u fit i fixed =
       unfit_none ((u - t) == r.plan.step) (u - t) r.plan.step i (position (λ (c : Component). not c.shape.has_variable_steps) r.system.components) refl fit
-      (subst (λ (n : ℕ). u - n ≢ r.plan.step) here.point fixed.other_size) (sym unvaried_here ∙ fixed.least)
+      (subst (λ (n : ℕ). u - n ≢ r.plan.step) begins.point fixed.other_size) (sym unvaried_here ∙ fixed.least)
 
   -- or the least that takes no such size is told
-  pub lacks_here : (u i : ℕ) → IsBoundOf r.plan t u → first_unfit r.system r.plan (u - t) ≡ Some i → P.LacksStep r done_here i u
+  pub lacks_here : (u i : ℕ) → IsBoundOf r.plan t u → first_unfit r.system r.plan (u - t) ≡ Some i → P.LacksStep r z i u
   lacks_here u i bound unfit =
       let so = unfit_some ((u - t) == r.plan.step) (u - t) r.plan.step i (position (λ (c : Component). not c.shape.has_variable_steps) r.system.components) refl unfit in
       record {
         before_stop = before_here u bound;
         bound = u;
         is_bound = bound_here u bound;
-        stops = StopsFirst u i u (record { other_size = subst (λ (n : ℕ). u - n ≢ r.plan.step) (sym here.point) so.0; least = unvaried_here ∙ so.1 }) refl;
+        stops = StopsFirst u i u (record { other_size = subst (λ (n : ℕ). u - n ≢ r.plan.step) (sym begins.point) so.0; least = unvaried_here ∙ so.1 }) refl;
       }
 
-  -- the asks that are kept
-  abbrev pub kept_to : ℕ → List ℕ
-  kept_to u = map (λ (x : Stepper). u) (steppers r done_here)
+  module _ (u : ℕ) where
+    -- the asks that are kept
+    abbrev pub kept_to : List ℕ
+    kept_to = map (λ (x : Stepper). u) (steppers r z)
 
-  kept_is : (u i : ℕ) → i < length r.system.components → kept_at (kept_to u) i ≡ u
-  kept_is u i w =
-      let e : length (steppers r done_here) ≡ length r.system.components = ap length steppers_here ∙ each_length r set_here set_are_all (stepper_of t) in
-      const_at (steppers r done_here) u i (omega (arith, e, w))
+    kept_is : (i : ℕ) → i < length r.system.components → kept_at kept_to i ≡ u
+    kept_is i w =
+        let e : length (steppers r z) ≡ length r.system.components = ap length steppers_here ∙ each_length r departing_here departing_all (stepper_of t) in
+        const_at (steppers r z) u i (omega (arith, e, w))
 
-  call_is : (u i : ℕ) (c : Component) → slice_get r.system.components i ≡ Some c → step_to done_here.t (kept_at (kept_to u) i) ≡ C.DoStep t (u - t)
-  call_is u i c at = ap₂ step_to here.point (kept_is u i (is_within r.system.components i c at))
+    call_is : (i : ℕ) (c : Component) → slice_get r.system.components i ≡ Some c → step_to z.t (kept_at kept_to i) ≡ C.DoStep t (u - t)
+    call_is i c at = ap₂ step_to begins.point (kept_is i (is_within r.system.components i c at))
 
-  -- behind the step
-  abbrev pub next_here : ℕ → Situation
-  next_here u = stepped r done_here (kept_to u) u
+    -- each was stepped
+    abbrev pub stepped_here : List MachineState
+    stepped_here = each r departing_here (λ i c m state. after m state (C.DoStep t (u - t)))
 
-  pub next_states : (u : ℕ) → (next_here u).states ≡ each r set_here (λ i c m state. after m state (C.DoStep t (u - t)))
-  next_states u =
-      ap (λ (xs : List MachineState). each r xs (λ i c m state.
-      let there : MachineState = after m state (step_to done_here.t (kept_at (kept_to u) i)) in
-      if c.shape.has_event_mode then after m there C.EnterEvent else there)) departing_here
-      ∙ each_same r set_here (λ i c m state.
-      let there : MachineState = after m state (step_to done_here.t (kept_at (kept_to u) i)) in
-      if c.shape.has_event_mode then after m there C.EnterEvent else there) (λ i c m state. after m state (C.DoStep t (u - t)))
-      (λ i c m state fmu. no_event_if c.shape.has_event_mode _ _ (no_event r sound built i c fmu.component) ∙ ap (after m state) (call_is u i c fmu.component))
+    pub stepped_all : AreAll r stepped_here
+    stepped_all = all_on r departing_here departing_all (λ i c m state. after m state (C.DoStep t (u - t)))
 
-  -- a step that each answers well goes to its bound
-  module _ (u : ℕ) (bound : IsBoundOf r.plan t u) (good : (i : ℕ) (c : Component) (m : Machine) (state : MachineState) → IsFmu r set_here i c m state → IsAnsweredWell c.shape m state (C.DoStep t (u - t))) where
-    ends_well : (i : ℕ) (c : Component) (m : Machine) (state : MachineState) → IsFmu r set_here i c m state → end_in m state t u ≡ u
-    ends_well i c m state fmu =
-        let end : end_in m state t u ≡ t + (u - t) = good_step_end c.shape t (u - t) (m.look state (C.DoStep t (u - t))) (no_early r sound built i c fmu.component) (good i c m state fmu) in
-        let later = bound.bound.later in
-        end ∙ omega (arith, later)
+    pub asked_here : B.asked_states r z (kept_at kept_to) ≡ stepped_here
+    asked_here = each_same r departing_here (λ i c m state. after m state (step_to z.t (kept_at kept_to i))) (λ i c m state. after m state (C.DoStep t (u - t)))
+        (λ i c m state fmu. ap (after m state) (call_is i c fmu.component))
 
-    met_well : met (steppers r done_here) u ≡ u
-    met_well = ap (λ (xs : List Stepper). met xs u) steppers_here
-        ∙ met_same u u (map (λ (f : Stepper). f.end u) (each r set_here (stepper_of t))) refl
-        (All-map (λ (x : ℕ). x ≡ u) (λ (f : Stepper). f.end u) (each r set_here (stepper_of t)) (all_each r set_here (stepper_of t) (λ (f : Stepper). f.end u ≡ u) ends_well))
+    -- behind the step
+    abbrev pub next_here : Situation
+    next_here = stepped r z kept_to u
 
-    pub step_well : first_unfit r.system r.plan (u - t) ≡ None → P.IsStep r done_here (kept_to u) u
-    step_well fit = record {
-      before_stop = before_here u bound;
-      bound = u;
-      is_bound = bound_here u bound;
-      agree = AllMeet u (kept_to u) u (may_here u fit) met_well refl refl;
-    }
+    -- those with event mode entered Event Mode
+    pub next_states : each r stepped_here (λ i c m state. if c.shape.has_event_mode then after m state C.EnterEvent else state) ≡ next_here.states
+    next_states =
+        each_each (λ i c m state. after m state (C.DoStep t (u - t))) (λ i c m state. if c.shape.has_event_mode then after m state C.EnterEvent else state) 0 r.system.components r.machines departing_here
+        ∙ each_same r departing_here
+        (λ i c m state. let there : MachineState = after m state (C.DoStep t (u - t)) in if c.shape.has_event_mode then after m there C.EnterEvent else there)
+        (λ i c m state. let there : MachineState = after m state (step_to z.t (kept_at kept_to i)) in if c.shape.has_event_mode then after m there C.EnterEvent else there)
+        (λ i c m state fmu. ap (λ call. let there : MachineState = after m state call in if c.shape.has_event_mode then after m there C.EnterEvent else there) (sym (call_is i c fmu.component)))
 
-  -- behind it the run stands at the next point
-  pub next_is : (u : ℕ) → P.Departs r done_here (GoesOn (next_here u)) → IsHere r u (each r set_here (λ i c m state. after m state (C.DoStep t (u - t)))) (next_here u)
-  next_is u d = record {
-    point = refl;
-    first = refl;
-    never = done_never;
-    states = next_states u;
-    all = all_on r set_here set_are_all _;
-    reached = B.Onward s V (next_here u) here.reached solves (leads_here (GoesOn (next_here u)) d);
-  }
+    -- a step that each answers well goes to its bound
+    module _ (bound : IsBoundOf r.plan t u) where
+      -- on the way to an agreement each is asked this alone
+      pub asked_first : (i : ℕ) → first_unfit r.system r.plan (u - t) ≡ None → IsAsked (steppers r z) z.t r.plan.step u i u
+      asked_first i fit = AskedFirst u i u (may_here u fit) refl
 
-  module _ (u : ℕ) (bound : IsBoundOf r.plan t u) (steps : List Sent) (answered : IsAnswered (shapes_of r.system) (stepping r.system t u) steps) (replies : AreReplies r set_here steps) where
-    pub step_here : first_unfit r.system r.plan (u - t) ≡ None → P.IsStep r done_here (kept_to u) u
-    step_here fit = step_well u bound (λ i c m state fmu. let one = one_of r set_here (λ (shape : Shape). C.DoStep t (u - t)) steps answered replies i c m state fmu in one.good) fit
+      pub is_bound_here : IsBound r.plan z.timers z.t u
+      is_bound_here = bound_here u bound
 
-    -- an answer asks for the end in both
-    pub asks_here : any_asks_to_end steps ≡ asks_to_end r done_here (kept_to u)
-    asks_here = any_asks r set_here set_are_all (λ (shape : Shape). C.DoStep t (u - t)) steps answered replies
-        ∙ sym (ap (list_any (λ b. b)) (
-        ap (λ (xs : List MachineState). each r xs (λ i c m state. is_terminating (m.look state (step_to done_here.t (kept_at (kept_to u) i))))) departing_here
-        ∙ each_same r set_here (λ i c m state. is_terminating (m.look state (step_to done_here.t (kept_at (kept_to u) i)))) (λ i c m state. is_terminating (m.look state (C.DoStep t (u - t))))
-        (λ i c m state fmu. ap (λ call. is_terminating (m.look state call)) (call_is u i c fmu.component))))
+      module _ (good : (i : ℕ) (c : Component) (m : Machine) (state : MachineState) → IsFmu r departing_here i c m state → IsAnsweredWell c.shape m state (C.DoStep t (u - t))) where
+        ends_well : (i : ℕ) (c : Component) (m : Machine) (state : MachineState) → IsFmu r departing_here i c m state → end_in m state t u ≡ u
+        ends_well i c m state fmu =
+            let end : end_in m state t u ≡ t + (u - t) = good_step_end c.shape t (u - t) (m.look state (C.DoStep t (u - t))) (no_early r built i c fmu.component) (good i c m state fmu) in
+            let later = bound.bound.later in
+            end ∙ omega (arith, later)
 
-    -- where none does, the step goes on
-    pub goes_on_here : first_unfit r.system r.plan (u - t) ≡ None → any_asks_to_end steps ≡ false → P.Departs r done_here (GoesOn (next_here u))
-    goes_on_here fit none = P.ByStep (GoesOn (next_here u)) (kept_to u) u (step_here fit) (sym asks_here ∙ none) refl
+        met_well : met (steppers r z) u ≡ u
+        met_well = ap (λ (xs : List Stepper). met xs u) steppers_here
+            ∙ met_same u u (map (λ (f : Stepper). f.end u) (each r departing_here (stepper_of t))) refl
+            (All-map (λ (x : ℕ). x ≡ u) (λ (f : Stepper). f.end u) (each r departing_here (stepper_of t)) (all_each r departing_here (stepper_of t) (λ (f : Stepper). f.end u ≡ u) ends_well))
 
-    -- and the run stands at the next point
-    pub goes_here : P.Departs r done_here (GoesOn (next_here u)) → IsHere r u (states_by r set_here steps) (next_here u)
-    goes_here d = subst (λ (xs : List MachineState). IsHere r u xs (next_here u)) (sym (stage_states r set_here (λ (shape : Shape). C.DoStep t (u - t)) steps answered replies)) (next_is u d)
+        pub step_well : first_unfit r.system r.plan (u - t) ≡ None → P.IsStep r z kept_to u
+        step_well fit = record {
+          before_stop = before_here u bound;
+          bound = u;
+          is_bound = bound_here u bound;
+          agree = AllMeet u kept_to u (may_here u fit) met_well refl refl;
+        }
+
+    -- by the log of the step
+    module _ (steps : List Sent) (answered : IsAnswered (shapes_of r.system) (stepping r.system t u) steps) (replies : AreReplies r departing_here steps) where
+      pub step_here : IsBoundOf r.plan t u → first_unfit r.system r.plan (u - t) ≡ None → P.IsStep r z kept_to u
+      step_here bound fit = step_well bound (λ i c m state fmu. let one = one_of r departing_here everyone (λ (shape : Shape). C.DoStep t (u - t)) steps answered replies i c m state fmu refl in one.good) fit
+
+      pub steps_states : states_by r departing_here steps ≡ stepped_here
+      steps_states = stage_states r departing_here everyone (λ (shape : Shape). C.DoStep t (u - t)) steps answered replies
+
+      -- an answer asks for the end in both
+      pub asks_here : any_asks_to_end steps ≡ asks_to_end r z kept_to
+      asks_here = any_asks r departing_here departing_all (λ (shape : Shape). C.DoStep t (u - t)) steps answered replies
+          ∙ sym (ap (list_any (λ b. b))
+          (each_same r departing_here (λ i c m state. is_terminating (m.look state (step_to z.t (kept_at kept_to i)))) (λ i c m state. is_terminating (m.look state (C.DoStep t (u - t))))
+          (λ i c m state fmu. ap (λ call. is_terminating (m.look state call)) (call_is i c fmu.component))))

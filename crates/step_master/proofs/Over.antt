@@ -17,7 +17,7 @@ use Rattle.fmi_calls.specs.declared.phase.InstanceState.TheVariants as P
 use Rattle.fmi_calls.specs.declared.phase.Phase.{Phase}
 use Rattle.fmi_calls.specs.Kinds.{bad_status_of}
 use Rattle.fmi_calls.specs.Next.{counted, fresh, graded, next_of, state_after_bad}
-use Rattle.fmi_calls.specs.Permission.{Permitted, can_be_freed, can_be_read, can_be_set}
+use Rattle.fmi_calls.specs.Permission.{Permitted, can_be_freed, can_be_read, can_be_set, is_running}
 use Rattle.fmi_calls.specs.Worth.{grade_of}
 use Rattle.fmu_peer.specs.declared.peer.Exchange.{Exchange}
 use Rattle.fmu_peer.specs.declared.peer.PeerFault.{PeerFault}
@@ -43,6 +43,10 @@ none_freed : (state : InstanceState) (full : Bool) → IsEnded state → can_be_
 none_freed state full (inl gone) h = let k = ap (λ s. can_be_freed s full) (sym gone) ∙ h in absurd (cc)
 none_freed state full (inr lost) h = let k = ap (λ s. can_be_freed s full) (sym lost) ∙ h in absurd (cc)
 
+none_running : (state : InstanceState) → IsEnded state → is_running state ≡ true → ⊥
+none_running state (inl gone) h = let k = ap is_running (sym gone) ∙ h in absurd (cc)
+none_running state (inr lost) h = let k = ap is_running (sym lost) ∙ h in absurd (cc)
+
 other : (state wanted : InstanceState) → IsEnded state → state ≡ wanted → (P.Gone ≡ wanted → ⊥) → (P.Lost ≡ wanted → ⊥) → ⊥
 other state wanted (inl gone) is a b = a (sym gone ∙ is)
 other state wanted (inr lost) is a b = b (sym lost ∙ is)
@@ -50,18 +54,18 @@ other state wanted (inr lost) is a b = b (sym lost ∙ is)
 none_permitted : (shape : Shape) (phase : Phase) (call : Call) → IsEnded phase.state → Permitted shape phase call → ⊥
 none_permitted shape phase (C.Instantiate event_mode early_return) ended p = other phase.state P.Fresh ended p.0 (λ e. cc) (λ e. cc)
 none_permitted shape phase (C.EnterInitialization start stop) ended p = other phase.state P.Instantiated ended p.0 (λ e. cc) (λ e. cc)
-none_permitted shape phase C.ExitInitialization ended p = other phase.state P.Initialization ended p.0 (λ e. cc) (λ e. cc)
+none_permitted shape phase C.ExitInitialization ended p = other phase.state P.Initialization ended p (λ e. cc) (λ e. cc)
 none_permitted shape phase (C.DoStep at size) ended p = other phase.state P.Step ended p.0 (λ e. cc) (λ e. cc)
 none_permitted shape phase (C.Get kind reference) ended p = none_read phase.state shape phase.marks reference ended p.0
 none_permitted shape phase (C.Set kind reference value) ended p = none_set phase.state shape phase.marks reference ended p.0
 none_permitted shape phase C.Save ended p = other phase.state P.Step ended p.0 (λ e. cc) (λ e. cc)
 none_permitted shape phase C.Restore ended p = other phase.state P.Step ended p.0 (λ e. cc) (λ e. cc)
 none_permitted shape phase C.Free ended p = other phase.state P.Step ended p.0 (λ e. cc) (λ e. cc)
-none_permitted shape phase C.Terminate ended p = other phase.state P.Step ended p.0 (λ e. cc) (λ e. cc)
+none_permitted shape phase C.Terminate ended p = none_running phase.state ended p.0
 none_permitted shape phase C.FreeInstance ended p = none_freed phase.state phase.slot.is_full ended p
-none_permitted shape phase C.EnterEvent ended p = p
-none_permitted shape phase C.EnterStep ended p = p
-none_permitted shape phase C.Update ended p = p
+none_permitted shape phase C.EnterEvent ended p = other phase.state P.Step ended p.0 (λ e. cc) (λ e. cc)
+none_permitted shape phase C.EnterStep ended p = other phase.state P.Event ended p.0 (λ e. cc) (λ e. cc)
+none_permitted shape phase C.Update ended p = other phase.state P.Event ended p (λ e. cc) (λ e. cc)
 none_permitted shape phase (C.GetClock reference) ended p = p
 none_permitted shape phase (C.SetClock reference) ended p = p
 none_permitted shape phase (C.GetInterval reference) ended p = p
@@ -76,7 +80,7 @@ none_behind shape phase (e ∷ es) ended legal = absurd (none_permitted shape ph
 only_start : (shape : Shape) (call : Call) → Permitted shape (fresh shape) call → (event_mode early_return : Bool) × (call ≡ C.Instantiate event_mode early_return)
 only_start shape (C.Instantiate event_mode early_return) p = (event_mode, early_return, refl)
 only_start shape (C.EnterInitialization start stop) p = absurd (let e = p.0 in cc)
-only_start shape C.ExitInitialization p = absurd (let e = p.0 in cc)
+only_start shape C.ExitInitialization p = absurd (let e = p in cc)
 only_start shape (C.DoStep at size) p = absurd (let e = p.0 in cc)
 only_start shape (C.Get kind reference) p = absurd (let e = p.0 in cc)
 only_start shape (C.Set kind reference value) p = absurd (let e = p.0 in cc)
@@ -85,9 +89,9 @@ only_start shape C.Restore p = absurd (let e = p.0 in cc)
 only_start shape C.Free p = absurd (let e = p.0 in cc)
 only_start shape C.Terminate p = absurd (let e = p.0 in cc)
 only_start shape C.FreeInstance p = absurd (cc)
-only_start shape C.EnterEvent p = absurd p
-only_start shape C.EnterStep p = absurd p
-only_start shape C.Update p = absurd p
+only_start shape C.EnterEvent p = absurd (let e = p.0 in cc)
+only_start shape C.EnterStep p = absurd (let e = p.0 in cc)
+only_start shape C.Update p = absurd (let e = p in cc)
 only_start shape (C.GetClock reference) p = absurd p
 only_start shape (C.SetClock reference) p = absurd p
 only_start shape (C.GetInterval reference) p = absurd p

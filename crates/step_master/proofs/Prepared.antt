@@ -87,10 +87,9 @@ module _ (system : System) (views : List View) (peers : ArePeersOf system views)
         let new = peers.each i c v at_c at_v in
         let within = is_within system.components i c at_c in
         let here = get_here system.components i c at_c in
-        let no_event : c.shape.has_event_mode ≡ false = subst (λ (d : Component). d.shape.has_event_mode ≡ false) (sym here) (built.no_event i c within) in
         let no_early : c.shape.might_return_early ≡ false = subst (λ (d : Component). d.shape.might_return_early ≡ false) (sym here) (built.no_early i c within) in
         record {
-          plain = subst IsPlain (sym new.shape_is) (record { no_event = no_event; no_early = no_early });
+          plain = subst IsPlain (sym new.shape_is) no_early;
           phase = new.phase ∙ ap fresh (sym new.shape_is);
         }
 

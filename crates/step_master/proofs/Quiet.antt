@@ -1,12 +1,10 @@
--- Runs of systems without event mode: no Clock ticks, each point has one instant, and before a step the inputs are set.
-use Rattle.std.proofs.Common.{◌≡◌, ℕ, zero, suc, ℤ, Bool, true, false, List, [], ◌∷◌, Option, Some, None, refl, sym, ap, ap₂, ◌∙◌, subst, length}
-use Rattle.std.specs.Prelude.{◌||◌, ◌&&◌, if◌then◌else◌, option_map}
+-- Runs of systems without Clocks: none ticks, so that what follows an instant is what the Updates say.
+use Rattle.std.proofs.Common.{◌≡◌, ℕ, zero, suc, ℤ, Bool, true, false, List, [], ◌∷◌, Option, Some, None, refl, sym, ap, ◌∙◌, subst, length}
+use Rattle.std.specs.Prelude.{◌||◌, ◌==◌, if◌then◌else◌, option_map}
 use Rattle.std.specs.List.{list_any, slice_get}
 use Rattle.std.proofs.lemmas.List.{get_or_default, length-map}
 use Rattle.std.proofs.lemmas.List.Folds.{list_any_none}
 use Rattle.std.proofs.lemmas.Option.{none-some as none_some, same_Some, slice_get-map}
-use Rattle.fmi_calls.specs.declared.call.Call.TheVariants as C
-use Rattle.fmi_calls.specs.declared.call.Reply.{Reply}
 use Rattle.fmu_peer.specs.Machine.{Machine, MachineState, after}
 use Rattle.fmu_peer.specs.Mode.{instantiate_of}
 use Rattle.system_model.specs.declared.plan.Plan.{Plan}
@@ -15,20 +13,17 @@ use Rattle.system_model.specs.declared.system.Port.{Port}
 use Rattle.system_model.specs.declared.system.Role.{Role}
 use Rattle.system_model.specs.declared.system.Role.TheVariants.{Input, Output, ClockInput, ClockOutput, TimeClock}
 use Rattle.system_model.specs.Ports.{is_clock_role}
-use Rattle.system_model.specs.Sound.{IsSound}
 use Rattle.system_model.proofs.Lists.{all_at}
-use Rattle.run_model.specs.Run.{Never, Run, Situation, Timer, each}
+use Rattle.run_model.specs.Run.{Never, Run, Situation, Timer}
 use Rattle.run_model.specs.AfterInstant as F
-use Rattle.run_model.specs.AfterInstant.{Done}
+use Rattle.run_model.specs.AfterInstant.{Again, AtLimit, Done, Ended, Following}
 use Rattle.run_model.specs.Initial as I
-use Rattle.run_model.specs.Inputs.{state_with}
-use Rattle.run_model.specs.Stepping.{departing}
 use Rattle.run_model.specs.Steps.{AtTick, IsBound, IsMark, OnGrid, OnStop, SomeTicksAt}
 use Rattle.run_model.specs.Timers.{TicksAt, is_armed_for}
-use Rattle.event_iteration.proofs.AtPoint.{no_clock}
+use Rattle.event_iteration.proofs.Clockless.{no_clock}
 use Rattle.calling_sequence.specs.Systems.{IsBuilt}
 use Rattle.step_master.proofs.Prepared.{get_here, got}
-use Rattle.step_master.proofs.SideBySide.{AreAll, all_on, each_same, each_stays, none_of}
+use Rattle.step_master.proofs.SideBySide.{AreAll, all_on}
 
 -- no timer's Clock ticks
 abbrev pub AreNever : List Timer → Type 0
@@ -74,37 +69,19 @@ next_is_same (ClockInput feed) plain r s V p port old = refl
 next_is_same ClockOutput plain r s V p port old = refl
 next_is_same (TimeClock timing) plain r s V p port old = absurd (cc)
 
--- each FMU with these values written
-abbrev pub set_all : Run → List (Option ℤ) → List MachineState → List MachineState
-set_all r V ss = each r ss (λ i c m s. state_with r.system.ports V i m s)
+-- what follows, by whether an Update asks for the end or for another instant, and whether the instants have reached their limit
+abbrev pub by_answers : (asked again limited : Bool) → Following
+by_answers asked again limited = if asked then Ended else (if again then (if limited then AtLimit else Again) else Done)
 
-module _ (r : Run) (sound : IsSound r.system) (built : IsBuilt r.system) where
-  pub no_event : (i : ℕ) (c : Component) → slice_get r.system.components i ≡ Some c → c.shape.has_event_mode ≡ false
-  no_event i c at = all_at (λ (d : Component). d.shape.has_event_mode ≡ false) r.system.components i c built.no_event at
+or_none : (a b : Bool) → b ≡ false → (a || b) ≡ a
+or_none true b h = refl
+or_none false b h = h
 
+module _ (r : Run) (built : IsBuilt r.system) where
   pub no_early : (i : ℕ) (c : Component) → slice_get r.system.components i ≡ Some c → c.shape.might_return_early ≡ false
   no_early i c at = all_at (λ (d : Component). d.shape.might_return_early ≡ false) r.system.components i c built.no_early at
 
-  if_none : {X : Type 0} (b : Bool) (x y : X) → b ≡ false → (if b then x else y) ≡ y
-  if_none true x y h = absurd (cc)
-  if_none false x y h = refl
-
   -- ---- the beginning
-
-  module _ (machines : length r.machines ≡ length r.system.components) where
-    pub first_all : AreAll r (I.first_states r)
-    first_all = record { machines = machines; states = length-map r.machines (λ (m : Machine). m.first) ∙ machines }
-
-    pub made_all : AreAll r (I.instantiated r)
-    made_all = all_on r (I.first_states r) first_all (λ i c m s. after m s (instantiate_of c.shape))
-
-    pub configured_all : AreAll r (I.configured r)
-    configured_all = all_on r (I.instantiated r) made_all (λ i c m s. I.with_bound m (I.bound_values r i) s)
-
-    pub initializing_all : AreAll r (I.initializing r)
-    initializing_all = all_on r (I.configured r) configured_all (λ i c m s. after m s (I.enter_initialization r))
-
-  -- ---- no Clock
 
   first_never : (states : List MachineState) → AreNever (I.first_timers r states)
   first_never states p timer at = by (slice_get r.system.ports p) refl where
@@ -112,10 +89,12 @@ module _ (r : Run) (sound : IsSound r.system) (built : IsBuilt r.system) where
     by None e = absurd (none_some timer (ap (λ o. option_map (λ (port : Port). I.first_timer port.role r states port) o) (sym e) ∙ sym (slice_get-map (λ (port : Port). I.first_timer port.role r states port) r.system.ports p) ∙ at))
     by (Some port) e =
         same_Some timer (I.first_timer port.role r states port) (sym at ∙ slice_get-map (λ (x : Port). I.first_timer x.role r states x) r.system.ports p ∙ ap (λ o. option_map (λ (x : Port). I.first_timer x.role r states x) o) e)
-        ∙ first_is_never port.role (no_clock r.system sound built.no_event p port e) r states port
+        ∙ first_is_never port.role (no_clock r.system built.no_clocks p port e) r states port
 
   pub beginning_never : (W : List (Option ℤ)) → AreNever (I.beginning r W).timers
   beginning_never W = first_never (I.initialized r W)
+
+  -- ---- behind an instant
 
   module _ (s : Situation) (V : List (Option ℤ)) where
     next_from : (k : ℕ) (ports : List Port) (timers : List Timer) → ((p : ℕ) (port : Port) → slice_get ports p ≡ Some port → is_clock_role port.role ≡ false) → AreNever timers → AreNever (F.next_timers_from r s V k ports timers)
@@ -127,32 +106,28 @@ module _ (r : Run) (sound : IsSound r.system) (built : IsBuilt r.system) where
         next_from (suc k) ports olds (λ q x is. roles (suc q) x is) (λ q x is. never (suc q) x is) p timer at
 
     pub next_never : AreNever s.timers → AreNever (F.next_timers r s V)
-    next_never never = next_from 0 r.system.ports s.timers (no_clock r.system sound built.no_event) never
+    next_never never = next_from 0 r.system.ports s.timers (no_clock r.system built.no_clocks) never
 
     none_armed : (t : ℕ) (timers : List Timer) → AreNever timers → list_any (is_armed_for t) timers ≡ false
     none_armed t timers never = list_any_none (is_armed_for t) timers
         (λ k d w. let x = got timers k w in ap (is_armed_for t) (sym (get_here timers k x.0 x.1 ∙ get_or_default timers k x.0 d w) ∙ never k x.0 x.1))
 
-    no_update : (test : Reply → Bool) → F.any_update test r s V ≡ false
-    no_update test = none_of r (F.written r s V) (λ i c m state. c.shape.has_event_mode && test (m.look state C.Update)) (λ i c m state at. ap (λ (b : Bool). b && test (m.look state C.Update)) (no_event i c at))
+    pub following_is : AreNever s.timers → F.following r s V ≡ by_answers (F.any_update F.asks_for_end r s V) (F.any_update F.asks_again r s V) (suc s.n == r.plan.limit)
+    following_is never =
+        ap (λ (again : Bool). by_answers (F.any_update F.asks_for_end r s V) again (suc s.n == r.plan.limit))
+        (or_none (F.any_update F.asks_again r s V) (list_any (is_armed_for s.t) (F.next_timers r s V)) (none_armed s.t (F.next_timers r s V) (next_never never)))
 
-    -- a point is done with its first instant
-    pub is_done : AreNever s.timers → F.following r s V ≡ Done
-    is_done never =
-        if_none (F.any_update F.asks_for_end r s V) F.Ended _ (no_update F.asks_for_end)
-        ∙ if_none (F.goes_again r s V) _ Done (ap₂ (λ (a b : Bool). a || b) (no_update F.asks_again) (none_armed s.t (F.next_timers r s V) (next_never never)))
+-- ---- a machine and a state for each component
 
-    module _ (all : AreAll r s.states) where
-      pub written_is : F.written r s V ≡ s.states
-      written_is = each_stays r s.states all (λ i c m state. if c.shape.has_event_mode then state_with r.system.ports V i m state else state)
-          (λ i c m state fmu. if_none c.shape.has_event_mode _ state (no_event i c fmu.component))
+module _ (r : Run) (machines : length r.machines ≡ length r.system.components) where
+  pub first_all : AreAll r (I.first_states r)
+  first_all = record { machines = machines; states = length-map r.machines (λ (m : Machine). m.first) ∙ machines }
 
-      pub updated_states : (F.updated r s V).states ≡ s.states
-      updated_states =
-          ap (λ ss. each r ss (λ i c m state. if c.shape.has_event_mode then after m state C.Update else state)) written_is
-          ∙ each_stays r s.states all (λ i c m state. if c.shape.has_event_mode then after m state C.Update else state) (λ i c m state fmu. if_none c.shape.has_event_mode _ state (no_event i c fmu.component))
+  pub made_all : AreAll r (I.instantiated r)
+  made_all = all_on r (I.first_states r) first_all (λ i c m s. after m s (instantiate_of c.shape))
 
-  -- before a step the inputs are set
-  pub departing_is : (s : Situation) → departing r s ≡ set_all r s.before s.states
-  departing_is s = each_same r s.states (λ i c m state. if c.shape.has_event_mode then after m state C.EnterStep else state_with r.system.ports s.before i m state) (λ i c m state. state_with r.system.ports s.before i m state)
-      (λ i c m state fmu. if_none c.shape.has_event_mode _ _ (no_event i c fmu.component))
+  pub configured_all : AreAll r (I.configured r)
+  configured_all = all_on r (I.instantiated r) made_all (λ i c m s. I.with_bound m (I.bound_values r i) s)
+
+  pub initializing_all : AreAll r (I.initializing r)
+  initializing_all = all_on r (I.configured r) configured_all (λ i c m s. after m s (I.enter_initialization r))

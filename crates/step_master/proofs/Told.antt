@@ -1,11 +1,12 @@
 -- The end of a run of told machines, whatever they answer.
-use Rattle.std.proofs.Common.{◌≡◌, ℕ, ◌<◌, List, [], ◌∷◌, ◌++◌, inl, inr, Some, refl, sym, ap, ap₂, ◌∙◌, subst, arith, length}
+use Rattle.std.proofs.Common.{◌≡◌, ◌⊎◌, ℕ, ℤ, ◌<◌, List, [], ◌∷◌, ◌++◌, inl, inr, Option, Some, refl, sym, ap, ap₂, ◌∙◌, subst, arith, length}
 use Rattle.std.specs.Prelude.{option_map}
 use Rattle.std.specs.List.{slice_get}
 use Rattle.std.proofs.lemmas.List.{length-map}
 use Rattle.std.proofs.lemmas.Option.{same_Some, slice_get-map}
 use Rattle.fmu_peer.specs.Machine.{Machine, MachineState}
 use Rattle.fmu_peer.specs.View.{View}
+use Rattle.system_model.specs.declared.plan.EndKind.{EndKind}
 use Rattle.system_model.specs.declared.plan.EndKind.TheVariants as K
 use Rattle.system_model.specs.declared.bound.Bound.{Bound}
 use Rattle.system_model.specs.declared.plan.Plan.{Plan}
@@ -13,17 +14,19 @@ use Rattle.system_model.specs.declared.system.Component.{Component}
 use Rattle.system_model.specs.declared.system.System.{System}
 use Rattle.system_model.specs.Sound.{IsSound}
 use Rattle.system_model.specs.Text.{Instant}
-use Rattle.run_model.specs.Run.{Run}
+use Rattle.run_model.specs.Run.{Run, Situation}
+use Rattle.run_model.specs.AfterInstant as F
 use Rattle.run_model.specs.Initial as I
 use Rattle.run_model.specs.Machines.{AreMachines}
 use Rattle.run_model.specs.Stepping as P
 use Rattle.run_model.specs.Stepping.{Ends}
-use Rattle.run_model.specs.Trace.{IsTrace}
+use Rattle.run_model.specs.Trace.{IsTrace, Leads}
 use Rattle.calling_sequence.specs.declared.run_end.RunEnd.{RunEnd}
 use Rattle.calling_sequence.specs.declared.run_end.RunEnd.TheVariants as E
 use Rattle.run_model.proofs.InitiallySolvable.{solvable_initially}
-use Rattle.calling_sequence.specs.Course.{Departs, Finishes, Interrupted, Seen, WhereAsked, WhereFixed, instant_at, kind_of_end, trace_pieces}
+use Rattle.calling_sequence.specs.Course.{Arrives, BehindStep, BeforeStep, Came, Departs, Finishes, InInitialization, InInstant, InSet, InStep, InUpdate, Interrupted, Leaves, Seen, WhereAsked, WhereBad, WhereEnded, WhereFixed, WhereLimited, WhereStopped, instant_at, kind_of_end, trace_pieces}
 use Rattle.calling_sequence.specs.Ends.{EndsBy, PutsWhole}
+use Rattle.slot_calls.specs.declared.bad_answer.BadAnswer.{BadAnswer}
 use Rattle.step_master.specs.Lived.{Account, Lived}
 use Rattle.slot_calls.specs.Replies.{RepliesBy}
 use Rattle.step_master.specs.Lives.{AreLives, IsLife, Life}
@@ -33,12 +36,14 @@ use Rattle.calling_sequence.specs.Systems.{IsBuilt}
 use Rattle.step_master.specs.System.{TellTheirs}
 use Rattle.step_master.specs.Traced.{AtFirst, Before, CameTo, CutsFront, IsFront, PutsRun, PutsTrace, TellMachines, ToldRun}
 use Rattle.step_master.proofs.Begun.{made_states}
-use Rattle.step_master.proofs.Followed.{front_seen, reaches, sees_all, sets_all, steps_end, trace_seen}
-use Rattle.slot_calls.specs.Replies.{AreReplies, states_by}
+use Rattle.step_master.proofs.Coming.{arrives_all, reaches, seen_all}
+use Rattle.step_master.proofs.Followed.{done_seen, ended_seen, front_seen, limited_seen, trace_seen}
+use Rattle.slot_calls.specs.Replies.{AreReplies}
 use Rattle.slot_calls.proofs.Replying.{replies_front}
 use Rattle.step_master.proofs.Looking.{replies_first, replies_then}
 use Rattle.step_master.proofs.Onward.{lacks_here}
 use Rattle.step_master.proofs.Prepared.{get_here, got, is_within}
+use Rattle.step_master.proofs.Taken.{IsDoneAt, done_begins, leads_here}
 
 -- ---- lists
 
@@ -101,49 +106,88 @@ module _ (r : Run) (sound : IsSound r.system) (built : IsBuilt r.system) (machin
   pub front_none : IsFront r []
   front_none = let W = solvable_initially r sound machines in Before (I.beginning r W.0) (AtFirst (I.beginning r W.0) [] W.0 W.1 refl refl)
 
-  seen_front : (t : ℕ) (log : List Sent) (is : List Instant) → Seen r.system r.bound r.plan t log is → AreReplies r first log → IsFront r is
-  seen_front t log is seen replies = front_seen r sound built machines t log is seen.values (sees_all r sound built machines t log is seen replies)
-
   -- in front of the last calls
-  front_replies : (log before more : List Sent) → log ≡ before ++ more → AreReplies r first log → AreReplies r first before
+  pub front_replies : (log before more : List Sent) → log ≡ before ++ more → AreReplies r first log → AreReplies r first before
   front_replies log before more is replies = replies_first r first before more (subst (AreReplies r first) is replies)
 
+  seen_front : (t : ℕ) (log : List Sent) (is : List Instant) → Seen r.system r.bound r.plan t log is → AreReplies r first log → IsFront r is
+  seen_front t log is d replies = front_seen r t d.n d.values is (seen_all r sound built machines t log is d replies).seen
+
+  leaves_front : (t to : ℕ) (log : List Sent) (is : List Instant) → Leaves r.system r.bound r.plan t to log is → AreReplies r first log → IsFront r is
+  leaves_front t to log is d replies = seen_front t d.front is d.seen (front_replies log d.front d.leaves d.log_is replies)
+
   departs_front : (t to : ℕ) (log : List Sent) (is : List Instant) → Departs r.system r.bound r.plan t to log is → AreReplies r first log → IsFront r is
-  departs_front t to log is d replies = seen_front t d.before is d.seen (front_replies log d.before d.sets d.log_is replies)
+  departs_front t to log is d replies = leaves_front t to d.front is d.leaving (front_replies log d.front d.sets d.log_is replies)
+
+  arrives_front : (t to : ℕ) (log : List Sent) (is : List Instant) → Arrives r.system r.bound r.plan t to log is → AreReplies r first log → IsFront r is
+  arrives_front t to log is d replies = departs_front t to d.front is d.departs (front_replies log d.front d.steps d.log_is replies)
+
+  came_front : (t n : ℕ) (before : List (Option ℤ)) (log : List Sent) (is : List Instant) → Came r.system r.bound r.plan t n before log is → AreReplies r first log → IsFront r is
+  came_front t n before log is came replies = let x = reaches r sound built machines t n before log is came replies in Before x.s x.came
+
+  bad_front : (bad : BadAnswer) (point : ℕ) (log : List Sent) (is : List Instant) → WhereBad r.system r.bound r.plan bad point log is → AreReplies r first log → IsFront r is
+  bad_front bad point log is (InInitialization w) replies = subst (IsFront r) (sym w.is_is) front_none
+  bad_front bad point log is (InInstant w) replies = came_front point w.n w.before w.front is w.came (front_replies log w.front w.found w.log_is replies)
+  bad_front bad point log is (InUpdate w) replies = came_front point w.n w.before w.front is w.came (front_replies log w.front (w.found ++ w.updates) w.log_is replies)
+  bad_front bad point log is (BeforeStep w) replies = seen_front point w.front is w.seen (front_replies log w.front w.leaves w.log_is replies)
+  bad_front bad point log is (InSet w) replies = leaves_front point w.to w.front is w.leaving (front_replies log w.front w.sets w.log_is replies)
+  bad_front bad point log is (InStep w) replies = departs_front point w.to w.front is w.departs (front_replies log w.front w.steps w.log_is replies)
+  bad_front bad point log is (BehindStep w) replies = arrives_front w.from point w.front is w.stepped (front_replies log w.front w.arrives w.log_is replies)
 
   -- the instants so far are a front of the run
   pub finish_front : (end : RunEnd) (point : ℕ) (log : List Sent) (is : List Instant) → Finishes r.system r.bound r.plan end point log is → AreReplies r first log → IsFront r is
-  finish_front E.Stop point log is f replies = seen_front r.plan.stop log is f.1 replies
-  finish_front (E.Asked at) point log is f replies = let w = f.1 in departs_front w.from at w.before is w.departs (front_replies log w.before w.steps w.log_is replies)
-  finish_front (E.EventLimit at) point log is f replies = absurd f
+  finish_front E.Stop point log is f replies = seen_front r.plan.stop log is f.1.seen replies
+  finish_front (E.Asked at) point log is (same, inl w) replies = seen_front at log is w.seen replies
+  finish_front (E.Asked at) point log is (same, inr w) replies = arrives_front w.from at log is w.arrives replies
+  finish_front (E.EventLimit at) point log is f replies = seen_front at log is f.1.seen replies
   finish_front (E.FixedStep component at end) point log is f replies = seen_front at log is f.1.seen replies
-  finish_front (E.Bad bad) point log is (inl w) replies = subst (IsFront r) (sym w.is_is) front_none
-  finish_front (E.Bad bad) point log is (inr (inl w)) replies =
-      let x = reaches r sound built machines point w.before is w.came (front_replies log w.before w.reads w.log_is replies) in Before x.s x.came
-  finish_front (E.Bad bad) point log is (inr (inr (inl w))) replies = seen_front point w.before is w.seen (front_replies log w.before w.sets w.log_is replies)
-  finish_front (E.Bad bad) point log is (inr (inr (inr w))) replies = departs_front point w.to w.before is w.departs (front_replies log w.before w.steps w.log_is replies)
+  finish_front (E.Bad bad) point log is f replies = bad_front bad point log is f replies
   finish_front E.WriteFault point log is f replies = absurd f
 
+  -- ---- the trace
+
+  -- what follows where the point is done with the last of the instants
+  leads_done : (t : ℕ) (s : Situation) (values : List (Option ℤ)) (at : IsDoneAt r t s values) (kind : EndKind) (end : ℕ) → P.Departs r (F.updated r s values) (Ends kind end) → Leads r s values (Ends kind end)
+  leads_done t s values at kind end d = leads_here r sound built machines t s values at (Ends kind end) d
+
   -- at the stop
-  pub stop_trace : (log : List Sent) (is : List Instant) → Seen r.system r.bound r.plan r.plan.stop log is → AreReplies r first log → IsTrace r is K.Stop r.plan.stop
-  stop_trace log is seen replies =
-      let x = sees_all r sound built machines r.plan.stop log is seen replies in
-      trace_seen r sound built machines r.plan.stop log is seen.values x K.Stop r.plan.stop (P.AtStop (Ends K.Stop r.plan.stop) x.here.point (ap (Ends K.Stop) (sym x.here.point)))
+  pub stop_trace : (log : List Sent) (is : List Instant) → WhereStopped r.system r.bound r.plan log is → AreReplies r first log → IsTrace r is K.Stop r.plan.stop
+  stop_trace log is w replies =
+      let d = w.seen in
+      let x = seen_all r sound built machines r.plan.stop log is d replies in
+      trace_seen r r.plan.stop d.n d.values is x.seen K.Stop r.plan.stop
+      (leads_done r.plan.stop x.seen.s d.values (done_seen r r.plan.stop d.n d.values is d.updates log x w.done) K.Stop r.plan.stop
+      (P.AtStop (Ends K.Stop r.plan.stop) x.seen.here.point (ap (Ends K.Stop) (sym x.seen.here.point))))
 
   -- where an answer asked for it
-  pub asked_trace : (point : ℕ) (log : List Sent) (is : List Instant) → WhereAsked r.system r.bound r.plan point log is → AreReplies r first log → IsTrace r is K.Asked point
-  asked_trace point log is w replies =
-      let on = subst (AreReplies r first) w.log_is replies in
-      let x = sets_all r sound built machines w.from point w.before is w.departs (replies_first r first w.before w.steps on) in
-      trace_seen r sound built machines w.from x.before is w.departs.seen.values x.seen K.Asked point
-      (steps_end r sound built machines w.from point w.before w.steps is w.departs.seen.values x w.departs.step w.answered on w.asks)
+  pub asked_trace : (point : ℕ) (log : List Sent) (is : List Instant) → WhereEnded r.system r.bound r.plan point log is ⊎ WhereAsked r.system r.bound r.plan point log is → AreReplies r first log → IsTrace r is K.Asked point
+  asked_trace point log is (inl w) replies =
+      let d = w.seen in
+      let x = seen_all r sound built machines point log is d replies in
+      trace_seen r point d.n d.values is x.seen K.Asked point (ended_seen r point d.n d.values is d.updates log x w.asks)
+  asked_trace point log is (inr w) replies =
+      let values = w.arrives.departs.leaving.seen.values in
+      let x = arrives_all r sound built machines w.from point log is w.arrives replies in
+      trace_seen r w.from x.l.n values is x.l.seen K.Asked point
+      (leads_done w.from x.l.seen.s values x.l.at K.Asked point (P.WhereAsked (Ends K.Asked point) _ point x.step (sym x.asks ∙ w.asks) refl))
+
+  -- at the limit of the instants at a point
+  pub limit_trace : (point : ℕ) (log : List Sent) (is : List Instant) → WhereLimited r.system r.bound r.plan point log is → AreReplies r first log → IsTrace r is K.Limit point
+  limit_trace point log is w replies =
+      let d = w.seen in
+      let x = seen_all r sound built machines point log is d replies in
+      trace_seen r point d.n d.values is x.seen K.Limit point (limited_seen r point d.n d.values is d.updates log x w.again w.limit)
 
   -- where a component takes no such step
   pub fixed_trace : (component at end : ℕ) (log : List Sent) (is : List Instant) → WhereFixed r.system r.bound r.plan component at end log is → AreReplies r first log → IsTrace r is K.Fixed at
   fixed_trace component at end log is w replies =
-      let x = sees_all r sound built machines at log is w.seen replies in
-      trace_seen r sound built machines at log is w.seen.values x K.Fixed at
-      (P.WhereFixed (Ends K.Fixed at) component end (lacks_here r sound built at (states_by r first log) x.s x.here w.seen.values x.solves end component w.end_is w.unfit) (ap (Ends K.Fixed) (sym x.here.point)))
+      let d = w.seen in
+      let x = seen_all r sound built machines at log is d replies in
+      let done = done_seen r at d.n d.values is d.updates log x w.done in
+      trace_seen r at d.n d.values is x.seen K.Fixed at
+      (leads_done at x.seen.s d.values done K.Fixed at
+      (P.WhereFixed (Ends K.Fixed at) component end
+      (lacks_here r built at (F.updated r x.seen.s d.values) (done_begins r sound built machines at x.seen.s d.values done) end component w.end_is w.unfit) (ap (Ends K.Fixed) (sym x.seen.here.point))))
 
 -- ---- the law
 
@@ -185,11 +229,12 @@ module _ (r : Run) (b : Account) (sound : IsSound r.system) (built : IsBuilt r.s
     cut = inl (subst (λ (p : List ℕ). CutsPiece b.before p b.after) h.piece_is (subst (λ (ps : List (List ℕ)). CutsPiece (with_pieces b.before ps) piece b.after) h.pieces_are cut));
   }
   cut_front pieces piece cut (inr (inl i)) =
-      let all = seen_front r sound built machines i.t lived.log (lived.is ++ i.i ∷ []) i.seen replies in
-      let old = reaches r sound built machines i.t i.seen.before i.seen.earlier i.seen.came (front_replies r sound built machines lived.log i.seen.before i.seen.reads i.seen.log_is replies) in
+      let d = i.seen in
+      let all = seen_front r sound built machines i.t lived.log (lived.is ++ i.i ∷ []) d replies in
+      let old = reaches r sound built machines i.t d.n d.before d.front d.earlier d.came (front_replies r sound built machines lived.log d.front (d.found ++ d.updates) d.log_is replies) in
       record {
         is = lived.is;
-        front = Before old.s (subst (CameTo r old.s) (sym (same_front lived.is i.seen.earlier i.i (instant_at i.t i.seen.values) i.seen.is_is)) old.came);
+        front = Before old.s (subst (CameTo r old.s) (sym (same_front lived.is d.earlier i.i (instant_at i.t d.n d.values) d.is_is)) old.came);
         counted = lived.counted;
         cut = inr (piece, inl (i.i, all, i.piece_is), subst (λ (ps : List (List ℕ)). CutsPiece (with_pieces b.before ps) piece b.after) i.pieces_are cut);
       }
@@ -203,7 +248,7 @@ module _ (r : Run) (b : Account) (sound : IsSound r.system) (built : IsBuilt r.s
   puts_run : (end : RunEnd) → EndsBy r.system r.bound r.plan lived.log lived.is end b.before b.after → PutsRun a r end
   puts_run E.Stop (point, f, put) = puts_trace E.Stop point r.plan.stop put f.0 (stop_trace r sound built machines lived.log lived.is f.1 replies)
   puts_run (E.Asked at) (point, f, put) = puts_trace (E.Asked at) point at put f.0 (asked_trace r sound built machines at lived.log lived.is f.1 replies)
-  puts_run (E.EventLimit at) (point, f, put) = absurd f
+  puts_run (E.EventLimit at) (point, f, put) = puts_trace (E.EventLimit at) point at put f.0 (limit_trace r sound built machines at lived.log lived.is f.1 replies)
   puts_run (E.FixedStep component at end) (point, f, put) =
       puts_trace (E.FixedStep component at end) point at put f.0 (fixed_trace r sound built machines component.0 at end lived.log lived.is f.1 replies)
   puts_run (E.Bad bad) (point, f, put) = record {

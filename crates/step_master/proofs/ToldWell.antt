@@ -1,6 +1,6 @@
 -- The end of a run of told machines that behave well: the text of their trace, but for a call or a put that failed.
 use Rattle.std.proofs.Common.{◌≡◌, ◌⊎◌, ℕ, ◌<◌, ◌≤◌, ◌==◌, Bool, true, false, List, [], ◌∷◌, ◌++◌, inl, inr, refl, sym, ap, ap₂, ◌∙◌, subst, append_assoc, arith, length, map}
-use Rattle.std.specs.Prelude.{◌||◌, option_map}
+use Rattle.std.specs.Prelude.{◌||◌, ℤ, Option, option_map}
 use Rattle.std.specs.List.{list_any, slice_get}
 use Rattle.std.proofs.lemmas.List.{length-map, map-append}
 use Rattle.std.proofs.lemmas.List.Folds.{list_any-append}
@@ -23,12 +23,15 @@ use Rattle.run_model.specs.Behaved.{WellBehaved}
 use Rattle.run_model.specs.Initial as I
 use Rattle.run_model.specs.Machines.{AreMachines}
 use Rattle.run_model.specs.Run.{Run}
+use Rattle.run_model.specs.AfterInstant as F
+use Rattle.run_model.specs.Stepping.{departing}
+use Rattle.system_model.specs.Ports.{numbers}
 use Rattle.run_model.specs.Steps.{OnStop}
 use Rattle.run_model.specs.Trace.{IsTrace, instant_of}
 use Rattle.slot_calls.specs.declared.bad_answer.BadAnswer.{BadAnswer}
 use Rattle.calling_sequence.specs.declared.run_end.RunEnd.{RunEnd}
 use Rattle.calling_sequence.specs.declared.run_end.RunEnd.TheVariants as E
-use Rattle.calling_sequence.specs.Course.{AtStart, ByStep, Came, Finishes, Interrupted, Seen, header_of, kind_of_end, pieces_of, text_of, trace_pieces}
+use Rattle.calling_sequence.specs.Course.{AtStart, BeforeStep, BehindStep, ByStep, ByUpdate, Came, Finishes, InInitialization, InInstant, InSet, InStep, InUpdate, Interrupted, Seen, WhereBad, WhereFinding, WhereUpdating, header_of, kind_of_end, pieces_of, text_of, trace_pieces}
 use Rattle.calling_sequence.specs.Ends.{EndsBy}
 use Rattle.step_master.specs.Lived.{Account, Lived, Unmade}
 use Rattle.step_master.specs.Lives.{AreLives, IsLife, Life, is_unanswered, talk_in}
@@ -38,18 +41,25 @@ use Rattle.run_model.proofs.InitiallySolvable.{solvable_initially}
 use Rattle.calling_sequence.specs.Plans.{IsPlan}
 use Rattle.calling_sequence.specs.Systems.{IsBuilt}
 use Rattle.step_master.specs.Traced.{AtFirst, CutsTrace, PutsRun, SomeRose, TellMachines, ToldTrace, ToldUnmade, TracesWell}
-use Rattle.calling_sequence.proofs.Chains.{same, takes}
-use Rattle.step_master.proofs.Begun.{begins_at}
-use Rattle.step_master.proofs.Existing.{rest_from, solution}
-use Rattle.step_master.proofs.Followed.{reaches, sees_all, sets_all, traced_on}
+use Rattle.slot_calls.proofs.Parts.{same, takes}
+use Rattle.step_master.proofs.Begun.{begins_at, replies_at}
+use Rattle.step_master.proofs.Coming.{arrives_all, departs_all, leaves_all, leaving_from, reaches, seen_all}
+use Rattle.step_master.proofs.Existing.{below_more, rest_from, solution}
+use Rattle.step_master.proofs.Followed.{finds, traced_on}
 use Rattle.step_master.proofs.Links.{IsLost, lost_behind}
 use Rattle.slot_calls.proofs.Logs.{part_append}
-use Rattle.slot_calls.specs.Replies.{AreReplies, states_by}
-use Rattle.step_master.proofs.Looking.{replies_first, replies_then}
+use Rattle.slot_calls.specs.Replies.{AreReplies}
+use Rattle.event_iteration.specs.Explains.{ExplainsUntil}
+use Rattle.event_iteration.specs.Initialization.{no_values}
+use Rattle.event_iteration.specs.Instants.{in_instant}
+use Rattle.event_iteration.specs.Settings.{entered_step}
+use Rattle.step_master.proofs.Looking.{replies_first}
 use Rattle.step_master.proofs.Prepared.{get_here, got}
-use Rattle.step_master.proofs.Quiet.{set_all}
-use Rattle.step_master.proofs.Told.{are_machines, asked_trace, fixed_trace, machines_of, puts, replies, replies_of, stop_trace}
-use Rattle.step_master.proofs.Well.{lost_initializing, lost_making, lost_reading, lost_setting, lost_stepping}
+use Rattle.step_master.proofs.Taken.{stepped}
+use Rattle.step_master.proofs.Told.{are_machines, asked_trace, fixed_trace, limit_trace, machines_of, puts, replies, replies_of, stop_trace}
+use Rattle.step_master.proofs.Well.{lost_initializing, lost_making}
+use Rattle.step_master.proofs.WellInInstants.{lost_found, lost_updating}
+use Rattle.step_master.proofs.WellInSteps.{lost_entering, lost_leaving, lost_setting, lost_stepping}
 
 -- ---- a call that failed
 
@@ -99,14 +109,20 @@ told_unmade system bound olds news bad r sound run well u = unmade_by r olds new
 
 -- ---- points
 
--- a run's points are between start and stop
-came_within : (system : System) (bound : Bound) (plan : Plan) (t : ℕ) (log : List Sent) (is : List Instant) → IsPlan plan → Came system bound plan t log is → (plan.start ≤ t) × (t ≤ plan.stop)
-came_within system bound plan _ _ _ p (AtStart t log is initialized at none) = (omega (arith, at), let o = p.ordered in omega (arith, at, o))
-came_within system bound plan _ _ _ p (ByStep t log is from values before reads sets steps js came read step set answered asks log_is is_is) =
-    let old = came_within system bound plan from before js p came in
+-- a run's points are between start and stop, and the instants at each are below their limit
+came_within : (system : System) (bound : Bound) (plan : Plan) (t n : ℕ) (before : List (Option ℤ)) (log : List Sent) (is : List Instant) → IsPlan plan → Came system bound plan t n before log is → (plan.start ≤ t) × (t ≤ plan.stop) × (n < plan.limit)
+came_within system bound plan _ _ _ _ _ p (AtStart t n values log is initialized at number values_are none) =
+    (omega (arith, at), (let o = p.ordered in omega (arith, at, o)), (let l = p.limit_above in omega (arith, number, l)))
+came_within system bound plan _ _ _ _ _ p (ByUpdate t n values log is m before front found updates js came take again below number log_is is_is) =
+    let old = came_within system bound plan t m before front js p came in
+    let next = below_more m plan.limit old.2 below in
+    (old.0, old.1, omega (arith, number, next))
+came_within system bound plan _ _ _ _ _ p (ByStep t n values log is from m before front found updates left set steps arrives js came take done step parts asks entered number log_is is_is) =
+    let old = came_within system bound plan from m before front js p came in
     let begun = old.0 in
     let later = step.bound.bound.later in
-    (omega (arith, begun, later), step.bound.bound.least plan.stop step.bound.before_stop (OnStop refl))
+    let l = p.limit_above in
+    (omega (arith, begun, later), step.bound.bound.least plan.stop step.bound.before_stop (OnStop refl), omega (arith, number, l))
 
 module _ (r : Run) (sound : IsSound r.system) (built : IsBuilt r.system) (machines : AreMachines r) (binds : BindsParameters r.system r.bound) (well : WellBehaved r) where
   abbrev first : List MachineState
@@ -115,30 +131,63 @@ module _ (r : Run) (sound : IsSound r.system) (built : IsBuilt r.system) (machin
   abbrev count : ℕ
   count = length r.system.components
 
+  -- what is lost behind a front
+  behind_front : (why : Why) (log front more : List Sent) → log ≡ front ++ more → IsLost count more why → IsLost count log why
+  behind_front why log front more is lost = subst (λ (l : List Sent). IsLost count l why) (sym is) (lost_behind count front more why lost)
+
+  all_of : (log front more : List Sent) → log ≡ front ++ more → AreReplies r first log → AreReplies r first (front ++ more)
+  all_of log front more is told = subst (AreReplies r first) is told
+
+  front_of_all : (log front more : List Sent) → log ≡ front ++ more → AreReplies r first log → AreReplies r first front
+  front_of_all log front more is told = replies_first r first front more (all_of log front more is told)
+
+  bad_found : (bad : BadAnswer) (point : ℕ) (log : List Sent) (is : List Instant) → WhereFinding r.system r.bound r.plan bad point log is → AreReplies r first log → IsLost count log bad.why
+  bad_found bad point log is w told =
+      let x = reaches r sound built machines point w.n w.before w.front is w.came (front_of_all log w.front w.found w.log_is told) in
+      let stops : ExplainsUntil r.system (in_instant (x.s.n == 0)) x.s.before (numbers r.system.instant_order) bad w.values w.found =
+      subst (λ (k : ℕ). ExplainsUntil r.system (in_instant (k == 0)) x.s.before (numbers r.system.instant_order) bad w.values w.found) (sym x.here.number)
+      (subst (λ (vs : List (Option ℤ)). ExplainsUntil r.system (in_instant (w.n == 0)) vs (numbers r.system.instant_order) bad w.values w.found) (sym x.here.values) w.stops) in
+      behind_front bad.why log w.front w.found w.log_is
+      (lost_found r sound built machines well x.s x.here.reached bad w.values w.found stops (replies_at r w.front w.found x.s.states x.stands (all_of log w.front w.found w.log_is told)))
+
+  bad_updating : (bad : BadAnswer) (point : ℕ) (log : List Sent) (is : List Instant) → WhereUpdating r.system r.bound r.plan bad point log is → AreReplies r first log → IsLost count log bad.why
+  bad_updating bad point log is w told =
+      let all = all_of log w.front (w.found ++ w.updates) w.log_is told in
+      let x = reaches r sound built machines point w.n w.before w.front is w.came (replies_first r first w.front (w.found ++ w.updates) all) in
+      let y = finds r sound built machines point w.n w.before w.values w.front w.found is x w.places w.explains (replies_first r first (w.front ++ w.found) w.updates (subst (AreReplies r first) (sym (append_assoc w.front w.found w.updates)) all)) in
+      behind_front bad.why log (w.front ++ w.found) w.updates (w.log_is ∙ sym (append_assoc w.front w.found w.updates))
+      (lost_updating r sound built machines well x.s x.here.reached bad w.values w.updates y.0
+      (replies_at r (w.front ++ w.found) w.updates (F.written r x.s w.values) y.1 (subst (AreReplies r first) (sym (append_assoc w.front w.found w.updates)) all)) w.stops)
+
   -- a bad answer that ends the run was lost
-  pub finish_lost : (bad : BadAnswer) (point : ℕ) (log : List Sent) (is : List Instant) → Finishes r.system r.bound r.plan (E.Bad bad) point log is → AreReplies r first log → IsLost count log bad.why
-  finish_lost bad point log is (inl w) told = lost_initializing r sound built machines well binds bad log told w.stops
-  finish_lost bad point log is (inr (inl w)) told =
-      let on = subst (AreReplies r first) w.log_is told in
-      let x = reaches r sound built machines point w.before is w.came (replies_first r first w.before w.reads on) in
-      let found = solution r sound built machines point (states_by r first w.before) x.s x.here in
-      subst (λ (l : List Sent). IsLost count l bad.why) (sym w.log_is)
-      (lost_behind count w.before w.reads bad.why
-      (lost_reading r sound built machines well point (states_by r first w.before) x.s x.here found.0 found.1 bad w.earlier w.values w.reads (replies_then r first w.before w.reads x.good on) w.stops))
-  finish_lost bad point log is (inr (inr (inl w))) told =
-      let on = subst (AreReplies r first) w.log_is told in
-      let x = sees_all r sound built machines point w.before is w.seen (replies_first r first w.before w.sets on) in
-      subst (λ (l : List Sent). IsLost count l bad.why) (sym w.log_is)
-      (lost_behind count w.before w.sets bad.why
-      (lost_setting r sound built machines well point (states_by r first w.before) x.s x.here w.seen.values x.solves bad w.to w.step w.sets (replies_then r first w.before w.sets x.good on) w.stops))
-  finish_lost bad point log is (inr (inr (inr w))) told =
-      let on = subst (AreReplies r first) w.log_is told in
-      let x = sets_all r sound built machines point w.to w.before is w.departs (replies_first r first w.before w.steps on) in
-      let inside : AreReplies r (set_all r w.departs.seen.values (states_by r first x.before)) w.steps =
-      subst (λ (ss : List MachineState). AreReplies r ss w.steps) x.states (replies_then r first w.before w.steps x.good on) in
-      subst (λ (l : List Sent). IsLost count l bad.why) (sym w.log_is)
-      (lost_behind count w.before w.steps bad.why
-      (lost_stepping r sound built machines well point (states_by r first x.before) x.seen.s x.seen.here w.departs.seen.values x.seen.solves bad w.to w.departs.step w.steps inside w.fails))
+  pub finish_lost : (bad : BadAnswer) (point : ℕ) (log : List Sent) (is : List Instant) → WhereBad r.system r.bound r.plan bad point log is → AreReplies r first log → IsLost count log bad.why
+  finish_lost bad point log is (InInitialization w) told = lost_initializing r sound built machines well binds bad log told w.stops
+  finish_lost bad point log is (InInstant w) told = bad_found bad point log is w told
+  finish_lost bad point log is (InUpdate w) told = bad_updating bad point log is w told
+  finish_lost bad point log is (BeforeStep w) told =
+      let V = w.seen.values in
+      let x = leaving_from r sound built machines point w.to w.front is w.seen w.done w.step (front_of_all log w.front w.leaves w.log_is told) in
+      behind_front bad.why log w.front w.leaves w.log_is
+      (lost_leaving r sound built machines well point x.0.seen.s V x.0.at w.to w.step bad w.leaves
+      (replies_at r w.front w.leaves (F.updated r x.0.seen.s V).states x.1 (all_of log w.front w.leaves w.log_is told)) w.stops)
+  finish_lost bad point log is (InSet w) told =
+      let V = w.leaving.seen.values in
+      let x = leaves_all r sound built machines point w.to w.front is w.leaving (front_of_all log w.front w.sets w.log_is told) in
+      behind_front bad.why log w.front w.sets w.log_is
+      (lost_setting r sound built machines well point x.0.seen.s V x.0.at w.to x.0.step bad w.sets
+      (replies_at r w.front w.sets (entered_step r (F.updated r x.0.seen.s V)) x.1 (all_of log w.front w.sets w.log_is told)) w.stops)
+  finish_lost bad point log is (InStep w) told =
+      let V = w.departs.leaving.seen.values in
+      let x = departs_all r sound built machines point w.to w.front is w.departs (front_of_all log w.front w.steps w.log_is told) in
+      behind_front bad.why log w.front w.steps w.log_is
+      (lost_stepping r sound built machines well point x.0.seen.s V x.0.at w.to x.0.step bad w.steps
+      (replies_at r w.front w.steps (departing r (F.updated r x.0.seen.s V)) x.1 (all_of log w.front w.steps w.log_is told)) w.fails)
+  finish_lost bad point log is (BehindStep w) told =
+      let V = w.stepped.departs.leaving.seen.values in
+      let x = arrives_all r sound built machines w.from point w.front is w.stepped (front_of_all log w.front w.arrives w.log_is told) in
+      behind_front bad.why log w.front w.arrives w.log_is
+      (lost_entering r sound built machines well w.from x.l.seen.s V x.l.at point x.l.step bad x.step (sym x.asks ∙ w.goes_on) w.arrives
+      (replies_at r w.front w.arrives (stepped r sound built machines w.from x.l.seen.s V x.l.at point) x.stands (all_of log w.front w.arrives w.log_is told)) w.stops)
 
   module _ (plan : IsPlan r.plan) where
     -- the trace behind these instants
@@ -154,8 +203,8 @@ module _ (r : Run) (sound : IsSound r.system) (built : IsBuilt r.system) (machin
         let W = solvable_initially r sound machines in
         let s = I.beginning r W.0 in
         let here = begins_at r sound built machines W.0 W.1 in
-        let V = solution r sound built machines r.plan.start s.states s here in
-        let rest = rest_from r sound built machines well plan r.plan.start s.states s here (omega arith) plan.ordered V.0 V.1 in
+        let V = solution r sound built machines s here.reached in
+        let rest = rest_from r sound built machines well plan r.plan.start 0 (no_values r.system) s here (omega arith) plan.ordered plan.limit_above V.0 V.1 in
         record {
           kind = rest.kind;
           point = rest.end;
@@ -166,10 +215,10 @@ module _ (r : Run) (sound : IsSound r.system) (built : IsBuilt r.system) (machin
     -- and one behind what was seen
     pub whole_seen : (t : ℕ) (log : List Sent) (is : List Instant) → Seen r.system r.bound r.plan t log is → AreReplies r first log → Whole is
     whole_seen t log is seen told =
-        let x = sees_all r sound built machines t log is seen told in
+        let x = (seen_all r sound built machines t log is seen told).seen in
         let V = seen.values in
-        let between = came_within r.system r.bound r.plan t seen.before seen.earlier plan seen.came in
-        let rest = rest_from r sound built machines well plan t (states_by r first log) x.s x.here between.0 between.1 V x.solves in
+        let between = came_within r.system r.bound r.plan t seen.n seen.before seen.front seen.earlier plan seen.came in
+        let rest = rest_from r sound built machines well plan t seen.n x.before x.s x.here between.0 between.1 between.2 V x.solves in
         record {
           kind = rest.kind;
           point = rest.end;
@@ -228,7 +277,8 @@ module _ (r : Run) (b : Account) (sound : IsSound r.system) (built : IsBuilt r.s
         inr (cut_trace lived.is K.Stop point (subst (IsTrace r lived.is K.Stop) (sym f.0) (stop_trace r sound built machines lived.log lived.is f.1 told)) [] _ _ pieces_are piece_is refl)
     cut_end (E.Asked at) point f pieces_are piece_is =
         inr (cut_trace lived.is K.Asked point (subst (IsTrace r lived.is K.Asked) (sym f.0) (asked_trace r sound built machines at lived.log lived.is f.1 told)) [] _ _ pieces_are piece_is refl)
-    cut_end (E.EventLimit at) point f pieces_are piece_is = absurd f
+    cut_end (E.EventLimit at) point f pieces_are piece_is =
+        inr (cut_trace lived.is K.Limit point (subst (IsTrace r lived.is K.Limit) (sym f.0) (limit_trace r sound built machines at lived.log lived.is f.1 told)) [] _ _ pieces_are piece_is refl)
     cut_end (E.FixedStep component at end) point f pieces_are piece_is =
         inr (cut_trace lived.is K.Fixed point (subst (IsTrace r lived.is K.Fixed) (sym f.0) (fixed_trace r sound built machines component.0 at end lived.log lived.is f.1 told)) [] _ _ pieces_are piece_is refl)
     cut_end (E.Bad bad) point f pieces_are piece_is = inl (bad_end bad point f).1

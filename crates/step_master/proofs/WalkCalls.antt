@@ -1,38 +1,30 @@
 -- The calls of a walk through the ports: Gets and Sets, of each port one at most.
-use Rattle.std.proofs.Common.{◌≡◌, ◌⊎◌, inl, inr, ℕ, ◌==◌, ℤ, pos, Bool, true, false, List, [], ◌∷◌, ◌++◌, Option, Some, None, Contains, refl, sym, ap, ◌∙◌, subst, append_assoc, append-nil, arith}
+use Rattle.std.proofs.Common.{◌≡◌, ◌⊎◌, inl, inr, ℕ, ℤ, Bool, true, false, List, [], ◌∷◌, ◌++◌, Option, Some, None, refl, sym, ap, ◌∙◌, subst, append_assoc, append-nil}
 use Rattle.std.specs.Prelude.{All, if◌then◌else◌, option_map}
 use Rattle.std.specs.List.{slice_get}
 use Rattle.std.specs.Option.{option_and_then, option_map_or}
-use Rattle.std.proofs.lemmas.Bool.Decides.{nat_tests}
-use Rattle.std.proofs.lemmas.List.Elements.{All-append, All-cons, All-head, All-nil, All-tail, Contains-append_left, Contains-push}
+use Rattle.std.proofs.lemmas.List.Elements.{All-append, All-cons, All-nil}
 use Rattle.std.proofs.lemmas.Option.{same_Some}
-use Rattle.value_types.specs.declared.values.PortType.{PortType}
 use Rattle.fmi_calls.specs.declared.call.Call.{Call}
 use Rattle.fmi_calls.specs.declared.call.Call.TheVariants as C
 use Rattle.fmi_calls.specs.declared.call.Reply.{Reply}
-use Rattle.fmi_calls.specs.KindFacts.{IsRunCall, moves_on}
-use Rattle.fmu_peer.specs.Lean.{IsNew, NoneTwiceBehind, without_value}
 use Rattle.system_model.specs.declared.system.Component.{Component}
 use Rattle.system_model.specs.declared.system.Port.{Port}
 use Rattle.system_model.specs.declared.system.Role.{Role}
 use Rattle.system_model.specs.declared.system.Role.TheVariants.{Input, Output, ClockInput, ClockOutput, TimeClock}
 use Rattle.system_model.specs.declared.system.System.{System}
-use Rattle.system_model.specs.Orders.{IsOrder}
-use Rattle.system_model.specs.Sound.{IsSound}
-use Rattle.system_model.proofs.SoundLemmas as S
 use Rattle.run_model.specs.Equations.{fed}
 use Rattle.run_model.specs.Initial.{is_read}
+use Rattle.run_model.specs.Inputs.{is_present}
 use Rattle.run_model.specs.Run.{value}
 use Rattle.slot_calls.specs.Log.{Asking, Sent, asking_of, askings}
 use Rattle.slot_calls.specs.declared.bad_answer.BadAnswer.{BadAnswer}
 use Rattle.slot_calls.proofs.Logs.{askings_append}
 use Rattle.event_iteration.specs.Explains.{Explains, ExplainsUntil, all_said, call_at, said}
 use Rattle.event_iteration.specs.Initialization.{asks_initially, initially, is_set_from_feed}
-use Rattle.event_iteration.specs.Instants.{asks_at_point, at_point}
+use Rattle.event_iteration.specs.Instants.{asks_in_instant, in_instant}
 use Rattle.event_iteration.specs.Settings.{before_step, sets_to}
 use Rattle.event_iteration.specs.Turns.{Rules, sent_of}
-use Rattle.step_master.proofs.Calls.{own, own_append}
-use Rattle.step_master.proofs.Needing.{none_twice_on, seen_behind}
 
 -- ---- kinds of turns
 
@@ -66,12 +58,27 @@ initially_by (ClockInput feed) ports read port values call h = absurd (cc)
 initially_by ClockOutput ports read port values call h = absurd (cc)
 initially_by (TimeClock timing) ports read port values call h = absurd (cc)
 
-at_point_by : (role : Role) (port : Port) (call : Call) → asks_at_point role port ≡ Some call → Reads port call
-at_point_by Output port call h = sym (same_Some _ _ h)
-at_point_by (Input feed) port call h = absurd (cc)
-at_point_by (ClockInput feed) port call h = absurd (cc)
-at_point_by ClockOutput port call h = absurd (cc)
-at_point_by (TimeClock timing) port call h = absurd (cc)
+-- what an instant asks for a port of an FMU with event mode or without, in the first instant at a point or in a later one
+abbrev pub InInstant : Bool → Bool → Port → Call → Type 0
+InInstant true is_first port call = Uses port call
+InInstant false true port call = Reads port call
+InInstant false false port call = ⊥
+
+pub in_instant_by : (role : Role) (port : Port) (has_event_mode is_first : Bool) (values : List (Option ℤ)) (call : Call) → asks_in_instant role port has_event_mode is_first values ≡ Some call → InInstant has_event_mode is_first port call
+in_instant_by (Input None) port has_event_mode is_first values call h = absurd (cc)
+in_instant_by (Input (Some feed)) port true is_first values call h = inr (some_set port (fed feed values) call (if_some (is_present port values) _ call h))
+in_instant_by (Input (Some feed)) port false is_first values call h = absurd (cc)
+in_instant_by Output port true is_first values call h = inl (sym (same_Some _ _ (if_some (is_present port values) _ call h)))
+in_instant_by Output port false true values call h = sym (same_Some _ _ h)
+in_instant_by Output port false false values call h = absurd (cc)
+in_instant_by (ClockInput feed) port has_event_mode is_first values call h = absurd (cc)
+in_instant_by ClockOutput port has_event_mode is_first values call h = absurd (cc)
+in_instant_by (TimeClock timing) port has_event_mode is_first values call h = absurd (cc)
+
+pub instant_uses : (has_event_mode is_first : Bool) (port : Port) (call : Call) → InInstant has_event_mode is_first port call → Uses port call
+instant_uses true is_first port call t = t
+instant_uses false true port call t = inl t
+instant_uses false false port call t = absurd t
 
 before_step_by : (role : Role) (port : Port) (o : Option ℤ) (call : Call) → sets_to role port o ≡ Some call → Writes port call
 before_step_by (Input None) port o call h = absurd (cc)
@@ -84,57 +91,25 @@ before_step_by (TimeClock timing) port o call h = absurd (cc)
 pub finding_uses : (system : System) → AsksBy Uses (initially system)
 finding_uses system p port c values call h = initially_by port.role system.ports (is_read system.ports p) port values call h
 
-pub reading_reads : AsksBy Reads at_point
-reading_reads p port c values call h = at_point_by port.role port call h
+pub reading_uses : (is_first : Bool) → AsksBy Uses (in_instant is_first)
+reading_uses is_first p port c values call h =
+    instant_uses c.shape.has_event_mode is_first port call (in_instant_by port.role port c.shape.has_event_mode is_first values call h)
+
+-- what is asked for a port before a step
+abbrev pub BeforeStep : Bool → Port → Call → Type 0
+BeforeStep true port call = ⊥
+BeforeStep false port call = Writes port call
+
+pub step_by : (role : Role) (port : Port) (has_event_mode : Bool) (o : Option ℤ) (call : Call) → (if has_event_mode then None else sets_to role port o) ≡ Some call → BeforeStep has_event_mode port call
+step_by role port true o call h = absurd (cc)
+step_by role port false o call h = before_step_by role port o call h
+
+step_writes : (has_event_mode : Bool) (port : Port) (call : Call) → BeforeStep has_event_mode port call → Writes port call
+step_writes true port call t = absurd t
+step_writes false port call t = t
 
 pub setting_writes : (now : List (Option ℤ)) → AsksBy Writes (before_step now)
-setting_writes now p port c values call h = before_step_by port.role port (value now p) call h
-
--- the calls of a kind of turn are a run's, leave the mode, and those of two ports of a component are two
-pub record IsUse (T : Port → Call → Type 0) : Type 0 where
-  pub runs : (port : Port) (call : Call) → T port call → IsRunCall call
-  pub stays : (port : Port) (call : Call) → T port call → moves_on call ≡ false
-  pub apart : (a b : Port) (c d : Call) → T a c → T b d → without_value c ≡ without_value d → a.reference ≡ b.reference
-
-get_reference : (a b : PortType) (r s : ℕ) → C.Get a r ≡ C.Get b s → r ≡ s
-get_reference a b r s e = cc
-
-set_reference : (a b : PortType) (r s : ℕ) (x y : ℤ) → C.Set a r x ≡ C.Set b s y → r ≡ s
-set_reference a b r s x y e = cc
-
-pub reads_use : IsUse Reads
-reads_use = record {
-  runs = λ port call t. subst IsRunCall (sym t) refl;
-  stays = λ port call t. ap moves_on t;
-  apart = λ a b c d t u e. get_reference a.kind b.kind a.reference b.reference (sym (ap without_value t) ∙ e ∙ ap without_value u);
-}
-
-pub writes_use : IsUse Writes
-writes_use = record {
-  runs = λ port call t. subst IsRunCall (sym t.1) refl;
-  stays = λ port call t. ap moves_on t.1;
-  apart = λ a b c d t u e. set_reference a.kind b.kind a.reference b.reference (pos 0) (pos 0) (sym (ap without_value t.1) ∙ e ∙ ap without_value u.1);
-}
-
--- a Get is no Set
-pub read_write : (a b : Port) (c d : Call) → Reads a c → Writes b d → without_value c ≡ without_value d → ⊥
-read_write a b c d t u e = absurd (let wrong = sym (ap without_value t) ∙ e ∙ ap without_value u.1 in cc)
-
-pub uses_use : IsUse Uses
-uses_use = record { runs = runs; stays = stays; apart = apart } where
-  runs : (port : Port) (call : Call) → Uses port call → IsRunCall call
-  runs port call (inl t) = reads_use.runs port call t
-  runs port call (inr t) = writes_use.runs port call t
-
-  stays : (port : Port) (call : Call) → Uses port call → moves_on call ≡ false
-  stays port call (inl t) = reads_use.stays port call t
-  stays port call (inr t) = writes_use.stays port call t
-
-  apart : (a b : Port) (c d : Call) → Uses a c → Uses b d → without_value c ≡ without_value d → a.reference ≡ b.reference
-  apart a b c d (inl t) (inl u) e = reads_use.apart a b c d t u e
-  apart a b c d (inl t) (inr u) e = absurd (read_write a b c d t u e)
-  apart a b c d (inr t) (inl u) e = absurd (read_write b a d c u t (sym e))
-  apart a b c d (inr t) (inr u) e = writes_use.apart a b c d t u e
+setting_writes now p port c values call h = step_writes c.shape.has_event_mode port call (step_by port.role port c.shape.has_event_mode (value now p) call h)
 
 -- ---- the calls of turns
 
@@ -225,65 +200,3 @@ module _ (T : Port → Call → Type 0) (system : System) where
 
     pub walk_all : (order : List ℕ) (calls : List Asking) → IsWalk order calls → All (λ (a : Asking). P a.call) calls
     walk_all order calls w = turned_all w.taken calls w.turned
-
-  -- ---- none stands twice
-
-  module _ (proper : IsUse T) (sound : IsSound system) (k : ℕ) where
-    -- no such call, or that of a port that was taken
-    abbrev IsOld : List ℕ → Call → Type 0
-    IsOld pre c = ((port : Port) (call : Call) → T port call → without_value c ≡ without_value call → ⊥)
-        ⊎ ((q : ℕ) × (a : Port) × Contains pre q × (slice_get system.ports q ≡ Some a) × (a.component.0 ≡ k) × T a c)
-
-    old_more : (pre : List ℕ) (p : ℕ) (c : Call) → IsOld pre c → IsOld (pre ++ p ∷ []) c
-    old_more pre p c (inl h) = inl h
-    old_more pre p c (inr (q, a, m, at, here, t)) = inr (q, a, Contains-append_left pre (p ∷ []) q m, at, here, t)
-
-    all_more : (pre : List ℕ) (p : ℕ) (seen : List Call) → All (IsOld pre) seen → All (IsOld (pre ++ p ∷ [])) seen
-    all_more pre p [] all = All-nil (IsOld (pre ++ p ∷ []))
-    all_more pre p (c ∷ seen) all = All-cons (IsOld (pre ++ p ∷ [])) c seen (old_more pre p c (All-head (IsOld pre) c seen all)) (all_more pre p seen (All-tail (IsOld pre) c seen all))
-
-    module _ (pre : List ℕ) (p : ℕ) (fresh : Contains pre p → ⊥) (port : Port) (call : Call) (at : slice_get system.ports p ≡ Some port) (t : T port call) where
-      new_call : port.component.0 ≡ k → (c : Call) → IsOld pre c → without_value c ≡ without_value call → ⊥
-      new_call here c (inl h) e = h port call t e
-      new_call here c (inr (q, a, m, at_q, here_q, u)) e =
-          fresh (subst (Contains pre) (S.own system sound q p a port at_q at (here_q ∙ sym here) (proper.apart a port c call u t e)) m)
-
-      all_new : port.component.0 ≡ k → (seen : List Call) → All (IsOld pre) seen → IsNew call seen
-      all_new here [] all = All-nil (λ (d : Call). without_value d ≡ without_value call → ⊥)
-      all_new here (c ∷ seen) all =
-          All-cons (λ (d : Call). without_value d ≡ without_value call → ⊥) c seen (new_call here c (All-head (IsOld pre) c seen all)) (all_new here seen (All-tail (IsOld pre) c seen all))
-
-    -- what the calls of one turn leave
-    abbrev Turns : List ℕ → List Call → List Call → Type 0
-    Turns pre seen calls = NoneTwiceBehind seen calls × All (IsOld pre) (seen_behind seen calls)
-
-    equal : (a b : ℕ) → (a == b) ≡ true → a ≡ b
-    equal a b h = grind (arith, nat_tests)
-
-    one_once : (pre : List ℕ) (p : ℕ) → (Contains pre p → ⊥) → (port : Port) (call : Call) → slice_get system.ports p ≡ Some port → T port call → (seen : List Call) → All (IsOld pre) seen → (b : Bool) → (port.component.0 == k) ≡ b →
-        Turns (pre ++ p ∷ []) seen (if b then call ∷ [] else [])
-    one_once pre p fresh port call at t seen all true same =
-        let here = equal port.component.0 k same in (
-          ((λ once. all_new pre p fresh port call at t here seen all), tt),
-          subst (All (IsOld (pre ++ p ∷ []))) (sym (ap (λ (b : Bool). if b then call ∷ [] else call ∷ seen) (proper.stays port call t)))
-              (All-cons (IsOld (pre ++ p ∷ [])) call seen (inr (p, port, Contains-push pre p, at, here, t)) (all_more pre p seen all)),
-        )
-    one_once pre p fresh port call at t seen all false other = (tt, all_more pre p seen all)
-
-    port_once : (pre : List ℕ) (p : ℕ) (calls : List Asking) → (Contains pre p → ⊥) → OfPort p calls → (seen : List Call) → All (IsOld pre) seen → Turns (pre ++ p ∷ []) seen (own k calls)
-    port_once pre p calls fresh (None_here e) seen all = subst (λ (l : List Asking). Turns (pre ++ p ∷ []) seen (own k l)) (sym e) (tt, all_more pre p seen all)
-    port_once pre p calls fresh (One_here port call at t e) seen all =
-        subst (λ (l : List Asking). Turns (pre ++ p ∷ []) seen (own k l)) (sym e) (one_once pre p fresh port call at t seen all (port.component.0 == k) refl)
-
-    module _ (IsAmong : ℕ → Type 0) (NeedsOf : ℕ → ℕ → Type 0) (order : List ℕ) (ordered : IsOrder IsAmong NeedsOf order) where
-      turned_once : (pre ps left : List ℕ) (calls : List Asking) → order ≡ pre ++ (ps ++ left) → Turned ps calls → (seen : List Call) → All (IsOld pre) seen → NoneTwiceBehind seen (own k calls)
-      turned_once pre [] left calls is t seen all = subst (λ (l : List Asking). NoneTwiceBehind seen (own k l)) (sym t) tt
-      turned_once pre (p ∷ ps) left calls is (first, more, calls_are, of, rest) seen all =
-          let here = port_once pre p first (ordered.once pre (ps ++ left) p is) of seen all in
-          subst (NoneTwiceBehind seen) (sym (ap (own k) calls_are ∙ own_append k first more))
-          (none_twice_on seen (own k first) (own k more) here.0
-          (turned_once (pre ++ p ∷ []) ps left more (is ∙ sym (append_assoc pre (p ∷ []) (ps ++ left))) rest (seen_behind seen (own k first)) here.1))
-
-      -- behind other calls the calls of a walk are new
-      pub walk_once : (calls : List Asking) → IsWalk order calls → (seen : List Call) → All (λ (c : Call). (port : Port) (call : Call) → T port call → without_value c ≡ without_value call → ⊥) seen → NoneTwiceBehind seen (own k calls)
-      walk_once calls w seen other = turned_once [] w.taken w.left calls w.is w.turned seen (λ i d v. inl (other i d v))

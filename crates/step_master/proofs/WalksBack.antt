@@ -22,12 +22,12 @@ use Rattle.run_model.proofs.Unique.{none_in, push_cases}
 use Rattle.slot_calls.specs.Log.{Sent}
 use Rattle.event_iteration.specs.Explains.{Explains, all_said, call_at, said}
 use Rattle.event_iteration.specs.Initialization.{initially, no_values}
-use Rattle.event_iteration.specs.Instants.{at_point}
+use Rattle.event_iteration.specs.Instants.{in_instant}
 use Rattle.event_iteration.specs.Settings.{before_step, port_order}
 use Rattle.event_iteration.specs.Turns.{Begun, IsPaired, Rules, Turn, Walked, Went, sent_of}
 use Rattle.event_iteration.proofs.Abouts.{about_initially}
-use Rattle.event_iteration.proofs.AtPoint.{about_point}
-use Rattle.event_iteration.proofs.Setting.{NoNeeds, in_order}
+use Rattle.event_iteration.proofs.InInstant.{about_instant}
+use Rattle.event_iteration.proofs.Setting.{NoNeeds, about_setting, in_order}
 use Rattle.event_iteration.proofs.Walking.{AreAbout, next_beside, next_here}
 use Rattle.step_master.proofs.Prepared.{got}
 
@@ -171,11 +171,11 @@ module _ (system : System) (sound : IsSound system) where
       walked_back (λ q. is_unclocked_at system.ports q ≡ true) (NeedsInitially system) system (initially system) (about_initially system) (no_values system) (numbers system.initial_order) sound.initial_order
       (length-map system.ports (λ (x : Port). None)) (λ p m. there_at system sound p (within_of p (sound.initial_order.only p m))) taken left is values log told
 
-  -- of an instant
-  pub reading_back : (before : List (Option ℤ)) → length before ≡ length system.ports → (taken left : List ℕ) → numbers system.instant_order ≡ taken ++ left → (values : List (Option ℤ)) (log : List Sent) → Explains system at_point before taken values log →
-      IsWalked system at_point before taken values log
-  reading_back before len taken left is values log told =
-      walked_back (λ q. q < length system.ports) (Needs system) system at_point (about_point system) before (numbers system.instant_order) sound.instant_order len
+  -- of an instant, as far as it went
+  pub instant_back : (is_first : Bool) (before : List (Option ℤ)) → length before ≡ length system.ports → (taken left : List ℕ) → numbers system.instant_order ≡ taken ++ left → (values : List (Option ℤ)) (log : List Sent) →
+      Explains system (in_instant is_first) before taken values log → IsWalked system (in_instant is_first) before taken values log
+  instant_back is_first before len taken left is values log told =
+      walked_back (λ q. q < length system.ports) (Needs system) system (in_instant is_first) (about_instant system is_first) before (numbers system.instant_order) sound.instant_order len
       (λ p m. there_at system sound p (sound.instant_order.only p m)) taken left is values log told
 
   -- of the Sets before a step
@@ -183,5 +183,5 @@ module _ (system : System) (sound : IsSound system) where
       Walked system (before_step now) now taken now log
   setting_back now len taken left is log told =
       walked_to system (before_step now) now taken now log len
-      (walked_back (λ q. q < length system.ports) NoNeeds system (before_step now) (record { asks_same = λ p port c V W at h. refl; takes_same = λ p port V W last reply at h. refl }) now (port_order system) (in_order system) len
+      (walked_back (λ q. q < length system.ports) NoNeeds system (before_step now) (about_setting system now) now (port_order system) (in_order system) len
       (λ p m. there_at system sound p ((in_order system).only p m)) taken left is now log told)

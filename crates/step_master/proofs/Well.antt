@@ -1,5 +1,5 @@
--- The calls of a run of machines that behave well are answered well, each where the run comes to it.
-use Rattle.std.proofs.Common.{◌≡◌, ℕ, suc, ◌-◌, ◌==◌, ℤ, Bool, true, false, inl, inr, List, [], ◌∷◌, ◌++◌, Option, Some, None, refl, sym, ap, ◌∙◌, subst, append_assoc, arith, length, get_or}
+-- The calls of machines that behave well are answered well up to the first instant. What a Get or a Set leaves, and what may be set.
+use Rattle.std.proofs.Common.{◌≡◌, ℕ, suc, ◌==◌, ℤ, Bool, true, false, List, [], ◌∷◌, ◌++◌, Option, Some, None, refl, sym, ap, ◌∙◌, subst, append_assoc, arith, length, get_or}
 use Rattle.std.specs.Prelude.{All, IfSome, IsSomeAnd, if◌then◌else◌, option_map}
 use Rattle.std.specs.List.{AllZip, slice_get}
 use Rattle.std.proofs.lemmas.Bool.{eqb-true}
@@ -27,45 +27,40 @@ use Rattle.system_model.specs.Ports.{is_output_role, numbers, source_of}
 use Rattle.system_model.specs.Bounds.{BindsParameters, IsParameterValue}
 use Rattle.system_model.specs.Sound.{IsSound}
 use Rattle.system_model.proofs.SoundLemmas.{clock_type_of, is_input_of, place_of}
-use Rattle.run_model.specs.Behaved.{AnswersAt, AnswersWell, Configuring, Initializing, IsAnsweredWell, IsSetting, Stepping, WellBehaved}
-use Rattle.run_model.specs.Equations.{Solves, fed}
+use Rattle.run_model.specs.Behaved.{Configuring, Eventing, Initializing, IsAnsweredWell, IsSetting, Stepping, WellBehaved}
+use Rattle.run_model.specs.Equations.{fed}
 use Rattle.run_model.specs.Initial as I
 use Rattle.run_model.specs.Initial.{SolvesInitially, is_read, set_call}
 use Rattle.run_model.specs.Inputs.{state_with}
 use Rattle.run_model.specs.Machines.{AreFitting, AreMachines}
-use Rattle.run_model.specs.Run.{IsFmu, Run, Situation, value}
-use Rattle.run_model.proofs.AlongRun.{situation_reached, values_fit}
+use Rattle.run_model.specs.Run.{IsFmu, Run, value}
 use Rattle.run_model.proofs.InitiallySolvable.{solvable_initially}
 use Rattle.run_model.proofs.Midst.{looks_initially}
 use Rattle.run_model.proofs.States.{fmu_before}
 use Rattle.slot_calls.specs.declared.bad_answer.BadAnswer.{BadAnswer}
 use Rattle.slot_calls.specs.Log.{Asking, Sent, asking_of, askings, part}
 use Rattle.slot_calls.specs.Replies.{AreReplies, state_by}
-use Rattle.slot_calls.specs.Stage.{FailsIn, IsAnswered, StopsAt, shapes_of}
+use Rattle.slot_calls.specs.Slots.{sets_or_gets}
+use Rattle.slot_calls.specs.Stage.{IsAnswered, StopsAt, everyone, shapes_of}
 use Rattle.event_iteration.specs.Explains.{ExplainsUntil}
 use Rattle.event_iteration.specs.Initialization.{asks_initially, initially, is_set_from_feed, no_values}
-use Rattle.event_iteration.specs.Instants.{asks_at_point, at_point}
-use Rattle.event_iteration.specs.Settings.{before_step, port_order, sets_to}
-use Rattle.event_iteration.proofs.AtPoint.{clockless, no_clock}
-use Rattle.event_iteration.proofs.Finding.{midst_along}
-use Rattle.event_iteration.proofs.Permits.{fed_fits, keeps, value_type}
+use Rattle.event_iteration.proofs.Clockless.{clockless, no_clock}
+use Rattle.event_iteration.proofs.Finding.{Midst, midst_along}
+use Rattle.event_iteration.proofs.Fmus.{fmu_on}
+use Rattle.event_iteration.proofs.Parts.{part_all}
+use Rattle.event_iteration.proofs.Permits.{fed_fits, keeps, quiet_part, value_type}
 use Rattle.event_iteration.proofs.Rounds.{fits_none, places_none}
-use Rattle.calling_sequence.specs.Course.{Binding, Entering, Finding, Leaving, IsStep, StopsInitializing, binding, stepping}
+use Rattle.calling_sequence.specs.Course.{Binding, Entering, Finding, Leaving, StopsInitializing, binding}
 use Rattle.calling_sequence.specs.Systems.{IsBuilt}
-use Rattle.calling_sequence.proofs.Chains.{part_all}
 use Rattle.step_master.specs.Master.{making}
 use Rattle.step_master.proofs.Badly.{walk_good}
-use Rattle.step_master.proofs.Begun.{IsHere, entered_states, found_states}
+use Rattle.step_master.proofs.Begun.{entered_states, found_states, replies_at}
 use Rattle.step_master.proofs.Configured.{IsParameterSet, amid_all, binding_all, configured_states}
-use Rattle.step_master.proofs.Existing.{departed_here, steps_well}
-use Rattle.step_master.proofs.Followed.{of_calls, walk_gets}
-use Rattle.step_master.proofs.Links.{IsLost, lost_at, lost_behind, lost_fails, lost_stops, lost_walk}
-use Rattle.step_master.proofs.Looking.{gets_stay, replies_first, replies_then}
-use Rattle.step_master.proofs.Onward.{done_states, set_are_all, set_here}
+use Rattle.step_master.proofs.Links.{IsLost, lost_at, lost_behind, lost_stops, lost_walk}
+use Rattle.step_master.proofs.Looking.{replies_first, replies_then}
 use Rattle.step_master.proofs.Prepared.{is_within}
-use Rattle.step_master.proofs.Quiet.{configured_all, initializing_all, made_all, no_event}
-use Rattle.step_master.proofs.SideBySide.{all_on, fmu_on}
-use Rattle.step_master.proofs.WalkCalls.{Reads, Uses, Writes, finding_uses, part_walk, reading_reads, setting_writes, walk_all}
+use Rattle.step_master.proofs.Quiet.{configured_all, initializing_all, made_all}
+use Rattle.step_master.proofs.SideBySide.{all_on}
 use Rattle.step_master.proofs.WalksBack.{IsWalked, finding_back}
 
 -- ---- the first call
@@ -73,46 +68,33 @@ use Rattle.step_master.proofs.WalksBack.{IsWalked, finding_back}
 pub lost_making : (r : Run) → WellBehaved r → length r.machines ≡ length r.system.components → (bad : BadAnswer) (log : List Sent) → AreReplies r (I.first_states r) log →
     StopsAt (shapes_of r.system) (making r.system) bad log → IsLost (length r.system.components) log bad.why
 lost_making r well machines bad log replies s =
-    lost_stops r (I.first_states r) (record { machines = machines; states = length-map r.machines (λ (m : Machine). m.first) ∙ machines }) bad log replies instantiate_of s (λ i. (well i).before.instantiate)
+    lost_stops r (I.first_states r) (record { machines = machines; states = length-map r.machines (λ (m : Machine). m.first) ∙ machines }) bad log replies everyone instantiate_of s (λ i c m z fmu asked. (well i).before.instantiate c m z fmu)
 
 -- ---- Gets and Sets
 
--- the call of an exchange gets or sets a variable
-abbrev Uses_in : Exchange → Type 0
-Uses_in e = (port : Port) × Uses port e.call
-
 -- both leave a state its numbers, and as many values
-record IsLike (a b : MachineState) : Type 0 where
-  numbers : b.numbers ≡ a.numbers
-  values : length b.values ≡ length a.values
+pub record IsLike (a b : MachineState) : Type 0 where
+  pub numbers : b.numbers ≡ a.numbers
+  pub values : length b.values ≡ length a.values
 
 written_many : (refs : List ℕ) (xs : List ℤ) (reference : ℕ) (x : ℤ) → length (written refs xs reference x) ≡ length xs
 written_many [] xs reference x = refl
 written_many (r ∷ refs) [] reference x = refl
 written_many (r ∷ refs) (y ∷ xs) reference x = ap suc (written_many refs xs reference x)
 
-like_one : (m : Machine) (s : MachineState) (call : Call) (port : Port) → Uses port call → IsLike s (after m s call)
-like_one m s call port (inl is) = subst (λ (c : Call). IsLike s (after m s c)) (sym is) (record { numbers = refl; values = refl })
-like_one m s call port (inr is) = subst (λ (c : Call). IsLike s (after m s c)) (sym is.1) (record { numbers = refl; values = written_many m.references s.values port.reference is.0 })
+like_one : (m : Machine) (s : MachineState) (call : Call) → sets_or_gets call ≡ true → IsLike s (after m s call)
+like_one m s (C.Get kind reference) h = record { numbers = refl; values = refl }
+like_one m s (C.Set kind reference value) h = record { numbers = refl; values = written_many m.references s.values reference value }
+like_one m s call h = absurd (cc)
 
-like_by : (m : Machine) (s : MachineState) (es : List Exchange) → All Uses_in es → IsLike s (state_by m s es)
+abbrev pub IsQuiet : Exchange → Type 0
+IsQuiet e = sets_or_gets e.call ≡ true
+
+pub like_by : (m : Machine) (s : MachineState) (es : List Exchange) → All IsQuiet es → IsLike s (state_by m s es)
 like_by m s [] all = record { numbers = refl; values = refl }
 like_by m s (e ∷ es) all =
-    let head = All-head Uses_in e es all in
-    let one = like_one m s e.call head.0 head.1 in
-    let more = like_by m (after m s e.call) es (All-tail Uses_in e es all) in
-    record { numbers = more.numbers ∙ one.numbers; values = more.values ∙ one.values }
-
--- the Set of a parameter
-abbrev Sets_in : Exchange → Type 0
-Sets_in e = (b : BoundValue) × (e.call ≡ set_call b)
-
-like_sets : (m : Machine) (s : MachineState) (es : List Exchange) → All Sets_in es → IsLike s (state_by m s es)
-like_sets m s [] all = record { numbers = refl; values = refl }
-like_sets m s (e ∷ es) all =
-    let head = All-head Sets_in e es all in
-    let one : IsLike s (after m s e.call) = subst (λ (c : Call). IsLike s (after m s c)) (sym head.1) (record { numbers = refl; values = written_many m.references s.values head.0.reference head.0.value }) in
-    let more = like_sets m (after m s e.call) es (All-tail Sets_in e es all) in
+    let one = like_one m s e.call (All-head IsQuiet e es all) in
+    let more = like_by m (after m s e.call) es (All-tail IsQuiet e es all) in
     record { numbers = more.numbers ∙ one.numbers; values = more.values ∙ one.values }
 
 -- a parameter may be set to a value of its type
@@ -136,39 +118,40 @@ zip_none R [] ys zip h = refl
 zip_none R (x ∷ xs) [] zip h = absurd zip
 zip_none R (x ∷ xs) (y ∷ ys) zip h = absurd (let e : length (y ∷ ys) ≡ 0 = eqb-true (length (y ∷ ys)) 0 h in omega (arith, e))
 
+-- an input may be set to a value of its type
+module _ (r : Run) (sound : IsSound r.system) (built : IsBuilt r.system) (p : ℕ) (port : Port) (at : slice_get r.system.ports p ≡ Some port) (input : is_output_role port.role ≡ false) (c : Component)
+    (of : slice_get r.system.components port.component.0 ≡ Some c) (x : ℤ) (fit : Fits port.kind x) where
+  set_type : is_value_type port.kind ≡ true
+  set_type = value_type port.kind (clock_type_of r.system p port (place_of r.system sound p port at) ∙ no_clock r.system built.no_clocks p port at)
+
+  set_by : (P : Variable → Type 0) → P (place_of r.system sound p port at).variable → IsSomeAnd (variable_at c.shape.variables port.reference) (λ (v : Variable). (v.kind ≡ Some port.kind) × ((v.causality ≡ V.Input) × P v))
+  set_by P h =
+      let placed = place_of r.system sound p port at in
+      let under : variable_at c.shape.variables port.reference ≡ Some placed.variable =
+      ap (λ (d : Component). variable_at d.shape.variables port.reference) (same_Some _ _ (sym of ∙ placed.is.of)) ∙ placed.is.there in
+      subst (λ (o : Option Variable). IsSomeAnd o (λ (v : Variable). (v.kind ≡ Some port.kind) × ((v.causality ≡ V.Input) × P v))) (sym under) (placed.kind, (is_input_of r.system p port placed input, h))
+
+  sets_initially : IsSetting Initializing c.shape (C.Set port.kind port.reference x)
+  sets_initially =
+      let placed = place_of r.system sound p port at in (
+        set_type,
+        fit,
+        set_by (λ (v : Variable). length v.clocks ≡ 0) (zip_none _ placed.variable.clocks port.clocks (sound.ports.clocks p port placed.component placed.variable placed.is) (clockless r.system built.no_clocks p port at)),
+      )
+
+  pub sets_eventing : c.shape.has_event_mode ≡ true → IsSetting Eventing c.shape (C.Set port.kind port.reference x)
+  sets_eventing events = (set_type, fit, set_by (λ (v : Variable). c.shape.has_event_mode ≡ true) events)
+
+  pub sets_stepping : c.shape.has_event_mode ≡ false → IsSetting Stepping c.shape (C.Set port.kind port.reference x)
+  sets_stepping none = (set_type, fit, set_by (λ (v : Variable). c.shape.has_event_mode ≡ false) none)
+
 module _ (r : Run) (sound : IsSound r.system) (built : IsBuilt r.system) (machines : AreMachines r) (well : WellBehaved r) where
   abbrev count : ℕ
   count = length r.system.components
 
-  -- an input may be set to a value of its type
-  module _ (p : ℕ) (port : Port) (at : slice_get r.system.ports p ≡ Some port) (input : is_output_role port.role ≡ false) (c : Component) (of : slice_get r.system.components port.component.0 ≡ Some c) (x : ℤ) (fit : Fits port.kind x) where
-    set_type : is_value_type port.kind ≡ true
-    set_type = value_type port.kind (clock_type_of r.system p port (place_of r.system sound p port at) ∙ no_clock r.system sound built.no_event p port at)
-
-    set_by : (P : Variable → Type 0) → P (place_of r.system sound p port at).variable → IsSomeAnd (variable_at c.shape.variables port.reference) (λ (v : Variable). (v.kind ≡ Some port.kind) × ((v.causality ≡ V.Input) × P v))
-    set_by P h =
-        let placed = place_of r.system sound p port at in
-        let under : variable_at c.shape.variables port.reference ≡ Some placed.variable =
-        ap (λ (d : Component). variable_at d.shape.variables port.reference) (same_Some _ _ (sym of ∙ placed.is.of)) ∙ placed.is.there in
-        subst (λ (o : Option Variable). IsSomeAnd o (λ (v : Variable). (v.kind ≡ Some port.kind) × ((v.causality ≡ V.Input) × P v))) (sym under) (placed.kind, (is_input_of r.system p port placed input, h))
-
-    sets_initially : IsSetting Initializing c.shape (C.Set port.kind port.reference x)
-    sets_initially =
-        let placed = place_of r.system sound p port at in (
-          set_type,
-          fit,
-          set_by (λ (v : Variable). length v.clocks ≡ 0) (zip_none _ placed.variable.clocks port.clocks (sound.ports.clocks p port placed.component placed.variable placed.is) (clockless r.system sound built.no_event p port at)),
-        )
-
-    sets_stepping : IsSetting Stepping c.shape (C.Set port.kind port.reference x)
-    sets_stepping = (set_type, fit, set_by (λ (v : Variable). c.shape.has_event_mode ≡ false) (no_event r sound built port.component.0 c of))
-
   -- ---- into Step Mode
 
   module _ (binds : BindsParameters r.system r.bound) where
-    enters_well : (i : ℕ) → AnswersWell r (I.configured r) i (λ shape. I.enter_initialization r)
-    enters_well i = (well i).before.enter
-
     module _ (bad : BadAnswer) (values : List (Option ℤ)) (found : List Sent) (u : ExplainsUntil r.system (initially r.system) (no_values r.system) (numbers r.system.initial_order) bad values found) (replies : AreReplies r (I.initializing r) found) where
       abbrev port : Port
       port = u.stops.port
@@ -185,11 +168,8 @@ module _ (r : Run) (sound : IsSound r.system) (built : IsBuilt r.system) (machin
       abbrev back : IsWalked r.system (initially r.system) (no_values r.system) u.taken values u.front
       back = finding_back r.system sound u.taken (u.p ∷ u.rest) u.order_is values u.front u.told
 
-      uses_front : (i : ℕ) → All Uses_in (part i u.front)
-      uses_front i =
-          part_all (λ n e. Uses_in e) i u.front (of_calls (λ (c : Call). (q : Port) × Uses q c) u.front
-          (walk_all Uses r.system (λ (c : Call). (q : Port) × Uses q c) (λ q call t. (q, t)) (numbers r.system.initial_order) (askings u.front)
-          (part_walk Uses r.system (initially r.system) (finding_uses r.system) (no_values r.system) (numbers r.system.initial_order) u.taken (u.p ∷ u.rest) u.order_is values u.front u.told)))
+      midst : Midst r sound machines W solves u.taken back.next u.front
+      midst = (midst_along r sound machines W solves u.taken (u.p ∷ u.rest) back.next u.front u.order_is back.walked front_replies).1
 
       module _ (c : Component) (m : Machine) (z : MachineState) (fmu : IsFmu r (I.initializing r) port.component.0 c m z) where
         abbrev there : MachineState
@@ -197,19 +177,18 @@ module _ (r : Run) (sound : IsSound r.system) (built : IsBuilt r.system) (machin
 
         get_well : port.role ≡ Output → is_read r.system.ports u.p ≡ true → IsAnsweredWell c.shape m there (C.Get port.kind port.reference)
         get_well same read =
-            let midst = midst_along r sound machines W solves u.taken (u.p ∷ u.rest) back.next u.front u.order_is back.walked front_replies in
             let looks = looks_initially r sound machines u.p port u.stops.is (ap is_output_role same) read W solves u.taken (λ q n. sound.initial_order.after u.taken u.rest u.p q u.order_is n) c m z fmu (C.Get port.kind port.reference) refl in
             let shown = ((well port.component.0).initially W solves).gets u.p port u.stops.is refl same read c m (state_with r.system.ports W port.component.0 m z)
             (fmu_on r (I.initializing r) (λ i d n y. state_with r.system.ports W i n y) port.component.0 c m z fmu) in
-            ap (grade_of c.shape (C.Get port.kind port.reference)) (ap (λ (y : MachineState). m.look y (C.Get port.kind port.reference)) (midst.1.states port.component.0 c m z fmu) ∙ looks) ∙ shown
+            ap (grade_of c.shape (C.Get port.kind port.reference)) (ap (λ (y : MachineState). m.look y (C.Get port.kind port.reference)) (midst.states port.component.0 c m z fmu) ∙ looks) ∙ shown
 
         set_well : (feed : _) → port.role ≡ Input (Some feed) → (x : ℤ) → fed feed values ≡ Some x → IsAnsweredWell c.shape m there (C.Set port.kind port.reference x)
         set_well feed same x from =
-            let like = like_by m z (part port.component.0 u.front) (uses_front port.component.0) in
+            let like = like_by m z (part port.component.0 u.front) (λ k d w. (quiet_part r.system port.component.0 c.shape u.front midst.quiet k d w).0) in
             let fits : AreFitting r.system back.next = (keeps r.system sound (no_values r.system) (places_none r.system) (fits_none r.system) u.taken back.next u.front back.walked).fits in
             let fit : IfSome (value back.next feed.from.0) (Fits port.kind) = fed_fits r.system sound back.next fits u.p feed.from.0 port u.stops.is (ap source_of same) in
             ((well port.component.0).initially W solves).sets c m z there (C.Set port.kind port.reference x) fmu like.numbers like.values
-            (sets_initially u.p port u.stops.is (ap is_output_role same) c fmu.component x (subst (λ o. IfSome o (Fits port.kind)) (back.same feed.from.0 ∙ from) fit))
+            (sets_initially r sound built u.p port u.stops.is (ap is_output_role same) c fmu.component x (subst (λ o. IfSome o (Fits port.kind)) (back.same feed.from.0 ∙ from) fit))
 
         call_well : (role : Role) → port.role ≡ role → (call : Call) → asks_initially role r.system.ports (is_read r.system.ports u.p) port values ≡ Some call → IsAnsweredWell c.shape m there call
         call_well (Input None) same call h = absurd (cc)
@@ -225,7 +204,7 @@ module _ (r : Run) (sound : IsSound r.system) (built : IsBuilt r.system) (machin
 
       lost_finding : IsLost count found bad.why
       lost_finding =
-          lost_walk r (I.initializing r) (initializing_all r sound built machines.count) bad found replies (initially r.system) (no_values r.system) (numbers r.system.initial_order) values u
+          lost_walk r (I.initializing r) (initializing_all r machines.count) bad found replies (initially r.system) (no_values r.system) (numbers r.system.initial_order) values u
           (λ c m s fmu.
           let old = fmu_before r (I.initializing r) (λ i d n y. state_by n y (part i u.front)) port.component.0 c m s fmu in
           subst (λ (y : MachineState). IsAnsweredWell c.shape m y u.last.exchange.call) (sym old.is) (call_well c m old.before old.fmu port.role refl u.last.exchange.call u.stops.asks))
@@ -240,14 +219,14 @@ module _ (r : Run) (sound : IsSound r.system) (built : IsBuilt r.system) (machin
         let own : IsParameterSet 0 r.system.components (asking_of s.last) = parts.0 in
         let k = s.last.component in
         let place : own.place ≡ k = (let e = own.at in omega (arith, e)) in
-        let front : All Sets_in (part k s.front) =
-        part_all (λ n e. Sets_in e) k s.front (λ i d w. let set : IsParameterSet 0 r.system.components (asking_of (get_or s.front i d)) = parts.1 i d w in (set.value, set.call_is)) in
+        let front : All IsQuiet (part k s.front) =
+        part_all IsQuiet k s.front (λ i d w own. let set : IsParameterSet 0 r.system.components (asking_of (get_or s.front i d)) = parts.1 i d w in ap sets_or_gets set.call_is) in
         subst (λ (l : List Sent). IsLost count l bad.why) (sym s.log_is)
-        (lost_at r (I.instantiated r) (made_all r sound built machines.count) s.front s.last [] bad.why (subst (AreReplies r (I.instantiated r)) s.log_is replies) s.first.good s.first.why
+        (lost_at r (I.instantiated r) (made_all r machines.count) s.front s.last [] bad.why (subst (AreReplies r (I.instantiated r)) s.log_is replies) s.first.good s.first.why
         (let inside = is_within r.system.components own.place own.component own.of in omega (arith, inside, place))
         (λ c m state fmu.
         let old = fmu_before r (I.instantiated r) (λ i d n y. state_by n y (part i s.front)) k c m state fmu in
-        let like = like_sets m old.before (part k s.front) front in
+        let like = like_by m old.before (part k s.front) front in
         let same : own.component ≡ c = same_Some _ _ (sym own.of ∙ ap (slice_get r.system.components) place ∙ fmu.component) in
         let is : IsParameterValue c.shape own.value = subst (λ (d : Component). IsParameterValue d.shape own.value) same own.is in
         subst (λ (y : MachineState). IsAnsweredWell c.shape m y s.last.exchange.call) (sym old.is)
@@ -257,7 +236,7 @@ module _ (r : Run) (sound : IsSound r.system) (built : IsBuilt r.system) (machin
     -- behind the Sets
     module _ (set more : List Sent) (sets : IsAnswered (shapes_of r.system) (binding r.bound) set) (replies : AreReplies r (I.instantiated r) (set ++ more)) where
       set_replies : AreReplies r (I.configured r) more
-      set_replies = subst (λ (ss : List MachineState). AreReplies r ss more) (configured_states r set sets) (replies_then r (I.instantiated r) set more sets.good replies)
+      set_replies = replies_at r set more (I.configured r) (record { good = sets.good; states = configured_states r set sets }) replies
 
     pub lost_initializing : (bad : BadAnswer) (log : List Sent) → AreReplies r (I.instantiated r) log → StopsInitializing r.system r.bound r.plan bad log → IsLost count log bad.why
     lost_initializing bad log replies (Binding stops) = lost_binding bad log replies stops
@@ -265,7 +244,7 @@ module _ (r : Run) (sound : IsSound r.system) (built : IsBuilt r.system) (machin
         let ready = set_replies set entered sets (subst (AreReplies r (I.instantiated r)) log_is replies) in
         subst (λ (l : List Sent). IsLost count l bad.why) (sym log_is)
         (lost_behind count set entered bad.why
-        (lost_stops r (I.configured r) (configured_all r sound built machines.count) bad entered ready (λ (shape : Shape). C.EnterInitialization r.plan.start r.plan.stop) stops enters_well))
+        (lost_stops r (I.configured r) (configured_all r machines.count) bad entered ready everyone (λ (shape : Shape). C.EnterInitialization r.plan.start r.plan.stop) stops (λ i c m z fmu asked. (well i).before.enter c m z fmu)))
     lost_initializing bad log replies (Finding set entered found values sets enters finds log_is) =
         let ready = set_replies set (entered ++ found) sets (subst (AreReplies r (I.instantiated r)) log_is replies) in
         let states = entered_states r sound built machines entered enters (replies_first r (I.configured r) entered found ready) in
@@ -282,68 +261,5 @@ module _ (r : Run) (sound : IsSound r.system) (built : IsBuilt r.system) (machin
         (replies_then r (I.initializing r) found left good inside) in
         subst (λ (l : List Sent). IsLost count l bad.why) (sym (log_is ∙ sym (append_assoc set entered (found ++ left)) ∙ sym (append_assoc (set ++ entered) found left)))
         (lost_behind count ((set ++ entered) ++ found) left bad.why
-        (lost_stops r (I.initialized r S.0) (all_on r (I.initializing r) (initializing_all r sound built machines.count) _) bad left behind (λ (shape : Shape). C.ExitInitialization) stops
-        (λ i. ((well i).initially S.0 S.1).exit)))
-
-  -- ---- at a point
-
-  module _ (t : ℕ) (ss : List MachineState) (s : Situation) (here : IsHere r t ss s) (V : List (Option ℤ)) (solves : Solves r s V) (bad : BadAnswer) where
-    get_at : (p : ℕ) (port : Port) → slice_get r.system.ports p ≡ Some port → port.role ≡ Output → (c : Component) (m : Machine) (z : MachineState) → IsFmu r ss port.component.0 c m z → IsAnsweredWell c.shape m z (C.Get port.kind port.reference)
-    get_at p port at same c m z fmu =
-        let all = ((well port.component.0).in_instants s V here.reached solves).ports p port at refl in
-        let own = subst (λ (role : Role). AnswersAt role r s V port) same all in
-        own.1 here.first c m z (subst (λ (xs : List MachineState). IsFmu r xs port.component.0 c m z) (sym here.states) fmu) (no_event r sound built port.component.0 c fmu.component)
-
-    pub lost_reading : (before values : List (Option ℤ)) (log : List Sent) → AreReplies r ss log → ExplainsUntil r.system at_point before (numbers r.system.instant_order) bad values log → IsLost count log bad.why
-    lost_reading before values log replies u =
-        lost_walk r ss here.all bad log replies at_point before (numbers r.system.instant_order) values u
-        (λ c m z fmu.
-        let old = fmu_before r ss (λ i d n y. state_by n y (part i u.front)) u.stops.port.component.0 c m z fmu in
-        let stay : z ≡ old.before = old.is ∙ gets_stay m old.before (part u.stops.port.component.0 u.front)
-        (walk_gets r.system (numbers r.system.instant_order) u.front (part_walk Reads r.system at_point reading_reads before (numbers r.system.instant_order) u.taken (u.p ∷ u.rest) u.order_is values u.front u.told) u.stops.port.component.0) in
-        subst (λ (y : MachineState). IsAnsweredWell c.shape m y u.last.exchange.call) (sym stay)
-        (by u.p u.stops.port u.stops.is c m old.before old.fmu u.stops.port.role refl u.last.exchange.call u.stops.asks))
-      where
-        by : (p : ℕ) (port : Port) → slice_get r.system.ports p ≡ Some port → (c : Component) (m : Machine) (z : MachineState) → IsFmu r ss port.component.0 c m z → (role : Role) → port.role ≡ role → (call : Call) →
-            asks_at_point role port ≡ Some call → IsAnsweredWell c.shape m z call
-        by p port at c m z fmu Output same call h = subst (IsAnsweredWell c.shape m z) (same_Some _ _ h) (get_at p port at same c m z fmu)
-        by p port at c m z fmu (Input feed) same call h = absurd (cc)
-        by p port at c m z fmu (ClockInput feed) same call h = absurd (cc)
-        by p port at c m z fmu ClockOutput same call h = absurd (cc)
-        by p port at c m z fmu (TimeClock timing) same call h = absurd (cc)
-
-    module _ (to : ℕ) (step : IsStep r.system r.plan t to) where
-      set_at : (p : ℕ) (port : Port) → slice_get r.system.ports p ≡ Some port → is_output_role port.role ≡ false → (x : ℤ) → value V p ≡ Some x → (c : Component) (m : Machine) (y z : MachineState) → IsFmu r ss port.component.0 c m y → IsLike y z →
-          IsAnsweredWell c.shape m z (C.Set port.kind port.reference x)
-      set_at p port at input x is c m y z fmu like =
-          let fits = values_fit r sound s V (situation_reached sound machines here.reached).types solves in
-          let own = subst (λ (xs : List MachineState). IsFmu r xs port.component.0 c m y) (sym (done_states r sound built t ss s here V solves)) fmu in
-          ((well port.component.0).in_steps _ (departed_here r sound built machines well t ss s here V solves to step.bound)).sets c fmu.component (no_event r sound built port.component.0 c fmu.component)
-          c m y z (C.Set port.kind port.reference x) own like.numbers like.values
-          (sets_stepping p port at input c fmu.component x (subst (λ o. IfSome o (Fits port.kind)) is (fits p port at)))
-
-      pub lost_setting : (log : List Sent) → AreReplies r ss log → ExplainsUntil r.system (before_step V) V (port_order r.system) bad V log → IsLost count log bad.why
-      lost_setting log replies u =
-          lost_walk r ss here.all bad log replies (before_step V) V (port_order r.system) V u
-          (λ c m z fmu.
-          let old = fmu_before r ss (λ i d n y. state_by n y (part i u.front)) u.stops.port.component.0 c m z fmu in
-          let like : IsLike old.before (state_by m old.before (part u.stops.port.component.0 u.front)) = like_by m old.before (part u.stops.port.component.0 u.front)
-          (part_all (λ n e. Uses_in e) u.stops.port.component.0 u.front (of_calls (λ (k : Call). (q : Port) × Uses q k) u.front
-          (walk_all Writes r.system (λ (k : Call). (q : Port) × Uses q k) (λ q call w. (q, inr w)) (port_order r.system) (askings u.front)
-          (part_walk Writes r.system (before_step V) (setting_writes V) V (port_order r.system) u.taken (u.p ∷ u.rest) u.order_is V u.front u.told)))) in
-          by u.p u.stops.port u.stops.is c m old.before z old.fmu (subst (IsLike old.before) (sym old.is) like) u.stops.port.role refl u.last.exchange.call u.stops.asks)
-        where
-          by : (p : ℕ) (port : Port) → slice_get r.system.ports p ≡ Some port → (c : Component) (m : Machine) (y z : MachineState) → IsFmu r ss port.component.0 c m y → IsLike y z → (role : Role) → port.role ≡ role → (call : Call) →
-              sets_to role port (value V p) ≡ Some call → IsAnsweredWell c.shape m z call
-          by p port at c m y z fmu like (Input None) same call h = absurd (cc)
-          by p port at c m y z fmu like (Input (Some feed)) same call h =
-              let w = set_of port (value V p) call h in subst (IsAnsweredWell c.shape m z) (sym w.2) (set_at p port at (ap is_output_role same) w.0 w.1 c m y z fmu like)
-          by p port at c m y z fmu like Output same call h = absurd (cc)
-          by p port at c m y z fmu like (ClockInput feed) same call h = absurd (cc)
-          by p port at c m y z fmu like ClockOutput same call h = absurd (cc)
-          by p port at c m y z fmu like (TimeClock timing) same call h = absurd (cc)
-
-      pub lost_stepping : (log : List Sent) → AreReplies r (set_here r sound built t ss s here V solves) log → FailsIn (shapes_of r.system) (stepping r.system t to) bad log → IsLost count log bad.why
-      lost_stepping log replies fails =
-          lost_fails r (set_here r sound built t ss s here V solves) (set_are_all r sound built t ss s here V solves) bad log replies (λ (shape : Shape). C.DoStep t (to - t)) fails
-          (steps_well r sound built machines well t ss s here V solves to step.bound step.fit)
+        (lost_stops r (I.initialized r S.0) (all_on r (I.initializing r) (initializing_all r machines.count) _) bad left behind everyone (λ (shape : Shape). C.ExitInitialization) stops
+        (λ i c m z fmu asked. ((well i).initially S.0 S.1).exit c m z fmu)))

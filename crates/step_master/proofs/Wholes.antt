@@ -40,6 +40,9 @@ use Rattle.step_master.specs.Master.{Closes, Prepares, Runs, Standing, making}
 use Rattle.step_master.specs.Seats.{seat, seated, views_of}
 use Rattle.slot_calls.specs.Stage.{IsAnswered, IsGoodOf, shapes_of}
 use Rattle.step_master.specs.System.{ArePeersOf}
+use Rattle.step_master.proofs.Calls.{own, own_append}
+use Rattle.step_master.proofs.UpdateTables.{AreTalksNeeded, talks_needed}
+use Rattle.step_master.proofs.UpdatesAlong.{finishes_talks, interrupted_talks, making_talks}
 use Rattle.step_master.proofs.Along.{IsNeeded, finishes_needed, interrupted_needed, making_needed, part_lean, part_runs}
 use Rattle.slot_calls.proofs.Answered.{map_at}
 use Rattle.step_master.proofs.Badly.{EndsBadly, EndsLog, bad_here, finishes_log, good_before, good_part, interrupted_log, stops_badly, to_each_to_one}
@@ -74,7 +77,7 @@ mapped f (y ∷ xs) zero x is = ap (λ (z : _). Some (f z)) (some_same is) where
 mapped f (y ∷ xs) (suc k) x is = mapped f xs k x is
 
 module _ (system : System) (olds : List View) (peers : ArePeersOf system olds) (log : List Sent) (mids : List Instance) (news : List View) (told : Told log (seated system.components olds) mids) (closes : Closes mids news)
-    (needed : (k : ℕ) → k < length system.components → IsNeeded k (askings log)) where
+    (needed : (k : ℕ) → k < length system.components → IsNeeded (own k (askings log))) (updates : AreTalksNeeded (length system.components) log) where
   abbrev closings : List Closing
   closings = closes.closes.closings
 
@@ -141,6 +144,17 @@ module _ (system : System) (olds : List View) (peers : ArePeersOf system olds) (
       subst (λ (l : Life). T.Closed (shape_in l) (talk_in l)) (sym u.2)
       (row_closed log row r (subst (λ (b : Bool). ClosesOne b row.closing) open_turn turn))
 
+  len_lives : length lives ≡ length system.components
+  len_lives = length-map rows (life_of log) ∙ sym (length-map rows (λ (r : Row). r.component)) ∙ ap length (components_are 0 system.components olds closings beside)
+
+  run_at : (k : ℕ) (life : Life) → slice_get lives k ≡ Some life → life.run ≡ part k log
+  run_at k life at = let u = run_is k life at in ap (λ (l : Life). l.run) u.2 ∙ ap (λ (n : ℕ). part n log) u.3
+
+  talk_at : (k : ℕ) (d : List Exchange) → k < length system.components → get_or (map (λ (l : Life). l.run) lives) k d ≡ part k log
+  talk_at k d w =
+      let x = got lives k (let e = len_lives in omega (arith, e, w)) in
+      sym (map_at (λ (l : Life). l.run) lives k x.0 d (is_within lives k x.0 x.1) (get_here lives k x.0 x.1)) ∙ run_at k x.0 x.1
+
   pub are_lives : AreLives system olds news log lives
   are_lives = record {
     olds_are = map_map (life_of log) (λ (l : Life). l.old) rows ∙ olds_are 0 system.components olds closings beside;
@@ -152,16 +166,14 @@ module _ (system : System) (olds : List View) (peers : ArePeersOf system olds) (
     sources_are = map_map (life_of log) (λ (l : Life). l.source) rows
         ∙ sym (map_map (λ (r : Row). r.component) (λ (c : Component). c.source.0) rows)
         ∙ ap (map (λ (c : Component). c.source.0)) (components_are 0 system.components olds closings beside);
-    runs_are = λ k life at. let u = run_is k life at in ap (λ (l : Life). l.run) u.2 ∙ ap (λ (n : ℕ). part n log) u.3;
+    runs_are = run_at;
     each = All-map IsLife (life_of log) rows (λ k d w. is_life log (get_or rows k d) (all_rows k d w));
     siblings = row_siblings log rows all_rows order;
+    updates = talks_needed (length system.components) log (map (λ (l : Life). l.run) lives) (length-map lives (λ (l : Life). l.run) ∙ len_lives) talk_at updates;
     closed = closed_at;
   }
 
   -- ---- how they end
-
-  len : length lives ≡ length system.components
-  len = length-map rows (life_of log) ∙ sym (length-map rows (λ (r : Row). r.component)) ∙ ap length (components_are 0 system.components olds closings beside)
 
   shape_at : (k : ℕ) (row : Row) → slice_get rows k ≡ Some row → shape_in (life_of log row) ≡ get_or (shapes_of system) k (shape_in (life_of log row))
   shape_at k row at =
@@ -181,7 +193,7 @@ module _ (system : System) (olds : List View) (peers : ArePeersOf system olds) (
 
   life_here : (k : ℕ) (d : Life) → k < length lives → (row : Row) × (slice_get rows k ≡ Some row) × (get_or lives k d ≡ life_of log row)
   life_here k d w =
-      let x = row_here k (let e = len in omega (arith, e, w)) in
+      let x = row_here k (let e = len_lives in omega (arith, e, w)) in
       (x.0, x.1, sym (map_at (life_of log) rows k x.0 d (is_within rows k x.0 x.1) (get_here rows k x.0 x.1)))
 
   abbrev IsGoodLife : Life → Type 0
@@ -225,7 +237,7 @@ module _ (system : System) (olds : List View) (peers : ArePeersOf system olds) (
         first = first;
         before = λ j d w.
             let short : j < k = (let l = length-take k lives in omega (arith, l, w)) in
-            let wide : j < length lives = (let e = len in omega (arith, e, short, within)) in
+            let wide : j < length lives = (let e = len_lives in omega (arith, e, short, within)) in
             let y = life_here j d wide in
             subst IsGoodLife (sym (get_or-take k lives j d short ∙ y.2)) (run_by T.AllGood j y.0 y.1 (λ s. good_before (shapes_of system) bad log b j s short));
         rose = lost_rose life bad.why (is_life log x.0 (row_is k x.0 x.1)) first;
@@ -243,8 +255,9 @@ module _ (system : System) (olds : List View) (peers : ArePeersOf system olds) (
 -- ---- the laws
 
 module _ (system : System) (bound : Bound) (plan : Plan) (sound : IsSound system) (binds : BindsParameters system bound) (made log : List Sent) (is : List Instant) (making_is : IsAnswered (shapes_of system) (making system) made) where
-  behind_made : (k : ℕ) → IsNeeded k (making system ++ askings log) → IsNeeded k (askings (made ++ log))
-  behind_made k need = subst (IsNeeded k) (ap (λ (l : List Asking). l ++ askings log) (sym making_is.calls_are) ∙ sym (askings_append made log)) need
+  behind_made : (k : ℕ) → IsNeeded (own k (making system) ++ own k (askings log)) → IsNeeded (own k (askings (made ++ log)))
+  behind_made k need =
+      subst IsNeeded (ap (λ (l : List Asking). own k l ++ own k (askings log)) (sym making_is.calls_are) ∙ sym (own_append k (askings made) (askings log)) ∙ ap (own k) (sym (askings_append made log))) need
 
   module _ (k : ℕ) (within : k < length system.components) where
     in_shapes : k < length (shapes_of system)
@@ -253,16 +266,27 @@ module _ (system : System) (bound : Bound) (plan : Plan) (sound : IsSound system
     some_shape : Shape
     some_shape = (got system.components k within).0.shape
 
-    finished_needed : (end : RunEnd) (point : ℕ) → Finishes system bound plan end point log is → IsNeeded k (making system ++ askings log)
+    finished_needed : (end : RunEnd) (point : ℕ) → Finishes system bound plan end point log is → IsNeeded (own k (making system) ++ own k (askings log))
     finished_needed end point f = finishes_needed system sound k some_shape in_shapes bound plan binds end point log is f
 
-    ended_needed : (end : RunEnd) (before after : SinkView) → EndsBy system bound plan log is end before after → IsNeeded k (making system ++ askings log)
+    ended_needed : (end : RunEnd) (before after : SinkView) → EndsBy system bound plan log is end before after → IsNeeded (own k (making system) ++ own k (askings log))
     ended_needed E.Stop before after e = finished_needed E.Stop e.0 e.1
     ended_needed (E.Asked point) before after e = finished_needed (E.Asked point) e.0 e.1
     ended_needed (E.EventLimit point) before after e = finished_needed (E.EventLimit point) e.0 e.1
     ended_needed (E.FixedStep component at end) before after e = finished_needed (E.FixedStep component at end) e.0 e.1
     ended_needed (E.Bad bad) before after e = finished_needed (E.Bad bad) e.0 e.1
     ended_needed E.WriteFault before after e = interrupted_needed system sound k some_shape in_shapes bound plan binds log is e.pieces e.piece e.interrupted
+
+  finished_talks : (end : RunEnd) (point : ℕ) → Finishes system bound plan end point log is → AreTalksNeeded (length system.components) (made ++ log)
+  finished_talks end point f = finishes_talks system bound plan made making_is end point log is f
+
+  ended_talks : (end : RunEnd) (before after : SinkView) → EndsBy system bound plan log is end before after → AreTalksNeeded (length system.components) (made ++ log)
+  ended_talks E.Stop before after e = finished_talks E.Stop e.0 e.1
+  ended_talks (E.Asked point) before after e = finished_talks (E.Asked point) e.0 e.1
+  ended_talks (E.EventLimit point) before after e = finished_talks (E.EventLimit point) e.0 e.1
+  ended_talks (E.FixedStep component at end) before after e = finished_talks (E.FixedStep component at end) e.0 e.1
+  ended_talks (E.Bad bad) before after e = finished_talks (E.Bad bad) e.0 e.1
+  ended_talks E.WriteFault before after e = interrupted_talks system bound plan made making_is log is e.pieces e.piece e.interrupted
 
   ended_log : (end : RunEnd) (before after : SinkView) → EndsBy system bound plan log is end before after → EndsLog (shapes_of system) end (made ++ log)
   ended_log E.Stop before after e = finishes_log system bound plan binds made making_is.good E.Stop e.0 log is e.1
@@ -282,21 +306,24 @@ module _ (a : Account) (ready done : Standing) (sound : IsSound a.system) (binds
   told : Told (prepares.log ++ runs.log) (seated a.system.components a.olds) done.instances
   told = told_on (seated a.system.components a.olds) ready.instances done.instances prepares.log runs.log prepares.told runs.told
 
-  needed : (k : ℕ) → k < length a.system.components → IsNeeded k (askings (prepares.log ++ runs.log))
+  needed : (k : ℕ) → k < length a.system.components → IsNeeded (own k (askings (prepares.log ++ runs.log)))
   needed k w = behind_made a.system a.bound a.plan sound binds prepares.log runs.log runs.is prepares.answered k
       (ended_needed a.system a.bound a.plan sound binds prepares.log runs.log runs.is prepares.answered k w a.end a.before a.after text)
+
+  updates : AreTalksNeeded (length a.system.components) (prepares.log ++ runs.log)
+  updates = ended_talks a.system a.bound a.plan sound binds prepares.log runs.log runs.is prepares.answered a.end a.before a.after text
 
   lived_by : a.instants ≡ done.instants → Lived a
   lived_by count = record {
     made = prepares.log;
     log = runs.log;
     is = runs.is;
-    lives = lives a.system a.olds peers (prepares.log ++ runs.log) done.instances a.news told closes needed;
+    lives = lives a.system a.olds peers (prepares.log ++ runs.log) done.instances a.news told closes needed updates;
     making = prepares.answered;
-    are = are_lives a.system a.olds peers (prepares.log ++ runs.log) done.instances a.news told closes needed;
+    are = are_lives a.system a.olds peers (prepares.log ++ runs.log) done.instances a.news told closes needed updates;
     text = text;
     counted = count ∙ runs.counted;
-    ends = ends_lives a.system a.olds peers (prepares.log ++ runs.log) done.instances a.news told closes needed a.end
+    ends = ends_lives a.system a.olds peers (prepares.log ++ runs.log) done.instances a.news told closes needed updates a.end
         (ended_log a.system a.bound a.plan sound binds prepares.log runs.log runs.is prepares.answered a.end a.before a.after text);
     machines = prepares.machines;
   }
@@ -306,15 +333,16 @@ run_is_lived a ready done sound binds peers prepares runs closes count = lived_b
 
 pub unmade_is_closed : UnmadeIsClosed
 unmade_is_closed system olds news bad sound peers u =
-    let needed : (k : ℕ) → k < length system.components → IsNeeded k (askings u.log) =
+    let needed : (k : ℕ) → k < length system.components → IsNeeded (own k (askings u.log)) =
     (λ k w. let e = length-map system.components (λ (c : Component). c.shape) in
     making_needed system sound k (got system.components k w).0.shape (omega (arith, e, w)) bad u.log u.stops) in
+    let updates : AreTalksNeeded (length system.components) u.log = making_talks system bad u.log u.stops in
     record {
       log = u.log;
-      lives = lives system olds peers u.log u.mids news u.told u.closes needed;
+      lives = lives system olds peers u.log u.mids news u.told u.closes needed updates;
       stops = u.stops;
-      are = are_lives system olds peers u.log u.mids news u.told u.closes needed;
-      least = bad_lives system olds peers u.log u.mids news u.told u.closes needed bad
+      are = are_lives system olds peers u.log u.mids news u.told u.closes needed updates;
+      least = bad_lives system olds peers u.log u.mids news u.told u.closes needed updates bad
           (stops_badly (shapes_of system) bad [] u.log (All-nil (IsGoodOf (shapes_of system))) (making system) (to_each_to_one _ (shapes_of system)) u.stops);
     }
 

@@ -14,6 +14,7 @@ use Rattle.fmu_peer.specs.Lean.{IsLean}
 use Rattle.fmu_peer.specs.Machine.{Machine, MachineState}
 use Rattle.fmu_peer.specs.Siblings.{Member, Siblings}
 use Rattle.fmu_peer.specs.Talk as T
+use Rattle.fmu_peer.specs.Updates.{AreUpdatesNeeded}
 use Rattle.fmu_peer.specs.View.{View}
 use Rattle.system_model.specs.declared.system.Component.{Component}
 use Rattle.system_model.specs.declared.system.System.{System}
@@ -89,7 +90,7 @@ is_spared lives place life = any_fatal_run life.source lives || any_fatal_closin
 abbrev pub member_in : Life → Member
 member_in life = record { source = life.source; shape = shape_in life; run = life.run; closing = life.closing }
 
--- the lives of a system's peers, in the order of the components: each has its part of the log, those behind a Fatal of their source have no closing, and each other is closed
+-- the lives of a system's peers, in the order of the components: each has its part of the log, those behind a Fatal of their source have no closing, and each other is closed; no Update follows another at one point that wasn't asked for
 pub record AreLives (system : System) (olds news : List View) (log : List Sent) (lives : List Life) : Type 0 where
   pub olds_are : map (λ (l : Life). l.old) lives ≡ olds
   pub news_are : map (λ (l : Life). l.new) lives ≡ news
@@ -97,6 +98,7 @@ pub record AreLives (system : System) (olds news : List View) (log : List Sent) 
   pub runs_are : (k : ℕ) (life : Life) → slice_get lives k ≡ Some life → life.run ≡ part k log
   pub each : All IsLife lives
   pub siblings : Siblings (map member_in lives)
+  pub updates : AreUpdatesNeeded (map (λ (l : Life). l.run) lives)
   pub closed : (k : ℕ) (life : Life) → slice_get lives k ≡ Some life → is_spared lives k life ≡ false → T.Closed (shape_in life) (talk_in life)
 
 -- each of them is over, or spared

@@ -77,9 +77,10 @@ impl<L: Peer> Master<L> {
         }
     }
 
-    /// Runs the system by its plan: the header, the Sets of the bound parameters, Initialization Mode, and then an instant,
-    /// the Sets of the inputs and a step from one point to the next, until the run ends. It puts the trace, one piece for
-    /// the header, one for each instant, and one for the end.
+    /// Runs the system by its plan: the header, the Sets of the bound parameters, Initialization Mode, and then at each point
+    /// one instant after the other until no Update asks for another, the Sets of the inputs of the FMUs without event mode
+    /// and a step to the next point, until the run ends. It puts the trace, one piece for the header, one for each instant,
+    /// and one for the end.
     /// It takes no memory.
     pub fn run<R: Threads + Sync, O: Sink>(&mut self, _rt: &R, out: &mut O) -> RunEnd
         requires { IsReady L.view self.old }

@@ -5,7 +5,7 @@ ghost use Rattle.parameter_targets.specs.Named.{IsNamedTree};
 ghost use Rattle.system_model.specs.Bounds.{BindsParameters};
 ghost use Rattle.system_model.specs.Sound.{IsSound};
 ghost use Rattle.flatten.specs.Given.{AreShapesOf, IsWhole};
-ghost use Rattle.system_loading.specs.Assembly.{IsPlain};
+ghost use Rattle.system_loading.specs.Assembly.{IsBuilt};
 ghost use Rattle.system_loading.specs.Binding.{AreReady};
 ghost use Rattle.system_files.specs.Files.{with_all_asked};
 ghost use Rattle.system_files.specs.Loads.{EndsLoading, IsNamed, Loads};
@@ -51,7 +51,7 @@ pub fn load<F: Folder>(
     requires within { resolution ≤ 2 ^ 62 }
     ensures ok { IfOk result (λ loaded. Loads (search_of subject directory.now resolution) (Found loaded) (F.view folder.old) (F.view folder.new)) }
     ensures sound { IfOk result (λ loaded. IsSound loaded.system) }
-    ensures plain { IfOk result (λ loaded. IsPlain loaded.system) }
+    ensures built { IfOk result (λ loaded. IsBuilt loaded.system) }
     ensures named { IfOk result (λ loaded. All IsNamed loaded.system.components) }
     ensures bound { IfOk result (λ loaded. BindsParameters loaded.system loaded.bound) }
     ensures err { IfErr result (λ end. EndsLoading (search_of subject directory.now resolution) end (F.view folder.old) (F.view folder.new)) }
@@ -103,7 +103,7 @@ fn load_models<F: Folder>(
     requires short { All (λ (c : ComponentPart). length c.name ≤ 2 ^ 24) outline.now.systems.components }
     ensures ok { IfOk result (λ loaded. TakesModels (search_of subject directory.now resolution) outline.now loaded (F.view folder.old) (F.view folder.new)) }
     ensures sound { IfOk result (λ loaded. IsSound loaded.system) }
-    ensures plain { IfOk result (λ loaded. IsPlain loaded.system) }
+    ensures built { IfOk result (λ loaded. IsBuilt loaded.system) }
     ensures named { IfOk result (λ loaded. All IsNamed loaded.system.components) }
     ensures bound { IfOk result (λ loaded. BindsParameters loaded.system loaded.bound) }
     ensures err { IfErr result (λ end. EndsModels (search_of subject directory.now resolution) outline.now end (F.view folder.old) (F.view folder.new)) }
@@ -134,7 +134,7 @@ fn put_together(
     requires parts { HasParts outline.now.systems.bindings given.items }
     ensures ok { IfOk result (IsLoaded directory.now outline.now shapes.now given.items) }
     ensures sound { IfOk result (λ loaded. IsSound loaded.system) }
-    ensures plain { IfOk result (λ loaded. IsPlain loaded.system) }
+    ensures built { IfOk result (λ loaded. IsBuilt loaded.system) }
     ensures bound { IfOk result (λ loaded. BindsParameters loaded.system loaded.bound) }
     ensures err { IfErr result (λ end. (per_second : ℕ) → EndsTogether (search_of subject directory.now per_second) outline.now shapes.now given.items end) }
 {

@@ -1,5 +1,5 @@
 -- From the answers of flattening to what files say together.
-use Rattle.std.proofs.Common.{◌≡◌, ◌⊎◌, inl, inr, ℕ, ◌<◌, true, false, List, [], ◌∷◌, length, get_or, Option, Some, None, Err, sym, ap, ◌∙◌, subst}
+use Rattle.std.proofs.Common.{◌≡◌, ◌⊎◌, inl, inr, ℕ, ◌<◌, true, false, List, [], length, get_or, Option, Some, None, Err, sym, ap, ◌∙◌, subst}
 use Rattle.std.specs.List.{list_any, position, slice_get}
 use Rattle.std.proofs.lemmas.Option.{slice_get-get_or}
 use Rattle.sim_base.specs.declared.numbers.PortId.{PortId}
@@ -12,6 +12,7 @@ use Rattle.doc_tree.specs.declared.rule.Rule.TheVariants.{Loop, Unbuilt}
 use Rattle.doc_tables.specs.Answers.{Refuses}
 use Rattle.system_model.specs.declared.system.Component.{Component}
 use Rattle.system_model.specs.declared.system.System.{System}
+use Rattle.system_model.specs.Sound.{IsSound}
 use Rattle.flatten.specs.Answers.{Faults, GivesParts, TellsLoop}
 use Rattle.flatten.specs.Flat.{Flattens, SavesStates}
 use Rattle.flatten.specs.Rules.{IsFirstViolation, IsFitting}
@@ -19,9 +20,9 @@ use Rattle.system_loading.specs.declared.assembly.AssemblyFault.{AssemblyFault}
 use Rattle.system_loading.specs.declared.assembly.AssemblyFault.TheVariants as f
 use Rattle.system_loading.specs.declared.outline.Outline.{Outline}
 use Rattle.system_loading.specs.Outlines.{place_in, whole_place}
-use Rattle.system_loading.specs.Assembly.{is_unbuilt, IsPlain, IsOrdered, HasNoOrder, BreaksTogether, ByPart, ByLoop, ByShape, HaveSameParts, MakesAlone, BreaksTogetherAlone, IsBuilt}
+use Rattle.system_loading.specs.Assembly.{is_unbuilt, IsOrdered, HasNoOrder, BreaksTogether, ByPart, ByLoop, ByShape, HaveSameParts, MakesAlone, BreaksTogetherAlone, AreBuilt, IsBuilt}
 use Rattle.system_loading.specs.Faults.{SaysTogether, TellsTogether, TellsUnbuilt}
-use Rattle.system_loading.proofs.BuiltLemmas.{position_some, none_at, built_events, built_early}
+use Rattle.system_loading.proofs.BuiltLemmas.{position_some, none_at, built_clocks, built_early, unclocked}
 
 module _ (o : Outline) (shapes : List Shape) where
   -- ---- what excludes what
@@ -133,7 +134,7 @@ module _ (o : Outline) (shapes : List Shape) where
   -- ---- the system
 
   pub makes_alone : (system : System) → IsFitting o.systems shapes → Flattens o.systems shapes system →
-      ((other : System) → IsFitting o.systems shapes → Flattens o.systems shapes other → HaveSameParts system other) → IsBuilt shapes → MakesAlone o shapes system
+      ((other : System) → IsFitting o.systems shapes → Flattens o.systems shapes other → HaveSameParts system other) → AreBuilt shapes → MakesAlone o shapes system
   makes_alone system fits flattens only built = record {
     is = record { fits = fits; flattens = flattens; built = built };
     only = λ other m. only other fits m.flattens;
@@ -146,16 +147,16 @@ module _ (o : Outline) (shapes : List Shape) where
       nothing d m p l (ByShape d2 i m2 p2 l2 ordered unbuilt e f g h) = built_unbuilt i built unbuilt
 
   -- a component has a shape of these
-  built_shape : (system : System) → Flattens o.systems shapes system → IsBuilt shapes → (i : ℕ) (c : Component) → slice_get system.components i ≡ Some c → is_unbuilt c.shape ≡ false
+  built_shape : (system : System) → Flattens o.systems shapes system → AreBuilt shapes → (i : ℕ) (c : Component) → slice_get system.components i ≡ Some c → is_unbuilt c.shape ≡ false
   built_shape system flattens built i c at = none_at is_unbuilt shapes i c.shape built (flattens.flat.components.each i c at).shape
 
-  pub saves : (system : System) → Flattens o.systems shapes system → IsBuilt shapes → SavesStates system
+  pub saves : (system : System) → Flattens o.systems shapes system → AreBuilt shapes → SavesStates system
   saves system flattens built = λ i j early other at_i at_j apart returns.
       let never : early.shape.might_return_early ≡ false = built_early early.shape (built_shape system flattens built i early at_i) in absurd (cc)
 
-  pub plain : (system : System) → Flattens o.systems shapes system → IsBuilt shapes → IsPlain system
-  plain system flattens built = record {
-    no_events = λ k d within. built_events (get_or system.components k d).shape (at k d within);
+  pub is_built : (system : System) → IsSound system → Flattens o.systems shapes system → AreBuilt shapes → IsBuilt system
+  is_built system sound flattens built = record {
+    no_clocks = unclocked system sound (λ i c here. built_clocks c.shape (built_shape system flattens built i c here));
     no_early = λ k d within. built_early (get_or system.components k d).shape (at k d within);
   }
     where

@@ -1,5 +1,5 @@
 -- From the answers of a binding of parameters to what the bindings of an outline give.
-use Rattle.std.proofs.Common.{◌≡◌, ◌⊎◌, inl, inr, ℕ, zero, suc, ◌+◌, ◌-◌, ◌*◌, ◌<◌, Bool, true, false, List, [], ◌∷◌, get_or, map, Option, Some, None, refl, sym, ap, ◌∙◌, subst, arith, slice_get}
+use Rattle.std.proofs.Common.{◌≡◌, ◌⊎◌, inl, inr, ℕ, zero, suc, ◌+◌, ◌-◌, ◌*◌, Bool, true, false, List, [], ◌∷◌, get_or, map, Option, Some, None, refl, sym, ap, ◌∙◌, subst, arith, slice_get}
 use Rattle.std.specs.Prelude.{IsSomeAnd}
 use Rattle.std.specs.Option.{option_map, option_map_or}
 use Rattle.std.proofs.lemmas.Bool.{cases_order}
@@ -27,7 +27,7 @@ use Rattle.system_loading.specs.declared.outline.Outline.{Outline}
 use Rattle.system_loading.specs.declared.parameters.Documents.{Documents}
 use Rattle.system_loading.specs.declared.parameters.GivenBinding.{GivenBinding}
 use Rattle.system_loading.specs.declared.parameters.GivenMapping.{GivenMapping}
-use Rattle.system_loading.specs.Binding.{sets_at, Binds, BindsAlone, BreaksBinding, BreaksBindingAlone, SaysBinding, TellsBinding, documents_of, number_of, place_at, place_in_part, sets_from, sets_of}
+use Rattle.system_loading.specs.Binding.{sets_at, BindsAlone, BreaksBindingAlone, SaysBinding, TellsBinding, documents_of, number_of, place_at, place_in_part, sets_from, sets_of}
 
 -- ---- one first violation
 

@@ -1,5 +1,5 @@
 -- The system that an outline and the shapes of its FMUs make together, or the first rule that they break together.
-use Rattle.std.specs.Prelude.{◌≡◌, ℕ, Bool, false, ◌||◌, List, [], ◌∷◌, Option, Some, None, All}
+use Rattle.std.specs.Prelude.{◌≡◌, ℕ, Bool, true, false, ◌||◌, List, [], Option, Some, None, All}
 use Rattle.std.specs.List.{list_any, position}
 use Rattle.sim_base.specs.declared.numbers.PortId.{PortId}
 use Rattle.value_types.specs.Shape.{is_clock}
@@ -8,7 +8,9 @@ use Rattle.doc_tree.specs.declared.place.Place.{Place}
 use Rattle.doc_tree.specs.declared.rule.Rule.{Rule}
 use Rattle.doc_tree.specs.declared.rule.Rule.TheVariants.{Loop, Unbuilt}
 use Rattle.system_model.specs.declared.system.Component.{Component}
+use Rattle.system_model.specs.declared.system.Port.{Port}
 use Rattle.system_model.specs.declared.system.System.{System}
+use Rattle.system_model.specs.Needs.{is_unclocked}
 use Rattle.flatten.specs.Answers.{TellsLoop}
 use Rattle.flatten.specs.Flat.{Flattens}
 use Rattle.flatten.specs.Rules.{IsFirstViolation, IsFitting}
@@ -17,16 +19,17 @@ use Rattle.system_loading.specs.Outlines.{place_in, whole_place}
 
 -- ---- what isn't built yet
 
+-- a Clock that isn't foreign, which is an input or an output
 abbrev pub has_clocks : Shape → Bool
 has_clocks shape = list_any is_clock shape.variables
 
--- event mode, which Clocks ask for, or early return
+-- Clocks, or early return
 abbrev pub is_unbuilt : Shape → Bool
-is_unbuilt shape = shape.has_event_mode || (has_clocks shape || shape.might_return_early)
+is_unbuilt shape = has_clocks shape || shape.might_return_early
 
--- no component has event mode or early return
-pub record IsPlain (system : System) : Type 0 where
-  pub no_events : All (λ (c : Component). c.shape.has_event_mode ≡ false) system.components
+-- no port is a Clock or has Clocks, and no component might return early
+pub record IsBuilt (system : System) : Type 0 where
+  pub no_clocks : All (λ (port : Port). is_unclocked port ≡ true) system.ports
   pub no_early : All (λ (c : Component). c.shape.might_return_early ≡ false) system.components
 
 -- ---- rules that the files break together
@@ -55,14 +58,14 @@ pub data BreaksTogether (o : Outline) (shapes : List Shape) : Option ℕ → Rul
 -- ---- the system
 
 -- nothing asks for what isn't built yet
-abbrev pub IsBuilt : List Shape → Type 0
-IsBuilt shapes = list_any is_unbuilt shapes ≡ false
+abbrev pub AreBuilt : List Shape → Type 0
+AreBuilt shapes = list_any is_unbuilt shapes ≡ false
 
 -- no rule is broken, and this is the flattened system
 pub record Makes (o : Outline) (shapes : List Shape) (system : System) : Type 0 where
   pub fits : IsFitting o.systems shapes
   pub flattens : Flattens o.systems shapes system
-  pub built : IsBuilt shapes
+  pub built : AreBuilt shapes
 
 -- they have the same components and ports; the orders of the ports may be others
 abbrev pub HaveSameParts : System → System → Type 0

@@ -1,5 +1,5 @@
 -- The values that the bindings of an outline give to parameters, or the first rule that they break by what they reach (SSP 1.0: ParameterBinding).
-use Rattle.std.specs.Prelude.{◌≡◌, ℕ, suc, ◌+◌, ◌*◌, Bool, true, false, List, [], ◌∷◌, length, Option, Some, None, map, option_and_then, slice_get}
+use Rattle.std.specs.Prelude.{◌≡◌, ℕ, suc, ◌+◌, ◌*◌, Bool, true, false, List, [], ◌∷◌, Option, Some, None, map, option_and_then, slice_get}
 use Rattle.std.specs.Option.{option_map}
 use Rattle.value_types.specs.declared.shape.Shape.{Shape}
 use Rattle.doc_grammar.specs.Nodes.{Node}

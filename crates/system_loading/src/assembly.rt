@@ -4,7 +4,7 @@ ghost use Rattle.std.specs.List.{list_any, position};
 ghost use Rattle.value_types.specs.Shape.{is_clock};
 ghost use Rattle.system_model.specs.Sound.{IsSound};
 ghost use Rattle.flatten.specs.Given.{AreShapesOf, IsWhole};
-ghost use Rattle.system_loading.specs.Assembly.{IsBuilt, IsPlain, MakesAlone, is_unbuilt};
+ghost use Rattle.system_loading.specs.Assembly.{AreBuilt, IsBuilt, MakesAlone, is_unbuilt};
 ghost use Rattle.system_loading.specs.Faults.{SaysTogether, TellsTogether, TellsUnbuilt};
 ghost use Rattle.system_loading.specs.Outlines.{place_in, whole_place};
 
@@ -40,7 +40,7 @@ pub fn assemble(alloc: Global, outline: &Outline, shapes: &[Shape]) -> Result<Sy
     ensures ok { IfOk result (MakesAlone outline.now shapes.now) }
     ensures err { IfErr result (TellsTogether outline.now shapes.now) }
     ensures sound { IfOk result IsSound }
-    ensures plain { IfOk result IsPlain }
+    ensures built { IfOk result IsBuilt }
 {
     match flatten(alloc, &outline.systems, shapes) {
         Ok(system) => match unbuilt(alloc, shapes) {
@@ -61,7 +61,7 @@ pub fn assemble(alloc: Global, outline: &Outline, shapes: &[Shape]) -> Result<Sy
 
 // The first part that isn't built yet.
 fn unbuilt(alloc: Global, shapes: &[Shape]) -> Option<AssemblyFault>
-    ensures { MatchOption result (IsBuilt shapes.now) (λ fault. (outline : Outline) → TellsUnbuilt outline shapes.now fault) }
+    ensures { MatchOption result (AreBuilt shapes.now) (λ fault. (outline : Outline) → TellsUnbuilt outline shapes.now fault) }
 {
     match first_unbuilt(shapes) {
         Some(component) => Some(told_in(alloc, component)),
@@ -78,7 +78,7 @@ fn first_unbuilt(shapes: &[Shape]) -> Option<usize>
 fn is_unbuilt(shape: &Shape) -> bool
     ensures { result ≡ is_unbuilt shape.now }
 {
-    shape.has_event_mode || has_clocks(shape.variables.as_slice()) || shape.might_return_early
+    has_clocks(shape.variables.as_slice()) || shape.might_return_early
 }
 
 fn has_clocks(variables: &[Variable]) -> bool

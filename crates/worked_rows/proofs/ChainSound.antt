@@ -1,6 +1,6 @@
--- The two gains are a sound system without event mode.
+-- The two gains are a sound system without Clocks.
 use Rattle.std.proofs.Common.{◌≡◌, ◌∙◌, ℕ, zero, suc, ◌+◌, ◌<◌, ◌≤◌, List, [], ◌∷◌, ◌++◌, ap, get_or, length, refl, sym, subst, take}
-use Rattle.std.specs.Prelude.{All, Some, codes, false, slice_get, true}
+use Rattle.std.specs.Prelude.{All, None, Some, codes, false, slice_get, true}
 use Rattle.std.proofs.lemmas.List.Elements.{All-append, All-cons, All-nil}
 use Rattle.std.proofs.lemmas.List.{take_all, take_more}
 use Rattle.std.proofs.lemmas.Option.{none-some as none_some, same_Some}
@@ -10,45 +10,22 @@ use Rattle.system_model.specs.declared.bound.Bound.{Bound}
 use Rattle.system_model.specs.declared.bound.BoundValue.{BoundValue}
 use Rattle.system_model.specs.declared.system.Component.{Component}
 use Rattle.system_model.specs.declared.system.System.{System}
+use Rattle.system_model.specs.declared.system.Port.{Port}
+use Rattle.system_model.specs.declared.system.Role.TheVariants.{Input, Output}
+use Rattle.system_model.specs.Needs.{is_unclocked}
 use Rattle.system_model.specs.Sound.{IsSound}
-use Rattle.fmu_peer.specs.CloseAll.{Instance}
-use Rattle.slot_calls.specs.Log.{Sent, Told}
-use Rattle.slot_calls.specs.Stage.{shapes, shapes_of}
-use Rattle.slot_calls.proofs.Answered.{shapes_same}
-use Rattle.fmi_calls.specs.declared.phase.InstanceState.TheVariants as P
-use Rattle.fmi_calls.specs.declared.phase.Phase.{Phase}
-use Rattle.fmi_calls.specs.Permission.{none_marked}
 use Rattle.fmu_peer.specs.View.{View}
-use Rattle.event_iteration.specs.Instants.{CanBeRead, IsWithoutEvents}
 use Rattle.calling_sequence.specs.Systems.{IsBuilt}
 use Rattle.step_master.specs.System.{ArePeersOf, IsNew}
 use Rattle.run_rows.proofs.OrderTests.{sound_by}
-use Rattle.worked_rows.specs.Chain.{chain, gain_on}
+use Rattle.worked_rows.specs.Chain.{chain, gain_on, port_of}
 use Rattle.worked_rows.specs.Trio.{component}
 
 pub chain_sound : (system : System) → system ≡ chain → IsSound system
 chain_sound system is = subst IsSound (sym is) (sound_by chain refl refl)
 
-pub chain_plain : (system : System) → system ≡ chain → IsWithoutEvents system
-chain_plain system is = subst IsWithoutEvents (sym is)
-    (All-cons (λ (c : Component). c.shape.has_event_mode ≡ false) (component (codes "first") 0 (gain_on [])) (component (codes "second") 1 (gain_on (2 ∷ [])) ∷ []) refl
-    (All-cons (λ (c : Component). c.shape.has_event_mode ≡ false) (component (codes "second") 1 (gain_on (2 ∷ []))) [] refl (All-nil (λ (c : Component). c.shape.has_event_mode ≡ false))))
-
 pub both : {X : Type 0} (P : X → Type 0) (x y : X) → P x → P y → All P (x ∷ y ∷ [])
 both P x y a b = All-cons P x (y ∷ []) a (All-cons P y [] b (All-nil P))
-
-pub still_shapes : (system : System) (olds news : List Instance) (log : List Sent) → Told log olds news → shapes olds ≡ shapes_of system → shapes news ≡ shapes_of system
-still_shapes system olds news log told same = shapes_same log olds news told ∙ same
-
-pub one_more : {X : Type 0} (P : X → Type 0) (xs : List X) (i : ℕ) (x : X) → i < length xs → x ≡ get_or xs i x → P x → All P (take i xs) → All P (take (i + 1) xs)
-one_more P xs i x within is holds all =
-    subst (All P) (sym (take_more xs i x within ∙ ap (λ y. take i xs ++ y ∷ []) (sym is))) (All-append P (take i xs) (x ∷ []) all (All-cons P x [] holds (All-nil P)))
-
-pub whole : {X : Type 0} (P : X → Type 0) (xs : List X) (i : ℕ) → length xs ≤ i → All P (take i xs) → All P xs
-whole P xs i le all = subst (All P) (take_all i xs le) all
-
-pub readable : (v : View) (phase : Phase) → phase ≡ v.phase → phase.state ≡ P.Step → none_marked phase.marks ≡ true → CanBeRead v
-readable v phase same state unset = record { state = ap (λ (x : Phase). x.state) (sym same) ∙ state; unset = ap (λ (x : Phase). none_marked x.marks) (sym same) ∙ unset }
 
 -- ---- under the master
 
@@ -58,9 +35,23 @@ of_first = component (codes "first") 0 (gain_on [])
 abbrev of_second : Component
 of_second = component (codes "second") 1 (gain_on (2 ∷ []))
 
+abbrev in_first : Port
+in_first = port_of 0 (codes "u") 2 (Input None)
+
+abbrev out_first : Port
+out_first = port_of 0 (codes "y") 3 Output
+
+abbrev in_second : Port
+in_second = port_of 1 (codes "u") 2 (Input (Some (record { from = record { 0 = 1 } })))
+
+abbrev out_second : Port
+out_second = port_of 1 (codes "y") 3 Output
+
 pub chain_built : (system : System) → system ≡ chain → IsBuilt system
 chain_built system is = subst IsBuilt (sym is) (record {
-  no_event = both (λ (c : Component). c.shape.has_event_mode ≡ false) of_first of_second refl refl;
+  no_clocks = All-cons (λ (p : Port). is_unclocked p ≡ true) in_first (out_first ∷ in_second ∷ out_second ∷ []) refl
+      (All-cons (λ (p : Port). is_unclocked p ≡ true) out_first (in_second ∷ out_second ∷ []) refl
+      (both (λ (p : Port). is_unclocked p ≡ true) in_second out_second refl refl));
   no_early = both (λ (c : Component). c.shape.might_return_early ≡ false) of_first of_second refl refl;
 })
 

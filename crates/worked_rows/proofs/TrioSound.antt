@@ -17,6 +17,7 @@ use Rattle.system_model.specs.declared.bound.Bound.{Bound}
 use Rattle.system_model.specs.declared.bound.BoundValue.{BoundValue}
 use Rattle.system_model.specs.declared.system.Component.{Component}
 use Rattle.system_model.specs.declared.system.Port.{Port}
+use Rattle.system_model.specs.Needs.{is_unclocked}
 use Rattle.system_model.specs.declared.system.Role.TheVariants.{Output}
 use Rattle.system_model.specs.declared.system.System.{System}
 use Rattle.system_model.specs.Shapes.{HasFittingStart, HasNames, IsSoundShape, NamesClocks}
@@ -104,7 +105,7 @@ trio_sound system is = subst IsSound (sym is) (outputs_sound trio of_outputs)
 
 built : IsBuilt trio
 built = record {
-  no_event = all3 (λ (c : Component). c.shape.has_event_mode ≡ false) first second third refl refl refl;
+  no_clocks = all3 (λ (p : Port). is_unclocked p ≡ true) (port 0) (port 1) (port 2) refl refl refl;
   no_early = all3 (λ (c : Component). c.shape.might_return_early ≡ false) first second third refl refl refl;
 }
 

@@ -1,18 +1,10 @@
-//! Two gains, the second fed by the first: their system, and their FMUs in Initialization Mode.
-ghost use Rattle.std.specs.Prelude.{◌≡◌, ◌↔◌, ◌∷◌, [], IfOk, IsTrue};
-ghost use Rattle.slot_calls.specs.Slots.{LiveSlot, Stands};
-ghost use Rattle.event_iteration.specs.Initialization.{IsInitializing};
-ghost use Rattle.fmu_peer.specs.CloseAll.{peer_in};
-ghost use Rattle.step_master.specs.System.{IsNew};
+//! Two gains, the second fed by the first: their system.
+ghost use Rattle.std.specs.Prelude.{◌≡◌, ◌∷◌, [], IfOk};
 ghost use Rattle.worked_rows.specs.Chain.{by_place, chain, gain_on, port_of};
 
-use crate::driver::assert_permitted;
 use crate::trio::{make_component, make_number};
-use fmi_calls::{Call, InstanceState, Phase};
-use fmu_peer::{Fmu, Held, Initializing, Peer, Slot};
 use sim_base::{CompId, Items, PortId, Text};
 use std::alloc::{AllocError, Global};
-use std::process::Abort;
 use system_model::{Component, Feed, Port, Role, System};
 use value_types::{ByReference, Causality, Dependency, Knowns, PortType, Shape};
 
@@ -93,56 +85,4 @@ pub(crate) fn make_chain(alloc: Global) -> Result<System, AllocError>
         instant_order: make_order(alloc)?,
         initial_order: make_order(alloc)?,
     })
-}
-
-fn is_initializing(phase: &Phase) -> bool
-    ensures { IsTrue result ↔ phase.now.state ≡ InstanceState.Initialization }
-{
-    phase.state == InstanceState::Initialization
-}
-
-// The FMU in Initialization Mode.
-fn enter<L: Peer + Drop>(rt: &impl Abort, peer: L) -> Fmu<L, Initializing>
-    requires { (L.view peer).phase.state ≡ InstanceState.Fresh }
-    ensures shape { (L.view result.peer).fixed.shape ≡ (L.view peer).fixed.shape }
-    ensures state { (L.view result.peer).phase.state ≡ InstanceState.Initialization }
-{
-    match Fmu::new(peer).instantiate() {
-        Ok(fmu) => {
-            assert_permitted(
-                rt,
-                &fmu.peer,
-                &Call::EnterInitialization { start: 0, stop: 20 },
-            );
-            match fmu.enter_initialization(0, 20) {
-                Ok(fmu) => {
-                    assert!(rt; is_initializing(fmu.peer.phase()));
-                    fmu
-                }
-                Err(ended) => {
-                    drop(Held::Ended(ended).into_peer());
-                    panic!(rt; "it doesn't enter Initialization Mode")
-                }
-            }
-        }
-        Err(ended) => {
-            drop(Held::Ended(ended).into_peer());
-            panic!(rt; "it isn't made")
-        }
-    }
-}
-
-/// The FMU of a component in its slot, in Initialization Mode.
-pub(crate) fn enter_slot<L: Peer + Drop>(rt: &impl Abort, component: &Component, peer: L) -> Slot<L>
-    requires { IsNew component.now.shape (L.view peer) }
-    ensures shape { (L.view (peer_in result.held)).fixed.shape ≡ component.now.shape }
-    ensures live { LiveSlot L.view result }
-    ensures initializing { Stands IsInitializing L.view result }
-{
-    Slot {
-        source: component.source,
-        held: Held::Initializing(enter(rt, peer)),
-        saved: None,
-        is_fatal: false,
-    }
 }

@@ -80,6 +80,7 @@ fn close_unsaved<L: Peer>(
         Held::Fresh(fmu) => close_fmu(rt, fmu, ending),
         Held::Instantiated(fmu) => close_fmu(rt, fmu, ending),
         Held::Initializing(fmu) => close_fmu(rt, fmu, ending),
+        Held::Eventing(fmu) => close_fmu(rt, fmu, ending),
         Held::Stepping(fmu) => close_fmu(rt, fmu, ending),
         Held::Ended(ended) => close_ended(rt, ended, ending),
         Held::Closed(peer) => peer,

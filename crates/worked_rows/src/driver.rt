@@ -203,6 +203,7 @@ fn run_initializing<L: Peer>(
         Some(Call::ExitInitialization) => {
             assert_permitted(rt, &fmu.peer, &Call::ExitInitialization);
             match fmu.exit_initialization() {
+                Ok(Running::Event(fmu)) => reach(Held::Eventing(fmu), None, None),
                 Ok(Running::Step(fmu)) => {
                     run_stepping(rt, fmu, talk, asked.place.saturating_add(1))
                 }

@@ -6,8 +6,6 @@ mod chain;
 #[cfg(test)]
 mod chain_master_tests;
 #[cfg(test)]
-mod chain_tests;
-#[cfg(test)]
 mod closing;
 #[cfg(test)]
 mod driver;

@@ -9,9 +9,9 @@ use Rattle.system_model.specs.Ports.{numbers}
 use Rattle.event_iteration.specs.Initialization.{no_values}
 use Rattle.calling_sequence.specs.Place.{IsAt, IsInitializing, IsMade}
 use Rattle.slot_calls.specs.Slots.{instances}
+use Rattle.slot_calls.proofs.Parts.{stage_all}
 use Rattle.calling_sequence.specs.Steps.{Initializes}
 use Rattle.calling_sequence.proofs.Bindings.{binds_shapes}
-use Rattle.calling_sequence.proofs.Chains.{stage_all}
 use Rattle.calling_sequence.proofs.Courses.{fits_on}
 use Rattle.calling_sequence.proofs.Initializing.{binding_badly, entering_badly, finding_badly, initialized, leaving_badly}
 use Rattle.calling_sequence.proofs.Phases.{enter_leads, exit_leads}
@@ -96,7 +96,7 @@ each-requires-2-clause-permitted g c κs lives =
     let values = c.initialize.new.values in
     let walk = c.in_ok-initialize.ensures.walks in
     let still = still_initializing (λ s. instance_in g.L.Peer.view s) system c.each.new.slots c.initialize.new.slots (fits_on system first.log olds mids (fits_on system sets.log firsts olds c.requires.shapes sets.told) first.told) (no_values system) (numbers system.initial_order) values plan.start plan.stop walk in_mode in
-    λ k d w. ((still k d w).state, (still k d w).plain.no_event)
+    λ k d w asked. (still k d w).state
 
 pub returns-in_err-each-2-clause-initializes : goal.returns-in_err-each-2-clause-initializes
 returns-in_err-each-2-clause-initializes g c =

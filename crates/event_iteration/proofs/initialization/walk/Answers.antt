@@ -1,10 +1,14 @@
-use Rattle.std.proofs.Common.{[], ◌++◌, ap, ◌∙◌, subst, refl, length, map}
+use Rattle.std.proofs.Common.{◌≡◌, true, [], ◌++◌, ap, ◌∙◌, subst, refl, length, map}
 use Rattle.fmu_peer.specs.CloseAll.{Instance, instance_in}
+use Rattle.system_model.specs.Needs.{NeedsInitially, is_unclocked_at}
+use Rattle.system_model.specs.Ports.{numbers}
 use Rattle.slot_calls.proofs.Logs.{told_none, told_on}
 use Rattle.event_iteration.specs.Initialization.{IsInitializing, initially, no_values}
 use Rattle.event_iteration.specs.Turns.{Begun, Walked}
+use Rattle.event_iteration.proofs.Abouts.{about_initially}
 use Rattle.event_iteration.proofs.Finding.{solves_for_machines}
-use Rattle.event_iteration.proofs.Rounds.{all_instances, components_there, fits_none, fits_until, kept, may_turn, number_at, places_none, port_within, reads_within, shapes_mid, sources_placed, walked_all, walked_more, walked_until, whole_order}
+use Rattle.event_iteration.proofs.Loops.{walked_all, walked_more, walked_until}
+use Rattle.event_iteration.proofs.Rounds.{all_instances, components_there, fits_none, fits_until, kept, may_turn, number_at, places_none, port_within, reads_within, shapes_mid, sources_placed, whole_order}
 use Rattle.event_iteration.proofs.initialization.walk.Goals as goal
 
 pub loop-k-init : goal.loop-k-init
@@ -50,9 +54,9 @@ pub returns-in-Err-clause-walks : goal.returns-in-Err-clause-walks
 returns-in-Err-clause-walks g c =
     let system = c.args.system.now in
     let is = number_at system.initial_order _ c.loop-k.k (record { 0 = 0 }) c.as_slice-order.ensures c.loop-k-test.true in
-    walked_until system c.requires.sound (no_values system) (places_none system) (fits_none system) (map (λ s. instance_in g.L.Peer.view s) c.args.slots.now) (map (λ s. instance_in g.L.Peer.view s) c.loop-k.slots) c.requires.shapes (all_instances (λ s. instance_in g.L.Peer.view s) (λ (x : Instance). IsInitializing x.view) c.args.slots.now c.requires.initializing)
-    _ c.loop-k.values c.loop-k.invariant.log c.loop-k.invariant.told c.loop-k.invariant.walked
-    _ c.loop-k.k _ _ refl is c.in-Err.bad c.in-Err.ensures.turn
+    walked_until (λ q. is_unclocked_at system.ports q ≡ true) (NeedsInitially system) system (initially system) (about_initially system) (no_values system) (numbers system.initial_order) c.requires.sound.initial_order (places_none system)
+    (map (λ s. instance_in g.L.Peer.view s) c.args.slots.now) (map (λ s. instance_in g.L.Peer.view s) c.loop-k.slots) c.loop-k.invariant.log c.loop-k.invariant.told
+    c.loop-k.k _ is c.loop-k.values _ c.loop-k.invariant.walked _ c.in-Err.bad c.in-Err.ensures.turn
 
 pub returns-in-Err-clause-fitting : goal.returns-in-Err-clause-fitting
 returns-in-Err-clause-fitting g c =
@@ -69,17 +73,17 @@ loop-k-preserved g c =
       live = c.in-Ok.ensures.live;
       log = c.loop-k.invariant.log ++ turn.log;
       told = told_on _ _ _ c.loop-k.invariant.log turn.log c.loop-k.invariant.told turn.told;
-      walked = walked_more system c.requires.sound (no_values system) (places_none system) (fits_none system) (map (λ s. instance_in g.L.Peer.view s) c.args.slots.now) (map (λ s. instance_in g.L.Peer.view s) c.loop-k.slots) c.requires.shapes (all_instances (λ s. instance_in g.L.Peer.view s) (λ (x : Instance). IsInitializing x.view) c.args.slots.now c.requires.initializing)
-          _ c.loop-k.values c.loop-k.invariant.log c.loop-k.invariant.told c.loop-k.invariant.walked
-          _ c.loop-k.k _ _ refl is turn;
+      walked = walked_more (λ q. is_unclocked_at system.ports q ≡ true) (NeedsInitially system) system (initially system) (about_initially system) (no_values system) (numbers system.initial_order) c.requires.sound.initial_order (places_none system)
+          (map (λ s. instance_in g.L.Peer.view s) c.args.slots.now) (map (λ s. instance_in g.L.Peer.view s) c.loop-k.slots) c.loop-k.invariant.log c.loop-k.invariant.told
+          c.loop-k.k _ is c.loop-k.values _ c.loop-k.invariant.walked _ turn;
     }
 
 pub returns-clause-walks : goal.returns-clause-walks
 returns-clause-walks g c =
     let system = c.args.system.now in
-    walked_all system c.requires.sound (no_values system) (places_none system) (fits_none system) (map (λ s. instance_in g.L.Peer.view s) c.args.slots.now) (map (λ s. instance_in g.L.Peer.view s) c.loop-k.slots) c.requires.shapes (all_instances (λ s. instance_in g.L.Peer.view s) (λ (x : Instance). IsInitializing x.view) c.args.slots.now c.requires.initializing)
-    _ c.loop-k.values c.loop-k.invariant.log c.loop-k.invariant.told c.loop-k.invariant.walked
-    (whole_order system.initial_order _ c.loop-k.k c.as_slice-order.ensures c.loop-k-test.false)
+    walked_all (λ q. is_unclocked_at system.ports q ≡ true) (NeedsInitially system) system (initially system) (about_initially system) (no_values system) (numbers system.initial_order) c.requires.sound.initial_order (places_none system)
+    (map (λ s. instance_in g.L.Peer.view s) c.args.slots.now) (map (λ s. instance_in g.L.Peer.view s) c.loop-k.slots) c.loop-k.invariant.log c.loop-k.invariant.told
+    c.loop-k.values (subst (λ taken. Walked system (initially system) (no_values system) taken c.loop-k.values c.loop-k.invariant.log) (whole_order system.initial_order _ c.loop-k.k c.as_slice-order.ensures c.loop-k-test.false) c.loop-k.invariant.walked)
 
 pub returns-clause-fitting : goal.returns-clause-fitting
 returns-clause-fitting g c =

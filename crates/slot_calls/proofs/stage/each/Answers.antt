@@ -1,14 +1,14 @@
-use Rattle.std.proofs.Common.{refl, sym, ◌∙◌, subst, [], ◌++◌}
-use Rattle.std.specs.Prelude.{◌≤◌}
+use Rattle.std.proofs.Common.{true, refl, sym, ◌∙◌, subst, [], ◌++◌}
+use Rattle.std.specs.Prelude.{◌≡◌, ◌≤◌}
 use Rattle.std.proofs.lemmas.List.{length-map}
 use Rattle.std.proofs.lemmas.List.Elements.{All-set}
 use Rattle.fmu_peer.specs.CloseAll.{instance_in}
 use Rattle.slot_calls.specs.Carried.{asks_to_end}
-use Rattle.slot_calls.specs.Slots.{LiveSlot, MayBeAsked, Stands, call_of, instances}
+use Rattle.slot_calls.specs.Slots.{LiveSlot, MayTakePart, Stands, call_of, instances, is_asked}
 use Rattle.slot_calls.specs.Stage.{shapes}
-use Rattle.slot_calls.proofs.Answered.{answered_none, each_all, one_log, shape_of}
+use Rattle.slot_calls.proofs.Answered.{answered_none, one_log, shape_of, those_all}
 use Rattle.slot_calls.proofs.Logs.{told_none}
-use Rattle.slot_calls.proofs.Turns.{at_rest, each_sent, each_stops, each_told, same_first, same_more}
+use Rattle.slot_calls.proofs.Turns.{at_either, at_rest, each_left, each_sent, each_stops, each_told, same_first, same_left, same_more}
 use Rattle.slot_calls.proofs.stage.each.Goals as goal
 
 pub loop-place-init : goal.loop-place-init
@@ -16,9 +16,23 @@ loop-place-init g c =
     let is = instances g.L.Peer.view c.args.slots.now in
     record { rest = same_first c.args.slots.now; live = c.requires.live; log = []; told = told_none is; answered = answered_none (shapes is) }
 
+pub loop-place-preserved-then-not-is_asked : goal.loop-place-preserved-then-not-is_asked
+loop-place-preserved-then-not-is_asked g c =
+    let i = c.loop-place.invariant in
+    record {
+      rest = same_left c.loop-place.place c.args.slots.now c.loop-place.slots i.rest;
+      live = i.live;
+      log = i.log;
+      told = i.told;
+      answered = each_left (λ s. instance_in g.L.Peer.view s) (call_of c.args.ask) c.args.slots.now c.loop-place.slots i.log i.told c.loop-place.place c.index-slots-place.result c.index-slots-place.result i.rest c.loop-place-test.true
+          (is_asked c.args.ask) (sym c.is_asked.ensures ∙ c.if-not-is_asked.true) i.answered;
+    }
+
 pub advance-requires-clause-permitted : goal.advance-requires-clause-permitted
 advance-requires-clause-permitted g c κs within =
-    at_rest (Stands (MayBeAsked c.args.ask) g.L.Peer.view) c.loop-place.place c.args.slots.now c.loop-place.slots c.index-slots-place.result c.loop-place.invariant.rest c.loop-place-test.true c.requires.permitted
+    at_rest (Stands (MayTakePart c.args.ask) g.L.Peer.view) c.loop-place.place c.args.slots.now c.loop-place.slots c.index-slots-place-in-loop-place.result c.loop-place.invariant.rest c.loop-place-test.true c.requires.permitted
+    (at_either (λ s. is_asked c.args.ask (shape_of (instance_in g.L.Peer.view s)) ≡ true) c.loop-place.place c.args.slots.now c.loop-place.slots c.index-slots-place.result c.index-slots-place-in-loop-place.result c.loop-place.invariant.rest
+    c.loop-place-test.true (sym c.is_asked.ensures ∙ c.if-not-is_asked.false))
 
 pub returns-in-Err-clause-stage : goal.returns-in-Err-clause-stage
 returns-in-Err-clause-stage g c =
@@ -26,8 +40,11 @@ returns-in-Err-clause-stage g c =
     let one = c.in-Err.ensures.one in
     record {
       log = i.log ++ one_log c.loop-place.place one.exchange;
-      told = each_told (λ s. instance_in g.L.Peer.view s) (call_of c.args.ask) c.args.slots.now c.loop-place.slots i.log i.told c.loop-place.place c.index-slots-place.result c.advance.new.slot i.rest c.loop-place-test.true asks_to_end _ one;
-      says = each_stops (λ s. instance_in g.L.Peer.view s) (call_of c.args.ask) c.args.slots.now c.loop-place.slots i.log i.told c.loop-place.place c.index-slots-place.result c.advance.new.slot i.rest c.loop-place-test.true asks_to_end i.answered _ refl one;
+      told = each_told (λ s. instance_in g.L.Peer.view s) (call_of c.args.ask) c.args.slots.now c.loop-place.slots i.log i.told c.loop-place.place c.index-slots-place-in-loop-place.result c.advance.new.slot i.rest c.loop-place-test.true asks_to_end _ one;
+      says = each_stops (λ s. instance_in g.L.Peer.view s) (call_of c.args.ask) c.args.slots.now c.loop-place.slots i.log i.told c.loop-place.place c.index-slots-place-in-loop-place.result c.advance.new.slot i.rest c.loop-place-test.true
+          (is_asked c.args.ask)
+          (at_either (λ s. is_asked c.args.ask (shape_of (instance_in g.L.Peer.view s)) ≡ true) c.loop-place.place c.args.slots.now c.loop-place.slots c.index-slots-place.result c.index-slots-place-in-loop-place.result i.rest c.loop-place-test.true
+          (sym c.is_asked.ensures ∙ c.if-not-is_asked.false)) asks_to_end i.answered _ refl one;
     }
 
 pub loop-place-preserved : goal.loop-place-preserved
@@ -38,8 +55,11 @@ loop-place-preserved g c =
       rest = same_more c.loop-place.place c.args.slots.now c.loop-place.slots c.advance.new.slot i.rest;
       live = All-set (LiveSlot g.L.Peer.view) c.loop-place.slots c.loop-place.place c.advance.new.slot c.in-Ok.ensures.live i.live;
       log = i.log ++ one_log c.loop-place.place one.exchange;
-      told = each_told (λ s. instance_in g.L.Peer.view s) (call_of c.args.ask) c.args.slots.now c.loop-place.slots i.log i.told c.loop-place.place c.index-slots-place.result c.advance.new.slot i.rest c.loop-place-test.true asks_to_end _ one;
-      answered = each_sent (λ s. instance_in g.L.Peer.view s) (call_of c.args.ask) c.args.slots.now c.loop-place.slots i.log i.told c.loop-place.place c.index-slots-place.result c.advance.new.slot i.rest c.loop-place-test.true asks_to_end i.answered _ one;
+      told = each_told (λ s. instance_in g.L.Peer.view s) (call_of c.args.ask) c.args.slots.now c.loop-place.slots i.log i.told c.loop-place.place c.index-slots-place-in-loop-place.result c.advance.new.slot i.rest c.loop-place-test.true asks_to_end _ one;
+      answered = each_sent (λ s. instance_in g.L.Peer.view s) (call_of c.args.ask) c.args.slots.now c.loop-place.slots i.log i.told c.loop-place.place c.index-slots-place-in-loop-place.result c.advance.new.slot i.rest c.loop-place-test.true
+          (is_asked c.args.ask)
+          (at_either (λ s. is_asked c.args.ask (shape_of (instance_in g.L.Peer.view s)) ≡ true) c.loop-place.place c.args.slots.now c.loop-place.slots c.index-slots-place.result c.index-slots-place-in-loop-place.result i.rest c.loop-place-test.true
+          (sym c.is_asked.ensures ∙ c.if-not-is_asked.false)) asks_to_end i.answered _ one;
     }
 
 pub returns-clause-stage : goal.returns-clause-stage
@@ -51,7 +71,7 @@ returns-clause-stage g c =
       told = i.told;
       says = (
         record {
-          calls_are = i.answered.calls_are ∙ each_all (call_of c.args.ask) (shapes is) c.loop-place.place
+          calls_are = i.answered.calls_are ∙ those_all (is_asked c.args.ask) (call_of c.args.ask) (shapes is) c.loop-place.place
               (subst (λ n. n ≤ c.loop-place.place) (sym (length-map is shape_of ∙ length-map c.args.slots.now (λ t. instance_in g.L.Peer.view t))) c.loop-place-test.false);
           good = i.answered.good;
         },

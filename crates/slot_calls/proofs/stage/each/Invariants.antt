@@ -1,8 +1,8 @@
 use Rattle.std.proofs.Common.{List, take}
 use Rattle.std.specs.Prelude.{All}
 use Rattle.slot_calls.specs.Log.{Sent, Told}
-use Rattle.slot_calls.specs.Slots.{LiveSlot, call_of, instances}
-use Rattle.slot_calls.specs.Stage.{IsAnswered, shapes, to_each}
+use Rattle.slot_calls.specs.Slots.{LiveSlot, call_of, instances, is_asked}
+use Rattle.slot_calls.specs.Stage.{IsAnswered, shapes, to_those}
 use Rattle.slot_calls.proofs.Turns.{SameFrom}
 use Rattle.slot_calls.proofs.stage.each.Given as goal
 
@@ -14,5 +14,5 @@ invariant-loop-place g l =
       live : All (LiveSlot view) l.slots;
       log : List Sent;
       told : Told log (instances view l.fn.slots) (instances view l.slots);
-      answered : IsAnswered (shapes (instances view l.fn.slots)) (take l.place (to_each (call_of l.ask) (shapes (instances view l.fn.slots)))) log;
+      answered : IsAnswered (shapes (instances view l.fn.slots)) (to_those (is_asked l.ask) (call_of l.ask) (take l.place (shapes (instances view l.fn.slots)))) log;
     }

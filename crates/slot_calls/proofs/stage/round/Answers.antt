@@ -5,8 +5,8 @@ use Rattle.fmu_peer.specs.CloseAll.{instance_in}
 use Rattle.slot_calls.specs.Carried.{any_asks_to_end, asks_to_end}
 use Rattle.slot_calls.specs.Log.{Asking}
 use Rattle.slot_calls.specs.Slots.{LiveSlot, MayBeAsked, Stands, call_of, instances}
-use Rattle.slot_calls.specs.Stage.{RoundSays, shapes}
-use Rattle.slot_calls.proofs.Answered.{answered_none, each_all, one_log, shape_of}
+use Rattle.slot_calls.specs.Stage.{RoundSays, everyone, shapes}
+use Rattle.slot_calls.proofs.Answered.{answered_none, one_log, shape_of, those_all}
 use Rattle.slot_calls.proofs.Logs.{told_none}
 use Rattle.slot_calls.proofs.Turns.{at_rest, each_told, good_more, round_more, same_first, same_more}
 use Rattle.slot_calls.proofs.stage.round.Goals as goal
@@ -43,6 +43,6 @@ returns-clause-round g c =
       log = i.log;
       told = i.told;
       says = subst (λ (cs : List Asking). RoundSays (shapes is) cs any_asks_to_end i.log c.loop-place.so_far)
-          (each_all (call_of c.args.ask) (shapes is) c.loop-place.place
+          (those_all everyone (call_of c.args.ask) (shapes is) c.loop-place.place
           (subst (λ n. n ≤ c.loop-place.place) (sym (length-map is shape_of ∙ length-map c.args.slots.now (λ t. instance_in g.L.Peer.view t))) c.loop-place-test.false)) i.says;
     }

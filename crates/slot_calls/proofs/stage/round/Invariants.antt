@@ -15,5 +15,5 @@ invariant-loop-place g l =
       live : OnOk l.so_far (All (LiveSlot view) l.slots);
       log : List Sent;
       told : Told log (instances view l.fn.slots) (instances view l.slots);
-      says : RoundSays (shapes (instances view l.fn.slots)) (take l.place (to_each (call_of l.ask) (shapes (instances view l.fn.slots)))) any_asks_to_end log l.so_far;
+      says : RoundSays (shapes (instances view l.fn.slots)) (to_each (call_of l.ask) (take l.place (shapes (instances view l.fn.slots)))) any_asks_to_end log l.so_far;
     }

@@ -24,7 +24,7 @@ pub run_loaded-requires-clause-within : goal.run_loaded-requires-clause-within
 run_loaded-requires-clause-within g c κs bounds = subst (λ (p : Option Plan). IfSome p IsWithin) (sym c.plan_of.ensures) (plan_within (line_of c.args.line) c.requires)
 
 pub run_loaded-requires-clause-runnable : goal.run_loaded-requires-clause-runnable
-run_loaded-requires-clause-runnable g c κs bounds = can_run c.in-Ok.loaded.system c.in-Ok.ensures.sound c.in-Ok.ensures.plain c.in-Ok.ensures.named
+run_loaded-requires-clause-runnable g c κs bounds = can_run c.in-Ok.loaded.system c.in-Ok.ensures.sound c.in-Ok.ensures.built c.in-Ok.ensures.named
 
 pub run_loaded-requires-clause-folders : goal.run_loaded-requires-clause-folders
 run_loaded-requires-clause-folders g c κs bounds =

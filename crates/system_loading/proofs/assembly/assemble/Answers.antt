@@ -1,4 +1,4 @@
-use Rattle.system_loading.proofs.AssemblyLemmas.{refusal_told, makes_alone, saves, plain}
+use Rattle.system_loading.proofs.AssemblyLemmas.{refusal_told, makes_alone, saves, is_built}
 use Rattle.system_loading.proofs.assembly.assemble.Goals as goal
 
 pub returns-in-Some-clause-err : goal.returns-in-Some-clause-err
@@ -11,8 +11,10 @@ returns-in-None-clause-ok c =
 pub returns-in-None-clause-sound : goal.returns-in-None-clause-sound
 returns-in-None-clause-sound c = c.in-Ok.ensures.sound (saves c.args.outline.now c.args.shapes.now c.in-Ok.system c.in-Ok.ensures.found c.in-None.ensures)
 
-pub returns-in-None-clause-plain : goal.returns-in-None-clause-plain
-returns-in-None-clause-plain c = plain c.args.outline.now c.args.shapes.now c.in-Ok.system c.in-Ok.ensures.found c.in-None.ensures
+pub returns-in-None-clause-built : goal.returns-in-None-clause-built
+returns-in-None-clause-built c =
+    is_built c.args.outline.now c.args.shapes.now c.in-Ok.system
+    (c.in-Ok.ensures.sound (saves c.args.outline.now c.args.shapes.now c.in-Ok.system c.in-Ok.ensures.found c.in-None.ensures)) c.in-Ok.ensures.found c.in-None.ensures
 
 pub returns-in-Err-At-clause-err : goal.returns-in-Err-At-clause-err
 returns-in-Err-At-clause-err c =

@@ -1,5 +1,4 @@
-use Rattle.std.proofs.Common.{◌≡◌, List, ◌∙◌}
-use Rattle.parameter_binding.specs.declared.sets.BindingSets.{BindingSets}
+use Rattle.std.proofs.Common.{◌∙◌}
 use Rattle.system_loading.specs.Binding.{sets_of}
 use Rattle.system_loading.proofs.BindingLemmas.{bound_alone, told_alone}
 use Rattle.system_loading.proofs.binding.bind_parameters.Goals as goal

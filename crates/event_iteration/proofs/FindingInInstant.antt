@@ -1,0 +1,327 @@
+-- Over machines the walk through an instant finds its solution, and writes it where there is event mode.
+use Rattle.std.proofs.Common.{◌≡◌, ℕ, ◌<◌, ℤ, Bool, true, false, List, [], ◌∷◌, ◌++◌, Option, Some, None, Contains, refl, sym, ap, ap₂, ◌∙◌, subst, arith, append-nil, length, get_or}
+use Rattle.std.specs.Prelude.{All, ◌==◌, if◌then◌else◌, option_map, slice_get}
+use Rattle.std.proofs.lemmas.List.{ext_get_or}
+use Rattle.std.proofs.lemmas.List.Elements.{All-nil, Contains-append_left, Contains-push}
+use Rattle.std.proofs.lemmas.Option.{same_Some, slice_get_within}
+use Rattle.fmi_calls.specs.declared.call.Call.{Call}
+use Rattle.fmi_calls.specs.declared.call.Call.TheVariants as C
+use Rattle.fmi_calls.specs.declared.call.Reply.{Reply}
+use Rattle.fmu_peer.specs.declared.peer.Exchange.{Exchange}
+use Rattle.fmu_peer.specs.CloseAll.{Instance}
+use Rattle.fmu_peer.specs.Machine.{Machine, MachineState}
+use Rattle.system_model.specs.declared.system.Component.{Component}
+use Rattle.system_model.specs.declared.system.Feed.{Feed}
+use Rattle.system_model.specs.declared.system.Role.{Role}
+use Rattle.system_model.specs.declared.system.Role.TheVariants.{Input, Output, ClockInput, ClockOutput, TimeClock}
+use Rattle.system_model.specs.declared.system.Port.{Port}
+use Rattle.system_model.specs.declared.system.System.{System}
+use Rattle.system_model.specs.Needs.{ByFeed, Needs}
+use Rattle.system_model.specs.Ports.{is_clock_role, is_output_role, numbers, source_of}
+use Rattle.system_model.specs.Sound.{IsSound}
+use Rattle.system_model.proofs.Lists.{true_false}
+use Rattle.run_model.specs.Run.{IsFmu, Run, Situation, at_fmu, value}
+use Rattle.run_model.specs.AfterInstant.{written}
+use Rattle.run_model.specs.Equations.{Solves, SolvesAt, fed, output_value, shown, value_in}
+use Rattle.run_model.specs.Inputs.{is_present, state_with, state_written, written_at_port, written_by}
+use Rattle.run_model.specs.Machines.{AreMachines, IsSituation}
+use Rattle.run_model.specs.Walk.{only_at, write_if}
+use Rattle.run_model.proofs.Alike.{written_at-is}
+use Rattle.run_model.proofs.Decided.{decided}
+use Rattle.run_model.proofs.Midst.{all_at_last, keeps_beside, looks_in_midst, nothing_at_first, writes_at_port}
+use Rattle.run_model.proofs.Solvable.{solvable}
+use Rattle.run_model.proofs.States.{fmu_before}
+use Rattle.run_model.proofs.Unique.{none_in, push_cases}
+use Rattle.slot_calls.specs.Log.{Sent, Told, part}
+use Rattle.slot_calls.specs.Replies.{AreReplies, RepliesBy, state_by, states_by}
+use Rattle.slot_calls.specs.Stage.{IsGoodOf, shapes_of}
+use Rattle.slot_calls.proofs.Logs.{part_append}
+use Rattle.slot_calls.proofs.Replying.{replies_back, replies_front, state_by_append}
+use Rattle.event_iteration.specs.Instants.{IsWithoutClocks, SolvesInInstant, asks_in_instant, in_instant, seen_or, takes_in_instant}
+use Rattle.event_iteration.specs.Machines.{AreAt}
+use Rattle.event_iteration.specs.Turns.{IsPaired, Turn, Walked}
+use Rattle.event_iteration.proofs.Clockless.{no_clock, present}
+use Rattle.event_iteration.proofs.Fmus.{after_if, are_replies, at_fmu-is, each_same, exchanges_of, got, none_reply, part_other_of, part_own_of, state_by_one, told_at}
+use Rattle.event_iteration.proofs.InInstant.{ReadsOrSets, reads_or_sets}
+use Rattle.event_iteration.proofs.Parts.{good_in_part}
+use Rattle.event_iteration.proofs.Turning.{IsCallOf, all_good, calls_more}
+use Rattle.event_iteration.proofs.Walking.{Here, along, by_number, next_beside, next_here}
+
+module _ (r : Run) (sound : IsSound r.system) (plain : IsWithoutClocks r.system) (machines : AreMachines r) (s : Situation) (situation : IsSituation r s) where
+  record There (i : ℕ) (c : Component) : Type 0 where
+    machine : Machine
+    state : MachineState
+    fmu : IsFmu r s.states i c machine state
+
+  there : (i : ℕ) (c : Component) → slice_get r.system.components i ≡ Some c → There i c
+  there i c of =
+      let within = slice_get_within r.system.components i c of in
+      let m = got r.machines i (let e = machines.count in omega (arith, e, within)) in
+      let z = got s.states i (let e = situation.states in omega (arith, e, within)) in
+      record { machine = m.0; state = z.0; fmu = record { component = of; machine = m.1; state = z.1 } }
+
+  -- ---- the midst of the instant
+  module _ (W : List (Option ℤ)) (solved : Solves r s W) where
+    abbrev at_port : ℕ → Option ℤ
+    at_port = written_at_port r.system.ports W
+
+    -- the state once these ports were taken, with event mode or without
+    abbrev pub midst : List ℕ → Bool → ℕ → Machine → MachineState → MachineState
+    midst taken events i m z = if events then state_written r.system.ports (only_at taken (written_at_port r.system.ports W)) i m z else z
+
+    -- values and states are the solution's as far as the walk has come
+    pub record Midst (taken : List ℕ) (values : List (Option ℤ)) (log : List Sent) : Type 0 where
+      pub calls : All (IsCallOf ReadsOrSets r.system taken) log
+      pub taken_values : (q : ℕ) → Contains taken q → value values q ≡ value W q
+      pub left : (q : ℕ) → (Contains taken q → ⊥) → value values q ≡ value s.before q
+      pub states : (i : ℕ) (c : Component) (m : Machine) (z : MachineState) → IsFmu r s.states i c m z → state_by m z (part i log) ≡ midst taken c.shape.has_event_mode i m z
+
+    module _ (pre : List ℕ) (p : ℕ) (reply : Option Reply) (values next : List (Option ℤ)) (front sent : List Sent) (here : Here (Needs r.system) pre p) (len : length values ≡ length r.system.ports)
+        (was : Midst pre values front) (turn : Turn r.system (in_instant (s.n == 0)) p reply values next sent) (replies : AreReplies r s.states (front ++ sent)) where
+      abbrev port : Port
+      port = turn.port
+
+      abbrev events : Bool
+      events = turn.component.shape.has_event_mode
+
+      abbrev first : Bool
+      first = s.n == 0
+
+      abbrev call : Option Call
+      call = asks_in_instant port.role port events first values
+
+      abbrev get : Call
+      get = C.Get port.kind port.reference
+
+      mine : There port.component.0 turn.component
+      mine = there port.component.0 turn.component turn.of
+
+      -- the source of an input has its value
+      fed_same : (feed : Feed) → port.role ≡ Input (Some feed) → fed feed values ≡ fed feed W
+      fed_same feed same = was.taken_values feed.from.0 (here.needed feed.from.0 (ByFeed port turn.is (ap source_of same)))
+
+      equation : (role : Role) → port.role ≡ role → SolvesAt role r s W p port (value s.before p) (value W p)
+      equation role same = subst (λ x. SolvesAt x r s W p port (value s.before p) (value W p)) same (solved.equations p port turn.is)
+
+      never : {X : Type 0} → is_clock_role port.role ≡ true → X
+      never clock = absurd (true_false (sym clock ∙ no_clock r.system plain p port turn.is))
+
+      state_mid : state_by mine.machine mine.state (part port.component.0 front) ≡ midst pre events port.component.0 mine.machine mine.state
+      state_mid = was.states port.component.0 turn.component mine.machine mine.state mine.fmu
+
+      -- a reply to a Get is the machine's, in the midst
+      replied : (x : Reply) → reply ≡ Some x → call ≡ Some get → x ≡ mine.machine.look (midst pre events port.component.0 mine.machine mine.state) get
+      replied x is asks =
+          let part_is : part port.component.0 (front ++ sent) ≡ part port.component.0 front ++ exchanges_of call reply =
+          part_append port.component.0 front sent ∙ ap (λ es. part port.component.0 front ++ part port.component.0 es) turn.sent_is ∙ ap (λ es. part port.component.0 front ++ es) (part_own_of port.component.0 call reply) in
+          let own : RepliesBy mine.machine mine.state (part port.component.0 front ++ exchanges_of call reply) = subst (RepliesBy mine.machine mine.state) part_is (replies port.component.0 turn.component mine.machine mine.state mine.fmu) in
+          let behind = replies_back mine.machine (get_or (shapes_of r.system) port.component.0 turn.component.shape) mine.state (part port.component.0 front) (exchanges_of call reply)
+          (good_in_part (shapes_of r.system) front (all_good ReadsOrSets r.system pre front was.calls) port.component.0 turn.component.shape) own in
+          let one : RepliesBy mine.machine (midst pre events port.component.0 mine.machine mine.state) (exchanges_of (Some get) (Some x)) =
+          subst (λ z. RepliesBy mine.machine z (exchanges_of (Some get) (Some x))) state_mid
+          (subst (λ (es : List Exchange). RepliesBy mine.machine (state_by mine.machine mine.state (part port.component.0 front)) es) (ap₂ exchanges_of asks is) behind) in
+          one.0
+
+      -- an output that is read shows what it shows with all values written
+      module _ (same : port.role ≡ Output) where
+        abbrev asks_get : Bool → Option Call
+        asks_get b = if (if b then is_present port values else first) then Some get else None
+
+        call_is : (b : Bool) → events ≡ b → call ≡ asks_get b
+        call_is b e = ap (λ x. asks_in_instant x port events first values) same ∙ ap asks_get e
+
+        seen_last : (o : Option Reply) → reply ≡ o → call ≡ None → seen_or port (value values p) reply ≡ value s.before p
+        seen_last o is asks =
+            ap (seen_or port (value values p)) (none_reply turn.component.shape reply (subst (λ k. IsPaired turn.component.shape k reply) asks turn.paired)) ∙ was.left p here.fresh
+
+        seen_get : call ≡ Some get → (state : MachineState) → mine.machine.look (midst pre events port.component.0 mine.machine mine.state) get ≡ mine.machine.look state get → seen_or port (value values p) reply ≡ shown mine.machine state port
+        seen_get asks state looks = by reply refl (subst (λ k. IsPaired turn.component.shape k reply) asks turn.paired)
+          where
+            by : (o : Option Reply) → reply ≡ o → IsPaired turn.component.shape (Some get) o → seen_or port (value values p) o ≡ shown mine.machine state port
+            by None is paired = absurd paired
+            by (Some x) is paired = ap (value_in port.kind) (replied x is asks ∙ looks)
+
+        abbrev output_by : Bool → Bool → Option ℤ
+        output_by b n =
+            if b then (if is_present port W then shown mine.machine (state_with r.system.ports W port.component.0 mine.machine mine.state) port else value s.before p)
+            else (if n then shown mine.machine mine.state port else value s.before p)
+
+        seen_by : (b : Bool) → events ≡ b → (n : Bool) → first ≡ n → seen_or port (value values p) reply ≡ output_by b n
+        seen_by true e n f =
+            seen_get (call_is true e ∙ ap (λ x. if x then Some get else None) (present r.system plain p port values turn.is)) (state_with r.system.ports W port.component.0 mine.machine mine.state)
+            (ap (λ x. mine.machine.look (midst pre x port.component.0 mine.machine mine.state) get) e
+            ∙ looks_in_midst r sound machines s.states situation.shapes p port turn.is (ap is_output_role same) W pre here.needed turn.component mine.machine mine.state mine.fmu e get refl)
+            ∙ ap (λ x. if x then shown mine.machine (state_with r.system.ports W port.component.0 mine.machine mine.state) port else value s.before p) (sym (present r.system plain p port W turn.is))
+        seen_by false e true f =
+            seen_get (call_is false e ∙ ap (λ x. if x then Some get else None) f) mine.state (ap (λ x. mine.machine.look (midst pre x port.component.0 mine.machine mine.state) get) e)
+        seen_by false e false f = seen_last reply refl (call_is false e ∙ ap (λ x. if x then Some get else None) f)
+
+        output_here : seen_or port (value values p) reply ≡ at_fmu r s.states port.component.0 (output_value r s W (value s.before p) port)
+        output_here =
+            seen_by events refl first refl
+            ∙ sym (at_fmu-is r s.states port.component.0 turn.component mine.machine mine.state (output_value r s W (value s.before p) port) mine.fmu)
+
+      -- the value that the port takes is the solution's
+      value_here : (role : Role) → port.role ≡ role → takes_in_instant role port values (value values p) reply ≡ value W p
+      value_here (Input None) same = sym (equation (Input None) same)
+      value_here (Input (Some feed)) same =
+          ap (λ b. if b then fed feed values else value values p) (present r.system plain p port values turn.is) ∙ fed_same feed same
+          ∙ sym (equation (Input (Some feed)) same ∙ ap (λ b. if b then fed feed W else value s.before p) (present r.system plain p port W turn.is))
+      value_here Output same = output_here same ∙ sym (equation Output same)
+      value_here (ClockInput feed) same = never (ap is_clock_role same)
+      value_here ClockOutput same = never (ap is_clock_role same)
+      value_here (TimeClock timing) same = never (ap is_clock_role same)
+
+      next_is_W : value next p ≡ value W p
+      next_is_W = next_here turn len ∙ value_here port.role refl
+
+      -- with event mode its call writes what is written at it
+      as_written : (m : Machine) (x : MachineState) (o : Option ℤ) → after_if m x (option_map (λ v. C.Set port.kind port.reference v) o) ≡ write_if m port.reference x o
+      as_written m x None = refl
+      as_written m x (Some v) = refl
+
+      set_writes : (feed : Feed) → port.role ≡ Input (Some feed) → (m : Machine) (x : MachineState) →
+          after_if m x (if is_present port values then option_map (λ v. C.Set port.kind port.reference v) (fed feed values) else None) ≡ write_if m port.reference x (if is_present port W then value W p else None)
+      set_writes feed same m x =
+          ap (λ b. after_if m x (if b then option_map (λ v. C.Set port.kind port.reference v) (fed feed values) else None)) (present r.system plain p port values turn.is)
+          ∙ ap (λ o. after_if m x (option_map (λ v. C.Set port.kind port.reference v) o)) (sym (value_fed feed same))
+          ∙ as_written m x (value W p)
+          ∙ ap (λ b. write_if m port.reference x (if b then value W p else None)) (sym (present r.system plain p port W turn.is))
+        where
+          value_fed : (feed : Feed) → port.role ≡ Input (Some feed) → value W p ≡ fed feed values
+          value_fed feed same = equation (Input (Some feed)) same ∙ ap (λ b. if b then fed feed W else value s.before p) (present r.system plain p port W turn.is) ∙ sym (fed_same feed same)
+
+      get_keeps : (b : Bool) (m : Machine) (x : MachineState) → after_if m x (if b then Some get else None) ≡ x
+      get_keeps true m x = refl
+      get_keeps false m x = refl
+
+      call_writes : (role : Role) → port.role ≡ role → (b : Bool) (m : Machine) (x : MachineState) → after_if m x (asks_in_instant role port b first values) ≡ (if b then write_if m port.reference x (written_by role port W (value W p)) else x)
+      call_writes (Input None) same true m x = refl
+      call_writes (Input None) same false m x = refl
+      call_writes (Input (Some feed)) same true m x = set_writes feed same m x
+      call_writes (Input (Some feed)) same false m x = refl
+      call_writes Output same true m x = get_keeps (is_present port values) m x
+      call_writes Output same false m x = get_keeps first m x
+      call_writes (ClockInput feed) same b m x = never (ap is_clock_role same)
+      call_writes ClockOutput same b m x = never (ap is_clock_role same)
+      call_writes (TimeClock timing) same b m x = never (ap is_clock_role same)
+
+      written_on : (b : Bool) (m : Machine) (z : MachineState) → after_if m (midst pre b port.component.0 m z) (asks_in_instant port.role port b first values) ≡ midst (pre ++ p ∷ []) b port.component.0 m z
+      written_on true m z =
+          call_writes port.role refl true m (midst pre true port.component.0 m z)
+          ∙ ap (write_if m port.reference (midst pre true port.component.0 m z)) (sym (written_at-is r.system.ports W p port turn.is))
+          ∙ writes_at_port r.system sound p port turn.is pre here.fresh at_port m z
+      written_on false m z = call_writes port.role refl false m z
+
+      state_here : (m : Machine) (z : MachineState) → state_by m z (part port.component.0 front) ≡ midst pre events port.component.0 m z → state_by m z (part port.component.0 (front ++ sent)) ≡ midst (pre ++ p ∷ []) events port.component.0 m z
+      state_here m z so_far =
+          ap (state_by m z) (part_append port.component.0 front sent ∙ ap (λ es. part port.component.0 front ++ part port.component.0 es) turn.sent_is ∙ ap (λ es. part port.component.0 front ++ es) (part_own_of port.component.0 call reply))
+          ∙ state_by_append m z (part port.component.0 front) (exchanges_of call reply)
+          ∙ ap (λ y. state_by m y (exchanges_of call reply)) so_far
+          ∙ state_by_one turn.component.shape m (midst pre events port.component.0 m z) call reply turn.paired
+          ∙ written_on events m z
+
+      beside_on : (b : Bool) (i : ℕ) → (i ≡ port.component.0 → ⊥) → (m : Machine) (z : MachineState) → midst pre b i m z ≡ midst (pre ++ p ∷ []) b i m z
+      beside_on true i other m z = keeps_beside r.system p port turn.is pre at_port i other m z
+      beside_on false i other m z = refl
+
+      state_beside : (b : Bool) (i : ℕ) → (i ≡ port.component.0 → ⊥) → (m : Machine) (z : MachineState) → state_by m z (part i front) ≡ midst pre b i m z → state_by m z (part i (front ++ sent)) ≡ midst (pre ++ p ∷ []) b i m z
+      state_beside b i other m z so_far =
+          ap (state_by m z) (part_append i front sent ∙ ap (λ es. part i front ++ part i es) turn.sent_is ∙ ap (λ es. part i front ++ es) (part_other_of i port.component.0 call reply other) ∙ append-nil (part i front))
+          ∙ so_far ∙ beside_on b i other m z
+
+      midst_more : Midst (pre ++ p ∷ []) next (front ++ sent)
+      midst_more = record {
+        calls = calls_more ReadsOrSets r.system (in_instant (s.n == 0)) (reads_or_sets r.system (s.n == 0)) pre p reply values next front sent was.calls turn;
+        taken_values = λ q m. push_cases pre p q m
+            (λ old. next_beside turn q (λ same. here.fresh (subst (Contains pre) same old)) ∙ was.taken_values q old)
+            (λ same. subst (λ x. value next x ≡ value W x) same next_is_W);
+        left = λ q m. next_beside turn q (λ same. m (subst (Contains (pre ++ p ∷ [])) (sym same) (Contains-push pre p))) ∙ was.left q (λ old. m (Contains-append_left pre (p ∷ []) q old));
+        states = λ i c m z fmu. by_number i port.component.0
+            (λ same.
+            let its : turn.component ≡ c = same_Some _ _ (sym turn.of ∙ ap (slice_get r.system.components) (sym same) ∙ fmu.component) in
+            subst (λ (d : Component). state_by m z (part i (front ++ sent)) ≡ midst (pre ++ p ∷ []) d.shape.has_event_mode i m z) its
+            (subst (λ k. state_by m z (part k (front ++ sent)) ≡ midst (pre ++ p ∷ []) events k m z) (sym same)
+            (state_here m z (subst (λ k. state_by m z (part k front) ≡ midst pre events k m z) same
+            (subst (λ (d : Component). state_by m z (part i front) ≡ midst pre d.shape.has_event_mode i m z) (sym its) (was.states i c m z fmu))))))
+            (λ other. state_beside c.shape.has_event_mode i other m z (was.states i c m z fmu));
+      }
+
+    first_of : (a b : List Sent) → AreReplies r s.states (a ++ b) → AreReplies r s.states a
+    first_of a b h i c m z fmu = replies_front m z (part i a) (part i b) (subst (RepliesBy m z) (part_append i a b) (h i c m z fmu))
+
+    none_midst : (b : Bool) (i : ℕ) (m : Machine) (z : MachineState) → z ≡ midst [] b i m z
+    none_midst true i m z = sym (nothing_at_first r.system at_port i m z)
+    none_midst false i m z = refl
+
+    -- all along the walk
+    pub midst_along : (taken rest : List ℕ) (values : List (Option ℤ)) (log : List Sent) → numbers r.system.instant_order ≡ taken ++ rest → Walked r.system (in_instant (s.n == 0)) s.before taken values log → AreReplies r s.states log →
+        (length values ≡ length r.system.ports) × Midst taken values log
+    midst_along taken rest values log is walked replies =
+        let all = along (λ q. q < length r.system.ports) (Needs r.system) r.system (in_instant (s.n == 0)) s.before (numbers r.system.instant_order) sound.instant_order situation.before
+        (λ t v l. AreReplies r s.states l → Midst t v l)
+        (λ none. record {
+          calls = All-nil (IsCallOf ReadsOrSets r.system []);
+          taken_values = λ q m. absurd (none_in q m);
+          left = λ q m. refl;
+          states = λ i c m z fmu. none_midst c.shape.has_event_mode i m z;
+        })
+        (λ pre p reply v next front sent here len was turn h. midst_more pre p reply v next front sent here len (was (first_of front sent h)) turn h)
+        taken rest values log is walked in
+        (all.0, all.1 replies)
+
+  -- ---- at the end
+  module _ (values : List (Option ℤ)) (log : List Sent) (walked : Walked r.system (in_instant (s.n == 0)) s.before (numbers r.system.instant_order) values log) (replies : AreReplies r s.states log) where
+    some : (W : List (Option ℤ)) × Solves r s W
+    some = solvable r sound machines s situation.shapes (decided r s)
+
+    end : (length values ≡ length r.system.ports) × Midst some.0 some.1 (numbers r.system.instant_order) values log
+    end = midst_along some.0 some.1 (numbers r.system.instant_order) [] values log (sym (append-nil (numbers r.system.instant_order))) walked replies
+
+    values_are : some.0 ≡ values
+    values_are = sym (ext_get_or None values some.0 (end.0 ∙ sym some.1.places) (λ p lt. end.1.taken_values p (sound.instant_order.each p (subst (λ n. p < n) end.0 lt))))
+
+    -- the values are the solution
+    pub solves : Solves r s values
+    solves = subst (Solves r s) values_are some.1
+
+    -- each FMU with event mode has them written, and without event mode the states stay
+    pub state_is : (i : ℕ) (c : Component) (m : Machine) (z : MachineState) → IsFmu r s.states i c m z → state_by m z (part i log) ≡ (if c.shape.has_event_mode then state_with r.system.ports values i m z else z)
+    state_is i c m z fmu = end.1.states i c m z fmu ∙ last c.shape.has_event_mode ∙ ap (λ (V : List (Option ℤ)). if c.shape.has_event_mode then state_with r.system.ports V i m z else z) values_are
+      where
+        last : (b : Bool) → midst some.0 some.1 (numbers r.system.instant_order) b i m z ≡ (if b then state_with r.system.ports some.0 i m z else z)
+        last true = all_at_last r.system sound some.0 i m z
+        last false = refl
+
+    pub states_are : states_by r s.states log ≡ written r s values
+    states_are = each_same r s.states (λ i c m z. state_by m z (part i log)) (λ i c m z. if c.shape.has_event_mode then state_with r.system.ports values i m z else z) state_is
+
+    pub answers_good : All (IsGoodOf (shapes_of r.system)) log
+    answers_good = all_good ReadsOrSets r.system (numbers r.system.instant_order) log end.1.calls
+
+  module _ (olds news : List Instance) (at : AreAt r s.states olds) (values : List (Option ℤ)) (log : List Sent) (told : Told log olds news)
+      (walked : Walked r.system (in_instant (s.n == 0)) s.before (numbers r.system.instant_order) values log) where
+    abbrev replies : AreReplies r s.states log
+    replies = are_replies r s.states olds news at log told
+
+    found : Solves r s values × AreAt r (written r s values) news
+    found = (
+      solves values log walked replies,
+      λ i c m z fmu.
+          let before = fmu_before r s.states (λ j d n y. if d.shape.has_event_mode then state_with r.system.ports values j n y else y) i c m z fmu in
+          let behind = told_at r s.states olds news at log told (answers_good values log walked replies) i c m before.before before.fmu in (
+            behind.instance,
+            behind.is,
+            behind.machine,
+            behind.state ∙ ap Some (state_is values log walked replies i c m before.before before.fmu ∙ sym before.is),
+          ),
+    )
+
+-- the walk over a system finds the solution
+pub solves_in_instant : (system : System) → IsSound system → IsWithoutClocks system → (is_first : Bool) (olds news : List Instance) (before values : List (Option ℤ)) (log : List Sent) → Told log olds news →
+    Walked system (in_instant is_first) before (numbers system.instant_order) values log → SolvesInInstant system is_first before values olds news
+solves_in_instant system sound plain is_first olds news before values log told walked r s same machines situation first was at =
+    found r (subst IsSound (sym same) sound) (subst IsWithoutClocks (sym same) plain) machines s situation olds news at values log told
+    (subst (λ (x : System). Walked x (in_instant (s.n == 0)) s.before (numbers x.instant_order) values log) (sym same)
+    (subst (λ b. Walked system (in_instant b) s.before (numbers system.instant_order) values log) (sym first)
+    (subst (λ V. Walked system (in_instant is_first) V (numbers system.instant_order) values log) (sym was) walked)))

@@ -1,0 +1,95 @@
+use Rattle.std.proofs.Common.{◌<◌, [], ◌++◌, subst, refl, length, map}
+use Rattle.fmu_peer.specs.CloseAll.{Instance, instance_in}
+use Rattle.system_model.specs.Needs.{Needs}
+use Rattle.system_model.specs.Ports.{numbers}
+use Rattle.slot_calls.proofs.Logs.{told_none, told_on}
+use Rattle.event_iteration.specs.Instants.{BeginsInstant, in_instant}
+use Rattle.event_iteration.specs.Turns.{Begun, Walked}
+use Rattle.event_iteration.proofs.FindingInInstant.{solves_in_instant}
+use Rattle.event_iteration.proofs.InInstant.{about_instant, fits_now, fits_until, fresh_at, may_turn, port_within, shapes_mid}
+use Rattle.event_iteration.proofs.Loops.{walked_all, walked_more, walked_until}
+use Rattle.event_iteration.proofs.Rounds.{all_instances, components_there, number_at, sources_placed, whole_order}
+use Rattle.event_iteration.proofs.instants.instant.Goals as goal
+
+pub loop-k-init : goal.loop-k-init
+loop-k-init g c =
+    record { live = c.requires.live; log = []; told = told_none _; walked = Begun _ _ _ refl refl refl }
+
+pub take-requires-clause-port : goal.take-requires-clause-port
+take-requires-clause-port g c κs lives =
+    let system = c.args.system.now in
+    let is = number_at system.instant_order _ c.loop-k.k (record { 0 = 0 }) c.as_slice-order.ensures c.loop-k-test.true in
+    port_within system c.requires.sound c.loop-k.k _ is
+
+pub take-requires-clause-shapes : goal.take-requires-clause-shapes
+take-requires-clause-shapes g c κs lives =
+    let system = c.args.system.now in
+    shapes_mid system c.requires.sound c.requires.clockless c.args.is_first c.args.values.now c.requires.values c.requires.fitting
+    (map (λ s. instance_in g.L.Peer.view s) c.args.slots.now) (map (λ s. instance_in g.L.Peer.view s) c.loop-k.slots) c.requires.shapes (all_instances (λ s. instance_in g.L.Peer.view s) (λ (x : Instance). BeginsInstant x.view) c.args.slots.now c.requires.begins)
+    _ c.loop-k.values c.loop-k.invariant.log c.loop-k.invariant.told c.loop-k.invariant.walked
+
+pub take-requires-clause-placed : goal.take-requires-clause-placed
+take-requires-clause-placed g c κs lives =
+    sources_placed c.args.system.now c.requires.sound
+
+pub take-requires-clause-there : goal.take-requires-clause-there
+take-requires-clause-there g c κs lives =
+    components_there c.args.system.now c.requires.sound
+
+pub take-requires-clause-may : goal.take-requires-clause-may
+take-requires-clause-may g c κs lives =
+    let system = c.args.system.now in
+    let is = number_at system.instant_order _ c.loop-k.k (record { 0 = 0 }) c.as_slice-order.ensures c.loop-k-test.true in
+    may_turn system c.requires.sound c.requires.clockless c.args.is_first c.args.values.now c.requires.values c.requires.fitting
+    (map (λ s. instance_in g.L.Peer.view s) c.args.slots.now) (map (λ s. instance_in g.L.Peer.view s) c.loop-k.slots) c.requires.shapes (all_instances (λ s. instance_in g.L.Peer.view s) (λ (x : Instance). BeginsInstant x.view) c.args.slots.now c.requires.begins)
+    _ c.loop-k.values c.loop-k.invariant.log c.loop-k.invariant.told c.loop-k.invariant.walked
+    _ (fresh_at system c.requires.sound c.loop-k.k _ is)
+
+pub returns-in-Err-clause-walks : goal.returns-in-Err-clause-walks
+returns-in-Err-clause-walks g c =
+    let system = c.args.system.now in
+    let is = number_at system.instant_order _ c.loop-k.k (record { 0 = 0 }) c.as_slice-order.ensures c.loop-k-test.true in
+    walked_until (λ q. q < length system.ports) (Needs system) system (in_instant c.args.is_first) (about_instant system c.args.is_first) c.args.values.now (numbers system.instant_order) c.requires.sound.instant_order c.requires.values
+    (map (λ s. instance_in g.L.Peer.view s) c.args.slots.now) (map (λ s. instance_in g.L.Peer.view s) c.loop-k.slots) c.loop-k.invariant.log c.loop-k.invariant.told
+    c.loop-k.k _ is c.loop-k.values _ c.loop-k.invariant.walked _ c.in-Err.bad c.in-Err.ensures.turn
+
+pub returns-in-Err-clause-fitting : goal.returns-in-Err-clause-fitting
+returns-in-Err-clause-fitting g c =
+    let system = c.args.system.now in
+    fits_until system c.requires.sound c.requires.clockless c.args.is_first c.args.values.now c.requires.values c.requires.fitting
+    (map (λ s. instance_in g.L.Peer.view s) c.args.slots.now) (map (λ s. instance_in g.L.Peer.view s) c.loop-k.slots) c.requires.shapes (all_instances (λ s. instance_in g.L.Peer.view s) (λ (x : Instance). BeginsInstant x.view) c.args.slots.now c.requires.begins)
+    _ c.loop-k.values c.loop-k.invariant.log c.loop-k.invariant.told c.loop-k.invariant.walked c.in-Err.ensures.turn
+
+pub loop-k-preserved : goal.loop-k-preserved
+loop-k-preserved g c =
+    let system = c.args.system.now in
+    let is = number_at system.instant_order _ c.loop-k.k (record { 0 = 0 }) c.as_slice-order.ensures c.loop-k-test.true in
+    let turn = c.in-Ok.ensures.turn in
+    record {
+      live = c.in-Ok.ensures.live;
+      log = c.loop-k.invariant.log ++ turn.log;
+      told = told_on _ _ _ c.loop-k.invariant.log turn.log c.loop-k.invariant.told turn.told;
+      walked = walked_more (λ q. q < length system.ports) (Needs system) system (in_instant c.args.is_first) (about_instant system c.args.is_first) c.args.values.now (numbers system.instant_order) c.requires.sound.instant_order c.requires.values
+          (map (λ s. instance_in g.L.Peer.view s) c.args.slots.now) (map (λ s. instance_in g.L.Peer.view s) c.loop-k.slots) c.loop-k.invariant.log c.loop-k.invariant.told
+          c.loop-k.k _ is c.loop-k.values _ c.loop-k.invariant.walked _ turn;
+    }
+
+pub returns-clause-walks : goal.returns-clause-walks
+returns-clause-walks g c =
+    let system = c.args.system.now in
+    walked_all (λ q. q < length system.ports) (Needs system) system (in_instant c.args.is_first) (about_instant system c.args.is_first) c.args.values.now (numbers system.instant_order) c.requires.sound.instant_order c.requires.values
+    (map (λ s. instance_in g.L.Peer.view s) c.args.slots.now) (map (λ s. instance_in g.L.Peer.view s) c.loop-k.slots) c.loop-k.invariant.log c.loop-k.invariant.told
+    c.loop-k.values (subst (λ taken. Walked system (in_instant c.args.is_first) c.args.values.now taken c.loop-k.values c.loop-k.invariant.log) (whole_order system.instant_order _ c.loop-k.k c.as_slice-order.ensures c.loop-k-test.false) c.loop-k.invariant.walked)
+
+pub returns-clause-fitting : goal.returns-clause-fitting
+returns-clause-fitting g c =
+    let system = c.args.system.now in
+    fits_now system c.requires.sound c.requires.clockless c.args.is_first c.args.values.now c.requires.values c.requires.fitting
+    (map (λ s. instance_in g.L.Peer.view s) c.args.slots.now) (map (λ s. instance_in g.L.Peer.view s) c.loop-k.slots) c.requires.shapes (all_instances (λ s. instance_in g.L.Peer.view s) (λ (x : Instance). BeginsInstant x.view) c.args.slots.now c.requires.begins)
+    _ c.loop-k.values c.loop-k.invariant.log c.loop-k.invariant.told c.loop-k.invariant.walked
+
+pub returns-clause-solved : goal.returns-clause-solved
+returns-clause-solved g c =
+    let system = c.args.system.now in
+    solves_in_instant system c.requires.sound c.requires.clockless c.args.is_first _ _ c.args.values.now c.loop-k.values c.loop-k.invariant.log c.loop-k.invariant.told
+    (subst (λ taken. Walked system (in_instant c.args.is_first) c.args.values.now taken c.loop-k.values c.loop-k.invariant.log) (whole_order system.instant_order _ c.loop-k.k c.as_slice-order.ensures c.loop-k-test.false) c.loop-k.invariant.walked)
