@@ -25,11 +25,11 @@ AnswersUnknown known (Err Unknown) = known ≡ false
 AnswersUnknown known (Err Failed) = Unit {0}
 AnswersUnknown known (Err Memory) = Unit {0}
 
--- what a spawner tells: how many peers it has started; what those told that were taken back, in order; the model identifiers that it knows; how often a start has failed
+-- what a spawner tells: how many peers it has started; what those told that were taken back, in order; which model identifiers it knows by which host; how often a start has failed
 pub record SpawnerView : Type 0 where
   pub started : ℕ
   pub retired : List View
-  pub knows : List ℕ → Bool
+  pub knows : List ℕ → List ℕ → Bool
   pub faults : ℕ
 
 -- one more peer was started

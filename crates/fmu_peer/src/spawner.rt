@@ -23,8 +23,8 @@ pub trait Spawner {
 
     ghost use Rattle.fmu_peer.specs.Start.{SpawnerView};
 
-    /// What it tells: how many peers it has started, those that were taken back, in order, the model identifiers that
-    /// it knows, and how often a start has failed.
+    /// What it tells: how many peers it has started, those that were taken back, in order, which model identifiers
+    /// it knows by which host, and how often a start has failed.
     ghost view: { Self → SpawnerView };
 
     /// Starts a peer by the host's name, for an instance of this name whose FMU lies in this directory, and makes the
@@ -40,7 +40,7 @@ pub trait Spawner {
         requires name { (1 ≤ length name.now) × (length name.now ≤ 2 ^ 24) }
         requires token { length shape.now.token ≤ 2 ^ 24 }
         ensures fresh { IfOk result (λ link. IsStarted host.now name.now directory.now shape.now (Self.Link.view link)) }
-        ensures unknown { AnswersUnknown ((view self.old).knows shape.now.identifier) result }
+        ensures unknown { AnswersUnknown ((view self.old).knows host.now shape.now.identifier) result }
         ensures noted { NotesStart (view self.old) (view self.new) result };
 
     /// Takes a peer back. It can't fail.

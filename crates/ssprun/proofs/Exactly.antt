@@ -1,6 +1,6 @@
 -- Where a status has to come.
 use Rattle.std.proofs.Common.{◌≡◌, ◌⊎◌, inl, inr, ℕ, ◌+◌, ◌<◌, true, false, Bool, List, [], ◌∷◌, ◌++◌, length, Option, Some, None, IfSome, refl, sym, ap, ◌∙◌, subst, arith, length-append, take, append-nil}
-use Rattle.std.specs.Prelude.{is_some}
+use Rattle.std.specs.Prelude.{codes, is_some}
 use Rattle.std.specs.List.{slice_get}
 use Rattle.std.proofs.lemmas.Option.{same_Some}
 use Rattle.sim_base.specs.Causes.{Rose}
@@ -182,10 +182,10 @@ run_known task system end old new (Went g) = g.peers.known
 run_known task system end old new (Broke bad is f) = f.peers.known
 
 -- of the first component that isn't known there is one
-first_place : (spawner : SpawnerView) (cs : List Component) (i j : ℕ) (c d : Component) → slice_get cs i ≡ Some c → spawner.knows c.shape.identifier ≡ false → AreKnown spawner (take j cs) → i < j → ⊥
+first_place : (spawner : SpawnerView) (cs : List Component) (i j : ℕ) (c d : Component) → slice_get cs i ≡ Some c → spawner.knows (codes "builtin") c.shape.identifier ≡ false → AreKnown spawner (take j cs) → i < j → ⊥
 first_place spawner cs i j c d here unknown before less =
-    known_unknown (spawner.knows c.shape.identifier)
-    (all_got (λ (x : Component). spawner.knows x.shape.identifier ≡ true) (take j cs) i c before (slice_get-take_front cs j i less ∙ here)) unknown
+    known_unknown (spawner.knows (codes "builtin") c.shape.identifier)
+    (all_got (λ (x : Component). spawner.knows (codes "builtin") x.shape.identifier ≡ true) (take j cs) i c before (slice_get-take_front cs j i less ∙ here)) unknown
 
 one_unknown : (spawner : SpawnerView) (cs : List Component) (i j : ℕ) (c d : Component) → IsFirstUnknown spawner cs i c → IsFirstUnknown spawner cs j d → c ≡ d
 one_unknown spawner cs i j c d a b = by (compare i j)
@@ -209,8 +209,8 @@ unknown_run (Start name Unknown) task system h place c f p lacks quiet =
     let is : name ≡ c.name = f.name_is ∙ ap (λ (x : Component). x.name) same in
     inr (answers (start_message c.name Unknown) 5 h (subst (λ (x : List ℕ). Reports (Some (start_message x Unknown)) 5 h.status h.err h.err_after) is p))
 unknown_run (Ran e) task system h place c f p lacks quiet =
-    known_unknown (h.old.run.spawner.knows c.shape.identifier)
-    (all_got (λ (x : Component). h.old.run.spawner.knows x.shape.identifier ≡ true) system.components place c (run_known task system f.0 h.old.run h.new.run f.2) lacks.here) lacks.unknown
+    known_unknown (h.old.run.spawner.knows (codes "builtin") c.shape.identifier)
+    (all_got (λ (x : Component). h.old.run.spawner.knows (codes "builtin") x.shape.identifier ≡ true) system.components place c (run_known task system f.0 h.old.run h.new.run f.2) lacks.here) lacks.unknown
 unknown_run Checked task system h place c f p lacks quiet = absurd f
 unknown_run Untold task system h place c f p lacks quiet = absurd f
 

@@ -30,11 +30,11 @@ started_more (f ∷ folders) (d ∷ cs) (w ∷ vs) folder c v are there here one
 pub take_more_at : {X : Type 0} (xs : List X) (n : ℕ) (x : X) → slice_get xs n ≡ Some x → take (n + 1) xs ≡ take n xs ++ x ∷ []
 take_more_at xs n x here = take_more xs n x (slice_get_within xs n x here) ∙ ap (λ y. take n xs ++ y ∷ []) (get_or_from_slice_get xs n x x here)
 
-pub known_more : (spawner : SpawnerView) (cs : List Component) (n : ℕ) (c : Component) → AreKnown spawner (take n cs) → slice_get cs n ≡ Some c → spawner.knows c.shape.identifier ≡ true → AreKnown spawner (take (n + 1) cs)
+pub known_more : (spawner : SpawnerView) (cs : List Component) (n : ℕ) (c : Component) → AreKnown spawner (take n cs) → slice_get cs n ≡ Some c → spawner.knows (codes "builtin") c.shape.identifier ≡ true → AreKnown spawner (take (n + 1) cs)
 known_more spawner cs n c known here knows =
     subst (AreKnown spawner) (sym (take_more_at cs n c here))
-    (All-append (λ (x : Component). spawner.knows x.shape.identifier ≡ true) (take n cs) (c ∷ []) known
-    (All-cons (λ (x : Component). spawner.knows x.shape.identifier ≡ true) c [] knows (All-nil (λ (x : Component). spawner.knows x.shape.identifier ≡ true))))
+    (All-append (λ (x : Component). spawner.knows (codes "builtin") x.shape.identifier ≡ true) (take n cs) (c ∷ []) known
+    (All-cons (λ (x : Component). spawner.knows (codes "builtin") x.shape.identifier ≡ true) c [] knows (All-nil (λ (x : Component). spawner.knows (codes "builtin") x.shape.identifier ≡ true))))
 
 -- ---- what a spawner tells
 
@@ -101,7 +101,7 @@ slice_get-take_front (x ∷ xs) (suc n) (suc k) less = slice_get-take_front xs n
 -- ---- starts that fail
 
 pub noted_fault : (T : Type 0) (fault : StartFault) (c : Component) (s t u : SpawnerView) (n : ℕ) → t ≡ with_all_started s n → NotesStart {T = T} t u (Err fault) →
-    AnswersUnknown {T = T} (t.knows c.shape.identifier) (Err fault) → NotesFault fault c (with_all_started s n) u
+    AnswersUnknown {T = T} (t.knows (codes "builtin") c.shape.identifier) (Err fault) → NotesFault fault c (with_all_started s n) u
 noted_fault T Failed c s t u n is noted unknown = noted ∙ ap with_failure is
-noted_fault T Unknown c s t u n is noted unknown = (noted ∙ is, ap (λ (x : SpawnerView). x.knows c.shape.identifier) (sym is) ∙ unknown)
+noted_fault T Unknown c s t u n is noted unknown = (noted ∙ is, ap (λ (x : SpawnerView). x.knows (codes "builtin") c.shape.identifier) (sym is) ∙ unknown)
 noted_fault T Memory c s t u n is noted unknown = noted ∙ is

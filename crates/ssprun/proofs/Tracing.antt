@@ -144,8 +144,8 @@ trace_run Memory task system h f p knows calm quiet = inl (memory_status h p qui
 trace_run (File path fault) task system h f p knows calm quiet = absurd f
 trace_run (Start name Failed) task system h f p knows calm quiet = absurd (calm (start_rose task system name h.old.run h.new.run f))
 trace_run (Start name Unknown) task system h f p knows calm quiet =
-    known_unknown (h.old.run.spawner.knows f.component.shape.identifier)
-    (all_got (λ (c : Component). h.old.run.spawner.knows c.shape.identifier ≡ true) system.components f.place f.component knows f.here) f.noted.1
+    known_unknown (h.old.run.spawner.knows (codes "builtin") f.component.shape.identifier)
+    (all_got (λ (c : Component). h.old.run.spawner.knows (codes "builtin") c.shape.identifier ≡ true) system.components f.place f.component knows f.here) f.noted.1
 trace_run (Ran e) task system h f p knows calm quiet = inr (run_traces f.0 e task system h f.1 f.2 p quiet)
 trace_run Checked task system h f p knows calm quiet = absurd f
 trace_run Untold task system h f p knows calm quiet = absurd f

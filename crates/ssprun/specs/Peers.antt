@@ -24,7 +24,7 @@ AreStarted (folder ∷ folders) (c ∷ cs) (v ∷ vs) = IsStarted (codes "builti
 
 -- the model identifier of each is known
 abbrev pub AreKnown : SpawnerView → List Component → Type 0
-AreKnown spawner components = All (λ (c : Component). spawner.knows c.shape.identifier ≡ true) components
+AreKnown spawner components = All (λ (c : Component). spawner.knows (codes "builtin") c.shape.identifier ≡ true) components
 
 -- a peer was started for each of the components
 pub record StartsEach (folders : List (List ℕ)) (components : List Component) (peers : List View) (old new : SpawnerView) : Type 0 where
@@ -36,13 +36,13 @@ pub record StartsEach (folders : List (List ℕ)) (components : List Component) 
 -- the component at this place is the first whose model identifier isn't known
 pub record IsFirstUnknown (spawner : SpawnerView) (components : List Component) (place : ℕ) (c : Component) : Type 0 where
   pub here : slice_get components place ≡ Some c
-  pub unknown : spawner.knows c.shape.identifier ≡ false
+  pub unknown : spawner.knows (codes "builtin") c.shape.identifier ≡ false
   pub before : AreKnown spawner (take place components)
 
 -- what a spawner tells of a peer that wasn't started for a component
 abbrev pub NotesFault : StartFault → Component → SpawnerView → SpawnerView → Type 0
 NotesFault Failed c old new = new ≡ with_failure old
-NotesFault Unknown c old new = (new ≡ old) × (old.knows c.shape.identifier ≡ false)
+NotesFault Unknown c old new = (new ≡ old) × (old.knows (codes "builtin") c.shape.identifier ≡ false)
 NotesFault Memory c old new = new ≡ old
 
 -- a peer was started for each of the components before this one, and its own wasn't

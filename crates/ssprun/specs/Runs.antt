@@ -1,5 +1,5 @@
 -- A run of a system from the start of its peers until they are taken back (FMI 3.0, 4.2.1).
-use Rattle.std.specs.Prelude.{◌≡◌, ℕ, ◌<◌, false, List, [], map, length, take, All, Some, IfSome}
+use Rattle.std.specs.Prelude.{◌≡◌, ℕ, ◌<◌, false, List, [], map, length, take, All, Some, IfSome, codes}
 use Rattle.std.specs.List.{slice_get}
 use Rattle.fmi_calls.specs.Next.{fresh}
 use Rattle.fmu_peer.specs.Answer.{IsLink}
@@ -63,7 +63,7 @@ pub record TakesBack (task : Task) (system : System) (old new : Scene) : Type 0 
 -- what a spawner tells of a component's peer that wasn't started
 abbrev pub NotesUnstarted : StartCause → Component → SpawnerView → SpawnerView → Type 0
 NotesUnstarted Failed c old new = new ≡ with_failure old
-NotesUnstarted Unknown c old new = (new ≡ old) × (old.knows c.shape.identifier ≡ false)
+NotesUnstarted Unknown c old new = (new ≡ old) × (old.knows (codes "builtin") c.shape.identifier ≡ false)
 
 -- the peer of the component of this name wasn't started; those before it were, and were taken back without a call
 pub record FailsToStart (task : Task) (system : System) (name : List ℕ) (fault : StartCause) (old new : Scene) : Type 0 where

@@ -59,7 +59,7 @@ loop-place-preserved g c =
           (ap (λ (n : ℕ). slice_get c.args.folders.now n) (length-map c.loop-place.peers.items view ∙ i.each) ∙ there)
           (ap (λ (n : ℕ). slice_get c.args.components.now n) (length-map c.loop-place.peers.items view ∙ i.each) ∙ here) started);
       known = known_more (g.S.Spawner.view c.args.spawner.now) c.args.components.now c.loop-place.place component i.known here
-          (sym (ap (λ s. s.knows component.shape.identifier) i.told) ∙ c.in-Ok.ensures.unknown);
+          (sym (ap (λ s. s.knows (codes "builtin") component.shape.identifier) i.told) ∙ c.in-Ok.ensures.unknown);
       told = one_started (g.S.Spawner.view c.args.spawner.now) (g.S.Spawner.view c.loop-place.spawner) (g.S.Spawner.view c.start.new.self) c.loop-place.place i.told c.in-Ok.ensures.noted;
     }
 
