@@ -1,0 +1,322 @@
+#!/usr/bin/env python3
+"""Plays the master for one host, without ssprun.
+
+    drive_host.py HOST DIR R STEP STOP      the calls of `ssprun one DIR`, and the trace on standard output
+    drive_host.py --page PAGE HOST DIR R    the dump of a page: its calls are sent, and each reply has to be the page's
+    drive_host.py --sampler HOST DIR R      the calls of a run with a Clock, for the sampler
+    drive_host.py --odd HOST DIR R          what is no frame, ends inside one, or is no call for a counter
+
+Status and error line are those of ssprun where the link fails (5), a call is refused (6) or a reply is of another kind
+(7). The FMU has no inputs in the first form, and may have event mode.
+"""
+
+import re
+import struct
+import subprocess
+import sys
+import xml.etree.ElementTree as ElementTree
+
+KINDS = (
+    "Instantiate EnterInitialization ExitInitialization EnterEvent EnterStep DoStep Update Get Set GetClock SetClock "
+    "GetInterval GetShift Save Restore Free Terminate FreeInstance"
+).split()
+TYPES = "Int8 UInt8 Int16 UInt16 Int32 UInt32 Int64 UInt64 Boolean Enumeration".split()
+STATUSES = "OK Warning Discard Error Fatal".split()
+FRAME = struct.Struct(">BBBBIQQ")
+SECONDS_TO_WAIT = 20
+
+
+class Stopped(Exception):
+    """The run is over: a status and a line."""
+
+    def __init__(self, status, line):
+        super().__init__(line)
+        self.status = status
+
+
+class Host:
+    def __init__(self, program, directory, resolution):
+        words = [program, directory, str(resolution)]
+        try:
+            self.child = subprocess.Popen(words, stdin=subprocess.PIPE, stdout=subprocess.PIPE)
+        except OSError as error:
+            raise Stopped(5, "link fmu start") from error
+
+    def send(self, data):
+        try:
+            self.child.stdin.write(data)
+            self.child.stdin.flush()
+        except BrokenPipeError:
+            pass  # there will be no reply either
+
+    def receive(self):
+        return self.child.stdout.read(FRAME.size)
+
+    def exchange(self, kind, type=0, reference=0, first=0, second=0, texts=b""):
+        """The 24 bytes that answer a call; fewer where the link broke."""
+        number = KINDS.index(kind) + 1
+        self.send(FRAME.pack(number, type, 0, 0, reference, first, second) + texts)
+        return self.receive()
+
+    def ask(self, kind, **fields):
+        """Flags, qualifier and the two numbers of a good reply."""
+        data = self.exchange(kind, **fields)
+        if len(data) < FRAME.size:
+            raise Stopped(5, f"link fmu {kind}")
+        number, status, flags, zero, qualifier, first, second = FRAME.unpack(data)
+        if number != KINDS.index(kind) + 1 or status > 4 or zero != 0:
+            raise Stopped(7, f"misreply fmu {kind} {data.hex()}")
+        if status >= 2:
+            raise Stopped(6, f"fmu fmu {kind} {STATUSES[status]}")
+        return flags, qualifier, first, second
+
+    def instantiate(self, name, token, event_mode=False, early_return=False):
+        name, token = name.encode(), token.encode()
+        bits = (1 if event_mode else 0) | (2 if early_return else 0)
+        self.ask("Instantiate", reference=bits, first=len(name), second=len(token), texts=name + token)
+
+    def end(self):
+        """Closes the host's input, and gives what is left of its output, and the status that it ends with."""
+        try:
+            self.child.stdin.close()
+        except BrokenPipeError:
+            pass
+        rest = self.child.stdout.read()
+        self.child.stdout.close()
+        try:
+            return rest, self.child.wait(SECONDS_TO_WAIT)
+        except subprocess.TimeoutExpired:
+            self.child.kill()
+            return rest, self.child.wait()
+
+
+def number_of(type_number, word):
+    """The value whose word this is."""
+    signed = TYPES[type_number - 1] in ("Int8", "Int16", "Int32", "Int64", "Enumeration")
+    return word - 2**64 if signed and word >= 2**63 else word
+
+
+class Description:
+    def __init__(self, directory):
+        root = ElementTree.parse(directory + "/modelDescription.xml").getroot()
+        simulation = root.find("CoSimulation")
+        self.token = root.get("instantiationToken")
+        self.event_mode = simulation.get("hasEventMode") in ("true", "1")
+        self.outputs = [
+            (variable.tag, variable.get("name"), int(variable.get("valueReference")))
+            for variable in root.find("ModelVariables")
+            if variable.get("causality") == "output" and variable.tag in TYPES
+        ]
+
+
+def drive(program, directory, resolution, step, stop):
+    """The calls of a run of one FMU without inputs."""
+    described = Description(directory)
+    host = Host(program, directory, resolution)
+    point = 0
+    began = False
+    try:
+        host.instantiate("fmu", described.token, described.event_mode)
+        print(f"trace 1 {resolution} 0 {stop}")
+        for number, (type_name, name, _) in enumerate(described.outputs):
+            print(f"port {number} {type_name} fmu {name}")
+        began = True
+        host.ask("EnterInitialization", first=0, second=stop)
+        host.ask("ExitInitialization")
+        while True:
+            instant, again = 0, True
+            while again:
+                values = []
+                for type_name, _, reference in described.outputs:
+                    type_number = TYPES.index(type_name) + 1
+                    word = host.ask("Get", type=type_number, reference=reference)[2]
+                    values.append(number_of(type_number, word))
+                flags = host.ask("Update")[0] if described.event_mode else 0
+                print(f"at {point} {instant}")
+                for number, value in enumerate(values):
+                    print(f"{number} {value}")
+                again = bool(flags & 1)
+                instant += 1
+            if point == stop:
+                print(f"end stop {stop}")
+                break
+            if described.event_mode:
+                host.ask("EnterStep")
+            size = min(step, stop - point)
+            flags, _, end, _ = host.ask("DoStep", first=point, second=size)
+            point = end
+            if flags & 2:
+                print(f"end asked {point}")
+                break
+            if described.event_mode:
+                host.ask("EnterEvent")
+        host.ask("Terminate")
+        host.ask("FreeInstance")
+    except Stopped:
+        if began:
+            print(f"end fault {point}")
+        raise
+    finally:
+        host.end()
+
+
+# ---- the dump of a page
+
+DUMP_ROW = re.compile(r"^\| (call|reply) \| `([0-9a-f ]+)` \|")
+
+
+def play_page(page, program, directory, resolution):
+    host = Host(program, directory, resolution)
+    rows = 0
+    with open(page, encoding="utf-8") as lines:
+        for number, line in enumerate(lines, 1):
+            row = DUMP_ROW.match(line)
+            if not row:
+                continue
+            rows += 1
+            data = bytes.fromhex(row.group(2))
+            if row.group(1) == "call":
+                host.send(data)
+            else:
+                got = host.receive()
+                if got != data:
+                    raise Stopped(1, f"{page}:{number}: the page has {data.hex()}, the host answers {got.hex()}")
+    rest, status = host.end()
+    if rows == 0 or rest or status != 0:
+        raise Stopped(1, f"{page}: {rows} frames, {len(rest)} bytes behind them, status {status}")
+
+
+# ---- checks
+
+def expect(what, found, wanted):
+    if found != wanted:
+        raise Stopped(1, f"{what}: {found}, wanted {wanted}")
+
+
+def drive_sampler(program, directory, resolution):
+    """Clock 1 has interval 4/5 and shift 6/5 of a second; y under 3 shows u under 2 where the Clock ticks."""
+    int32 = TYPES.index("Int32") + 1
+    host = Host(program, directory, resolution)
+    host.instantiate("s", "{s}", event_mode=True)
+    for reference, value in ((4, 1), (5, 100), (6, 0)):
+        host.ask("Set", type=TYPES.index("UInt64") + 1, reference=reference, first=value)
+    host.ask("EnterInitialization", first=0, second=20)
+    interval = host.ask("GetInterval", reference=1)
+    shift = host.ask("GetShift", reference=1)
+    print(f"interval {interval[1]} {interval[2]}/{interval[3]}")
+    print(f"shift {shift[2]}/{shift[3]}")
+    host.ask("ExitInitialization")
+    for point, fed in ((0, 7), (10, -8)):
+        host.ask("SetClock", reference=1)
+        host.ask("Set", type=int32, reference=2, first=fed % 2**64)
+        shown = number_of(int32, host.ask("Get", type=int32, reference=3)[2])
+        ticks = host.ask("GetClock", reference=1)[2]
+        flags = host.ask("Update")[0]
+        print(f"at {point}: clock {ticks}, y {shown}, flags {flags}")
+        host.ask("EnterStep")
+        end = host.ask("DoStep", first=point, second=10)[2]
+        print(f"step to {end}")
+        host.ask("EnterEvent")
+    host.ask("Terminate")
+    host.ask("FreeInstance")
+    expect("behind FreeInstance", host.end(), (b"", 0))
+
+
+# What is no frame of a call: its bytes, each behind a good Instantiate.
+NO_FRAMES = (
+    ("the kind 0", FRAME.pack(0, 0, 0, 0, 0, 0, 0)),
+    ("the kind 19", FRAME.pack(19, 0, 0, 0, 0, 0, 0)),
+    ("a type of DoStep", FRAME.pack(6, 1, 0, 0, 0, 0, 1)),
+    ("flags of a call", FRAME.pack(6, 0, 1, 0, 0, 0, 1)),
+    ("byte 3", FRAME.pack(6, 0, 0, 1, 0, 0, 1)),
+    ("a reference of DoStep", FRAME.pack(6, 0, 0, 0, 1, 0, 1)),
+    ("a number of ExitInitialization", FRAME.pack(3, 0, 0, 0, 0, 1, 0)),
+    ("a second number of Set", FRAME.pack(9, 5, 0, 0, 1, 1, 1)),
+    ("Get of no type", FRAME.pack(8, 0, 0, 0, 2, 0, 0)),
+    ("Get of a Clock", FRAME.pack(8, 11, 0, 0, 2, 0, 0)),
+    ("the Int8 128", FRAME.pack(9, 1, 0, 0, 1, 128, 0)),
+    ("an Int32 that isn't extended by its sign", FRAME.pack(9, 5, 0, 0, 1, 0xFFFFFFFD, 0)),
+    ("the Boolean 2", FRAME.pack(9, 9, 0, 0, 1, 2, 0)),
+    ("Instantiate without a name", FRAME.pack(1, 0, 0, 0, 0, 0, 1) + b"t"),
+    ("Instantiate with unknown flags", FRAME.pack(1, 0, 0, 0, 4, 1, 0) + b"n"),
+    ("a name that is too long", FRAME.pack(1, 0, 0, 0, 0, 2**24 + 1, 0)),
+    ("one byte", b"\x06"),
+    ("23 bytes", FRAME.pack(6, 0, 0, 0, 0, 0, 1)[:23]),
+    ("a token that is cut", FRAME.pack(1, 0, 0, 0, 0, 1, 3) + b"n{t"),
+)
+
+
+def drive_odd(program, directory, resolution):
+    """A host of the counter: odd inputs, saved states, and calls that it doesn't know."""
+    int32 = TYPES.index("Int32") + 1
+    host = Host(program, directory, resolution)
+    expect("no input", host.end(), (b"", 0))
+    for what, data in NO_FRAMES:
+        host = Host(program, directory, resolution)
+        host.instantiate("fmu", "{c}")
+        host.send(data)
+        expect(what, host.end(), (b"", 1))
+
+    host = Host(program, directory, resolution)
+    host.instantiate("a b/\u00e9\U0001f600", "{c}", early_return=True)
+    host.ask("Set", type=int32, reference=1, first=2**64 - 5)
+    host.ask("EnterInitialization", first=10, second=258)
+    host.ask("ExitInitialization")
+    count = lambda: number_of(int32, host.ask("Get", type=int32, reference=2)[2])
+    expect("before a step", count(), 0)
+    host.ask("Save")
+    expect("a step", host.ask("DoStep", first=10, second=7), (0, 0, 17, 0))
+    expect("behind a step", count(), -5)
+    for _ in range(2):
+        host.ask("Restore")
+        expect("behind a Restore", count(), 0)
+        host.ask("DoStep", first=10, second=10)
+    expect("behind both", count(), -5)
+    host.ask("Free")
+    host.ask("Terminate")
+    host.ask("FreeInstance")
+    expect("behind FreeInstance", host.end(), (b"", 0))
+
+    refused = (
+        ("GetClock", {"reference": 1}),
+        ("SetClock", {"reference": 1}),
+        ("GetInterval", {"reference": 1}),
+        ("GetShift", {"reference": 1}),
+        ("Get", {"type": int32, "reference": 77}),
+        ("Set", {"type": int32, "reference": 77, "first": 1}),
+        ("Restore", {}),
+        ("Free", {}),
+    )
+    for kind, fields in refused:
+        host = Host(program, directory, resolution)
+        host.instantiate("fmu", "{c}")
+        host.ask("EnterInitialization", first=0, second=20)
+        host.ask("ExitInitialization")
+        number = KINDS.index(kind) + 1
+        expect(kind, host.exchange(kind, **fields).hex(), FRAME.pack(number, 3, 0, 0, 0, 0, 0).hex())
+        expect("FreeInstance behind Error", host.exchange("FreeInstance"), FRAME.pack(18, 0, 0, 0, 0, 0, 0))
+        expect("behind it", host.end(), (b"", 0))
+
+
+def main(words):
+    try:
+        if len(words) == 5 and words[0] == "--page":
+            play_page(words[1], words[2], words[3], words[4])
+        elif len(words) == 4 and words[0] == "--sampler":
+            drive_sampler(*words[1:])
+        elif len(words) == 4 and words[0] == "--odd":
+            drive_odd(*words[1:])
+        elif len(words) == 5:
+            drive(words[0], words[1], int(words[2]), int(words[3]), int(words[4]))
+        else:
+            print(__doc__, file=sys.stderr)
+            return 2
+    except Stopped as end:
+        sys.stdout.flush()
+        print(end, file=sys.stderr)
+        return end.status
+    return 0
+
+
+if __name__ == "__main__":
+    sys.exit(main(sys.argv[1:]))

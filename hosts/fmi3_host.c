@@ -1,0 +1,576 @@
+/*
+ * A host that loads an FMU for Co-Simulation of FMI 3.0: it answers the calls of ssprun by the C functions of the FMU.
+ *
+ *     cc -std=c99 -O2 -o fmi3_host fmi3_host.c -ldl
+ *     fmi3_host DIR R
+ *
+ * DIR is an unpacked FMU. Its library is the one file of DIR/binaries/x86_64-linux whose name ends in `.so`; it is
+ * loaded at Instantiate. A second has R counts. docs/HOST_PROTOCOL.md describes calls and replies, docs/HOSTS.md how to
+ * use it.
+ *
+ * What doesn't work is told on standard error, and the call is answered with Error: no library or two of them, a
+ * function that the library doesn't have, a time that is no count. What the FMU writes on standard output goes to
+ * standard error. An FMU that crashes ends its host.
+ *
+ * It ends with status 0 after FreeInstance and at the end of its input, 1 where its input is no frame or a reply can't
+ * be written (where nobody reads them any more, SIGPIPE ends it before), and 2 where its words aren't DIR and R.
+ *
+ * Section numbers are those of FMI 3.0.
+ */
+#define _XOPEN_SOURCE 700
+
+#include "fmi3_functions.h"
+
+#include <dirent.h>
+#include <dlfcn.h>
+#include <fcntl.h>
+#include <stdio.h>
+#include <stdlib.h>
+#include <string.h>
+#include <unistd.h>
+
+/* ---- Calls and replies */
+
+enum kind {
+    INSTANTIATE = 1, ENTER_INITIALIZATION, EXIT_INITIALIZATION, ENTER_EVENT, ENTER_STEP, DO_STEP, UPDATE, GET, SET,
+    GET_CLOCK, SET_CLOCK, GET_INTERVAL, GET_SHIFT, SAVE, RESTORE, FREE, TERMINATE, FREE_INSTANCE
+};
+
+enum type { INT8 = 1, UINT8, INT16, UINT16, INT32, UINT32, INT64, UINT64, BOOLEAN, ENUMERATION };
+
+/* Flags in the replies to DoStep and to Update. */
+enum { EVENT_NEEDED = 1, NEEDS_UPDATE = 1, TERMINATE_ASKED = 2, EARLY_RETURN = 4, NEXT_EVENT_TIME = 4 };
+
+/* Bits in the reference of Instantiate. */
+enum { EVENT_MODE_USED = 1, EARLY_RETURN_ALLOWED = 2 };
+
+#define FRAME_LENGTH 24
+#define LONGEST_TEXT (UINT64_C(1) << 24)
+#define MOST_COUNTS (UINT64_C(1) << 62)
+
+struct call {
+    int kind;
+    int type;
+    uint32_t reference;
+    uint64_t first;
+    uint64_t second;
+};
+
+/* The texts of Instantiate, each with a 0 behind it. They are kept, since there is one Instantiate. */
+static char *name, *token;
+
+struct reply {
+    fmi3Status status;
+    int flags;
+    uint32_t qualifier;
+    uint64_t first;
+    uint64_t second;
+};
+
+/* Which fields of a call its kind uses. All others are 0. */
+static const struct layout {
+    bool type, reference, first, second;
+} layouts[FREE_INSTANCE + 1] = {
+    [INSTANTIATE] = {false, true, true, true},
+    [ENTER_INITIALIZATION] = {false, false, true, true},
+    [DO_STEP] = {false, false, true, true},
+    [GET] = {true, true, false, false},
+    [SET] = {true, true, true, false},
+    [GET_CLOCK] = {false, true, false, false},
+    [SET_CLOCK] = {false, true, false, false},
+    [GET_INTERVAL] = {false, true, false, false},
+    [GET_SHIFT] = {false, true, false, false},
+};
+
+static uint64_t read_number(const unsigned char *bytes, int length)
+{
+    uint64_t number = 0;
+    for (int i = 0; i < length; i++)
+        number = number << 8 | bytes[i];
+    return number;
+}
+
+static void write_number(unsigned char *bytes, int length, uint64_t number)
+{
+    for (int i = length - 1; i >= 0; i--) {
+        bytes[i] = (unsigned char)(number & 0xff);
+        number >>= 8;
+    }
+}
+
+/* Each type with the C type that has its values. */
+#define EACH_TYPE(use) \
+    use(INT8, Int8) use(UINT8, UInt8) use(INT16, Int16) use(UINT16, UInt16) use(INT32, Int32) use(UINT32, UInt32) \
+    use(INT64, Int64) use(UINT64, UInt64) use(BOOLEAN, Boolean) use(ENUMERATION, Int64)
+
+/* Whether these 64 bits are the two's complement of a value of the type: such a word stays what it is in C's type. */
+static bool is_word_of(int type, uint64_t word)
+{
+    switch (type) {
+#define IS_WORD(number, name) case number: return (uint64_t)(fmi3##name)word == word;
+    EACH_TYPE(IS_WORD)
+    default: return false;
+    }
+}
+
+/* A text of Instantiate, with a 0 behind it; NULL where the input ends before, or there is no memory. */
+static char *read_text(FILE *calls, uint64_t length)
+{
+    char *text = malloc((size_t)length + 1);
+    if (text == NULL || fread(text, 1, (size_t)length, calls) < length) {
+        free(text);
+        return NULL;
+    }
+    text[length] = '\0';
+    return text;
+}
+
+enum input { A_CALL, THE_END, NO_FRAME };
+
+static enum input read_call(FILE *calls, struct call *call)
+{
+    unsigned char bytes[FRAME_LENGTH];
+    size_t length = fread(bytes, 1, FRAME_LENGTH, calls);
+    if (length < FRAME_LENGTH)
+        return length == 0 ? THE_END : NO_FRAME;
+    call->kind = bytes[0];
+    call->type = bytes[1];
+    call->reference = (uint32_t)read_number(bytes + 4, 4);
+    call->first = read_number(bytes + 8, 8);
+    call->second = read_number(bytes + 16, 8);
+
+    if (call->kind < INSTANTIATE || call->kind > FREE_INSTANCE)
+        return NO_FRAME;
+    const struct layout *layout = &layouts[call->kind];
+    if ((!layout->type && call->type != 0) || bytes[2] != 0 || bytes[3] != 0)
+        return NO_FRAME;
+    if ((!layout->reference && call->reference != 0) || (!layout->first && call->first != 0) ||
+        (!layout->second && call->second != 0))
+        return NO_FRAME;
+    if (layout->type && (call->type < INT8 || call->type > ENUMERATION))
+        return NO_FRAME;
+    if (call->kind == SET && !is_word_of(call->type, call->first))
+        return NO_FRAME;
+
+    if (call->kind == INSTANTIATE) {
+        if (call->reference > 3 || call->first == 0 || call->first > LONGEST_TEXT || call->second > LONGEST_TEXT)
+            return NO_FRAME;
+        name = read_text(calls, call->first);
+        token = name != NULL ? read_text(calls, call->second) : NULL;
+        if (token == NULL)
+            return NO_FRAME;
+    }
+    return A_CALL;
+}
+
+static bool is_good(fmi3Status status)
+{
+    return status == fmi3OK || status == fmi3Warning;
+}
+
+/* From the status fmi3Discard on all behind it is 0. */
+static bool write_reply(FILE *replies, int kind, const struct reply *reply)
+{
+    unsigned char bytes[FRAME_LENGTH] = {0};
+    bytes[0] = (unsigned char)kind;
+    bytes[1] = (unsigned char)reply->status;
+    if (is_good(reply->status)) {
+        bytes[2] = (unsigned char)reply->flags;
+        write_number(bytes + 4, 4, reply->qualifier);
+        write_number(bytes + 8, 8, reply->first);
+        write_number(bytes + 16, 8, reply->second);
+    }
+    return fwrite(bytes, 1, FRAME_LENGTH, replies) == FRAME_LENGTH && fflush(replies) == 0;
+}
+
+/* ---- The FMU */
+
+static const char *directory;
+static uint64_t resolution;
+static fmi3Instance instance;
+static fmi3FMUState saved_state;
+
+/* A message on standard error, and the status Error. */
+static fmi3Status complain(const char *what, const char *about)
+{
+    fprintf(stderr, "fmi3_host: %s: %s%s\n", directory, what, about);
+    return fmi3Error;
+}
+
+#define EACH_FUNCTION(use) \
+    use(InstantiateCoSimulation) use(FreeInstance) \
+    use(EnterInitializationMode) use(ExitInitializationMode) use(EnterEventMode) use(EnterStepMode) use(Terminate) \
+    use(DoStep) use(UpdateDiscreteStates) \
+    use(GetInt8) use(GetUInt8) use(GetInt16) use(GetUInt16) use(GetInt32) use(GetUInt32) use(GetInt64) use(GetUInt64) \
+    use(GetBoolean) \
+    use(SetInt8) use(SetUInt8) use(SetInt16) use(SetUInt16) use(SetInt32) use(SetUInt32) use(SetInt64) use(SetUInt64) \
+    use(SetBoolean) \
+    use(GetClock) use(SetClock) \
+    use(GetIntervalDecimal) use(GetIntervalFraction) use(GetShiftDecimal) use(GetShiftFraction) \
+    use(GetFMUState) use(SetFMUState) use(FreeFMUState)
+
+/* The functions that the library has; NULL for each other one. */
+static struct {
+#define A_MEMBER(name) fmi3##name##TYPE *name;
+    EACH_FUNCTION(A_MEMBER)
+} fmu;
+
+/* Ends the answer of a call whose function the library doesn't have. */
+#define NEEDS(name) \
+    if (fmu.name == NULL) \
+        return complain("the library doesn't have the function ", "fmi3" #name)
+
+/* Two texts, the one behind the other, in memory of their own; NULL where there is no first text, or no memory. */
+static char *joined(const char *first, const char *second)
+{
+    size_t room = first != NULL ? strlen(first) + strlen(second) + 1 : 0;
+    char *text = room > 0 ? malloc(room) : NULL;
+    if (text != NULL)
+        snprintf(text, room, "%s%s", first, second);
+    return text;
+}
+
+/* The path of the one library (2.5: binaries of a platform), or NULL. */
+static char *find_library(void)
+{
+    static const char platform[] = "/binaries/x86_64-linux/";
+    char *path = NULL;
+    int found = 0;
+    char *folder = joined(directory, platform);
+    DIR *entries = folder != NULL ? opendir(folder) : NULL;
+    for (struct dirent *entry; entries != NULL && (entry = readdir(entries)) != NULL;) {
+        size_t length = strlen(entry->d_name);
+        if (length <= 3 || strcmp(entry->d_name + length - 3, ".so") != 0)
+            continue;
+        found++;
+        free(path);
+        path = joined(folder, entry->d_name);
+    }
+    if (entries != NULL)
+        closedir(entries);
+    free(folder);
+    if (found == 1)
+        return path;
+    complain(found == 0 ? "no library in " : "more than one library in ", platform + 1);
+    free(path);
+    return NULL;
+}
+
+static bool load_library(void)
+{
+    char *path = find_library();
+    if (path == NULL)
+        return false;
+    void *library = dlopen(path, RTLD_NOW | RTLD_LOCAL);
+    free(path);
+    if (library == NULL) {
+        complain("can't load the library: ", dlerror());
+        return false;
+    }
+    /* So POSIX writes what ISO C leaves open, the address of a function that dlsym gives. */
+#define FIND(name) *(void **)(&fmu.name) = dlsym(library, "fmi3" #name);
+    EACH_FUNCTION(FIND)
+    return true;
+}
+
+/* ---- Times: a point is a whole number of counts, and stands for that many R-th parts of a second */
+
+static fmi3Float64 seconds(uint64_t counts)
+{
+    return (fmi3Float64)counts / (fmi3Float64)resolution;
+}
+
+/*
+ * The count nearest to a time; false, and 0, where it is further off than a thousandth of a count. A double has 53
+ * bits, so past some 2^43 counts only times that it can hold exactly are taken.
+ */
+static bool nearest_count(fmi3Float64 time, uint64_t *count)
+{
+    long double exact = (long double)time * (long double)resolution;
+    uint64_t nearest = exact > -0.001L && exact < (long double)INT64_MAX ? (uint64_t)(exact + 0.5L) : 0;
+    long double off = exact - (long double)nearest;
+    bool is_near = off <= 0.001L && off >= -0.001L;
+    *count = is_near ? nearest : 0;
+    return is_near;
+}
+
+/* ---- One function for each group of calls */
+
+static void log_message(fmi3InstanceEnvironment who, fmi3Status status, fmi3String category, fmi3String message)
+{
+    static const char *const words[] = {"OK", "Warning", "Discard", "Error", "Fatal"};
+    const char *word = status >= fmi3OK && status <= fmi3Fatal ? words[status] : "?";
+    fprintf(stderr, "fmi3_host: %s: %s: %s: %s\n", (const char *)who, word, category, message);
+}
+
+/* fmi3InstantiateCoSimulation (2.3): without a window, logging of its inside, and intermediate update. */
+static fmi3Status instantiate(const struct call *call)
+{
+    if (instance != NULL)
+        return complain("there is an instance already", "");
+    if (strlen(name) != call->first || strlen(token) != call->second)
+        return complain("a name or token with a 0 in it can't be handed on", "");
+    if (!load_library())
+        return fmi3Error;
+    NEEDS(InstantiateCoSimulation);
+    char *root = realpath(directory, NULL);
+    char *resources = joined(root, "/resources/");
+    if (resources == NULL)
+        return complain("can't name its resources", "");
+    instance = fmu.InstantiateCoSimulation(
+        name, token, resources, fmi3False, fmi3False, (call->reference & EVENT_MODE_USED) != 0,
+        (call->reference & EARLY_RETURN_ALLOWED) != 0, NULL, 0, name, log_message, NULL);
+    free(root);
+    free(resources);
+    return instance != NULL ? fmi3OK : complain("the FMU gave no instance", "");
+}
+
+/* fmi3EnterInitializationMode (2.3), without a tolerance. */
+static fmi3Status enter_initialization(uint64_t start, uint64_t stop)
+{
+    NEEDS(EnterInitializationMode);
+    return fmu.EnterInitializationMode(instance, fmi3False, 0.0, seconds(start), fmi3True, seconds(stop));
+}
+
+/* fmi3DoStep (4.2.1.2). A state that is set goes back to the current point, and never before it. */
+static fmi3Status do_step(uint64_t point, uint64_t size, struct reply *reply)
+{
+    fmi3Boolean event_needed = fmi3False, terminate = fmi3False, early = fmi3False;
+    fmi3Float64 end = seconds(point);
+    NEEDS(DoStep);
+    fmi3Status status =
+        fmu.DoStep(instance, seconds(point), seconds(size), fmi3True, &event_needed, &terminate, &early, &end);
+    if (is_good(status) && !nearest_count(end, &reply->first))
+        return complain("the end of a step is no count", "");
+    reply->flags = (event_needed ? EVENT_NEEDED : 0) | (terminate ? TERMINATE_ASKED : 0) | (early ? EARLY_RETURN : 0);
+    return status;
+}
+
+/* fmi3UpdateDiscreteStates (2.3). The two flags on continuous states aren't handed on. */
+static fmi3Status update(struct reply *reply)
+{
+    fmi3Boolean again = fmi3False, terminate = fmi3False, nominals = fmi3False, values = fmi3False;
+    fmi3Boolean has_time = fmi3False;
+    fmi3Float64 time = 0.0;
+    NEEDS(UpdateDiscreteStates);
+    fmi3Status status = fmu.UpdateDiscreteStates(instance, &again, &terminate, &nominals, &values, &has_time, &time);
+    has_time = has_time && !(time >= seconds(MOST_COUNTS)); /* no run comes to such a time */
+    if (is_good(status) && has_time && !nearest_count(time, &reply->first))
+        return complain("the next event time is no count", "");
+    reply->flags = (again ? NEEDS_UPDATE : 0) | (terminate ? TERMINATE_ASKED : 0) | (has_time ? NEXT_EVENT_TIME : 0);
+    return status;
+}
+
+/* fmi3GetInt8 and its kin (2.2); an Enumeration is an Int64. A conversion to uint64_t extends a value by its sign. */
+static fmi3Status get(int type, fmi3ValueReference reference, struct reply *reply)
+{
+    fmi3Status status = fmi3Error;
+    switch (type) {
+#define GET_OF(number, name) \
+    case number: { \
+        fmi3##name value = 0; \
+        NEEDS(Get##name); \
+        status = fmu.Get##name(instance, &reference, 1, &value, 1); \
+        reply->first = (uint64_t)value; \
+    } break;
+    EACH_TYPE(GET_OF)
+    }
+    return status;
+}
+
+/* fmi3SetInt8 and its kin (2.2). */
+static fmi3Status set(int type, fmi3ValueReference reference, uint64_t word)
+{
+    switch (type) {
+#define SET_OF(number, name) \
+    case number: { \
+        const fmi3##name value = (fmi3##name)word; \
+        NEEDS(Set##name); \
+        return fmu.Set##name(instance, &reference, 1, &value, 1); \
+    }
+    EACH_TYPE(SET_OF)
+    default: return fmi3Error;
+    }
+}
+
+/* fmi3GetClock and fmi3SetClock (2.2.9). */
+static fmi3Status get_clock(fmi3ValueReference reference, struct reply *reply)
+{
+    fmi3Clock is_active = fmi3ClockInactive;
+    NEEDS(GetClock);
+    fmi3Status status = fmu.GetClock(instance, &reference, 1, &is_active);
+    reply->first = is_active ? 1 : 0;
+    return status;
+}
+
+static fmi3Status set_clock(fmi3ValueReference reference)
+{
+    const fmi3Clock is_active = fmi3ClockActive;
+    NEEDS(SetClock);
+    return fmu.SetClock(instance, &reference, 1, &is_active);
+}
+
+/*
+ * Intervals and shifts of Clocks (2.2.9). First the FMU is asked for a fraction. FMI allows that for a Clock with
+ * supportsFraction alone, but a frame doesn't tell which Clocks have it: so where the library hasn't this function, or
+ * answers Discard or Error, the decimal is asked for, and its count stands over R.
+ */
+static fmi3Status get_interval(fmi3ValueReference reference, struct reply *reply)
+{
+    fmi3Float64 interval = 0.0;
+    fmi3IntervalQualifier qualifier = fmi3IntervalNotYetKnown;
+    fmi3Status status = fmi3Discard;
+    if (fmu.GetIntervalFraction != NULL)
+        status = fmu.GetIntervalFraction(instance, &reference, 1, &reply->first, &reply->second, &qualifier);
+    if (status == fmi3Discard || status == fmi3Error) {
+        NEEDS(GetIntervalDecimal);
+        status = fmu.GetIntervalDecimal(instance, &reference, 1, &interval, &qualifier);
+        bool is_count = nearest_count(interval, &reply->first);
+        if (is_good(status) && qualifier == fmi3IntervalChanged && !is_count)
+            return complain("the interval of a Clock is no count", "");
+        reply->second = resolution;
+    }
+    if (is_good(status) && (qualifier < fmi3IntervalNotYetKnown || qualifier > fmi3IntervalChanged))
+        return complain("the interval of a Clock has an unknown qualifier", "");
+    if (qualifier == fmi3IntervalNotYetKnown)
+        reply->first = reply->second = 0;
+    reply->qualifier = (uint32_t)qualifier;
+    return status;
+}
+
+static fmi3Status get_shift(fmi3ValueReference reference, struct reply *reply)
+{
+    fmi3Float64 shift = 0.0;
+    fmi3Status status = fmi3Discard;
+    if (fmu.GetShiftFraction != NULL)
+        status = fmu.GetShiftFraction(instance, &reference, 1, &reply->first, &reply->second);
+    if (status == fmi3Discard || status == fmi3Error) {
+        NEEDS(GetShiftDecimal);
+        status = fmu.GetShiftDecimal(instance, &reference, 1, &shift);
+        if (is_good(status) && !nearest_count(shift, &reply->first))
+            return complain("the shift of a Clock is no count", "");
+        reply->second = resolution;
+    }
+    return status;
+}
+
+/* fmi3GetFMUState, fmi3SetFMUState and fmi3FreeFMUState (2.2.6): one state at a time. */
+static fmi3Status save(void)
+{
+    NEEDS(GetFMUState);
+    return saved_state == NULL ? fmu.GetFMUState(instance, &saved_state) : complain("a state is saved already", "");
+}
+
+static fmi3Status restore(void)
+{
+    NEEDS(SetFMUState);
+    return saved_state != NULL ? fmu.SetFMUState(instance, saved_state) : complain("no state is saved", "");
+}
+
+static fmi3Status free_saved(void)
+{
+    NEEDS(FreeFMUState);
+    if (saved_state == NULL)
+        return complain("no state is saved", "");
+    fmi3Status status = fmu.FreeFMUState(instance, &saved_state);
+    if (is_good(status))
+        saved_state = NULL;
+    return status;
+}
+
+/* fmi3FreeInstance (2.3) has no status. */
+static fmi3Status free_instance(void)
+{
+    NEEDS(FreeInstance);
+    fmu.FreeInstance(instance);
+    instance = NULL;
+    return fmi3OK;
+}
+
+/* A change of state that has no arguments (2.3 and 4.2.1). */
+#define CHANGE(name) { NEEDS(name); return fmu.name(instance); }
+
+static fmi3Status answer(const struct call *call, struct reply *reply)
+{
+    if (call->kind == INSTANTIATE)
+        return instantiate(call);
+    if (instance == NULL)
+        return complain("there is no instance", "");
+    switch (call->kind) {
+    case ENTER_INITIALIZATION: return enter_initialization(call->first, call->second);
+    case EXIT_INITIALIZATION: CHANGE(ExitInitializationMode)
+    case ENTER_EVENT: CHANGE(EnterEventMode)
+    case ENTER_STEP: CHANGE(EnterStepMode)
+    case DO_STEP: return do_step(call->first, call->second, reply);
+    case UPDATE: return update(reply);
+    case GET: return get(call->type, call->reference, reply);
+    case SET: return set(call->type, call->reference, call->first);
+    case GET_CLOCK: return get_clock(call->reference, reply);
+    case SET_CLOCK: return set_clock(call->reference);
+    case GET_INTERVAL: return get_interval(call->reference, reply);
+    case GET_SHIFT: return get_shift(call->reference, reply);
+    case SAVE: return save();
+    case RESTORE: return restore();
+    case FREE: return free_saved();
+    case TERMINATE: CHANGE(Terminate)
+    default: return free_instance();
+    }
+}
+
+/* ---- The program */
+
+/* A number of counts from 1 to 2^62, in digits. */
+static bool read_resolution(const char *word)
+{
+    if (*word == '\0' || strspn(word, "0123456789") != strlen(word) || strlen(word) > 19)
+        return false;
+    resolution = strtoull(word, NULL, 10);
+    return resolution >= 1 && resolution <= MOST_COUNTS;
+}
+
+/*
+ * Frames go over copies of standard input and output, which the FMU's own children don't get. In their places stand an
+ * empty input and standard error: so what the FMU prints can't stand among the replies.
+ */
+static bool take_streams(FILE **calls, FILE **replies)
+{
+    int in = fcntl(STDIN_FILENO, F_DUPFD_CLOEXEC, 3);
+    int out = fcntl(STDOUT_FILENO, F_DUPFD_CLOEXEC, 3);
+    int empty = open("/dev/null", O_RDWR | O_CLOEXEC);
+    if (in < 0 || out < 0 || empty < 0 || dup2(empty, STDIN_FILENO) < 0)
+        return false;
+    if (dup2(STDERR_FILENO, STDOUT_FILENO) < 0 && dup2(empty, STDOUT_FILENO) < 0)
+        return false;
+    *calls = fdopen(in, "rb");
+    *replies = fdopen(out, "wb");
+    return *calls != NULL && *replies != NULL;
+}
+
+int main(int count, char **words)
+{
+    if (count != 3 || *words[1] == '\0' || !read_resolution(words[2])) {
+        fprintf(stderr, "usage: fmi3_host DIR R\n");
+        return 2;
+    }
+    directory = words[1];
+    FILE *calls, *replies;
+    if (!take_streams(&calls, &replies)) {
+        complain("can't set up its streams", "");
+        return 1;
+    }
+    for (struct call call;;) {
+        switch (read_call(calls, &call)) {
+        case THE_END: return 0;
+        case NO_FRAME: complain("the input is no frame", ""); return 1;
+        case A_CALL: break;
+        }
+        struct reply reply = {fmi3OK, 0, 0, 0, 0};
+        fmi3Status status = answer(&call, &reply);
+        bool is_known = status >= fmi3OK && status <= fmi3Fatal;
+        reply.status = is_known ? status : complain("a status that FMI doesn't have", "");
+        if (!write_reply(replies, call.kind, &reply))
+            return 1;
+        if (call.kind == FREE_INSTANCE)
+            return 0;
+    }
+}
