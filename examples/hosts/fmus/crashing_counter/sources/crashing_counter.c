@@ -1,7 +1,8 @@
 /*
  * The counter without saved states, which crashes in its second step: so an FMU ends its host, and the run is told it.
  *
- *     cc -std=c99 -fPIC -shared -I ../../../../../hosts -o ../binaries/x86_64-linux/crashing_counter.so crashing_counter.c
+ *     cc -std=c99 -fPIC -shared -I ../../../../../hosts \
+ *         -o ../binaries/x86_64-linux/crashing_counter.so crashing_counter.c
  */
 #include "fmi3_functions.h"
 
