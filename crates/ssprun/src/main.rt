@@ -8,7 +8,6 @@ mod binding_tests;
 mod event_script_tests;
 #[cfg(test)]
 mod event_tests;
-mod files;
 mod frame;
 #[cfg(test)]
 mod long_tests;
@@ -22,7 +21,6 @@ mod report;
 #[cfg(test)]
 mod rule_tests;
 mod run;
-mod streams;
 #[cfg(test)]
 mod system_tests;
 #[cfg(test)]
@@ -30,10 +28,9 @@ mod tests;
 
 use args::run_args;
 use bench_fmus::Bench;
-use files::{HostFiles, OpenedFolder};
+use host_edge::{HostFiles, OpenedFolder, StreamSink, WriterStream};
 use std::env;
 use std::process::ExitCode;
-use streams::{StreamSink, WriterStream};
 
 fn main(rt: HostRuntime) -> ExitCode {
     let mut folder = OpenedFolder::new(rt.alloc(), HostFiles::new(&rt));

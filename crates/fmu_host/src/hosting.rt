@@ -1,0 +1,165 @@
+//! The machine that a description names is served.
+use crate::quiet::QuietMachine;
+use crate::words::{HostLine, read_words};
+use bench_fmus::{Model, Origin};
+use host_serving::{ServeEnd, serve};
+use sim_base::{Folder, MOST_FILE_BYTES, ReadFault, Sink, Source};
+use std::alloc::{AllocError, Global};
+use std::env::Args;
+use std::io::{self, ErrorKind};
+use system_loading::{Fault, read_shape};
+use value_types::Shape;
+
+/// What a call of the program came to.
+#[derive(Clone, Copy, Debug, PartialEq, Eq)]
+pub(crate) enum HostEnd {
+    /// The words are no directory and resolution.
+    NoWords,
+    /// The read of the description failed.
+    Unread,
+    /// There is no description.
+    Missing,
+    /// The description is longer than 16 MiB.
+    TooBig,
+    /// The description breaks a rule.
+    Broken,
+    /// It names no built-in machine.
+    Unknown,
+    /// The machine was served.
+    Served(ServeEnd),
+    /// No memory is left.
+    Memory,
+}
+
+impl HostEnd {
+    /// The program's status.
+    pub fn status(self) -> u8 {
+        match self {
+            HostEnd::Served(ServeEnd::Freed | ServeEnd::Ended) => 0,
+            HostEnd::Served(ServeEnd::BadFrame { .. }) => 1,
+            HostEnd::NoWords => 2,
+            HostEnd::Unread | HostEnd::Missing | HostEnd::TooBig => 3,
+            HostEnd::Broken => 4,
+            HostEnd::Unknown => 5,
+            HostEnd::Served(ServeEnd::NotPermitted { .. }) => 6,
+            HostEnd::Served(ServeEnd::TooMany) => 9,
+            HostEnd::Served(ServeEnd::Failed) => 10,
+            HostEnd::Served(ServeEnd::Memory) | HostEnd::Memory => 11,
+        }
+    }
+}
+
+/// Does what the words say that the host gives, the program's name first, and answers the program's status. Words that
+/// it can't give, as one that isn't UTF-8, are no command line.
+pub(crate) fn host_args<F: Folder, I: Source, O: Sink>(
+    alloc: Global,
+    args: io::Result<Args>,
+    folder: &mut F,
+    input: &mut I,
+    output: &mut O,
+) -> u8 {
+    match args {
+        Ok(given) => match words_behind(alloc, given) {
+            Ok(words) => host_words(alloc, &words, folder, input, output),
+            Err(_) => HostEnd::Memory.status(),
+        },
+        Err(error) => ungiven(&error).status(),
+    }
+}
+
+// The words behind the program's name.
+fn words_behind(alloc: Global, given: Args) -> Result<Vec<String>, AllocError> {
+    given.skip(1).collect(alloc)
+}
+
+fn ungiven(error: &io::Error) -> HostEnd {
+    match error.kind() {
+        ErrorKind::OutOfMemory => HostEnd::Memory,
+        _ => HostEnd::NoWords,
+    }
+}
+
+/// Does what the words say, without the program's name: reads the description in a directory, and serves the built-in machine
+/// that it names, calls from the input and replies to the output. Answers the program's status.
+pub fn host_words<F: Folder, I: Source, O: Sink>(
+    alloc: Global,
+    words: &[String],
+    folder: &mut F,
+    input: &mut I,
+    output: &mut O,
+) -> u8 {
+    host(alloc, words, folder, input, output).status()
+}
+
+fn host<F: Folder, I: Source, O: Sink>(
+    alloc: Global,
+    words: &[String],
+    folder: &mut F,
+    input: &mut I,
+    output: &mut O,
+) -> HostEnd {
+    let Some(line) = read_words(words) else {
+        return HostEnd::NoWords;
+    };
+    match read_model(alloc, line, folder) {
+        Ok(shape) => host_model(alloc, &shape, input, output),
+        Err(end) => end,
+    }
+}
+
+// The shape of the FMU whose description stands in a directory.
+fn read_model<F: Folder>(
+    alloc: Global,
+    line: HostLine<'_>,
+    folder: &mut F,
+) -> Result<Shape, HostEnd> {
+    let Ok(path) = description_path(alloc, line.directory) else {
+        return Err(HostEnd::Memory);
+    };
+    match folder.read(alloc, path.as_str(), MOST_FILE_BYTES) {
+        Ok(bytes) => match read_shape(alloc, &bytes, line.resolution) {
+            Ok(shape) => Ok(shape),
+            Err(Fault::Broken { .. }) => Err(HostEnd::Broken),
+            Err(Fault::Memory) => Err(HostEnd::Memory),
+        },
+        Err(fault) => Err(unread(fault)),
+    }
+}
+
+fn unread(fault: ReadFault) -> HostEnd {
+    match fault {
+        ReadFault::Failed => HostEnd::Unread,
+        ReadFault::Missing => HostEnd::Missing,
+        ReadFault::TooBig { .. } => HostEnd::TooBig,
+        ReadFault::Memory => HostEnd::Memory,
+    }
+}
+
+// Where the description of an FMU stands in its directory (FMI 3.0, 2.5.1).
+fn description_path(alloc: Global, directory: &str) -> Result<String, AllocError> {
+    let mut path = String::from_str(alloc, directory)?;
+    path.push_str("/modelDescription.xml")?;
+    Ok(path)
+}
+
+// Serves the machine that a description of this shape names.
+fn host_model<I: Source, O: Sink>(
+    alloc: Global,
+    shape: &Shape,
+    input: &mut I,
+    output: &mut O,
+) -> HostEnd {
+    let Some(model) = Model::named(shape.identifier.as_str()) else {
+        return HostEnd::Unknown;
+    };
+    match make_machine(alloc, model, shape) {
+        Ok(mut machine) => HostEnd::Served(serve(alloc, input, output, &mut machine)),
+        Err(_) => HostEnd::Memory,
+    }
+}
+
+// A machine before its first call, which keeps no talk.
+fn make_machine(alloc: Global, model: Model, shape: &Shape) -> Result<QuietMachine, AllocError> {
+    let origin = Origin::from_texts(alloc, "", "", "")?;
+    QuietMachine::new(alloc, model, origin, shape)
+}

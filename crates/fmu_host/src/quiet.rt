@@ -1,0 +1,61 @@
+//! A built-in machine that never fails.
+ghost use Rattle.std.specs.Prelude.{◌≡◌, IsTrue, IfOk, is_none};
+ghost use Rattle.fmi_calls.specs.Permission.{Permitted};
+ghost use Rattle.fmu_peer.specs.View.{Asked};
+ghost use Rattle.bench_fmus.specs.BuiltInView.{built_in_view};
+
+use bench_fmus::{BuiltIn, Model, Origin};
+use fmi_calls::{Call, Phase, Reply};
+use fmu_peer::{Peer, PeerFault};
+use std::alloc::{AllocError, Global};
+use value_types::Shape;
+
+/// A built-in machine without a talk, so that no call of it fails.
+#[derive(Debug, Drop)]
+pub(crate) struct QuietMachine {
+    pub machine: BuiltIn,
+    ghost untalked: { IsTrue (is_none machine.book.talk) },
+    ghost calm: { machine.book.faults ≡ 0 },
+}
+
+impl QuietMachine {
+    /// A machine before its first call.
+    pub fn new(
+        alloc: Global,
+        model: Model,
+        origin: Origin,
+        shape: &Shape,
+    ) -> Result<QuietMachine, AllocError> {
+        let machine = BuiltIn::new(alloc, model, origin, shape, None)?;
+        Ok(QuietMachine { machine })
+    }
+}
+
+impl Peer for QuietMachine {
+    ghost use Rattle.bench_fmus.specs.Laws.{answers_alike, is_lawful, is_machine};
+
+    ghost view = { λ q. built_in_view q.machine };
+
+    ghost machine = { λ q. is_machine q.machine.model q.machine.book.shape };
+
+    ghost in_phase = { λ q. q.machine.in_phase };
+
+    ghost ignores_slot = { λ q. answers_alike q.machine.model q.machine.book.shape };
+
+    ghost lawful = { λ q. is_lawful q.machine.model q.machine.book.shape };
+
+    fn shape(&self) -> &Shape {
+        self.machine.shape()
+    }
+
+    fn phase(&self) -> &Phase {
+        self.machine.phase()
+    }
+
+    fn call(&mut self, call: &Call) -> Result<Reply, PeerFault>
+        requires { Permitted self.old.machine.book.shape self.old.machine.book.phase call.now }
+        ensures { Asked (built_in_view self.old.machine) call.now result (built_in_view self.new.machine) }
+    {
+        self.machine.call(call)
+    }
+}

@@ -1,0 +1,279 @@
+use crate::hosting::host_words;
+use sim_base::{Items, MemFile, MemFolder, MemSink, MemSource, Text};
+use std::alloc::{AllocError, Global};
+use std::process::Abort;
+use std::test::Fail;
+
+// The counter's description, and three that are changed.
+const COUNTER: &str =
+    r#"<fmiModelDescription fmiVersion="3.0" modelName="counter" instantiationToken="{c}"><CoSimulation modelIdentifier="counter" canGetAndSetFMUState="true" canHandleVariableCommunicationStepSize="true"/><ModelVariables><Int32 name="inc" valueReference="1" causality="parameter" variability="fixed" start="2"/><Int32 name="y" valueReference="2" causality="output" variability="discrete"/></ModelVariables><ModelStructure><Output valueReference="2" dependencies=""/></ModelStructure></fmiModelDescription>"#;
+
+// It names no built-in machine.
+const UNKNOWN: &str =
+    r#"<fmiModelDescription fmiVersion="3.0" modelName="pump" instantiationToken="{p}"><CoSimulation modelIdentifier="pump"/></fmiModelDescription>"#;
+
+// It has no CoSimulation.
+const BROKEN: &str =
+    r#"<fmiModelDescription fmiVersion="3.0" modelName="pump" instantiationToken="{p}"></fmiModelDescription>"#;
+
+// Frames of calls, in hexadecimal digits: the instance is `m`, its token `{c}`; from 0 to 20; the reference 2; a step from 0 by 10.
+const INSTANTIATE: &str = "0100000000000000000000000000000100000000000000036d7b637d";
+
+const ENTER: &str = "020000000000000000000000000000000000000000000014";
+
+const EXIT: &str = "030000000000000000000000000000000000000000000000";
+
+const GET: &str = "080500000000000200000000000000000000000000000000";
+
+const STEP: &str = "06000000000000000000000000000000000000000000000a";
+
+const TERMINATE: &str = "110000000000000000000000000000000000000000000000";
+
+const FREE: &str = "120000000000000000000000000000000000000000000000";
+
+const SAVE_WITH_REFERENCE: &str = "0e0000000000000100000000000000000000000000000000";
+
+// Frames of replies: the value is 0, the step ends at 10, and the value is 2.
+const INSTANTIATED: &str = "010000000000000000000000000000000000000000000000";
+
+const ENTERED: &str = "020000000000000000000000000000000000000000000000";
+
+const EXITED: &str = "030000000000000000000000000000000000000000000000";
+
+const GOT_0: &str = "080000000000000000000000000000000000000000000000";
+
+const STEPPED: &str = "0600000000000000000000000000000a0000000000000000";
+
+const GOT_2: &str = "080000000000000000000000000000020000000000000000";
+
+const TERMINATED: &str = "110000000000000000000000000000000000000000000000";
+
+const FREED: &str = "120000000000000000000000000000000000000000000000";
+
+// A command with what is to fail, by numbers from 0, the bytes of its input, and what it is to give. The description stands at
+// `d/counter/modelDescription.xml`.
+#[derive(Clone, Copy)]
+struct Case {
+    words: &'static str,
+    description: &'static str,
+    reads: &'static [u64],
+    takes: &'static [u64],
+    puts: &'static [u64],
+    input: &'static [&'static str],
+    status: u8,
+    output: &'static [&'static str],
+}
+
+const EMPTY: Case = Case {
+    words: "d/counter|1000",
+    description: COUNTER,
+    reads: &[],
+    takes: &[],
+    puts: &[],
+    input: &[],
+    status: 0,
+    output: &[],
+};
+
+static WORDS: [Case; 9] = [
+    EMPTY,
+    Case {
+        words: "d/none|1000",
+        status: 3,
+        ..EMPTY
+    },
+    Case {
+        reads: &[0],
+        status: 3,
+        ..EMPTY
+    },
+    Case {
+        words: "d/counter",
+        status: 2,
+        ..EMPTY
+    },
+    Case {
+        words: "|1000",
+        status: 2,
+        ..EMPTY
+    },
+    Case {
+        words: "d/counter|01000",
+        status: 2,
+        ..EMPTY
+    },
+    Case {
+        words: "d/counter|1000|x",
+        status: 2,
+        ..EMPTY
+    },
+    Case {
+        description: BROKEN,
+        status: 4,
+        ..EMPTY
+    },
+    Case {
+        description: UNKNOWN,
+        status: 5,
+        ..EMPTY
+    },
+];
+
+static RUNS: [Case; 10] = [
+    // A whole run of the counter. What follows FreeInstance isn't read.
+    Case {
+        input: &[
+            INSTANTIATE,
+            ENTER,
+            EXIT,
+            GET,
+            STEP,
+            GET,
+            TERMINATE,
+            FREE,
+            "00",
+        ],
+        output: &[
+            INSTANTIATED,
+            ENTERED,
+            EXITED,
+            GOT_0,
+            STEPPED,
+            GOT_2,
+            TERMINATED,
+            FREED,
+        ],
+        ..EMPTY
+    },
+    Case {
+        input: &[INSTANTIATE, ENTER],
+        output: &[INSTANTIATED, ENTERED],
+        ..EMPTY
+    },
+    Case {
+        input: &["00"],
+        status: 1,
+        ..EMPTY
+    },
+    // The input ends inside the token.
+    Case {
+        input: &["010000000000000000000000000000010000000000000003", "6d7b63"],
+        status: 1,
+        ..EMPTY
+    },
+    // A field that isn't used isn't 0.
+    Case {
+        input: &[INSTANTIATE, SAVE_WITH_REFERENCE],
+        status: 1,
+        output: &[INSTANTIATED],
+        ..EMPTY
+    },
+    // There is no instance to be freed.
+    Case {
+        input: &[FREE],
+        status: 6,
+        ..EMPTY
+    },
+    Case {
+        input: &[INSTANTIATE, STEP],
+        status: 6,
+        output: &[INSTANTIATED],
+        ..EMPTY
+    },
+    Case {
+        input: &[INSTANTIATE, ENTER],
+        puts: &[1],
+        status: 10,
+        output: &[INSTANTIATED],
+        ..EMPTY
+    },
+    Case {
+        input: &[INSTANTIATE, ENTER],
+        takes: &[2],
+        status: 10,
+        output: &[INSTANTIATED],
+        ..EMPTY
+    },
+    // The machine's second.
+    Case {
+        words: "d/counter|1",
+        input: &[INSTANTIATE, FREE],
+        output: &[INSTANTIATED, FREED],
+        ..EMPTY
+    },
+];
+
+fn split_words(alloc: Global, line: &str) -> Result<Vec<String>, AllocError> {
+    let mut words = Vec::new(alloc);
+    for word in line.split('|') {
+        words.push(String::from_str(alloc, word)?)?;
+    }
+    Ok(words)
+}
+
+fn digit(byte: u8) -> u8 {
+    match byte {
+        b'0'..=b'9' => byte - b'0',
+        b'a'..=b'f' => byte - b'a' + 10,
+        _ => 0,
+    }
+}
+
+// The bytes of texts in hexadecimal digits.
+fn bytes_of(alloc: Global, texts: &[&str]) -> Result<Vec<u8>, AllocError> {
+    let mut bytes = Vec::new(alloc);
+    for text in texts {
+        let mut high = None;
+        for byte in text.as_bytes() {
+            match high {
+                None => high = Some(digit(*byte)),
+                Some(first) => {
+                    bytes.push((u16::from(first) * 16 + u16::from(digit(*byte))).to_be_bytes()[1])?;
+                    high = None;
+                }
+            }
+        }
+    }
+    Ok(bytes)
+}
+
+fn make_folder(alloc: Global, case: &Case) -> Result<MemFolder, AllocError> {
+    let file = MemFile {
+        path: Text::from_str(alloc, "d/counter/modelDescription.xml")?,
+        bytes: Items::from_vec(case.description.as_bytes().to_vec(alloc)?),
+    };
+    Ok(MemFolder::new(alloc, vec![in alloc; file]?, case.reads.to_vec(alloc)?))
+}
+
+fn assert_case(rt: &impl Abort, alloc: Global, case: &Case) -> Result<(), Fail> {
+    let words = split_words(alloc, case.words)?;
+    let mut folder = make_folder(alloc, case)?;
+    let mut input = MemSource::new(bytes_of(alloc, case.input)?, case.takes.to_vec(alloc)?);
+    let mut output = MemSink::with_room(alloc, 1024, 64, case.puts.to_vec(alloc)?)?;
+    let status = host_words(alloc, &words, &mut folder, &mut input, &mut output);
+    assert_eq!(rt; status, case.status, "{} {}", case.words, case.description);
+    let wanted = bytes_of(alloc, case.output)?;
+    assert_eq!(rt;
+        output.bytes.as_slice(),
+        wanted.as_slice(),
+        "{}",
+        case.words
+    );
+    Ok(())
+}
+
+#[test]
+fn words_and_descriptions_have_their_status(rt: HostRuntime) -> Result<(), Fail> {
+    for case in &WORDS {
+        assert_case(&rt, rt.alloc(), case)?;
+    }
+    Ok(())
+}
+
+#[test]
+fn calls_get_their_replies(rt: HostRuntime) -> Result<(), Fail> {
+    for case in &RUNS {
+        assert_case(&rt, rt.alloc(), case)?;
+    }
+    Ok(())
+}

@@ -1,0 +1,54 @@
+//! The words of the command line: a directory, and how many counts a second has.
+ghost use Rattle.std.specs.Prelude.{◌≡◌, ℕ, ◌^◌, ◌<◌, ◌≤◌, Some, IfSome, decimal};
+
+use itoa::Buffer;
+use sim_base::MOST_COUNTS;
+
+/// What the program is asked for: the directory of an FMU, and how many counts a second has.
+#[derive(Clone, Copy, Debug)]
+pub(crate) struct HostLine<'a> {
+    pub directory: &'a str,
+    pub resolution: u64,
+}
+
+/// What the words ask for, where they are a directory and a resolution.
+pub(crate) fn read_words(words: &[String]) -> Option<HostLine<'_>> {
+    let [directory, resolution] = words else {
+        return None;
+    };
+    let resolution = read_resolution(resolution.as_str())?;
+    if directory.is_empty() {
+        None
+    } else {
+        Some(HostLine {
+            directory: directory.as_str(),
+            resolution,
+        })
+    }
+}
+
+// A count of a second, from 1 to the most that there may be, in digits without a sign or a leading zero.
+fn read_resolution(word: &str) -> Option<u64>
+    ensures ok { IfSome result (λ n. (word.now ≡ decimal n) × (1 ≤ n) × (n ≤ 2 ^ 62)) }
+    ensures only { (n : ℕ) → word.now ≡ decimal n → 1 ≤ n → n ≤ 2 ^ 62 → result ≡ Some n }
+{
+    let count = read_number(word)?;
+    if 1 <= count && count <= MOST_COUNTS {
+        Some(count)
+    } else {
+        None
+    }
+}
+
+// A number without a sign or a leading zero: the digits that it is printed as.
+fn read_number(word: &str) -> Option<u64>
+    ensures ok { IfSome result (λ n. word.now ≡ decimal n) }
+    ensures only { (n : ℕ) → word.now ≡ decimal n → n < 2 ^ 64 → result ≡ Some n }
+{
+    let number = word.parse::<u64>().ok()?;
+    if Buffer::new().format(number) == word {
+        Some(number)
+    } else {
+        None
+    }
+}

@@ -1,0 +1,7 @@
+//! One FMU behind a link: the frames of calls come in, and those of its replies go out.
+#![tactic(auto)]
+
+mod reading;
+mod serving;
+
+pub use serving::{ServeEnd, serve};

@@ -1,0 +1,113 @@
+//! The next frame of a source of bytes.
+ghost use Rattle.std.specs.Prelude.{◌≡◌, ℕ, ◌+◌, ◌<◌, ◌≤◌, ◌++◌, List, take, length, IfOk, OnOk, OnErr};
+ghost use Rattle.std.specs.Io.KnownBytes.{Consumes, IsAtEnd};
+ghost use Rattle.sim_base.specs.Causes.{Rose};
+ghost use Rattle.sim_base.specs.Source.{SourceView};
+ghost use Rattle.link_frames.specs.Call.{IsCallFrame};
+ghost use Rattle.link_frames.specs.Taking.{IsFront};
+ghost use Rattle.link_frames.specs.declared.call.CallFrame.{CallFrame};
+ghost use Rattle.host_serving.specs.Frames.{ComesTo, Takes};
+
+use fmi_calls::Call;
+use link_frames::{Taken, take_call};
+use sim_base::{Source, SourceFault};
+use std::alloc::{AllocError, Global};
+
+// The bytes that each frame begins with.
+const HEAD: usize = 24;
+
+/// What stands next in a source of call frames.
+#[derive(Debug, Drop)]
+pub(crate) enum NextCall {
+    /// A whole frame of a call.
+    Came(Call),
+    /// The bytes end between two frames.
+    AtEnd,
+    /// No frame: the byte at this place is the first that continues none, or the bytes end there, inside a frame.
+    Bad { at: u64 },
+    /// A take failed.
+    Failed,
+    /// No memory is left for the texts of a frame.
+    Memory,
+}
+
+/// Takes the next frame of a call from a source, and no byte behind it.
+pub(crate) fn next_call<I: Source>(alloc: Global, input: &mut I) -> NextCall
+    ensures { ComesTo (I.view input.old) (I.view input.new) result }
+{
+    let mut head = [0; HEAD];
+    let Ok(count) = fill(input, &mut head) else {
+        return NextCall::Failed;
+    };
+    if count == 0 {
+        return NextCall::AtEnd;
+    }
+    match take_call(&head[..count]) {
+        Taken::Got { value, .. } => NextCall::Came(value.call),
+        Taken::Bad { at } => NextCall::Bad { at: at as u64 },
+        Taken::NeedMore => {
+            if count < HEAD {
+                NextCall::Bad { at: count as u64 }
+            } else {
+                next_with_texts(alloc, &head, input)
+            }
+        }
+    }
+}
+
+// Takes the texts of a frame whose beginning was taken.
+fn next_with_texts<I: Source>(alloc: Global, head: &[u8; HEAD], input: &mut I) -> NextCall
+    requires { IsFront IsCallFrame head.now }
+    ensures { (before : SourceView) → Takes before (I.view input.old) head.now → ComesTo before (I.view input.new) result }
+{
+    let Ok(mut frame) = with_room(alloc, head) else {
+        return NextCall::Memory;
+    };
+    let Ok(count) = fill(input, &mut frame[HEAD..]) else {
+        return NextCall::Failed;
+    };
+    let length = HEAD + count;
+    match take_call(&frame[..length]) {
+        Taken::Got { value, .. } => NextCall::Came(value.call),
+        Taken::Bad { at } => NextCall::Bad { at: at as u64 },
+        Taken::NeedMore => NextCall::Bad { at: length as u64 },
+    }
+}
+
+// The beginning of a frame, with room for its texts.
+fn with_room(alloc: Global, head: &[u8; HEAD]) -> Result<Vec<u8>, AllocError>
+    ensures front { IfOk result (λ frame. take 24 frame.items ≡ head.now) }
+    ensures room { IfOk result (λ frame. (value : CallFrame) (more : List ℕ) → 0 < length more → IsCallFrame value (head.now ++ more) → length frame.items ≡ 24 + length more) }
+{
+    let mut frame = Vec::from_slice(alloc, head)?;
+    frame.resize(HEAD.saturating_add(texts_len(head)), 0)?;
+    Ok(frame)
+}
+
+// The length of the texts that follow the beginning of a frame, if any do.
+fn texts_len(head: &[u8; HEAD]) -> usize
+    ensures { (value : CallFrame) (more : List ℕ) → 0 < length more → IsCallFrame value (head.now ++ more) → result ≡ length more }
+{
+    let [.., a, b, c, d, e, f, g, h, s, t, u, v, w, x, y, z] = *head;
+    let name = u64::from_be_bytes([a, b, c, d, e, f, g, h]);
+    let token = u64::from_be_bytes([s, t, u, v, w, x, y, z]);
+    name.saturating_add(token) as usize
+}
+
+// Takes bytes from the source until the room is full or the source ends, and answers how many.
+fn fill<I: Source>(input: &mut I, into: &mut [u8]) -> Result<usize, SourceFault>
+    ensures bound { IfOk result (λ n. n ≤ length into.new) }
+    ensures takes { IfOk result (λ n. Takes (I.view input.old) (I.view input.new) (take n into.new)) }
+    ensures end { IfOk result (λ n. n < length into.new → IsAtEnd (I.view input.new).left) }
+    ensures rose { OnErr result (Rose (I.view input.old).faults (I.view input.new).faults) }
+{
+    let mut count = 0;
+    while count < into.len() {
+        let taken = input.take(&mut into[count..])?;
+        if taken == 0 {
+            return Ok(count);
+        }
+        count += taken;
+    }
+    Ok(count)
+}
