@@ -4,6 +4,8 @@
 mod instance;
 mod mem_wire;
 mod piped;
+#[cfg(test)]
+mod tests;
 mod wire;
 
 pub use instance::Instance;

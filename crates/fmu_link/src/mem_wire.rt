@@ -45,8 +45,6 @@ impl MemWire {
             faults: 0,
         })
     }
-
-
 }
 
 impl Wire for MemWire {

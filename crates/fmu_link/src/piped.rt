@@ -1,6 +1,8 @@
-ghost use Rattle.std.specs.Prelude.{◌≡◌, ◌≤◌, ◌^◌, length, IfOk, IfErr};
+ghost use Rattle.std.specs.Prelude.{◌≡◌, ◌≤◌, ◌^◌, length, IfOk, IfErr, MatchResult};
+ghost use Rattle.std.specs.Option.{option_copied};
+ghost use Rattle.std.specs.Result.{result_ok};
 ghost use Rattle.fmi_calls.specs.Permission.{Permitted};
-ghost use Rattle.fmu_link.specs.Exchange.{NotesCall, Says};
+ghost use Rattle.fmu_link.specs.Exchange.{Arrives, Breaks, NotesCall, Says};
 
 use crate::{Instance, Wire, WireFault};
 use fmi_calls::{Call, Phase, Reply, next_phase};
@@ -59,7 +61,7 @@ impl<W: Wire> Piped<W> {
     }
 }
 
-impl<W: Wire> Peer for Piped<W> {
+impl<W: Wire + Send> Peer for Piped<W> {
     ghost use Rattle.fmu_peer.specs.View.{Asked};
     ghost use Rattle.fmu_link.specs.Piped.{line_view, piped_view};
     ghost use Rattle.fmu_link.specs.Exchange.{Exchanged};
@@ -96,14 +98,17 @@ impl<W: Wire> Peer for Piped<W> {
         );
         let frame = &instance.frame.as_slice()[..length];
         let answer = answer_over(&mut self.wire, frame, &mut instance.bad_replies);
-        next_phase(
-            &instance.shape,
-            &mut instance.phase,
-            call,
-            answer.as_ref().ok(),
-        );
+        let reply = reply_of(&answer);
+        next_phase(&instance.shape, &mut instance.phase, call, reply);
         answer
     }
+}
+
+// The reply, where there is one.
+fn reply_of(answer: &Result<Reply, PeerFault>) -> Option<&Reply>
+    ensures { option_copied result ≡ result_ok answer.now }
+{
+    answer.as_ref().ok()
 }
 
 // Sends a frame, and takes the reply to it.
@@ -127,7 +132,11 @@ fn answer_over<W: Wire>(
 }
 
 // Sends a frame, and receives the 24 bytes that answer it.
-fn exchange<W: Wire>(wire: &mut W, frame: &[u8]) -> Result<[u8; 24], WireFault> {
+fn exchange<W: Wire>(wire: &mut W, frame: &[u8]) -> Result<[u8; 24], WireFault>
+    ensures { MatchResult result
+        (λ bytes. Arrives (W.view wire.old) frame.now bytes (W.view wire.new))
+        (λ fault. Breaks (W.view wire.old) frame.now fault (W.view wire.new)) }
+{
     wire.send(frame)?;
     let mut bytes = [0; 24];
     wire.receive(&mut bytes)?;

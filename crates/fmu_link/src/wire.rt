@@ -11,7 +11,7 @@ pub enum WireFault {
 }
 
 /// What bytes are sent on, and others received from, each in their order.
-pub trait Wire: Send {
+pub trait Wire {
     ghost use Rattle.fmu_link.specs.Wire.{WireView, NotesSend, NotesReceive};
 
     /// What it tells: the bytes that were sent and those that are still to come, if it tells them, and how often it has
