@@ -1,4 +1,4 @@
-ghost use Rattle.std.specs.Prelude.{◌≡◌, ◌↔◌, ◌⊎◌, ◌+◌, ◌-◌, ◌^◌, ◌<◌, ◌≤◌, min, [], IfOk, OnErr, IsErr, IsTrue, Contains, length, vec_len, vec_capacity, Err};
+ghost use Rattle.std.specs.Prelude.{◌≡◌, ◌↔◌, ◌⊎◌, ◌+◌, ◌-◌, ◌^◌, ◌<◌, ◌≤◌, min, [], IfOk, OnErr, IsErr, IsTrue, drop, ◌++◌, Contains, length, vec_len, vec_capacity, Err};
 ghost use Rattle.fmu_link.specs.Wire.{NotesSend, NotesReceive};
 
 use crate::{Wire, WireFault};
@@ -45,6 +45,14 @@ impl MemWire {
             faults: 0,
         })
     }
+
+    // Whether so many bytes more pass the room.
+    fn is_past_room(&self, count: usize) -> bool
+        ensures { IsTrue result ↔ (self.now.room < vec_len self.now.sent + count) }
+    {
+        let sent = self.sent.len();
+        sent > self.room || count > self.room - sent
+    }
 }
 
 impl Wire for MemWire {
@@ -62,10 +70,10 @@ impl Wire for MemWire {
             ⊎ (self.old.room < vec_len self.old.sent + length bytes.now)) }
         ensures err { OnErr result (self.new.sent.items ≡ self.old.sent.items) }
     {
-        let is_failing = self.failing.as_slice().contains(&self.calls);
+        let fails = is_listed(self.failing.as_slice(), self.calls)
+            || self.is_past_room(bytes.len());
         self.calls = self.calls.saturating_add(1);
-        let sent = self.sent.len();
-        if is_failing || sent > self.room || bytes.len() > self.room - sent {
+        if fails {
             self.faults = self.faults.saturating_add(1);
             return Err(WireFault::Failed);
         }
@@ -83,19 +91,38 @@ impl Wire for MemWire {
         ensures exact { (result ≡ Err Failed) ↔ Contains self.old.failing self.old.calls }
         ensures failed { result ≡ Err Failed → self.new.taken ≡ self.old.taken }
     {
-        let is_failing = self.failing.as_slice().contains(&self.calls);
+        let fails = is_listed(self.failing.as_slice(), self.calls);
         self.calls = self.calls.saturating_add(1);
-        if is_failing {
+        if fails {
             self.faults = self.faults.saturating_add(1);
             return Err(WireFault::Failed);
         }
-        let rest = self.coming.as_slice().get(self.taken..).unwrap_or(&[]);
-        if rest.len() < into.len() {
-            self.taken += rest.len();
+        if !fill(into, self.coming.as_slice(), self.taken) {
+            self.taken = self.coming.len();
             return Err(WireFault::Ended);
         }
-        into.copy_from_slice(&rest[..into.len()]);
         self.taken += into.len();
         Ok(())
     }
+}
+
+// Whether a call's number is on a list.
+fn is_listed(calls: &[u64], call: u64) -> bool
+    ensures { IsTrue result ↔ Contains calls.now call }
+{
+    calls.contains(&call)
+}
+
+// Fills all of `into` with the front of the bytes from a place on, if they are as many.
+fn fill(into: &mut [u8], bytes: &[u8], from: usize) -> bool
+    ensures enough { IsTrue result ↔ (length into.old ≤ length (drop from bytes.now)) }
+    ensures filled { IsTrue result → drop from bytes.now ≡ into.new ++ drop (from + length into.new) bytes.now }
+{
+    let rest = bytes.get(from..).unwrap_or(&[]);
+    let count = into.len();
+    if rest.len() < count {
+        return false;
+    }
+    into.copy_from_slice(&rest[..count]);
+    true
 }

@@ -51,7 +51,11 @@ fn peer_on(
     Ok(Piped::start(alloc, wire, "host", "c", "fmus/c", &shape)?)
 }
 
-fn ask<W: Wire + Send>(rt: &impl Abort, peer: &mut Piped<W>, call: Call) -> Result<Reply, PeerFault> {
+fn ask<W: Wire + Send>(
+    rt: &impl Abort,
+    peer: &mut Piped<W>,
+    call: Call,
+) -> Result<Reply, PeerFault> {
     assert!(rt; permitted(peer.shape(), peer.phase(), &call), "at {call:?}");
     peer.call(&call)
 }
