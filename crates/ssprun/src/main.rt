@@ -9,7 +9,6 @@ mod event_script_tests;
 #[cfg(test)]
 mod event_tests;
 mod files;
-mod frame;
 #[cfg(test)]
 mod long_tests;
 mod message;
@@ -29,7 +28,7 @@ mod system_tests;
 mod tests;
 
 use args::run_args;
-use bench_fmus::Bench;
+use child_hosts::Hosts;
 use files::{HostFiles, OpenedFolder};
 use std::env;
 use std::process::ExitCode;
@@ -37,7 +36,7 @@ use streams::{StreamSink, WriterStream};
 
 fn main(rt: HostRuntime) -> ExitCode {
     let mut folder = OpenedFolder::new(rt.alloc(), HostFiles::new(&rt));
-    let mut spawner = Bench::new(rt.alloc(), None, Vec::new(rt.alloc()));
+    let mut spawner = Hosts::new(rt.alloc(), &rt);
     let mut out = StreamSink::new(WriterStream {
         writer: rt.stdout(),
     });
