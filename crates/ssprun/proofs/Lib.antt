@@ -13,7 +13,5 @@ pub mod Deciding
 pub mod Tracing
 pub mod BuiltIns
 pub mod Rows
-pub mod ReadLemmas
-pub mod StreamLemmas
 pub mod NameLemmas
 pub mod LoopText

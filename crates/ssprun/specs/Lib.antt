@@ -5,6 +5,4 @@ pub mod Runs
 pub mod Facts
 pub mod Rows
 pub mod Refusing
-pub mod Reading
-pub mod Streams
 pub mod Given

@@ -8,7 +8,6 @@ mod binding_tests;
 mod event_script_tests;
 #[cfg(test)]
 mod event_tests;
-mod files;
 #[cfg(test)]
 mod long_tests;
 mod message;
@@ -21,7 +20,6 @@ mod report;
 #[cfg(test)]
 mod rule_tests;
 mod run;
-mod streams;
 #[cfg(test)]
 mod system_tests;
 #[cfg(test)]
@@ -29,10 +27,9 @@ mod tests;
 
 use args::run_args;
 use child_hosts::Hosts;
-use files::{HostFiles, OpenedFolder};
+use host_edge::{HostFiles, OpenedFolder, StreamSink, WriterStream};
 use std::env;
 use std::process::ExitCode;
-use streams::{StreamSink, WriterStream};
 
 fn main(rt: HostRuntime) -> ExitCode {
     let mut folder = OpenedFolder::new(rt.alloc(), HostFiles::new(&rt));

@@ -1,5 +1,5 @@
-use Rattle.ssprun.proofs.StreamLemmas.{flushed_writer}
-use Rattle.ssprun.proofs.streams.WriterStreamStream.flush.Goals as goal
+use Rattle.host_edge.proofs.StreamLemmas.{flushed_writer}
+use Rattle.host_edge.proofs.streams.WriterStreamStream.flush.Goals as goal
 
 pub returns : goal.returns
 returns g c =

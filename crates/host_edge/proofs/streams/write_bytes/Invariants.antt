@@ -1,7 +1,7 @@
 -- The front that was written is what the stream tells, the rest is still to be written, and each turn wrote or was broken off.
 use Rattle.std.proofs.Common.{◌≡◌, ℕ, ◌+◌, ◌≤◌, List, ◌++◌, length}
-use Rattle.ssprun.specs.Streams.{Takes}
-use Rattle.ssprun.proofs.streams.write_bytes.Given as goal
+use Rattle.host_edge.specs.Streams.{Takes}
+use Rattle.host_edge.proofs.streams.write_bytes.Given as goal
 
 abbrev pub invariant-writes : goal.invariant-writes
 invariant-writes g l = record {

@@ -1,13 +1,13 @@
 ghost use Rattle.std.specs.Prelude.{◌≡◌, ◌+◌, ◌^◌, ◌≤◌, length, take, None, IfOk, OnErr, is_some, refl};
 ghost use Rattle.sim_base.specs.Sink.{NotesPut};
-ghost use Rattle.ssprun.specs.Streams.{Flushes, TakesBytes, Writes, WritesSome};
+ghost use Rattle.host_edge.specs.Streams.{Flushes, TakesBytes, Writes, WritesSome};
 
 use sim_base::{Sink, SinkFault};
 use std::io::{self, ErrorKind, Stderr, Stdout, Write};
 
 /// A stream that bytes are written to.
-pub(crate) trait Stream {
-    ghost use Rattle.ssprun.specs.Streams.{StreamView};
+pub trait Stream {
+    ghost use Rattle.host_edge.specs.Streams.{StreamView};
 
     /// What it tells: its bytes, how many of its calls went wrong, and how many a signal broke off.
     ghost view: { Self → StreamView };
@@ -22,7 +22,7 @@ pub(crate) trait Stream {
 }
 
 /// A writer that tells its bytes at all times or at none.
-pub(crate) trait SteadyWrite: Write {
+pub trait SteadyWrite: Write {
     ghost steady: { (v w : Self) → is_some (Self.contents v) ≡ is_some (Self.contents w) };
 }
 
@@ -36,7 +36,7 @@ impl SteadyWrite for Stderr {
 
 /// A writer as a stream. It tells the bytes that the writer tells, and counts no calls.
 #[derive(Drop)]
-pub(crate) struct WriterStream<W> {
+pub struct WriterStream<W> {
     pub writer: W,
 }
 
@@ -54,7 +54,7 @@ impl<W: SteadyWrite> Stream for WriterStream<W> {
 
 /// A sink over a stream. It tells the bytes that the stream tells, and no puts.
 #[derive(Drop)]
-pub(crate) struct StreamSink<W> {
+pub struct StreamSink<W> {
     pub stream: W,
     pub faults: u64,
 }

@@ -2,7 +2,7 @@ ghost use Rattle.std.specs.Prelude.{◌≡◌, ◌+◌, ◌-◌, ◌^◌, ◌<�
 ghost use Rattle.std.specs.Io.Take.{take_inner};
 ghost use Rattle.std.specs.IoError.{error_kind};
 ghost use Rattle.sim_base.specs.Folder.{KeepsLimit, NotesRead, folder_view};
-ghost use Rattle.ssprun.specs.Reading.{Opens, ReadsUpTo, ReadsWithin, unopened, unread};
+ghost use Rattle.host_edge.specs.Reading.{Opens, ReadsUpTo, ReadsWithin, unopened, unread};
 
 use sim_base::{Folder, ReadBook, ReadFault};
 use std::alloc::Global;
@@ -11,24 +11,35 @@ use std::io::{self, ErrorKind, Read, Take};
 use std::rt::Files;
 
 /// A file that was opened.
-pub(crate) trait Source {
-    ghost use Rattle.ssprun.specs.Reading.{SourceView};
+pub trait OpenedFile {
+    ghost use Rattle.host_edge.specs.Reading.{FileView};
 
     /// What it tells: the bytes that are left, and the kinds of the errors that it answered.
-    ghost view: { Self → SourceView };
+    ghost view: { Self → FileView };
 
     /// Puts what is left behind the bytes, up to a limit.
     fn read_up_to(&mut self, limit: u64, bytes: &mut Vec<u8>) -> io::Result<usize>
         ensures { ReadsUpTo (view self.old) (view self.new) limit bytes.old.items bytes.new.items result };
 }
 
-/// A reader as a source. It tells the bytes that the reader tells, and no errors.
+/// A reader as an opened file. It tells the bytes that the reader tells, and no errors.
 #[derive(Drop)]
-pub(crate) struct ReaderSource<R> {
+pub struct ReaderFile<R> {
     reader: Take<R>,
 }
 
-impl<R: Read> Source for ReaderSource<R> {
+impl<R: Read> ReaderFile<R> {
+    /// A file of which the reader is to be read.
+    pub fn new(reader: R) -> ReaderFile<R>
+        ensures { take_inner result.reader ≡ reader }
+    {
+        ReaderFile {
+            reader: reader.take(0),
+        }
+    }
+}
+
+impl<R: Read> OpenedFile for ReaderFile<R> {
     ghost view = { λ s. record { left = R.remaining (take_inner s.reader); errors = None } };
 
     fn read_up_to(&mut self, limit: u64, bytes: &mut Vec<u8>) -> io::Result<usize> {
@@ -38,8 +49,8 @@ impl<R: Read> Source for ReaderSource<R> {
 }
 
 /// What opens files to read.
-pub(crate) trait OpenFiles {
-    type File: Source + Drop;
+pub trait OpenFiles {
+    type File: OpenedFile + Drop;
 
     /// The paths that it was asked to open, in order, where it tells them.
     ghost opened: { Self → Option (List (List ℕ)) };
@@ -51,7 +62,7 @@ pub(crate) trait OpenFiles {
 
 /// The files of the host. It tells nothing.
 #[derive(Drop)]
-pub(crate) struct HostFiles<'a, R> {
+pub struct HostFiles<'a, R> {
     runtime: &'a R,
 }
 
@@ -63,19 +74,18 @@ impl<'a, R: Files> HostFiles<'a, R> {
 }
 
 impl<'a, R: Files> OpenFiles for HostFiles<'a, R> {
-    type File = ReaderSource<R::File>;
+    type File = ReaderFile<R::File>;
 
     ghost opened = { λ f. None };
 
-    fn open(&mut self, path: &str) -> io::Result<ReaderSource<R::File>> {
-        let reader = fs::open(self.runtime, path)?.take(0);
-        Ok(ReaderSource { reader })
+    fn open(&mut self, path: &str) -> io::Result<ReaderFile<R::File>> {
+        Ok(ReaderFile::new(fs::open(self.runtime, path)?))
     }
 }
 
 /// A folder over what opens files. It tells no files.
 #[derive(Drop)]
-pub(crate) struct OpenedFolder<H> {
+pub struct OpenedFolder<H> {
     host: H,
     book: ReadBook,
 }
@@ -116,7 +126,7 @@ impl<H: OpenFiles> Folder for OpenedFolder<H> {
 }
 
 /// The answer to the opening of a file, by its error or by what was read of it.
-pub(crate) fn read_opened<S: Source>(
+pub fn read_opened<S: OpenedFile>(
     opened: &mut io::Result<S>,
     alloc: Global,
     limit: u64,
@@ -132,7 +142,11 @@ pub(crate) fn read_opened<S: Source>(
 }
 
 // All that a file has left, where it is no more than the limit. It reads one byte more and no further.
-fn read_within<S: Source>(source: &mut S, alloc: Global, limit: u64) -> Result<Vec<u8>, ReadFault>
+fn read_within<S: OpenedFile>(
+    source: &mut S,
+    alloc: Global,
+    limit: u64,
+) -> Result<Vec<u8>, ReadFault>
     ensures told { ReadsWithin (S.view source.old) (S.view source.new) limit result }
     ensures bound { KeepsLimit limit result }
 {

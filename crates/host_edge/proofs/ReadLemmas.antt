@@ -8,7 +8,7 @@ use Rattle.std.specs.declared.io.ErrorKind.{ErrorKind}
 use Rattle.std.specs.declared.io.ErrorKind.TheVariants.{OutOfMemory}
 use Rattle.sim_base.specs.declared.folder.ReadFault.{ReadFault}
 use Rattle.sim_base.specs.declared.folder.ReadFault.TheVariants.{Failed, Memory, Missing, TooBig}
-use Rattle.ssprun.specs.Reading.{ReadsWithin, SourceView, after_error, unread}
+use Rattle.host_edge.specs.Reading.{ReadsWithin, FileView, after_error, unread}
 
 -- one byte past the limit is read, so that no more than the limit is all
 pub all_read : (left got : List ℕ) (limit : ℕ) → got ≡ take (min (limit + 1) (2 ^ 64 - 1)) left → length got < 2 ^ 63 → length got ≤ limit → (got ≡ left) × (length left ≤ limit)
@@ -25,7 +25,7 @@ more_read left got limit e h =
     (omega arith, omega arith)
 
 -- the answer to what was read
-pub read_told : (old new : SourceView) (limit : ℕ) (got : Vec ℕ Global) (answer : Result (Vec ℕ Global) ReadFault)
+pub read_told : (old new : FileView) (limit : ℕ) (got : Vec ℕ Global) (answer : Result (Vec ℕ Global) ReadFault)
     → IfSome old.left (λ left. got.items ≡ take (min (limit + 1) (2 ^ 64 - 1)) left) → new.errors ≡ old.errors
     → (length got.items ≤ limit → answer ≡ Ok got) → (limit < length got.items → answer ≡ Err (TooBig (length got.items)))
     → ReadsWithin old new limit answer
@@ -45,7 +45,7 @@ read_told old new limit got answer read same fits big =
     all (Some xs) e short le = all_read xs got.items limit e short le
 
 -- an error is one of these
-pub read_failed : (old new : SourceView) (limit : ℕ) (kind : ErrorKind) → new.errors ≡ after_error old kind → (fault : ReadFault) → fault ≡ unread kind → ReadsWithin old new limit (Err fault)
+pub read_failed : (old new : FileView) (limit : ℕ) (kind : ErrorKind) → new.errors ≡ after_error old kind → (fault : ReadFault) → fault ≡ unread kind → ReadsWithin old new limit (Err fault)
 read_failed old new limit kind told Failed e = (kind, told, e)
 read_failed old new limit kind told Memory e = (kind, told, e)
 read_failed old new limit kind told Missing e = absurd (never kind e)

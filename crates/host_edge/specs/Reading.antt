@@ -12,16 +12,16 @@ use Rattle.sim_base.specs.declared.folder.ReadFault.TheVariants.{Failed, Missing
 -- ---- a file that was opened
 
 -- the bytes that are left, and the kinds of the errors that it answered, where it tells them
-pub record SourceView : Type 0 where
+pub record FileView : Type 0 where
   pub left : Option (List ℕ)
   pub errors : Option (List ErrorKind)
 
 -- it answered one error more
-abbrev pub after_error : SourceView → ErrorKind → Option (List ErrorKind)
+abbrev pub after_error : FileView → ErrorKind → Option (List ErrorKind)
 after_error view kind = option_map (λ kinds. kinds ++ kind ∷ []) view.errors
 
 -- what is left was put behind the bytes, up to a limit; or there was an error
-abbrev pub ReadsUpTo : {T : Type 0} → SourceView → SourceView → ℕ → List ℕ → List ℕ → Result T Error → Type 0
+abbrev pub ReadsUpTo : {T : Type 0} → FileView → FileView → ℕ → List ℕ → List ℕ → Result T Error → Type 0
 ReadsUpTo old new limit bytes all (Ok count) = IfSome old.left (λ left. all ≡ bytes ++ take limit left) × (new.errors ≡ old.errors)
 ReadsUpTo old new limit bytes all (Err error) = new.errors ≡ after_error old (error_kind error)
 
@@ -37,11 +37,11 @@ unread OutOfMemory = Memory
 unread _ = Failed
 
 -- it was not read for an error, which is answered so
-abbrev pub IsUnread : SourceView → SourceView → ReadFault → Type 0
+abbrev pub IsUnread : FileView → FileView → ReadFault → Type 0
 IsUnread old new fault = (kind : ErrorKind) × (new.errors ≡ after_error old kind) × (fault ≡ unread kind)
 
 -- the answer is all that was left, or that this is more than the limit; or else there was an error
-abbrev pub ReadsWithin : SourceView → SourceView → ℕ → Result (Vec ℕ Global) ReadFault → Type 0
+abbrev pub ReadsWithin : FileView → FileView → ℕ → Result (Vec ℕ Global) ReadFault → Type 0
 ReadsWithin old new limit (Ok bytes) = IfSome old.left (λ left. (bytes.items ≡ left) × (length left ≤ limit)) × (new.errors ≡ old.errors)
 ReadsWithin old new limit (Err (TooBig n)) = IfSome old.left (λ left. (limit < length left) × (n ≡ limit + 1)) × (new.errors ≡ old.errors)
 ReadsWithin old new limit (Err Missing) = ⊥

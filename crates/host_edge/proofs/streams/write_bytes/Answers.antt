@@ -1,6 +1,6 @@
 use Rattle.std.proofs.Common.{◌<◌, ◌^◌, arith, length, take, ◌++◌}
-use Rattle.ssprun.proofs.StreamLemmas.{part_broken, part_error, split_more, takes_more}
-use Rattle.ssprun.proofs.streams.write_bytes.Goals as goal
+use Rattle.host_edge.proofs.StreamLemmas.{part_broken, part_error, split_more, takes_more}
+use Rattle.host_edge.proofs.streams.write_bytes.Goals as goal
 
 pub returns-in-Err : goal.returns-in-Err
 returns-in-Err g c =

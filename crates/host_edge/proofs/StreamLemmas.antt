@@ -8,7 +8,7 @@ use Rattle.std.specs.declared.io.Error.{Error}
 use Rattle.std.specs.declared.io.ErrorKind.{ErrorKind}
 use Rattle.std.specs.declared.io.ErrorKind.TheVariants.{Interrupted}
 use Rattle.std.specs.Io.KnownBytes.{Appends, Keeps, WriteAppends}
-use Rattle.ssprun.specs.Streams.{StreamView, after_error, with_bytes, with_error, with_signals, Flushes, StopsShort, Takes, TakesBytes, Writes}
+use Rattle.host_edge.specs.Streams.{StreamView, after_error, with_bytes, with_error, with_signals, Flushes, StopsShort, Takes, TakesBytes, Writes}
 
 -- who tells its bytes at all times or at none tells what was added
 pub told_more : (old new : Option (List ℕ)) (bytes : List ℕ) → is_some old ≡ is_some new → Appends old new bytes → new ≡ option_map (λ xs. xs ++ bytes) old

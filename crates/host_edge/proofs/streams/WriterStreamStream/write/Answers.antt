@@ -1,5 +1,5 @@
-use Rattle.ssprun.proofs.StreamLemmas.{written_writer}
-use Rattle.ssprun.proofs.streams.WriterStreamStream.write.Goals as goal
+use Rattle.host_edge.proofs.StreamLemmas.{written_writer}
+use Rattle.host_edge.proofs.streams.WriterStreamStream.write.Goals as goal
 
 pub returns : goal.returns
 returns g c =
