@@ -1,0 +1,58 @@
+-- A call over a wire: its frame is sent, and the 24 bytes that come are its reply, where they are a reply frame.
+use Rattle.std.specs.Prelude.{◌≡◌, ◌⊎◌, ℕ, List, length, Result, Ok, Err}
+use Rattle.sim_base.specs.Causes.{one_more}
+use Rattle.fmi_calls.specs.declared.call.Call.{Call}
+use Rattle.fmi_calls.specs.declared.call.Reply.{Reply}
+use Rattle.fmu_peer.specs.declared.peer.PeerFault.{PeerFault}
+use Rattle.fmu_peer.specs.declared.peer.PeerFault.TheVariants as P
+use Rattle.link_frames.specs.Call.{IsFrameOf}
+use Rattle.link_frames.specs.Reply.{IsReplyFrame}
+use Rattle.fmu_link.specs.declared.wire.WireFault.{WireFault}
+use Rattle.fmu_link.specs.declared.wire.WireFault.TheVariants.{Failed, Ended}
+use Rattle.fmu_link.specs.Wire.{WireView, NotesSend, NotesReceive, with_front, with_sent}
+
+-- they are the frame of no reply
+abbrev pub IsNoReply : List ℕ → Type 0
+IsNoReply bytes = (reply : Reply) → IsReplyFrame reply bytes → ⊥
+
+-- what the bytes that came say
+abbrev pub Says : List ℕ → Result Reply PeerFault → Type 0
+Says bytes (Ok reply) = IsReplyFrame reply bytes
+Says bytes (Err (P.Garbled garbled)) = (garbled ≡ bytes) × IsNoReply bytes
+Says bytes (Err P.Failed) = ⊥
+
+-- the wire took all of the frame, and these 24 bytes came
+pub record Arrives (old : WireView) (frame bytes : List ℕ) (new : WireView) : Type 0 where
+  pub whole : length bytes ≡ 24
+  pub noted : with_sent old frame ≡ with_front bytes new
+
+-- the wire failed while it was sent the frame, or it took the frame, and failed or ended before 24 bytes came
+abbrev pub Breaks : WireView → List ℕ → WireFault → WireView → Type 0
+Breaks old frame fault new =
+    NotesSend {T = Unit {0}} old new frame (Err fault)
+    ⊎ ((room : List ℕ) × (length room ≡ 24) × NotesReceive {T = Unit {0}} (with_sent old frame) new room (Err fault))
+
+-- what a wire tells, and how many replies were garbled or cut
+pub record LineView : Type 0 where
+  pub wire : WireView
+  pub bad_replies : ℕ
+
+-- a reply that is cut, as one that is garbled, is counted here, and a failure of the wire by the wire
+abbrev pub bad_after : ℕ → WireFault → ℕ
+bad_after bad_replies Failed = bad_replies
+bad_after bad_replies Ended = one_more bad_replies
+
+-- what a call with this frame makes of it
+abbrev pub NotesCall : LineView → LineView → List ℕ → Result Reply PeerFault → Type 0
+NotesCall old new frame (Ok reply) =
+    (bytes : List ℕ) × Arrives old.wire frame bytes new.wire × IsReplyFrame reply bytes × (new.bad_replies ≡ old.bad_replies)
+NotesCall old new frame (Err (P.Garbled bytes)) =
+    Arrives old.wire frame bytes new.wire × IsNoReply bytes × (new.bad_replies ≡ one_more old.bad_replies)
+NotesCall old new frame (Err P.Failed) =
+    (fault : WireFault) × Breaks old.wire frame fault new.wire × (new.bad_replies ≡ bad_after old.bad_replies fault)
+
+-- the frame of the call, with the texts of Instantiate, was sent alone, and its reply awaited
+pub record Exchanged (call : Call) (name token : List ℕ) (old new : LineView) (result : Result Reply PeerFault) : Type 0 where
+  pub frame : List ℕ
+  pub is_frame : IsFrameOf call name token frame
+  pub noted : NotesCall old new frame result

@@ -1,0 +1,5 @@
+pub mod Wire
+pub mod MemWire
+pub mod Exchange
+pub mod Instance
+pub mod Piped

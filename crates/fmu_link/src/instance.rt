@@ -1,0 +1,54 @@
+ghost use Rattle.std.specs.Prelude.{◌≡◌, ◌≤◌, ◌^◌, length, IfOk};
+ghost use Rattle.fmi_calls.specs.Next.{HasMarks, fresh};
+ghost use Rattle.fmu_link.specs.Instance.{HasFrames};
+
+use fmi_calls::Phase;
+use sim_base::Text;
+use std::alloc::{AllocError, Global};
+use value_types::Shape;
+
+/// An instance as this end of its wire keeps it: what it was started with, where it stands, and room for its frames.
+#[derive(Debug, Drop)]
+pub struct Instance {
+    pub host: Text,
+    pub name: Text,
+    pub directory: Text,
+    pub shape: Shape,
+    pub phase: Phase,
+    /// Room for each of its frames.
+    pub frame: Vec<u8>,
+    /// How many replies were garbled or cut; it stays at its last value.
+    pub bad_replies: u64,
+    ghost has_marks: { HasMarks shape phase },
+    ghost has_frames: { HasFrames name shape.token frame.items },
+}
+
+impl Instance {
+    /// An instance before its first call, with all the memory that its calls need.
+    pub fn new(
+        alloc: Global,
+        host: &str,
+        name: &str,
+        directory: &str,
+        shape: &Shape,
+    ) -> Result<Instance, AllocError>
+        requires name { (1 ≤ length name.now) × (length name.now ≤ 2 ^ 24) }
+        requires token { length shape.now.token ≤ 2 ^ 24 }
+        ensures host { IfOk result (λ i. i.host ≡ host.now) }
+        ensures name { IfOk result (λ i. i.name ≡ name.now) }
+        ensures directory { IfOk result (λ i. i.directory ≡ directory.now) }
+        ensures shape { IfOk result (λ i. i.shape ≡ shape.now) }
+        ensures phase { IfOk result (λ i. i.phase ≡ fresh shape.now) }
+        ensures quiet { IfOk result (λ i. i.bad_replies ≡ 0) }
+    {
+        Ok(Instance {
+            host: Text::from_str(alloc, host)?,
+            name: Text::from_str(alloc, name)?,
+            directory: Text::from_str(alloc, directory)?,
+            shape: shape.copy(alloc)?,
+            phase: Phase::fresh(alloc, shape)?,
+            frame: vec![in alloc; 0; 24 + name.len() + shape.token.as_str().len()]?,
+            bad_replies: 0,
+        })
+    }
+}

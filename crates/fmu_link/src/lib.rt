@@ -1,0 +1,14 @@
+//! An FMU in a process of its own as a peer: its calls as frames over a wire that bytes go out on and come in on.
+#![tactic(auto)]
+
+mod instance;
+mod mem_wire;
+mod piped;
+#[cfg(test)]
+mod tests;
+mod wire;
+
+pub use instance::Instance;
+pub use mem_wire::MemWire;
+pub use piped::{Piped, Unmade};
+pub use wire::{Wire, WireFault};
