@@ -75,7 +75,7 @@ impl<R: SteadyRead, W: SteadyWrite> PipeWire<R, W> {
     }
 }
 
-impl<R: SteadyRead + Send, W: SteadyWrite + Send> Wire for PipeWire<R, W> {
+impl<R: SteadyRead, W: SteadyWrite> Wire for PipeWire<R, W> {
     ghost view = { λ w. wire_view (W.contents w.sink.stream.writer) (R.remaining w.source.stream.reader) w.faults };
 
     fn send(&mut self, bytes: &[u8]) -> Result<(), WireFault> {
