@@ -1,5 +1,5 @@
--- The command lines of the program: `one DIR --resolution R --step H --stop T [--start S] [--max-iterations N]`, `run`
--- with the same words behind it, and `check DIR --resolution R`.
+-- The command lines of the program: `one DIR --resolution R --step H --stop T [--start S] [--max-iterations N]
+-- [--host PROGRAM]`, `run` with the same words behind it, and `check DIR --resolution R`.
 use Rattle.std.specs.Prelude.{◌≡◌, ℕ, ◌^◌, ◌≤◌, Bool, true, false, List, [], ◌∷◌, map, find, Option, Some, None, if◌then◌else◌, codes, decimal, String, string_bytes}
 use Rattle.std.specs.Str.{bytes_eq}
 use Rattle.std.specs.declared.alloc.Global.{Global}
@@ -57,10 +57,22 @@ start_row = count_row (codes "start") 0 (2 ^ 62) (Some 0)
 abbrev pub limit_row : CountRow
 limit_row = count_row (codes "max-iterations") 1 10000 (Some 100)
 
+-- the host of the machines that are part of the program
+abbrev pub built_in_host : Word
+built_in_host = codes "builtin"
+
+abbrev pub text_row : Word → Word → TextRow
+text_row name default = record { name = name; default = Some default }
+
+-- what each FMU is run by: another program, or where it isn't given this one
+abbrev pub host_row : TextRow
+host_row = text_row (codes "host") built_in_host
+
 -- the options of a run
 abbrev pub run_options : List OptionRow
 run_options =
-    CountOption resolution_row ∷ CountOption step_row ∷ CountOption stop_row ∷ CountOption start_row ∷ CountOption limit_row ∷ []
+    CountOption resolution_row ∷ CountOption step_row ∷ CountOption stop_row ∷ CountOption start_row ∷ CountOption limit_row
+    ∷ TextOption host_row ∷ []
 
 -- a command with a directory and these options
 abbrev pub directory_row : Word → List OptionRow → CommandRow
@@ -141,9 +153,10 @@ Gives o None text = o.default ≡ Some text
 
 -- ---- what a line asks for
 
--- a line of a run: the directory, and the plan
+-- a line of a run: the directory, the host of its FMUs, and the plan
 pub record RunLine : Type 0 where
   pub directory : List ℕ
+  pub host : List ℕ
   pub plan : Plan
 
 -- a line of a check: the directory, and how many counts a second has
@@ -166,9 +179,10 @@ pub record GivesPlan (get : Lookup) (plan : Plan) : Type 0 where
   pub limit : Counts limit_row (get limit_row.name) plan.limit
   pub ordered : plan.start ≤ plan.stop
 
--- a line of a run gives the directory and the plan
+-- a line of a run gives the directory, the host and the plan
 abbrev pub AsksRun : Lookup → RunLine → Type 0
-AsksRun get line = (get (codes "DIR") ≡ Some line.directory) × GivesPlan get line.plan
+AsksRun get line =
+    (get (codes "DIR") ≡ Some line.directory) × Gives host_row (get host_row.name) line.host × GivesPlan get line.plan
 
 -- a line of a check gives the directory and the resolution
 abbrev pub AsksCheck : Lookup → CheckLine → Type 0
@@ -198,11 +212,11 @@ resolution_of (One line) = line.plan.resolution
 resolution_of (Run line) = line.plan.resolution
 resolution_of (Check line) = line.resolution
 
--- the plan of a run; a check has none
-abbrev pub plan_of : Line → Option Plan
-plan_of (One line) = Some line.plan
-plan_of (Run line) = Some line.plan
-plan_of (Check line) = None
+-- the run that a line asks for; a check asks for none
+abbrev pub run_in : Line → Option RunLine
+run_in (One line) = Some line
+run_in (Run line) = Some line
+run_in (Check line) = None
 
 -- the limits of a plan
 pub record IsWithin (plan : Plan) : Type 0 where
@@ -226,7 +240,7 @@ texts words = map (string_bytes {Z = Global}) words
 
 -- the line of a run that options tell
 abbrev pub run_of : Options → RunLine
-run_of options = record { directory = options.directory.now; plan = options.plan }
+run_of options = record { directory = options.directory.now; host = options.host.now; plan = options.plan }
 
 -- the line of a check that options tell
 abbrev pub check_of : CheckOptions → CheckLine

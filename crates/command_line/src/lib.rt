@@ -2,14 +2,14 @@
 #![tactic(auto)]
 
 mod clap_command;
-mod counts;
 mod fault;
 mod form;
 mod lines;
+mod values;
 mod words;
 
 pub use fault::WordsFault;
-pub use words::{CheckOptions, CommandLine, Options, read_words};
+pub use words::{BUILT_IN_HOST, CheckOptions, CommandLine, Options, read_words};
 
 #[cfg(test)]
 mod tests;

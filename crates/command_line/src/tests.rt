@@ -276,6 +276,49 @@ const OTHERS: [&str; 136] = [
     "check|d|--resolution|1000.0",
 ];
 
+// Words between bars, and the host that they ask for.
+const HOSTS: [(&str, &str); 9] = [
+    ("one|d|--resolution|10|--step|3|--stop|7", "builtin"),
+    ("run|d|--resolution|10|--step|3|--stop|7", "builtin"),
+    ("one|d|--resolution|10|--step|3|--stop|7|--host|h", "h"),
+    (
+        "run|d|--resolution|10|--step|3|--stop|7|--host=../my hosts/h-1",
+        "../my hosts/h-1",
+    ),
+    (
+        "run|--host|/usr/bin/fmu_host|d|--resolution|10|--step|3|--stop|7",
+        "/usr/bin/fmu_host",
+    ),
+    (
+        "one|--host=zähler|d|--resolution|10|--step|3|--stop|7",
+        "zähler",
+    ),
+    (
+        "one|d|--resolution|10|--step|3|--stop|7|--host|builtin",
+        "builtin",
+    ),
+    ("run|d|--resolution|10|--step|3|--stop|7|--host=a=b", "a=b"),
+    ("run|d|--resolution|10|--step|3|--stop|7|--host|=", "="),
+];
+
+// Words between bars with a host that makes them no line.
+const OTHER_HOSTS: [&str; 14] = [
+    "one|d|--resolution|10|--step|3|--stop|7|--host",
+    "run|d|--host|--resolution|10|--step|3|--stop|7",
+    "one|d|--resolution|10|--step|3|--stop|7|--host|",
+    "run|d|--resolution|10|--step|3|--stop|7|--host=",
+    "one|d|--resolution|10|--step|3|--stop|7|--host|-",
+    "one|d|--resolution|10|--step|3|--stop|7|--host|-h",
+    "run|d|--resolution|10|--step|3|--stop|7|--host=-h",
+    "run|d|--resolution|10|--step|3|--stop|7|--host|--",
+    "one|d|--resolution|10|--step|3|--stop|7|--host|h|--host|h",
+    "run|d|--resolution|10|--step|3|--stop|7|--host=h|--host|builtin",
+    "one|d|--resolution|10|--step|3|--stop|7|--Host|h",
+    "one|d|--resolution|10|--step|3|--stop|7|-host|h",
+    "check|d|--resolution|1000|--host|h",
+    "check|d|--resolution|1000|--host=builtin",
+];
+
 fn split_words(alloc: Global, line: &str) -> Result<Vec<String>, AllocError> {
     let mut words = Vec::new(alloc);
     for word in line.split('|') {
@@ -303,6 +346,13 @@ fn read(alloc: Global, words: &[String]) -> Result<Asked<'_>, WordsFault> {
     Ok(asked)
 }
 
+fn host_of<'a>(line: CommandLine<'a>) -> Option<&'a str> {
+    match line {
+        CommandLine::One(options) | CommandLine::Run(options) => Some(options.host),
+        CommandLine::Check(_) => None,
+    }
+}
+
 #[test]
 fn a_line_gives_its_options(rt: HostRuntime) -> Result<(), Fail> {
     let alloc = rt.alloc();
@@ -318,6 +368,23 @@ fn other_words_give_none(rt: HostRuntime) -> Result<(), Fail> {
     let alloc = rt.alloc();
     assert!(rt; read(alloc, &[]) == Err(WordsFault::NoLine));
     for line in &OTHERS {
+        let words = split_words(alloc, line)?;
+        assert!(rt; read(alloc, &words) == Err(WordsFault::NoLine), "at {line}");
+    }
+    Ok(())
+}
+
+#[test]
+fn a_line_gives_its_host(rt: HostRuntime) -> Result<(), Fail> {
+    let alloc = rt.alloc();
+    for (line, host) in &HOSTS {
+        let words = split_words(alloc, line)?;
+        assert!(rt;
+            host_of(read_words(alloc, &words)?) == Some(*host),
+            "at {line}"
+        );
+    }
+    for line in &OTHER_HOSTS {
         let words = split_words(alloc, line)?;
         assert!(rt; read(alloc, &words) == Err(WordsFault::NoLine), "at {line}");
     }

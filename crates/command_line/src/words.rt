@@ -8,16 +8,26 @@ ghost use Rattle.command_line.specs.declared.fault.WordsFault.TheVariants.{NoLin
 ghost use Rattle.system_model.specs.declared.plan.Plan.{Plan};
 
 use crate::clap_command::{top_command, with_subcommand};
-use crate::counts::{option_count, value_of};
 use crate::fault::WordsFault;
 use crate::lines::read_line;
+use crate::values::{option_count, option_text, value_of};
 use clap::{ArgMatches, Command};
 use sim_base::{MOST_COUNTS, MOST_INSTANTS};
 use std::alloc::{AllocError, Global};
 use system_model::Plan;
 
 // The options of a run.
-const RUN_OPTIONS: [&str; 5] = ["resolution", "step", "stop", "start", "max-iterations"];
+const RUN_OPTIONS: [&str; 6] = [
+    "resolution",
+    "step",
+    "stop",
+    "start",
+    "max-iterations",
+    "host",
+];
+
+/// The host of the machines that are part of the program, which a run has where no option says it.
+pub const BUILT_IN_HOST: &str = "builtin";
 
 // The most instants at a point, where no option says it.
 const DEFAULT_LIMIT: u64 = 100;
@@ -33,10 +43,12 @@ pub enum CommandLine<'a> {
     Check(CheckOptions<'a>),
 }
 
-/// What `one` and `run` are asked for: the directory of the FMU or of the system, and the plan of its run.
+/// What `one` and `run` are asked for: the directory of the FMU or of the system, the host of its FMUs, which is a program
+/// or `builtin`, and the plan of its run.
 #[derive(Clone, Copy, Debug)]
 pub struct Options<'a> {
     pub directory: &'a str,
+    pub host: &'a str,
     pub plan: Plan,
 }
 
@@ -112,15 +124,20 @@ fn read_command<'a>(name: &str, matches: &ArgMatches<'a>) -> Option<CommandLine<
     }
 }
 
-// The directory and the plan of a run.
+// The directory, the host and the plan of a run.
 fn read_run<'a>(matches: &ArgMatches<'a>) -> Option<Options<'a>>
     ensures ok { IfSome result (λ o. AsksRun (λ n. first_of n (rows_of (found_of matches.now))) (run_of o)) }
     ensures only { (line : RunLine) → AsksRun (λ n. first_of n (rows_of (found_of matches.now))) line → IsSomeAnd result (λ o. run_of o ≡ line) }
     ensures within { IfSome result (λ o. IsWithin o.plan) }
 {
     let directory = value_of(matches, "DIR")?;
+    let host = option_text(matches, "host", BUILT_IN_HOST);
     let plan = read_plan(matches)?;
-    Some(Options { directory, plan })
+    Some(Options {
+        directory,
+        host,
+        plan,
+    })
 }
 
 // The directory and the resolution of a check.

@@ -1,4 +1,4 @@
--- The trace over the spawner of the built-in machines: they behave well.
+-- The trace over built-in machines: they behave well.
 use Rattle.std.proofs.Common.{◌≡◌, inl, inr, ℕ, ◌<◌, List, [], ◌∷◌, ◌++◌, Option, Some, map, refl, sym, ap, ◌∙◌, subst}
 use Rattle.std.specs.Prelude.{All, unwrap_or, slice_get, option_map}
 use Rattle.std.proofs.lemmas.List.{length-map}
@@ -19,11 +19,11 @@ use Rattle.system_model.specs.declared.system.System.{System}
 use Rattle.run_model.specs.Behaved.{WellBehaved}
 use Rattle.run_model.specs.Run.{Run}
 use Rattle.step_master.specs.Traced.{TellMachines}
-use Rattle.system_model.specs.declared.plan.Plan.{Plan}
+use Rattle.command_line.specs.Line.{RunLine}
 use Rattle.system_files.specs.declared.loaded.Loaded.{Loaded}
 use Rattle.ssprun.specs.Runs.{Task}
 use Rattle.ssprun.specs.Happened.{Happened}
-use Rattle.ssprun.specs.Rows.{BuiltInRow, IsOverBench, IsRunAs, TraceRow, Traces, TracesBuiltIns}
+use Rattle.ssprun.specs.Rows.{BuiltInRow, IsOverBuiltIns, IsRunAs, TraceRow, Traces, TracesBuiltIns}
 use Rattle.ssprun.proofs.PeerLemmas.{all_got, mapped_at, started_at}
 
 -- it tells the machine of a model, for its shape
@@ -46,7 +46,7 @@ built_ins_tell : (peers : List BuiltIn) → All TellsModel (map (λ (v : View). 
 built_ins_tell [] = All-nil TellsModel
 built_ins_tell (b ∷ bs) = All-cons TellsModel (built_in_view b).fixed (map (λ (v : View). v.fixed) (map built_in_view bs)) (b.model, refl) (built_ins_tell bs)
 
-module _ (behave : BuiltInsBehaveWell) (h : Happened) (task : Task) (system : System) (t : Traces h task system) (b : IsOverBench h) (quiet : All (λ (v : View). v.faults ≡ 0) h.new.run.spawner.retired) where
+module _ (behave : BuiltInsBehaveWell) (h : Happened) (task : Task) (system : System) (t : Traces h task system) (b : IsOverBuiltIns h) (quiet : All (λ (v : View). v.faults ≡ 0) h.new.run.spawner.retired) where
   retired_is : h.new.run.spawner.retired ≡ h.old.run.spawner.retired ++ t.news
   retired_is = ap (λ (s : SpawnerView). s.retired) t.peers.told
 
@@ -55,9 +55,8 @@ module _ (behave : BuiltInsBehaveWell) (h : Happened) (task : Task) (system : Sy
 
   olds_tell : All (λ (v : View). TellsModel v.fixed) t.olds
   olds_tell =
-      let bench = ap (λ (s : SpawnerView). s.retired) b.told in
       let all : All (λ (v : View). TellsModel v.fixed) h.new.run.spawner.retired =
-      subst (All (λ (v : View). TellsModel v.fixed)) (sym bench) (all_fixed (map built_in_view b.bench.retired.peers.items) (built_ins_tell b.bench.retired.peers.items)) in
+      subst (All (λ (v : View). TellsModel v.fixed)) (sym b.told) (all_fixed (map built_in_view b.peers) (built_ins_tell b.peers)) in
       let news = all_behind (λ (v : View). TellsModel v.fixed) h.old.run.spawner.retired t.news (subst (All (λ (v : View). TellsModel v.fixed)) retired_is all) in
       all_fixed t.olds (subst (All TellsModel) t.same (All-map TellsModel (λ (v : View). v.fixed) t.news news))
     where
@@ -79,7 +78,7 @@ module _ (behave : BuiltInsBehaveWell) (h : Happened) (task : Task) (system : Sy
         let same : at.0 ≡ v = same_Some at.0 v (sym at.1 ∙ of_v) in
         let tells = all_got (λ (x : View). TellsModel x.fixed) t.olds i v olds_tell of_v in
         let told : v.fixed.machine ≡ Some m = tells.1 ∙ ap (λ (n : Machine). Some n) (told_is v (machine_of (behaviour_of tells.0) v.fixed.shape) m tells.1 (ap machine_in (sym same) ∙ at.2)) in
-        let started = started_at task.folders system.components t.olds i v t.peers.are of_v in
+        let started = started_at task.host task.folders system.components t.olds i v t.peers.are of_v in
         (told, started.2.1.state ∙ ap (option_map (λ (n : Machine). n.first)) told);
   }
 
@@ -88,7 +87,7 @@ module _ (behave : BuiltInsBehaveWell) (h : Happened) (task : Task) (system : Sy
       let at = mapped_at machine_in t.olds i m of_m in
       let v = at.0 in
       let tells = all_got (λ (x : View). TellsModel x.fixed) t.olds i v olds_tell at.1 in
-      let started = started_at task.folders system.components t.olds i v t.peers.are at.1 in
+      let started = started_at task.host task.folders system.components t.olds i v t.peers.are at.1 in
       let same : started.0 ≡ c = same_Some started.0 c (sym started.1 ∙ of_c) in
       let shape : v.fixed.shape ≡ c.shape = started.2.1.shape_is ∙ ap (λ (x : Component). x.shape) same in
       let model : machine_of (behaviour_of tells.0) v.fixed.shape ≡ m = told_is v (machine_of (behaviour_of tells.0) v.fixed.shape) m tells.1 at.2 in
@@ -103,8 +102,8 @@ module _ (behave : BuiltInsBehaveWell) (h : Happened) (task : Task) (system : Sy
   well : WellBehaved run
   well i = behave run t.sound i (λ c m of_c of_m. built_in i c m of_c of_m)
 
-  pub traced : (plan : Plan) (loaded : Loaded) → IsRunAs loaded plan task system → TracesBuiltIns h plan loaded
-  traced plan loaded same = record {
+  pub traced : (asked : RunLine) (loaded : Loaded) → IsRunAs loaded asked task system → TracesBuiltIns h asked.plan loaded
+  traced asked loaded same = record {
     run = run;
     parts = same.parts;
     plan_is = same.plan_is;
@@ -115,9 +114,9 @@ module _ (behave : BuiltInsBehaveWell) (h : Happened) (task : Task) (system : Sy
 
 pub built_in_exact : BuiltInsBehaveWell → (h : Happened) → TraceRow h → BuiltInRow h
 built_in_exact behave h row = record {
-  when = λ b line plan loaded is planned to_find knows calm put quiet.
-      elim (row.when line plan loaded is planned to_find knows calm put) [
+  when = λ b line asked loaded is is_asked to_find knows calm put quiet.
+      elim (row.when line asked loaded is is_asked to_find knows calm put) [
         | inl idle ↦ inl idle
-        | inr t ↦ inr (traced behave h t.task t.system t.traces b quiet plan loaded t.same)
+        | inr t ↦ inr (traced behave h t.task t.system t.traces b quiet asked loaded t.same)
       ];
 }

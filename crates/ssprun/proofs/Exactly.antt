@@ -10,10 +10,9 @@ use Rattle.doc_tree.specs.declared.place.Place.{Place}
 use Rattle.doc_tree.specs.declared.rule.Rule.{Rule}
 use Rattle.calling_sequence.specs.declared.run_end.RunEnd.{RunEnd}
 use Rattle.fmu_peer.specs.Start.{SpawnerView}
-use Rattle.system_model.specs.declared.plan.Plan.{Plan}
 use Rattle.system_model.specs.declared.system.Component.{Component}
 use Rattle.system_model.specs.declared.system.System.{System}
-use Rattle.command_line.specs.Line.{IsLine, Line, plan_of}
+use Rattle.command_line.specs.Line.{IsLine, Line, RunLine, run_in}
 use Rattle.system_files.specs.declared.loaded.Loaded.{Loaded}
 use Rattle.system_files.specs.declared.named.FileFault.{FileFault}
 use Rattle.system_files.specs.declared.named.FileFault.TheVariants.{Unread, Missing, TooBig, Broken}
@@ -30,7 +29,7 @@ use Rattle.ssprun.specs.Peers.{AreKnown, IsFirstUnknown}
 use Rattle.ssprun.specs.Runs.{Broke, FailsToStart, HasRun, Task, Went}
 use Rattle.ssprun.specs.Rows.{Answers, AnswersOr11, Failing, IsToFind, ReadsFiles, TellsRule, Wanting, Whole, memory_line}
 use Rattle.ssprun.proofs.PeerLemmas.{all_got, compare, slice_get-take_front}
-use Rattle.ssprun.proofs.When.{HasFacts, HasPut, by_plan, start_rose}
+use Rattle.ssprun.proofs.When.{HasFacts, HasPut, by_run, start_rose}
 
 -- ---- the line that the words are
 
@@ -177,58 +176,59 @@ known_unknown b knows lacks = absurd (apart (sym knows ∙ lacks))
     apart : true ≡ false → ⊥
     apart e = cc
 
-pub run_known : (task : Task) (system : System) (end : RunEnd) (old new : Scene) → HasRun task system end old new → AreKnown old.spawner system.components
+pub run_known : (task : Task) (system : System) (end : RunEnd) (old new : Scene) → HasRun task system end old new → AreKnown task.host old.spawner system.components
 run_known task system end old new (Went g) = g.peers.known
 run_known task system end old new (Broke bad is f) = f.peers.known
 
 -- of the first component that isn't known there is one
-first_place : (spawner : SpawnerView) (cs : List Component) (i j : ℕ) (c d : Component) → slice_get cs i ≡ Some c → spawner.knows (codes "builtin") c.shape.identifier ≡ false → AreKnown spawner (take j cs) → i < j → ⊥
-first_place spawner cs i j c d here unknown before less =
-    known_unknown (spawner.knows (codes "builtin") c.shape.identifier)
-    (all_got (λ (x : Component). spawner.knows (codes "builtin") x.shape.identifier ≡ true) (take j cs) i c before (slice_get-take_front cs j i less ∙ here)) unknown
+first_place : (host : List ℕ) (spawner : SpawnerView) (cs : List Component) (i j : ℕ) (c d : Component) → slice_get cs i ≡ Some c → spawner.knows host c.shape.identifier ≡ false → AreKnown host spawner (take j cs) → i < j → ⊥
+first_place host spawner cs i j c d here unknown before less =
+    known_unknown (spawner.knows host c.shape.identifier)
+    (all_got (λ (x : Component). spawner.knows host x.shape.identifier ≡ true) (take j cs) i c before (slice_get-take_front cs j i less ∙ here)) unknown
 
-one_unknown : (spawner : SpawnerView) (cs : List Component) (i j : ℕ) (c d : Component) → IsFirstUnknown spawner cs i c → IsFirstUnknown spawner cs j d → c ≡ d
-one_unknown spawner cs i j c d a b = by (compare i j)
+one_unknown : (host : List ℕ) (spawner : SpawnerView) (cs : List Component) (i j : ℕ) (c d : Component) → IsFirstUnknown host spawner cs i c → IsFirstUnknown host spawner cs j d → c ≡ d
+one_unknown host spawner cs i j c d a b = by (compare i j)
   where
     by : (i < j) ⊎ ((i ≡ j) ⊎ (j < i)) → c ≡ d
-    by (inl less) = absurd (first_place spawner cs i j c d a.here a.unknown b.before less)
+    by (inl less) = absurd (first_place host spawner cs i j c d a.here a.unknown b.before less)
     by (inr (inl same)) = same_Some c d (sym a.here ∙ ap (slice_get cs) same ∙ b.here)
-    by (inr (inr more)) = absurd (first_place spawner cs j i d c b.here b.unknown a.before more)
+    by (inr (inr more)) = absurd (first_place host spawner cs j i d c b.here b.unknown a.before more)
 
-start_unknown : (task : Task) (system : System) (name : List ℕ) (old new : Scene) → (f : FailsToStart task system name Unknown old new) → IsFirstUnknown old.spawner system.components f.place f.component
+start_unknown : (task : Task) (system : System) (name : List ℕ) (old new : Scene) → (f : FailsToStart task system name Unknown old new) → IsFirstUnknown task.host old.spawner system.components f.place f.component
 start_unknown task system name old new f = record { here = f.here; unknown = f.noted.1; before = f.known }
 
 unknown_run : (o : Outcome) (task : Task) (system : System) (h : Happened) (place : ℕ) (c : Component) → RunFacts o task system h.old.run h.new.run → HasPut o h →
-    IsFirstUnknown h.old.run.spawner system.components place c → (Rose h.old.run.spawner.faults h.new.run.spawner.faults → ⊥) → AnswersOr11 h 5 (start_message c.name Unknown)
+    IsFirstUnknown task.host h.old.run.spawner system.components place c → (Rose h.old.run.spawner.faults h.new.run.spawner.faults → ⊥) → AnswersOr11 h 5 (start_message c.name Unknown)
 unknown_run Words task system h place c f p lacks quiet = absurd f
 unknown_run Memory task system h place c f p lacks quiet = memory_or Memory 5 (start_message c.name Unknown) h p refl
 unknown_run (File path fault) task system h place c f p lacks quiet = absurd f
 unknown_run (Start name Failed) task system h place c f p lacks quiet = absurd (quiet (start_rose task system name h.old.run h.new.run f))
 unknown_run (Start name Unknown) task system h place c f p lacks quiet =
-    let same : f.component ≡ c = one_unknown h.old.run.spawner system.components f.place place f.component c (start_unknown task system name h.old.run h.new.run f) lacks in
+    let same : f.component ≡ c = one_unknown task.host h.old.run.spawner system.components f.place place f.component c (start_unknown task system name h.old.run h.new.run f) lacks in
     let is : name ≡ c.name = f.name_is ∙ ap (λ (x : Component). x.name) same in
     inr (answers (start_message c.name Unknown) 5 h (subst (λ (x : List ℕ). Reports (Some (start_message x Unknown)) 5 h.status h.err h.err_after) is p))
 unknown_run (Ran e) task system h place c f p lacks quiet =
-    known_unknown (h.old.run.spawner.knows (codes "builtin") c.shape.identifier)
-    (all_got (λ (x : Component). h.old.run.spawner.knows (codes "builtin") x.shape.identifier ≡ true) system.components place c (run_known task system f.0 h.old.run h.new.run f.2) lacks.here) lacks.unknown
+    known_unknown (h.old.run.spawner.knows task.host c.shape.identifier)
+    (all_got (λ (x : Component). h.old.run.spawner.knows task.host x.shape.identifier ≡ true) system.components place c (run_known task system f.0 h.old.run h.new.run f.2) lacks.here) lacks.unknown
 unknown_run Checked task system h place c f p lacks quiet = absurd f
 unknown_run Untold task system h place c f p lacks quiet = absurd f
 
-pub planned_unplanned : {A : Type 0} (plan : Plan) (one : Option Plan) → one ≡ Some plan → one ≡ None → A
-planned_unplanned plan one some none = absurd (apart (sym none ∙ some))
+pub asked_unasked : {A : Type 0} (asked : RunLine) (one : Option RunLine) → one ≡ Some asked → one ≡ None → A
+asked_unasked asked one some none = absurd (apart (sym none ∙ some))
   where
-    apart : None ≡ Some plan → ⊥
+    apart : None ≡ Some asked → ⊥
     apart e = cc
 
-pub unknown_exact : (o : Outcome) (line : Line) (plan : Plan) (loaded : Loaded) (place : ℕ) (c : Component) (h : Happened) → HasPut o h → plan_of line ≡ Some plan →
-    (o ≡ Memory) ⊎ LoadsAlike line h o loaded → IsFirstUnknown h.old.run.spawner loaded.system.components place c →
+pub unknown_exact : (o : Outcome) (line : Line) (asked : RunLine) (loaded : Loaded) (place : ℕ) (c : Component) (h : Happened) → HasPut o h → run_in line ≡ Some asked →
+    (o ≡ Memory) ⊎ LoadsAlike line h o loaded → IsFirstUnknown asked.host h.old.run.spawner loaded.system.components place c →
     (Rose h.old.run.spawner.faults h.new.run.spawner.faults → ⊥) → AnswersOr11 h 5 (start_message c.name Unknown)
-unknown_exact o line plan loaded place c h p planned (inl e) lacks quiet = memory_or o 5 (start_message c.name Unknown) h p e
-unknown_exact o line plan loaded place c h p planned (inr s) lacks quiet =
-    by_plan o line h s.made s.loads s.facts
-    (λ it same f. unknown_run o (task_of it.plan it.loaded) it.loaded.system h place c f p
-    (subst (λ (cs : List Component). IsFirstUnknown h.old.run.spawner cs place c) (sym (ap (λ (x : Loaded). x.system.components) same ∙ s.agree.0.0)) lacks) quiet)
-    (λ none f. planned_unplanned plan (plan_of line) planned none)
+unknown_exact o line asked loaded place c h p is_asked (inl e) lacks quiet = memory_or o 5 (start_message c.name Unknown) h p e
+unknown_exact o line asked loaded place c h p is_asked (inr s) lacks quiet =
+    by_run o line h s.made s.loads s.facts
+    (λ it same f. unknown_run o (task_of it.asked it.loaded) it.loaded.system h place c f p
+    (subst (λ (cs : List Component). IsFirstUnknown it.asked.host h.old.run.spawner cs place c) (sym (ap (λ (x : Loaded). x.system.components) same ∙ s.agree.0.0))
+    (subst (λ (x : RunLine). IsFirstUnknown x.host h.old.run.spawner loaded.system.components place c) (same_Some asked it.asked (sym is_asked ∙ it.is_asked)) lacks)) quiet)
+    (λ none f. asked_unasked asked (run_in line) is_asked none)
 
 -- ---- the reading
 

@@ -5,7 +5,7 @@ use Rattle.std.proofs.lemmas.List.{append-nil, length-map}
 use Rattle.sim_base.specs.Folder.{FolderView}
 use Rattle.system_model.specs.declared.system.System.{System}
 use Rattle.system_model.specs.Sound.{IsSound}
-use Rattle.command_line.specs.Line.{Check, IsWithin, KeepsLimits, Line, One, Run, plan_of, resolution_of}
+use Rattle.command_line.specs.Line.{Check, IsWithin, KeepsLimits, Line, One, Run, RunLine, resolution_of, run_in}
 use Rattle.system_loading.specs.Assembly.{IsBuilt}
 use Rattle.system_files.specs.declared.loaded.Loaded.{Loaded}
 use Rattle.value_types.specs.declared.shape.Shape.{Shape}
@@ -39,7 +39,7 @@ within (One line) k = k.resolution.1
 within (Run line) k = k.resolution.1
 within (Check line) k = k.1
 
-pub plan_within : (line : Line) → KeepsLimits line → IfSome (plan_of line) IsWithin
+pub plan_within : (line : Line) → KeepsLimits line → IfSome (run_in line) (λ (asked : RunLine). IsWithin asked.plan)
 plan_within (One line) k = k
 plan_within (Run line) k = k
 plan_within (Check line) k = tt

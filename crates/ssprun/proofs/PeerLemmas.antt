@@ -1,6 +1,6 @@
 -- Peers that are started and taken back, one after another.
 use Rattle.std.proofs.Common.{◌≡◌, ◌⊎◌, inl, inr, ℕ, zero, suc, ◌+◌, ◌<◌, true, List, [], ◌∷◌, ◌++◌, Some, refl, sym, ap, ◌∙◌, subst, append_assoc, arith, length, map, take}
-use Rattle.std.specs.Prelude.{All, Err, codes, slice_get}
+use Rattle.std.specs.Prelude.{All, Err, slice_get}
 use Rattle.std.proofs.lemmas.List.{append-nil, take_more}
 use Rattle.std.proofs.lemmas.List.Elements.{All-append, All-cons, All-nil}
 use Rattle.std.proofs.lemmas.Option.{none-some as none_some, get_or_from_slice_get, same_Some, slice_get_within}
@@ -14,27 +14,27 @@ use Rattle.ssprun.specs.Peers.{AreKnown, AreStarted, NotesFault, with_all_retire
 use Rattle.ssprun.specs.Runs.{IsUnasked}
 
 -- one more of the components has its peer
-pub started_more : (folders : List (List ℕ)) (cs : List Component) (vs : List View) (folder : List ℕ) (c : Component) (v : View) → AreStarted folders cs vs →
-    slice_get folders (length vs) ≡ Some folder → slice_get cs (length vs) ≡ Some c → IsStarted (codes "builtin") c.name folder c.shape v → AreStarted folders cs (vs ++ v ∷ [])
-started_more folders [] [] folder c v are there here one = absurd (none_some c here)
-started_more folders [] (w ∷ vs) folder c v are there here one = absurd are
-started_more [] (d ∷ cs) [] folder c v are there here one = absurd (none_some folder there)
-started_more [] (d ∷ cs) (w ∷ vs) folder c v are there here one = absurd are
-started_more (f ∷ folders) (d ∷ cs) [] folder c v are there here one = (
-  subst (λ (x : Component). IsStarted (codes "builtin") x.name f x.shape v) (sym (same_Some d c here))
-      (subst (λ (x : List ℕ). IsStarted (codes "builtin") c.name x c.shape v) (sym (same_Some f folder there)) one),
+pub started_more : (host : List ℕ) (folders : List (List ℕ)) (cs : List Component) (vs : List View) (folder : List ℕ) (c : Component) (v : View) → AreStarted host folders cs vs →
+    slice_get folders (length vs) ≡ Some folder → slice_get cs (length vs) ≡ Some c → IsStarted host c.name folder c.shape v → AreStarted host folders cs (vs ++ v ∷ [])
+started_more host folders [] [] folder c v are there here one = absurd (none_some c here)
+started_more host folders [] (w ∷ vs) folder c v are there here one = absurd are
+started_more host [] (d ∷ cs) [] folder c v are there here one = absurd (none_some folder there)
+started_more host [] (d ∷ cs) (w ∷ vs) folder c v are there here one = absurd are
+started_more host (f ∷ folders) (d ∷ cs) [] folder c v are there here one = (
+  subst (λ (x : Component). IsStarted host x.name f x.shape v) (sym (same_Some d c here))
+      (subst (λ (x : List ℕ). IsStarted host c.name x c.shape v) (sym (same_Some f folder there)) one),
   tt,
 )
-started_more (f ∷ folders) (d ∷ cs) (w ∷ vs) folder c v are there here one = (are.0, started_more folders cs vs folder c v are.1 there here one)
+started_more host (f ∷ folders) (d ∷ cs) (w ∷ vs) folder c v are there here one = (are.0, started_more host folders cs vs folder c v are.1 there here one)
 
 pub take_more_at : {X : Type 0} (xs : List X) (n : ℕ) (x : X) → slice_get xs n ≡ Some x → take (n + 1) xs ≡ take n xs ++ x ∷ []
 take_more_at xs n x here = take_more xs n x (slice_get_within xs n x here) ∙ ap (λ y. take n xs ++ y ∷ []) (get_or_from_slice_get xs n x x here)
 
-pub known_more : (spawner : SpawnerView) (cs : List Component) (n : ℕ) (c : Component) → AreKnown spawner (take n cs) → slice_get cs n ≡ Some c → spawner.knows (codes "builtin") c.shape.identifier ≡ true → AreKnown spawner (take (n + 1) cs)
-known_more spawner cs n c known here knows =
-    subst (AreKnown spawner) (sym (take_more_at cs n c here))
-    (All-append (λ (x : Component). spawner.knows (codes "builtin") x.shape.identifier ≡ true) (take n cs) (c ∷ []) known
-    (All-cons (λ (x : Component). spawner.knows (codes "builtin") x.shape.identifier ≡ true) c [] knows (All-nil (λ (x : Component). spawner.knows (codes "builtin") x.shape.identifier ≡ true))))
+pub known_more : (host : List ℕ) (spawner : SpawnerView) (cs : List Component) (n : ℕ) (c : Component) → AreKnown host spawner (take n cs) → slice_get cs n ≡ Some c → spawner.knows host c.shape.identifier ≡ true → AreKnown host spawner (take (n + 1) cs)
+known_more host spawner cs n c known here knows =
+    subst (AreKnown host spawner) (sym (take_more_at cs n c here))
+    (All-append (λ (x : Component). spawner.knows host x.shape.identifier ≡ true) (take n cs) (c ∷ []) known
+    (All-cons (λ (x : Component). spawner.knows host x.shape.identifier ≡ true) c [] knows (All-nil (λ (x : Component). spawner.knows host x.shape.identifier ≡ true))))
 
 -- ---- what a spawner tells
 
@@ -52,23 +52,23 @@ one_retired s t u vs v t_is u_is = u_is ∙ ap (λ (x : SpawnerView). with_retir
 
 -- ---- before their first calls
 
-pub unasked : (folders : List (List ℕ)) (cs : List Component) (vs : List View) → AreStarted folders cs vs → All IsUnasked vs
-unasked folders cs [] are = All-nil IsUnasked
-unasked folders [] (v ∷ vs) are = absurd are
-unasked [] (c ∷ cs) (v ∷ vs) are = absurd are
-unasked (f ∷ folders) (c ∷ cs) (v ∷ vs) are =
-    All-cons IsUnasked v vs (record { phase = are.0.phase ∙ ap fresh (sym are.0.shape_is); talk = are.0.talk }) (unasked folders cs vs are.1)
+pub unasked : (host : List ℕ) (folders : List (List ℕ)) (cs : List Component) (vs : List View) → AreStarted host folders cs vs → All IsUnasked vs
+unasked host folders cs [] are = All-nil IsUnasked
+unasked host folders [] (v ∷ vs) are = absurd are
+unasked host [] (c ∷ cs) (v ∷ vs) are = absurd are
+unasked host (f ∷ folders) (c ∷ cs) (v ∷ vs) are =
+    All-cons IsUnasked v vs (record { phase = are.0.phase ∙ ap fresh (sym are.0.shape_is); talk = are.0.talk }) (unasked host folders cs vs are.1)
 
 -- ---- one of the peers
 
 -- a peer was started for the component at its place
-pub started_at : (folders : List (List ℕ)) (cs : List Component) (vs : List View) (k : ℕ) (v : View) → AreStarted folders cs vs → slice_get vs k ≡ Some v →
-    (c : Component) × (slice_get cs k ≡ Some c) × ((folder : List ℕ) × IsStarted (codes "builtin") c.name folder c.shape v)
-started_at folders cs [] k v are here = absurd (none_some v here)
-started_at folders [] (w ∷ vs) k v are here = absurd are
-started_at [] (c ∷ cs) (w ∷ vs) k v are here = absurd are
-started_at (f ∷ folders) (c ∷ cs) (w ∷ vs) zero v are here = (c, refl, (f, subst (λ (x : View). IsStarted (codes "builtin") c.name f c.shape x) (same_Some w v here) are.0))
-started_at (f ∷ folders) (c ∷ cs) (w ∷ vs) (suc k) v are here = started_at folders cs vs k v are.1 here
+pub started_at : (host : List ℕ) (folders : List (List ℕ)) (cs : List Component) (vs : List View) (k : ℕ) (v : View) → AreStarted host folders cs vs → slice_get vs k ≡ Some v →
+    (c : Component) × (slice_get cs k ≡ Some c) × ((folder : List ℕ) × IsStarted host c.name folder c.shape v)
+started_at host folders cs [] k v are here = absurd (none_some v here)
+started_at host folders [] (w ∷ vs) k v are here = absurd are
+started_at host [] (c ∷ cs) (w ∷ vs) k v are here = absurd are
+started_at host (f ∷ folders) (c ∷ cs) (w ∷ vs) zero v are here = (c, refl, (f, subst (λ (x : View). IsStarted host c.name f c.shape x) (same_Some w v here) are.0))
+started_at host (f ∷ folders) (c ∷ cs) (w ∷ vs) (suc k) v are here = started_at host folders cs vs k v are.1 here
 
 -- what was mapped is at the place of its element
 pub mapped_at : {X Y : Type 0} (f : X → Y) (xs : List X) (k : ℕ) (y : Y) → slice_get (map f xs) k ≡ Some y → (x : X) × (slice_get xs k ≡ Some x) × (f x ≡ y)
@@ -100,8 +100,8 @@ slice_get-take_front (x ∷ xs) (suc n) (suc k) less = slice_get-take_front xs n
 
 -- ---- starts that fail
 
-pub noted_fault : (T : Type 0) (fault : StartFault) (c : Component) (s t u : SpawnerView) (n : ℕ) → t ≡ with_all_started s n → NotesStart {T = T} t u (Err fault) →
-    AnswersUnknown {T = T} (t.knows (codes "builtin") c.shape.identifier) (Err fault) → NotesFault fault c (with_all_started s n) u
-noted_fault T Failed c s t u n is noted unknown = noted ∙ ap with_failure is
-noted_fault T Unknown c s t u n is noted unknown = (noted ∙ is, ap (λ (x : SpawnerView). x.knows (codes "builtin") c.shape.identifier) (sym is) ∙ unknown)
-noted_fault T Memory c s t u n is noted unknown = noted ∙ is
+pub noted_fault : (T : Type 0) (host : List ℕ) (fault : StartFault) (c : Component) (s t u : SpawnerView) (n : ℕ) → t ≡ with_all_started s n → NotesStart {T = T} t u (Err fault) →
+    AnswersUnknown {T = T} (t.knows host c.shape.identifier) (Err fault) → NotesFault host fault c (with_all_started s n) u
+noted_fault T host Failed c s t u n is noted unknown = noted ∙ ap with_failure is
+noted_fault T host Unknown c s t u n is noted unknown = (noted ∙ is, ap (λ (x : SpawnerView). x.knows host c.shape.identifier) (sym is) ∙ unknown)
+noted_fault T host Memory c s t u n is noted unknown = noted ∙ is

@@ -61,7 +61,7 @@ higher o h f p (inr more) = err_higher (message o) (status_of o) h p more
 
 trace_row : (o : Outcome) (h : Happened) → HasFacts o h → HasPut o h → TraceRow h
 trace_row o h f p = record {
-  when = λ line plan loaded is planned to_find knows calm quiet. trace_exact o line plan loaded h (of_line o h f line is) p planned knows calm quiet
+  when = λ line asked loaded is is_asked to_find knows calm quiet. trace_exact o line asked loaded h (of_line o h f line is) p is_asked knows calm quiet
       (suits o line h (Found loaded) (of_line o h f line is) to_find);
 }
 
@@ -84,7 +84,7 @@ keeps_rows behave o h f p = let trace = trace_row o h f p in record {
   };
   link = record {
     when = λ e. when_is NoPeer o h f p (λ ten. omega arith) e;
-    unknown = λ line plan loaded place c is planned to_find lacks quiet. unknown_exact o line plan loaded place c h p planned
+    unknown = λ line asked loaded place c is is_asked to_find lacks quiet. unknown_exact o line asked loaded place c h p is_asked
         (suits o line h (Found loaded) (of_line o h f line is) to_find) lacks quiet;
     lost = λ peers talks name why link told least. decides o h p (uncalled_or_run o h (course o h f)) peers talks name why told least;
   };

@@ -38,11 +38,11 @@ use Rattle.ssprun.proofs.PeerLemmas.{started_at}
 
 -- ---- before the run
 
-pub new_peers : (folders : List (List ℕ)) (system : System) (vs : List View) → AreStarted folders system.components vs → length vs ≡ length system.components → ArePeersOf system vs
-new_peers folders system vs are each = record {
+pub new_peers : (host : List ℕ) (folders : List (List ℕ)) (system : System) (vs : List View) → AreStarted host folders system.components vs → length vs ≡ length system.components → ArePeersOf system vs
+new_peers host folders system vs are each = record {
   len = each;
   each = λ i c v at_c at_v.
-      let s = started_at folders system.components vs i v are at_v in
+      let s = started_at host folders system.components vs i v are at_v in
       let same : s.0 ≡ c = same_Some s.0 c (sym s.1 ∙ at_c) in
       record {
         shape_is = s.2.1.shape_is ∙ ap (λ (x : Component). x.shape) same;

@@ -3,7 +3,7 @@ use Rattle.std.proofs.Common.{◌≡◌, ◌⊎◌, inl, inr, ℕ, ◌<◌, List
 use Rattle.sim_base.specs.Sink.{SinkView}
 use Rattle.calling_sequence.specs.declared.run_end.RunEnd.{RunEnd}
 use Rattle.calling_sequence.specs.declared.run_end.RunEnd.TheVariants as E
-use Rattle.command_line.specs.Line.{Line, IsLine, plan_of}
+use Rattle.command_line.specs.Line.{Line, IsLine, run_in}
 use Rattle.system_files.specs.declared.loaded.Loaded.{Loaded}
 use Rattle.ssprun.specs.declared.outcome.Outcome.{Outcome}
 use Rattle.ssprun.specs.declared.outcome.Outcome.TheVariants.{Words, Memory, File, Start, Ran, Checked, Untold}
@@ -16,7 +16,7 @@ use Rattle.ssprun.specs.Rows.{Idle, IsIdle, IsOfRun, IsUncalled, OnCheck, PeerRo
 use Rattle.ssprun.specs.Rows as R
 use Rattle.ssprun.specs.Runs.{HasRun, IsEndOf, names_of}
 use Rattle.ssprun.proofs.Outs.{TellsOut, tells_out}
-use Rattle.ssprun.proofs.When.{HasFacts, HasPut, by_plan, line_idle, same_idle, same_uncalled, taken_idle, unstarted_idle}
+use Rattle.ssprun.proofs.When.{HasFacts, HasPut, by_run, line_idle, same_idle, same_uncalled, taken_idle, unstarted_idle}
 
 -- a run of the line's system, whose end the outcome tells
 pub record HasRunOne (o : Outcome) (h : Happened) : Type 0 where
@@ -27,7 +27,7 @@ pub record HasRunOne (o : Outcome) (h : Happened) : Type 0 where
   pub e : End
   pub outcome : o ≡ Ran e
   pub named : IsEndOf (names_of it.loaded.system) end e
-  pub run : HasRun (task_of it.plan it.loaded) it.loaded.system end h.old.run h.new.run
+  pub run : HasRun (task_of it.asked it.loaded) it.loaded.system end h.old.run h.new.run
 
 -- a check of the line's system
 pub data HasCheck (o : Outcome) (h : Happened) : Type 0 where
@@ -40,16 +40,16 @@ pub data Course (o : Outcome) (h : Happened) : Type 0 where
   OfRun : HasRunOne o h → Course o h
   OfCheck : HasCheck o h → Course o h
 
-of_run : (o : Outcome) (line : Line) (h : Happened) → IsLine h.words line → (it : IsOfRun h line) → RunFacts o (task_of it.plan it.loaded) it.loaded.system h.old.run h.new.run → Course o h
+of_run : (o : Outcome) (line : Line) (h : Happened) → IsLine h.words line → (it : IsOfRun h line) → RunFacts o (task_of it.asked it.loaded) it.loaded.system h.old.run h.new.run → Course o h
 of_run Words line h is it f = absurd f
-of_run Memory line h is it f = Still (taken_idle (task_of it.plan it.loaded) it.loaded.system h f)
+of_run Memory line h is it f = Still (taken_idle (task_of it.asked it.loaded) it.loaded.system h f)
 of_run (File path fault) line h is it f = absurd f
-of_run (Start name cause) line h is it f = Still (unstarted_idle (task_of it.plan it.loaded) it.loaded.system name cause h f)
+of_run (Start name cause) line h is it f = Still (unstarted_idle (task_of it.asked it.loaded) it.loaded.system name cause h f)
 of_run (Ran e) line h is it f = OfRun (record { line = line; is = is; it = it; end = f.0; e = e; outcome = refl; named = f.1; run = f.2 })
 of_run Checked line h is it f = absurd f
 of_run Untold line h is it f = absurd f
 
-of_check : (o : Outcome) (line : Line) (h : Happened) (loaded : Loaded) → IsLine h.words line → plan_of line ≡ None → LoadsLine line loaded h.old.folder h.new.folder →
+of_check : (o : Outcome) (line : Line) (h : Happened) (loaded : Loaded) → IsLine h.words line → run_in line ≡ None → LoadsLine line loaded h.old.folder h.new.folder →
     CheckFacts o loaded h.old.run h.new.run → Course o h
 of_check Words line h loaded is none loads f = absurd f
 of_check Memory line h loaded is none loads f = absurd f
@@ -61,7 +61,7 @@ of_check Untold line h loaded is none loads f = OfCheck (Fails refl line is (loa
 
 of_line : (o : Outcome) (line : Line) (h : Happened) → IsLine h.words line → LineFacts o line h.old h.new → Course o h
 of_line o line h is (Unloaded calm f) = Still (line_idle h calm)
-of_line o line h is (OfSystem loaded loads f) = by_plan o line h loaded loads f (λ it same g. of_run o line h is it g) (λ none g. of_check o line h loaded is none loads g)
+of_line o line h is (OfSystem loaded loads f) = by_run o line h loaded loads f (λ it same g. of_run o line h is it g) (λ none g. of_check o line h loaded is none loads g)
 
 pub course : (o : Outcome) (h : Happened) → HasFacts o h → Course o h
 course o h (WithoutLine w) = Still (same_idle h w.same)

@@ -21,7 +21,7 @@ use Rattle.step_master.specs.Lives.{AreLives, IsLife, Life}
 use Rattle.slot_calls.specs.Log.{Sent}
 use Rattle.calling_sequence.specs.Puts.{CutsPiece, with_pieces}
 use Rattle.step_master.specs.Traced.{CutsTrace, PutsTrace, SomeRose, TracesWell}
-use Rattle.command_line.specs.Line.{Line, plan_of}
+use Rattle.command_line.specs.Line.{Line, RunLine, run_in}
 use Rattle.ssprun.specs.declared.outcome.Outcome.{Outcome}
 use Rattle.ssprun.specs.declared.outcome.Outcome.TheVariants.{Words, Memory, File, Start, Ran, Checked, Untold}
 use Rattle.ssprun.specs.declared.outcome.StartCause.TheVariants.{Failed, Unknown}
@@ -38,9 +38,9 @@ use Rattle.ssprun.specs.Peers.{AreKnown}
 use Rattle.ssprun.specs.Happened.{Happened}
 use Rattle.ssprun.specs.Rows.{Cut, Front, IsIdle, IsOfRun, ReportsEnd, Says, Sized, Traces, TracesLoaded, Whole, WritesSize, WritesTrace}
 use Rattle.ssprun.specs.Runs.{Broke, Goes, HasRun, IsEndOf, Task, Went, names_of}
-use Rattle.ssprun.proofs.Exactly.{LoadsAlike, known_unknown, planned_unplanned}
+use Rattle.ssprun.proofs.Exactly.{LoadsAlike, asked_unasked, known_unknown}
 use Rattle.ssprun.proofs.PeerLemmas.{all_got}
-use Rattle.ssprun.proofs.When.{HasPut, by_plan, cut_short_rose, start_rose, taken_idle, wants_idle}
+use Rattle.ssprun.proofs.When.{HasPut, by_run, cut_short_rose, start_rose, taken_idle, wants_idle}
 
 -- ---- 11
 
@@ -137,15 +137,15 @@ run_traces end e task system h named (Broke bad is f) p quiet = record {
   writes = λ r of planned well none. none_rose f.olds f.news none (f.well r of well).1;
 }
 
-trace_run : (o : Outcome) (task : Task) (system : System) (h : Happened) → RunFacts o task system h.old.run h.new.run → HasPut o h → AreKnown h.old.run.spawner system.components →
+trace_run : (o : Outcome) (task : Task) (system : System) (h : Happened) → RunFacts o task system h.old.run h.new.run → HasPut o h → AreKnown task.host h.old.run.spawner system.components →
     (Rose h.old.run.spawner.faults h.new.run.spawner.faults → ⊥) → (Rose h.err.faults h.err_after.faults → ⊥) → ((h.status ≡ 11) × IsIdle h) ⊎ Traces h task system
 trace_run Words task system h f p knows calm quiet = absurd f
 trace_run Memory task system h f p knows calm quiet = inl (memory_status h p quiet, taken_idle task system h f)
 trace_run (File path fault) task system h f p knows calm quiet = absurd f
 trace_run (Start name Failed) task system h f p knows calm quiet = absurd (calm (start_rose task system name h.old.run h.new.run f))
 trace_run (Start name Unknown) task system h f p knows calm quiet =
-    known_unknown (h.old.run.spawner.knows (codes "builtin") f.component.shape.identifier)
-    (all_got (λ (c : Component). h.old.run.spawner.knows (codes "builtin") c.shape.identifier ≡ true) system.components f.place f.component knows f.here) f.noted.1
+    known_unknown (h.old.run.spawner.knows task.host f.component.shape.identifier)
+    (all_got (λ (c : Component). h.old.run.spawner.knows task.host c.shape.identifier ≡ true) system.components f.place f.component knows f.here) f.noted.1
 trace_run (Ran e) task system h f p knows calm quiet = inr (run_traces f.0 e task system h f.1 f.2 p quiet)
 trace_run Checked task system h f p knows calm quiet = absurd f
 trace_run Untold task system h f p knows calm quiet = absurd f
@@ -154,24 +154,26 @@ wanting : (o : Outcome) (line : Line) (h : Happened) → LineFacts o line h.old 
 wanting o line h f p quiet e =
     (memory_status h (subst (λ (x : Outcome). HasPut x h) e p) quiet, (wants_idle line h (subst (λ (x : Outcome). LineFacts x line h.old h.new) e f)).0)
 
-pub trace_exact : (o : Outcome) (line : Line) (plan : Plan) (loaded : Loaded) (h : Happened) → LineFacts o line h.old h.new → HasPut o h → plan_of line ≡ Some plan →
-    AreKnown h.old.run.spawner loaded.system.components → (Rose h.old.run.spawner.faults h.new.run.spawner.faults → ⊥) → (Rose h.err.faults h.err_after.faults → ⊥) →
-    (o ≡ Memory) ⊎ LoadsAlike line h o loaded → ((h.status ≡ 11) × IsIdle h) ⊎ TracesLoaded h plan loaded
-trace_exact o line plan loaded h f p planned knows calm quiet (inl e) = inl (wanting o line h f p quiet e)
-trace_exact o line plan loaded h f p planned knows calm quiet (inr s) =
-    by_plan o line h s.made s.loads s.facts
+pub trace_exact : (o : Outcome) (line : Line) (asked : RunLine) (loaded : Loaded) (h : Happened) → LineFacts o line h.old h.new → HasPut o h → run_in line ≡ Some asked →
+    AreKnown asked.host h.old.run.spawner loaded.system.components → (Rose h.old.run.spawner.faults h.new.run.spawner.faults → ⊥) → (Rose h.err.faults h.err_after.faults → ⊥) →
+    (o ≡ Memory) ⊎ LoadsAlike line h o loaded → ((h.status ≡ 11) × IsIdle h) ⊎ TracesLoaded h asked loaded
+trace_exact o line asked loaded h f p is_asked knows calm quiet (inl e) = inl (wanting o line h f p quiet e)
+trace_exact o line asked loaded h f p is_asked knows calm quiet (inr s) =
+    by_run o line h s.made s.loads s.facts
     (λ it same g. loaded_trace it same
-    (trace_run o (task_of it.plan it.loaded) it.loaded.system h g p
-    (subst (AreKnown h.old.run.spawner) (sym (ap (λ (x : Loaded). x.system.components) same ∙ s.agree.0.0)) knows) calm quiet))
-    (λ none g. planned_unplanned plan (plan_of line) planned none)
+    (trace_run o (task_of it.asked it.loaded) it.loaded.system h g p
+    (subst (AreKnown it.asked.host h.old.run.spawner) (sym (ap (λ (x : Loaded). x.system.components) same ∙ s.agree.0.0))
+    (subst (λ (x : RunLine). AreKnown x.host h.old.run.spawner loaded.system.components) (same_Some asked it.asked (sym is_asked ∙ it.is_asked)) knows)) calm quiet))
+    (λ none g. asked_unasked asked (run_in line) is_asked none)
   where
-    loaded_trace : (it : IsOfRun h line) → it.loaded ≡ s.made → ((h.status ≡ 11) × IsIdle h) ⊎ Traces h (task_of it.plan it.loaded) it.loaded.system → ((h.status ≡ 11) × IsIdle h) ⊎ TracesLoaded h plan loaded
+    loaded_trace : (it : IsOfRun h line) → it.loaded ≡ s.made → ((h.status ≡ 11) × IsIdle h) ⊎ Traces h (task_of it.asked it.loaded) it.loaded.system → ((h.status ≡ 11) × IsIdle h) ⊎ TracesLoaded h asked loaded
     loaded_trace it same (inl idle) = inl idle
     loaded_trace it same (inr t) = inr (record {
-      task = task_of it.plan it.loaded;
+      task = task_of it.asked it.loaded;
       system = it.loaded.system;
       same = record {
-        plan_is = same_Some it.plan plan (sym it.planned ∙ planned);
+        plan_is = ap (λ (x : RunLine). x.plan) (same_Some it.asked asked (sym it.is_asked ∙ is_asked));
+        host_is = ap (λ (x : RunLine). x.host) (same_Some it.asked asked (sym it.is_asked ∙ is_asked));
         bound_is = ap (λ (x : Loaded). x.bound) same ∙ s.agree.1;
         folders_are = ap (λ (x : Loaded). x.folders) same ∙ s.agree.2;
         parts = (ap (λ (x : Loaded). x.system.components) same ∙ s.agree.0.0, ap (λ (x : Loaded). x.system.ports) same ∙ s.agree.0.1);
@@ -207,10 +209,10 @@ size_writes one other h same bound (Sized status t) = Sized status (record { spa
 size_writes one other h same bound (Cut status t) =
     Cut status (record { spawner = t.spawner; out = subst (λ (x : List ℕ). CutsShort x h.old.run.out h.new.run.out) (same_size one other same bound) t.out })
 
-pub check_exact : (o : Outcome) (line : Line) (loaded : Loaded) (h : Happened) → LineFacts o line h.old h.new → HasPut o h → plan_of line ≡ None → (Rose h.err.faults h.err_after.faults → ⊥) →
+pub check_exact : (o : Outcome) (line : Line) (loaded : Loaded) (h : Happened) → LineFacts o line h.old h.new → HasPut o h → run_in line ≡ None → (Rose h.err.faults h.err_after.faults → ⊥) →
     (o ≡ Memory) ⊎ LoadsAlike line h o loaded → ((h.status ≡ 11) × IsIdle h) ⊎ WritesSize h loaded
 check_exact o line loaded h f p none quiet (inl e) = inl (wanting o line h f p quiet e)
 check_exact o line loaded h f p none quiet (inr s) =
-    by_plan o line h s.made s.loads s.facts
-    (λ it same g. planned_unplanned it.plan (plan_of line) it.planned none)
+    by_run o line h s.made s.loads s.facts
+    (λ it same g. asked_unasked it.asked (run_in line) it.is_asked none)
     (λ unplanned g. inr (size_writes s.made loaded h s.agree.0 s.agree.1 (check_size o s.made h g p quiet)))

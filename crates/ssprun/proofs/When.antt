@@ -13,7 +13,7 @@ use Rattle.calling_sequence.specs.declared.run_end.RunEnd.{RunEnd}
 use Rattle.calling_sequence.specs.declared.run_end.RunEnd.TheVariants as E
 use Rattle.system_model.specs.declared.system.System.{System}
 use Rattle.system_model.specs.declared.plan.Plan.{Plan}
-use Rattle.command_line.specs.Line.{Line, IsLine, plan_of}
+use Rattle.command_line.specs.Line.{Line, IsLine, RunLine, run_in}
 use Rattle.ssprun.specs.declared.outcome.Outcome.{Outcome}
 use Rattle.ssprun.specs.declared.outcome.Outcome.TheVariants.{Words, Memory, File, Start, Ran, Checked, Untold}
 use Rattle.system_files.specs.declared.named.FileFault.{FileFault}
@@ -25,7 +25,7 @@ use Rattle.ssprun.specs.declared.outcome.End.TheVariants as O
 use Rattle.ssprun.specs.Message.{Reports, CutsShort, message, status_of, file_message, start_message, end_message}
 use Rattle.system_files.specs.declared.loaded.Loaded.{Loaded}
 use Rattle.system_files.specs.Loads.{FileFails}
-use Rattle.ssprun.specs.Facts.{Calm, CheckFacts, Facts, LineFacts, LoadFacts, LoadsLine, OfSystem, PlanFacts, RunFacts, Unloaded, WithLine, WithoutLine, search_for, task_of}
+use Rattle.ssprun.specs.Facts.{Calm, CheckFacts, Facts, LineFacts, LoadFacts, LoadedFacts, LoadsLine, OfSystem, RunFacts, Unloaded, WithLine, WithoutLine, search_for, task_of}
 use Rattle.ssprun.specs.Happened.{Happened, Scene, Stage}
 use Rattle.ssprun.specs.Peers.{with_all_started}
 use Rattle.ssprun.specs.Rows.{Ended, IsOfRun, IsUncalled, Told, Says, IsIdle, IsSilent, IsMute, memory_line, OnLine, IsNoLine, HasEnded, LacksFile, IsUnread, IsMissing, IsTooBig, BreaksRule, BreaksOffBy, LosesPeer, NotStarted, NotKnown, NotAnswering, IsRefusedWhy, IsMisreplyWhy, LacksSize, ReachesLimit}
@@ -100,24 +100,24 @@ pub taken_idle : (task : Task) (system : System) (h : Happened) → TakesBack ta
 taken_idle task system h t = record {
   uncalled = record {
     peers = t.peers;
-    unasked = unasked task.folders system.components t.peers t.are;
+    unasked = unasked task.host task.folders system.components t.peers t.are;
     started = ap (λ (s : SpawnerView). s.started) t.told;
     retired = ap (λ (s : SpawnerView). s.retired) t.told;
   };
   out = t.out;
 }
 
-pub noted_failure : (cause : StartCause) (c : _) (s t : SpawnerView) → NotesUnstarted cause c s t → (t.started ≡ s.started) × (t.retired ≡ s.retired)
-noted_failure Failed c s t n = (ap (λ (x : SpawnerView). x.started) n, ap (λ (x : SpawnerView). x.retired) n)
-noted_failure Unknown c s t n = (ap (λ (x : SpawnerView). x.started) n.0, ap (λ (x : SpawnerView). x.retired) n.0)
+pub noted_failure : (host : List ℕ) (cause : StartCause) (c : _) (s t : SpawnerView) → NotesUnstarted host cause c s t → (t.started ≡ s.started) × (t.retired ≡ s.retired)
+noted_failure host Failed c s t n = (ap (λ (x : SpawnerView). x.started) n, ap (λ (x : SpawnerView). x.retired) n)
+noted_failure host Unknown c s t n = (ap (λ (x : SpawnerView). x.started) n.0, ap (λ (x : SpawnerView). x.retired) n.0)
 
 pub unstarted_idle : (task : Task) (system : System) (name : List ℕ) (cause : StartCause) (h : Happened) → FailsToStart task system name cause h.old.run h.new.run → IsIdle h
 unstarted_idle task system name cause h f =
-    let n = noted_failure cause f.component (with_all_started h.old.run.spawner f.place) f.failed f.noted in
+    let n = noted_failure task.host cause f.component (with_all_started h.old.run.spawner f.place) f.failed f.noted in
     record {
       uncalled = record {
         peers = f.peers;
-        unasked = unasked task.folders system.components f.peers f.are;
+        unasked = unasked task.host task.folders system.components f.peers f.are;
         started = ap (λ (s : SpawnerView). s.started) f.told ∙ n.0 ∙ ap (λ (k : ℕ). h.old.run.spawner.started + k) (sym f.each);
         retired = ap (λ (s : SpawnerView). s.retired) f.told ∙ ap (λ (vs : List View). vs ++ f.peers) n.1;
       };
@@ -130,11 +130,11 @@ IsWanting h = IsIdle h × (h.new.run.spawner.faults ≡ h.old.run.spawner.faults
 
 pub wants_idle : (line : Line) (h : Happened) → LineFacts Memory line h.old h.new → IsWanting h
 wants_idle line h (Unloaded calm some) = (calm_idle h calm, ap (λ (s : Scene). s.spawner.faults) calm, ap (λ (v : FolderView). v.failed) some.told)
-wants_idle line h (OfSystem loaded loads facts) = by (plan_of line) facts
+wants_idle line h (OfSystem loaded loads facts) = by (run_in line) facts
   where
-    by : (plan : Option Plan) → PlanFacts plan Memory loaded h.old.run h.new.run → IsWanting h
-    by (Some plan) back = (
-      taken_idle (task_of plan loaded) loaded.system h back,
+    by : (asked : Option RunLine) → LoadedFacts asked Memory loaded h.old.run h.new.run → IsWanting h
+    by (Some asked) back = (
+      taken_idle (task_of asked loaded) loaded.system h back,
       ap (λ (s : SpawnerView). s.faults) back.told,
       ap (λ (v : FolderView). v.failed) loads.told,
     )
@@ -156,9 +156,9 @@ start_rose task system name old new f = raised old.spawner.faults new.spawner.fa
 -- ---- each outcome
 
 start_when : (cause : StartCause) (name : List ℕ) (line : Line) (h : Happened) → IsLine h.words line → (it : IsOfRun h line) →
-    FailsToStart (task_of it.plan it.loaded) it.loaded.system name cause h.old.run h.new.run → Says h (start_message name cause) → WhenIs NoPeer h
+    FailsToStart (task_of it.asked it.loaded) it.loaded.system name cause h.old.run h.new.run → Says h (start_message name cause) → WhenIs NoPeer h
 start_when Failed name line h is it f says =
-    (line, is, NotStarted it name f (start_rose (task_of it.plan it.loaded) it.loaded.system name h.old.run h.new.run f) says)
+    (line, is, NotStarted it name f (start_rose (task_of it.asked it.loaded) it.loaded.system name h.old.run h.new.run f) says)
 start_when Unknown name line h is it f says = (line, is, NotKnown it name f says)
 
 -- what holds of this answer holds of the one by which the run was broken off
@@ -171,7 +171,7 @@ bad_when (Misreply call reply) line h is b = (line, is, breaks_by (Misreply call
 bad_when (Link call fault) line h is b = (line, is, NotAnswering (breaks_by (Link call fault) IsLink line h tt b))
 
 run_when : (end : RunEnd) (e : End) (line : Line) (h : Happened) → IsLine h.words line → (it : IsOfRun h line) → IsEndOf (names_of it.loaded.system) end e →
-    HasRun (task_of it.plan it.loaded) it.loaded.system end h.old.run h.new.run → Put h (end_message e) → WhenIs (of_end e) h
+    HasRun (task_of it.asked it.loaded) it.loaded.system end h.old.run h.new.run → Put h (end_message e) → WhenIs (of_end e) h
 run_when E.Stop e line h is it named run says =
     subst (λ (x : End). WhenIs (of_end x) h) (sym named) (line, is, Ended E.Stop tt (it, run) (subst (λ (x : End). Put h (end_message x)) named says))
 run_when (E.Asked point) e line h is it named run says =
@@ -206,14 +206,14 @@ run_when (E.Bad bad) e line h is it named run says =
     }))
 run_when E.WriteFault e line h is it named run says =
     subst (λ (x : End). WhenIs (of_end x) h) (sym named)
-    (subst (λ (x : End). Put h (end_message x)) named says, tells_out (task_of it.plan it.loaded) it.loaded.system E.WriteFault h.old.run h.new.run run)
+    (subst (λ (x : End). Put h (end_message x)) named says, tells_out (task_of it.asked it.loaded) it.loaded.system E.WriteFault h.old.run h.new.run run)
 
 -- what is loaded is run
-run_case : (o : Outcome) (line : Line) (h : Happened) → IsLine h.words line → (it : IsOfRun h line) → RunFacts o (task_of it.plan it.loaded) it.loaded.system h.old.run h.new.run →
+run_case : (o : Outcome) (line : Line) (h : Happened) → IsLine h.words line → (it : IsOfRun h line) → RunFacts o (task_of it.asked it.loaded) it.loaded.system h.old.run h.new.run →
     Put h (message o) → WhenIs (of_outcome o) h
 run_case Words line h is it f says = absurd f
 run_case Memory line h is it f says = (
-  taken_idle (task_of it.plan it.loaded) it.loaded.system h f,
+  taken_idle (task_of it.asked it.loaded) it.loaded.system h f,
   ap (λ (s : SpawnerView). s.faults) f.told,
   ap (λ (v : FolderView). v.failed) it.loads.told,
   says,
@@ -225,7 +225,7 @@ run_case Checked line h is it f says = absurd f
 run_case Untold line h is it f says = absurd f
 
 -- or checked
-check_case : (o : Outcome) (line : Line) (h : Happened) (loaded : Loaded) → IsLine h.words line → plan_of line ≡ None → LoadsLine line loaded h.old.folder h.new.folder →
+check_case : (o : Outcome) (line : Line) (h : Happened) (loaded : Loaded) → IsLine h.words line → run_in line ≡ None → LoadsLine line loaded h.old.folder h.new.folder →
     CheckFacts o loaded h.old.run h.new.run → Put h (message o) → WhenIs (of_outcome o) h
 check_case Words line h loaded is none loads f says = absurd f
 check_case Memory line h loaded is none loads f says = absurd f
@@ -235,15 +235,15 @@ check_case (Ran e) line h loaded is none loads f says = absurd f
 check_case Checked line h loaded is none loads f says = (line, is, Told (loaded, none, loads, f) says)
 check_case Untold line h loaded is none loads f says = (says, cut_short_rose _ h.old.run.out h.new.run.out f.out)
 
--- by whether the line has a plan
-pub by_plan : {A : Type 0} (o : Outcome) (line : Line) (h : Happened) (loaded : Loaded) → LoadsLine line loaded h.old.folder h.new.folder →
-    PlanFacts (plan_of line) o loaded h.old.run h.new.run →
-    ((it : IsOfRun h line) → it.loaded ≡ loaded → RunFacts o (task_of it.plan it.loaded) it.loaded.system h.old.run h.new.run → A) →
-    (plan_of line ≡ None → CheckFacts o loaded h.old.run h.new.run → A) → A
-by_plan {A} o line h loaded loads facts on_run on_check = by (plan_of line) refl facts
+-- by whether the line asks for a run
+pub by_run : {A : Type 0} (o : Outcome) (line : Line) (h : Happened) (loaded : Loaded) → LoadsLine line loaded h.old.folder h.new.folder →
+    LoadedFacts (run_in line) o loaded h.old.run h.new.run →
+    ((it : IsOfRun h line) → it.loaded ≡ loaded → RunFacts o (task_of it.asked it.loaded) it.loaded.system h.old.run h.new.run → A) →
+    (run_in line ≡ None → CheckFacts o loaded h.old.run h.new.run → A) → A
+by_run {A} o line h loaded loads facts on_run on_check = by (run_in line) refl facts
   where
-    by : (plan : Option Plan) → plan_of line ≡ plan → PlanFacts plan o loaded h.old.run h.new.run → A
-    by (Some plan) e f = on_run (record { plan = plan; planned = e; loaded = loaded; loads = loads }) refl f
+    by : (asked : Option RunLine) → run_in line ≡ asked → LoadedFacts asked o loaded h.old.run h.new.run → A
+    by (Some asked) e f = on_run (record { asked = asked; is_asked = e; loaded = loaded; loads = loads }) refl f
     by None e f = on_check e f
 
 unloaded_when : (o : Outcome) (line : Line) (h : Happened) → IsLine h.words line → Calm h.old.run h.new.run → LoadFacts o line h.old.folder h.new.folder → Put h (message o) → WhenIs (of_outcome o) h
@@ -258,7 +258,7 @@ unloaded_when Untold line h is calm f says = absurd f
 line_when : (o : Outcome) (line : Line) (h : Happened) → IsLine h.words line → LineFacts o line h.old h.new → Put h (message o) → WhenIs (of_outcome o) h
 line_when o line h is (Unloaded calm f) says = unloaded_when o line h is calm f says
 line_when o line h is (OfSystem loaded loads f) says =
-    by_plan o line h loaded loads f (λ it same g. run_case o line h is it g says) (λ none g. check_case o line h loaded is none loads g says)
+    by_run o line h loaded loads f (λ it same g. run_case o line h is it g says) (λ none g. check_case o line h loaded is none loads g says)
 
 outcome_when : (o : Outcome) (h : Happened) → HasFacts o h → Put h (message o) → WhenIs (of_outcome o) h
 outcome_when o h (WithLine r) says = line_when o r.line h r.is r.facts says

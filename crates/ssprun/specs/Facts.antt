@@ -2,10 +2,9 @@
 use Rattle.std.specs.Prelude.{◌≡◌, ℕ, List, Option, Some, None}
 use Rattle.sim_base.specs.Folder.{FolderView}
 use Rattle.sim_base.specs.Sink.{with_piece}
-use Rattle.system_model.specs.declared.plan.Plan.{Plan}
 use Rattle.system_model.specs.declared.system.System.{System}
 use Rattle.calling_sequence.specs.declared.run_end.RunEnd.{RunEnd}
-use Rattle.command_line.specs.Line.{Check, IsLine, Line, One, Run, directory_of, plan_of, resolution_of}
+use Rattle.command_line.specs.Line.{Check, IsLine, Line, One, Run, RunLine, directory_of, resolution_of, run_in}
 use Rattle.system_files.specs.declared.loaded.Loaded.{Loaded}
 use Rattle.system_files.specs.declared.subject.Subject.{Subject}
 use Rattle.system_files.specs.declared.subject.Subject.TheVariants as what
@@ -39,8 +38,8 @@ abbrev pub LoadsLine : Line → Loaded → FolderView → FolderView → Type 0
 LoadsLine line loaded old new = Loads (search_for line) (Found loaded) old new
 
 -- what is to be run of it
-abbrev pub task_of : Plan → Loaded → Task
-task_of plan loaded = record { plan = plan; bound = loaded.bound; folders = loaded.folders }
+abbrev pub task_of : RunLine → Loaded → Task
+task_of asked loaded = record { plan = asked.plan; host = asked.host; bound = loaded.bound; folders = loaded.folders }
 
 -- ---- a run
 
@@ -79,13 +78,13 @@ CheckFacts (Ran e) loaded old new = ⊥
 CheckFacts Checked loaded old new = TellsSize loaded old new
 CheckFacts Untold loaded old new = FailsToTell loaded old new
 
--- what holds of an outcome once the system is known: of a run where there is a plan, else of a check
-abbrev pub PlanFacts : Option Plan → Outcome → Loaded → Scene → Scene → Type 0
-PlanFacts (Some plan) outcome loaded old new = RunFacts outcome (task_of plan loaded) loaded.system old new
-PlanFacts None outcome loaded old new = CheckFacts outcome loaded old new
+-- what holds of an outcome once the system is known: of a run where one is asked for, else of a check
+abbrev pub LoadedFacts : Option RunLine → Outcome → Loaded → Scene → Scene → Type 0
+LoadedFacts (Some asked) outcome loaded old new = RunFacts outcome (task_of asked loaded) loaded.system old new
+LoadedFacts None outcome loaded old new = CheckFacts outcome loaded old new
 
 abbrev pub SystemFacts : Line → Outcome → Loaded → Scene → Scene → Type 0
-SystemFacts line outcome loaded old new = PlanFacts (plan_of line) outcome loaded old new
+SystemFacts line outcome loaded old new = LoadedFacts (run_in line) outcome loaded old new
 
 -- ---- the files
 

@@ -1,4 +1,3 @@
-pub mod Frame
 pub mod Message
 pub mod Happened
 pub mod Peers

@@ -16,8 +16,11 @@ use Rattle.doc_tree.specs.declared.place.Place.TheVariants.{Byte, Element}
 use Rattle.fmi_calls.specs.KindFacts.{facts_of}
 use Rattle.fmi_calls.specs.Kinds.{kind_of, status_of_bad}
 use Rattle.fmi_calls.specs.declared.call.Call.{Call}
+use Rattle.fmi_calls.specs.declared.call.Reply.{Reply}
 use Rattle.fmi_calls.specs.declared.call.Status.{Status}
 use Rattle.fmi_calls.specs.declared.call.Status.TheVariants as S
+use Rattle.link_frames.specs.Head.{spelling}
+use Rattle.link_frames.specs.Reply.{head_of_reply}
 use Rattle.fmu_peer.specs.declared.ended.Why.{Why}
 use Rattle.fmu_peer.specs.declared.ended.Why.TheVariants.{Refused, Misreply, Link}
 use Rattle.ssprun.specs.declared.outcome.Outcome.{Outcome}
@@ -26,7 +29,6 @@ use Rattle.ssprun.specs.declared.outcome.StartCause.{StartCause}
 use Rattle.ssprun.specs.declared.outcome.StartCause.TheVariants.{Failed, Unknown}
 use Rattle.ssprun.specs.declared.outcome.End.{End}
 use Rattle.ssprun.specs.declared.outcome.End.TheVariants.{Stop, Asked, EventLimit, FixedStep, Bad, WriteFault}
-use Rattle.ssprun.specs.Frame.{reply_frame}
 
 -- a call's name
 abbrev pub call_name : Call → List ℕ
@@ -39,6 +41,10 @@ status_name S.Warning = codes "Warning"
 status_name S.Discard = codes "Discard"
 status_name S.Error = codes "Error"
 status_name S.Fatal = codes "Fatal"
+
+-- the bytes of a reply's frame on the link
+abbrev pub frame_of : Reply → List ℕ
+frame_of reply = spelling (head_of_reply reply)
 
 -- ---- the lines
 
@@ -83,7 +89,7 @@ unfoldable pub bad_message : List ℕ → Why → List ℕ
 bad_message component (Refused call status) =
     codes "fmu " ++ escaped component ++ codes " " ++ call_name call ++ codes " " ++ status_name (status_of_bad status) ++ codes "\n"
 bad_message component (Misreply call reply) =
-    codes "misreply " ++ escaped component ++ codes " " ++ call_name call ++ codes " " ++ encode_lower (reply_frame reply) ++ codes "\n"
+    codes "misreply " ++ escaped component ++ codes " " ++ call_name call ++ codes " " ++ encode_lower (frame_of reply) ++ codes "\n"
 bad_message component (Link call fault) = codes "link " ++ escaped component ++ codes " " ++ call_name call ++ codes "\n"
 
 -- of the end of a run: none at the stop and where a component asked for it

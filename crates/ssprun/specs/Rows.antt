@@ -32,10 +32,10 @@ use Rattle.calling_sequence.specs.declared.run_end.RunEnd.TheVariants as E
 use Rattle.calling_sequence.specs.Course.{IsBoundOf, trace_pieces}
 use Rattle.calling_sequence.specs.Puts.{CutsPiece, with_pieces}
 use Rattle.step_master.specs.Traced.{IsRunOf}
-use Rattle.bench_fmus.specs.declared.bench.Bench.{Bench}
-use Rattle.bench_fmus.specs.Spawners.{bench_view}
+use Rattle.bench_fmus.specs.declared.built_in.BuiltIn.{BuiltIn}
+use Rattle.bench_fmus.specs.BuiltInView.{built_in_view}
 use Rattle.built_in_laws.specs.BuiltInRuns.{IsBuiltIn}
-use Rattle.command_line.specs.Line.{IsLine, Line, plan_of}
+use Rattle.command_line.specs.Line.{IsLine, Line, RunLine, run_in}
 use Rattle.ssprun.specs.declared.outcome.StartCause.TheVariants.{Failed, Unknown}
 use Rattle.system_loading.specs.Assembly.{HaveSameParts}
 use Rattle.system_files.specs.declared.loaded.Loaded.{Loaded}
@@ -103,10 +103,10 @@ pub record ReadingRow (h : Happened) : Type 0 where
   pub none : IsNoLine h → h.new.folder ≡ h.old.folder
   pub some : (line : Line) → IsLine h.words line → ReadsFiles h line
 
--- the line asks for a run of what was loaded, by this plan
+-- the line asks for a run of what was loaded
 pub record IsOfRun (h : Happened) (line : Line) : Type 0 where
-  pub plan : Plan
-  pub planned : plan_of line ≡ Some plan
+  pub asked : RunLine
+  pub is_asked : run_in line ≡ Some asked
   pub loaded : Loaded
   pub loads : LoadsLine line loaded h.old.folder h.new.folder
 
@@ -123,11 +123,11 @@ IsFinished E.WriteFault = ⊥
 
 -- the run of the line's system ended so
 abbrev pub RunsTo : Happened → Line → RunEnd → Type 0
-RunsTo h line end = (it : IsOfRun h line) × HasRun (task_of it.plan it.loaded) it.loaded.system end h.old.run h.new.run
+RunsTo h line end = (it : IsOfRun h line) × HasRun (task_of it.asked it.loaded) it.loaded.system end h.old.run h.new.run
 
 -- the line asks for a check of what was loaded, and this holds of it
 abbrev pub OnCheck : Happened → Line → (Loaded → Scene → Scene → Type 0) → Type 0
-OnCheck h line P = (loaded : Loaded) × (plan_of line ≡ None) × LoadsLine line loaded h.old.folder h.new.folder × P loaded h.old.run h.new.run
+OnCheck h line P = (loaded : Loaded) × (run_in line ≡ None) × LoadsLine line loaded h.old.folder h.new.folder × P loaded h.old.run h.new.run
 
 -- 0: the run came to its end, or the size of the system was told, and err holds what it held
 pub data HasEnded (h : Happened) (line : Line) : Type 0 where
@@ -175,7 +175,7 @@ pub record BreaksOffBy (h : Happened) (line : Line) (P : Why → Type 0) : Type 
   pub name : List ℕ
   pub named : slice_get (names_of it.loaded.system) bad.component.0 ≡ Some name
   pub says : Says h (bad_message name bad.why)
-  pub run : HasRun (task_of it.plan it.loaded) it.loaded.system (E.Bad bad) h.old.run h.new.run
+  pub run : HasRun (task_of it.asked it.loaded) it.loaded.system (E.Bad bad) h.old.run h.new.run
 
 -- why is the first answer of the talk's run that isn't good: the calls before it got good ones, and its own is none of the closing's
 pub record IsFirstBadOf (shape : Shape) (why : Why) (talk : List Exchange) : Type 0 where
@@ -221,16 +221,16 @@ IsMisreplyWhy (Link call fault) = ⊥
 
 -- 5: `link` only where the spawner's count or the peer's rose, `unknown` exactly where the spawner doesn't know the identifier of a component, the first of which is named
 pub data LosesPeer (h : Happened) (line : Line) : Type 0 where
-  NotStarted : (it : IsOfRun h line) (name : List ℕ) → FailsToStart (task_of it.plan it.loaded) it.loaded.system name Failed h.old.run h.new.run →
+  NotStarted : (it : IsOfRun h line) (name : List ℕ) → FailsToStart (task_of it.asked it.loaded) it.loaded.system name Failed h.old.run h.new.run →
       Rose h.old.run.spawner.faults h.new.run.spawner.faults → Says h (start_message name Failed) → LosesPeer h line
-  NotKnown : (it : IsOfRun h line) (name : List ℕ) → FailsToStart (task_of it.plan it.loaded) it.loaded.system name Unknown h.old.run h.new.run →
+  NotKnown : (it : IsOfRun h line) (name : List ℕ) → FailsToStart (task_of it.asked it.loaded) it.loaded.system name Unknown h.old.run h.new.run →
       Says h (start_message name Unknown) → LosesPeer h line
   NotAnswering : BreaksOffBy h line IsLink → LosesPeer h line
 
 pub record LinkRow (h : Happened) : Type 0 where
   pub when : h.status ≡ 5 → OnLine h (LosesPeer h)
-  pub unknown : (line : Line) (plan : Plan) (loaded : Loaded) (place : ℕ) (c : Component) → IsLine h.words line → plan_of line ≡ Some plan → IsToFind h line (Found loaded) →
-      IsFirstUnknown h.old.run.spawner loaded.system.components place c → (Rose h.old.run.spawner.faults h.new.run.spawner.faults → ⊥) →
+  pub unknown : (line : Line) (asked : RunLine) (loaded : Loaded) (place : ℕ) (c : Component) → IsLine h.words line → run_in line ≡ Some asked → IsToFind h line (Found loaded) →
+      IsFirstUnknown asked.host h.old.run.spawner loaded.system.components place c → (Rose h.old.run.spawner.faults h.new.run.spawner.faults → ⊥) →
       AnswersOr11 h 5 (start_message c.name Unknown)
   pub lost : DecidesBy h IsLink
 
@@ -249,7 +249,7 @@ pub record ReachesLimit (h : Happened) (line : Line) : Type 0 where
   pub it : IsOfRun h line
   pub point : ℕ
   pub says : Says h (limit_message point)
-  pub run : HasRun (task_of it.plan it.loaded) it.loaded.system (E.EventLimit point) h.old.run h.new.run
+  pub run : HasRun (task_of it.asked it.loaded) it.loaded.system (E.EventLimit point) h.old.run h.new.run
 
 pub record LimitRow (h : Happened) : Type 0 where
   pub when : h.status ≡ 8 → OnLine h (ReachesLimit h)
@@ -263,7 +263,7 @@ pub record LacksSize (h : Happened) (line : Line) : Type 0 where
   pub name : List ℕ
   pub named : slice_get (names_of it.loaded.system) component.0 ≡ Some name
   pub says : Says h (fixed_message name at end)
-  pub run : HasRun (task_of it.plan it.loaded) it.loaded.system (E.FixedStep component at end) h.old.run h.new.run
+  pub run : HasRun (task_of it.asked it.loaded) it.loaded.system (E.FixedStep component at end) h.old.run h.new.run
 
 pub record FixedRow (h : Happened) : Type 0 where
   pub when : h.status ≡ 9 → OnLine h (LacksSize h)
@@ -325,26 +325,27 @@ pub record Traces (h : Happened) (task : Task) (system : System) : Type 0 where
   pub sound : IsSound system
   pub writes : (r : Run) → IsRunOf system task.bound olds r → r.plan ≡ task.plan → WellBehaved r → All (λ (v : View). v.faults ≡ 0) news → WritesTrace h r
 
--- what is run is a system with the same components and ports, in the same folders, with the same values of parameters
-pub record IsRunAs (loaded : Loaded) (plan : Plan) (task : Task) (system : System) : Type 0 where
-  pub plan_is : task.plan ≡ plan
+-- what is run is a system with the same components and ports, by the same host, in the same folders, with the same values of parameters
+pub record IsRunAs (loaded : Loaded) (asked : RunLine) (task : Task) (system : System) : Type 0 where
+  pub plan_is : task.plan ≡ asked.plan
+  pub host_is : task.host ≡ asked.host
   pub bound_is : task.bound ≡ loaded.bound
   pub folders_are : task.folders ≡ loaded.folders
   pub parts : HaveSameParts system loaded.system
 
 -- the trace of what the files say is written
-pub record TracesLoaded (h : Happened) (plan : Plan) (loaded : Loaded) : Type 0 where
+pub record TracesLoaded (h : Happened) (asked : RunLine) (loaded : Loaded) : Type 0 where
   pub task : Task
   pub system : System
-  pub same : IsRunAs loaded plan task system
+  pub same : IsRunAs loaded asked task system
   pub traces : Traces h task system
 
 -- the trace: where the files say a system, the identifiers are known, and no read, start or put on err failed, or for want of memory nothing
 pub record TraceRow (h : Happened) : Type 0 where
-  pub when : (line : Line) (plan : Plan) (loaded : Loaded) → IsLine h.words line → plan_of line ≡ Some plan → IsToFind h line (Found loaded) →
-      AreKnown h.old.run.spawner loaded.system.components →
+  pub when : (line : Line) (asked : RunLine) (loaded : Loaded) → IsLine h.words line → run_in line ≡ Some asked → IsToFind h line (Found loaded) →
+      AreKnown asked.host h.old.run.spawner loaded.system.components →
       (Rose h.old.run.spawner.faults h.new.run.spawner.faults → ⊥) → (Rose h.err.faults h.err_after.faults → ⊥) →
-      ((h.status ≡ 11) × IsIdle h) ⊎ TracesLoaded h plan loaded
+      ((h.status ≡ 11) × IsIdle h) ⊎ TracesLoaded h asked loaded
 
 -- ---- a check
 
@@ -355,15 +356,15 @@ pub data WritesSize (h : Happened) (loaded : Loaded) : Type 0 where
 
 -- the size: where the files say a system, and no read or put on err failed, or for want of memory nothing
 pub record CheckRow (h : Happened) : Type 0 where
-  pub when : (line : Line) (loaded : Loaded) → IsLine h.words line → plan_of line ≡ None → IsToFind h line (Found loaded) → (Rose h.err.faults h.err_after.faults → ⊥) →
+  pub when : (line : Line) (loaded : Loaded) → IsLine h.words line → run_in line ≡ None → IsToFind h line (Found loaded) → (Rose h.err.faults h.err_after.faults → ⊥) →
       ((h.status ≡ 11) × IsIdle h) ⊎ WritesSize h loaded
 
 -- ---- built-in machines
 
--- the spawner is one of the built-in machines
-pub record IsOverBench (h : Happened) : Type 0 where
-  pub bench : Bench
-  pub told : h.new.run.spawner ≡ bench_view bench
+-- the peers that were taken back are built-in machines, as are those of a spawner of these
+pub record IsOverBuiltIns (h : Happened) : Type 0 where
+  pub peers : List BuiltIn
+  pub told : h.new.run.spawner.retired ≡ map built_in_view peers
 
 -- each component has a built-in machine
 pub record HasBuiltIns (r : Run) : Type 0 where
@@ -379,12 +380,12 @@ pub record TracesBuiltIns (h : Happened) (plan : Plan) (loaded : Loaded) : Type 
   pub built_in : HasBuiltIns run
   pub writes : WritesTrace h run
 
--- the same trace over the spawner of the built-in machines, of which no premise says that they behave well
+-- the same trace over built-in machines, of which no premise says that they behave well
 pub record BuiltInRow (h : Happened) : Type 0 where
-  pub when : IsOverBench h → (line : Line) (plan : Plan) (loaded : Loaded) → IsLine h.words line → plan_of line ≡ Some plan → IsToFind h line (Found loaded) →
-      AreKnown h.old.run.spawner loaded.system.components →
+  pub when : IsOverBuiltIns h → (line : Line) (asked : RunLine) (loaded : Loaded) → IsLine h.words line → run_in line ≡ Some asked → IsToFind h line (Found loaded) →
+      AreKnown asked.host h.old.run.spawner loaded.system.components →
       (Rose h.old.run.spawner.faults h.new.run.spawner.faults → ⊥) → (Rose h.err.faults h.err_after.faults → ⊥) → All (λ (v : View). v.faults ≡ 0) h.new.run.spawner.retired →
-      ((h.status ≡ 11) × IsIdle h) ⊎ TracesBuiltIns h plan loaded
+      ((h.status ≡ 11) × IsIdle h) ⊎ TracesBuiltIns h asked.plan loaded
 
 -- each peer that was started was taken back once: uncalled, or behind a run in which its talk is legal, lean and closed, and puts and ends are those of the run; a check starts none, and puts the size
 pub data PeerRow (h : Happened) : Type 0 where

@@ -1,5 +1,5 @@
 -- A run of a system from the start of its peers until they are taken back (FMI 3.0, 4.2.1).
-use Rattle.std.specs.Prelude.{◌≡◌, ℕ, ◌<◌, false, List, [], map, length, take, All, Some, IfSome, codes}
+use Rattle.std.specs.Prelude.{◌≡◌, ℕ, ◌<◌, false, List, [], map, length, take, All, Some, IfSome}
 use Rattle.std.specs.List.{slice_get}
 use Rattle.fmi_calls.specs.Next.{fresh}
 use Rattle.fmu_peer.specs.Answer.{IsLink}
@@ -27,9 +27,10 @@ use Rattle.ssprun.specs.Happened.{Scene}
 use Rattle.system_files.specs.Loads.{IsNamed}
 use Rattle.ssprun.specs.Peers.{AreKnown, AreStarted, with_all_retired, with_all_started}
 
--- what is to be run: a plan, the values that parameters are bound to, and the folders in which the peers are started
+-- what is to be run: a plan, the host that the peers are started by, the values that parameters are bound to, and the folders in which the peers are started
 pub record Task : Type 0 where
   pub plan : Plan
+  pub host : List ℕ
   pub bound : Bound
   pub folders : List (List ℕ)
 
@@ -56,14 +57,14 @@ pub record IsUnasked (v : View) : Type 0 where
 -- each peer that was started was taken back without a call, and nothing was put
 pub record TakesBack (task : Task) (system : System) (old new : Scene) : Type 0 where
   pub peers : List View
-  pub are : AreStarted task.folders system.components peers
+  pub are : AreStarted task.host task.folders system.components peers
   pub told : new.spawner ≡ with_all_retired (with_all_started old.spawner (length peers)) peers
   pub out : new.out ≡ old.out
 
 -- what a spawner tells of a component's peer that wasn't started
-abbrev pub NotesUnstarted : StartCause → Component → SpawnerView → SpawnerView → Type 0
-NotesUnstarted Failed c old new = new ≡ with_failure old
-NotesUnstarted Unknown c old new = (new ≡ old) × (old.knows (codes "builtin") c.shape.identifier ≡ false)
+abbrev pub NotesUnstarted : List ℕ → StartCause → Component → SpawnerView → SpawnerView → Type 0
+NotesUnstarted host Failed c old new = new ≡ with_failure old
+NotesUnstarted host Unknown c old new = (new ≡ old) × (old.knows host c.shape.identifier ≡ false)
 
 -- the peer of the component of this name wasn't started; those before it were, and were taken back without a call
 pub record FailsToStart (task : Task) (system : System) (name : List ℕ) (fault : StartCause) (old new : Scene) : Type 0 where
@@ -73,10 +74,10 @@ pub record FailsToStart (task : Task) (system : System) (name : List ℕ) (fault
   pub name_is : name ≡ component.name
   pub peers : List View
   pub each : length peers ≡ place
-  pub are : AreStarted task.folders system.components peers
-  pub known : AreKnown old.spawner (take place system.components)
+  pub are : AreStarted task.host task.folders system.components peers
+  pub known : AreKnown task.host old.spawner (take place system.components)
   pub failed : SpawnerView
-  pub noted : NotesUnstarted fault component (with_all_started old.spawner place) failed
+  pub noted : NotesUnstarted task.host fault component (with_all_started old.spawner place) failed
   pub told : new.spawner ≡ with_all_retired failed peers
   pub out : new.out ≡ old.out
 
@@ -84,9 +85,9 @@ pub record FailsToStart (task : Task) (system : System) (name : List ℕ) (fault
 
 -- a peer was started for each component, and taken back at the end
 pub record RunsPeers (task : Task) (system : System) (olds news : List View) (old new : SpawnerView) : Type 0 where
-  pub known : AreKnown old system.components
+  pub known : AreKnown task.host old system.components
   pub each : length olds ≡ length system.components
-  pub are : AreStarted task.folders system.components olds
+  pub are : AreStarted task.host task.folders system.components olds
   pub told : new ≡ with_all_retired (with_all_started old (length olds)) news
 
 -- all instances were made, and the run went on to its end. Each peer that isn't spared behind a Fatal of its source is over. What it put is the trace of told machines, up to where it was broken off

@@ -8,7 +8,6 @@ mod binding_tests;
 mod event_script_tests;
 #[cfg(test)]
 mod event_tests;
-mod frame;
 #[cfg(test)]
 mod long_tests;
 mod message;
@@ -27,14 +26,14 @@ mod system_tests;
 mod tests;
 
 use args::run_args;
-use bench_fmus::Bench;
+use child_hosts::Hosts;
 use host_edge::{HostFiles, OpenedFolder, StreamSink, WriterStream};
 use std::env;
 use std::process::ExitCode;
 
 fn main(rt: HostRuntime) -> ExitCode {
     let mut folder = OpenedFolder::new(rt.alloc(), HostFiles::new(&rt));
-    let mut spawner = Bench::new(rt.alloc(), None, Vec::new(rt.alloc()));
+    let mut spawner = Hosts::new(rt.alloc(), &rt);
     let mut out = StreamSink::new(WriterStream {
         writer: rt.stdout(),
     });

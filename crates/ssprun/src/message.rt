@@ -1,17 +1,18 @@
 ghost use Rattle.std.specs.Prelude.{◌≡◌, ◌+◌, ◌*◌, ◌≤◌, ◌++◌, is_some, length, take, codes, decimal};
 ghost use Rattle.sim_base.specs.Escape.{escaped};
+ghost use Rattle.hex.specs.Hex.{encode_lower};
 ghost use Rattle.std.specs.List.{count_by};
 ghost use Rattle.system_model.specs.Ports.{source_of};
 ghost use Rattle.system_files.specs.Rooms.{room_for};
-ghost use Rattle.ssprun.specs.Message.{bad_message, file_message, fixed_message, limit_message, loop_room, loop_text, numbers_text, path_room, place_room, place_text, size_text, start_message};
+ghost use Rattle.ssprun.specs.Message.{bad_message, file_message, fixed_message, frame_of, limit_message, loop_room, loop_text, numbers_text, path_room, place_room, place_text, size_text, start_message};
 
-use crate::frame::frame_digits;
 use crate::names::{kind_name, status_name};
 use crate::outcome::StartCause;
 use doc_tree::{Place, Rule};
-use fmi_calls::Status;
+use fmi_calls::{Reply, Status};
 use fmu_peer::Why;
 use itoa::Buffer;
+use link_frames::put_reply;
 use sim_base::{PortId, escape};
 use system_files::FileFault;
 use system_model::{Port, Role, System};
@@ -117,6 +118,19 @@ pub(crate) fn write_bad_message(component: &str, why: &Why, text: &mut [u8]) -> 
             let at = write_call(b"link ", component, kind_name(call.kind()), text);
             append(b"\n", text, at)
         }
+    }
+}
+
+// The digits of a reply's frame.
+fn frame_digits(reply: &Reply) -> [u8; 48]
+    ensures { result ≡ encode_lower (frame_of reply.now) }
+{
+    let mut frame = [0u8; 24];
+    put_reply(reply, &mut frame);
+    let mut digits = [0u8; 48];
+    match hex::encode_to_slice(frame.as_slice(), &mut digits) {
+        Ok(()) => digits,
+        Err(_) => unreachable!(),
     }
 }
 

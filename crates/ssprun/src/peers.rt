@@ -14,9 +14,11 @@ pub(crate) struct Unstarted<L> {
     pub fault: StartFault,
 }
 
-/// Starts a peer for each of the components, in their order and in the folder of its FMU, and puts them into an empty list that has room for them.
+/// Starts a peer for each of the components by the host, in their order and in the folder of its FMU, and puts them into an
+/// empty list that has room for them.
 pub(crate) fn start_each<S: Spawner>(
     alloc: Global,
+    host: &str,
     folders: &[Text],
     components: &[Component],
     room: Vec<S::Link>,
@@ -27,15 +29,15 @@ pub(crate) fn start_each<S: Spawner>(
     requires few { length components.now ≤ 256 }
     requires folders { length folders.now ≡ length components.now }
     requires each { All IsNamed components.now }
-    ensures ok { IfOk result (λ peers. StartsEach folders.now components.now (map S.Link.view peers.items) (S.view spawner.old) (S.view spawner.new)) }
-    ensures err { IfErr result (λ e. StartsUpTo folders.now components.now e.component.0 e.fault (map S.Link.view e.peers.items) (S.view spawner.old) (S.view spawner.new)) }
+    ensures ok { IfOk result (λ peers. StartsEach host.now folders.now components.now (map S.Link.view peers.items) (S.view spawner.old) (S.view spawner.new)) }
+    ensures err { IfErr result (λ e. StartsUpTo host.now folders.now components.now e.component.0 e.fault (map S.Link.view e.peers.items) (S.view spawner.old) (S.view spawner.new)) }
 {
     let mut peers = room;
     for place in 0..components.len() {
         let component = &components[place];
         match spawner.start(
             alloc,
-            "builtin",
+            host,
             component.name.as_str(),
             folders[place].as_str(),
             &component.shape,

@@ -1,11 +1,11 @@
-ghost use Rattle.std.specs.Prelude.{[], ◌≡◌, ◌+◌, ◌<◌, ◌≤◌, ◌^◌, IfOk, IfSome, length, map};
-ghost use Rattle.command_line.specs.Line.{IsWithin, KeepsLimits, directory_of, line_of, plan_of, resolution_of, texts};
+ghost use Rattle.std.specs.Prelude.{[], ◌≡◌, ◌+◌, ◌<◌, ◌≤◌, ◌^◌, IfOk, IfSome, length, map, option_map};
+ghost use Rattle.command_line.specs.Line.{IsWithin, KeepsLimits, directory_of, line_of, resolution_of, run_in, run_of, texts};
 ghost use Rattle.fmu_peer.specs.Start.{SpawnerView};
 ghost use Rattle.run_model.specs.Laws.{OneTrace};
 ghost use Rattle.sim_base.specs.Sink.{SinkView};
 ghost use Rattle.system_model.specs.Bounds.{BindsParameters};
 ghost use Rattle.system_model.specs.declared.system.System.{System};
-ghost use Rattle.ssprun.specs.Facts.{CheckFacts, Facts, LineFacts, PlanFacts, RunFacts, subject_of};
+ghost use Rattle.ssprun.specs.Facts.{CheckFacts, Facts, LineFacts, LoadedFacts, RunFacts, subject_of};
 ghost use Rattle.system_files.specs.declared.loaded.Loaded.{Loaded};
 ghost use Rattle.ssprun.specs.Happened.{happened, scene, stage};
 ghost use Rattle.ssprun.specs.Peers.{AreKnown, AreStarted, StartsUpTo, with_all_started};
@@ -19,7 +19,7 @@ use crate::peers::{Unstarted, retire_each, start_each};
 use crate::refusing::refuse;
 use crate::report::Report;
 use built_in_laws::built_in_runs;
-use command_line::{CommandLine, WordsFault, read_words};
+use command_line::{CommandLine, Options, WordsFault, read_words};
 use fmu_peer::{Spawner, StartFault};
 use run_model::one_trace;
 use sim_base::{Folder, Sink, Text};
@@ -27,13 +27,14 @@ use std::alloc::Global;
 use std::thread::Threads;
 use step_master::{Master, PrepareEnd, PrepareFault, RunEnd, lives_of_peers, runs_of_machines};
 use system_files::{Loaded, Subject, load};
-use system_model::{Bound, Plan, System};
+use system_model::{Bound, System};
 
 /// Does what the words of a command line say, and answers the program's status.
 ///
-/// `run DIR --resolution R --step H --stop T [--start S] [--max-iterations N]` reads the description of the system in a
-/// directory and those of its FMUs, runs them from their first calls to their closing, and puts the trace on `out`; `one`
-/// does so with the FMU that is described there. R, H, T and S are counts: R of them are one second, and the run goes from
+/// `run DIR --resolution R --step H --stop T [--start S] [--max-iterations N] [--host PROGRAM]` reads the description of the
+/// system in a directory and those of its FMUs, runs them from their first calls to their closing, and puts the trace on
+/// `out`; `one` does so with the FMU that is described there. Each FMU is run by the host, or where none is given by the
+/// program itself. R, H, T and S are counts: R of them are one second, and the run goes from
 /// S, which is 0 where it isn't given, to T by steps of H. A point has at most N instants, and at most 100 where that isn't
 /// given. `check DIR --resolution R` puts the size of the system on `out`. At each status but 0 one line is put on `err`.
 pub fn run_words<R: Threads + Sync, F: Folder, S: Spawner, O: Sink, E: Sink>(
@@ -97,7 +98,7 @@ fn run_line<R: Threads + Sync, F: Folder, S: Spawner, O: Sink>(
         resolution_of(&line),
         folder,
     ) {
-        Ok(loaded) => run_loaded(rt, alloc, plan_of(&line), loaded, spawner, out),
+        Ok(loaded) => run_loaded(rt, alloc, options_of(&line), loaded, spawner, out),
         Err(end) => refuse(alloc, end),
     }
 }
@@ -129,30 +130,30 @@ fn resolution_of(line: &CommandLine<'_>) -> u64
     }
 }
 
-// The plan of a run.
-fn plan_of(line: &CommandLine<'_>) -> Option<Plan>
-    ensures { result ≡ plan_of (line_of line.now) }
+// What a run is asked for.
+fn options_of<'a>(line: &CommandLine<'a>) -> Option<Options<'a>>
+    ensures { option_map run_of result ≡ run_in (line_of line.now) }
 {
     match line {
-        CommandLine::One(options) | CommandLine::Run(options) => Some(options.plan),
+        CommandLine::One(options) | CommandLine::Run(options) => Some(*options),
         CommandLine::Check(_) => None,
     }
 }
 
-// Runs a system by a plan, or tells its size where there is none.
+// Runs a system as the options of a run say, or tells its size where there are none.
 fn run_loaded<R: Threads + Sync, S: Spawner, O: Sink>(
     rt: &R,
     alloc: Global,
-    plan: Option<Plan>,
+    options: Option<Options<'_>>,
     loaded: Loaded,
     spawner: &mut S,
     out: &mut O,
 ) -> Report
-    requires within { IfSome plan IsWithin }
+    requires within { IfSome options (λ o. IsWithin o.plan) }
     requires runnable { CanRun loaded.system }
     requires bound { BindsParameters loaded.system loaded.bound }
     requires folders { HasFolders loaded.folders loaded.system }
-    ensures { PlanFacts plan result.outcome loaded
+    ensures { LoadedFacts (option_map run_of options) result.outcome loaded
         (scene (S.view spawner.old) (O.view out.old)) (scene (S.view spawner.new) (O.view out.new)) }
 {
     let Loaded {
@@ -160,11 +161,11 @@ fn run_loaded<R: Threads + Sync, S: Spawner, O: Sink>(
         bound,
         folders,
     } = loaded;
-    match plan {
-        Some(plan) => run_system(
+    match options {
+        Some(options) => run_system(
             rt,
             alloc,
-            plan,
+            options,
             system,
             bound,
             folders.as_slice(),
@@ -188,18 +189,18 @@ fn tell_size<O: Sink>(alloc: Global, system: &System, unreached: u64, out: &mut 
 fn run_system<R: Threads + Sync, S: Spawner, O: Sink>(
     rt: &R,
     alloc: Global,
-    plan: Plan,
+    options: Options<'_>,
     system: System,
     bound: Bound,
     folders: &[Text],
     spawner: &mut S,
     out: &mut O,
 ) -> Report
-    requires within { IsWithin plan }
+    requires within { IsWithin options.plan }
     requires runnable { CanRun system }
     requires bound { BindsParameters system bound }
     requires folders { HasFolders folders.now system }
-    ensures { RunFacts result.outcome (record { plan = plan; bound = bound; folders = folders.now }) system
+    ensures { RunFacts result.outcome (record { plan = options.plan; host = options.host.now; bound = bound; folders = folders.now }) system
         (scene (S.view spawner.old) (O.view out.old)) (scene (S.view spawner.new) (O.view out.new)) }
 {
     let components = system.components.as_slice();
@@ -209,9 +210,9 @@ fn run_system<R: Threads + Sync, S: Spawner, O: Sink>(
     let Ok(room) = Vec::with_capacity(alloc, components.len()) else {
         return Report::memory(alloc);
     };
-    match start_each(alloc, folders, components, room, spawner) {
+    match start_each(alloc, options.host, folders, components, room, spawner) {
         Ok(peers) => run_peers(
-            rt, alloc, plan, system, bound, folders, naming, peers, spawner, out,
+            rt, alloc, options, system, bound, folders, naming, peers, spawner, out,
         ),
         Err(unstarted) => give_up(alloc, naming, unstarted, spawner),
     }
@@ -227,7 +228,7 @@ fn give_up<S: Spawner>(
     requires one { unstarted.component.0 < length naming.names.items }
     requires fewer { length (S.view spawner.old).retired + length unstarted.peers.items ≤ (S.view spawner.old).started }
     ensures { (task : Task) (system : System) (before : SpawnerView) (out : SinkView) → naming.names.items ≡ names_of system →
-        StartsUpTo task.folders system.components unstarted.component.0 unstarted.fault (map S.Link.view unstarted.peers.items) before (S.view spawner.old) →
+        StartsUpTo task.host task.folders system.components unstarted.component.0 unstarted.fault (map S.Link.view unstarted.peers.items) before (S.view spawner.old) →
         RunFacts result.outcome task system (scene before out) (scene (S.view spawner.new) out) }
 {
     let Unstarted {
@@ -247,7 +248,7 @@ fn give_up<S: Spawner>(
 fn run_peers<R: Threads + Sync, S: Spawner, O: Sink>(
     rt: &R,
     alloc: Global,
-    plan: Plan,
+    options: Options<'_>,
     system: System,
     bound: Bound,
     folders: &[Text],
@@ -256,19 +257,19 @@ fn run_peers<R: Threads + Sync, S: Spawner, O: Sink>(
     spawner: &mut S,
     out: &mut O,
 ) -> Report
-    requires within { IsWithin plan }
+    requires within { IsWithin options.plan }
     requires runnable { CanRun system }
     requires bound { BindsParameters system bound }
     requires names { naming.names.items ≡ names_of system }
     requires each { length peers.items ≡ length system.components }
-    requires started { AreStarted folders.now system.components (map S.Link.view peers.items) }
+    requires started { AreStarted options.host.now folders.now system.components (map S.Link.view peers.items) }
     requires fewer { length (S.view spawner.old).retired + length peers.items ≤ (S.view spawner.old).started }
-    ensures { (before : SpawnerView) → AreKnown before system.components → S.view spawner.old ≡ with_all_started before (length peers.items) →
-        RunFacts result.outcome (record { plan = plan; bound = bound; folders = folders.now }) system (scene before (O.view out.old)) (scene (S.view spawner.new) (O.view out.new)) }
+    ensures { (before : SpawnerView) → AreKnown options.host.now before system.components → S.view spawner.old ≡ with_all_started before (length peers.items) →
+        RunFacts result.outcome (record { plan = options.plan; host = options.host.now; bound = bound; folders = folders.now }) system (scene before (O.view out.old)) (scene (S.view spawner.new) (O.view out.new)) }
 {
     lives_of_peers();
     runs_of_machines();
-    match Master::prepare(alloc, system, bound, peers, plan) {
+    match Master::prepare(alloc, system, bound, peers, options.plan) {
         Ok(master) => {
             let mut master = master;
             let end = master.run(rt, out);

@@ -675,6 +675,35 @@ fn a_command_gives_its_trace_or_its_line(rt: HostRuntime) -> Result<(), Fail> {
     Ok(())
 }
 
+// A run with a host, and the host.
+const HOSTED: [(&str, &str); 3] = [
+    (WORDS, "builtin"),
+    (
+        "one|d|--resolution|1000|--step|10|--stop|20|--host|some/host",
+        "some/host",
+    ),
+    (
+        "one|d|--host=other|--resolution|1000|--step|10|--stop|20",
+        "other",
+    ),
+];
+
+#[test]
+fn a_peer_is_started_by_the_host(rt: HostRuntime) -> Result<(), Fail> {
+    let alloc = rt.alloc();
+    for (words, host) in &HOSTED {
+        let case = Case { words, ..WORKED };
+        let mut bench = Bench::new(alloc, None, Vec::new(alloc));
+        assert_case(&rt, alloc, &case, &mut bench)?;
+        assert_eq!(rt; bench.retired().len(), 1);
+        for peer in bench.retired() {
+            assert_eq!(rt; peer.origin.host.as_str(), *host);
+            assert_eq!(rt; peer.origin.directory.as_str(), "d");
+        }
+    }
+    Ok(())
+}
+
 // A type, a parameter's value, and what a counter of that type shows after one step and after two.
 const TYPES: [(&str, &str, &str, &str); 8] = [
     ("Int8", "100", "100", "-56"),

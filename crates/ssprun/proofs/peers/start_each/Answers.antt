@@ -1,5 +1,5 @@
 use Rattle.std.proofs.Common.{List, ℕ, arith, ◌≡◌, ◌+◌, ◌∷◌, [], length, length-append, map, take, refl, sym, ap, subst, ◌∙◌}
-use Rattle.std.specs.Prelude.{codes, slice_get}
+use Rattle.std.specs.Prelude.{slice_get}
 use Rattle.std.proofs.lemmas.List.{length-map, map-append, take_all}
 use Rattle.std.proofs.lemmas.List.Elements.{All-nil}
 use Rattle.std.proofs.lemmas.Option.{slice_get_read}
@@ -13,7 +13,7 @@ loop-place-init g c = record {
   each = ap length c.requires.empty;
   within = omega arith;
   room = c.requires.room;
-  are = subst (λ (xs : List g.row.S-Link.Denot). AreStarted c.args.folders.now c.args.components.now (map g.S.Link.Peer.view xs)) (sym c.requires.empty) tt;
+  are = subst (λ (xs : List g.row.S-Link.Denot). AreStarted c.args.host.now c.args.folders.now c.args.components.now (map g.S.Link.Peer.view xs)) (sym c.requires.empty) tt;
   known = All-nil _;
   told = none_started (g.S.Spawner.view c.args.spawner.now);
 }
@@ -35,7 +35,7 @@ returns-in-Err-clause-err g c =
       each = length-map c.loop-place.peers.items g.S.Link.Peer.view ∙ i.each;
       are = i.are;
       known = i.known;
-      noted = noted_fault g.row.S-Link.Denot c.in-Err.fault component (g.S.Spawner.view c.args.spawner.now) (g.S.Spawner.view c.loop-place.spawner) (g.S.Spawner.view c.start.new.self) c.loop-place.place
+      noted = noted_fault g.row.S-Link.Denot c.args.host.now c.in-Err.fault component (g.S.Spawner.view c.args.spawner.now) (g.S.Spawner.view c.loop-place.spawner) (g.S.Spawner.view c.start.new.self) c.loop-place.place
           i.told c.in-Err.ensures.noted c.in-Err.ensures.unknown;
     }
 
@@ -47,19 +47,19 @@ loop-place-preserved g c =
     let here = slice_get_read c.args.components.now _ c.loop-place.place component refl c.loop-place-test.true c.index-components-place.is in
     let folder = c.index-folders-place.result in
     let there = slice_get_read c.args.folders.now _ c.loop-place.place folder refl (let t = c.loop-place-test.true in let n = c.requires.folders in omega (arith, t, n)) c.index-folders-place.is in
-    let started : IsStarted (codes "builtin") component.name folder component.shape (view c.in-Ok.peer) =
-    subst (λ (name : List ℕ). IsStarted (codes "builtin") name folder component.shape (view c.in-Ok.peer)) c.as_str.ensures
-    (subst (λ (at : List ℕ). IsStarted (codes "builtin") c.as_str.result.now at component.shape (view c.in-Ok.peer)) c.as_str-in-loop-place.ensures c.in-Ok.ensures.fresh) in
+    let started : IsStarted c.args.host.now component.name folder component.shape (view c.in-Ok.peer) =
+    subst (λ (name : List ℕ). IsStarted c.args.host.now name folder component.shape (view c.in-Ok.peer)) c.as_str.ensures
+    (subst (λ (at : List ℕ). IsStarted c.args.host.now c.as_str.result.now at component.shape (view c.in-Ok.peer)) c.as_str-in-loop-place.ensures c.in-Ok.ensures.fresh) in
     record {
       each = ap length c.push_reserved.ensures.items ∙ length-append c.loop-place.peers.items (c.in-Ok.peer ∷ []) ∙ ap (λ (n : ℕ). n + 1) i.each;
       within = let w = c.loop-place-test.true in omega (arith, w);
       room = let r = i.room in let k = c.push_reserved.ensures.capacity in omega (arith, r, k);
-      are = subst (AreStarted c.args.folders.now c.args.components.now) (sym (ap (map view) c.push_reserved.ensures.items ∙ map-append view c.loop-place.peers.items (c.in-Ok.peer ∷ [])))
-          (started_more c.args.folders.now c.args.components.now (map view c.loop-place.peers.items) folder component (view c.in-Ok.peer) i.are
+      are = subst (AreStarted c.args.host.now c.args.folders.now c.args.components.now) (sym (ap (map view) c.push_reserved.ensures.items ∙ map-append view c.loop-place.peers.items (c.in-Ok.peer ∷ [])))
+          (started_more c.args.host.now c.args.folders.now c.args.components.now (map view c.loop-place.peers.items) folder component (view c.in-Ok.peer) i.are
           (ap (λ (n : ℕ). slice_get c.args.folders.now n) (length-map c.loop-place.peers.items view ∙ i.each) ∙ there)
           (ap (λ (n : ℕ). slice_get c.args.components.now n) (length-map c.loop-place.peers.items view ∙ i.each) ∙ here) started);
-      known = known_more (g.S.Spawner.view c.args.spawner.now) c.args.components.now c.loop-place.place component i.known here
-          (sym (ap (λ s. s.knows (codes "builtin") component.shape.identifier) i.told) ∙ c.in-Ok.ensures.unknown);
+      known = known_more c.args.host.now (g.S.Spawner.view c.args.spawner.now) c.args.components.now c.loop-place.place component i.known here
+          (sym (ap (λ s. s.knows c.args.host.now component.shape.identifier) i.told) ∙ c.in-Ok.ensures.unknown);
       told = one_started (g.S.Spawner.view c.args.spawner.now) (g.S.Spawner.view c.loop-place.spawner) (g.S.Spawner.view c.start.new.self) c.loop-place.place i.told c.in-Ok.ensures.noted;
     }
 
@@ -72,6 +72,6 @@ returns-clause-ok g c =
     record {
       each = n ∙ all;
       are = i.are;
-      known = subst (AreKnown (g.S.Spawner.view c.args.spawner.now)) (ap (λ (k : ℕ). take k c.args.components.now) all ∙ take_all (length c.args.components.now) c.args.components.now (omega arith)) i.known;
+      known = subst (AreKnown c.args.host.now (g.S.Spawner.view c.args.spawner.now)) (ap (λ (k : ℕ). take k c.args.components.now) all ∙ take_all (length c.args.components.now) c.args.components.now (omega arith)) i.known;
       told = i.told ∙ ap (λ (k : ℕ). record (g.S.Spawner.view c.args.spawner.now) { started = (g.S.Spawner.view c.args.spawner.now).started + k }) (sym n);
     }

@@ -9,7 +9,7 @@ invariant-loop-place g l =
       each : length l.peers.items ≡ l.place;
       within : l.place ≤ length l.components;
       room : length l.components ≤ vec_capacity l.peers;
-      are : AreStarted l.folders l.components (map view l.peers.items);
-      known : AreKnown (g.S.Spawner.view l.fn.spawner) (take l.place l.components);
+      are : AreStarted l.host l.folders l.components (map view l.peers.items);
+      known : AreKnown l.host (g.S.Spawner.view l.fn.spawner) (take l.place l.components);
       told : g.S.Spawner.view l.spawner ≡ with_all_started (g.S.Spawner.view l.fn.spawner) l.place;
     }

@@ -1,11 +1,10 @@
 use Rattle.std.proofs.Common.{◌≡◌, ◌≤◌, ◌^◌, ℕ, List, refl, subst, sym, ap, ◌∙◌}
 use Rattle.std.specs.Prelude.{IfSome, Option}
-use Rattle.system_model.specs.declared.plan.Plan.{Plan}
-use Rattle.command_line.specs.Line.{IsWithin, line_of}
+use Rattle.command_line.specs.Line.{IsWithin, RunLine, line_of}
 use Rattle.system_files.specs.declared.subject.Subject.{Subject}
 use Rattle.system_files.specs.Loads.{EndsLoading, Loads}
 use Rattle.system_files.specs.Order.{Found, Search, search_of}
-use Rattle.ssprun.specs.Facts.{OfSystem, PlanFacts, Unloaded, search_for}
+use Rattle.ssprun.specs.Facts.{LoadedFacts, OfSystem, Unloaded, search_for}
 use Rattle.ssprun.specs.Happened.{scene}
 use Rattle.ssprun.proofs.Lines.{above, can_run, end_facts, has_folders, plan_within, within}
 use Rattle.ssprun.proofs.run.run_line.Goals as goal
@@ -21,7 +20,7 @@ pub load-requires-clause-within : goal.load-requires-clause-within
 load-requires-clause-within g c = subst (λ (n : ℕ). n ≤ 2 ^ 62) (sym c.resolution_of.ensures) (within (line_of c.args.line) c.requires)
 
 pub run_loaded-requires-clause-within : goal.run_loaded-requires-clause-within
-run_loaded-requires-clause-within g c κs bounds = subst (λ (p : Option Plan). IfSome p IsWithin) (sym c.plan_of.ensures) (plan_within (line_of c.args.line) c.requires)
+run_loaded-requires-clause-within g c κs bounds = subst (λ (p : Option RunLine). IfSome p (λ (asked : RunLine). IsWithin asked.plan)) (sym c.options_of.ensures) (plan_within (line_of c.args.line) c.requires)
 
 pub run_loaded-requires-clause-runnable : goal.run_loaded-requires-clause-runnable
 run_loaded-requires-clause-runnable g c κs bounds = can_run c.in-Ok.loaded.system c.in-Ok.ensures.sound c.in-Ok.ensures.built c.in-Ok.ensures.named
@@ -39,9 +38,9 @@ returns-in-Ok g c =
     let old = g.F.Folder.view c.args.folder.now in
     let new = g.F.Folder.view c.load.new.folder in
     OfSystem c.in-Ok.loaded (subst (λ (s : Search). Loads s (Found c.in-Ok.loaded) old new) search c.in-Ok.ensures.ok)
-    (subst (λ (p : Option Plan). PlanFacts p c.run_loaded.result.outcome c.in-Ok.loaded
+    (subst (λ (p : Option RunLine). LoadedFacts p c.run_loaded.result.outcome c.in-Ok.loaded
     (scene (g.S.Spawner.view c.args.spawner.now) (g.O.Sink.view c.args.out.now))
-    (scene (g.S.Spawner.view c.run_loaded.new.spawner) (g.O.Sink.view c.run_loaded.new.out))) c.plan_of.ensures c.run_loaded.ensures)
+    (scene (g.S.Spawner.view c.run_loaded.new.spawner) (g.O.Sink.view c.run_loaded.new.out))) c.options_of.ensures c.run_loaded.ensures)
 
 pub returns-in-Err : goal.returns-in-Err
 returns-in-Err g c =

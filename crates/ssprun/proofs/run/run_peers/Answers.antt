@@ -6,9 +6,9 @@ use Rattle.step_master.specs.Master.{FailsToPrepare}
 use Rattle.step_master.specs.declared.prepare_end.PrepareFault.{PrepareFault}
 use Rattle.calling_sequence.specs.declared.run_end.RunEnd.TheVariants as E
 use Rattle.step_master.specs.Standing.{standing}
+use Rattle.command_line.specs.declared.words.Options.{Options}
 use Rattle.system_model.specs.declared.system.Component.{Component}
 use Rattle.system_model.specs.declared.bound.Bound.{Bound}
-use Rattle.system_model.specs.declared.plan.Plan.{Plan}
 use Rattle.ssprun.specs.declared.outcome.Outcome.{Outcome}
 use Rattle.ssprun.specs.Facts.{RunFacts}
 use Rattle.ssprun.specs.Happened.{scene}
@@ -17,12 +17,12 @@ use Rattle.ssprun.specs.Runs.{Broke, IsEndOf, NamesOne, RunsPeers, Task, Went}
 use Rattle.ssprun.proofs.Running.{account_of, fails, given_back, goes, lived_names, lived_news, new_peers, plan_within, unmade_names}
 use Rattle.ssprun.proofs.run.run_peers.Goals as goal
 
-abbrev task_with : Plan → Bound → List (List ℕ) → Task
-task_with plan bound folders = record { plan = plan; bound = bound; folders = folders }
+abbrev task_with : Options → Bound → List (List ℕ) → Task
+task_with options bound folders = record { plan = options.plan; host = options.host.now; bound = bound; folders = folders }
 
 pub prepare-requires-clause-peers : goal.prepare-requires-clause-peers
 prepare-requires-clause-peers g c κs within =
-    new_peers c.args.folders.now c.args.system (map g.S.Link.Peer.view c.args.peers.items) c.requires.started
+    new_peers c.args.options.host.now c.args.folders.now c.args.system (map g.S.Link.Peer.view c.args.peers.items) c.requires.started
     (length-map c.args.peers.items g.S.Link.Peer.view ∙ c.requires.each)
 
 pub retire_each-requires-after_bounds : goal.retire_each-requires-after_bounds
@@ -30,8 +30,8 @@ retire_each-requires-after_bounds g c κs within =
     let view = g.S.Link.Peer.view in
     let olds = map view c.args.peers.items in
     let news = map view c.close.result.items in
-    let peers = new_peers c.args.folders.now c.args.system olds c.requires.started (length-map c.args.peers.items view ∙ c.requires.each) in
-    let account = account_of c.args.system c.args.bound c.args.plan olds news (g.O.Sink.view c.args.out.now) (g.O.Sink.view c.run-end.new.out) (standing view c.run-end.new.self) c.run-end.result in
+    let peers = new_peers c.args.options.host.now c.args.folders.now c.args.system olds c.requires.started (length-map c.args.peers.items view ∙ c.requires.each) in
+    let account = account_of c.args.system c.args.bound c.args.options.plan olds news (g.O.Sink.view c.args.out.now) (g.O.Sink.view c.run-end.new.out) (standing view c.run-end.new.self) c.run-end.result in
     let lived : Lived account = c.lives_of_peers.ensures.run account (standing view c.in-Ok.master) (standing view c.run-end.new.self) c.requires.runnable.sound c.requires.bound peers c.in-Ok.ensures.ok c.run-end.ensures c.close.ensures refl in
     let same : length c.close.result.items ≡ length c.args.peers.items = sym (length-map c.close.result.items view) ∙ lived_news account lived ∙ sym c.requires.each in
     let room = c.requires.fewer in
@@ -42,8 +42,8 @@ ended-requires g c =
     let view = g.S.Link.Peer.view in
     let olds = map view c.args.peers.items in
     let news = map view c.close.result.items in
-    let peers = new_peers c.args.folders.now c.args.system olds c.requires.started (length-map c.args.peers.items view ∙ c.requires.each) in
-    let account = account_of c.args.system c.args.bound c.args.plan olds news (g.O.Sink.view c.args.out.now) (g.O.Sink.view c.run-end.new.out) (standing view c.run-end.new.self) c.run-end.result in
+    let peers = new_peers c.args.options.host.now c.args.folders.now c.args.system olds c.requires.started (length-map c.args.peers.items view ∙ c.requires.each) in
+    let account = account_of c.args.system c.args.bound c.args.options.plan olds news (g.O.Sink.view c.args.out.now) (g.O.Sink.view c.run-end.new.out) (standing view c.run-end.new.self) c.run-end.result in
     let lived : Lived account = c.lives_of_peers.ensures.run account (standing view c.in-Ok.master) (standing view c.run-end.new.self) c.requires.runnable.sound c.requires.bound peers c.in-Ok.ensures.ok c.run-end.ensures c.close.ensures refl in
     subst (λ (n : ℕ). NamesOne n c.run-end.result) (sym (ap length c.requires.names ∙ length-map c.args.system.components (λ (x : Component). x.name))) (lived_names account lived)
 
@@ -52,7 +52,7 @@ retire_each-requires-in-Err-after_bounds g c κs within =
     let view = g.S.Link.Peer.view in
     let olds = map view c.args.peers.items in
     let news = map view c.in-Err.field-0.peers.items in
-    let peers = new_peers c.args.folders.now c.args.system olds c.requires.started (length-map c.args.peers.items view ∙ c.requires.each) in
+    let peers = new_peers c.args.options.host.now c.args.folders.now c.args.system olds c.requires.started (length-map c.args.peers.items view ∙ c.requires.each) in
     let same : length c.in-Err.field-0.peers.items ≡ length c.args.peers.items =
     sym (length-map c.in-Err.field-0.peers.items view) ∙ given_back c.args.system olds news c.in-Err.field-0.fault c.requires.runnable.sound peers c.lives_of_peers.ensures.unmade c.in-Err.ensures.err
     ∙ length-map c.args.peers.items view in
@@ -64,7 +64,7 @@ ended-requires-in-Bad g c =
     let view = g.S.Link.Peer.view in
     let olds = map view c.args.peers.items in
     let news = map view c.in-Err.field-0.peers.items in
-    let peers = new_peers c.args.folders.now c.args.system olds c.requires.started (length-map c.args.peers.items view ∙ c.requires.each) in
+    let peers = new_peers c.args.options.host.now c.args.folders.now c.args.system olds c.requires.started (length-map c.args.peers.items view ∙ c.requires.each) in
     let unmade : Unmade c.args.system olds c.in-Bad.bad news =
     c.lives_of_peers.ensures.unmade c.args.system olds news c.in-Bad.bad c.requires.runnable.sound peers (subst (λ (f : PrepareFault). FailsToPrepare c.args.system olds f news) c.in-Bad.is c.in-Err.ensures.err) in
     subst (λ (n : ℕ). c.in-Bad.bad.component.0 < n) (sym (ap length c.requires.names ∙ length-map c.args.system.components (λ (x : Component). x.name))) (unmade_names c.args.system olds news c.in-Bad.bad unmade)
@@ -74,10 +74,10 @@ returns-in-Ok g c before known told =
     let view = g.S.Link.Peer.view in
     let olds = map view c.args.peers.items in
     let news = map view c.close.result.items in
-    let peers = new_peers c.args.folders.now c.args.system olds c.requires.started (length-map c.args.peers.items view ∙ c.requires.each) in
-    let account = account_of c.args.system c.args.bound c.args.plan olds news (g.O.Sink.view c.args.out.now) (g.O.Sink.view c.run-end.new.out) (standing view c.run-end.new.self) c.run-end.result in
+    let peers = new_peers c.args.options.host.now c.args.folders.now c.args.system olds c.requires.started (length-map c.args.peers.items view ∙ c.requires.each) in
+    let account = account_of c.args.system c.args.bound c.args.options.plan olds news (g.O.Sink.view c.args.out.now) (g.O.Sink.view c.run-end.new.out) (standing view c.run-end.new.self) c.run-end.result in
     let lived : Lived account = c.lives_of_peers.ensures.run account (standing view c.in-Ok.master) (standing view c.run-end.new.self) c.requires.runnable.sound c.requires.bound peers c.in-Ok.ensures.ok c.run-end.ensures c.close.ensures refl in
-    let task = task_with c.args.plan c.args.bound c.args.folders.now in
+    let task = task_with c.args.options c.args.bound c.args.folders.now in
     let old = scene before (g.O.Sink.view c.args.out.now) in
     let new = scene (g.S.Spawner.view c.retire_each.new.spawner) (g.O.Sink.view c.run-end.new.out) in
     let runs : RunsPeers task c.args.system olds news before (g.S.Spawner.view c.retire_each.new.spawner) = record {
@@ -90,7 +90,7 @@ returns-in-Ok g c before known told =
     subst (λ (o : Outcome). RunFacts o task c.args.system old new) (sym ended.1) (
       c.run-end.result,
       subst (λ (names : List (List ℕ)). IsEndOf names c.run-end.result ended.0) c.requires.names ended.2,
-      Went (goes account task old new c.requires.runnable c.requires.bound (plan_within c.args.plan c.requires.within) refl refl refl refl runs lived c.lives_of_peers.ensures.over c.runs_of_machines.ensures.run c.runs_of_machines.ensures.trace),
+      Went (goes account task old new c.requires.runnable c.requires.bound (plan_within c.args.options.plan c.requires.within) refl refl refl refl runs lived c.lives_of_peers.ensures.over c.runs_of_machines.ensures.run c.runs_of_machines.ensures.trace),
     )
 
 pub returns-in-Bad : goal.returns-in-Bad
@@ -98,8 +98,8 @@ returns-in-Bad g c before known told =
     let view = g.S.Link.Peer.view in
     let olds = map view c.args.peers.items in
     let news = map view c.in-Err.field-0.peers.items in
-    let task = task_with c.args.plan c.args.bound c.args.folders.now in
-    let peers = new_peers c.args.folders.now c.args.system olds c.requires.started (length-map c.args.peers.items view ∙ c.requires.each) in
+    let task = task_with c.args.options c.args.bound c.args.folders.now in
+    let peers = new_peers c.args.options.host.now c.args.folders.now c.args.system olds c.requires.started (length-map c.args.peers.items view ∙ c.requires.each) in
     let unmade : Unmade c.args.system olds c.in-Bad.bad news =
     c.lives_of_peers.ensures.unmade c.args.system olds news c.in-Bad.bad c.requires.runnable.sound peers (subst (λ (f : PrepareFault). FailsToPrepare c.args.system olds f news) c.in-Bad.is c.in-Err.ensures.err) in
     let out = g.O.Sink.view c.args.out.now in

@@ -1,7 +1,7 @@
 use Rattle.std.proofs.Common.{◌≡◌, Some, sym, ◌∙◌, ap, decimal}
 use Rattle.std.proofs.lemmas.Slice.Eq.{bytes_eq-Decides}
 use Rattle.command_line.proofs.Numbers.{parsed_word}
-use Rattle.command_line.proofs.counts.read_number.Goals as goal
+use Rattle.command_line.proofs.values.read_number.Goals as goal
 
 pub returns-in_err-number-clause-only : goal.returns-in_err-number-clause-only
 returns-in_err-number-clause-only c = λ n spelled small.

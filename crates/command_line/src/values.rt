@@ -1,6 +1,6 @@
 ghost use Rattle.std.specs.Prelude.{◌≡◌, ℕ, ◌<◌, ◌≤◌, ◌^◌, Some, IfSome, decimal, option_map};
 ghost use Rattle.clap.specs.Words.{first_of, found_of, rows_of};
-ghost use Rattle.command_line.specs.Line.{Counts, count_row};
+ghost use Rattle.command_line.specs.Line.{Counts, Gives, count_row, text_row};
 
 use clap::ArgMatches;
 use itoa::Buffer;
@@ -20,6 +20,13 @@ pub(crate) fn option_count(
         Some(word) => read_count(word, least, most),
         None => default,
     }
+}
+
+/// The text of an option: its value, or where it isn't given the default.
+pub(crate) fn option_text<'a>(matches: &ArgMatches<'a>, name: &str, default: &'a str) -> &'a str
+    ensures { Gives (text_row name.now default.entry.now) (first_of name.now (rows_of (found_of matches.now))) result.now }
+{
+    value_of(matches, name).unwrap_or(default)
 }
 
 /// The value that a name has.

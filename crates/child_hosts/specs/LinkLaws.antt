@@ -1,0 +1,31 @@
+-- What holds of each FMU that the program's spawner starts: a built-in machine keeps its laws, and a child tells no machine.
+use Rattle.std.specs.Prelude.{ℕ, ◌≤◌, List, length, map, IfSome}
+use Rattle.std.proofs.Common.{subst, sym}
+use Rattle.std.proofs.lemmas.List.{length-map}
+use Rattle.core.specs.declared.snapshot.Snapshot.{Snapshot}
+use Rattle.fmu_peer.specs.Machine.{IgnoresSlot, IsLawful, IsMachineOf}
+use Rattle.fmu_peer.specs.View.{TellsItsPhase}
+use Rattle.bench_fmus.specs.Laws as laws
+use Rattle.child_hosts.specs.declared.link.HostLink.{HostLink}
+use Rattle.child_hosts.specs.declared.link.HostLink.TheVariants.{BuiltIn, Child}
+use Rattle.child_hosts.specs.Links.{link_view}
+
+pub is_machine : (p : HostLink) → IfSome (link_view p).fixed.machine (IsMachineOf (link_view p).fixed.shape)
+is_machine (BuiltIn b) = laws.is_machine b.model b.book.shape
+is_machine (Child c) = tt
+
+pub is_in_phase : (p : HostLink) → TellsItsPhase (link_view p)
+is_in_phase (BuiltIn b) = b.in_phase
+is_in_phase (Child c) = tt
+
+pub ignores_slot : (p : HostLink) → IfSome (link_view p).fixed.machine IgnoresSlot
+ignores_slot (BuiltIn b) = laws.answers_alike b.model b.book.shape
+ignores_slot (Child c) = tt
+
+pub is_lawful : (p : HostLink) → IfSome (link_view p).fixed.machine (IsLawful (link_view p).fixed.shape)
+is_lawful (BuiltIn b) = laws.is_lawful b.model b.book.shape
+is_lawful (Child c) = tt
+
+-- no more are told as taken back than were started
+pub fewer_views : (links : List (Snapshot HostLink)) (started : ℕ) → length links ≤ started → length (map (λ (s : Snapshot HostLink). link_view s.value) links) ≤ started
+fewer_views links started few = subst (λ (n : ℕ). n ≤ started) (sym (length-map links (λ (s : Snapshot HostLink). link_view s.value))) few

@@ -1,0 +1,151 @@
+ghost use Rattle.std.specs.Prelude.{◌≡◌, ◌+◌, ◌≤◌, ◌^◌, [], IfErr, IfOk, OnErr, OnOk, length};
+ghost use Rattle.bench_fmus.specs.BuiltInView.{built_in_view};
+ghost use Rattle.bench_fmus.specs.Models.{is_model};
+ghost use Rattle.child_hosts.specs.Links.{is_known, link_view};
+ghost use Rattle.fmu_peer.specs.Start.{AnswersUnknown, IsStarted};
+ghost use Rattle.fmu_peer.specs.declared.spawner.StartFault.TheVariants.{Memory};
+
+use crate::{ChildFmu, HostLink};
+use bench_fmus::{BuiltIn, Model, Origin, Retired};
+use fmu_peer::{Spawner, StartFault};
+use std::alloc::{AllocError, Global};
+use std::process::{Processes, SystemProcess};
+use std::snapshot::Snapshot;
+use value_types::Shape;
+
+/// The name of the host of the built-in machines.
+pub const BUILT_IN_HOST: &str = "builtin";
+
+/// The spawner of the program. By the host `builtin` it gives the built-in machines, which are known by their names; by
+/// another it starts the program of this name for each FMU, and knows all identifiers.
+#[derive(Drop)]
+pub struct Hosts<'a, R> {
+    pub processes: &'a R,
+    /// what those told that were taken back
+    pub retired: Retired<Snapshot<HostLink>>,
+    pub faults: u64,
+}
+
+impl<'a, R: Processes<Started = SystemProcess>> Hosts<'a, R> {
+    /// A spawner before its first start.
+    pub fn new(alloc: Global, processes: &'a R) -> Hosts<'a, R>
+        ensures none { (result.retired.started ≡ 0) × (result.retired.peers.items ≡ []) }
+        ensures quiet { result.faults ≡ 0 }
+    {
+        Hosts {
+            processes,
+            retired: Retired::new(alloc),
+            faults: 0,
+        }
+    }
+}
+
+impl<'a, R: Processes<Started = SystemProcess>> Spawner for Hosts<'a, R> {
+    type Link = HostLink;
+
+    ghost use Rattle.child_hosts.specs.Links.{hosts_view};
+    ghost use Rattle.child_hosts.specs.LinkLaws.{fewer_views};
+
+    ghost view = { hosts_view };
+
+    ghost fewer = { λ h. fewer_views h.retired.peers.items h.retired.started h.retired.fewer };
+
+    fn start(
+        &mut self,
+        alloc: Global,
+        host: &str,
+        name: &str,
+        directory: &str,
+        shape: &Shape,
+    ) -> Result<HostLink, StartFault> {
+        match start_link(self.processes, alloc, host, name, directory, shape) {
+            Ok(link) => self.count(link),
+            Err(StartFault::Failed) => {
+                self.faults = self.faults.saturating_add(1);
+                Err(StartFault::Failed)
+            }
+            Err(fault) => Err(fault),
+        }
+    }
+
+    fn retire(&mut self, link: HostLink) {
+        self.retired.push(Snapshot::of(&link));
+        link.end();
+    }
+}
+
+impl<'a, R> Hosts<'a, R> {
+    // Counts a peer that was started, and makes the room to take it back.
+    fn count(&mut self, link: HostLink) -> Result<HostLink, StartFault>
+        ensures link { IfOk result (λ same. same ≡ link) }
+        ensures memory { IfErr result (λ e. e ≡ Memory) }
+        ensures ok { OnOk result (self.new.retired.started ≡ self.old.retired.started + 1) }
+        ensures err { OnErr result (self.new.retired.started ≡ self.old.retired.started) }
+        ensures kept { (self.new.retired.peers.items ≡ self.old.retired.peers.items) × (self.new.faults ≡ self.old.faults) }
+    {
+        match self.retired.count(Snapshot::of(&link)) {
+            Ok(_) => Ok(link),
+            Err(_) => {
+                link.end();
+                Err(StartFault::Memory)
+            }
+        }
+    }
+}
+
+// A peer by its host.
+fn start_link<R: Processes<Started = SystemProcess>>(
+    rt: &R,
+    alloc: Global,
+    host: &str,
+    name: &str,
+    directory: &str,
+    shape: &Shape,
+) -> Result<HostLink, StartFault>
+    requires name { (1 ≤ length name.now) × (length name.now ≤ 2 ^ 24) }
+    requires token { length shape.now.token ≤ 2 ^ 24 }
+    ensures fresh { IfOk result (λ l. IsStarted host.now name.now directory.now shape.now (link_view l)) }
+    ensures unknown { AnswersUnknown (is_known host.now shape.now.identifier) result }
+{
+    if host == BUILT_IN_HOST {
+        return start_built_in(alloc, host, name, directory, shape);
+    }
+    match ChildFmu::start(rt, alloc, host, name, directory, shape) {
+        Ok(child) => Ok(HostLink::Child(child)),
+        Err(fault) => Err(fault),
+    }
+}
+
+// An instance of the built-in machine that the shape's identifier names. It keeps no talk.
+fn start_built_in(
+    alloc: Global,
+    host: &str,
+    name: &str,
+    directory: &str,
+    shape: &Shape,
+) -> Result<HostLink, StartFault>
+    ensures fresh { IfOk result (λ l. IsStarted host.now name.now directory.now shape.now (link_view l)) }
+    ensures unknown { AnswersUnknown (is_model shape.now.identifier) result }
+{
+    let Some(model) = Model::named(shape.identifier.as_str()) else {
+        return Err(StartFault::Unknown);
+    };
+    match make_built_in(alloc, model, host, name, directory, shape) {
+        Ok(peer) => Ok(HostLink::BuiltIn(peer)),
+        Err(_) => Err(StartFault::Memory),
+    }
+}
+
+fn make_built_in(
+    alloc: Global,
+    model: Model,
+    host: &str,
+    name: &str,
+    directory: &str,
+    shape: &Shape,
+) -> Result<BuiltIn, AllocError>
+    ensures { IfOk result (λ b. IsStarted host.now name.now directory.now shape.now (built_in_view b)) }
+{
+    let origin = Origin::from_texts(alloc, host, name, directory)?;
+    BuiltIn::new(alloc, model, origin, shape, None)
+}

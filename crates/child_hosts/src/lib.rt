@@ -1,0 +1,14 @@
+//! FMUs in child processes: a wire over a child's pipes, and the spawner of the program.
+#![tactic(auto)]
+
+mod child_fmu;
+mod hosts;
+mod link;
+mod pipe_wire;
+#[cfg(test)]
+mod tests;
+
+pub use child_fmu::ChildFmu;
+pub use hosts::{BUILT_IN_HOST, Hosts};
+pub use link::HostLink;
+pub use pipe_wire::{ChildInput, PipeWire, SteadyRead};
