@@ -1,7 +1,6 @@
 -- What a peer over a wire tells: no talk and no machine.
-use Rattle.std.specs.Prelude.{◌≡◌, ℕ, ◌+◌, ◌≤◌, ◌^◌, List, length, None, Some}
+use Rattle.std.specs.Prelude.{◌+◌, None, Some}
 use Rattle.fmu_peer.specs.View.{View}
-use Rattle.value_types.specs.declared.shape.Shape.{Shape}
 use Rattle.fmu_link.specs.declared.piped.Piped.{Piped}
 use Rattle.fmu_link.specs.Wire.{WireView}
 use Rattle.fmu_link.specs.Exchange.{LineView}

@@ -87,7 +87,8 @@ impl<W: Wire + Send> Peer for Piped<W> {
     fn call(&mut self, call: &Call) -> Result<Reply, PeerFault>
         requires { Permitted self.old.instance.shape self.old.instance.phase call.now }
         ensures asked { Asked (piped_view W.view self.old) call.now result (piped_view W.view self.new) }
-        ensures exchanged { Exchanged call.now self.old.instance.name self.old.instance.shape.token (line_view W.view self.old) (line_view W.view self.new) result }
+        ensures exchanged { Exchanged call.now self.old.instance.name self.old.instance.shape.token
+            (line_view W.view self.old) (line_view W.view self.new) result }
     {
         let instance = &mut self.instance;
         let length = put_call(
