@@ -1,12 +1,14 @@
 -- What a wire over a reader and a writer tells after it has sent or received.
 use Rattle.std.proofs.Common.{◌≡◌, ℕ, ◌+◌, ◌<◌, List, [], ◌∷◌, ◌++◌, length, take, drop, Option, Some, None, refl, sym, ap, ◌∙◌, subst, arith, append_assoc, append-nil, length-append}
-use Rattle.std.specs.Prelude.{is_some}
+use Rattle.std.specs.Prelude.{Err, is_some}
 use Rattle.std.specs.Io.KnownBytes.{Consumes, IsAtEnd, Keeps}
 use Rattle.std.proofs.Math.Seq.{drop-append_seam}
 use Rattle.sim_base.specs.Causes.{one_more}
 use Rattle.sim_base.specs.Sink.{SinkView, with_fault as with_failed_piece, with_piece}
 use Rattle.fmu_link.specs.Wire.{FallsShort, WireView, at_end, wire_view, with_fault, with_front, with_sent, without_front}
-use Rattle.child_hosts.specs.Filling.{RunsOut}
+use Rattle.fmu_link.specs.declared.wire.WireFault.{WireFault}
+use Rattle.fmu_link.specs.declared.wire.WireFault.TheVariants.{Ended, Failed}
+use Rattle.child_hosts.specs.Filling.{Fills, RunsOut}
 
 -- ---- sending
 
@@ -35,6 +37,14 @@ consumes_kept None mid new a one two = tt
 consumes_kept (Some xs) None new a one two = absurd one
 consumes_kept (Some xs) (Some ys) None a one two = absurd two
 consumes_kept (Some xs) (Some ys) (Some zs) a one two = one ∙ ap (λ l. a ++ l) (sym two)
+
+-- why a room wasn't filled
+pub fills_ended : {T : Type 0} (old new : Option (List ℕ)) (into : List ℕ) (fault : WireFault) → fault ≡ Ended → Fills {T = T} old new into (Err fault) → RunsOut old new into
+fills_ended {T} old new into fault is h = subst (λ (f : WireFault). Fills {T = T} old new into (Err f)) is h
+
+pub fills_failed : {T : Type 0} (old new : Option (List ℕ)) (into : List ℕ) (fault : WireFault) → fault ≡ Failed → Fills {T = T} old new into (Err fault) →
+    (n : ℕ) × Consumes old new (take n into)
+fills_failed {T} old new into fault is h = subst (λ (f : WireFault). Fills {T = T} old new into (Err f)) is h
 
 -- ---- receiving, from a reader that tells its bytes at all times or at none
 

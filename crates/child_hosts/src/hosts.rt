@@ -1,9 +1,8 @@
-ghost use Rattle.std.specs.Prelude.{◌≡◌, ◌+◌, ◌≤◌, ◌^◌, [], IfErr, IfOk, OnErr, OnOk, length};
+ghost use Rattle.std.specs.Prelude.{◌≡◌, ◌≤◌, ◌^◌, [], IfErr, IfOk, length};
 ghost use Rattle.bench_fmus.specs.BuiltInView.{built_in_view};
 ghost use Rattle.bench_fmus.specs.Models.{is_model};
 ghost use Rattle.child_hosts.specs.Links.{is_known, link_view};
 ghost use Rattle.fmu_peer.specs.Start.{AnswersUnknown, IsStarted};
-ghost use Rattle.fmu_peer.specs.declared.spawner.StartFault.TheVariants.{Memory};
 
 use crate::{ChildFmu, HostLink};
 use bench_fmus::{BuiltIn, Model, Origin, Retired};
@@ -60,11 +59,10 @@ impl<'a, R: Processes<Started = SystemProcess>> Spawner for Hosts<'a, R> {
     ) -> Result<HostLink, StartFault> {
         match start_link(self.processes, alloc, host, name, directory, shape) {
             Ok(link) => self.count(link),
-            Err(StartFault::Failed) => {
-                self.faults = self.faults.saturating_add(1);
-                Err(StartFault::Failed)
+            Err(fault) => {
+                self.note(fault);
+                Err(fault)
             }
-            Err(fault) => Err(fault),
         }
     }
 
@@ -75,13 +73,15 @@ impl<'a, R: Processes<Started = SystemProcess>> Spawner for Hosts<'a, R> {
 }
 
 impl<'a, R> Hosts<'a, R> {
+    ghost use Rattle.fmu_peer.specs.Start.{NotesStart, with_failure};
+    ghost use Rattle.fmu_peer.specs.declared.spawner.StartFault.TheVariants.{Failed, Memory};
+    ghost use Rattle.child_hosts.specs.Links.{hosts_view};
+
     // Counts a peer that was started, and makes the room to take it back.
     fn count(&mut self, link: HostLink) -> Result<HostLink, StartFault>
         ensures link { IfOk result (λ same. same ≡ link) }
         ensures memory { IfErr result (λ e. e ≡ Memory) }
-        ensures ok { OnOk result (self.new.retired.started ≡ self.old.retired.started + 1) }
-        ensures err { OnErr result (self.new.retired.started ≡ self.old.retired.started) }
-        ensures kept { (self.new.retired.peers.items ≡ self.old.retired.peers.items) × (self.new.faults ≡ self.old.faults) }
+        ensures noted { NotesStart (hosts_view self.old) (hosts_view self.new) result }
     {
         match self.retired.count(Snapshot::of(&link)) {
             Ok(_) => Ok(link),
@@ -89,6 +89,16 @@ impl<'a, R> Hosts<'a, R> {
                 link.end();
                 Err(StartFault::Memory)
             }
+        }
+    }
+
+    // Counts a start that failed.
+    fn note(&mut self, fault: StartFault)
+        ensures failed { fault ≡ Failed → hosts_view self.new ≡ with_failure (hosts_view self.old) }
+        ensures other { (fault ≡ Failed → ⊥) → self.new ≡ self.old }
+    {
+        if fault == StartFault::Failed {
+            self.faults = self.faults.saturating_add(1);
         }
     }
 }

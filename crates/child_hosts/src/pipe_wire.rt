@@ -65,13 +65,11 @@ impl<R: SteadyRead, W: SteadyWrite> PipeWire<R, W> {
     }
 
     // Counts a fault.
-    fn fail(&mut self) -> WireFault
-        ensures fault { result ≡ WireFault.Failed }
+    fn fail(&mut self)
         ensures rose { self.new.faults ≡ one_more self.old.faults }
         ensures kept { (self.new.source ≡ self.old.source) × (self.new.sink ≡ self.old.sink) }
     {
         self.faults = self.faults.saturating_add(1);
-        WireFault::Failed
     }
 }
 
@@ -81,7 +79,10 @@ impl<R: SteadyRead, W: SteadyWrite> Wire for PipeWire<R, W> {
     fn send(&mut self, bytes: &[u8]) -> Result<(), WireFault> {
         match self.sink.put(bytes) {
             Ok(()) => Ok(()),
-            Err(_) => Err(self.fail()),
+            Err(_) => {
+                self.fail();
+                Err(WireFault::Failed)
+            }
         }
     }
 
@@ -89,7 +90,10 @@ impl<R: SteadyRead, W: SteadyWrite> Wire for PipeWire<R, W> {
         match fill(&mut self.source, into) {
             Ok(()) => Ok(()),
             Err(WireFault::Ended) => Err(WireFault::Ended),
-            Err(WireFault::Failed) => Err(self.fail()),
+            Err(WireFault::Failed) => {
+                self.fail();
+                Err(WireFault::Failed)
+            }
         }
     }
 }
