@@ -1,2 +1,4 @@
 pub mod Trio
 pub mod Chain
+pub mod OwnCounter
+pub mod OwnCounterLaws

@@ -38,7 +38,7 @@ where
 }
 
 // No value for any parameter.
-fn make_unbound(alloc: Global) -> Result<Bound, AllocError>
+pub(crate) fn make_unbound(alloc: Global) -> Result<Bound, AllocError>
     ensures { IfOk result (λ bound. bound.components ≡ [] ∷ [] ∷ []) }
 {
     let components = vec![in alloc;

@@ -16,6 +16,10 @@ mod family_tests;
 #[cfg(test)]
 mod master_tests;
 #[cfg(test)]
+mod own_counter;
+#[cfg(test)]
+mod own_machine_tests;
+#[cfg(test)]
 mod scripts;
 #[cfg(test)]
 mod talk_tests;
