@@ -3,6 +3,13 @@ use Rattle.std.proofs.Common.{◌≡◌, ℕ, ◌+◌, ◌≤◌, ◌<◌, List,
 use Rattle.std.specs.Io.KnownBytes.{Consumes}
 use Rattle.sim_base.specs.Source.{SourceView}
 use Rattle.host_serving.specs.Frames.{Takes}
+use Rattle.std.proofs.Common.{◌-◌, arith, subst, length-append, length-take, min}
+use Rattle.std.proofs.Math.Seq.{take-append-add}
+use Rattle.std.proofs.lemmas.List.{take-take, take-append-le, take_all}
+use Rattle.std.proofs.lemmas.Slice.{take-put_mid}
+use Rattle.std.specs.Prelude.{Ok}
+use Rattle.sim_base.specs.Source.{NotesTake}
+use borrow.Rule.Slice.PartMut.{put_mid}
 
 consumes_more : (a b c : Option (List ℕ)) (xs ys : List ℕ) → Consumes a b xs → Consumes b c ys → Consumes a c (xs ++ ys)
 consumes_more None b c xs ys h k = tt
@@ -21,3 +28,35 @@ consumes-nil (Some xs) = refl
 -- nothing was taken yet
 pub takes_none : (a : SourceView) → Takes a a []
 takes_none a = record { taken = consumes-nil a.left; quiet = refl }
+
+-- the front of the room once a part behind a place is written
+pub front_more : (into part : List ℕ) (count n : ℕ) → count ≤ length into → n ≤ length part → take (count + n) (put_mid count (length into - count) into part) ≡ take count into ++ take n part
+front_more into part count n within few =
+    let k = length into - count in
+    let whole : take (count + length part) (put_mid count k into part) ≡ take count into ++ part = take-put_mid count k into part (count + length part) refl within in
+    let long : length (take count into) ≡ count = length-take count into ∙ omega (arith, within) in
+    sym (take-take (count + n) (count + length part) (put_mid count k into part) (omega (arith, few)))
+    ∙ ap (take (count + n)) whole ∙ ap (λ (m : ℕ). take (m + n) (take count into ++ part)) (sym long) ∙ take-append-add (take count into) part n
+
+room_more : (into part : List ℕ) (count n : ℕ) → count ≤ length into → n ≤ length part → count + n ≤ length (put_mid count (length into - count) into part)
+room_more into part count n within few =
+    let whole = ap length (front_more into part count n within few) in
+    let a = length-append (take count into) (take n part) in
+    let b = length-take count into in
+    let c = length-take n part in
+    let d = length-take (count + n) (put_mid count (length into - count) into part) in
+    omega (arith, whole, a, b, c, d, within, few)
+
+-- one take more
+pub filled_more : {E : Type 0} (before now after : SourceView) (into part : List ℕ) (count n : ℕ) → count ≤ length into → Takes before now (take count into) → NotesTake {E = E} now after part (Ok n)
+    → (count + n ≤ length (put_mid count (length into - count) into part)) × Takes before after (take (count + n) (put_mid count (length into - count) into part))
+filled_more before now after into part count n within so takes =
+    let one : Takes now after (take n part) = record { taken = takes.taken.0; quiet = takes.counted } in
+    (room_more into part count n within takes.within,
+     subst (Takes before after) (sym (front_more into part count n within takes.within)) (takes_more before now after (take count into) (take n part) so one))
+
+-- the beginning of a frame stays where there is room behind it
+pub resized : (old new head rest : List ℕ) (n : ℕ) → old ≡ head → new ≡ take n old ++ rest → length head ≡ 24 → 24 ≤ n → take 24 new ≡ head
+resized old new head rest n same e long many =
+    let all : take n old ≡ head = ap (take n) same ∙ take_all n head (omega (arith, long, many)) in
+    ap (take 24) (e ∙ ap (λ l. l ++ rest) all) ∙ take-append-le 24 head rest (omega (arith, long)) ∙ take_all 24 head (omega (arith, long))

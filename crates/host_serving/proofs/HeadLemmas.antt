@@ -1,77 +1,84 @@
 -- How long a frame is, by the 24 bytes that it begins with.
-use Rattle.std.proofs.Common.{◌≡◌, ℕ, ◌+◌, ◌-◌, ◌^◌, ◌≤◌, ◌<◌, min, List, [], ◌∷◌, ◌++◌, length, take, drop, get_or, refl, sym, ap, ◌∙◌, arith, subst, length-append, append-nil}
+use Rattle.std.proofs.Common.{◌≡◌, ℕ, ◌+◌, ◌^◌, ◌≤◌, ◌<◌, List, [], ◌++◌, length, take, refl, sym, ap, ◌∙◌, arith, length-append}
 use Rattle.std.proofs.lemmas.List.{take-append-le, take_all}
 use Rattle.std.proofs.lemmas.Nat.{from_be_bytes-to_be_bytes_8}
-use Rattle.std.specs.Int.{w32, w64, to_be_bytes, from_be_bytes}
+use Rattle.std.specs.Int.{w64, to_be_bytes, from_be_bytes}
 use Rattle.fmi_calls.specs.KindFacts.{facts_of}
+use Rattle.fmi_calls.specs.Kinds.{kind_of}
 use Rattle.fmi_calls.specs.declared.call.Call.{Call}
 use Rattle.fmi_calls.specs.declared.call.Call.TheVariants as C
 use Rattle.link_frames.specs.declared.call.CallFrame.{CallFrame}
-use Rattle.link_frames.specs.declared.head.Head.{Head}
-use Rattle.link_frames.specs.Head.{InRange, spelling}
-use Rattle.link_frames.specs.Call.{IsCallFrame, IsFrameOf, bytes_at, head_of_call, sent}
+use Rattle.link_frames.specs.Head.{InRange, head, spelling}
+use Rattle.link_frames.specs.Call.{CanBeSent, IsCallFrame, bytes_at, detail_of, first_of, head_of_call, last_of, reference_of, sent}
+use Rattle.host_serving.specs.Frames.{eight_at}
 
--- the eight bytes from a place on
-abbrev pub eight : List ℕ → ℕ → List ℕ
-eight bytes i = get_or bytes i 0 ∷ get_or bytes (i + 1) 0 ∷ get_or bytes (i + 2) 0 ∷ get_or bytes (i + 3) 0 ∷ get_or bytes (i + 4) 0 ∷ get_or bytes (i + 5) 0 ∷ get_or bytes (i + 6) 0 ∷ get_or bytes (i + 7) 0 ∷ []
-
-spelled_length : (h : Head) → length (spelling h) ≡ 24
+spelled_length : (k d f r a b : ℕ) → length (spelling (head k d f r a b)) ≡ 24
 unfolding spelling
-spelled_length h = refl
+spelled_length k d f r a b = refl
 
-spelled_first : (h : Head) → eight (spelling h) 8 ≡ to_be_bytes w64 h.first
+spelled_first : (k d f r a b : ℕ) → eight_at (spelling (head k d f r a b)) 8 ≡ to_be_bytes w64 a
 unfolding spelling
-spelled_first h = refl
+spelled_first k d f r a b = refl
 
-spelled_last : (h : Head) → eight (spelling h) 16 ≡ to_be_bytes w64 h.last
+spelled_last : (k d f r a b : ℕ) → eight_at (spelling (head k d f r a b)) 16 ≡ to_be_bytes w64 b
 unfolding spelling
-spelled_last h = refl
+spelled_last k d f r a b = refl
 
 -- the two numbers at the end of the head are the lengths of the texts
-pub record TellsTexts (head more : List ℕ) : Type 0 where
+pub record TellsTexts (front more : List ℕ) : Type 0 where
   pub name : ℕ
   pub token : ℕ
-  pub name_is : from_be_bytes w64 (eight head 8) ≡ name
-  pub token_is : from_be_bytes w64 (eight head 16) ≡ token
+  pub name_is : from_be_bytes w64 (eight_at front 8) ≡ name
+  pub token_is : from_be_bytes w64 (eight_at front 16) ≡ token
   pub more_is : length more ≡ name + token
+  pub small : name + token < 2 ^ 64
 
 same_front : (a b c d : List ℕ) → a ++ b ≡ c ++ d → length a ≡ length c → a ≡ c
 same_front a b c d e same =
     sym (take-append-le (length a) a b (omega arith) ∙ take_all (length a) a (omega arith)) ∙ ap (take (length a)) e
     ∙ take-append-le (length a) c d (omega (arith, same)) ∙ take_all (length a) c (omega (arith, same))
 
-by_numbers : (h : Head) (head more texts : List ℕ) (name token : ℕ) → length head ≡ 24 → head ++ more ≡ spelling h ++ texts → length texts ≡ name + token → h.first ≡ name → h.last ≡ token → InRange h → TellsTexts head more
-by_numbers h head more texts name token long e texts_len first last range =
-    let front : head ≡ spelling h = same_front head more (spelling h) texts e (long ∙ sym (spelled_length h)) in
-    let whole : length head + length more ≡ length (spelling h) + length texts = sym (length-append head more) ∙ ap length e ∙ length-append (spelling h) texts in
+whole_length : (k d f r a b : ℕ) (front more texts : List ℕ) → front ++ more ≡ spelling (head k d f r a b) ++ texts → length front + length more ≡ 24 + length texts
+whole_length k d f r a b front more texts e =
+    sym (length-append front more) ∙ ap length e ∙ length-append (spelling (head k d f r a b)) texts ∙ ap (λ n. n + length texts) (spelled_length k d f r a b)
+
+by_numbers : (k d f r a b : ℕ) (front more texts : List ℕ) → length front ≡ 24 → front ++ more ≡ spelling (head k d f r a b) ++ texts → length texts ≡ a + b → a + b < 2 ^ 64 → a < 2 ^ 64 → b < 2 ^ 64 → TellsTexts front more
+by_numbers k d f r a b front more texts long e texts_len small first last =
+    let same : front ≡ spelling (head k d f r a b) = same_front front more (spelling (head k d f r a b)) texts e (long ∙ sym (spelled_length k d f r a b)) in
+    let whole = whole_length k d f r a b front more texts e in
     record {
-      name = name;
-      token = token;
-      name_is = ap (λ l. from_be_bytes w64 (eight l 8)) front ∙ ap (from_be_bytes w64) (spelled_first h) ∙ from_be_bytes-to_be_bytes_8 h.first range.first ∙ first;
-      token_is = ap (λ l. from_be_bytes w64 (eight l 16)) front ∙ ap (from_be_bytes w64) (spelled_last h) ∙ from_be_bytes-to_be_bytes_8 h.last range.last ∙ last;
-      more_is = omega (arith, whole, long, spelled_length h, texts_len);
+      name = a;
+      token = b;
+      name_is = ap (λ l. from_be_bytes w64 (eight_at l 8)) same ∙ ap (from_be_bytes w64) (spelled_first k d f r a b) ∙ from_be_bytes-to_be_bytes_8 a first;
+      token_is = ap (λ l. from_be_bytes w64 (eight_at l 16)) same ∙ ap (from_be_bytes w64) (spelled_last k d f r a b) ∙ from_be_bytes-to_be_bytes_8 b last;
+      more_is = omega (arith, whole, long, texts_len);
+      small = small;
     }
 
-no_texts : (h : Head) (head more : List ℕ) → length head ≡ 24 → 0 < length more → head ++ more ≡ spelling h ++ ([] ++ []) → ⊥
-no_texts h head more long some e =
-    let whole : length head + length more ≡ length (spelling h) + 0 = sym (length-append head more) ∙ ap length e ∙ length-append (spelling h) ([] ++ []) in
-    omega (arith, whole, long, spelled_length h, some)
+no_texts : (k d f r a b : ℕ) (front more : List ℕ) → length front ≡ 24 → 0 < length more → front ++ more ≡ spelling (head k d f r a b) ++ ([] ++ []) → ⊥
+no_texts k d f r a b front more long some e = let whole = whole_length k d f r a b front more ([] ++ []) e in omega (arith, whole, long, some)
 
-by_call : (call : Call) (name token head more : List ℕ) → length head ≡ 24 → 0 < length more → head ++ more ≡ spelling (head_of_call call (length name) (length token)) ++ (sent call name ++ sent call token)
-    → InRange (head_of_call call (length name) (length token)) → TellsTexts head more
-by_call (C.Instantiate event_mode early_return) name token head more long some e range =
-    by_numbers (head_of_call (C.Instantiate event_mode early_return) (length name) (length token)) head more (name ++ token) (length name) (length token) long e (length-append name token) refl refl range
-by_call call name token head more long some e range = absurd (no_texts (head_of_call call (length name) (length token)) head more long some e)
+by_call : (call : Call) (name token front more : List ℕ) → length front ≡ 24 → 0 < length more → front ++ more ≡ spelling (head_of_call call (length name) (length token)) ++ (sent call name ++ sent call token)
+    → InRange (head_of_call call (length name) (length token)) → CanBeSent call (length name) (length token) → TellsTexts front more
+by_call (C.Instantiate event_mode early_return) name token front more long some e range can =
+    let call = C.Instantiate event_mode early_return in
+    by_numbers (facts_of (kind_of call)).number (detail_of call) 0 (reference_of call) (length name) (length token) front more (name ++ token) long e (length-append name token)
+      (omega (arith, can.1, can.2)) range.first range.last
+by_call call name token front more long some e range can =
+    absurd (no_texts (facts_of (kind_of call)).number (detail_of call) 0 (reference_of call) (first_of call (length name)) (last_of call (length token)) front more long some e)
 
 -- a frame that goes on behind its head
-pub tells_texts : (frame : CallFrame) (head more : List ℕ) → length head ≡ 24 → 0 < length more → IsCallFrame frame (head ++ more) → TellsTexts head more
-tells_texts frame head more long some is =
-    by_call frame.call (bytes_at frame.name (head ++ more)) (bytes_at frame.token (head ++ more)) head more long some is.is_frame.spelled is.is_frame.in_range
+pub tells_texts : (frame : CallFrame) (front more : List ℕ) → length front ≡ 24 → 0 < length more → IsCallFrame frame (front ++ more) → TellsTexts front more
+tells_texts frame front more long some is =
+    by_call frame.call (bytes_at frame.name (front ++ more)) (bytes_at frame.token (front ++ more)) front more long some is.is_frame.spelled is.is_frame.in_range is.is_frame.can_be_sent
 
 -- a frame is no shorter than its head
 pub frame_long : (frame : CallFrame) (bytes : List ℕ) → IsCallFrame frame bytes → 24 ≤ length bytes
 frame_long frame bytes is =
-    let h = head_of_call frame.call (length (bytes_at frame.name bytes)) (length (bytes_at frame.token bytes)) in
-    let texts = sent frame.call (bytes_at frame.name bytes) ++ sent frame.call (bytes_at frame.token bytes) in
-    let whole : length bytes ≡ length (spelling h) + length texts = ap length is.is_frame.spelled ∙ length-append (spelling h) texts in
-    omega (arith, whole, spelled_length h)
+    let call = frame.call in
+    let name = bytes_at frame.name bytes in
+    let token = bytes_at frame.token bytes in
+    let texts = sent call name ++ sent call token in
+    let whole = ap length is.is_frame.spelled ∙ length-append (spelling (head_of_call call (length name) (length token))) texts in
+    let long = spelled_length (facts_of (kind_of call)).number (detail_of call) 0 (reference_of call) (first_of call (length name)) (last_of call (length token)) in
+    omega (arith, whole, long)

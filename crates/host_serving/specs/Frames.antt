@@ -1,5 +1,5 @@
 -- What a source of call frames comes to, from one frame's first byte on.
-use Rattle.std.specs.Prelude.{◌≡◌, ◌⊎◌, ℕ, ◌<◌, List, [], length}
+use Rattle.std.specs.Prelude.{◌≡◌, ◌⊎◌, ℕ, ◌+◌, ◌<◌, List, [], ◌∷◌, ◌++◌, length, slice_index}
 use Rattle.std.specs.Io.KnownBytes.{Consumes, IsAtEnd}
 use Rattle.sim_base.specs.Causes.{Rose}
 use Rattle.sim_base.specs.Source.{SourceView}
@@ -54,3 +54,13 @@ ComesTo old new AtEnd = EndsBetween old new
 ComesTo old new (Bad at) = IsNoFrame old new at
 ComesTo old new Failed = Rose old.faults new.faults
 ComesTo old new Memory = Unit {0}
+
+-- the eight bytes from a place on
+abbrev pub eight_at : List ℕ → ℕ → List ℕ
+eight_at bytes place =
+    slice_index bytes place ∷ slice_index bytes (place + 1) ∷ slice_index bytes (place + 2) ∷ slice_index bytes (place + 3)
+    ∷ slice_index bytes (place + 4) ∷ slice_index bytes (place + 5) ∷ slice_index bytes (place + 6) ∷ slice_index bytes (place + 7) ∷ []
+
+-- so much follows the beginning in any frame that goes on behind it
+abbrev pub IsRoom : List ℕ → ℕ → Type 0
+IsRoom beginning room = (value : CallFrame) (more : List ℕ) → 0 < length more → IsCallFrame value (beginning ++ more) → room ≡ length more

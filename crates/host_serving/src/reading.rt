@@ -1,15 +1,16 @@
 //! The next frame of a source of bytes.
-ghost use Rattle.std.specs.Prelude.{◌≡◌, ℕ, ◌+◌, ◌<◌, ◌≤◌, ◌++◌, List, take, length, IfOk, OnOk, OnErr};
+ghost use Rattle.std.specs.Prelude.{◌≡◌, ℕ, ◌+◌, ◌-◌, ◌<◌, ◌≤◌, ◌++◌, List, take, length, IfOk, OnOk, OnErr};
+ghost use Rattle.std.specs.Int.{w64, from_be_bytes};
 ghost use Rattle.std.specs.Io.KnownBytes.{Consumes, IsAtEnd};
 ghost use Rattle.sim_base.specs.Causes.{Rose};
 ghost use Rattle.sim_base.specs.Source.{SourceView};
 ghost use Rattle.link_frames.specs.Call.{IsCallFrame};
 ghost use Rattle.link_frames.specs.Taking.{IsFront};
-ghost use Rattle.link_frames.specs.declared.call.CallFrame.{CallFrame};
-ghost use Rattle.host_serving.specs.Frames.{ComesTo, Takes};
+ghost use Rattle.link_frames.specs.declared.call.CallFrame.{CallFrame as FrameSpec};
+ghost use Rattle.host_serving.specs.Frames.{ComesTo, IsRoom, Takes, eight_at};
 
 use fmi_calls::Call;
-use link_frames::{Taken, take_call};
+use link_frames::{CallFrame, Taken, take_call};
 use sim_base::{Source, SourceFault};
 use std::alloc::{AllocError, Global};
 
@@ -42,8 +43,8 @@ pub(crate) fn next_call<I: Source>(alloc: Global, input: &mut I) -> NextCall
     if count == 0 {
         return NextCall::AtEnd;
     }
-    match take_call(&head[..count]) {
-        Taken::Got { value, .. } => NextCall::Came(value.call),
+    match take_call(front_of(&head, count)) {
+        Taken::Got { value, .. } => came(value),
         Taken::Bad { at } => NextCall::Bad { at: at as u64 },
         Taken::NeedMore => {
             if count < HEAD {
@@ -55,20 +56,44 @@ pub(crate) fn next_call<I: Source>(alloc: Global, input: &mut I) -> NextCall
     }
 }
 
+// A frame that came.
+fn came(frame: CallFrame) -> NextCall
+    ensures { result ≡ NextCall.Came frame.call }
+{
+    NextCall::Came(frame.call)
+}
+
+fn front_of(bytes: &[u8], count: usize) -> &[u8]
+    requires { count ≤ length bytes.now }
+    ensures { result.now ≡ take count bytes.now }
+{
+    &bytes[..count]
+}
+
 // Takes the texts of a frame whose beginning was taken.
 fn next_with_texts<I: Source>(alloc: Global, head: &[u8; HEAD], input: &mut I) -> NextCall
     requires { IsFront IsCallFrame head.now }
     ensures { (before : SourceView) → Takes before (I.view input.old) head.now → ComesTo before (I.view input.new) result }
 {
-    let Ok(mut frame) = with_room(alloc, head) else {
-        return NextCall::Memory;
-    };
+    match with_room(alloc, head) {
+        Ok(mut frame) => next_in(frame.as_mut_slice(), input),
+        Err(_) => NextCall::Memory,
+    }
+}
+
+// Takes the texts of a frame behind its beginning.
+fn next_in<I: Source>(frame: &mut [u8], input: &mut I) -> NextCall
+    requires front { IsFront IsCallFrame (take 24 frame.old) }
+    requires long { 24 ≤ length frame.old }
+    requires room { IsRoom (take 24 frame.old) (length frame.old - 24) }
+    ensures { (before : SourceView) → Takes before (I.view input.old) (take 24 frame.old) → ComesTo before (I.view input.new) result }
+{
     let Ok(count) = fill(input, &mut frame[HEAD..]) else {
         return NextCall::Failed;
     };
     let length = HEAD + count;
-    match take_call(&frame[..length]) {
-        Taken::Got { value, .. } => NextCall::Came(value.call),
+    match take_call(front_of(frame, length)) {
+        Taken::Got { value, .. } => came(value),
         Taken::Bad { at } => NextCall::Bad { at: at as u64 },
         Taken::NeedMore => NextCall::Bad { at: length as u64 },
     }
@@ -77,7 +102,7 @@ fn next_with_texts<I: Source>(alloc: Global, head: &[u8; HEAD], input: &mut I) -
 // The beginning of a frame, with room for its texts.
 fn with_room(alloc: Global, head: &[u8; HEAD]) -> Result<Vec<u8>, AllocError>
     ensures front { IfOk result (λ frame. take 24 frame.items ≡ head.now) }
-    ensures room { IfOk result (λ frame. (value : CallFrame) (more : List ℕ) → 0 < length more → IsCallFrame value (head.now ++ more) → length frame.items ≡ 24 + length more) }
+    ensures room { IfOk result (λ frame. (value : FrameSpec) (more : List ℕ) → 0 < length more → IsCallFrame value (head.now ++ more) → length frame.items ≡ 24 + length more) }
 {
     let mut frame = Vec::from_slice(alloc, head)?;
     frame.resize(HEAD.saturating_add(texts_len(head)), 0)?;
@@ -86,12 +111,28 @@ fn with_room(alloc: Global, head: &[u8; HEAD]) -> Result<Vec<u8>, AllocError>
 
 // The length of the texts that follow the beginning of a frame, if any do.
 fn texts_len(head: &[u8; HEAD]) -> usize
-    ensures { (value : CallFrame) (more : List ℕ) → 0 < length more → IsCallFrame value (head.now ++ more) → result ≡ length more }
+    ensures { (value : FrameSpec) (more : List ℕ) → 0 < length more → IsCallFrame value (head.now ++ more) → result ≡ length more }
 {
-    let [.., a, b, c, d, e, f, g, h, s, t, u, v, w, x, y, z] = *head;
-    let name = u64::from_be_bytes([a, b, c, d, e, f, g, h]);
-    let token = u64::from_be_bytes([s, t, u, v, w, x, y, z]);
+    let name = number_at(head, 8);
+    let token = number_at(head, 16);
     name.saturating_add(token) as usize
+}
+
+// The number in the eight bytes from a place on, the most significant first.
+fn number_at(bytes: &[u8], place: usize) -> u64
+    requires { place + 8 ≤ length bytes.now }
+    ensures { result ≡ from_be_bytes w64 (eight_at bytes.now place) }
+{
+    u64::from_be_bytes([
+        bytes[place],
+        bytes[place + 1],
+        bytes[place + 2],
+        bytes[place + 3],
+        bytes[place + 4],
+        bytes[place + 5],
+        bytes[place + 6],
+        bytes[place + 7],
+    ])
 }
 
 // Takes bytes from the source until the room is full or the source ends, and answers how many.

@@ -41,8 +41,9 @@ pub fn serve<I: Source, O: Sink, M: Peer>(
         (scene (I.view input.new) (O.view output.new) (M.view machine.new)) result }
 {
     'calls: for _ in 0..u64::MAX {
-        if let Some(end) = serve_next(alloc, input, output, machine) {
-            return end;
+        match serve_next(alloc, input, output, machine) {
+            Some(end) => return end,
+            None => {}
         }
     }
     ServeEnd::TooMany
@@ -70,14 +71,23 @@ fn serve_next<I: Source, O: Sink, M: Peer>(
     if !permitted(machine.shape(), machine.phase(), &call) {
         return Some(ServeEnd::NotPermitted { call });
     }
-    let Ok(reply) = machine.call(&call) else {
-        return Some(ServeEnd::Failed);
+    let reply = match machine.call(&call) {
+        Ok(reply) => reply,
+        Err(_) => return Some(ServeEnd::Failed),
     };
     let mut frame = [0; 24];
     put_reply(&reply, &mut frame);
-    if output.put(&frame).is_err() {
-        return Some(ServeEnd::Failed);
+    match output.put(&frame) {
+        Ok(()) => end_behind(call),
+        Err(_) => Some(ServeEnd::Failed),
     }
+}
+
+// What ends the serving behind a call that was served.
+fn end_behind(call: Call) -> Option<ServeEnd>
+    ensures freed { IfSome result (λ end. (end ≡ ServeEnd.Freed) × (call ≡ Call.FreeInstance)) }
+    ensures on { IfNone result (call ≢ Call.FreeInstance) }
+{
     match call {
         Call::FreeInstance => Some(ServeEnd::Freed),
         _ => None,
