@@ -39,12 +39,12 @@ consumes_kept (Some xs) (Some ys) None a one two = absurd two
 consumes_kept (Some xs) (Some ys) (Some zs) a one two = one ∙ ap (λ l. a ++ l) (sym two)
 
 -- why a room wasn't filled
-pub fills_ended : {T : Type 0} (old new : Option (List ℕ)) (into : List ℕ) (fault : WireFault) → fault ≡ Ended → Fills {T = T} old new into (Err fault) → RunsOut old new into
-fills_ended {T} old new into fault is h = subst (λ (f : WireFault). Fills {T = T} old new into (Err f)) is h
+pub fills_ended : (T : Type 0) (old new : Option (List ℕ)) (into : List ℕ) (fault : WireFault) → fault ≡ Ended → Fills {T = T} old new into (Err fault) → RunsOut old new into
+fills_ended T old new into fault is h = subst (λ (f : WireFault). Fills {T = T} old new into (Err f)) is h
 
-pub fills_failed : {T : Type 0} (old new : Option (List ℕ)) (into : List ℕ) (fault : WireFault) → fault ≡ Failed → Fills {T = T} old new into (Err fault) →
+pub fills_failed : (T : Type 0) (old new : Option (List ℕ)) (into : List ℕ) (fault : WireFault) → fault ≡ Failed → Fills {T = T} old new into (Err fault) →
     (n : ℕ) × Consumes old new (take n into)
-fills_failed {T} old new into fault is h = subst (λ (f : WireFault). Fills {T = T} old new into (Err f)) is h
+fills_failed T old new into fault is h = subst (λ (f : WireFault). Fills {T = T} old new into (Err f)) is h
 
 -- ---- receiving, from a reader that tells its bytes at all times or at none
 

@@ -17,7 +17,7 @@ returns-in-Err-Ended g c =
     let reader = c.fill.new.source.stream.reader in
     let new = g.R.Read.remaining reader in
     let steady = g.met.R.SteadyRead.steady wire.source.stream.reader reader in
-    let out = fills_ended old new c.fill.new.into c.in-Err-Ended.field-0 c.in-Err-Ended.field-0-is c.in-Err-Ended.ensures in
+    let out = fills_ended (Unit {0}) old new c.fill.new.into c.in-Err-Ended.field-0 c.in-Err-Ended.field-0-is c.in-Err-Ended.ensures in
     record { noted = received_less old new (g.W.Write.contents wire.sink.stream.writer) wire.faults c.fill.new.into steady out }
 
 pub returns-in-Err-Failed : goal.returns-in-Err-Failed
@@ -28,7 +28,7 @@ returns-in-Err-Failed g c =
     let mid = g.R.Read.remaining reader in
     let sent = g.W.Write.contents wire.sink.stream.writer in
     let steady = g.met.R.SteadyRead.steady wire.source.stream.reader reader in
-    let part = fills_failed old mid c.fill.new.into c.in-Err-Failed.field-0 c.in-Err-Failed.field-0-is c.in-Err-Failed.ensures in
+    let part = fills_failed (Unit {0}) old mid c.fill.new.into c.in-Err-Failed.field-0 c.in-Err-Failed.field-0-is c.in-Err-Failed.ensures in
     let new = c.fail.new.self in
     record {
       noted = (
