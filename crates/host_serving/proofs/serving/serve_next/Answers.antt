@@ -21,11 +21,11 @@ returns-in-Ok-put-clause-on g c =
     let fmu = g.M.Peer.view c.args.machine.now in
     let may : Permitted fmu.fixed.shape fmu.phase c.in-Came.call = search rules in
     goes_on _ _ (record { call = c.in-Came.call; reply = c.in-Ok.reply }) _
-      (record { answered = record { read = c.in-Came.ensures; permitted = may; asked = c.in-Ok.ensures }; piece = c.put_reply.new.out; spelled = c.put_reply.ensures; put = c.in-Ok-put.ensures.noted }) c.end_behind.ensures.on
+    (record { answered = record { read = c.in-Came.ensures; permitted = may; asked = c.in-Ok.ensures }; piece = c.put_reply.new.out; spelled = c.put_reply.ensures; put = c.in-Ok-put.ensures.noted }) c.end_behind.ensures.on
 
 pub returns-in-Ok-put-clause-end : goal.returns-in-Ok-put-clause-end
 returns-in-Ok-put-clause-end g c =
     let fmu = g.M.Peer.view c.args.machine.now in
     let may : Permitted fmu.fixed.shape fmu.phase c.in-Came.call = search rules in
     ends_freed _ _ (record { call = c.in-Came.call; reply = c.in-Ok.reply }) _
-      (record { answered = record { read = c.in-Came.ensures; permitted = may; asked = c.in-Ok.ensures }; piece = c.put_reply.new.out; spelled = c.put_reply.ensures; put = c.in-Ok-put.ensures.noted }) c.end_behind.ensures.freed
+    (record { answered = record { read = c.in-Came.ensures; permitted = may; asked = c.in-Ok.ensures }; piece = c.put_reply.new.out; spelled = c.put_reply.ensures; put = c.in-Ok-put.ensures.noted }) c.end_behind.ensures.freed
