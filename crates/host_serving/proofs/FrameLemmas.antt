@@ -51,9 +51,10 @@ room_more into part count n within few =
 pub filled_more : {E : Type 0} (before now after : SourceView) (into part : List ℕ) (count n : ℕ) → count ≤ length into → Takes before now (take count into) → NotesTake {E = E} now after part (Ok n)
     → (count + n ≤ length (put_mid count (length into - count) into part)) × Takes before after (take (count + n) (put_mid count (length into - count) into part))
 filled_more before now after into part count n within so takes =
-    let one : Takes now after (take n part) = record { taken = takes.taken.0; quiet = takes.counted } in
-    (room_more into part count n within takes.within,
-     subst (Takes before after) (sym (front_more into part count n within takes.within)) (takes_more before now after (take count into) (take n part) so one))
+    let one : Takes now after (take n part) = record { taken = takes.taken.0; quiet = takes.counted } in (
+      room_more into part count n within takes.within,
+      subst (Takes before after) (sym (front_more into part count n within takes.within)) (takes_more before now after (take count into) (take n part) so one),
+    )
 
 -- the beginning of a frame stays where there is room behind it
 pub resized : (old new head rest : List ℕ) (n : ℕ) → old ≡ head → new ≡ take n old ++ rest → length head ≡ 24 → 24 ≤ n → take 24 new ≡ head

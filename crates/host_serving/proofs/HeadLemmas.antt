@@ -63,7 +63,7 @@ by_call : (call : Call) (name token front more : List ℕ) → length front ≡ 
 by_call (C.Instantiate event_mode early_return) name token front more long some e range can =
     let call = C.Instantiate event_mode early_return in
     by_numbers (facts_of (kind_of call)).number (detail_of call) 0 (reference_of call) (length name) (length token) front more (name ++ token) long e (length-append name token)
-      (omega (arith, can.1, can.2)) range.first range.last
+    (omega (arith, can.1, can.2)) range.first range.last
 by_call call name token front more long some e range can =
     absurd (no_texts (facts_of (kind_of call)).number (detail_of call) 0 (reference_of call) (first_of call (length name)) (last_of call (length token)) front more long some e)
 

@@ -1,3 +1,4 @@
 pub mod FrameLemmas
 pub mod HeadLemmas
 pub mod ComingLemmas
+pub mod ServingLemmas
