@@ -126,7 +126,7 @@ module _ (task : Task) (system : System) (end : RunEnd) (old new : Scene) (l : L
   -- its name is that of its component
   name_is : (k : ℕ) (v : View) (talk : List Exchange) (name : List ℕ) (f : Found l.lives l.olds k v talk) → IsSomeAnd v.fixed.origin (λ (o : Origin). o.name ≡ name) → slice_get (names_of system) k ≡ Some name
   name_is k v talk name f h =
-      let s = started_at task.folders system.components l.olds k f.life.old l.peers.are f.old in
+      let s = started_at task.host task.folders system.components l.olds k f.life.old l.peers.are f.old in
       let origin = ap (λ (x : Fixed). x.origin) (sym (ap (λ (x : View). x.fixed) f.new) ∙ f.is.fixed) ∙ s.2.1.origin in
       let same : s.0.name ≡ name = subst (λ (o : Option Origin). IsSomeAnd o (λ (x : Origin). x.name ≡ name)) origin h in
       slice_get-map (λ (c : Component). c.name) system.components k ∙ ap (option_map (λ (c : Component). c.name)) s.1 ∙ ap Some same

@@ -112,7 +112,7 @@ unwritten o h p e = by (subst (λ (x : Outcome). HasPut x h) e p)
 pub out_higher : (o : Outcome) (h : Happened) → HasPut o h → Course o h → h.old.run.out.faults < h.new.run.out.faults → h.status ≡ 10
 out_higher o h p (Still idle) higher = not_higher h.old.run.out.faults h.new.run.out.faults (ap (λ (s : SinkView). s.faults) idle.out) higher
 out_higher o h p (OfRun one) higher =
-    let task = task_of one.it.plan one.it.loaded in
+    let task = task_of one.it.asked one.it.loaded in
     let system = one.it.loaded.system in
     end_higher (names_of system) one.end one.e h one.named (tells_out task system one.end h.old.run h.new.run one.run) (ran_put o h p one) higher
 out_higher o h p (OfCheck (Tells e line is on)) higher = not_higher h.old.run.out.faults h.new.run.out.faults (ap (λ (s : SinkView). s.faults) on.3.out) higher

@@ -153,7 +153,7 @@ fn run_loaded<R: Threads + Sync, S: Spawner, O: Sink>(
     requires runnable { CanRun loaded.system }
     requires bound { BindsParameters loaded.system loaded.bound }
     requires folders { HasFolders loaded.folders loaded.system }
-    ensures { LoadedFacts (option_map run_of options) result.outcome loaded
+    ensures { LoadedFacts (option_map run_of options.entry) result.outcome loaded
         (scene (S.view spawner.old) (O.view out.old)) (scene (S.view spawner.new) (O.view out.new)) }
 {
     let Loaded {
@@ -200,7 +200,7 @@ fn run_system<R: Threads + Sync, S: Spawner, O: Sink>(
     requires runnable { CanRun system }
     requires bound { BindsParameters system bound }
     requires folders { HasFolders folders.now system }
-    ensures { RunFacts result.outcome (record { plan = options.plan; host = options.host.now; bound = bound; folders = folders.now }) system
+    ensures { RunFacts result.outcome (record { plan = options.entry.plan; host = options.entry.host.now; bound = bound; folders = folders.now }) system
         (scene (S.view spawner.old) (O.view out.old)) (scene (S.view spawner.new) (O.view out.new)) }
 {
     let components = system.components.as_slice();
@@ -264,8 +264,8 @@ fn run_peers<R: Threads + Sync, S: Spawner, O: Sink>(
     requires each { length peers.items ≡ length system.components }
     requires started { AreStarted options.host.now folders.now system.components (map S.Link.view peers.items) }
     requires fewer { length (S.view spawner.old).retired + length peers.items ≤ (S.view spawner.old).started }
-    ensures { (before : SpawnerView) → AreKnown options.host.now before system.components → S.view spawner.old ≡ with_all_started before (length peers.items) →
-        RunFacts result.outcome (record { plan = options.plan; host = options.host.now; bound = bound; folders = folders.now }) system (scene before (O.view out.old)) (scene (S.view spawner.new) (O.view out.new)) }
+    ensures { (before : SpawnerView) → AreKnown options.entry.host.now before system.components → S.view spawner.old ≡ with_all_started before (length peers.items) →
+        RunFacts result.outcome (record { plan = options.entry.plan; host = options.entry.host.now; bound = bound; folders = folders.now }) system (scene before (O.view out.old)) (scene (S.view spawner.new) (O.view out.new)) }
 {
     lives_of_peers();
     runs_of_machines();

@@ -1,6 +1,7 @@
 use Rattle.std.proofs.Common.{◌≡◌, ◌≤◌, ◌^◌, ℕ, List, refl, subst, sym, ap, ◌∙◌}
-use Rattle.std.specs.Prelude.{IfSome, Option}
-use Rattle.command_line.specs.Line.{IsWithin, RunLine, line_of}
+use Rattle.std.specs.Prelude.{IfSome, None, Option, Some, option_map}
+use Rattle.command_line.specs.Line.{IsWithin, RunLine, line_of, run_of}
+use Rattle.command_line.specs.declared.words.Options.{Options}
 use Rattle.system_files.specs.declared.subject.Subject.{Subject}
 use Rattle.system_files.specs.Loads.{EndsLoading, Loads}
 use Rattle.system_files.specs.Order.{Found, Search, search_of}
@@ -13,6 +14,11 @@ same_search : (s t : Subject) (d e : List ℕ) (m n : ℕ) → s ≡ t → d ≡
 same_search s t d e m n one two three =
     ap (λ (x : Subject). search_of x d m) one ∙ ap (λ (x : List ℕ). search_of t x m) two ∙ ap (λ (x : ℕ). search_of t e x) three
 
+-- the options of a run have the plan of its line
+within_options : (options : Option Options) → IfSome (option_map run_of options) (λ (asked : RunLine). IsWithin asked.plan) → IfSome options (λ (o : Options). IsWithin o.plan)
+within_options None within = within
+within_options (Some options) within = within
+
 pub load-requires-clause-above : goal.load-requires-clause-above
 load-requires-clause-above g c = subst (λ (n : ℕ). 1 ≤ n) (sym c.resolution_of.ensures) (above (line_of c.args.line) c.requires)
 
@@ -20,7 +26,8 @@ pub load-requires-clause-within : goal.load-requires-clause-within
 load-requires-clause-within g c = subst (λ (n : ℕ). n ≤ 2 ^ 62) (sym c.resolution_of.ensures) (within (line_of c.args.line) c.requires)
 
 pub run_loaded-requires-clause-within : goal.run_loaded-requires-clause-within
-run_loaded-requires-clause-within g c κs bounds = subst (λ (p : Option RunLine). IfSome p (λ (asked : RunLine). IsWithin asked.plan)) (sym c.options_of.ensures) (plan_within (line_of c.args.line) c.requires)
+run_loaded-requires-clause-within g c κs bounds =
+    within_options c.options_of.result (subst (λ (p : Option RunLine). IfSome p (λ (asked : RunLine). IsWithin asked.plan)) (sym c.options_of.ensures) (plan_within (line_of c.args.line) c.requires))
 
 pub run_loaded-requires-clause-runnable : goal.run_loaded-requires-clause-runnable
 run_loaded-requires-clause-runnable g c κs bounds = can_run c.in-Ok.loaded.system c.in-Ok.ensures.sound c.in-Ok.ensures.built c.in-Ok.ensures.named
