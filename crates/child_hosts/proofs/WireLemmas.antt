@@ -1,11 +1,11 @@
 -- What a wire over a reader and a writer tells after it has sent or received.
-use Rattle.std.proofs.Common.{◌≡◌, ℕ, ◌+◌, ◌<◌, List, [], ◌∷◌, ◌++◌, length, take, drop, Option, Some, None, refl, sym, ap, ◌∙◌, subst, arith, append_assoc, append-nil, length-append}
+use Rattle.std.proofs.Common.{◌≡◌, ℕ, List, [], ◌++◌, length, take, drop, Option, Some, None, refl, sym, ap, ◌∙◌, subst, arith, append_assoc, append-nil}
 use Rattle.std.specs.Prelude.{Err, is_some}
-use Rattle.std.specs.Io.KnownBytes.{Consumes, IsAtEnd, Keeps}
+use Rattle.std.specs.Io.KnownBytes.{Consumes, Keeps}
 use Rattle.std.proofs.Math.Seq.{drop-append_seam}
 use Rattle.sim_base.specs.Causes.{one_more}
-use Rattle.sim_base.specs.Sink.{SinkView, with_fault as with_failed_piece, with_piece}
-use Rattle.fmu_link.specs.Wire.{FallsShort, WireView, at_end, wire_view, with_fault, with_front, with_sent, without_front}
+use Rattle.sim_base.specs.Sink.{SinkView, with_piece}
+use Rattle.fmu_link.specs.Wire.{FallsShort, at_end, wire_view, with_fault, with_front, with_sent, without_front}
 use Rattle.fmu_link.specs.declared.wire.WireFault.{WireFault}
 use Rattle.fmu_link.specs.declared.wire.WireFault.TheVariants.{Ended, Failed}
 use Rattle.child_hosts.specs.Filling.{Fills, RunsOut}
@@ -15,10 +15,6 @@ use Rattle.child_hosts.specs.Filling.{Fills, RunsOut}
 pub sent_whole : (old new : SinkView) (coming : Option (List ℕ)) (faults : ℕ) (bytes : List ℕ) → new ≡ with_piece old bytes →
     wire_view new.content coming faults ≡ with_sent (wire_view old.content coming faults) bytes
 sent_whole old new coming faults bytes e = ap (λ (s : SinkView). wire_view s.content coming faults) e
-
-pub sent_part : (old new : SinkView) (coming : Option (List ℕ)) (faults : ℕ) (bytes : List ℕ) → new ≡ with_failed_piece old bytes →
-    wire_view new.content coming (one_more faults) ≡ with_fault (with_sent (wire_view old.content coming faults) bytes)
-sent_part old new coming faults bytes e = ap (λ (s : SinkView). wire_view s.content coming (one_more faults)) e
 
 -- ---- bytes that come piece by piece
 

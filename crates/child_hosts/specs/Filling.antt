@@ -1,5 +1,5 @@
 -- How a room is filled with bytes that come piece by piece.
-use Rattle.std.specs.Prelude.{◌≡◌, ℕ, ◌<◌, List, [], drop, length, take, Option, Result, Ok, Err}
+use Rattle.std.specs.Prelude.{ℕ, ◌<◌, List, [], drop, length, take, Option, Result, Ok, Err}
 use Rattle.std.specs.Io.KnownBytes.{Consumes, IsAtEnd, Keeps}
 use Rattle.fmu_link.specs.declared.wire.WireFault.{WireFault}
 use Rattle.fmu_link.specs.declared.wire.WireFault.TheVariants.{Failed, Ended}

@@ -157,5 +157,6 @@ fn make_built_in(
     ensures { IfOk result (λ b. IsStarted host.now name.now directory.now shape.now (built_in_view b)) }
 {
     let origin = Origin::from_texts(alloc, host, name, directory)?;
-    BuiltIn::new(alloc, model, origin, shape, None)
+    let peer = BuiltIn::new(alloc, model, origin, shape, None)?;
+    Ok(peer)
 }

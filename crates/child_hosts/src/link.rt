@@ -15,7 +15,7 @@ impl HostLink {
     /// Ends its process, where it has one.
     pub fn end(self) {
         match self {
-            HostLink::BuiltIn(_) => {}
+            HostLink::BuiltIn(peer) => drop(peer),
             HostLink::Child(child) => child.end(),
         }
     }

@@ -1,5 +1,5 @@
 -- What stands in the front of the room is gone from what was to come.
-use Rattle.std.proofs.Common.{ℕ, ◌-◌, ◌≤◌, length, take}
+use Rattle.std.proofs.Common.{◌-◌, ◌≤◌, length, take}
 use Rattle.std.specs.Io.KnownBytes.{Consumes}
 use Rattle.child_hosts.proofs.pipe_wire.fill.Given as goal
 

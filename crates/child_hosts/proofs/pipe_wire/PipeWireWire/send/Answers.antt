@@ -1,6 +1,6 @@
 use Rattle.std.proofs.Common.{ℕ, List, None, Option}
 use Rattle.sim_base.specs.Sink.{SinkView}
-use Rattle.child_hosts.proofs.WireLemmas.{sent_part, sent_whole}
+use Rattle.child_hosts.proofs.WireLemmas.{sent_whole}
 use Rattle.child_hosts.proofs.pipe_wire.PipeWireWire.send.Goals as goal
 
 abbrev told : Option (List ℕ) → ℕ → SinkView
