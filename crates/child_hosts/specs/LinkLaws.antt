@@ -2,7 +2,7 @@
 use Rattle.std.specs.Prelude.{ℕ, ◌≤◌, List, length, map, IfSome}
 use Rattle.std.proofs.Common.{subst, sym}
 use Rattle.std.proofs.lemmas.List.{length-map}
-use Rattle.core.specs.declared.snapshot.Snapshot.{Snapshot}
+use Rattle.std.specs.declared.snapshot.Snapshot.{Snapshot}
 use Rattle.fmu_peer.specs.Machine.{IgnoresSlot, IsLawful, IsMachineOf}
 use Rattle.fmu_peer.specs.View.{TellsItsPhase}
 use Rattle.bench_fmus.specs.Laws as laws

@@ -2,7 +2,7 @@
 use Rattle.std.specs.Prelude.{ℕ, List, Bool, true, map, None, if◌then◌else◌, codes}
 use Rattle.std.specs.Str.{bytes_eq}
 use Rattle.std.specs.declared.process.pipes.ChildStdout.{ChildStdout}
-use Rattle.core.specs.declared.snapshot.Snapshot.{Snapshot}
+use Rattle.std.specs.declared.snapshot.Snapshot.{Snapshot}
 use Rattle.fmu_peer.specs.Start.{SpawnerView}
 use Rattle.fmu_peer.specs.View.{View}
 use Rattle.fmu_link.specs.Piped.{piped_view}
