@@ -1,0 +1,5 @@
+pub mod Statuses
+pub mod LinkLemmas
+pub mod When
+pub mod Exactly
+pub mod Rows
