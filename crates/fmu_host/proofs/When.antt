@@ -40,7 +40,7 @@ WhenIs LostLink h = OnLine h (Ends h (λ end. end ≡ E.Failed)) × LosesCount h
 WhenIs NoMemory h = Unit {0}
 
 -- a read that failed raised the count
-read_rose : (line : Line) (old new : FolderView) → IsUnread line old new → Rose old.faults new.faults
+pub read_rose : (line : Line) (old new : FolderView) → IsUnread line old new → Rose old.faults new.faults
 read_rose line old new e = raised old.faults new.faults (ap (λ (v : FolderView). v.faults) e)
   where
     raised : (before after : ℕ) → after ≡ one_more before → Rose before after
