@@ -1,0 +1,6 @@
+pub mod Statuses
+pub mod LinkLemmas
+pub mod ReadLemmas
+pub mod When
+pub mod Exactly
+pub mod Rows

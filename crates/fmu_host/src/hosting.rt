@@ -1,7 +1,18 @@
 //! The machine that a description names is served.
+ghost use Rattle.std.specs.Prelude.{◌≡◌, ◌++◌, IfErr, IfOk, codes, drop, string_bytes};
+ghost use Rattle.std.specs.IoError.{error_kind};
+ghost use Rattle.std.specs.Vec.Iter.{into_iter_items};
+ghost use Rattle.command_line.specs.Line.{texts};
+ghost use Rattle.fmu_host.specs.Description.{IsRead, LacksShape};
+ghost use Rattle.fmu_host.specs.Facts.{Facts, ShapeFacts};
+ghost use Rattle.fmu_host.specs.Happened.{happened, link, stage};
+ghost use Rattle.fmu_host.specs.Line.{line_of};
+ghost use Rattle.fmu_host.specs.Rows.{KeepsRows};
+ghost use Rattle.fmu_host.specs.Status.{status_of, ungiven_end};
+
 use crate::quiet::QuietMachine;
 use crate::words::{HostLine, read_words};
-use bench_fmus::{Model, Origin};
+use bench_fmus::Model;
 use host_serving::{ServeEnd, serve};
 use sim_base::{Folder, MOST_FILE_BYTES, ReadFault, Sink, Source};
 use std::alloc::{AllocError, Global};
@@ -33,7 +44,9 @@ pub(crate) enum HostEnd {
 
 impl HostEnd {
     /// The program's status.
-    pub fn status(self) -> u8 {
+    pub fn status(self) -> u8
+        ensures { result ≡ status_of self }
+    {
         match self {
             HostEnd::Served(ServeEnd::Freed | ServeEnd::Ended) => 0,
             HostEnd::Served(ServeEnd::BadFrame { .. }) => 1,
@@ -57,7 +70,14 @@ pub(crate) fn host_args<F: Folder, I: Source, O: Sink>(
     folder: &mut F,
     input: &mut I,
     output: &mut O,
-) -> u8 {
+) -> u8
+    ensures given { IfOk args (λ given. KeepsRows (happened (texts (drop 1 (into_iter_items given)))
+        (stage (F.view folder.old) (I.view input.old) (O.view output.old))
+        (stage (F.view folder.new) (I.view input.new) (O.view output.new)) result)) }
+    ensures same { IfErr args (λ error. stage (F.view folder.new) (I.view input.new) (O.view output.new)
+        ≡ stage (F.view folder.old) (I.view input.old) (O.view output.old)) }
+    ensures ungiven { IfErr args (λ error. result ≡ status_of (ungiven_end (error_kind error))) }
+{
     match args {
         Ok(given) => match words_behind(alloc, given) {
             Ok(words) => host_words(alloc, &words, folder, input, output),
@@ -68,11 +88,15 @@ pub(crate) fn host_args<F: Folder, I: Source, O: Sink>(
 }
 
 // The words behind the program's name.
-fn words_behind(alloc: Global, given: Args) -> Result<Vec<String>, AllocError> {
+fn words_behind(alloc: Global, given: Args) -> Result<Vec<String>, AllocError>
+    ensures { IfOk result (λ words. words.items ≡ drop 1 (into_iter_items given)) }
+{
     given.skip(1).collect(alloc)
 }
 
-fn ungiven(error: &io::Error) -> HostEnd {
+fn ungiven(error: &io::Error) -> HostEnd
+    ensures { result ≡ ungiven_end (error_kind error.now) }
+{
     match error.kind() {
         ErrorKind::OutOfMemory => HostEnd::Memory,
         _ => HostEnd::NoWords,
@@ -87,7 +111,11 @@ pub fn host_words<F: Folder, I: Source, O: Sink>(
     folder: &mut F,
     input: &mut I,
     output: &mut O,
-) -> u8 {
+) -> u8
+    ensures { KeepsRows (happened (texts words.now)
+        (stage (F.view folder.old) (I.view input.old) (O.view output.old))
+        (stage (F.view folder.new) (I.view input.new) (O.view output.new)) result) }
+{
     host(alloc, words, folder, input, output).status()
 }
 
@@ -97,7 +125,11 @@ fn host<F: Folder, I: Source, O: Sink>(
     folder: &mut F,
     input: &mut I,
     output: &mut O,
-) -> HostEnd {
+) -> HostEnd
+    ensures { Facts result (texts words.now)
+        (stage (F.view folder.old) (I.view input.old) (O.view output.old))
+        (stage (F.view folder.new) (I.view input.new) (O.view output.new)) }
+{
     let Some(line) = read_words(words) else {
         return HostEnd::NoWords;
     };
@@ -112,7 +144,10 @@ fn read_model<F: Folder>(
     alloc: Global,
     line: HostLine<'_>,
     folder: &mut F,
-) -> Result<Shape, HostEnd> {
+) -> Result<Shape, HostEnd>
+    ensures ok { IfOk result (λ shape. IsRead (line_of line.entry) shape (F.view folder.old) (F.view folder.new)) }
+    ensures err { IfErr result (λ end. LacksShape end (line_of line.entry) (F.view folder.old) (F.view folder.new)) }
+{
     let Ok(path) = description_path(alloc, line.directory) else {
         return Err(HostEnd::Memory);
     };
@@ -122,21 +157,17 @@ fn read_model<F: Folder>(
             Err(Fault::Broken { .. }) => Err(HostEnd::Broken),
             Err(Fault::Memory) => Err(HostEnd::Memory),
         },
-        Err(fault) => Err(unread(fault)),
-    }
-}
-
-fn unread(fault: ReadFault) -> HostEnd {
-    match fault {
-        ReadFault::Failed => HostEnd::Unread,
-        ReadFault::Missing => HostEnd::Missing,
-        ReadFault::TooBig { .. } => HostEnd::TooBig,
-        ReadFault::Memory => HostEnd::Memory,
+        Err(ReadFault::Failed) => Err(HostEnd::Unread),
+        Err(ReadFault::Missing) => Err(HostEnd::Missing),
+        Err(ReadFault::TooBig { .. }) => Err(HostEnd::TooBig),
+        Err(ReadFault::Memory) => Err(HostEnd::Memory),
     }
 }
 
 // Where the description of an FMU stands in its directory (FMI 3.0, 2.5.1).
-fn description_path(alloc: Global, directory: &str) -> Result<String, AllocError> {
+fn description_path(alloc: Global, directory: &str) -> Result<String, AllocError>
+    ensures { IfOk result (λ path. string_bytes path ≡ directory.now ++ codes "/modelDescription.xml") }
+{
     let mut path = String::from_str(alloc, directory)?;
     path.push_str("/modelDescription.xml")?;
     Ok(path)
@@ -148,18 +179,14 @@ fn host_model<I: Source, O: Sink>(
     shape: &Shape,
     input: &mut I,
     output: &mut O,
-) -> HostEnd {
+) -> HostEnd
+    ensures { ShapeFacts result shape.now (link (I.view input.old) (O.view output.old)) (link (I.view input.new) (O.view output.new)) }
+{
     let Some(model) = Model::named(shape.identifier.as_str()) else {
         return HostEnd::Unknown;
     };
-    match make_machine(alloc, model, shape) {
+    match QuietMachine::new(alloc, model, shape) {
         Ok(mut machine) => HostEnd::Served(serve(alloc, input, output, &mut machine)),
         Err(_) => HostEnd::Memory,
     }
-}
-
-// A machine before its first call, which keeps no talk.
-fn make_machine(alloc: Global, model: Model, shape: &Shape) -> Result<QuietMachine, AllocError> {
-    let origin = Origin::from_texts(alloc, "", "", "")?;
-    QuietMachine::new(alloc, model, origin, shape)
 }

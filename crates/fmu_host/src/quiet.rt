@@ -1,8 +1,9 @@
 //! A built-in machine that never fails.
-ghost use Rattle.std.specs.Prelude.{◌≡◌, IsTrue, IfOk, is_none};
+ghost use Rattle.std.specs.Prelude.{◌≡◌, IfOk, IsTrue, is_none};
 ghost use Rattle.fmi_calls.specs.Permission.{Permitted};
 ghost use Rattle.fmu_peer.specs.View.{Asked};
 ghost use Rattle.bench_fmus.specs.BuiltInView.{built_in_view};
+ghost use Rattle.fmu_host.specs.Facts.{first_view};
 
 use bench_fmus::{BuiltIn, Model, Origin};
 use fmi_calls::{Call, Phase, Reply};
@@ -19,13 +20,11 @@ pub(crate) struct QuietMachine {
 }
 
 impl QuietMachine {
-    /// A machine before its first call.
-    pub fn new(
-        alloc: Global,
-        model: Model,
-        origin: Origin,
-        shape: &Shape,
-    ) -> Result<QuietMachine, AllocError> {
+    /// A machine before its first call, which keeps no talk.
+    pub fn new(alloc: Global, model: Model, shape: &Shape) -> Result<QuietMachine, AllocError>
+        ensures { IfOk result (λ q. built_in_view q.machine ≡ first_view model shape.now) }
+    {
+        let origin = Origin::from_texts(alloc, "", "", "")?;
         let machine = BuiltIn::new(alloc, model, origin, shape, None)?;
         Ok(QuietMachine { machine })
     }

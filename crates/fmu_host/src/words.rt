@@ -1,5 +1,7 @@
 //! The words of the command line: a directory, and how many counts a second has.
-ghost use Rattle.std.specs.Prelude.{◌≡◌, ℕ, ◌^◌, ◌<◌, ◌≤◌, Some, IfSome, decimal};
+ghost use Rattle.std.specs.Prelude.{◌≡◌, ℕ, ◌^◌, ◌<◌, ◌≤◌, Some, IfSome, decimal, option_map};
+ghost use Rattle.command_line.specs.Line.{texts};
+ghost use Rattle.fmu_host.specs.Line.{IsLine, Line, line_of};
 
 use itoa::Buffer;
 use sim_base::MOST_COUNTS;
@@ -12,7 +14,10 @@ pub(crate) struct HostLine<'a> {
 }
 
 /// What the words ask for, where they are a directory and a resolution.
-pub(crate) fn read_words(words: &[String]) -> Option<HostLine<'_>> {
+pub(crate) fn read_words(words: &[String]) -> Option<HostLine<'_>>
+    ensures ok { IfSome result (λ l. IsLine (texts words.now) (line_of l)) }
+    ensures only { (line : Line) → IsLine (texts words.now) line → option_map line_of result ≡ Some line }
+{
     let [directory, resolution] = words else {
         return None;
     };

@@ -1,0 +1,128 @@
+-- When each status comes. An `exact` row speaks of a call in which the folder tells its files and no read of it failed, and yields to want of memory.
+use Rattle.std.specs.Prelude.{◌≡◌, ◌⊎◌, ℕ, ◌^◌, ◌<◌, ◌≤◌, List, length, Option, Some, None}
+use Rattle.sim_base.specs.Causes.{Rose}
+use Rattle.value_types.specs.declared.shape.Shape.{Shape}
+use Rattle.doc_tree.specs.declared.place.Place.{Place}
+use Rattle.doc_tree.specs.declared.rule.Rule.{Rule}
+use Rattle.system_loading.specs.Readings.{BreaksModel, IsModel}
+use Rattle.fmi_calls.specs.declared.call.Call.{Call}
+use Rattle.bench_fmus.specs.declared.model.Model.{Model}
+use Rattle.bench_fmus.specs.Models.{model_named}
+use Rattle.host_serving.specs.declared.serving.ServeEnd.{ServeEnd}
+use Rattle.host_serving.specs.declared.serving.ServeEnd.TheVariants as E
+use Rattle.fmu_host.specs.Description.{Breaks, Holds, IsAsked, IsRead, IsTooLong, IsUnread, path_of}
+use Rattle.fmu_host.specs.Facts.{ServesShape}
+use Rattle.fmu_host.specs.Happened.{Happened}
+use Rattle.fmu_host.specs.Line.{IsLine, IsNoLine, Line}
+
+-- the words are a line, and this holds of it
+abbrev pub OnLine : Happened → (Line → Type 0) → Type 0
+OnLine h P = (line : Line) × IsLine h.words line × P line
+
+-- this status, or want of memory
+abbrev pub OrMemory : Happened → ℕ → Type 0
+OrMemory h status = (h.status ≡ status) ⊎ (h.status ≡ 11)
+
+-- no call was taken, and no reply put
+abbrev pub IsUnserved : Happened → Type 0
+IsUnserved h = h.new.link ≡ h.old.link
+
+-- ---- what the folder tells
+
+-- the words are this line, the folder tells that this stands at the description's path, and no read of it failed
+pub record Tells (h : Happened) (line : Line) (file : Option (List ℕ)) : Type 0 where
+  pub is : IsLine h.words line
+  pub at : List ℕ → Option (List ℕ)
+  pub told : h.old.folder.files ≡ Some at
+  pub stands : at (path_of line) ≡ file
+  pub calm : Rose h.old.folder.faults h.new.folder.faults → ⊥
+
+-- it is a description of this shape
+pub record TellsShape (h : Happened) (line : Line) (shape : Shape) : Type 0 where
+  pub bytes : List ℕ
+  pub tells : Tells h line (Some bytes)
+  pub within : length bytes ≤ 2 ^ 24
+  pub is : IsModel line.resolution bytes shape
+
+-- ---- the statuses
+
+-- the shape was read, and the machine that it names was served to such an end
+pub record Ends (h : Happened) (P : ServeEnd → Type 0) (line : Line) : Type 0 where
+  pub shape : Shape
+  pub read : IsRead line shape h.old.folder h.new.folder
+  pub end : ServeEnd
+  pub so : P end
+  pub serves : ServesShape end shape h.old.link h.new.link
+
+-- between two frames, or behind FreeInstance
+abbrev pub IsDone : ServeEnd → Type 0
+IsDone end = (end ≡ E.Freed) ⊎ (end ≡ E.Ended)
+
+-- at bytes that are no frame
+abbrev pub IsBadFrame : ServeEnd → Type 0
+IsBadFrame end = (at : ℕ) × (end ≡ E.BadFrame at)
+
+-- at a call that isn't permitted
+abbrev pub IsUnpermitted : ServeEnd → Type 0
+IsUnpermitted end = (call : Call) × (end ≡ E.NotPermitted call)
+
+-- the status of each end
+abbrev pub serve_status : ServeEnd → ℕ
+serve_status E.Freed = 0
+serve_status E.Ended = 0
+serve_status (E.BadFrame at) = 1
+serve_status (E.NotPermitted call) = 6
+serve_status E.Failed = 10
+serve_status E.TooMany = 9
+serve_status E.Memory = 11
+
+-- 2: exactly where the words are no line; then nothing is done
+pub record WordsRow (h : Happened) : Type 0 where
+  pub when : h.status ≡ 2 → IsNoLine h.words × (h.new ≡ h.old)
+  pub exact : IsNoLine h.words → OrMemory h 2
+
+-- 3: the read failed, or there is no description, or it is longer than 16 MiB
+pub data LacksFile (h : Happened) (line : Line) : Type 0 where
+  ByFault : IsUnread line h.old.folder h.new.folder → Rose h.old.folder.faults h.new.folder.faults → LacksFile h line
+  ByAbsence : Holds h.old.folder line None → IsAsked line h.old.folder h.new.folder → LacksFile h line
+  ByLength : IsTooLong h.old.folder line → IsAsked line h.old.folder h.new.folder → LacksFile h line
+
+pub record FileRow (h : Happened) : Type 0 where
+  pub when : h.status ≡ 3 → OnLine h (LacksFile h) × IsUnserved h
+  pub missing : (line : Line) → Tells h line None → OrMemory h 3
+  pub big : (line : Line) (bytes : List ℕ) → Tells h line (Some bytes) → 2 ^ 24 < length bytes → OrMemory h 3
+
+-- 4: exactly where the description breaks a rule
+pub record RuleRow (h : Happened) : Type 0 where
+  pub when : h.status ≡ 4 → OnLine h (λ line. Breaks h.old.folder line × IsAsked line h.old.folder h.new.folder) × IsUnserved h
+  pub exact : (line : Line) (bytes : List ℕ) (rule : Rule) (place : Place) → Tells h line (Some bytes) → length bytes ≤ 2 ^ 24 →
+      BreaksModel line.resolution bytes rule place → OrMemory h 4
+
+-- 5: exactly where the description names no built-in machine
+pub record UnknownRow (h : Happened) : Type 0 where
+  pub when : h.status ≡ 5 →
+      OnLine h (λ line. (shape : Shape) × IsRead line shape h.old.folder h.new.folder × (model_named shape.identifier ≡ None)) × IsUnserved h
+  pub exact : (line : Line) (shape : Shape) → TellsShape h line shape → model_named shape.identifier ≡ None → OrMemory h 5
+
+-- 0, 1, 6, 9 and 10: the machine that the description names was served, and this is how that ended; at 10 a count rose
+pub record ServedRow (h : Happened) : Type 0 where
+  pub done : h.status ≡ 0 → OnLine h (Ends h IsDone)
+  pub bad : h.status ≡ 1 → OnLine h (Ends h IsBadFrame)
+  pub unpermitted : h.status ≡ 6 → OnLine h (Ends h IsUnpermitted)
+  pub many : h.status ≡ 9 → OnLine h (Ends h (λ end. end ≡ E.TooMany))
+  pub failed : h.status ≡ 10 → OnLine h (Ends h (λ end. end ≡ E.Failed))
+      × (Rose h.old.link.input.faults h.new.link.input.faults ⊎ Rose h.old.link.output.faults h.new.link.output.faults)
+  pub exact : (line : Line) (shape : Shape) (model : Model) → TellsShape h line shape → model_named shape.identifier ≡ Some model →
+      (h.status ≡ 11) ⊎ ((end : ServeEnd) × (h.status ≡ serve_status end) × ServesShape end shape h.old.link h.new.link)
+
+-- no other status comes
+abbrev pub IsStatus : ℕ → Type 0
+IsStatus n = (n ≤ 6) ⊎ ((9 ≤ n) × (n ≤ 11))
+
+pub record KeepsRows (h : Happened) : Type 0 where
+  pub words : WordsRow h
+  pub file : FileRow h
+  pub rule : RuleRow h
+  pub unknown : UnknownRow h
+  pub served : ServedRow h
+  pub known : IsStatus h.status
