@@ -1,12 +1,12 @@
 -- A serving that fails raised the input's count or the output's, as the machine's never rises.
-use Rattle.std.proofs.Common.{◌≡◌, ◌⊎◌, inl, inr, ℕ, List, refl, sym, ap, ◌∙◌, subst, arith}
+use Rattle.std.proofs.Common.{◌≡◌, ◌⊎◌, inl, inr, ℕ, List, refl, ap, ◌∙◌, subst, arith}
 use Rattle.sim_base.specs.Causes.{Rose}
 use Rattle.sim_base.specs.Source.{SourceView}
-use Rattle.sim_base.specs.Sink.{SinkView, with_piece}
+use Rattle.sim_base.specs.Sink.{SinkView}
 use Rattle.fmi_calls.specs.declared.call.Call.{Call}
 use Rattle.host_serving.specs.declared.serving.ServeEnd.TheVariants as E
 use Rattle.host_serving.specs.Frames.{TakesCall}
-use Rattle.host_serving.specs.Serving.{HasServed, IsAnswered, LosesLink, More, Nothing, OfInput, OfMachine, OfOutput, Scene, Served, Serves}
+use Rattle.host_serving.specs.Serving.{HasServed, LosesLink, More, Nothing, OfInput, OfMachine, OfOutput, Scene, Served, Serves}
 
 input_quiet : (old new : SourceView) (call : Call) → TakesCall old new call → new.faults ≡ old.faults
 input_quiet old new call t = t.takes.quiet

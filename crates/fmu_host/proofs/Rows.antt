@@ -1,5 +1,5 @@
 -- The rows, from what holds of an end and its status.
-use Rattle.std.proofs.Common.{◌≡◌, ℕ, sym, ◌∙◌, subst}
+use Rattle.std.proofs.Common.{◌≡◌, sym, ◌∙◌, subst}
 use Rattle.fmu_host.specs.declared.hosting.HostEnd.{HostEnd}
 use Rattle.fmu_host.specs.Happened.{Happened}
 use Rattle.fmu_host.specs.Rows.{IsStatus, KeepsRows}

@@ -1,7 +1,7 @@
 -- What holds of each status, from what holds of each end.
-use Rattle.std.proofs.Common.{◌≡◌, ◌⊎◌, inl, inr, ℕ, ◌+◌, List, None, refl, sym, ap, ◌∙◌, subst, arith}
+use Rattle.std.proofs.Common.{◌≡◌, ◌⊎◌, inl, inr, ℕ, None, refl, sym, ap, ◌∙◌, subst, arith}
 use Rattle.sim_base.specs.Causes.{Rose, one_more}
-use Rattle.sim_base.specs.Folder.{FolderView, with_asked, with_failed}
+use Rattle.sim_base.specs.Folder.{FolderView}
 use Rattle.value_types.specs.declared.shape.Shape.{Shape}
 use Rattle.bench_fmus.specs.Models.{model_named}
 use Rattle.host_serving.specs.declared.serving.ServeEnd.{ServeEnd}
@@ -9,9 +9,9 @@ use Rattle.host_serving.specs.declared.serving.ServeEnd.TheVariants as E
 use Rattle.host_serving.specs.Serving.{scene}
 use Rattle.fmu_host.specs.declared.hosting.HostEnd.{HostEnd}
 use Rattle.fmu_host.specs.declared.hosting.HostEnd.TheVariants as H
-use Rattle.fmu_host.specs.Description.{Breaks, Holds, IsAsked, IsRead, IsTooLong, IsUnread, LacksShape, path_of}
+use Rattle.fmu_host.specs.Description.{Breaks, IsAsked, IsRead, IsUnread, LacksShape}
 use Rattle.fmu_host.specs.Facts.{Facts, ServesShape, ShapeFacts, Unbegun, WithoutLine, WithoutShape, WithShape, first_view}
-use Rattle.fmu_host.specs.Happened.{Happened, Link, Stage}
+use Rattle.fmu_host.specs.Happened.{Happened}
 use Rattle.fmu_host.specs.Line.{IsLine, IsNoLine, Line}
 use Rattle.fmu_host.specs.Rows.{ByAbsence, ByFault, ByLength, Ends, IsBadFrame, IsDone, IsUnpermitted, IsUnserved, LacksFile, OnLine}
 use Rattle.fmu_host.specs.Status.{status_of}
@@ -62,8 +62,10 @@ served E.Freed h line shape is read s = (line, is, record { shape = shape; read 
 served E.Ended h line shape is read s = (line, is, record { shape = shape; read = read; end = E.Ended; so = inr refl; serves = s })
 served (E.BadFrame at) h line shape is read s = (line, is, record { shape = shape; read = read; end = E.BadFrame at; so = (at, refl); serves = s })
 served (E.NotPermitted call) h line shape is read s = (line, is, record { shape = shape; read = read; end = E.NotPermitted call; so = (call, refl); serves = s })
-served E.Failed h line shape is read s = ((line, is, record { shape = shape; read = read; end = E.Failed; so = refl; serves = s }),
-    lost (scene h.old.link.input h.old.link.output (first_view s.model shape)) (scene h.new.link.input h.new.link.output s.machine) s.calm s.serves)
+served E.Failed h line shape is read s = (
+  (line, is, record { shape = shape; read = read; end = E.Failed; so = refl; serves = s }),
+  lost (scene h.old.link.input h.old.link.output (first_view s.model shape)) (scene h.new.link.input h.new.link.output s.machine) s.calm s.serves,
+)
 served E.TooMany h line shape is read s = (line, is, record { shape = shape; read = read; end = E.TooMany; so = refl; serves = s })
 served E.Memory h line shape is read s = tt
 
