@@ -15,7 +15,6 @@ mod exchanges;
 mod family_tests;
 #[cfg(test)]
 mod master_tests;
-#[cfg(test)]
 mod own_counter;
 #[cfg(test)]
 mod own_machine_tests;
