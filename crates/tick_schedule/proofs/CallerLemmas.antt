@@ -1,5 +1,5 @@
 -- For callers that know where each Clock stands.
-use Rattle.std.proofs.Common.{◌≡◌, ℕ, ◌^◌, ◌≤◌, ◌<◌, Bool, true, ◌&&◌, List, [], ◌∷◌, length, Option, Some, nat_le, arith, refl, subst, sym, zero, suc}
+use Rattle.std.proofs.Common.{◌≡◌, ℕ, ◌^◌, ◌≤◌, Bool, true, List, [], ◌∷◌, Some, nat_le, arith, refl, subst, sym, zero, suc}
 use Rattle.std.specs.List.{list_all, slice_get}
 use Rattle.std.proofs.lemmas.Bool.Decides.{nat_tests}
 use Rattle.tick_schedule.specs.declared.clock.ClockState.{ClockState}

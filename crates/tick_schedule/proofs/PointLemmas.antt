@@ -1,12 +1,12 @@
 -- The next point of a Clock is the least tick that it still has to make.
-use Rattle.std.proofs.Common.{◌≡◌, ℕ, ◌+◌, ◌*◌, ◌^◌, ◌<◌, ◌≤◌, Bool, true, false, nat_le, if◌then◌else◌, Option, Some, None, IfSome, ap, sym, ◌∙◌, arith, mul-le-mul_left}
+use Rattle.std.proofs.Common.{◌≡◌, ℕ, ◌+◌, ◌*◌, ◌^◌, ◌<◌, ◌≤◌, Option, Some, None, IfSome, ap, sym, arith, mul-le-mul_left}
 use Rattle.std.proofs.lemmas.Option.{same_Some}
 use Rattle.std.proofs.lemmas.Bool.Decides.{nat_tests}
 use Rattle.value_types.specs.declared.shape.IntervalVariability.{IntervalVariability}
 use Rattle.value_types.specs.declared.shape.IntervalVariability.TheVariants.{Constant, Fixed, Tunable, Changing, Countdown as IsCountdownClock, Triggered}
 use Rattle.tick_schedule.specs.declared.clock.ClockState.{ClockState}
 use Rattle.tick_schedule.specs.declared.clock.ClockState.TheVariants.{Unasked, Periodic, Countdown}
-use Rattle.tick_schedule.specs.Points.{HasCount, IsNear, IsSoundState, past, point_of, up_to}
+use Rattle.tick_schedule.specs.Points.{HasCount, IsNear, IsSoundState, point_of, up_to}
 use Rattle.tick_schedule.specs.Timetable.{IsToTick, after_tick, first_by, known_state}
 
 -- a point up to the stop is that itself

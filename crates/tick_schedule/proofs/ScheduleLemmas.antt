@@ -1,5 +1,5 @@
 -- The points that a schedule keeps.
-use Rattle.std.proofs.Common.{◌≡◌, ◌↔◌, ℕ, ◌+◌, ◌*◌, ◌^◌, ◌<◌, ◌≤◌, List, map, length, set, get_or, Option, Some, None, IsSomeAnd, IsTrue, Bool, SomeIndex, All, ap, sym, subst, ◌∙◌, refl, arith}
+use Rattle.std.proofs.Common.{◌≡◌, ◌↔◌, ℕ, ◌+◌, ◌^◌, ◌<◌, ◌≤◌, List, map, length, set, get_or, Option, Some, None, IsSomeAnd, IsTrue, Bool, SomeIndex, All, ap, sym, subst, ◌∙◌, refl, arith}
 use Rattle.std.specs.List.{slice_get}
 use Rattle.std.proofs.lemmas.List.{length-map, map-set, get_or-map}
 use Rattle.std.proofs.lemmas.List.Elements.{All-set, All-get_or}
@@ -8,7 +8,7 @@ use Rattle.value_types.specs.declared.shape.IntervalVariability.TheVariants.{Tri
 use Rattle.tick_schedule.specs.declared.clock.TimeClock.{TimeClock}
 use Rattle.tick_schedule.specs.declared.clock.ClockState.{ClockState}
 use Rattle.tick_schedule.specs.declared.clock.ClockState.TheVariants.{Unasked}
-use Rattle.tick_schedule.specs.Cost.{IsDepth, IsLogarithmic, TakesTurns}
+use Rattle.tick_schedule.specs.Cost.{IsLogarithmic, TakesTurns}
 use Rattle.tick_schedule.specs.Points.{HasCount, IsKept, IsNear, IsSoundState, point_of}
 use Rattle.tick_schedule.specs.Timetable.{HasNext, IsSoundClock, IsToTick, TicksAt, Timetable, after_tick, first_state}
 use Rattle.tick_schedule.proofs.PointLemmas.{can_count, is_near_after, is_sound_after, point_below_tick, sound_first, ticks_at_point}

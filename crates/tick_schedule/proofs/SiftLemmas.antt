@@ -1,5 +1,5 @@
 -- One turn of a move in the heap.
-use Rattle.std.proofs.Common.{◌≡◌, ◌<◌, ◌≤◌, ◌⊎◌, ℕ, ◌+◌, ◌*◌, ◌^◌, ◌/◌, zero, suc, List, length, get_or, ap, mul-le-mul_left, add-one, arith, refl, sym, inl, inr}
+use Rattle.std.proofs.Common.{◌≡◌, ◌<◌, ◌≤◌, ◌⊎◌, ℕ, ◌+◌, ◌*◌, ◌^◌, ◌/◌, zero, suc, List, length, get_or, ap, mul-le-mul_left, add-one, arith, sym, inl, inr}
 use Rattle.std.proofs.Math.Nat.{pow-succ'}
 use Rattle.std.proofs.lemmas.List.{get_or_default}
 use Rattle.tick_schedule.specs.Cost.{TakesTurns, ClimbsTurns}

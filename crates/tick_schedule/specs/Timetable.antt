@@ -1,6 +1,6 @@
 -- The time-based Clocks of a run, and when they tick (FMI 3.0, 2.2.8 and 2.2.9: constant, fixed and countdown Clocks and
 -- their intervals). All is in counts.
-use Rattle.std.specs.Prelude.{◌≡◌, ℕ, ◌+◌, ◌*◌, ◌^◌, ◌<◌, ◌≤◌, List, slice_set, Option, Some, None, IfSome, IsSomeAnd, ⊤}
+use Rattle.std.specs.Prelude.{◌≡◌, ℕ, ◌+◌, ◌*◌, ◌^◌, ◌<◌, ◌≤◌, List, slice_set, Option, Some, None, IfSome, IsSomeAnd}
 use Rattle.std.specs.List.{slice_get}
 use Rattle.clock_fraction.specs.Ticks.{IsTick}
 use Rattle.value_types.specs.declared.shape.IntervalVariability.{IntervalVariability}

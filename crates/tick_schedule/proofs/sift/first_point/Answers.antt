@@ -1,4 +1,4 @@
-use Rattle.std.proofs.Common.{◌≡◌, ◌≤◌, ℕ, get_or, arith}
+use Rattle.std.proofs.Common.{arith}
 use Rattle.tick_schedule.proofs.SiftLemmas.{least_point}
 use Rattle.tick_schedule.proofs.sift.first_point.Goals as goal
 

@@ -1,4 +1,4 @@
-use Rattle.std.proofs.Common.{◌≡◌, ◌<◌, ◌≤◌, ◌+◌, ◌*◌, length, arith, ap, sym, ◌∙◌, get_or}
+use Rattle.std.proofs.Common.{◌≡◌, ◌+◌, length, arith, ap, sym, ◌∙◌, get_or}
 use Rattle.tick_schedule.specs.HeapOrder.{key_at}
 use Rattle.tick_schedule.proofs.SiftLemmas.{one_more_turn, down_step}
 use Rattle.tick_schedule.proofs.sift.sift_down.Goals as goal

@@ -1,4 +1,4 @@
-use Rattle.std.proofs.Common.{◌≡◌, ◌<◌, ◌-◌, ◌+◌, ℕ, length, slice_index}
+use Rattle.std.proofs.Common.{◌≡◌, ◌<◌, ◌-◌, ◌+◌, length, slice_index}
 use Rattle.tick_schedule.specs.Cost.{TakesTurns}
 use Rattle.tick_schedule.specs.HeapOrder.{IsPlaced, IsOrderedButDown, key_at}
 use Rattle.tick_schedule.proofs.sift.sift_down.Given as goal

@@ -1,4 +1,4 @@
-use Rattle.std.proofs.Common.{◌≡◌, ◌<◌, ◌≤◌, ◌+◌, ◌-◌, ◌*◌, ◌/◌, length, arith, ap, sym, ◌∙◌, get_or}
+use Rattle.std.proofs.Common.{◌≡◌, ◌-◌, ◌/◌, length, arith, ap, sym, ◌∙◌, get_or}
 use Rattle.tick_schedule.specs.HeapOrder.{key_at, IsBelow}
 use Rattle.tick_schedule.proofs.SiftLemmas.{one_more_climb, climbed, up_step}
 use Rattle.tick_schedule.proofs.sift.sift_up.Goals as goal

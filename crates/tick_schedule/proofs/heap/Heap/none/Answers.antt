@@ -1,4 +1,4 @@
-use Rattle.std.proofs.Common.{◌<◌, ◌^◌, length, arith, rules}
+use Rattle.std.proofs.Common.{arith, rules}
 use Rattle.tick_schedule.specs.Points.{past}
 use Rattle.tick_schedule.proofs.HeapLemmas.{level}
 use Rattle.tick_schedule.proofs.heap.Heap.none.Goals as goal

@@ -1,9 +1,8 @@
-use Rattle.std.proofs.Common.{◌≡◌, ◌<◌, ℕ, List, length, Some, ap, sym, subst, refl, ◌∙◌, arith}
+use Rattle.std.proofs.Common.{◌≡◌, ◌<◌, length, Some, ap, sym, subst, refl, ◌∙◌, arith}
 use Rattle.std.specs.List.{slice_get}
 use Rattle.std.proofs.lemmas.Option.{same_Some, slice_get_read}
-use Rattle.tick_schedule.specs.declared.clock.ClockState.{ClockState}
 use Rattle.tick_schedule.specs.Timetable.{HasNext, Timetable, after_tick, with_clock}
-use Rattle.tick_schedule.proofs.ScheduleLemmas.{GoesOn, goes_on, next_within}
+use Rattle.tick_schedule.proofs.ScheduleLemmas.{goes_on, next_within}
 use Rattle.tick_schedule.proofs.schedule.Schedule.ticked.Goals as goal
 
 pub index-requires : goal.index-requires
