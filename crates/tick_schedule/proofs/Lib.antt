@@ -1,0 +1,5 @@
+pub mod SiftLemmas
+pub mod HeapLemmas
+pub mod PointLemmas
+pub mod ScheduleLemmas
+pub mod CallerLemmas

@@ -1,0 +1,4 @@
+pub mod Timetable
+pub mod Points
+pub mod HeapOrder
+pub mod Cost

@@ -1,0 +1,14 @@
+//! When the time-based Clocks of a run tick: which is due at a point, and which point comes next.
+#![tactic(auto)]
+
+mod clock;
+mod heap;
+mod schedule;
+mod sift;
+mod steps;
+#[cfg(test)]
+mod tests;
+
+pub use clock::{ClockState, TimeClock};
+pub use schedule::Schedule;
+pub use steps::Steps;
