@@ -48,7 +48,7 @@ values_walked kinds next k (kind ∷ ks) (Some v ∷ vs) rest end left order sam
     let fitted : fits_at kinds k v ≡ true = ap (λ (o : Option PortType). option_map_or (λ (p : PortType). is_fitting p v) o false) at.1 ∙ fitting kind v fit.0 in
     let test : is_next kinds next k v ≡ true = both (nat_le next k) (fits_at kinds k v && clocks_before kinds next == clocks_before kinds k) (le-leb next k order) (both (fits_at kinds k v) (clocks_before kinds next == clocks_before kinds k) fitted (eq-eqb (clocks_before kinds next) (clocks_before kinds k) same)) in
     goes kinds (is_next kinds next k v) (Within (k + 1)) (rows (value_lines_from (k + 1) vs) ++ rest) end test
-        (values_walked kinds (k + 1) (k + 1) ks vs rest end at.0 (omega arith) refl fit.1 more)
+    (values_walked kinds (k + 1) (k + 1) ks vs rest end at.0 (omega arith) refl fit.1 more)
 
 -- the items of some instants and the end
 abbrev pub body_items : List Instant → EndKind → ℕ → List Item
@@ -59,9 +59,9 @@ pub body_items_are : (is : List Instant) (kind : EndKind) (point : ℕ) → body
 body_items_are [] kind point = refl
 body_items_are (i ∷ is) kind point =
     ap (λ (xs : List Item). Row (At i.t i.n) ∷ xs) (
-        ap (λ (xs : List Item). rows (value_lines_from 0 i.values) ++ xs) (body_items_are is kind point)
-        ∙ sym (append_assoc (rows (value_lines_from 0 i.values)) (rows (flat_map instant_lines is)) (End kind point ∷ []))
-        ∙ ap (λ (xs : List Item). xs ++ (End kind point ∷ [])) (sym (map-append (λ (line : TraceLine). Row line) (value_lines_from 0 i.values) (flat_map instant_lines is))))
+    ap (λ (xs : List Item). rows (value_lines_from 0 i.values) ++ xs) (body_items_are is kind point)
+    ∙ sym (append_assoc (rows (value_lines_from 0 i.values)) (rows (flat_map instant_lines is)) (End kind point ∷ []))
+    ∙ ap (λ (xs : List Item). xs ++ (End kind point ∷ [])) (sym (map-append (λ (line : TraceLine). Row line) (value_lines_from 0 i.values) (flat_map instant_lines is))))
 
 pub record IsBody (kinds : List PortType) (instants : List Instant) (point : ℕ) : Type 0 where
   pub each : AllByRecursion (IsInstant kinds) instants
@@ -75,9 +75,9 @@ body_walked kinds place [] kind point closed all low =
     goes kinds (is_closed kinds place && nat_le point (2 ^ 62)) (Ended kind point) [] (Some (Ended kind point)) (both (is_closed kinds place) (nat_le point (2 ^ 62)) closed (le-leb point (2 ^ 62) low)) refl
 body_walked kinds place (i ∷ is) kind point closed all low =
     goes kinds (is_closed kinds place && is_start i.t i.n) (Within 0) (rows (value_lines_from 0 i.values) ++ body_items is kind point) (Some (Ended kind point))
-        (both (is_closed kinds place) (is_start i.t i.n) closed (start_true i.t i.n all.0.point all.0.number))
-        (values_walked kinds 0 0 kinds i.values (body_items is kind point) (Some (Ended kind point)) refl (omega arith) refl all.0.values
-            (λ q free. body_walked kinds (Within q) is kind point free all.1 low))
+    (both (is_closed kinds place) (is_start i.t i.n) closed (start_true i.t i.n all.0.point all.0.number))
+    (values_walked kinds 0 0 kinds i.values (body_items is kind point) (Some (Ended kind point)) refl (omega arith) refl all.0.values
+    (λ q free. body_walked kinds (Within q) is kind point free all.1 low))
 
 -- what is in form is walked to its end
 pub complete : (kinds : List PortType) (is : List Instant) (kind : EndKind) (point : ℕ) → IsBody kinds is point → walk kinds Between (items_of (flat_map instant_lines is) kind point) ≡ Some (Ended kind point)
@@ -179,10 +179,10 @@ close : (kinds : List PortType) (kind : EndKind) (point next : ℕ) (items : Lis
 close kinds kind point next items closed body =
     let counts = eqb-true (clocks_before kinds next) (clocks_before kinds (length kinds)) closed in
     elim (cases_lt next (length kinds)) [
-      inl low ↦
-        let up : next + (length kinds - next) ≡ length kinds = omega (arith, low) in
-        let P : ℕ → Type 0 = λ m. Open kinds kind point m items in
-        back kinds kind point (length kinds - next) next items (omega (arith, up)) (omega (arith, counts, ap (λ (m : ℕ). clocks_before kinds m) up)) (subst P (sym up) (nothing kinds kind point (length kinds) items (omega arith) body))
+      | inl low ↦
+          let up : next + (length kinds - next) ≡ length kinds = omega (arith, low) in
+          let P : ℕ → Type 0 = λ m. Open kinds kind point m items in
+          back kinds kind point (length kinds - next) next items (omega (arith, up)) (omega (arith, counts, ap (λ (m : ℕ). clocks_before kinds m) up)) (subst P (sym up) (nothing kinds kind point (length kinds) items (omega arith) body))
       | inr past ↦ nothing kinds kind point next items (omega (arith, past)) body
     ]
 

@@ -26,7 +26,7 @@ digit_letter n high = rw (le-ltb n 10 high) refl
 one_digit : (m n : ℕ) → hex_digit m ≡ hex_digit n → m ≡ n
 one_digit m n e =
     elim (cases_lt m 10) [
-      inl low ↦ elim (cases_lt n 10) [ inl less ↦ omega (arith, e, digit_low m low, digit_low n less) | inr more ↦ omega (arith, e, digit_low m low, digit_letter n more) ]
+      | inl low ↦ elim (cases_lt n 10) [ inl less ↦ omega (arith, e, digit_low m low, digit_low n less) | inr more ↦ omega (arith, e, digit_low m low, digit_letter n more) ]
       | inr high ↦ elim (cases_lt n 10) [ inl less ↦ omega (arith, e, digit_letter m high, digit_low n less) | inr more ↦ omega (arith, e, digit_letter m high, digit_letter n more) ]
     ]
 
@@ -76,7 +76,7 @@ by_digit c one two four eight = cond (c == 56) one (cond (c == 49) two (cond (c 
 abbrev type_back : List ℕ → PortType
 type_back word =
     cond (get_or word 0 0 == 66) Boolean (cond (get_or word 0 0 == 69) Enumeration (cond (get_or word 0 0 == 67) Clock
-        (cond (get_or word 0 0 == 73) (by_digit (get_or word 3 0) Int8 Int16 Int32 Int64) (by_digit (get_or word 4 0) UInt8 UInt16 UInt32 UInt64))))
+    (cond (get_or word 0 0 == 73) (by_digit (get_or word 3 0) Int8 Int16 Int32 Int64) (by_digit (get_or word 4 0) UInt8 UInt16 UInt32 UInt64))))
 
 kept : (kind : PortType) → type_back (type_name kind) ≡ kind
 kept Int8 = refl

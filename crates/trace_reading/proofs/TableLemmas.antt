@@ -4,7 +4,7 @@ use Rattle.std.specs.List.{AllByRecursion}
 use Rattle.std.specs.Option.{option_map, option_map_or}
 use Rattle.std.proofs.Math.ListN.{get_or-append}
 use Rattle.std.proofs.Math.Seq.{get_or-append_seam}
-use Rattle.std.proofs.lemmas.List.{length-map, drop_all}
+use Rattle.std.proofs.lemmas.List.{length-map, length-append, drop_all}
 use Rattle.std.proofs.lemmas.Option.{slice_get-map, slice_get_read, slice_get_within}
 use Rattle.std.proofs.lemmas.Bool.{cases_lt, eq-eqb}
 use Rattle.value_types.specs.declared.values.PortType.{PortType}
@@ -59,13 +59,13 @@ count_next ports i p low is = counted (is_clock p.kind) (kinds_of ports) i p.kin
 pub table_push : (table more : List ℕ) (count i : ℕ) (kinds : List PortType) → more ≡ table ++ (count ∷ []) → length table ≡ i → ((k : ℕ) → k < i → get_or table k 0 ≡ clocks_before kinds k) → count ≡ clocks_before kinds i → (k : ℕ) → k < i + 1 → get_or more k 0 ≡ clocks_before kinds k
 table_push table more count i kinds pushed size each now k low =
     elim (cases_lt k i) [
-      inl less ↦
-        let within : k < length table = omega (arith, size, less) in
-        ap (λ (xs : List ℕ). get_or xs k 0) pushed ∙ get_or-append table (count ∷ []) 0 k within ∙ each k less
+      | inl less ↦
+          let within : k < length table = omega (arith, size, less) in
+          ap (λ (xs : List ℕ). get_or xs k 0) pushed ∙ get_or-append table (count ∷ []) 0 k within ∙ each k less
       | inr past ↦
-        let is : k ≡ length table = omega (arith, size, past, low) in
-        let last : length table ≡ k = sym is in
-        ap (λ (xs : List ℕ). get_or xs k 0) pushed ∙ ap (λ (n : ℕ). get_or (table ++ (count ∷ [])) n 0) is ∙ get_or-append_seam table count [] 0 ∙ now ∙ ap (λ (n : ℕ). clocks_before kinds n) (sym size ∙ last)
+          let is : k ≡ length table = omega (arith, size, past, low) in
+          let last : length table ≡ k = sym is in
+          ap (λ (xs : List ℕ). get_or xs k 0) pushed ∙ ap (λ (n : ℕ). get_or (table ++ (count ∷ [])) n 0) is ∙ get_or-append_seam table count [] 0 ∙ now ∙ ap (λ (n : ℕ). clocks_before kinds n) (sym size ∙ last)
     ]
 
 pub whole_table : (ports : List TracePort) (table : List ℕ) → length table ≡ length ports + 1 → ((k : ℕ) → k < length ports + 1 → get_or table k 0 ≡ clocks_before (kinds_of ports) k) → IsClockTable (kinds_of ports) table
@@ -81,7 +81,7 @@ past_all kinds k past = none_left kinds k (drop_all k kinds past)
 pub closed_past : (ports : List TracePort) (k : ℕ) → length ports ≤ k → (clocks_before (kinds_of ports) k == clocks_before (kinds_of ports) (length (kinds_of ports))) ≡ true
 closed_past ports k past =
     eq-eqb (clocks_before (kinds_of ports) k) (clocks_before (kinds_of ports) (length (kinds_of ports)))
-        (past_all (kinds_of ports) k (omega (arith, past, length-map ports (λ (p : TracePort). p.kind))))
+    (past_all (kinds_of ports) k (omega (arith, past, length-map ports (λ (p : TracePort). p.kind))))
 
 pub fits_there : (ports : List TracePort) (k : ℕ) (value : ℤ) (p : TracePort) → slice_get ports k ≡ Some p → fits_at (kinds_of ports) k value ≡ is_fitting p.kind value
 fits_there ports k value p at = ap (λ (o : Option PortType). option_map_or (λ (kind : PortType). is_fitting kind value) o false) (kind_there ports k p at)
@@ -89,7 +89,7 @@ fits_there ports k value p at = ap (λ (o : Option PortType). option_map_or (λ 
 pub fits_nowhere : (ports : List TracePort) (k : ℕ) (value : ℤ) → slice_get ports k ≡ None → fits_at (kinds_of ports) k value ≡ false
 fits_nowhere ports k value none =
     ap (λ (o : Option PortType). option_map_or (λ (kind : PortType). is_fitting kind value) o false)
-        (slice_get-map (λ (q : TracePort). q.kind) ports k ∙ ap (λ (o : Option TracePort). option_map (λ (q : TracePort). q.kind) o) none)
+    (slice_get-map (λ (q : TracePort). q.kind) ports k ∙ ap (λ (o : Option TracePort). option_map (λ (q : TracePort). q.kind) o) none)
 
 pub next_within : (ports : List TracePort) (next port : ℕ) (value : ℤ) → is_next (kinds_of ports) next port value ≡ true → port < length ports
 next_within ports next port value test =
@@ -98,3 +98,10 @@ next_within ports next port value test =
     let second = parts (fits_at kinds port value) (clocks_before kinds next == clocks_before kinds port) first.1 in
     let there = fitting_at kinds port value (slice_get kinds port) refl second.0 in
     omega (arith, slice_get_within kinds port there.kind there.at, length-map ports (λ (p : TracePort). p.kind))
+
+pub size_push : (table more : List ℕ) (count i : ℕ) → more ≡ table ++ (count ∷ []) → length table ≡ i → length more ≡ i + 1
+size_push table more count i pushed size = omega (arith, ap (λ (xs : List ℕ). length xs) pushed, length-append table (count ∷ []), size)
+
+pub small_count : (b : Bool) → cond b 1 0 ≤ 1
+small_count true = omega arith
+small_count false = omega arith

@@ -98,15 +98,15 @@ lacks_escaped b (byte ∷ name) low = lacks_both b (escaped_byte byte) (escaped 
 pub is_header_line : (resolution start stop : ℕ) → IsRange resolution start stop → Lacks 10 (header_line resolution start stop)
 is_header_line resolution start stop range =
     lacks_both 10 (codes "trace 1 ") (decimal resolution ++ (32 ∷ (decimal start ++ (32 ∷ decimal stop)))) (search rules)
-        (spaced (decimal resolution) (decimal start ++ (32 ∷ decimal stop)) (lacks_decimal 10 resolution (omega arith) (omega (arith, range.within)))
-            (spaced (decimal start) (decimal stop) (lacks_decimal 10 start (omega arith) (omega (arith, range.order, range.end))) (lacks_decimal 10 stop (omega arith) (omega (arith, range.end)))))
+    (spaced (decimal resolution) (decimal start ++ (32 ∷ decimal stop)) (lacks_decimal 10 resolution (omega arith) (omega (arith, range.within)))
+    (spaced (decimal start) (decimal stop) (lacks_decimal 10 start (omega arith) (omega (arith, range.order, range.end))) (lacks_decimal 10 stop (omega arith) (omega (arith, range.end)))))
 
 pub is_port_line : (k : ℕ) (port : TracePort) → k < 2 ^ 64 → Lacks 10 (port_line k port)
 is_port_line k port low =
     lacks_both 10 (codes "port ") (decimal k ++ (32 ∷ (type_name port.kind ++ (32 ∷ (escaped port.component ++ (32 ∷ escaped port.variable)))))) (search rules)
-        (spaced (decimal k) (type_name port.kind ++ (32 ∷ (escaped port.component ++ (32 ∷ escaped port.variable)))) (lacks_decimal 10 k (omega arith) low)
-            (spaced (type_name port.kind) (escaped port.component ++ (32 ∷ escaped port.variable)) (lacks_type_10 port.kind)
-                (spaced (escaped port.component) (escaped port.variable) (lacks_escaped 10 port.component (omega arith)) (lacks_escaped 10 port.variable (omega arith)))))
+    (spaced (decimal k) (type_name port.kind ++ (32 ∷ (escaped port.component ++ (32 ∷ escaped port.variable)))) (lacks_decimal 10 k (omega arith) low)
+    (spaced (type_name port.kind) (escaped port.component ++ (32 ∷ escaped port.variable)) (lacks_type_10 port.kind)
+    (spaced (escaped port.component) (escaped port.variable) (lacks_escaped 10 port.component (omega arith)) (lacks_escaped 10 port.variable (omega arith)))))
 
 pub are_port_lines : (k : ℕ) (ports : List TracePort) → k + length ports < 2 ^ 64 → AllByRecursion (Lacks 10) (port_lines_from k ports)
 are_port_lines k [] few = tt

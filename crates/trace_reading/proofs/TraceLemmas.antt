@@ -162,10 +162,11 @@ one_trace_of t u f g e =
 pub lines_free : (t : Trace) → IsTrace t → AllByRecursion (Lacks 10) (lines_of t)
 lines_free t form =
     let P : List (List ℕ) → Type 0 = λ ls. AllByRecursion (Lacks 10) ls in
-    subst P (sym (lines_are t))
-        (is_header_line t.resolution t.start t.stop form.range,
-         all_append (port_lines_from 0 t.ports) (map item_line (items_of t.lines t.kind t.point)) (are_port_lines 0 t.ports (omega (arith, form.few)))
-            (are_lines (kinds_of t.ports) (few_kinds t.ports form.few) Between (Ended t.kind t.point) (items_of t.lines t.kind t.point) (walked t form)))
+    subst P (sym (lines_are t)) (
+      is_header_line t.resolution t.start t.stop form.range,
+      all_append (port_lines_from 0 t.ports) (map item_line (items_of t.lines t.kind t.point)) (are_port_lines 0 t.ports (omega (arith, form.few)))
+          (are_lines (kinds_of t.ports) (few_kinds t.ports form.few) Between (Ended t.kind t.point) (items_of t.lines t.kind t.point) (walked t form)),
+    )
 
 -- a text is that of one trace
 pub one_trace : (bytes : List ℕ) (t u : Trace) → IsTextOf bytes t → IsTextOf bytes u → t ≡ u
@@ -222,11 +223,11 @@ pub record Cut (bytes : List ℕ) : Type 0 where
 first_cut : (b : ℕ) (bytes : List ℕ) → (Lacks 10 bytes) ⊎ Cut bytes → (Lacks 10 (b ∷ bytes)) ⊎ Cut (b ∷ bytes)
 first_cut b bytes later =
     elim (cases_eq b 10) [
-      inl is ↦ inr (record { line = []; rest = bytes; parts = ap (λ (c : ℕ). c ∷ bytes) is; free = tt })
+      | inl is ↦ inr (record { line = []; rest = bytes; parts = ap (λ (c : ℕ). c ∷ bytes) is; free = tt })
       | inr other ↦ elim later [
-          inl free ↦ inl (other, free)
-          | inr cut ↦ inr (record { line = b ∷ cut.line; rest = cut.rest; parts = ap (λ (xs : List ℕ). b ∷ xs) cut.parts; free = (other, cut.free) })
-        ]
+        | inl free ↦ inl (other, free)
+        | inr cut ↦ inr (record { line = b ∷ cut.line; rest = cut.rest; parts = ap (λ (xs : List ℕ). b ∷ xs) cut.parts; free = (other, cut.free) })
+      ]
     ]
 
 pub cut_of : (bytes : List ℕ) → (Lacks 10 bytes) ⊎ Cut bytes
@@ -266,10 +267,10 @@ text_behind : (bytes : List ℕ) (r s e : ℕ) (ports : List TracePort) (rest af
 text_behind bytes r s e ports rest after items read parts =
     read.header
     ∙ ap (λ (xs : List ℕ). header_line r s e ++ (10 ∷ xs)) (
-        read.ports_there.parts
-        ∙ ap (λ (xs : List ℕ). text_of (port_lines_from 0 ports) ++ xs) parts
-        ∙ sym (append_assoc (text_of (port_lines_from 0 ports)) (text_of (map item_line items)) after)
-        ∙ ap (λ (xs : List ℕ). xs ++ after) (sym (text_append (port_lines_from 0 ports) (map item_line items))))
+    read.ports_there.parts
+    ∙ ap (λ (xs : List ℕ). text_of (port_lines_from 0 ports) ++ xs) parts
+    ∙ sym (append_assoc (text_of (port_lines_from 0 ports)) (text_of (map item_line items)) after)
+    ∙ ap (λ (xs : List ℕ). xs ++ after) (sym (text_append (port_lines_from 0 ports) (map item_line items))))
     ∙ sym (append_assoc (header_line r s e) (10 ∷ text_of (port_lines_from 0 ports ++ map item_line items)) after)
 
 -- the trace that was read
@@ -312,9 +313,9 @@ no_more r s e ports before place line few good last wrong b =
     let start = port_lines_from 0 ports in
     let middle = map item_line before in
     let regroup : ((start ++ middle) ++ (line ∷ [])) ++ b.more ≡ start ++ (middle ++ (line ∷ b.more)) =
-        append_assoc (start ++ middle) (line ∷ []) b.more ∙ append_assoc start middle (line ∷ b.more) in
+    append_assoc (start ++ middle) (line ∷ []) b.more ∙ append_assoc start middle (line ∷ b.more) in
     let same : header_line t.resolution t.start t.stop ∷ tail_lines t ≡ header_line r s e ∷ (start ++ (middle ++ (line ∷ b.more))) =
-        sym (lines_are t) ∙ b.parts ∙ ap (λ (ls : List (List ℕ)). header_line r s e ∷ ls) regroup in
+    sym (lines_are t) ∙ b.parts ∙ ap (λ (ls : List (List ℕ)). header_line r s e ∷ ls) regroup in
     let tail = tails (header_line t.resolution t.start t.stop) (header_line r s e) (tail_lines t) (start ++ (middle ++ (line ∷ b.more))) same in
     let all = items_of t.lines t.kind t.point in
     let all_short = shorts (kinds_of t.ports) (few_kinds t.ports form.few) Between (Ended t.kind t.point) all (walked t form) in
@@ -342,13 +343,13 @@ length_port_lines k (p ∷ ports) = ap suc (length_port_lines (k + 1) ports)
 wrong_line : (bytes : List ℕ) (r s e : ℕ) (ports : List TracePort) (rest : List ℕ) (before : List Item) (after : List ℕ) (place : Place) → Read bytes r s e ports rest → rest ≡ text_of (map item_line before) ++ after → walk (kinds_of ports) Between before ≡ Some place → Begins (header_line r s e ∷ (port_lines_from 0 ports ++ map item_line before)) → WrongBehind (kinds_of ports) place after → Wrong (header_line r s e ∷ (port_lines_from 0 ports ++ map item_line before)) after
 wrong_line bytes r s e ports rest before after place read parts good start (NoItem line more cut free none) =
     NoText line more cut free (no_more r s e ports before place line read.ports_there.few good
-        (λ port named empty is. read.ports_there.last port more named
-            (parts ∙ ap (λ (is : List Item). text_of (map item_line is) ++ after) empty ∙ cut ∙ ap (λ (xs : List ℕ). xs ++ (10 ∷ more)) is))
-        none)
+    (λ port named empty is. read.ports_there.last port more named
+    (parts ∙ ap (λ (is : List Item). text_of (map item_line is) ++ after) empty ∙ cut ∙ ap (λ (xs : List ℕ). xs ++ (10 ∷ more)) is))
+    none)
 wrong_line bytes r s e ports rest before after place read parts good start (NoEnd free none) =
     Unended free (λ t text.
-        let there = ends_there (lines_of t) (header_line r s e ∷ (port_lines_from 0 ports ++ map item_line before)) after (lines_free t text.form) (begins_free (header_line r s e ∷ (port_lines_from 0 ports ++ map item_line before)) start) free (sym text.text) in
-        none t.kind t.point (no_end r s e ports before place t read.ports_there.few good text.form there.0) there.1)
+    let there = ends_there (lines_of t) (header_line r s e ∷ (port_lines_from 0 ports ++ map item_line before)) after (lines_free t text.form) (begins_free (header_line r s e ∷ (port_lines_from 0 ports ++ map item_line before)) start) free (sym text.text) in
+    none t.kind t.point (no_end r s e ports before place t read.ports_there.few good text.form there.0) there.1)
 
 -- the fault of a line behind the ports
 pub line_fault : (bytes : List ℕ) (r s e : ℕ) (ports : List TracePort) (rest : List ℕ) (n : ℕ) → Read bytes r s e ports rest → IsFirstFaultOf (kinds_of ports) rest n → IsFirstFault bytes (1 + length ports + n)
@@ -363,3 +364,12 @@ line_fault bytes r s e ports rest n read fault =
       number = omega (arith, fault.number, sizes, length_port_lines 0 ports, length-map fault.before item_line);
       wrong = wrong_line bytes r s e ports rest fault.before fault.after fault.place read fault.parts fault.good start fault.wrong;
     }
+
+no_longer : (lines : List (List ℕ)) → length lines ≤ length (text_of lines)
+no_longer [] = omega arith
+no_longer (line ∷ lines) = omega (arith, length-append line (10 ∷ text_of lines), no_longer lines)
+
+-- a fault's number is at most one more than the bytes
+pub fault_small : (bytes : List ℕ) (n : ℕ) → IsFirstFault bytes n → n ≤ length bytes + 1
+fault_small bytes n fault =
+    omega (arith, fault.number, no_longer fault.before, ap (λ (xs : List ℕ). length xs) fault.parts, length-append (text_of fault.before) fault.after)

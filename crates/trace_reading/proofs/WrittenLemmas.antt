@@ -77,9 +77,9 @@ instants_same (i ∷ is) rest =
     ∙ append_assoc (codes "at " ++ decimal i.t ++ codes " " ++ decimal i.n ++ codes "\n") (text.value_lines_from 0 i.values) later
     ∙ at_same i.t i.n (text.value_lines_from 0 i.values ++ later)
     ∙ ap (λ (xs : List ℕ). at_line i.t i.n ++ (10 ∷ xs)) (
-        values_same 0 i.values later
-        ∙ sym (append_assoc (text_of values) (text_of (map line_text (flat_map instant_lines is))) rest)
-        ∙ ap (λ (xs : List ℕ). xs ++ rest) (sym (text_append values (map line_text (flat_map instant_lines is))) ∙ ap text_of (sym (map-append line_text (value_lines_from 0 i.values) (flat_map instant_lines is)))))
+    values_same 0 i.values later
+    ∙ sym (append_assoc (text_of values) (text_of (map line_text (flat_map instant_lines is))) rest)
+    ∙ ap (λ (xs : List ℕ). xs ++ rest) (sym (text_append values (map line_text (flat_map instant_lines is))) ∙ ap text_of (sym (map-append line_text (value_lines_from 0 i.values) (flat_map instant_lines is)))))
     ∙ sym (append_assoc (at_line i.t i.n) (10 ∷ text_of (map line_text (value_lines_from 0 i.values ++ flat_map instant_lines is))) rest)
 
 nothing_more : (xs : List ℕ) → xs ++ [] ≡ xs
@@ -97,12 +97,12 @@ text_same system plan instants kind point =
     append_assoc (codes "trace 1 " ++ decimal plan.resolution ++ codes " " ++ decimal plan.start ++ codes " " ++ decimal plan.stop ++ codes "\n") (text.port_lines_from system.components 0 system.ports) (text.instants_text instants ++ text.end_text kind point)
     ∙ header_same plan.resolution plan.start plan.stop (text.port_lines_from system.components 0 system.ports ++ (text.instants_text instants ++ text.end_text kind point))
     ∙ ap (λ (xs : List ℕ). header_line plan.resolution plan.start plan.stop ++ (10 ∷ xs)) (
-        ports_same system.components 0 system.ports (text.instants_text instants ++ text.end_text kind point)
-        ∙ ap (λ (xs : List ℕ). text_of told ++ xs) (
-            instants_same instants (text.end_text kind point)
-            ∙ ap (λ (xs : List ℕ). text_of body ++ xs) (end_same kind point)
-            ∙ sym (text_append body last))
-        ∙ sym (text_append told (body ++ last)))
+    ports_same system.components 0 system.ports (text.instants_text instants ++ text.end_text kind point)
+    ∙ ap (λ (xs : List ℕ). text_of told ++ xs) (
+    instants_same instants (text.end_text kind point)
+    ∙ ap (λ (xs : List ℕ). text_of body ++ xs) (end_same kind point)
+    ∙ sym (text_append body last))
+    ∙ sym (text_append told (body ++ last)))
 
 -- ---- the names of a sound system
 
@@ -145,8 +145,8 @@ all_labels components i [] left named shapes = tt
 all_labels components i (c ∷ cs) left named shapes =
     let at = one_suc components cs i c left in
     both_all components (filter_map (label_at i) c.shape.variables) (labels_from (suc i) cs)
-        (labels_named components i c c.shape.variables at.1 named.0 (all_each HasNames c.shape.variables shapes.0.variables.named))
-        (all_labels components (suc i) cs at.0 named.1 shapes.1)
+    (labels_named components i c c.shape.variables at.1 named.0 (all_each HasNames c.shape.variables shapes.0.variables.named))
+    (all_labels components (suc i) cs at.0 named.1 shapes.1)
 
 ports_named : (components : List Component) (ports : List Port) → AllByRecursion (HasBoth components) (map label_of ports) → AllByRecursion IsNamed (map (port_told components) ports)
 ports_named components [] all = tt

@@ -51,5 +51,9 @@ pub(crate) fn name(alloc: Global, word: &[u8]) -> Result<Option<Vec<u8>>, AllocE
         bytes.push(byte)?;
         rest = behind;
     }
-    if bytes.is_empty() { Ok(None) } else { Ok(Some(bytes)) }
+    if bytes.is_empty() {
+        Ok(None)
+    } else {
+        Ok(Some(bytes))
+    }
 }

@@ -63,7 +63,14 @@ fn header_before(text: &[u8]) -> Option<(Header, &[u8])>
     let (line, rest) = cut(text, b'\n')?;
     let (resolution, start, stop) = read_header(line)?;
     if is_range(resolution, start, stop) {
-        Some((Header { resolution, start, stop }, rest))
+        Some((
+            Header {
+                resolution,
+                start,
+                stop,
+            },
+            rest,
+        ))
     } else {
         None
     }

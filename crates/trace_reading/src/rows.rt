@@ -99,12 +99,7 @@ fn next_number(lines: &Vec<TraceLine>, place: Place) -> u64
 }
 
 // Where the reading stands behind the line; none where the line may not stand there.
-fn place_behind(
-    ports: &[TracePort],
-    clocks: &[usize],
-    place: Place,
-    item: Item,
-) -> Option<Place>
+fn place_behind(ports: &[TracePort], clocks: &[usize], place: Place, item: Item) -> Option<Place>
     requires { IsClockTable (kinds_of ports.now) clocks.now }
     ensures { result ≡ place_behind (kinds_of ports.now) place item }
 {
@@ -152,19 +147,14 @@ fn is_closed(ports: &[TracePort], clocks: &[usize], place: Place) -> bool
 {
     match place {
         Place::Between => true,
-        Place::Within { next } => next >= ports.len() || has_no_clock(ports, clocks, next, ports.len()),
+        Place::Within { next } => next >= ports.len()
+            || has_no_clock(ports, clocks, next, ports.len()),
         Place::Ended { .. } => false,
     }
 }
 
 // Whether the value of the port may stand where the next port is this one.
-fn is_next(
-    ports: &[TracePort],
-    clocks: &[usize],
-    next: usize,
-    port: u64,
-    value: i128,
-) -> bool
+fn is_next(ports: &[TracePort], clocks: &[usize], next: usize, port: u64, value: i128) -> bool
     requires { IsClockTable (kinds_of ports.now) clocks.now }
     ensures { result ≡ is_next (kinds_of ports.now) next port value }
 {

@@ -37,7 +37,10 @@ fn a_text_gives_its_trace(rt: HostRuntime) -> Result<(), Fail> {
     assert_eq!(rt; port.variable.as_slice(), b"y".as_slice());
     assert_eq!(rt; trace.lines.len(), 10);
     assert_eq!(rt; trace.lines.get(4), Some(&TraceLine::At { t: 10, n: 0 }));
-    assert_eq!(rt; trace.lines.get(6), Some(&TraceLine::Value { port: 2, value: -7 }));
+    assert_eq!(rt;
+        trace.lines.get(6),
+        Some(&TraceLine::Value { port: 2, value: -7 })
+    );
     Ok(())
 }
 
@@ -108,7 +111,11 @@ fn the_first_line_out_of_form_is_told(rt: HostRuntime) -> Result<(), Fail> {
         assert_eq!(rt; line_of(rt.alloc(), "", text)?, line, "{text}");
     }
     for (text, line) in PORTS {
-        assert_eq!(rt; line_of(rt.alloc(), "trace 1 1000 0 20\n", text)?, line, "{text}");
+        assert_eq!(rt;
+            line_of(rt.alloc(), "trace 1 1000 0 20\n", text)?,
+            line,
+            "{text}"
+        );
     }
     let header = "trace 1 1000 0 20\nport 0 Int32 c y\nport 1 Clock c c\n";
     for (text, line) in ROWS {
