@@ -1,0 +1,15 @@
+pub mod ListLemmas
+pub mod LineLemmas
+pub mod NameLemmas
+pub mod WalkLemmas
+pub mod ClockLemmas
+pub mod FitLemmas
+pub mod BodyLemmas
+pub mod FaultLemmas
+pub mod ShortLemmas
+pub mod BeginLemmas
+pub mod TextLemmas
+pub mod PortLemmas
+pub mod TraceLemmas
+pub mod TableLemmas
+pub mod WrittenLemmas

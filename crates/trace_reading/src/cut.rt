@@ -1,0 +1,34 @@
+ghost use Rattle.std.specs.Prelude.{◌≡◌, ℕ, List, ◌∷◌, ◌++◌, IfSome, IfNone, IsSomeAnd, Contains};
+ghost use Rattle.trace_reading.specs.Lines.{Lacks};
+
+/// What stands before the first such byte, and what behind it.
+pub(crate) fn cut(bytes: &[u8], at: u8) -> Option<(&[u8], &[u8])>
+    ensures parts { IfSome result (λ p. bytes.now ≡ p.0.now ++ (at ∷ p.1.now)) }
+    ensures first { IfSome result (λ p. Lacks at p.0.now) }
+    ensures none { IfNone result (Lacks at bytes.now) }
+    ensures exact { (front rest : List ℕ) → Lacks at front → bytes.now ≡ front ++ (at ∷ rest) → IsSomeAnd result (λ p. (p.0.now ≡ front) × (p.1.now ≡ rest)) }
+{
+    cut_somewhere(bytes, at)
+}
+
+fn cut_somewhere(bytes: &[u8], at: u8) -> Option<(&[u8], &[u8])>
+    ensures parts { IfSome result (λ p. bytes.now ≡ p.0.now ++ (at ∷ p.1.now)) }
+    ensures first { IfSome result (λ p. Contains p.0.now at → ⊥) }
+    ensures none { IfNone result (Contains bytes.now at → ⊥) }
+{
+    let place = bytes.iter().position(|b| *b == at)?;
+    let (front, rest) = bytes.split_at(place);
+    Some((front, &rest[1..]))
+}
+
+/// What stands behind a front.
+pub(crate) fn behind<'a>(bytes: &'a [u8], front: &[u8]) -> Option<&'a [u8]>
+    ensures parts { IfSome result (λ rest. bytes.now ≡ front.now ++ rest.now) }
+    ensures exact { (rest : List ℕ) → bytes.now ≡ front.now ++ rest → IsSomeAnd result (λ found. found.now ≡ rest) }
+{
+    if bytes.len() < front.len() {
+        return None;
+    }
+    let (head, rest) = bytes.split_at(front.len());
+    if head == front { Some(rest) } else { None }
+}

@@ -1,0 +1,84 @@
+ghost use Rattle.std.specs.Prelude.{◌≡◌, ◌⊎◌, ◌∷◌, ◌++◌, ℕ, List, Ok, Err, IfOk, IfSome, IfNone, IsTrue, ◌↔◌};
+ghost use Rattle.trace_reading.specs.declared.trace.Trace.{Trace};
+ghost use Rattle.trace_reading.specs.Faults.{IsFirstFault};
+ghost use Rattle.trace_reading.specs.Form.{IsRange, IsTextOf};
+ghost use Rattle.trace_reading.specs.Lines.{header_line};
+
+use crate::cut::cut;
+use crate::fault::TraceFault;
+use crate::lines::read_header;
+use crate::ports::{clock_table, read_ports};
+use crate::rows::read_rows;
+use crate::trace::Trace;
+use sim_base::{Items, MOST_COUNTS};
+use std::alloc::Global;
+
+/// The trace whose text these bytes are, or the first line that is out of form: no text of the form begins with the
+/// lines up to it, it has no line feed, or it is missing. The room that this takes is below twenty times the text's.
+pub fn read_trace(alloc: Global, bytes: &[u8]) -> Result<Trace, TraceFault>
+    ensures found { IfOk result (IsTextOf bytes.now) }
+    ensures exact { (t : Trace) → IsTextOf bytes.now t → (result ≡ Ok t) ⊎ (result ≡ Err TraceFault.Memory) }
+    ensures fault { (n : ℕ) → result ≡ Err (TraceFault.Line n) → IsFirstFault bytes.now n }
+{
+    read(alloc, bytes)
+}
+
+fn read(alloc: Global, bytes: &[u8]) -> Result<Trace, TraceFault>
+    ensures found { IfOk result (IsTextOf bytes.now) }
+    ensures fault { (n : ℕ) → result ≡ Err (TraceFault.Line n) → IsFirstFault bytes.now n }
+{
+    let Some((header, rest)) = header_before(bytes) else {
+        return Err(TraceFault::Line(1));
+    };
+    let (ports, rest) = read_ports(alloc, rest)?;
+    let clocks = clock_table(alloc, &ports)?;
+    match read_rows(alloc, &ports, &clocks, rest) {
+        Ok(rows) => Ok(Trace {
+            resolution: header.resolution,
+            start: header.start,
+            stop: header.stop,
+            ports: Items::from_vec(ports),
+            lines: Items::from_vec(rows.lines),
+            kind: rows.kind,
+            point: rows.point,
+        }),
+        Err(TraceFault::Line(n)) => Err(TraceFault::Line(1 + ports.len() as u64 + n)),
+        Err(TraceFault::Memory) => Err(TraceFault::Memory),
+    }
+}
+
+#[derive(Clone, Copy)]
+struct Header {
+    resolution: u64,
+    start: u64,
+    stop: u64,
+}
+
+// The header whose line stands at the front of a text, and what is left behind it.
+fn header_before(text: &[u8]) -> Option<(Header, &[u8])>
+    ensures found { IfSome result (λ p. text.now ≡ header_line p.0.resolution p.0.start p.0.stop ++ (10 ∷ p.1.now)) }
+    ensures range { IfSome result (λ p. IsRange p.0.resolution p.0.start p.0.stop) }
+    ensures none { (resolution start stop : ℕ) (rest : List ℕ) → IsRange resolution start stop → text.now ≡ header_line resolution start stop ++ (10 ∷ rest) → IfNone result ⊥ }
+{
+    let (line, rest) = cut(text, b'\n')?;
+    let (resolution, start, stop) = read_header(line)?;
+    if is_range(resolution, start, stop) {
+        Some((
+            Header {
+                resolution,
+                start,
+                stop,
+            },
+            rest,
+        ))
+    } else {
+        None
+    }
+}
+
+// Whether a header's numbers are within their limits.
+fn is_range(resolution: u64, start: u64, stop: u64) -> bool
+    ensures { IsTrue result ↔ IsRange resolution start stop }
+{
+    1 <= resolution && resolution <= MOST_COUNTS && start <= stop && stop <= MOST_COUNTS
+}
