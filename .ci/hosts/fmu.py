@@ -58,8 +58,12 @@ def calls():
 
 
 def send(frame):
-    sys.stdout.buffer.write(frame)
-    sys.stdout.buffer.flush()
+    """Writes a frame. Where nobody reads it any more the host ends without a word."""
+    try:
+        sys.stdout.buffer.write(frame)
+        sys.stdout.buffer.flush()
+    except BrokenPipeError:
+        os._exit(0)
 
 
 def start():
