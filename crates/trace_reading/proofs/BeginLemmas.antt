@@ -1,5 +1,5 @@
 -- What was walked can be walked to its end: 0 is a value of each type.
-use Rattle.std.proofs.Common.{arith, ◌≡◌, refl, sym, ap, ◌∙◌, ℕ, ◌+◌, ◌^◌, ◌<◌, ◌≤◌, ℤ, pos, List, [], ◌∷◌, ◌++◌, length, Option, Some, None, drop, slice_get, ◌&&◌, ◌==◌, Bool, true, false, nat_le}
+use Rattle.std.proofs.Common.{arith, ◌≡◌, refl, ap, ◌∙◌, ℕ, ◌+◌, pos, List, [], ◌∷◌, ◌++◌, length, Option, Some, drop, slice_get, ◌&&◌, ◌==◌, true, false, nat_le}
 use Rattle.std.specs.Option.{option_and_then, option_map_or}
 use Rattle.std.proofs.lemmas.Bool.{le-leb, eq-eqb}
 use Rattle.value_types.specs.declared.values.PortType.{PortType}
@@ -7,7 +7,7 @@ use Rattle.value_types.specs.declared.values.PortType.TheVariants.{Int8, UInt8, 
 use Rattle.value_types.specs.Values.{is_fitting}
 use Rattle.system_model.specs.declared.plan.EndKind.{EndKind}
 use Rattle.system_model.specs.declared.plan.EndKind.TheVariants.{Stop}
-use Rattle.trace_reading.specs.declared.trace.TraceLine.TheVariants.{At, Value}
+use Rattle.trace_reading.specs.declared.trace.TraceLine.TheVariants.{Value}
 use Rattle.trace_reading.specs.declared.item.Item.{Item}
 use Rattle.trace_reading.specs.declared.item.Item.TheVariants.{Row, End}
 use Rattle.trace_reading.specs.declared.item.Place.{Place}
@@ -15,7 +15,7 @@ use Rattle.trace_reading.specs.declared.item.Place.TheVariants.{Between, Within,
 use Rattle.trace_reading.specs.Walk.{walk, place_behind, is_next, is_closed, fits_at, clocks_before}
 use Rattle.trace_reading.proofs.ListLemmas.{both, one_more}
 use Rattle.trace_reading.proofs.BodyLemmas.{none_left}
-use Rattle.trace_reading.proofs.FaultLemmas.{Stepped, stepped}
+use Rattle.trace_reading.proofs.FaultLemmas.{stepped}
 
 zero_fits : (kind : PortType) → is_fitting kind (pos 0) ≡ true
 zero_fits Int8 = refl

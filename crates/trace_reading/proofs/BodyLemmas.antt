@@ -1,5 +1,5 @@
 -- The walk goes through exactly the lines of instants that are in form.
-use Rattle.std.proofs.Common.{arith, ◌≡◌, ◌≢◌, refl, sym, ap, subst, inl, inr, ◌-◌, ◌∙◌, ℕ, ◌+◌, ◌^◌, ◌<◌, ◌≤◌, zero, suc, ℤ, List, [], ◌∷◌, ◌++◌, map, length, Option, Some, None, Bool, true, false, ◌&&◌, ◌==◌, nat_le, nat_lt, cond, drop, take, slice_get, count_by}
+use Rattle.std.proofs.Common.{arith, ◌≡◌, ◌≢◌, refl, sym, ap, subst, inl, inr, ◌-◌, ◌∙◌, ℕ, ◌+◌, ◌^◌, ◌<◌, ◌≤◌, zero, suc, ℤ, List, [], ◌∷◌, ◌++◌, map, length, Option, Some, None, Bool, true, false, ◌&&◌, ◌==◌, nat_le, nat_lt, cond, drop, slice_get, count_by}
 use Rattle.std.specs.List.{AllByRecursion, AllZip, flat_map}
 use Rattle.std.specs.Option.{option_and_then, option_map_or}
 use Rattle.std.proofs.lemmas.List.{append_assoc, map-append, drop_all, take_all, length-drop}
@@ -17,7 +17,7 @@ use Rattle.trace_reading.specs.declared.item.Item.TheVariants.{Row, End}
 use Rattle.trace_reading.specs.declared.item.Place.{Place}
 use Rattle.trace_reading.specs.declared.item.Place.TheVariants.{Between, Within, Ended}
 use Rattle.trace_reading.specs.Form.{MayHave, IsInstant, instant_lines, value_lines_from}
-use Rattle.trace_reading.specs.Walk.{walk, place_behind, is_closed, is_next, is_start, is_clock, fits_at, clocks_before, items_of}
+use Rattle.trace_reading.specs.Walk.{walk, is_closed, is_next, is_start, is_clock, fits_at, clocks_before, items_of}
 use Rattle.trace_reading.proofs.ListLemmas.{both, parts, one_more, unsome}
 use Rattle.trace_reading.proofs.FitLemmas.{fitting, fits, fitting_at}
 use Rattle.trace_reading.proofs.ClockLemmas.{no_clock, past_other, more_clocks, same_count}

@@ -1,5 +1,5 @@
 -- A line that no allowed item has ends every text that begins with the lines before it.
-use Rattle.std.proofs.Common.{rules, cond, ◌==◌, arith, ◌≡◌, refl, sym, ap, ◌∙◌, ℕ, ◌+◌, ◌^◌, ◌<◌, ℤ, pos, negsuc, suc, List, [], ◌∷◌, ◌++◌, map, Option, Some, None, decimal, length}
+use Rattle.std.proofs.Common.{rules, cond, ◌==◌, arith, ◌≡◌, refl, sym, ap, ◌∙◌, ℕ, ◌^◌, ◌<◌, ℤ, pos, negsuc, suc, List, [], ◌∷◌, ◌++◌, map, Option, Some, None, decimal}
 use Rattle.std.specs.Fmt.{signed_decimal}
 use Rattle.std.specs.Option.{option_and_then}
 use Rattle.std.proofs.lemmas.Fmt.{decimal_injective}

@@ -13,3 +13,4 @@ pub mod PortLemmas
 pub mod TraceLemmas
 pub mod TableLemmas
 pub mod WrittenLemmas
+pub mod SizeLemmas

@@ -1,7 +1,6 @@
 -- Fields of a line: a byte that none of them has parts them in one way.
-use Rattle.std.proofs.Common.{◌≡◌, ◌≢◌, arith, refl, IfSome, IfNone, IsSomeAnd, Option, Some, None, ℕ, ◌+◌, ◌<◌, ◌≤◌, ◌^◌, List, [], ◌∷◌, ◌++◌, length, decimal, Contains, suc, sym, ◌∙◌}
+use Rattle.std.proofs.Common.{◌≡◌, arith, refl, IfSome, IfNone, IsSomeAnd, Option, Some, None, ℕ, ◌<◌, ◌^◌, List, [], ◌∷◌, ◌++◌, length, decimal, Contains, suc, sym, ◌∙◌}
 use Rattle.std.specs.Str.Parse.{AllDigits}
-use Rattle.std.specs.Char.{digit_value}
 use Rattle.std.proofs.lemmas.Fmt.{decimal_is_IsNumeral}
 use Rattle.std.proofs.lemmas.Str.Parse.{digit_from_value}
 use Rattle.trace_reading.specs.Lines.{Lacks}

@@ -1,5 +1,5 @@
 -- Parts of equations, of tests and of lists.
-use Rattle.std.proofs.Common.{◌≡◌, refl, ap, ℕ, ◌+◌, zero, suc, List, [], ◌∷◌, Option, Some, Bool, true, false, ◌&&◌, drop, slice_get, arith, ◌∙◌}
+use Rattle.std.proofs.Common.{◌≡◌, refl, ap, ℕ, ◌+◌, zero, suc, List, [], ◌∷◌, Some, Bool, true, false, ◌&&◌, drop, slice_get, arith, ◌∙◌}
 
 pub heads : {A : Type 0} (a b : A) (xs ys : List A) → a ∷ xs ≡ b ∷ ys → a ≡ b
 heads a b xs ys e = cc e

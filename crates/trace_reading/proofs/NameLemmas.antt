@@ -1,5 +1,5 @@
 -- Names, byte by byte.
-use Rattle.std.proofs.Common.{arith, ◌≡◌, refl, sym, ap, ◌∙◌, ℕ, ◌<◌, ◌+◌, List, [], ◌∷◌, ◌++◌, length, IsSomeAnd, Option, Some, None, suc, ◌/◌, ◌%◌, ◌≤◌, Bool, true, false, cond, get_or, subst, inl, inr}
+use Rattle.std.proofs.Common.{arith, ◌≡◌, refl, sym, ap, ◌∙◌, ℕ, ◌<◌, List, [], ◌∷◌, ◌++◌, length, suc, ◌/◌, ◌%◌, ◌≤◌, Bool, true, false, cond, get_or, subst, inl, inr}
 use Rattle.std.proofs.lemmas.Bool.{cases_lt, le-ltb, ne_eqb}
 use Rattle.std.specs.List.{AllByRecursion}
 use Rattle.std.proofs.lemmas.List.{append_assoc}

@@ -1,7 +1,7 @@
 -- A line of a port tells one port, and no other line is one.
-use Rattle.std.proofs.Common.{arith, ◌≡◌, refl, sym, ap, ◌∙◌, ℕ, ◌+◌, ◌*◌, ◌/◌, ◌%◌, ◌^◌, ◌<◌, ◌≤◌, List, [], ◌∷◌, ◌++◌, decimal, Bool, true, false, cond, ◌==◌, ◌||◌, nat_lt, get_or, ◌⊎◌, inl, inr}
+use Rattle.std.proofs.Common.{arith, ◌≡◌, refl, sym, ap, ◌∙◌, ℕ, ◌+◌, ◌/◌, ◌%◌, ◌^◌, ◌<◌, ◌≤◌, List, [], ◌∷◌, ◌++◌, decimal, Bool, true, false, cond, ◌==◌, get_or, inl, inr}
 use Rattle.std.proofs.lemmas.Bool.{cases_lt, lt-ltb, le-ltb}
-use Rattle.sim_base.specs.Escape.{escaped, escaped_byte, is_escaped, hex_digit}
+use Rattle.sim_base.specs.Escape.{escaped, is_escaped, hex_digit}
 use Rattle.value_types.specs.declared.values.PortType.{PortType}
 use Rattle.value_types.specs.declared.values.PortType.TheVariants.{Int8, UInt8, Int16, UInt16, Int32, UInt32, Int64, UInt64, Boolean, Enumeration, Clock}
 use Rattle.system_model.specs.Text.{type_name}
@@ -9,7 +9,7 @@ use Rattle.trace_reading.specs.declared.trace.TracePort.{TracePort}
 use Rattle.trace_reading.specs.declared.trace.TraceLine.TheVariants.{At, Value}
 use Rattle.trace_reading.specs.declared.item.Item.{Item}
 use Rattle.trace_reading.specs.declared.item.Item.TheVariants.{Row, End}
-use Rattle.trace_reading.specs.Lines.{Lacks, port_line}
+use Rattle.trace_reading.specs.Lines.{port_line}
 use Rattle.trace_reading.specs.Walk.{item_line, IsShortItem}
 use Rattle.trace_reading.proofs.ListLemmas.{heads, tails}
 use Rattle.trace_reading.proofs.LineLemmas.{lacks_decimal, one_cut, begins_with_digit}

@@ -1,5 +1,5 @@
 -- An item that has a place has numbers of 64 bits.
-use Rattle.std.proofs.Common.{arith, ◌≡◌, refl, ℕ, ◌+◌, ◌^◌, ◌<◌, ◌≤◌, ℤ, List, Option, Some, None, length, slice_get, ◌&&◌, ◌==◌, Bool, true, false, cond, nat_le, nat_lt}
+use Rattle.std.proofs.Common.{arith, ◌≡◌, refl, ℕ, ◌+◌, ◌^◌, ◌<◌, ℤ, List, Some, None, length, slice_get, ◌&&◌, ◌==◌, Bool, true, false, cond, nat_le, nat_lt}
 use Rattle.std.proofs.lemmas.Bool.{leb-true, ltb-true}
 use Rattle.std.proofs.lemmas.Option.{slice_get_within}
 use Rattle.value_types.specs.declared.values.PortType.{PortType}
@@ -11,7 +11,7 @@ use Rattle.trace_reading.specs.declared.item.Place.TheVariants.{Between, Within,
 use Rattle.trace_reading.specs.Walk.{place_behind, is_next, is_closed, is_start, fits_at, clocks_before, IsShortItem}
 use Rattle.trace_reading.specs.Lines.{IsShort}
 use Rattle.trace_reading.proofs.ListLemmas.{parts}
-use Rattle.trace_reading.proofs.FitLemmas.{Fitting, fitting_at, fits_short}
+use Rattle.trace_reading.proofs.FitLemmas.{fitting_at, fits_short}
 
 tested : (b : Bool) (x q : Place) → cond b (Some x) None ≡ Some q → b ≡ true
 tested true x q e = refl

@@ -1,5 +1,5 @@
 -- The table of the numbers of Clocks, and the ports' lines as they are read.
-use Rattle.std.proofs.Common.{arith, ◌≡◌, refl, sym, ap, ◌∙◌, ℕ, ◌+◌, ◌<◌, ◌≤◌, ℤ, zero, suc, List, [], ◌∷◌, ◌++◌, length, map, cond, Bool, true, false, Option, Some, None, get_or, slice_get, nat_le, ◌&&◌, ◌==◌, ◌⊎◌, inl, inr}
+use Rattle.std.proofs.Common.{arith, ◌≡◌, refl, sym, ap, ◌∙◌, ℕ, ◌+◌, ◌<◌, ◌≤◌, ℤ, suc, List, [], ◌∷◌, ◌++◌, length, cond, Bool, true, false, Option, Some, None, get_or, slice_get, nat_le, ◌&&◌, ◌==◌, inl, inr}
 use Rattle.std.specs.List.{AllByRecursion}
 use Rattle.std.specs.Option.{option_map, option_map_or}
 use Rattle.std.proofs.Math.ListN.{get_or-append}
@@ -17,7 +17,7 @@ use Rattle.trace_reading.proofs.ClockLemmas.{past_other, past_clock}
 use Rattle.trace_reading.proofs.WalkLemmas.{text_push}
 use Rattle.trace_reading.proofs.BodyLemmas.{none_left}
 use Rattle.trace_reading.proofs.ListLemmas.{parts}
-use Rattle.trace_reading.proofs.FitLemmas.{Fitting, fitting_at}
+use Rattle.trace_reading.proofs.FitLemmas.{fitting_at}
 
 -- ---- ports
 

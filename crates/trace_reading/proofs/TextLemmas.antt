@@ -1,5 +1,5 @@
 -- Lines of a text: none has a line feed, so the lines of two equal texts are equal.
-use Rattle.std.proofs.Common.{rules, arith, ◌≡◌, ◌≢◌, refl, sym, ap, ◌∙◌, ℕ, ◌+◌, ◌*◌, ◌/◌, ◌%◌, ◌^◌, ◌<◌, ◌≤◌, ℤ, pos, negsuc, suc, List, [], ◌∷◌, ◌++◌, map, Option, Some, None, length, decimal, codes, subst, Bool, true, false, cond, ◌||◌, ◌==◌, nat_lt, ◌⊎◌, inl, inr}
+use Rattle.std.proofs.Common.{rules, arith, ◌≡◌, refl, sym, ap, ◌∙◌, ℕ, ◌+◌, ◌/◌, ◌%◌, ◌^◌, ◌<◌, ◌≤◌, ℤ, pos, negsuc, suc, List, [], ◌∷◌, ◌++◌, map, Some, length, decimal, codes, subst, Bool, true, false, cond, ◌||◌, ◌==◌, nat_lt, inl, inr}
 use Rattle.std.specs.Fmt.{signed_decimal}
 use Rattle.std.specs.List.{AllByRecursion}
 use Rattle.std.proofs.lemmas.List.{append_assoc}
@@ -15,12 +15,11 @@ use Rattle.trace_reading.specs.declared.trace.TraceLine.TheVariants.{At, Value}
 use Rattle.trace_reading.specs.declared.item.Item.{Item}
 use Rattle.trace_reading.specs.declared.item.Item.TheVariants.{Row, End}
 use Rattle.trace_reading.specs.declared.item.Place.{Place}
-use Rattle.trace_reading.specs.declared.item.Place.TheVariants.{Between, Within, Ended}
 use Rattle.trace_reading.specs.Form.{IsRange, port_lines_from}
 use Rattle.trace_reading.specs.Lines.{Lacks, IsShort, text_of, header_line, port_line}
 use Rattle.trace_reading.specs.Walk.{walk, place_behind, item_line, IsShortItem}
 use Rattle.trace_reading.proofs.LineLemmas.{lacks_decimal, one_cut}
-use Rattle.trace_reading.proofs.FaultLemmas.{Stepped, stepped}
+use Rattle.trace_reading.proofs.FaultLemmas.{stepped}
 use Rattle.trace_reading.proofs.ShortLemmas.{short_item}
 
 pub lacks_both : (b : ℕ) (xs ys : List ℕ) → Lacks b xs → Lacks b ys → Lacks b (xs ++ ys)

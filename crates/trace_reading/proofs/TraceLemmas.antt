@@ -1,5 +1,5 @@
 -- Whole texts: a text is that of one trace, and none begins with the lines up to the first fault.
-use Rattle.std.proofs.Common.{arith, ◌≡◌, refl, sym, ap, subst, ◌∙◌, ℕ, ◌+◌, ◌^◌, ◌<◌, ◌≤◌, List, [], ◌∷◌, ◌++◌, map, length, decimal, suc, Option, Some, None, ◌⊎◌, inl, inr}
+use Rattle.std.proofs.Common.{arith, ◌≡◌, refl, sym, ap, subst, ◌∙◌, ℕ, ◌+◌, ◌^◌, ◌<◌, ◌≤◌, List, [], ◌∷◌, ◌++◌, map, length, decimal, suc, Some, None, ◌⊎◌, inl, inr}
 use Rattle.std.specs.List.{AllByRecursion, flat_map}
 use Rattle.std.proofs.lemmas.List.{append_assoc, map-append, length-map, length-append}
 use Rattle.std.proofs.lemmas.Bool.{cases_eq}
@@ -7,14 +7,12 @@ use Rattle.std.proofs.lemmas.Fmt.{decimal_injective}
 use Rattle.value_types.specs.declared.values.PortType.{PortType}
 use Rattle.system_model.specs.declared.plan.EndKind.{EndKind}
 use Rattle.system_model.specs.declared.plan.EndKind.TheVariants.{Stop}
-use Rattle.system_model.specs.Text.{Instant}
 use Rattle.trace_reading.specs.declared.trace.Trace.{Trace}
 use Rattle.trace_reading.specs.declared.trace.TracePort.{TracePort}
 use Rattle.trace_reading.specs.declared.trace.TraceLine.{TraceLine}
 use Rattle.trace_reading.specs.declared.item.Item.{Item}
-use Rattle.trace_reading.specs.declared.item.Item.TheVariants.{Row, End}
 use Rattle.trace_reading.specs.declared.item.Place.{Place}
-use Rattle.trace_reading.specs.declared.item.Place.TheVariants.{Between, Within, Ended}
+use Rattle.trace_reading.specs.declared.item.Place.TheVariants.{Between, Ended}
 use Rattle.trace_reading.specs.Lines.{Lacks, header_line, port_line, line_text, end_line, text_of}
 use Rattle.trace_reading.specs.Form.{IsRange, IsNamed, IsTrace, IsTextOf, kinds_of, lines_of, port_lines_from, instant_lines}
 use Rattle.trace_reading.specs.Faults.{Begins, IsFirstFault, Wrong}
@@ -24,11 +22,11 @@ use Rattle.trace_reading.specs.Walk.{walk, place_behind, item_line, items_of, Is
 use Rattle.trace_reading.specs.Walk.WrongBehind.{NoItem, NoEnd}
 use Rattle.trace_reading.proofs.ListLemmas.{heads, tails, unsome}
 use Rattle.trace_reading.proofs.LineLemmas.{lacks_decimal, one_cut}
-use Rattle.trace_reading.proofs.BodyLemmas.{complete, sound, IsBody, Body, body_items_are}
+use Rattle.trace_reading.proofs.BodyLemmas.{complete, sound, body_items_are}
 use Rattle.trace_reading.proofs.FaultLemmas.{stuck, stepped, same_items}
 use Rattle.trace_reading.proofs.ShortLemmas.{short_item}
 use Rattle.trace_reading.proofs.BeginLemmas.{goes_on}
-use Rattle.trace_reading.proofs.TextLemmas.{is_header_line, are_port_lines, are_lines, all_append, lines_front, one_list, ends_there, lacks_not}
+use Rattle.trace_reading.proofs.TextLemmas.{is_header_line, are_port_lines, are_lines, all_append, lines_front, one_list, ends_there}
 use Rattle.trace_reading.proofs.PortLemmas.{one_port, no_port}
 
 -- ---- lines behind the ports

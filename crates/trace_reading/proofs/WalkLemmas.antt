@@ -3,7 +3,6 @@ use Rattle.std.proofs.Common.{◌≡◌, refl, sym, ap, ◌∙◌, ℕ, ◌+◌,
 use Rattle.std.specs.Option.{option_and_then}
 use Rattle.std.proofs.lemmas.List.{append_assoc, map-append}
 use Rattle.value_types.specs.declared.values.PortType.{PortType}
-use Rattle.system_model.specs.declared.plan.EndKind.{EndKind}
 use Rattle.trace_reading.specs.declared.trace.TraceLine.{TraceLine}
 use Rattle.trace_reading.specs.declared.trace.TraceLine.TheVariants.{At, Value}
 use Rattle.trace_reading.specs.declared.item.Item.{Item}
@@ -11,7 +10,7 @@ use Rattle.trace_reading.specs.declared.item.Item.TheVariants.{Row, End}
 use Rattle.trace_reading.specs.declared.item.Place.{Place}
 use Rattle.trace_reading.specs.declared.item.Place.TheVariants.{Between, Within, Ended}
 use Rattle.trace_reading.specs.Lines.{text_of}
-use Rattle.trace_reading.specs.Walk.{walk, place_behind, item_line, items_in, items_of, rows_with, is_closed, is_next, is_start}
+use Rattle.trace_reading.specs.Walk.{walk, place_behind, item_line, items_in, rows_with, is_closed, is_next, is_start}
 
 pub text_push : (lines : List (List ℕ)) (line rest : List ℕ) → text_of (lines ++ (line ∷ [])) ++ rest ≡ text_of lines ++ (line ++ (10 ∷ rest))
 text_push [] line rest = append_assoc line (10 ∷ []) rest

@@ -1,5 +1,5 @@
 -- The text that a run writes is that of the trace that it tells.
-use Rattle.std.proofs.Common.{arith, ◌≡◌, ◌≢◌, refl, sym, ap, subst, ◌∙◌, ℕ, ◌+◌, ◌^◌, ◌<◌, ◌≤◌, ℤ, suc, List, [], ◌∷◌, ◌++◌, map, length, decimal, codes, drop, slice_get, Bool, true, false, cond, Option, Some, None, All}
+use Rattle.std.proofs.Common.{arith, ◌≡◌, ◌≢◌, refl, sym, ap, subst, ◌∙◌, ℕ, ◌+◌, ◌<◌, ℤ, suc, List, [], ◌∷◌, ◌++◌, map, length, decimal, codes, drop, slice_get, Bool, true, false, cond, Option, Some, None, All}
 use Rattle.std.specs.Fmt.{signed_decimal}
 use Rattle.std.specs.List.{AllByRecursion, flat_map, filter_map, cons_option}
 use Rattle.std.specs.Option.{option_map, option_map_or}
@@ -17,8 +17,6 @@ use Rattle.system_model.specs.Text as text
 use Rattle.system_model.specs.Ports.{Label, label_of, label_at, labels_from}
 use Rattle.system_model.specs.Shapes.{HasNames, IsSoundShape}
 use Rattle.system_model.specs.Sound.{IsSound}
-use Rattle.trace_reading.specs.declared.trace.TracePort.{TracePort}
-use Rattle.trace_reading.specs.declared.trace.TraceLine.{TraceLine}
 use Rattle.trace_reading.specs.Lines.{header_line, port_line, at_line, value_line, line_text, end_line, text_of}
 use Rattle.trace_reading.specs.Form.{IsNamed, IsTextOf, instant_lines, value_lines_from, port_lines_from, lines_of}
 use Rattle.trace_reading.specs.Written.{port_told, ports_told, trace_told, IsWritable}

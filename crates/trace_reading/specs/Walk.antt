@@ -3,7 +3,7 @@ use Rattle.std.specs.Prelude.{◌≡◌, ◌&&◌, ◌==◌, ℕ, ◌+◌, ◌^�
 use Rattle.std.specs.List.{slice_get, slice_index}
 use Rattle.std.specs.Option.{option_map_or, option_and_then}
 use Rattle.value_types.specs.declared.values.PortType.{PortType}
-use Rattle.value_types.specs.declared.values.PortType.TheVariants.{Int8, UInt8, Int16, UInt16, Int32, UInt32, Int64, UInt64, Boolean, Enumeration, Clock}
+use Rattle.value_types.specs.declared.values.PortType.TheVariants.{Clock}
 use Rattle.value_types.specs.Values.{is_fitting}
 use Rattle.system_model.specs.declared.plan.EndKind.{EndKind}
 use Rattle.trace_reading.specs.declared.trace.TraceLine.{TraceLine}

@@ -11,6 +11,8 @@ mod numbers;
 mod ports;
 mod reading;
 mod rows;
+#[cfg(test)]
+mod tests;
 mod trace;
 
 pub use fault::TraceFault;

@@ -1,4 +1,4 @@
-ghost use Rattle.std.specs.Prelude.{◌≡◌, ◌⊎◌, ◌∷◌, ◌++◌, ℕ, List, Ok, Err, IfOk, IfSome, IfNone, IsTrue, ◌↔◌};
+ghost use Rattle.std.specs.Prelude.{◌≡◌, ◌≤◌, ◌+◌, ◌⊎◌, ◌∷◌, ◌++◌, ℕ, List, Ok, Err, IfOk, IfSome, IfNone, IsTrue, length, ◌↔◌};
 ghost use Rattle.trace_reading.specs.declared.trace.Trace.{Trace};
 ghost use Rattle.trace_reading.specs.Faults.{IsFirstFault};
 ghost use Rattle.trace_reading.specs.Form.{IsRange, IsTextOf};
@@ -18,6 +18,7 @@ use std::alloc::Global;
 pub fn read_trace(alloc: Global, bytes: &[u8]) -> Result<Trace, TraceFault>
     ensures found { IfOk result (IsTextOf bytes.now) }
     ensures exact { (t : Trace) → IsTextOf bytes.now t → (result ≡ Ok t) ⊎ (result ≡ Err TraceFault.Memory) }
+    ensures lines { IfOk result (λ t. length t.ports + length t.lines + 2 ≤ length bytes.now) }
     ensures fault { (n : ℕ) → result ≡ Err (TraceFault.Line n) → IsFirstFault bytes.now n }
 {
     read(alloc, bytes)

@@ -1,5 +1,5 @@
-use Rattle.std.proofs.Common.{rules, arith, ◌≡◌, refl, sym, ap, ◌∙◌, ℕ, ◌<◌, List, [], ◌∷◌, ◌++◌, length, IsSomeAnd}
-use Rattle.sim_base.specs.Escape.{escaped, escaped_byte}
+use Rattle.std.proofs.Common.{rules, arith, sym, ◌∙◌}
+use Rattle.sim_base.specs.Escape.{escaped}
 use Rattle.trace_reading.proofs.NameLemmas.{empty_is, Left, none_left, for_left, one_less, push_escaped, of_bytes}
 use Rattle.trace_reading.proofs.names.name.Goals as goal
 

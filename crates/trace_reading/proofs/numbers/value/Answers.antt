@@ -1,4 +1,4 @@
-use Rattle.std.proofs.Common.{rules, arith, ◌≡◌, ℕ, ℤ, pos, negsuc, ◌+◌, ◌<◌, ◌^◌, List, [], ◌∷◌, ◌++◌, decimal, sym, suc, ap, ◌∙◌, Some, Option}
+use Rattle.std.proofs.Common.{arith, ◌≡◌, ℕ, ℤ, pos, negsuc, ◌+◌, ◌<◌, ◌^◌, List, [], ◌∷◌, decimal, sym, suc, ap, ◌∙◌, Some, Option}
 use Rattle.std.specs.Fmt.{signed_decimal}
 use Rattle.trace_reading.specs.Lines.{IsShort, Lacks}
 use Rattle.trace_reading.proofs.LineLemmas.{lacks_decimal}

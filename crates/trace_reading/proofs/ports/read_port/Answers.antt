@@ -1,4 +1,4 @@
-use Rattle.std.proofs.Common.{rules, arith, ◌≡◌, ap, ◌∙◌, sym}
+use Rattle.std.proofs.Common.{rules, arith}
 use Rattle.sim_base.specs.Escape.{escaped}
 use Rattle.trace_reading.proofs.TextLemmas.{lacks_escaped}
 use Rattle.trace_reading.proofs.ports.read_port.Goals as goal

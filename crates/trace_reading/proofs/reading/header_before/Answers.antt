@@ -1,4 +1,4 @@
-use Rattle.std.proofs.Common.{rules, arith, ◌≡◌, sym, subst, ◌∙◌, ℕ, ◌^◌, ◌<◌, Option, Some}
+use Rattle.std.proofs.Common.{rules, arith, ◌≡◌, sym, subst, ◌∙◌, ℕ, Option, Some}
 use Rattle.trace_reading.specs.Form.{IsRange}
 use Rattle.trace_reading.specs.Lines.{header_line}
 use Rattle.trace_reading.proofs.ListLemmas.{unsome}

@@ -1,11 +1,8 @@
-use Rattle.std.proofs.Common.{rules, arith, ◌≡◌, sym, ap, ◌∙◌, ℕ, List, [], ◌∷◌, ◌++◌, map, Some, None}
+use Rattle.std.proofs.Common.{rules, ◌≡◌, ap, ◌∙◌, List, [], ◌∷◌, ◌++◌, Some}
 use Rattle.trace_reading.specs.declared.trace.TraceLine.{TraceLine}
-use Rattle.trace_reading.specs.declared.item.Item.{Item}
-use Rattle.trace_reading.specs.declared.item.Place.TheVariants.{Ended}
 use Rattle.trace_reading.specs.Form.{kinds_of}
-use Rattle.trace_reading.specs.Lines.{text_of}
-use Rattle.trace_reading.specs.Walk.{item_line, items_in, items_of, place_behind, rows_with}
-use Rattle.trace_reading.specs.Walk.WrongBehind.{NoItem, NoEnd}
+use Rattle.trace_reading.specs.Walk.{items_in, place_behind, rows_with}
+use Rattle.trace_reading.specs.Walk.WrongBehind.{NoItem}
 use Rattle.trace_reading.proofs.WalkLemmas.{in_push, more_text, more_walk}
 use Rattle.trace_reading.proofs.rows.read_rows.Goals as goal
 
