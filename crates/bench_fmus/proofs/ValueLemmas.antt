@@ -37,7 +37,7 @@ absent p xs none =
     none_passes p xs (grind (arith, nat_tests))
 
 -- the variable at the first place of a reference has it
-placed : (variables : List Variable) (reference k : ℕ) (v : Variable) → place_of variables reference ≡ Some k → slice_get variables k ≡ Some v → v.reference ≡ reference
+pub placed : (variables : List Variable) (reference k : ℕ) (v : Variable) → place_of variables reference ≡ Some k → slice_get variables k ≡ Some v → v.reference ≡ reference
 placed variables reference k v there is =
     let at : (v.reference == reference) ≡ true =
     ap (λ (w : Variable). w.reference == reference) (sym (get_or_from_slice_get variables k v v is)) ∙ (position-Some (λ (w : Variable). w.reference == reference) variables k v there).1 in

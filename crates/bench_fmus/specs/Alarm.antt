@@ -4,7 +4,8 @@ use Rattle.std.specs.Prelude.{ℕ, ◌+◌, List, ℤ, pos, nat_abs, int_lt, Boo
 use Rattle.value_types.specs.declared.shape.Shape.{Shape}
 use Rattle.fmi_calls.specs.declared.call.Call.{Call}
 use Rattle.fmi_calls.specs.declared.call.Call.TheVariants as C
-use Rattle.bench_fmus.specs.BuiltIn.{Behaviour, Numbers, count_at, one_more, value_of}
+use Rattle.fmi_calls.specs.declared.call.Interval.TheVariants.{NotYetKnown}
+use Rattle.bench_fmus.specs.BuiltIn.{Behaviour, Numbers, count_at, no_fraction, one_more, value_of}
 
 -- the point is inside the step, which may end early
 abbrev pub rings : Shape → List ℤ → ℕ → ℕ → Bool
@@ -25,5 +26,7 @@ alarm = record {
   early_end = rung_at;
   asks_to_end = λ variables values size. false;
   asks_again = λ variables n values. false;
+  interval = λ shape n values reference. NotYetKnown;
+  shift = λ variables values reference. no_fraction;
   changed = rung;
 }

@@ -4,7 +4,8 @@ use Rattle.std.specs.Prelude.{List, ℤ, pos, ◌+ℤ◌, int_lt, int_le, false,
 use Rattle.value_types.specs.declared.shape.Shape.{Shape}
 use Rattle.fmi_calls.specs.declared.call.Call.{Call}
 use Rattle.fmi_calls.specs.declared.call.Call.TheVariants as C
-use Rattle.bench_fmus.specs.BuiltIn.{Behaviour, Numbers, count_at, value_of}
+use Rattle.fmi_calls.specs.declared.call.Interval.TheVariants.{NotYetKnown}
+use Rattle.bench_fmus.specs.BuiltIn.{Behaviour, Numbers, count_at, no_fraction, value_of}
 use Rattle.bench_fmus.specs.Wrapping.{wrapped_int64}
 
 abbrev pub counted : Shape → Numbers → List ℤ → Call → Numbers
@@ -17,5 +18,7 @@ counter = record {
   early_end = λ shape values at size. None;
   asks_to_end = λ variables values size. int_lt (pos 0) (value_of variables values 3) && int_le (value_of variables values 3) (pos size);
   asks_again = λ variables n values. false;
+  interval = λ shape n values reference. NotYetKnown;
+  shift = λ variables values reference. no_fraction;
   changed = counted;
 }

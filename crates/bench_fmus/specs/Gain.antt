@@ -6,7 +6,8 @@ use Rattle.value_types.specs.declared.shape.Variable.{Variable}
 use Rattle.value_types.specs.declared.shape.Shape.{Shape}
 use Rattle.fmi_calls.specs.declared.call.Call.{Call}
 use Rattle.fmi_calls.specs.declared.call.Call.TheVariants as C
-use Rattle.bench_fmus.specs.BuiltIn.{Behaviour, Numbers, seen_by, value_of}
+use Rattle.fmi_calls.specs.declared.call.Interval.TheVariants.{NotYetKnown}
+use Rattle.bench_fmus.specs.BuiltIn.{Behaviour, Numbers, no_fraction, seen_by, value_of}
 use Rattle.bench_fmus.specs.Wrapping.{wrapped_int64}
 
 -- the factor is a parameter, or an input as the other one is
@@ -31,5 +32,7 @@ gain = record {
   early_end = λ shape values at size. None;
   asks_to_end = λ variables values size. false;
   asks_again = λ variables n values. false;
+  interval = λ shape n values reference. NotYetKnown;
+  shift = λ variables values reference. no_fraction;
   changed = holding;
 }

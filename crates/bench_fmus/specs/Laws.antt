@@ -17,11 +17,14 @@ use Rattle.fmi_calls.specs.declared.call.Content.TheVariants as A
 use Rattle.fmi_calls.specs.declared.call.Reply.TheVariants.{Done}
 use Rattle.fmu_peer.specs.Machine.{IgnoresSlot, IsLawful, IsMachineOf, MachineState, changes_mode}
 use Rattle.bench_fmus.specs.declared.model.Model.{Model}
-use Rattle.bench_fmus.specs.declared.model.Model.TheVariants.{Counter, Gain, Alarm, Settle}
+use Rattle.bench_fmus.specs.declared.model.Model.TheVariants.{Counter, Gain, Sampler, Alarm, Timer, Relay, Settle}
 use Rattle.bench_fmus.specs.BuiltIn.{Behaviour, Numbers, count_at, is_declared_at, is_marked, machine_of, numbers_after, numbers_in, seen_by, value_of}
 use Rattle.bench_fmus.specs.Counter.{counter}
 use Rattle.bench_fmus.specs.Gain.{factor, gain, product}
+use Rattle.bench_fmus.specs.Sampler.{sampler}
 use Rattle.bench_fmus.specs.Alarm.{alarm}
+use Rattle.bench_fmus.specs.Timer.{timer}
+use Rattle.bench_fmus.specs.Relay.{differ, relay, relayed}
 use Rattle.bench_fmus.specs.Settle.{settle}
 use Rattle.bench_fmus.specs.Models.{behaviour_of}
 use Rattle.bench_fmus.specs.Wrapping.{wrapped, wrapped_int64}
@@ -148,8 +151,8 @@ own_is_lawful b shape own (C.DoStep at size) output s xs ys looked found mode ag
 own_is_lawful b shape own C.Update output s xs ys looked found mode agree = absurd (cc)
 own_is_lawful b shape own (C.Set kind reference value) output s xs ys looked found mode agree = refl
 own_is_lawful b shape own (C.SetClock reference) output s xs ys looked found mode agree = refl
-own_is_lawful b shape own (C.GetInterval reference) output s xs ys looked found mode agree = refl
-own_is_lawful b shape own (C.GetShift reference) output s xs ys looked found mode agree = refl
+own_is_lawful b shape own (C.GetInterval reference) output s xs ys looked found mode agree = absurd (cc)
+own_is_lawful b shape own (C.GetShift reference) output s xs ys looked found mode agree = absurd (cc)
 own_is_lawful b shape own C.Save output s xs ys looked found mode agree = refl
 own_is_lawful b shape own C.Restore output s xs ys looked found mode agree = refl
 own_is_lawful b shape own C.Free output s xs ys looked found mode agree = refl
@@ -163,25 +166,27 @@ count_declared : (own : ℕ) (shape : Shape) (n : Numbers) (output : ℕ) (xs ys
     count_at own shape n xs output ≡ count_at own shape n ys output
 count_declared own shape n output xs ys found agree = ap (λ (x : ℤ). if output == own then n.count else x) (value_same shape (is_marked n) output xs ys agree found)
 
-module _ (shape : Shape) (n : Numbers) (xs ys : List ℤ) (agree : AgreeFor shape (is_marked n) 3 xs ys) where
-  seen_same : (reference : ℕ) → seen_by shape n xs 3 reference ≡ seen_by shape n ys 3 reference
-  seen_same reference = by (is_declared_at shape n 3 reference) refl
-    where
-      by : (q : Bool) → is_declared_at shape n 3 reference ≡ q →
-          (if q then value_of shape.variables xs reference else n.held) ≡ (if q then value_of shape.variables ys reference else n.held)
-      by true is = reference_same shape (is_marked n) 3 reference xs ys agree (declared_known shape (is_marked n) 3 (variable_at shape.variables reference) is)
-      by false other = refl
+-- what an output sees is one
+seen_same : (shape : Shape) (n : Numbers) (output : ℕ) (xs ys : List ℤ) → AgreeFor shape (is_marked n) output xs ys → (reference : ℕ) →
+    seen_by shape n xs output reference ≡ seen_by shape n ys output reference
+seen_same shape n output xs ys agree reference = by (is_declared_at shape n output reference) refl
+  where
+    by : (q : Bool) → is_declared_at shape n output reference ≡ q →
+        (if q then value_of shape.variables xs reference else n.held) ≡ (if q then value_of shape.variables ys reference else n.held)
+    by true is = reference_same shape (is_marked n) output reference xs ys agree (declared_known shape (is_marked n) output (variable_at shape.variables reference) is)
+    by false other = refl
 
+module _ (shape : Shape) (n : Numbers) (xs ys : List ℤ) (agree : AgreeFor shape (is_marked n) 3 xs ys) where
   factor_same : factor shape n xs ≡ factor shape n ys
   factor_same = by (is_at (λ (v : Variable). is_input v.causality) shape.variables 1) refl
     where
       by : (q : Bool) → is_at (λ (v : Variable). is_input v.causality) shape.variables 1 ≡ q →
           (if q then seen_by shape n xs 3 1 else value_of shape.variables xs 1) ≡ (if q then seen_by shape n ys 3 1 else value_of shape.variables ys 1)
-      by true is = seen_same 1
+      by true is = seen_same shape n 3 xs ys agree 1
       by false other = reference_same shape (is_marked n) 3 1 xs ys agree (no_input shape (is_marked n) 3 (variable_at shape.variables 1) other)
 
   product_same : product shape n xs ≡ product shape n ys
-  product_same = ap₂ (λ (a b : ℤ). wrapped_int64 (a *ℤ b)) factor_same (seen_same 2)
+  product_same = ap₂ (λ (a b : ℤ). wrapped_int64 (a *ℤ b)) factor_same (seen_same shape n 3 xs ys agree 2)
 
 gain_declared : ShowsDeclared gain
 gain_declared shape n output xs ys found agree = by (output == 3) refl
@@ -190,8 +195,30 @@ gain_declared shape n output xs ys found agree = by (output == 3) refl
     by true is = product_same shape n xs ys (subst (λ (o : ℕ). AgreeFor shape (is_marked n) o xs ys) (eqb-true output 3 is) agree)
     by false other = value_same shape (is_marked n) output xs ys agree found
 
+sampler_declared : ShowsDeclared sampler
+sampler_declared shape n output xs ys found agree = by (output == 3) refl
+  where
+    by : (q : Bool) → (output == 3) ≡ q → (if q then seen_by shape n xs 3 2 else value_of shape.variables xs output) ≡ (if q then seen_by shape n ys 3 2 else value_of shape.variables ys output)
+    by true is = seen_same shape n 3 xs ys (subst (λ (o : ℕ). AgreeFor shape (is_marked n) o xs ys) (eqb-true output 3 is) agree) 2
+    by false other = value_same shape (is_marked n) output xs ys agree found
+
+relay_declared : ShowsDeclared relay
+relay_declared shape n output xs ys found agree = by (output == 2) (output == 3) refl refl
+  where
+    at : List ℤ → Bool → Bool → ℤ
+    at zs p q = if p then (if differ (seen_by shape n zs 2 1) n.held then pos 1 else pos 0) else (if q then seen_by shape n zs 3 1 else value_of shape.variables zs output)
+
+    by : (p q : Bool) → (output == 2) ≡ p → (output == 3) ≡ q → at xs p q ≡ at ys p q
+    by true q is other =
+        ap (λ (x : ℤ). if differ x n.held then pos 1 else pos 0) (seen_same shape n 2 xs ys (subst (λ (o : ℕ). AgreeFor shape (is_marked n) o xs ys) (eqb-true output 2 is) agree) 1)
+    by false true other is = seen_same shape n 3 xs ys (subst (λ (o : ℕ). AgreeFor shape (is_marked n) o xs ys) (eqb-true output 3 is) agree) 1
+    by false false other another = value_same shape (is_marked n) output xs ys agree found
+
 pub is_lawful : (model : Model) (shape : Shape) → IsLawful shape (machine_of (behaviour_of model) shape)
 is_lawful Counter shape = own_is_lawful counter shape (count_declared 2)
 is_lawful Gain shape = own_is_lawful gain shape gain_declared
+is_lawful Sampler shape = own_is_lawful sampler shape sampler_declared
 is_lawful Alarm shape = own_is_lawful alarm shape (count_declared 2)
+is_lawful Timer shape = own_is_lawful timer shape (count_declared 3)
+is_lawful Relay shape = own_is_lawful relay shape relay_declared
 is_lawful Settle shape = own_is_lawful settle shape (count_declared 2)

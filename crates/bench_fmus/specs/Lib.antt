@@ -2,7 +2,10 @@ pub mod Wrapping
 pub mod BuiltIn
 pub mod Counter
 pub mod Gain
+pub mod Sampler
 pub mod Alarm
+pub mod Timer
+pub mod Relay
 pub mod Settle
 pub mod Models
 pub mod Told

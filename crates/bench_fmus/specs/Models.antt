@@ -1,17 +1,23 @@
 -- The built-in machines by their names.
 use Rattle.std.specs.Prelude.{Bool, List, ℕ, Option, Some, None, bytes_eq, codes, is_some, if◌then◌else◌}
 use Rattle.bench_fmus.specs.declared.model.Model.{Model}
-use Rattle.bench_fmus.specs.declared.model.Model.TheVariants.{Counter, Gain, Alarm, Settle}
+use Rattle.bench_fmus.specs.declared.model.Model.TheVariants.{Counter, Gain, Sampler, Alarm, Timer, Relay, Settle}
 use Rattle.bench_fmus.specs.BuiltIn.{Behaviour}
 use Rattle.bench_fmus.specs.Counter.{counter}
 use Rattle.bench_fmus.specs.Gain.{gain}
+use Rattle.bench_fmus.specs.Sampler.{sampler}
 use Rattle.bench_fmus.specs.Alarm.{alarm}
+use Rattle.bench_fmus.specs.Timer.{timer}
+use Rattle.bench_fmus.specs.Relay.{relay}
 use Rattle.bench_fmus.specs.Settle.{settle}
 
 abbrev pub behaviour_of : Model → Behaviour
 behaviour_of Counter = counter
 behaviour_of Gain = gain
+behaviour_of Sampler = sampler
 behaviour_of Alarm = alarm
+behaviour_of Timer = timer
+behaviour_of Relay = relay
 behaviour_of Settle = settle
 
 -- the machine of a name
@@ -19,8 +25,11 @@ abbrev pub model_named : List ℕ → Option Model
 model_named name =
     if bytes_eq name (codes "counter") then Some Counter
     else (if bytes_eq name (codes "gain") then Some Gain
+    else (if bytes_eq name (codes "sampler") then Some Sampler
     else (if bytes_eq name (codes "alarm") then Some Alarm
-    else (if bytes_eq name (codes "settle") then Some Settle else None)))
+    else (if bytes_eq name (codes "timer") then Some Timer
+    else (if bytes_eq name (codes "relay") then Some Relay
+    else (if bytes_eq name (codes "settle") then Some Settle else None))))))
 
 abbrev pub is_model : List ℕ → Bool
 is_model name = is_some (model_named name)

@@ -4,7 +4,8 @@ use Rattle.std.specs.Prelude.{List, ℤ, pos, int_lt, false, None}
 use Rattle.value_types.specs.declared.shape.Shape.{Shape}
 use Rattle.fmi_calls.specs.declared.call.Call.{Call}
 use Rattle.fmi_calls.specs.declared.call.Call.TheVariants as C
-use Rattle.bench_fmus.specs.BuiltIn.{Behaviour, Numbers, count_at, one_more, value_of}
+use Rattle.fmi_calls.specs.declared.call.Interval.TheVariants.{NotYetKnown}
+use Rattle.bench_fmus.specs.BuiltIn.{Behaviour, Numbers, count_at, no_fraction, one_more, value_of}
 
 -- EnterEvent begins the count anew
 abbrev pub updated : Shape → Numbers → List ℤ → Call → Numbers
@@ -18,5 +19,7 @@ settle = record {
   early_end = λ shape values at size. None;
   asks_to_end = λ variables values size. false;
   asks_again = λ variables n values. int_lt n.count (value_of variables values 1);
+  interval = λ shape n values reference. NotYetKnown;
+  shift = λ variables values reference. no_fraction;
   changed = updated;
 }

@@ -27,7 +27,7 @@ number_of_flag false = pos 0
 number_of_flag true = pos 1
 
 abbrev pub told : numbers.Numbers → Numbers
-told n = record { mark = number_of_flag n.is_initializing; held = n.held; count = n.count }
+told n = record { mark = number_of_flag n.is_initializing; held = n.held; count = n.count; point = pos n.point; fired = number_of_flag n.has_fired }
 
 -- what Save kept, where a state is saved
 abbrev pub slot_in : List Variable → SavedState → Option SavedMachine

@@ -1,5 +1,5 @@
--- Numbers wrapped into a range, as two's complement leaves them.
-use Rattle.std.specs.Prelude.{◌-◌, ◌^◌, ℤ, pos, negsuc, ◌+ℤ◌, ◌-ℤ◌}
+-- Numbers wrapped into a range, as two's complement leaves them, and numbers that are read as counts.
+use Rattle.std.specs.Prelude.{ℕ, ◌-◌, ◌^◌, min, ℤ, pos, negsuc, ◌+ℤ◌, ◌-ℤ◌}
 use Rattle.std.specs.Int.{int_rem_euclid}
 use Rattle.value_types.specs.Values.{least_of, greatest_of}
 use Rattle.value_types.specs.declared.values.PortType.{PortType}
@@ -15,3 +15,8 @@ wrapped kind z = wrapped_between (least_of kind) (greatest_of kind) z
 -- a number wrapped into Int64
 abbrev pub wrapped_int64 : ℤ → ℤ
 wrapped_int64 z = wrapped_between (negsuc (2 ^ 63 - 1)) (pos (2 ^ 63 - 1)) z
+
+-- a number read as a count of 64 bits: a negative one as 0, one that is too great as the greatest
+abbrev pub count_of : ℤ → ℕ
+count_of (pos n) = min n (2 ^ 64 - 1)
+count_of (negsuc n) = 0

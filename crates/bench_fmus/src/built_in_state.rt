@@ -3,14 +3,15 @@ ghost use Rattle.std.specs.Option.{option_map_or};
 ghost use Rattle.fmi_calls.specs.Permission.{Permitted};
 ghost use Rattle.fmu_peer.specs.Machine.{after, all_written, is_input_clock, written, zero_at};
 ghost use Rattle.value_types.specs.Shape.{dependency_at, is_known};
-ghost use Rattle.bench_fmus.specs.BuiltIn.{mark_after, spread, start_of, step_content};
+ghost use Rattle.bench_fmus.specs.BuiltIn.{mark_after, no_fraction, spread, start_of, step_content};
 ghost use Rattle.bench_fmus.specs.Told.{number_of_flag};
 
-use crate::wrap::{wrapped_word, wrapping_sum};
+use crate::wrap::{count_of, wrapped_word, wrapping_sum};
 use crate::{Model, SavedState};
+use clock_fraction::Fraction;
 use fmi_calls::{Call, Content, Phase};
 use std::alloc::{AllocError, Global};
-use value_types::{ByReference, Dependency, Knowns, Shape, Variable};
+use value_types::{ByReference, Dependency, Knowns, PortType, Shape, Variable};
 
 /// The numbers of a built-in machine's own.
 #[derive(Clone, Copy, Debug, PartialEq, Eq)]
@@ -20,6 +21,10 @@ pub struct Numbers {
     /// what a machine holds of its inputs
     pub held: i64,
     pub count: i64,
+    /// the point of time, in counts
+    pub point: u64,
+    /// whether what happens once has happened
+    pub has_fired: bool,
 }
 
 impl Numbers {
@@ -34,6 +39,8 @@ impl Numbers {
             is_initializing: false,
             held: 0,
             count: 0,
+            point: 0,
+            has_fired: false,
         }
     }
 
@@ -58,7 +65,7 @@ pub struct BuiltInState {
 }
 
 impl BuiltInState {
-    ghost use Rattle.bench_fmus.specs.BuiltIn.{content_of, count_at, first_state, is_declared_at, machine_of, numbers_after, seen_by, value_of};
+    ghost use Rattle.bench_fmus.specs.BuiltIn.{content_of, count_at, first_state, fraction_at, is_declared_at, is_ticking, machine_of, numbers_after, point_after, seen_by, value_of};
     ghost use Rattle.bench_fmus.specs.Models.{behaviour_of};
     ghost use Rattle.bench_fmus.specs.Told.{HasRoom, state_in, told, values_in};
 
@@ -82,6 +89,28 @@ impl BuiltInState {
         match variables.place_of(reference) {
             Some(place) => number_at(self.values.as_slice(), place),
             None => 0,
+        }
+    }
+
+    /// Whether the Clock under a reference is active.
+    pub(crate) fn is_ticking(&self, variables: &ByReference<Variable>, reference: u32) -> bool
+        ensures { result ≡ is_ticking variables.now (values_in variables.now self.now) reference }
+    {
+        self.value(variables, reference) == 1
+    }
+
+    /// A fraction of a second, by the counts under two references.
+    pub(crate) fn fraction_at(
+        &self,
+        variables: &ByReference<Variable>,
+        counter: u32,
+        resolution: u32,
+    ) -> Fraction
+        ensures { result ≡ fraction_at variables.now (values_in variables.now self.now) counter resolution }
+    {
+        Fraction {
+            counter: count_of(self.value(variables, counter)),
+            resolution: count_of(self.value(variables, resolution)),
         }
     }
 
@@ -145,23 +174,46 @@ impl BuiltInState {
                 word: wrapped_word(kind, model.shown(shape, self, reference)),
             },
             Call::Set { .. } => Content::Set,
+            Call::GetClock { reference } => Content::GetClock {
+                word: wrapped_word(PortType::Clock, model.shown(shape, self, reference)),
+            },
+            Call::SetClock { .. } => Content::SetClock,
+            Call::GetInterval { reference } => Content::GetInterval {
+                interval: model.interval(shape, self, reference),
+            },
+            Call::GetShift { reference } => Content::GetShift {
+                shift: model.shift(&shape.variables, self, reference),
+            },
             Call::Save => Content::Save,
             Call::Restore => Content::Restore,
             Call::Free => Content::Free,
             Call::Terminate => Content::Terminate,
             Call::FreeInstance => Content::FreeInstance,
-            Call::GetClock { .. }
-            | Call::SetClock { .. }
-            | Call::GetInterval { .. }
-            | Call::GetShift { .. } => unreachable!("no phase permits it yet"),
         }
     }
 
-    fn next_numbers(&self, model: Model, shape: &Shape, call: &Call) -> Numbers
+    // The point of time after a call.
+    fn next_point(&self, model: Model, shape: &Shape, phase: &Phase, call: &Call) -> u64
+        requires { Permitted shape.now phase.now call.now }
+        ensures { pos result ≡ point_after (behaviour_of model) shape.now (pos self.now.numbers.point) (values_in shape.now.variables self.now) call.now }
+    {
+        match *call {
+            Call::EnterInitialization { start, .. } => start,
+            Call::DoStep { at, size } => {
+                let bound = bound(phase.stop, at, size);
+                model.early_end(shape, self, at, size).unwrap_or(bound)
+            }
+            _ => self.numbers.point,
+        }
+    }
+
+    fn next_numbers(&self, model: Model, shape: &Shape, phase: &Phase, call: &Call) -> Numbers
+        requires { Permitted shape.now phase.now call.now }
         ensures { told result ≡ numbers_after (behaviour_of model) shape.now (told self.now.numbers) (values_in shape.now.variables self.now) call.now }
     {
         Numbers {
             is_initializing: is_initializing_after(self.numbers.is_initializing, call),
+            point: self.next_point(model, shape, phase, call),
             ..model.changed(shape, self, call)
         }
     }
@@ -174,7 +226,13 @@ impl BuiltInState {
         ensures room { HasRoom shape.now self.new }
     {
         match *call {
-            Call::Get { .. } => {}
+            Call::Get { .. }
+            | Call::GetClock { .. }
+            | Call::GetInterval { .. }
+            | Call::GetShift { .. } => {}
+            Call::SetClock { reference } => {
+                write_value(&shape.variables, &mut self.values, reference, 1);
+            }
             Call::Set {
                 reference,
                 value,
@@ -191,16 +249,12 @@ impl BuiltInState {
             | Call::DoStep { .. }
             | Call::Terminate
             | Call::FreeInstance => {
-                self.numbers = self.next_numbers(model, shape, call);
+                self.numbers = self.next_numbers(model, shape, phase, call);
             }
             Call::Update => {
-                self.numbers = self.next_numbers(model, shape, call);
+                self.numbers = self.next_numbers(model, shape, phase, call);
                 untick(&shape.variables, &mut self.values);
             }
-            Call::GetClock { .. }
-            | Call::SetClock { .. }
-            | Call::GetInterval { .. }
-            | Call::GetShift { .. } => unreachable!("no phase permits it yet"),
         }
     }
 
@@ -225,6 +279,16 @@ impl BuiltInState {
             self.numbers = self.saved.numbers;
             self.values.copy_from_slice(self.saved.values.as_slice());
         }
+    }
+}
+
+/// What is told of no fraction: all of it is 0.
+pub(crate) fn no_fraction() -> Fraction
+    ensures { result ≡ no_fraction }
+{
+    Fraction {
+        counter: 0,
+        resolution: 0,
     }
 }
 

@@ -9,7 +9,9 @@ mod counter;
 mod gain;
 mod model;
 mod origin;
+mod relay;
 mod retired;
+mod sampler;
 mod saved_state;
 mod script;
 mod scripts;
@@ -17,6 +19,7 @@ mod settle;
 mod start_plan;
 #[cfg(test)]
 mod tests;
+mod timer;
 mod wrap;
 
 pub use bench::Bench;

@@ -1,7 +1,9 @@
 ghost use Rattle.std.specs.Prelude.{◌≡◌, ◌+◌, ◌<◌, ◌^◌};
 
-use crate::{BuiltInState, Numbers, alarm, counter, gain, settle};
-use fmi_calls::Call;
+use crate::built_in_state::no_fraction;
+use crate::{BuiltInState, Numbers, alarm, counter, gain, relay, sampler, settle, timer};
+use clock_fraction::Fraction;
+use fmi_calls::{Call, Interval};
 use value_types::{ByReference, Shape, Variable};
 
 /// A built-in machine.
@@ -9,7 +11,10 @@ use value_types::{ByReference, Shape, Variable};
 pub enum Model {
     Counter,
     Gain,
+    Sampler,
     Alarm,
+    Timer,
+    Relay,
     Settle,
 }
 
@@ -24,7 +29,10 @@ impl Model {
         match identifier {
             "counter" => Some(Model::Counter),
             "gain" => Some(Model::Gain),
+            "sampler" => Some(Model::Sampler),
             "alarm" => Some(Model::Alarm),
+            "timer" => Some(Model::Timer),
+            "relay" => Some(Model::Relay),
             "settle" => Some(Model::Settle),
             _ => None,
         }
@@ -37,7 +45,10 @@ impl Model {
         match self {
             Model::Counter => counter::shown(shape, state, reference),
             Model::Gain => gain::shown(shape, state, reference),
+            Model::Sampler => sampler::shown(shape, state, reference),
             Model::Alarm => alarm::shown(shape, state, reference),
+            Model::Timer => timer::shown(shape, state, reference),
+            Model::Relay => relay::shown(shape, state, reference),
             Model::Settle => settle::shown(shape, state, reference),
         }
     }
@@ -55,7 +66,7 @@ impl Model {
     {
         match self {
             Model::Alarm => alarm::early_end(shape, state, at, size),
-            Model::Counter | Model::Gain | Model::Settle => None,
+            _ => None,
         }
     }
 
@@ -70,7 +81,7 @@ impl Model {
     {
         match self {
             Model::Counter => counter::asks_to_end(variables, state, size),
-            Model::Gain | Model::Alarm | Model::Settle => false,
+            _ => false,
         }
     }
 
@@ -80,18 +91,47 @@ impl Model {
     {
         match self {
             Model::Settle => settle::asks_again(variables, state),
-            Model::Counter | Model::Gain | Model::Alarm => false,
+            _ => false,
         }
     }
 
-    /// The numbers after a call, but for the mark of Initialization Mode.
+    /// The interval of the Clock under a reference.
+    pub(crate) fn interval(self, shape: &Shape, state: &BuiltInState, reference: u32) -> Interval
+        ensures { result ≡ (behaviour_of self).interval shape.now (told state.now.numbers) (values_in shape.now.variables state.now) reference }
+    {
+        match self {
+            Model::Sampler => sampler::interval(shape, state, reference),
+            Model::Timer => timer::interval(shape, state, reference),
+            _ => Interval::NotYetKnown,
+        }
+    }
+
+    /// The shift of the Clock under a reference.
+    pub(crate) fn shift(
+        self,
+        variables: &ByReference<Variable>,
+        state: &BuiltInState,
+        reference: u32,
+    ) -> Fraction
+        ensures { result ≡ (behaviour_of self).shift variables.now (values_in variables.now state.now) reference }
+    {
+        match self {
+            Model::Sampler => sampler::shift(variables, state, reference),
+            _ => no_fraction(),
+        }
+    }
+
+    /// The numbers after a call, but for the mark of Initialization Mode and the point of time.
     pub(crate) fn changed(self, shape: &Shape, state: &BuiltInState, call: &Call) -> Numbers
         ensures { told result ≡ (behaviour_of self).changed shape.now (told state.now.numbers) (values_in shape.now.variables state.now) call.now }
     {
         match self {
             Model::Counter => counter::changed(shape, state, call),
             Model::Gain => gain::changed(shape, state, call),
+            Model::Sampler => sampler::changed(shape, state, call),
             Model::Alarm => alarm::changed(shape, state, call),
+            Model::Timer => timer::changed(shape, state, call),
+            Model::Relay => relay::changed(shape, state, call),
             Model::Settle => settle::changed(shape, state, call),
         }
     }

@@ -1,12 +1,14 @@
 ghost use Rattle.std.specs.Prelude.{◌≡◌, ◌-◌, ◌^◌, pos, negsuc, ◌+ℤ◌, ◌*ℤ◌, ◌≤ℤ◌};
 ghost use Rattle.value_types.specs.Values.{word_of};
-ghost use Rattle.bench_fmus.specs.Wrapping.{wrapped_between, wrapped, wrapped_int64};
+ghost use Rattle.bench_fmus.specs.Wrapping.{count_of, wrapped_between, wrapped, wrapped_int64};
 
 use value_types::{PortType, greatest, least, to_word};
 
 const LEAST_INT64: i128 = i64::MIN as i128;
 
 const GREATEST_INT64: i128 = i64::MAX as i128;
+
+const GREATEST_COUNT: i128 = u64::MAX as i128;
 
 fn wrap_between(least: i128, greatest: i128, value: i128) -> i128
     requires low { negsuc (2 ^ 63 - 1) ≤ℤ least }
@@ -51,4 +53,17 @@ pub(crate) fn wrapping_product(a: i128, b: i128) -> i64
     let first = i128::from(wrapping_value(a));
     let second = i128::from(wrapping_value(b));
     wrapping_value(first * second)
+}
+
+/// A number read as a count.
+pub(crate) fn count_of(value: i128) -> u64
+    ensures { result ≡ count_of value }
+{
+    if value < 0 {
+        0
+    } else if value > GREATEST_COUNT {
+        u64::MAX
+    } else {
+        value as u64
+    }
 }

@@ -1,2 +1,5 @@
 mod WellLemmas
+mod Timings
+mod Keeping
+mod AlongRun
 mod BuiltInRuns

@@ -1,5 +1,5 @@
 -- The replies of the built-in machines are good.
-use Rattle.std.proofs.Common.{◌≡◌, ℕ, ◌+◌, ◌-◌, ◌*◌, ◌/◌, ◌%◌, ◌^◌, ◌<◌, ◌≤◌, ℤ, pos, negsuc, ◌+ℤ◌, ◌-ℤ◌, ◌≤ℤ◌, ◌<ℤ◌, Bool, true, false, Option, Some, None, FitsSigned, is_some, ◌||◌, ◌==◌, if◌then◌else◌, nat_abs, nat_le, nat_lt, List, refl, ap, ◌∙◌, arith}
+use Rattle.std.proofs.Common.{◌≡◌, ℕ, ◌+◌, ◌-◌, ◌%◌, ◌^◌, ◌<◌, ◌≤◌, ℤ, pos, negsuc, ◌+ℤ◌, ◌-ℤ◌, ◌≤ℤ◌, ◌<ℤ◌, Bool, true, false, Option, Some, None, FitsSigned, is_some, ◌||◌, if◌then◌else◌, nat_abs, nat_le, nat_lt, List, refl, ap, ◌∙◌, arith}
 use Rattle.std.specs.Int.{w64, cast_signed, cast_unsigned, int_rem_euclid}
 use Rattle.std.specs.Prelude.{IfSome, int_lt, ◌&&◌}
 use Rattle.std.proofs.lemmas.Int.{ints, to_z-of_z}
@@ -7,17 +7,14 @@ use Rattle.std.proofs.lemmas.Bool.Decides.{nat_tests}
 use Rattle.value_types.specs.declared.values.PortType.{PortType}
 use Rattle.value_types.specs.declared.values.PortType.TheVariants.{Int8, UInt8, Int16, UInt16, Int32, UInt32, Int64, UInt64, Boolean, Enumeration, Clock}
 use Rattle.value_types.specs.Values.{Fits, greatest_of, is_fitting, least_of, number_of, word_of, word_value}
-use Rattle.std.specs.Option.{option_map_or}
 use Rattle.std.proofs.Math.Nat.{mod-lt}
-use Rattle.value_types.specs.declared.shape.IntervalVariability.{IntervalVariability}
-use Rattle.value_types.specs.declared.shape.IntervalVariability.TheVariants.{Constant, Fixed, Tunable, Changing, Countdown, Triggered}
 use Rattle.value_types.specs.declared.shape.Shape.{Shape}
-use Rattle.fmi_calls.specs.Worth.{has_counts, is_interval, is_step_end, is_valid}
+use Rattle.fmi_calls.specs.Worth.{is_step_end, is_valid}
 use Rattle.fmi_calls.specs.declared.call.Call.TheVariants as C
 use Rattle.bench_fmus.specs.declared.model.Model.{Model}
-use Rattle.bench_fmus.specs.declared.model.Model.TheVariants.{Counter, Gain, Alarm, Settle}
+use Rattle.bench_fmus.specs.declared.model.Model.TheVariants.{Counter, Gain, Sampler, Alarm, Timer, Relay, Settle}
 use Rattle.bench_fmus.specs.Alarm.{rung_at}
-use Rattle.bench_fmus.specs.BuiltIn.{Behaviour, interval_of, step_content, value_of}
+use Rattle.bench_fmus.specs.BuiltIn.{Behaviour, step_content, value_of}
 use Rattle.bench_fmus.specs.Models.{behaviour_of}
 use Rattle.bench_fmus.specs.Wrapping.{wrapped, wrapped_between}
 use Rattle.bench_fmus.proofs.WrapLemmas.{HasSize}
@@ -91,7 +88,7 @@ clock_right z = at (wrapped Clock z) (wrapped_fits Clock z)
     at (pos n) fits = let few : n ≤ 1 = omega (arith, ints) in grind (arith, nat_tests)
     at (negsuc n) fits = absurd (omega (arith, ints))
 
--- ---- steps, intervals and shifts
+-- ---- steps
 
 or_true : (b : Bool) → (b || true) ≡ true
 or_true true = refl
@@ -149,26 +146,8 @@ EndsRight b shape = (values : List ℤ) (at size : ℕ) → IfSome (b.early_end 
 pub ends_right : (model : Model) (shape : Shape) → EndsRight (behaviour_of model) shape
 ends_right Counter shape values at size = tt
 ends_right Gain shape values at size = tt
+ends_right Sampler shape values at size = tt
 ends_right Alarm shape values at size = rung_right shape values at size
+ends_right Timer shape values at size = tt
+ends_right Relay shape values at size = tt
 ends_right Settle shape values at size = tt
-
-second : (per_second : ℕ) → 0 < per_second → has_counts 1 (record { counter = 1; resolution = 1 }) per_second ≡ true
-second n counts =
-    let whole : (n * 1 % 1 == 0) ≡ true = grind (arith, nat_tests) in
-    let enough : nat_le 1 (n * 1 / 1) ≡ true = grind (arith, nat_tests) in
-    ap (λ (b : Bool). option_map_or (λ k. nat_le 1 k) (if b then Some (n * 1 / 1) else None) false) whole ∙ enough
-
-pub shift_right : (per_second : ℕ) → has_counts 0 (record { counter = 0; resolution = 1 }) per_second ≡ true
-shift_right n =
-    let whole : (n * 0 % 1 == 0) ≡ true = grind (arith, nat_tests) in
-    let enough : nat_le 0 (n * 0 / 1) ≡ true = grind (arith, nat_tests) in
-    ap (λ (b : Bool). option_map_or (λ k. nat_le 0 k) (if b then Some (n * 0 / 1) else None) false) whole ∙ enough
-
-pub interval_right : (variability : Option IntervalVariability) (per_second : ℕ) → 0 < per_second → is_interval variability (interval_of variability) per_second ≡ true
-interval_right (Some Countdown) n counts = refl
-interval_right (Some Constant) n counts = second n counts
-interval_right (Some Fixed) n counts = second n counts
-interval_right (Some Tunable) n counts = second n counts
-interval_right (Some Changing) n counts = second n counts
-interval_right (Some Triggered) n counts = second n counts
-interval_right None n counts = second n counts

@@ -1,8 +1,11 @@
 ghost use Rattle.built_in_laws.specs.BuiltInRuns.{BuiltInsAnswerWell, BuiltInsBehaveWell};
+ghost use Rattle.built_in_laws.specs.Clocks.{TellsOfNoClocks};
 
-/// Laws: a built-in machine answers each call of a run well, and so it behaves well along each run of a sound system,
-/// as one FMU among any others.
+/// Laws: a built-in machine answers each call of a run well but those for the intervals and shifts of Clocks; and so,
+/// where it can tell these, it behaves well along each run of a sound system, as one FMU among any others. It can where
+/// the description has no Clocks.
 pub fn built_in_runs()
     ensures answers { BuiltInsAnswerWell }
     ensures behaves { BuiltInsBehaveWell }
+    ensures unclocked { TellsOfNoClocks }
 {}

@@ -35,7 +35,7 @@ use Rattle.event_iteration.proofs.Permits.{value_type}
 use Rattle.calling_sequence.specs.Course.{binding_from, sets_of}
 use Rattle.calling_sequence.specs.Place.{IsMade, IsPlain}
 use Rattle.calling_sequence.proofs.Chains.{IsSet}
-use Rattle.calling_sequence.proofs.Phases.{set_leads}
+use Rattle.calling_sequence.proofs.Phases.{room_on, set_leads}
 
 -- ---- one Set
 
@@ -43,7 +43,7 @@ use Rattle.calling_sequence.proofs.Phases.{set_leads}
 pub may_set : (v : View) (b : BoundValue) → IsMade v → IsParameterValue v.fixed.shape b → Permitted v.fixed.shape v.phase (set_call b)
 may_set v b made h =
     let shape = v.fixed.shape in (
-      ap (λ (s : InstanceState). can_be_set s shape v.phase.marks b.reference) made.state
+      ap (λ (s : InstanceState). can_be_set s shape v.phase.marks v.phase.active b.reference) made.state
           ∙ ap (λ (o : Option Variable). option_map_or (λ (x : Variable). is_parameter x.causality) o false) h.at ∙ ap is_parameter h.parameter,
       (
         value_type b.kind (ap is_clock_type (sym h.kind) ∙ h.no_clock),
@@ -62,6 +62,7 @@ set_stays v w e h l set =
       state = ap (λ (p : Phase). p.state) phase ∙ h.state;
       unstepped = ap (λ (p : Phase). p.first_size) phase ∙ h.unstepped;
       clear = record { unset = ap (λ (p : Phase). none_marked p.marks) phase ∙ h.clear.unset; empty = ap (λ (p : Phase). p.slot.is_full) phase ∙ h.clear.empty };
+      room = room_on v w l.fixed (ap (λ (p : Phase). length p.active) phase) h.room;
     }
 
 -- ---- the Sets of one component

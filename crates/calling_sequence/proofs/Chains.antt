@@ -1,5 +1,5 @@
 -- What a stage leaves of each instance.
-use Rattle.std.proofs.Common.{◌≡◌, ℕ, ◌<◌, ◌==◌, Bool, true, false, List, [], ◌∷◌, refl, sym, ap, ◌∙◌, subst, arith, length, get_or, map}
+use Rattle.std.proofs.Common.{◌≡◌, ℕ, ◌<◌, ◌==◌, Bool, true, false, List, [], ◌∷◌, ◌⊎◌, refl, sym, ap, ◌∙◌, subst, arith, length, get_or, map}
 use Rattle.std.specs.Prelude.{All, ℤ, if◌then◌else◌}
 use Rattle.std.proofs.lemmas.List.{length-map, get_or_default}
 use Rattle.std.proofs.lemmas.List.Elements.{All-head, All-tail, All-nil, All-cons}
@@ -13,10 +13,15 @@ use Rattle.fmu_peer.specs.CloseAll.{Instance}
 use Rattle.fmu_peer.specs.Talk.{IsGood}
 use Rattle.fmu_peer.specs.View.{View, Fixed}
 use Rattle.slot_calls.specs.Log.{Sent, Has, Talks, Told, part}
-use Rattle.slot_calls.specs.Stage.{IsAnswered, IsGoodOf, shapes, to_those}
+use Rattle.slot_calls.specs.Stage.{IsAnswered, IsGoodOf, shapes, shapes_of, to_those}
 use Rattle.slot_calls.proofs.Leading.{Led, led}
-use Rattle.slot_calls.proofs.Answered.{shape_of, map_at}
+use Rattle.slot_calls.proofs.Answered.{shape_of, shapes_same, map_at}
+use Rattle.system_model.specs.declared.system.System.{System}
 use Rattle.slot_calls.proofs.Parts.{part_asked, part_unasked}
+
+-- a log leaves the shapes those of the components
+pub fits_on : (system : System) (log : List Sent) (olds mids : List Instance) → shapes olds ≡ shapes_of system → Told log olds mids → shapes mids ≡ shapes_of system
+fits_on system log olds mids fits told = shapes_same log olds mids told ∙ fits
 
 -- ---- stages
 
@@ -65,13 +70,21 @@ module _ {A : Type 0} (f : A → Instance) (test : Shape → Bool) (call : Shape
       subst (λ (i : Instance). Has i (part k log) y) (sym x_is) (subst (λ (i : Instance). Has (get_or (map f olds) k x) (part k log) i) (sym y_is) (told.each k x in_olds)) in
       by_part k x y in_shapes has (map_at shape_of (map f olds) k x x.view.fixed.shape in_olds x_is) (all k d w) (test x.view.fixed.shape) refl
 
--- ---- Gets and Sets
+-- ---- the calls of walks
 
 abbrev pub IsGet : Exchange → Type 0
 IsGet e = (kind : PortType) × (reference : ℕ) × (e.call ≡ C.Get kind reference)
 
 abbrev pub IsSet : Exchange → Type 0
 IsSet e = (kind : PortType) × (reference : ℕ) × (value : ℤ) × (e.call ≡ C.Set kind reference value)
+
+-- a Clock was set, or asked whether it is active
+abbrev pub IsOfClock : Exchange → Type 0
+IsOfClock e = (reference : ℕ) × ((e.call ≡ C.SetClock reference) ⊎ (e.call ≡ C.GetClock reference))
+
+-- a Clock was asked for its interval or its shift
+abbrev pub IsQuestion : Exchange → Type 0
+IsQuestion e = (reference : ℕ) × ((e.call ≡ C.GetInterval reference) ⊎ (e.call ≡ C.GetShift reference))
 
 -- an exchange of the sort for its shape, whose answer is good
 abbrev pub IsGoodly : (Shape → Exchange → Type 0) → List Shape → Sent → Type 0

@@ -4,6 +4,7 @@ pub mod Phases
 pub mod Bindings
 pub mod Sizes
 pub mod Stands
+pub mod ScheduleSteps
 pub mod Courses
 pub mod Initializing
 pub mod Endings

@@ -20,20 +20,21 @@ use Rattle.run_model.specs.Machines.{AreFitting}
 use Rattle.run_model.specs.Run.{value}
 use Rattle.slot_calls.specs.declared.bad_answer.BadAnswer.{BadAnswer}
 use Rattle.slot_calls.specs.Carried.{IsWide}
-use Rattle.slot_calls.specs.Log.{Sent}
-use Rattle.slot_calls.specs.Stage.{Stage, has_events, nothing, shapes, shapes_of, to_those}
+use Rattle.slot_calls.specs.Log.{Sent, Told}
+use Rattle.slot_calls.specs.Stage.{IsAnswered, Stage, has_events, nothing, shapes, shapes_of, to_those}
 use Rattle.slot_calls.proofs.Parts.{stage_those}
 use Rattle.event_iteration.specs.declared.updates.Updated.{Updated}
-use Rattle.event_iteration.specs.Explains.{Walks}
+use Rattle.event_iteration.specs.Explains.{Explains, Walks}
 use Rattle.event_iteration.specs.Initialization.{initially, no_values}
 use Rattle.event_iteration.specs.Instants.{IsRunning, in_instant}
+use Rattle.event_iteration.specs.Intervals.{intervals, timing_calls}
 use Rattle.event_iteration.specs.Settings.{before_step}
 use Rattle.event_iteration.specs.Updates.{answer_passes, any_answer, updated_by, updating}
 use Rattle.calling_sequence.specs.Place.{IsAt, IsDeparting, IsInitializing, IsSettled, IsStepping}
-use Rattle.calling_sequence.proofs.Chains.{IsSet, keep_all, stage_passing}
-use Rattle.calling_sequence.proofs.Phases.{IsLast, IsTaking, enter_event_leads, enter_event_stays, enter_step_leads, enter_step_stays, finding_keeps, running_keeps, set_keeps, taking_at, taking_keeps, update_leads, update_settles, update_stays, update_stays_settled}
+use Rattle.calling_sequence.proofs.Chains.{IsQuestion, IsSet, fits_on, keep_all, stage_passing}
+use Rattle.calling_sequence.proofs.Phases.{IsLast, IsTaking, asking_keeps, asking_runs, enter_event_leads, enter_event_stays, enter_step_leads, enter_step_stays, finding_keeps, running_keeps, set_keeps, taking_at, taking_keeps, timing_keeps, update_leads, update_settles, update_stays, update_stays_settled}
 use Rattle.calling_sequence.proofs.Sizes.{there_is}
-use Rattle.calling_sequence.proofs.Walks.{IsGetOrSet, IsOfInstant, finding_goodly, instant_goodly, setting_goodly}
+use Rattle.calling_sequence.proofs.Walks.{IsGetOrSet, IsOfInstant, asking_goodly, finding_goodly, instant_goodly, setting_goodly, timing_goodly}
 
 module _ {A : Type 0} (f : A → Instance) (system : System) (olds news : List A) (fits : shapes (map f olds) ≡ shapes_of system) (before : List (Option ℤ)) (order : List ℕ) (values : List (Option ℤ)) where
   pub still_initializing : (start stop : ℕ) → Walks system (initially system) before order values (map f olds) (map f news) (Ok tt) → All (λ (a : A). IsInitializing start stop (f a).view) olds →
@@ -41,20 +42,36 @@ module _ {A : Type 0} (f : A → Instance) (system : System) (olds news : List A
   still_initializing start stop w all =
       keep_all f (IsInitializing start stop) (λ shape. IsGetOrSet) (finding_keeps start stop) (shapes_of system) olds news w.log w.told fits (finding_goodly system before order values w.log w.says) all
 
-  pub still_running : (is_first : Bool) → Walks system (in_instant is_first) before order values (map f olds) (map f news) (Ok tt) → All (λ (a : A). IsRunning (f a).view) olds → All (λ (a : A). IsRunning (f a).view) news
-  still_running is_first w all =
-      keep_all f IsRunning IsOfInstant running_keeps (shapes_of system) olds news w.log w.told fits (instant_goodly system before order values w.log is_first w.says) all
+  pub still_running : (ticks : ℕ → Bool) (is_first : Bool) → Walks system (in_instant ticks is_first) before order values (map f olds) (map f news) (Ok tt) → All (λ (a : A). IsRunning (f a).view) olds →
+      All (λ (a : A). IsRunning (f a).view) news
+  still_running ticks is_first w all =
+      keep_all f IsRunning IsOfInstant running_keeps (shapes_of system) olds news w.log w.told fits (instant_goodly system before order values w.log ticks is_first w.says) all
 
-  pub still_taking : (is_first : Bool) (t stop step : ℕ) → Walks system (in_instant is_first) before order values (map f olds) (map f news) (Ok tt) → All (λ (a : A). IsTaking t stop step (f a).view) olds →
+  pub still_taking : (ticks : ℕ → Bool) (is_first : Bool) (t stop step : ℕ) → Walks system (in_instant ticks is_first) before order values (map f olds) (map f news) (Ok tt) → All (λ (a : A). IsTaking t stop step (f a).view) olds →
       All (λ (a : A). IsTaking t stop step (f a).view) news
-  still_taking is_first t stop step w all =
-      keep_all f (IsTaking t stop step) IsOfInstant (taking_keeps t stop step) (shapes_of system) olds news w.log w.told fits (instant_goodly system before order values w.log is_first w.says) all
+  still_taking ticks is_first t stop step w all =
+      keep_all f (IsTaking t stop step) IsOfInstant (taking_keeps t stop step) (shapes_of system) olds news w.log w.told fits (instant_goodly system before order values w.log ticks is_first w.says) all
+
+  -- the questions of an instant leave all there
+  module _ (log : List Sent) (told : Told log (map f olds) (map f news)) (asked : Explains system intervals before order values log) where
+    pub asking_running : All (λ (a : A). IsRunning (f a).view) olds → All (λ (a : A). IsRunning (f a).view) news
+    asking_running all = keep_all f IsRunning (λ shape. IsQuestion) asking_runs (shapes_of system) olds news log told fits (asking_goodly system before order values log asked) all
+
+    pub still_asking : (t stop step : ℕ) → All (λ (a : A). IsTaking t stop step (f a).view) olds → All (λ (a : A). IsTaking t stop step (f a).view) news
+    still_asking t stop step all =
+        keep_all f (IsTaking t stop step) (λ shape. IsQuestion) (asking_keeps t stop step) (shapes_of system) olds news log told fits (asking_goodly system before order values log asked) all
 
   pub departing : (now : List (Option ℤ)) (t : ℕ) (r : Result (Unit {0}) BadAnswer) → Walks system (before_step now) before order values (map f olds) (map f news) r →
       OnOk r ((stop step : ℕ) → All (λ (a : A). IsStepping t stop step (f a).view) olds → All (λ (a : A). IsDeparting t stop step (f a).view) news)
   departing now t (Err bad) w = tt
   departing now t (Ok x) w = λ stop step all.
       keep_all f (IsDeparting t stop step) (λ shape. IsSet) (set_keeps t stop step) (shapes_of system) olds news w.log w.told fits (setting_goodly system before order values w.log now w.says) (λ k d i. (all k d i).departing)
+
+-- the questions for fixed Clocks leave all in Initialization Mode
+pub still_fixing : {A : Type 0} (f : A → Instance) (system : System) (olds news : List A) → shapes (map f olds) ≡ shapes_of system → (log : List Sent) → Told log (map f olds) (map f news) →
+    IsAnswered (shapes_of system) (timing_calls system) log → (start stop : ℕ) → All (λ (a : A). IsInitializing start stop (f a).view) olds → All (λ (a : A). IsInitializing start stop (f a).view) news
+still_fixing f system olds news fits log told answered start stop all =
+    keep_all f (IsInitializing start stop) (λ shape. IsQuestion) (timing_keeps start stop) (shapes_of system) olds news log told fits (timing_goodly system log answered) all
 
 -- none of the answers passes a test
 none_passes : (test : Reply → Bool) (log : List Sent) → any_answer test log ≡ false → All (λ (s : Sent). answer_passes test s.exchange.result ≡ false) log
@@ -93,21 +110,21 @@ module _ {A : Type 0} (f : A → Instance) (olds news : List A) where
       stage_those f has_events (λ shape. C.EnterEvent) olds news s.log s.told s.says.0 (IsStepping t stop step) (IsAt t stop step)
       (λ v w e p asked l is. enter_event_leads t stop step v w e p asked l is) (enter_event_stays t stop step) all
 
--- what an instant with its Updates leaves
-module _ {A : Type 0} (f : A → Instance) (system : System) (is_first : Bool) (before : List (Option ℤ)) (order : List ℕ) (values : List (Option ℤ)) (olds mids news : List A) (fits : shapes (map f olds) ≡ shapes_of system)
-    (w : Walks system (in_instant is_first) before order values (map f olds) (map f mids) (Ok tt)) where
-  begun : (t stop step : ℕ) → All (λ (a : A). IsAt t stop step (f a).view) olds → All (λ (a : A). IsTaking t stop step (f a).view) mids
-  begun t stop step all = still_taking f system olds mids fits before order values is_first t stop step w (λ k d i. taking_at t stop step (f (get_or olds k d)).view (all k d i))
+-- what an instant with its questions and its Updates leaves
+module _ {A : Type 0} (f : A → Instance) (system : System) (ticks : ℕ → Bool) (is_first : Bool) (before : List (Option ℤ)) (order : List ℕ) (values : List (Option ℤ)) (olds mids : List A) (fits : shapes (map f olds) ≡ shapes_of system)
+    (w : Walks system (in_instant ticks is_first) before order values (map f olds) (map f mids) (Ok tt)) (ports : List ℕ) (lates : List A) (log : List Sent) (told : Told log (map f mids) (map f lates)) (asked : Explains system intervals values ports values log)
+    (news : List A) where
+  begun : (t stop step : ℕ) → All (λ (a : A). IsAt t stop step (f a).view) olds → All (λ (a : A). IsTaking t stop step (f a).view) lates
+  begun t stop step all =
+      still_asking f system mids lates (fits_on system w.log (map f olds) (map f mids) fits w.told) values ports values log told asked t stop step
+      (still_taking f system olds mids fits before order values ticks is_first t stop step w (λ k d i. taking_at t stop step (f (get_or olds k d)).view (all k d i)))
 
-  pub taken_at : (r : Result Updated BadAnswer) → Stage (updating (shapes (map f mids))) updated_by (map f mids) (map f news) r →
-      OnOk r ((t stop step : ℕ) → All (λ (a : A). IsAt t stop step (f a).view) olds → All (λ (a : A). IsAt t stop step (f a).view) news)
-  taken_at (Err bad) s = tt
-  taken_at (Ok u) s = λ t stop step all. updated_at f mids news t stop step u s (begun t stop step all)
+  module _ (u : Updated) (s : Stage (updating (shapes (map f lates))) updated_by (map f lates) (map f news) (Ok u)) where
+    pub taken_at : (t stop step : ℕ) → All (λ (a : A). IsAt t stop step (f a).view) olds → All (λ (a : A). IsAt t stop step (f a).view) news
+    taken_at t stop step all = updated_at f lates news t stop step u s (begun t stop step all)
 
-  pub taken_settled : (r : Result Updated BadAnswer) → Stage (updating (shapes (map f mids))) updated_by (map f mids) (map f news) r →
-      IfOk r (λ u. u.again ≡ false → (t stop step : ℕ) → All (λ (a : A). IsAt t stop step (f a).view) olds → All (λ (a : A). IsSettled t stop step (f a).view) news)
-  taken_settled (Err bad) s = tt
-  taken_settled (Ok u) s = λ last t stop step all. updated_settled f mids news t stop step u s last (begun t stop step all)
+    pub taken_settled : u.again ≡ false → (t stop step : ℕ) → All (λ (a : A). IsAt t stop step (f a).view) olds → All (λ (a : A). IsSettled t stop step (f a).view) news
+    taken_settled last t stop step all = updated_settled f lates news t stop step u s last (begun t stop step all)
 
 -- a value of a type has at most 128 bits
 fits_wide : (kind : PortType) (value : ℤ) → Fits kind value → FitsSigned w128 value

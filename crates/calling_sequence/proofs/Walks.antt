@@ -16,20 +16,23 @@ use Rattle.system_model.specs.declared.system.Component.{Component}
 use Rattle.system_model.specs.declared.system.Role.{Role}
 use Rattle.system_model.specs.declared.system.Role.TheVariants.{Input, Output, ClockInput, ClockOutput, TimeClock}
 use Rattle.system_model.specs.declared.system.Port.{Port}
+use Rattle.system_model.specs.declared.system.Timing.TheVariants.{Answered, Countdown, Periodic}
 use Rattle.system_model.specs.declared.system.System.{System}
 use Rattle.run_model.specs.Equations.{fed}
 use Rattle.run_model.specs.Initial.{is_read}
-use Rattle.run_model.specs.Inputs.{is_present}
+use Rattle.run_model.specs.Inputs.{is_active, is_present}
 use Rattle.run_model.specs.Run.{value}
-use Rattle.slot_calls.specs.Log.{Sent}
-use Rattle.slot_calls.specs.Stage.{shapes_of}
+use Rattle.slot_calls.specs.Log.{Asking, Sent, asking_of}
+use Rattle.slot_calls.specs.Stage.{IsAnswered, shapes_of}
+use Rattle.slot_calls.proofs.Parts.{sent_all}
 use Rattle.event_iteration.specs.Explains.{Explains, all_said, call_at, said}
 use Rattle.event_iteration.specs.Initialization.{asks_initially, initially, is_set_from_feed}
 use Rattle.event_iteration.specs.Instants.{asks_in_instant, in_instant, is_read_in_instant}
+use Rattle.event_iteration.specs.Intervals.{asks_interval, intervals, timing_calls, timing_calls_in, timing_calls_of}
 use Rattle.event_iteration.specs.Settings.{before_step, sets_to}
 use Rattle.event_iteration.specs.Turns.{IsPaired, Rules, sent_of}
 use Rattle.event_iteration.proofs.Permits.{shape_of_component}
-use Rattle.calling_sequence.proofs.Chains.{IsGet, IsGoodly, IsSet}
+use Rattle.calling_sequence.proofs.Chains.{IsGet, IsGoodly, IsOfClock, IsQuestion, IsSet}
 
 -- a call with any answer is of this sort
 abbrev IsSort : (Exchange → Type 0) → Call → Type 0
@@ -103,9 +106,9 @@ finds (ClockInput feed) ports read port values k h result = absurd (cc)
 finds ClockOutput ports read port values k h result = absurd (cc)
 finds (TimeClock timing) ports read port values k h result = absurd (cc)
 
--- a Get, or with event mode a Set
+-- a Get, with event mode a Set, or a call of a Clock
 abbrev pub IsOfInstant : Shape → Exchange → Type 0
-IsOfInstant shape e = IsGet e ⊎ (IsSet e × (shape.has_event_mode ≡ true))
+IsOfInstant shape e = IsGet e ⊎ ((IsSet e × (shape.has_event_mode ≡ true)) ⊎ IsOfClock e)
 
 both_true : (a b : Bool) → (a && b) ≡ true → a ≡ true
 both_true true b h = refl
@@ -115,21 +118,62 @@ passes : {X : Type 0} (b : Bool) (o : Option X) (x : X) → (if b then o else No
 passes true o x h = refl
 passes false o x h = absurd (cc)
 
-in_instants : (shape : Shape) (role : Role) (port : Port) (is_first : Bool) (values : List (Option ℤ)) (k : Call) → asks_in_instant role port shape.has_event_mode is_first values ≡ Some k → IsSort (IsOfInstant shape) k
-in_instants shape (Input None) port is_first values k h result = absurd (cc)
-in_instants shape (Input (Some feed)) port is_first values k h result =
+set_clock : (b : Bool) (reference : ℕ) (k : Call) → (if b then Some (C.SetClock reference) else None) ≡ Some k → IsSort IsOfClock k
+set_clock b reference k h result = (reference, inl (sym (same_Some _ _ (if_some b (Some (C.SetClock reference)) k h))))
+
+in_instants : (shape : Shape) (role : Role) (port : Port) (is_first ticks : Bool) (values : List (Option ℤ)) (k : Call) → asks_in_instant role port shape.has_event_mode is_first ticks values ≡ Some k → IsSort (IsOfInstant shape) k
+in_instants shape (Input None) port is_first ticks values k h result = absurd (cc)
+in_instants shape (Input (Some feed)) port is_first ticks values k h result =
     let asked = shape.has_event_mode && is_present port values in
     let set = option_map (λ x. C.Set port.kind port.reference x) (fed feed values) in
-    inr (set_of port (fed feed values) k (if_some asked set k h) result, both_true shape.has_event_mode (is_present port values) (passes asked set k h))
-in_instants shape Output port is_first values k h result =
+    inr (inl (set_of port (fed feed values) k (if_some asked set k h) result, both_true shape.has_event_mode (is_present port values) (passes asked set k h)))
+in_instants shape Output port is_first ticks values k h result =
     inl (port.kind, port.reference, sym (same_Some _ _ (if_some (is_read_in_instant port shape.has_event_mode is_first values) (Some (C.Get port.kind port.reference)) k h)))
-in_instants shape (ClockInput feed) port is_first values k h result = absurd (cc)
-in_instants shape ClockOutput port is_first values k h result = absurd (cc)
-in_instants shape (TimeClock timing) port is_first values k h result = absurd (cc)
+in_instants shape (ClockInput None) port is_first ticks values k h result = absurd (cc)
+in_instants shape (ClockInput (Some feed)) port is_first ticks values k h result = inr (inr (set_clock (is_active (fed feed values)) port.reference k h result))
+in_instants shape ClockOutput port is_first ticks values k h result = inr (inr (port.reference, inr (sym (same_Some _ _ h))))
+in_instants shape (TimeClock timing) port is_first ticks values k h result = inr (inr (set_clock ticks port.reference k h result))
+
+questions : (role : Role) (port : Port) (k : Call) → asks_interval role port ≡ Some k → IsSort IsQuestion k
+questions (TimeClock Countdown) port k h result = (port.reference, inl (sym (same_Some _ _ h)))
+questions (TimeClock (Periodic interval shift)) port k h result = absurd (cc)
+questions (TimeClock Answered) port k h result = absurd (cc)
+questions (Input feed) port k h result = absurd (cc)
+questions Output port k h result = absurd (cc)
+questions (ClockInput feed) port k h result = absurd (cc)
+questions ClockOutput port k h result = absurd (cc)
+
+-- ---- the questions for fixed Clocks
+
+abbrev IsQuestionAsked : Asking → Type 0
+IsQuestionAsked a = (reference : ℕ) × ((a.call ≡ C.GetInterval reference) ⊎ (a.call ≡ C.GetShift reference))
+
+timing_of : (role : Role) (port : Port) → All IsQuestionAsked (timing_calls_of role port)
+timing_of (TimeClock Answered) port =
+    All-cons IsQuestionAsked (record { component = port.component.0; call = C.GetInterval port.reference }) (record { component = port.component.0; call = C.GetShift port.reference } ∷ []) (port.reference, inl refl)
+    (All-cons IsQuestionAsked (record { component = port.component.0; call = C.GetShift port.reference }) [] (port.reference, inr refl) (All-nil IsQuestionAsked))
+timing_of (TimeClock (Periodic interval shift)) port = All-nil IsQuestionAsked
+timing_of (TimeClock Countdown) port = All-nil IsQuestionAsked
+timing_of (Input feed) port = All-nil IsQuestionAsked
+timing_of Output port = All-nil IsQuestionAsked
+timing_of (ClockInput feed) port = All-nil IsQuestionAsked
+timing_of ClockOutput port = All-nil IsQuestionAsked
+
+timing_in : (ports : List Port) → All IsQuestionAsked (timing_calls_in ports)
+timing_in [] = All-nil IsQuestionAsked
+timing_in (port ∷ ports) = All-append IsQuestionAsked (timing_calls_of port.role port) (timing_calls_in ports) (timing_of port.role port) (timing_in ports)
+
+pub timing_goodly : (system : System) (log : List Sent) → IsAnswered (shapes_of system) (timing_calls system) log → All (IsGoodly (λ shape. IsQuestion) (shapes_of system)) log
+timing_goodly system log answered =
+    let asked = sent_all IsQuestionAsked log (timing_calls system) answered.calls_are (timing_in system.ports) in
+    λ k d w. ((λ e. asked k d w), answered.good k d w)
 
 module _ (system : System) (before : List (Option ℤ)) (taken : List ℕ) (values : List (Option ℤ)) (log : List Sent) where
-  pub instant_goodly : (is_first : Bool) → Explains system (in_instant is_first) before taken values log → All (IsGoodly IsOfInstant (shapes_of system)) log
-  instant_goodly is_first told = walk_goodly system IsOfInstant (in_instant is_first) before taken values log (λ p port c k h. in_instants c.shape port.role port is_first values k h) told
+  pub instant_goodly : (ticks : ℕ → Bool) (is_first : Bool) → Explains system (in_instant ticks is_first) before taken values log → All (IsGoodly IsOfInstant (shapes_of system)) log
+  instant_goodly ticks is_first told = walk_goodly system IsOfInstant (in_instant ticks is_first) before taken values log (λ p port c k h. in_instants c.shape port.role port is_first (ticks p) values k h) told
+
+  pub asking_goodly : Explains system intervals before taken values log → All (IsGoodly (λ shape. IsQuestion) (shapes_of system)) log
+  asking_goodly told = walk_goodly system (λ shape. IsQuestion) intervals before taken values log (λ p port c k h. questions port.role port k h) told
 
   pub setting_goodly : (now : List (Option ℤ)) → Explains system (before_step now) before taken values log → All (IsGoodly (λ shape. IsSet) (shapes_of system)) log
   setting_goodly now told =

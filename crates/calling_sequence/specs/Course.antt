@@ -1,5 +1,5 @@
 -- The run of a system by its plan, for any replies (FMI 3.0, 4.2.1: the calling sequence of Co-Simulation).
-use Rattle.std.specs.Prelude.{◌≡◌, ◌⊎◌, ℕ, suc, ℤ, length, ◌+◌, ◌-◌, ◌<◌, ◌==◌, Bool, not, true, false, if◌then◌else◌, List, [], ◌∷◌, ◌++◌, map, Option, Some, None, position}
+use Rattle.std.specs.Prelude.{◌≡◌, ◌⊎◌, ℕ, suc, ℤ, length, ◌+◌, ◌-◌, ◌<◌, ◌==◌, ◌||◌, Bool, not, true, false, if◌then◌else◌, List, [], ◌∷◌, ◌++◌, map, Option, Some, None, position}
 use Rattle.value_types.specs.declared.shape.Shape.{Shape}
 use Rattle.fmi_calls.specs.declared.call.Call.TheVariants as C
 use Rattle.system_model.specs.declared.bound.Bound.{Bound}
@@ -12,10 +12,13 @@ use Rattle.system_model.specs.declared.system.System.{System}
 use Rattle.system_model.specs.Text.{Instant, header_text, instant_text, end_text}
 use Rattle.system_model.specs.Ports.{numbers}
 use Rattle.run_model.specs.Initial.{set_call}
+use Rattle.run_model.specs.Run.{Timer}
 use Rattle.run_model.specs.Steps.{IsBound}
+use Rattle.event_iteration.specs.Clocks.{AreTicks}
 use Rattle.event_iteration.specs.Explains.{Explains, ExplainsUntil}
 use Rattle.event_iteration.specs.Initialization.{initially, no_values}
 use Rattle.event_iteration.specs.Instants.{in_instant}
+use Rattle.event_iteration.specs.Intervals.{Rearms, first_told, intervals, is_some_armed, timing_calls}
 use Rattle.event_iteration.specs.Settings.{before_step, port_order}
 use Rattle.event_iteration.specs.Updates.{updated_by, updating}
 use Rattle.slot_calls.specs.declared.bad_answer.BadAnswer.{BadAnswer}
@@ -63,14 +66,14 @@ stepping system from to = to_each (λ (shape : Shape). C.DoStep from (to - from)
 abbrev pub first_unfit : System → Plan → ℕ → Option ℕ
 first_unfit system plan size = if size == plan.step then None else position (λ (c : Component). not c.shape.has_variable_steps) system.components
 
--- a step before the stop goes from one point to its bound, the next grid point or the stop, since no Clock ticks
-pub record IsBoundOf (plan : Plan) (from to : ℕ) : Type 0 where
+-- a step before the stop goes from one point to its bound, the next grid point, tick or the stop
+pub record IsBoundOf (plan : Plan) (timers : List Timer) (from to : ℕ) : Type 0 where
   pub before_stop : from < plan.stop
-  pub bound : IsBound plan [] from to
+  pub bound : IsBound plan timers from to
 
 -- and each takes a step of its size
-pub record IsStep (system : System) (plan : Plan) (from to : ℕ) : Type 0 where
-  pub bound : IsBoundOf plan from to
+pub record IsStep (system : System) (plan : Plan) (timers : List Timer) (from to : ℕ) : Type 0 where
+  pub bound : IsBoundOf plan timers from to
   pub fit : first_unfit system plan (to - from) ≡ None
 
 -- ---- parameters, and Initialization Mode
@@ -79,40 +82,53 @@ pub record IsStep (system : System) (plan : Plan) (from to : ℕ) : Type 0 where
 abbrev pub Finds : System → List (Option ℤ) → List Sent → Type 0
 Finds system values log = Explains system (initially system) (no_values system) (numbers system.initial_order) values log
 
--- the bound parameters were set, each entered Initialization Mode, its values were found, and then each left it
+-- the bound parameters were set, each entered Initialization Mode, its values were found, the fixed Clocks were asked for interval and shift, and then each left it
 pub record IsInitialized (system : System) (bound : Bound) (plan : Plan) (log : List Sent) : Type 0 where
   pub values : List (Option ℤ)
   pub set : List Sent
   pub entered : List Sent
   pub found : List Sent
+  pub asked : List Sent
   pub left : List Sent
   pub sets : IsAnswered (shapes_of system) (binding bound) set
   pub enters : IsAnswered (shapes_of system) (entering system plan) entered
   pub finds : Finds system values found
+  pub asks : IsAnswered (shapes_of system) (timing_calls system) asked
   pub leaves : IsAnswered (shapes_of system) (leaving system) left
-  pub log_is : log ≡ set ++ (entered ++ (found ++ left))
+  pub log_is : log ≡ set ++ (entered ++ (found ++ (asked ++ left)))
+
+-- the timers of the Clocks before the first instant, by what the fixed ones answered
+abbrev pub timers_at_first : {system : System} {bound : Bound} {plan : Plan} {log : List Sent} → IsInitialized system bound plan log → List Timer
+timers_at_first {system} {bound} {plan} {log} initialized = first_told plan.resolution system initialized.asked
 
 -- ---- how far a run has come
 
 abbrev pub instant_at : ℕ → ℕ → List (Option ℤ) → Instant
 instant_at t n values = record { t = t; n = n; values = values }
 
--- by this log the n-th instant at a point went from the values of the instant before to these, in the stored order, and then each FMU with event mode was asked for what follows
-pub record Takes (system : System) (n : ℕ) (before values : List (Option ℤ)) (found updates : List Sent) : Type 0 where
+-- by this log the n-th instant at a point went from the values of the instant before to these, in the stored order and with the ticks of its timers; then each countdown Clock was asked for its interval, which made the timers those behind it; and then each FMU with event mode was asked for what follows
+pub record Takes (system : System) (plan : Plan) (t n : ℕ) (timers next : List Timer) (before values : List (Option ℤ)) (found asked updates : List Sent) : Type 0 where
   pub known : length before ≡ length system.ports
   pub places : length values ≡ length system.ports
-  pub explains : Explains system (in_instant (n == 0)) before (numbers system.instant_order) values found
+  pub ticks : ℕ → Bool
+  pub are_ticks : AreTicks system plan.start timers t n ticks
+  pub explains : Explains system (in_instant ticks (n == 0)) before (numbers system.instant_order) values found
+  pub rearms : Rearms system plan.resolution t values timers next asked
   pub answered : IsAnswered (shapes_of system) (updating (shapes_of system)) updates
 
--- none of these answers asks for the end of the run, and none for another instant: the point is done
-pub record IsDone (updates : List Sent) : Type 0 where
-  pub goes_on : (updated_by updates).asked ≡ false
-  pub settled : (updated_by updates).again ≡ false
+-- another instant at the point is asked for, by an Update or by a Clock that is armed for it
+abbrev pub asks_again : ℕ → List Timer → List Sent → Bool
+asks_again t timers updates = (updated_by updates).again || is_some_armed t timers
 
--- one asks for another instant, and none for the end
-pub record IsAgain (updates : List Sent) : Type 0 where
+-- none of these answers asks for the end of the run, and nothing for another instant: the point is done
+pub record IsDone (t : ℕ) (timers : List Timer) (updates : List Sent) : Type 0 where
   pub goes_on : (updated_by updates).asked ≡ false
-  pub again : (updated_by updates).again ≡ true
+  pub settled : asks_again t timers updates ≡ false
+
+-- another instant is asked for, and not the end
+pub record IsAgain (t : ℕ) (timers : List Timer) (updates : List Sent) : Type 0 where
+  pub goes_on : (updated_by updates).asked ≡ false
+  pub again : asks_again t timers updates ≡ true
 
 -- by this log each connected input of an FMU without event mode was set to its value, where it has one, in port order
 abbrev pub Sets : System → List (Option ℤ) → List Sent → Type 0
@@ -124,32 +140,35 @@ pub record Steps (system : System) (values : List (Option ℤ)) (from to : ℕ) 
   pub set : Sets system values sets
   pub stepped : IsAnswered (shapes_of system) (stepping system from to) steps
 
--- by this log a run came to its n-th instant at the point, with the values of the instant before it, behind these instants
-pub data Came (system : System) (bound : Bound) (plan : Plan) : ℕ → ℕ → List (Option ℤ) → List Sent → List Instant → Type 0 where
-  AtStart : (t n : ℕ) (values : List (Option ℤ)) (log : List Sent) (is : List Instant) → IsInitialized system bound plan log → t ≡ plan.start → n ≡ 0 → values ≡ no_values system → is ≡ [] →
-      Came system bound plan t n values log is
-  -- an Update asked for another instant at this point, of which there may be one more
-  ByUpdate : (t n : ℕ) (values : List (Option ℤ)) (log : List Sent) (is : List Instant) (m : ℕ) (before : List (Option ℤ)) (front found updates : List Sent) (js : List Instant) →
-      Came system bound plan t m before front js → Takes system m before values found updates → IsAgain updates → (suc m == plan.limit) ≡ false → n ≡ suc m →
-      log ≡ front ++ (found ++ updates) → is ≡ js ++ instant_at t m values ∷ [] → Came system bound plan t n values log is
+-- by this log a run came to its n-th instant at the point, with the values of the instant before it and these timers, behind these instants
+pub data Came (system : System) (bound : Bound) (plan : Plan) : ℕ → ℕ → List (Option ℤ) → List Timer → List Sent → List Instant → Type 0 where
+  AtStart : (t n : ℕ) (values : List (Option ℤ)) (timers : List Timer) (log : List Sent) (is : List Instant) → (initialized : IsInitialized system bound plan log) →
+      t ≡ plan.start → n ≡ 0 → values ≡ no_values system → timers ≡ timers_at_first initialized → is ≡ [] → Came system bound plan t n values timers log is
+  -- another instant at this point was asked for, of which there may be one more
+  ByUpdate : (t n : ℕ) (values : List (Option ℤ)) (timers : List Timer) (log : List Sent) (is : List Instant) (m : ℕ) (before : List (Option ℤ)) (olds : List Timer) (front found asked updates : List Sent) (js : List Instant) →
+      Came system bound plan t m before olds front js → Takes system plan t m olds timers before values found asked updates → IsAgain t timers updates → (suc m == plan.limit) ≡ false → n ≡ suc m →
+      log ≡ front ++ (found ++ (asked ++ updates)) → is ≡ js ++ instant_at t m values ∷ [] → Came system bound plan t n values timers log is
   -- the point before was done, and each was stepped from it to this one, where those with event mode entered Event Mode
-  ByStep : (t n : ℕ) (values : List (Option ℤ)) (log : List Sent) (is : List Instant) (from m : ℕ) (before : List (Option ℤ)) (front found updates leaves sets steps arrives : List Sent) (js : List Instant) →
-      Came system bound plan from m before front js → Takes system m before values found updates → IsDone updates → IsStep system plan from t → Steps system values from t leaves sets steps →
+  ByStep : (t n : ℕ) (values : List (Option ℤ)) (timers : List Timer) (log : List Sent) (is : List Instant) (from m : ℕ) (before : List (Option ℤ)) (olds : List Timer) (front found asked updates leaves sets steps arrives : List Sent) (js : List Instant) →
+      Came system bound plan from m before olds front js → Takes system plan from m olds timers before values found asked updates → IsDone from timers updates → IsStep system plan timers from t → Steps system values from t leaves sets steps →
       any_asks_to_end steps ≡ false → IsAnswered (shapes_of system) (entering_event system) arrives → n ≡ 0 →
-      log ≡ front ++ (found ++ (updates ++ (leaves ++ (sets ++ (steps ++ arrives))))) → is ≡ js ++ instant_at from m values ∷ [] → Came system bound plan t n values log is
+      log ≡ front ++ (found ++ (asked ++ (updates ++ (leaves ++ (sets ++ (steps ++ arrives)))))) → is ≡ js ++ instant_at from m values ∷ [] → Came system bound plan t n values timers log is
 
 -- the same, and that instant was taken, which is the last of these
 pub record Seen (system : System) (bound : Bound) (plan : Plan) (t : ℕ) (log : List Sent) (is : List Instant) : Type 0 where
   pub n : ℕ
   pub before : List (Option ℤ)
   pub values : List (Option ℤ)
+  pub olds : List Timer
+  pub timers : List Timer
   pub front : List Sent
   pub found : List Sent
+  pub asked : List Sent
   pub updates : List Sent
   pub earlier : List Instant
-  pub came : Came system bound plan t n before front earlier
-  pub takes : Takes system n before values found updates
-  pub log_is : log ≡ front ++ (found ++ updates)
+  pub came : Came system bound plan t n before olds front earlier
+  pub takes : Takes system plan t n olds timers before values found asked updates
+  pub log_is : log ≡ front ++ (found ++ (asked ++ updates))
   pub is_is : is ≡ earlier ++ instant_at t n values ∷ []
 
 -- the same, and the point is done, from which a step to another is to be made: those with event mode entered Step Mode
@@ -157,8 +176,8 @@ pub record Leaves (system : System) (bound : Bound) (plan : Plan) (t to : ℕ) (
   pub front : List Sent
   pub leaves : List Sent
   pub seen : Seen system bound plan t front is
-  pub done : IsDone seen.updates
-  pub step : IsStep system plan t to
+  pub done : IsDone t seen.timers seen.updates
+  pub step : IsStep system plan seen.timers t to
   pub left : IsAnswered (shapes_of system) (entering_step system) leaves
   pub log_is : log ≡ front ++ leaves
 
@@ -183,17 +202,17 @@ pub record Arrives (system : System) (bound : Bound) (plan : Plan) (from to : �
 -- the point of the stop is done
 pub record WhereStopped (system : System) (bound : Bound) (plan : Plan) (log : List Sent) (is : List Instant) : Type 0 where
   pub seen : Seen system bound plan plan.stop log is
-  pub done : IsDone seen.updates
+  pub done : IsDone plan.stop seen.timers seen.updates
 
 -- an Update asked for the end
 pub record WhereEnded (system : System) (bound : Bound) (plan : Plan) (point : ℕ) (log : List Sent) (is : List Instant) : Type 0 where
   pub seen : Seen system bound plan point log is
   pub asks : (updated_by seen.updates).asked ≡ true
 
--- an Update asked for another instant, and the instants at this point have reached their limit
+-- another instant was asked for, and the instants at this point have reached their limit
 pub record WhereLimited (system : System) (bound : Bound) (plan : Plan) (point : ℕ) (log : List Sent) (is : List Instant) : Type 0 where
   pub seen : Seen system bound plan point log is
-  pub again : IsAgain seen.updates
+  pub again : IsAgain point seen.timers seen.updates
   pub limit : (suc seen.n == plan.limit) ≡ true
 
 -- all were stepped to the point, and one of the answers asked for the end
@@ -205,19 +224,21 @@ pub record WhereAsked (system : System) (bound : Bound) (plan : Plan) (point : �
 -- no step was made from this point, since its size is one that the component doesn't take, the least of those; no call was sent for it
 pub record WhereFixed (system : System) (bound : Bound) (plan : Plan) (component at end : ℕ) (log : List Sent) (is : List Instant) : Type 0 where
   pub seen : Seen system bound plan at log is
-  pub done : IsDone seen.updates
-  pub end_is : IsBoundOf plan at end
+  pub done : IsDone at seen.timers seen.updates
+  pub end_is : IsBoundOf plan seen.timers at end
   pub unfit : first_unfit system plan (end - at) ≡ Some component
 
--- a bad answer to the Set of a parameter, on the way into Initialization Mode, to a call that finds its values, or on the way out
+-- a bad answer to the Set of a parameter, on the way into Initialization Mode, to a call that finds its values, to a question for a fixed Clock's timing, or on the way out
 pub data StopsInitializing (system : System) (bound : Bound) (plan : Plan) (bad : BadAnswer) (log : List Sent) : Type 0 where
   Binding : StopsAt (shapes_of system) (binding bound) bad log → StopsInitializing system bound plan bad log
   Entering : (set entered : List Sent) → IsAnswered (shapes_of system) (binding bound) set → StopsAt (shapes_of system) (entering system plan) bad entered →
       log ≡ set ++ entered → StopsInitializing system bound plan bad log
   Finding : (set entered found : List Sent) (values : List (Option ℤ)) → IsAnswered (shapes_of system) (binding bound) set → IsAnswered (shapes_of system) (entering system plan) entered →
       ExplainsUntil system (initially system) (no_values system) (numbers system.initial_order) bad values found → log ≡ set ++ (entered ++ found) → StopsInitializing system bound plan bad log
-  Leaving : (set entered found left : List Sent) (values : List (Option ℤ)) → IsAnswered (shapes_of system) (binding bound) set → IsAnswered (shapes_of system) (entering system plan) entered → Finds system values found →
-      StopsAt (shapes_of system) (leaving system) bad left → log ≡ set ++ (entered ++ (found ++ left)) → StopsInitializing system bound plan bad log
+  Timing : (set entered found asked : List Sent) (values : List (Option ℤ)) → IsAnswered (shapes_of system) (binding bound) set → IsAnswered (shapes_of system) (entering system plan) entered → Finds system values found →
+      StopsAt (shapes_of system) (timing_calls system) bad asked → log ≡ set ++ (entered ++ (found ++ asked)) → StopsInitializing system bound plan bad log
+  Leaving : (set entered found asked left : List Sent) (values : List (Option ℤ)) → IsAnswered (shapes_of system) (binding bound) set → IsAnswered (shapes_of system) (entering system plan) entered → Finds system values found →
+      IsAnswered (shapes_of system) (timing_calls system) asked → StopsAt (shapes_of system) (leaving system) bad left → log ≡ set ++ (entered ++ (found ++ (asked ++ left))) → StopsInitializing system bound plan bad log
 
 pub record WhereInitializing (system : System) (bound : Bound) (plan : Plan) (bad : BadAnswer) (point : ℕ) (log : List Sent) (is : List Instant) : Type 0 where
   pub stops : StopsInitializing system bound plan bad log
@@ -229,27 +250,54 @@ pub record WhereFinding (system : System) (bound : Bound) (plan : Plan) (bad : B
   pub n : ℕ
   pub before : List (Option ℤ)
   pub values : List (Option ℤ)
+  pub timers : List Timer
+  pub ticks : ℕ → Bool
   pub front : List Sent
   pub found : List Sent
   pub known : length before ≡ length system.ports
-  pub came : Came system bound plan point n before front is
-  pub stops : ExplainsUntil system (in_instant (n == 0)) before (numbers system.instant_order) bad values found
+  pub came : Came system bound plan point n before timers front is
+  pub are_ticks : AreTicks system plan.start timers point n ticks
+  pub stops : ExplainsUntil system (in_instant ticks (n == 0)) before (numbers system.instant_order) bad values found
   pub log_is : log ≡ front ++ found
+
+-- a bad answer to a question for an interval: nor has it
+pub record WhereRearming (system : System) (bound : Bound) (plan : Plan) (bad : BadAnswer) (point : ℕ) (log : List Sent) (is : List Instant) : Type 0 where
+  pub n : ℕ
+  pub before : List (Option ℤ)
+  pub values : List (Option ℤ)
+  pub timers : List Timer
+  pub ticks : ℕ → Bool
+  pub front : List Sent
+  pub found : List Sent
+  pub asked : List Sent
+  pub known : length before ≡ length system.ports
+  pub places : length values ≡ length system.ports
+  pub came : Came system bound plan point n before timers front is
+  pub are_ticks : AreTicks system plan.start timers point n ticks
+  pub explains : Explains system (in_instant ticks (n == 0)) before (numbers system.instant_order) values found
+  pub stops : ExplainsUntil system intervals values (port_order system) bad values asked
+  pub log_is : log ≡ front ++ (found ++ asked)
 
 -- a bad answer to an Update: nor has it
 pub record WhereUpdating (system : System) (bound : Bound) (plan : Plan) (bad : BadAnswer) (point : ℕ) (log : List Sent) (is : List Instant) : Type 0 where
   pub n : ℕ
   pub before : List (Option ℤ)
   pub values : List (Option ℤ)
+  pub olds : List Timer
+  pub timers : List Timer
+  pub ticks : ℕ → Bool
   pub front : List Sent
   pub found : List Sent
+  pub asked : List Sent
   pub updates : List Sent
   pub known : length before ≡ length system.ports
   pub places : length values ≡ length system.ports
-  pub came : Came system bound plan point n before front is
-  pub explains : Explains system (in_instant (n == 0)) before (numbers system.instant_order) values found
+  pub came : Came system bound plan point n before olds front is
+  pub are_ticks : AreTicks system plan.start olds point n ticks
+  pub explains : Explains system (in_instant ticks (n == 0)) before (numbers system.instant_order) values found
+  pub rearms : Rearms system plan.resolution point values olds timers asked
   pub stops : StopsAt (shapes_of system) (updating (shapes_of system)) bad updates
-  pub log_is : log ≡ front ++ (found ++ updates)
+  pub log_is : log ≡ front ++ (found ++ (asked ++ updates))
 
 -- a bad answer on the way into Step Mode
 pub record WhereLeaving (system : System) (bound : Bound) (plan : Plan) (bad : BadAnswer) (point : ℕ) (log : List Sent) (is : List Instant) : Type 0 where
@@ -257,8 +305,8 @@ pub record WhereLeaving (system : System) (bound : Bound) (plan : Plan) (bad : B
   pub front : List Sent
   pub leaves : List Sent
   pub seen : Seen system bound plan point front is
-  pub done : IsDone seen.updates
-  pub step : IsStep system plan point to
+  pub done : IsDone point seen.timers seen.updates
+  pub step : IsStep system plan seen.timers point to
   pub stops : StopsAt (shapes_of system) (entering_step system) bad leaves
   pub log_is : log ≡ front ++ leaves
 
@@ -294,6 +342,7 @@ pub record WhereEntering (system : System) (bound : Bound) (plan : Plan) (bad : 
 pub data WhereBad (system : System) (bound : Bound) (plan : Plan) (bad : BadAnswer) (point : ℕ) (log : List Sent) (is : List Instant) : Type 0 where
   InInitialization : WhereInitializing system bound plan bad point log is → WhereBad system bound plan bad point log is
   InInstant : WhereFinding system bound plan bad point log is → WhereBad system bound plan bad point log is
+  InIntervals : WhereRearming system bound plan bad point log is → WhereBad system bound plan bad point log is
   InUpdate : WhereUpdating system bound plan bad point log is → WhereBad system bound plan bad point log is
   BeforeStep : WhereLeaving system bound plan bad point log is → WhereBad system bound plan bad point log is
   InSet : WhereSetting system bound plan bad point log is → WhereBad system bound plan bad point log is

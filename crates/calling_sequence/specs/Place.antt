@@ -1,5 +1,5 @@
 -- Where the instances of a run stand (FMI 3.0, 4.2.1).
-use Rattle.std.specs.Prelude.{◌≡◌, ℕ, ◌||◌, ◌==◌, true, false, None, IfSome, IsTrue}
+use Rattle.std.specs.Prelude.{◌≡◌, ℕ, ◌||◌, ◌==◌, true, false, None, IfSome, IsTrue, length}
 use Rattle.value_types.specs.declared.shape.Shape.{Shape}
 use Rattle.fmi_calls.specs.Next.{running_state}
 use Rattle.fmi_calls.specs.Permission.{none_marked}
@@ -14,6 +14,10 @@ IsPlain shape = shape.might_return_early ≡ false
 abbrev pub TakesSize : ℕ → ℕ → Shape → Type 0
 TakesSize step size shape = IsTrue (shape.has_variable_steps || size == step)
 
+-- for each variable it is kept whether it is an active Clock
+abbrev pub HasRoom : View → Type 0
+HasRoom v = length v.phase.active ≡ length v.fixed.shape.variables
+
 -- nothing is set, in the instant or since the last step, and no state is saved
 pub record IsClear (v : View) : Type 0 where
   pub unset : none_marked v.phase.marks ≡ true
@@ -25,6 +29,7 @@ pub record IsMade (v : View) : Type 0 where
   pub state : v.phase.state ≡ P.Instantiated
   pub unstepped : v.phase.first_size ≡ None
   pub clear : IsClear v
+  pub room : HasRoom v
 
 -- in Initialization Mode between start and stop
 pub record IsInitializing (start stop : ℕ) (v : View) : Type 0 where
@@ -34,6 +39,7 @@ pub record IsInitializing (start stop : ℕ) (v : View) : Type 0 where
   pub stop_is : v.phase.stop ≡ stop
   pub unstepped : v.phase.first_size ≡ None
   pub clear : IsClear v
+  pub room : HasRoom v
 
 -- at a point, with this stop, behind steps of sizes that the plan's step allows, with no state saved
 pub record IsThere (t stop step : ℕ) (v : View) : Type 0 where
@@ -42,6 +48,7 @@ pub record IsThere (t stop step : ℕ) (v : View) : Type 0 where
   pub stop_is : v.phase.stop ≡ stop
   pub sized : IfSome v.phase.first_size (λ size. TakesSize step size v.fixed.shape)
   pub empty : v.phase.slot.is_full ≡ false
+  pub room : HasRoom v
 
 -- there, in an instant: in Event Mode, or without event mode in Step Mode
 pub record IsInInstant (t stop step : ℕ) (v : View) : Type 0 where

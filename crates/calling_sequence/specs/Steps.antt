@@ -15,7 +15,10 @@ use Rattle.trace_text.specs.Room.{IsCount}
 use Rattle.event_iteration.specs.declared.updates.Updated.{Updated}
 use Rattle.event_iteration.specs.Explains.{Explains, ExplainsUntil, Walks}
 use Rattle.event_iteration.specs.Updates.{updated_by, updating}
+use Rattle.run_model.specs.Run.{Timer}
+use Rattle.event_iteration.specs.Clocks.{AreTicks}
 use Rattle.event_iteration.specs.Instants.{in_instant}
+use Rattle.event_iteration.specs.Intervals.{Rearms, intervals}
 use Rattle.event_iteration.specs.Settings.{before_step, port_order}
 use Rattle.slot_calls.specs.Carried.{any_asks_to_end}
 use Rattle.slot_calls.specs.declared.bad_answer.BadAnswer.{BadAnswer}
@@ -24,7 +27,7 @@ use Rattle.calling_sequence.specs.declared.ending.Break.TheVariants as B
 use Rattle.calling_sequence.specs.declared.ending.Ending.{Ending}
 use Rattle.calling_sequence.specs.declared.run_end.RunEnd.{RunEnd}
 use Rattle.calling_sequence.specs.declared.run_end.RunEnd.TheVariants as E
-use Rattle.calling_sequence.specs.Course.{AtHeader, AtInstant, Finishes, IsInitialized, StopsInitializing, Takes, ends_well, kind_of_end, pieces_of}
+use Rattle.calling_sequence.specs.Course.{AtHeader, AtInstant, Finishes, IsInitialized, StopsInitializing, Takes, asks_again, ends_well, kind_of_end, pieces_of, timers_at_first}
 use Rattle.calling_sequence.specs.Ends.{EndsBy}
 use Rattle.slot_calls.specs.Log.{Sent, Told}
 use Rattle.slot_calls.specs.Stage.{Round, Stage, StopsAt, has_events, nothing, shapes, shapes_of, to_each, to_those}
@@ -32,15 +35,15 @@ use Rattle.calling_sequence.specs.Puts.{CutsPiece, with_pieces}
 
 -- ---- parameters, and Initialization Mode
 
--- by this log the parameters were set and the values of Initialization Mode found, or a bad answer stopped it
-abbrev pub InitializesBy : System → Bound → Plan → List Sent → Result (Unit {0}) BadAnswer → Type 0
-InitializesBy system bound plan log (Ok x) = IsInitialized system bound plan log
-InitializesBy system bound plan log (Err bad) = StopsInitializing system bound plan bad log
+-- by this log the parameters were set, the values of Initialization Mode found and the fixed Clocks asked, which tells these timers; or a bad answer stopped it
+abbrev pub InitializesBy : System → Bound → Plan → List Timer → List Sent → Result (Unit {0}) BadAnswer → Type 0
+InitializesBy system bound plan timers log (Ok x) = (initialized : IsInitialized system bound plan log) × (timers ≡ timers_at_first initialized)
+InitializesBy system bound plan timers log (Err bad) = StopsInitializing system bound plan bad log
 
-pub record Initializes (system : System) (bound : Bound) (plan : Plan) (olds news : List Instance) (result : Result (Unit {0}) BadAnswer) : Type 0 where
+pub record Initializes (system : System) (bound : Bound) (plan : Plan) (timers : List Timer) (olds news : List Instance) (result : Result (Unit {0}) BadAnswer) : Type 0 where
   pub log : List Sent
   pub told : Told log olds news
-  pub says : InitializesBy system bound plan log result
+  pub says : InitializesBy system bound plan timers log result
 
 -- ---- at a point
 
@@ -55,21 +58,24 @@ SaysAt says t (Ok x) = says (Ok x)
 SaysAt says t (Err (B.Ends ending)) = (bad : BadAnswer) × (ending ≡ record { end = E.Bad bad; point = t }) × says (Err bad)
 SaysAt says t (Err B.Write) = ⊥
 
--- an instant at a point, from the values before it to its own: by this log they were found, and each FMU with event mode was asked for what follows, which is told; or a bad answer stopped it
-abbrev pub TakesBy : System → ℕ → List (Option ℤ) → List (Option ℤ) → List Sent → Result Updated BadAnswer → Type 0
-TakesBy system n before values log (Ok u) = (found updates : List Sent) × (log ≡ found ++ updates) × Takes system n before values found updates × (u ≡ updated_by updates)
-TakesBy system n before values log (Err bad) =
-    ExplainsUntil system (in_instant (n == 0)) before (numbers system.instant_order) bad values log
-    ⊎ ((found updates : List Sent) × (log ≡ found ++ updates) × Explains system (in_instant (n == 0)) before (numbers system.instant_order) values found
-    × StopsAt (shapes_of system) (updating (shapes_of system)) bad updates)
+-- an instant at a point, from the values before it to its own, and from the timers before it to those behind: by this log they were found, each countdown Clock was asked for its interval and each FMU with event mode for what follows, and it is told whether that is the end or another instant; or a bad answer stopped it
+abbrev pub TakesBy : System → Plan → ℕ → ℕ → List Timer → List Timer → List (Option ℤ) → List (Option ℤ) → List Sent → Result Updated BadAnswer → Type 0
+TakesBy system plan t n timers next before values log (Ok u) = (found asked updates : List Sent) × (log ≡ found ++ (asked ++ updates)) × Takes system plan t n timers next before values found asked updates ×
+    (u.again ≡ asks_again t next updates) × (u.asked ≡ (updated_by updates).asked)
+TakesBy system plan t n timers next before values log (Err bad) = (ticks : ℕ → Bool) × AreTicks system plan.start timers t n ticks ×
+    (ExplainsUntil system (in_instant ticks (n == 0)) before (numbers system.instant_order) bad values log
+    ⊎ (((found asked : List Sent) × (log ≡ found ++ asked) × Explains system (in_instant ticks (n == 0)) before (numbers system.instant_order) values found
+    × ExplainsUntil system intervals values (port_order system) bad values asked)
+    ⊎ ((found asked updates : List Sent) × (log ≡ found ++ (asked ++ updates)) × Explains system (in_instant ticks (n == 0)) before (numbers system.instant_order) values found
+    × Rearms system plan.resolution t values timers next asked × StopsAt (shapes_of system) (updating (shapes_of system)) bad updates)))
 
-pub record TakesInstant (system : System) (n : ℕ) (before values : List (Option ℤ)) (olds news : List Instance) (result : Result Updated BadAnswer) : Type 0 where
+pub record TakesInstant (system : System) (plan : Plan) (t n : ℕ) (timers next : List Timer) (before values : List (Option ℤ)) (olds news : List Instance) (result : Result Updated BadAnswer) : Type 0 where
   pub log : List Sent
   pub told : Told log olds news
-  pub says : TakesBy system n before values log result
+  pub says : TakesBy system plan t n timers next before values log result
 
-abbrev pub TakesAt : System → ℕ → ℕ → List (Option ℤ) → List (Option ℤ) → List Instance → List Instance → Result Updated Break → Type 0
-TakesAt system t n before values olds news result = SaysAt (λ r. TakesInstant system n before values olds news r) t result
+abbrev pub TakesAt : System → Plan → ℕ → ℕ → List Timer → List Timer → List (Option ℤ) → List (Option ℤ) → List Instance → List Instance → Result Updated Break → Type 0
+TakesAt system plan t n timers next before values olds news result = SaysAt (λ r. TakesInstant system plan t n timers next before values olds news r) t result
 
 -- those with event mode enter Step Mode, or Event Mode
 abbrev pub SwitchesAt : (Shape → Call) → ℕ → List Instance → List Instance → Result (Unit {0}) Break → Type 0

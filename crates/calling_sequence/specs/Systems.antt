@@ -2,9 +2,7 @@
 use Rattle.std.specs.Prelude.{◌≡◌, false, All}
 use Rattle.system_model.specs.declared.system.Component.{Component}
 use Rattle.system_model.specs.declared.system.System.{System}
-use Rattle.event_iteration.specs.Instants.{IsWithoutClocks}
 
--- what isn't built: Clocks and early return
+-- what isn't built: early return
 pub record IsBuilt (system : System) : Type 0 where
-  pub no_clocks : IsWithoutClocks system
   pub no_early : All (λ (c : Component). c.shape.might_return_early ≡ false) system.components

@@ -1,10 +1,13 @@
-ghost use Rattle.std.specs.Prelude.{◌≡◌, ℕ, ◌≤◌, ◌<◌, ◌^◌, ◌+◌, false, None, [], OnOk, IfOk, IfErr, IfSome, All, length, replicate, not, option_map, position};
+ghost use Rattle.std.specs.Prelude.{◌≡◌, ◌==◌, ℕ, ◌≤◌, ◌<◌, ◌^◌, ◌+◌, true, false, None, [], OnOk, IfOk, IfErr, IfNone, IfSome, All, length, replicate, not, option_map, position};
 ghost use Rattle.sim_base.specs.Sink.{with_piece};
 ghost use Rattle.run_model.specs.Machines.{AreFitting};
 ghost use Rattle.run_model.specs.Steps.{IsBound};
 ghost use Rattle.trace_text.specs.Room.{HoldsEach};
 ghost use Rattle.event_iteration.specs.Initialization.{AreReads};
-ghost use Rattle.event_iteration.specs.Instants.{BeginsInstant, IsWithoutClocks};
+ghost use Rattle.event_iteration.specs.Clocks.{IsNextFrom, StandsAt, first_table, timers_in};
+ghost use Rattle.event_iteration.specs.Instants.{BeginsInstant};
+ghost use Rattle.event_iteration.specs.Intervals.{is_some_armed};
+ghost use Rattle.tick_schedule.specs.Timetable.{TicksAt};
 ghost use Rattle.fmi_calls.specs.declared.call.Call.TheVariants as Call;
 ghost use Rattle.calling_sequence.specs.declared.ending.Break.TheVariants as Break;
 ghost use Rattle.calling_sequence.specs.Course.{first_unfit, header_of, kind_of_end};
@@ -18,35 +21,44 @@ ghost use Rattle.slot_calls.specs.Carried.{IsWide};
 ghost use Rattle.slot_calls.specs.Slots.{LiveSlot, MayBeAsked, MayTakePart, Stands, instances};
 ghost use Rattle.slot_calls.specs.Stage.{shapes, shapes_of};
 ghost use Rattle.calling_sequence.specs.Steps.{Concludes, Follows, HoldsEnds, Initializes, PutsEnd, RunsSlots, SetsAt, StepsAt, SwitchesAt, TakesAt, TakesInstant, at_point};
-ghost use Rattle.calling_sequence.specs.Plans.{IsPlan};
+ghost use Rattle.calling_sequence.specs.Plans.{CountsBy, IsPlan};
 ghost use Rattle.calling_sequence.specs.Systems.{IsBuilt};
 
 use crate::parameters::set_parameters;
 use crate::{Break, Ending, RunEnd};
-use event_iteration::{InitialReads, Updated, instant, set_inputs, update};
+use event_iteration::{
+    InitialReads, Updated, ask_intervals, fix_clocks, instant, set_inputs, update,
+};
 use fmu_peer::{Peer, Slot};
 use sim_base::{CompId, Sink};
 use slot_calls::{Ask, BadAnswer, each, round};
+use std::marker::Brand;
+use std::sync::ledger::{Blank, Ledger};
 use system_model::{Bound, Component, EndKind, Plan, System};
+use tick_schedule::{Schedule, Steps};
 use trace_text::{put_end, put_header, put_instant};
 
 /// Follows the calling sequence of Co-Simulation from instances that were made to the end of the run. It puts the header,
-/// sets the bound parameters, and leads each instance through Initialization Mode. At each point it takes one instant after
-/// the other, until no Update asks for another: it finds the values, asks each FMU with event mode for what follows, and
-/// puts the instant. Then it steps all instances to the next grid point or the stop: those with event mode go into Step Mode
-/// and behind the step into Event Mode, and the connected inputs of the others are set before it. It puts one piece for the
-/// header and one for each instant, and not the end line. Points and sizes of steps are counts over the plan's resolution.
+/// sets the bound parameters, and leads each instance through Initialization Mode, where it asks fixed Clocks for interval
+/// and shift. At each point it takes one instant after the other, until no Update asks for another and no Clock is armed for
+/// the point: it finds the values, asks each countdown Clock for its interval and each FMU with event mode for what follows,
+/// and puts the instant. Then it steps all instances to the next grid point, the next tick or the stop: those with event mode
+/// go into Step Mode and behind the step into Event Mode, and the connected inputs of the others are set before it. It puts
+/// one piece for the header and one for each instant, and not the end line. Points and sizes of steps are counts over the
+/// plan's resolution.
 ///
-/// No port is a Clock or has one, no FMU returns early, and the bound values are for parameters of the components. There is a slot for
-/// each component, in their order and of its shape; each instance was made, and is held in the state of its phase. `reads`
-/// was made for the system, `values` has a place for each port and `text` room for each text of the system, whatever stands
-/// in them, and `instants`, the number of instants that were put, begins at 0. No memory is taken.
+/// No FMU returns early, each counts by the plan's resolution, and the bound values are for parameters of the components.
+/// There is a slot for each component, in their order and of its shape; each instance was made, and is held in the state of
+/// its phase. `reads` and `schedule` were made for the system and the plan, `values` has a place for each port and `text`
+/// room for each text of the system, whatever stands in them, and `instants`, the number of instants that were put, begins
+/// at 0. No memory is taken.
 pub fn follow<L: Peer, O: Sink>(
     slots: &mut [Slot<L>],
     system: &System,
     bound: &Bound,
     plan: &Plan,
     reads: &InitialReads,
+    schedule: &mut Schedule,
     values: &mut [Option<i128>],
     text: &mut [u8],
     instants: &mut u128,
@@ -58,6 +70,8 @@ pub fn follow<L: Peer, O: Sink>(
     requires few { length slots.old ≤ 2 ^ 32 }
     requires shapes { shapes (instances L.view slots.old) ≡ shapes_of system.now }
     requires plan { IsPlan plan.now }
+    requires counts { CountsBy system.now plan.now }
+    requires clocks { schedule.old ≡ first_table system.now plan.now.start plan.now.stop }
     requires live { All (LiveSlot L.view) slots.old }
     requires made { All (Stands IsMade L.view) slots.old }
     requires reads { AreReads system.now reads.now }
@@ -68,14 +82,14 @@ pub fn follow<L: Peer, O: Sink>(
 {
     put_head(system, plan, text, out)?;
     at_point(
-        initialize(slots, system, bound, plan, reads, values),
+        initialize(slots, system, bound, plan, reads, schedule, values),
         plan.start,
     )?;
     clear(values);
     let mut t = plan.start;
     let mut n = 0;
     'instants: loop {
-        let updated = take_instant(slots, system, t, n, values)?;
+        let updated = take_instant(slots, system, plan, schedule, t, n, values)?;
         put_values(system, t, n, values, text, instants, out)?;
         if updated.asked {
             return Ok(Ending {
@@ -99,7 +113,7 @@ pub fn follow<L: Peer, O: Sink>(
                 point: t,
             });
         }
-        let to = next_bound(plan, t);
+        let to = next_bound(plan, schedule, t);
         let size = to - t;
         if let Some(component) = first_unfit(system, plan, size) {
             return Ok(Ending {
@@ -134,6 +148,7 @@ pub fn run_slots<L: Peer, O: Sink>(
     bound: &Bound,
     plan: &Plan,
     reads: &InitialReads,
+    schedule: &mut Schedule,
     values: &mut [Option<i128>],
     text: &mut [u8],
     instants: &mut u128,
@@ -145,6 +160,8 @@ pub fn run_slots<L: Peer, O: Sink>(
     requires few { length slots.old ≤ 2 ^ 32 }
     requires shapes { shapes (instances L.view slots.old) ≡ shapes_of system.now }
     requires plan { IsPlan plan.now }
+    requires counts { CountsBy system.now plan.now }
+    requires clocks { schedule.old ≡ first_table system.now plan.now.start plan.now.stop }
     requires live { All (LiveSlot L.view) slots.old }
     requires made { All (Stands IsMade L.view) slots.old }
     requires reads { AreReads system.now reads.now }
@@ -154,7 +171,7 @@ pub fn run_slots<L: Peer, O: Sink>(
     ensures { RunsSlots system.now bound.now plan.now (instances L.view slots.old) (instances L.view slots.new) (O.view out.old) (O.view out.new) instants.new result }
 {
     let outcome = follow(
-        slots, system, bound, plan, reads, values, text, instants, out,
+        slots, system, bound, plan, reads, schedule, values, text, instants, out,
     );
     conclude(outcome, text, out)
 }
@@ -211,13 +228,15 @@ fn put_head<O: Sink>(
     }
 }
 
-// Sets the bound parameters, and leads each FMU into Step Mode through Initialization Mode, where it finds the values.
+// Sets the bound parameters, and leads each FMU through Initialization Mode, where it finds the values and asks the fixed
+// Clocks.
 fn initialize<L: Peer>(
     slots: &mut [Slot<L>],
     system: &System,
     bound: &Bound,
     plan: &Plan,
     reads: &InitialReads,
+    schedule: &mut Schedule,
     values: &mut [Option<i128>],
 ) -> Result<(), BadAnswer>
     requires sound { IsSound system.now }
@@ -225,6 +244,8 @@ fn initialize<L: Peer>(
     requires few { length slots.old ≤ 2 ^ 32 }
     requires shapes { shapes (instances L.view slots.old) ≡ shapes_of system.now }
     requires plan { plan.now.start ≤ plan.now.stop }
+    requires counts { CountsBy system.now plan.now }
+    requires clocks { schedule.old ≡ first_table system.now plan.now.start plan.now.stop }
     requires live { All (LiveSlot L.view) slots.old }
     requires made { All (Stands IsMade L.view) slots.old }
     requires reads { AreReads system.now reads.now }
@@ -232,7 +253,9 @@ fn initialize<L: Peer>(
     ensures live { OnOk result (All (LiveSlot L.view) slots.new) }
     ensures at { OnOk result (All (Stands (IsAt plan.now.start plan.now.stop plan.now.step) L.view) slots.new) }
     ensures fitting { OnOk result (AreFitting system.now values.new) }
-    ensures initializes { Initializes system.now bound.now plan.now (instances L.view slots.old) (instances L.view slots.new) result }
+    ensures table { (schedule.new.start ≡ plan.now.start) × (schedule.new.stop ≡ plan.now.stop) }
+    ensures stands { OnOk result (StandsAt system.now plan.now.start true schedule.new) }
+    ensures initializes { Initializes system.now bound.now plan.now (timers_in schedule.new) (instances L.view slots.old) (instances L.view slots.new) result }
 {
     set_parameters(slots, bound)?;
     each(
@@ -243,59 +266,91 @@ fn initialize<L: Peer>(
         },
     )?;
     event_iteration::initialize(slots, system, reads, values)?;
+    fix_clocks(slots, system, schedule, plan.resolution)?;
     each(slots, Ask::ExitInitialization)?;
     Ok(())
 }
 
-// Takes the n-th instant at a point: it finds the values from those of the instant before, and asks each FMU with event mode
-// for what follows, up to the first answer that isn't good.
+// Takes the n-th instant at a point: it finds the values from those of the instant before, asks each countdown Clock for its
+// interval, and each FMU with event mode for what follows, up to the first answer that isn't good. It is told whether another
+// instant follows at the point, by an Update or by a Clock that is armed for it.
 fn take_instant<L: Peer>(
     slots: &mut [Slot<L>],
     system: &System,
+    plan: &Plan,
+    schedule: &mut Schedule,
     t: u64,
     n: u64,
     values: &mut [Option<i128>],
 ) -> Result<Updated, Break>
     requires sound { IsSound system.now }
-    requires clockless { IsWithoutClocks system.now }
+    requires counts { CountsBy system.now plan.now }
     requires few { length slots.old ≤ 2 ^ 32 }
     requires shapes { shapes (instances L.view slots.old) ≡ shapes_of system.now }
     requires live { All (LiveSlot L.view) slots.old }
     requires begins { All (Stands BeginsInstant L.view) slots.old }
     requires places { length values.old ≡ length system.now.ports }
     requires fitting { AreFitting system.now values.old }
+    requires table { (schedule.old.start ≡ plan.now.start) × (schedule.old.stop ≡ plan.now.stop) }
+    requires stands { StandsAt system.now t (n == 0) schedule.old }
     ensures live { OnOk result (All (LiveSlot L.view) slots.new) }
     ensures shapes { shapes (instances L.view slots.new) ≡ shapes_of system.now }
     ensures at { OnOk result ((stop step : ℕ) → All (Stands (IsAt t stop step) L.view) slots.old → All (Stands (IsAt t stop step) L.view) slots.new) }
     ensures settled { IfOk result (λ u. u.again ≡ false → (stop step : ℕ) → All (Stands (IsAt t stop step) L.view) slots.old → All (Stands (IsSettled t stop step) L.view) slots.new) }
     ensures fitting { AreFitting system.now values.new }
-    ensures takes { TakesAt system.now t n values.old values.new (instances L.view slots.old) (instances L.view slots.new) result }
+    ensures table { (schedule.new.start ≡ plan.now.start) × (schedule.new.stop ≡ plan.now.stop) }
+    ensures stands { OnOk result (StandsAt system.now t false schedule.new) }
+    ensures takes { TakesAt system.now plan.now t n (timers_in schedule.old) (timers_in schedule.new) values.old values.new (instances L.view slots.old) (instances L.view slots.new) result }
 {
-    at_point(find_and_update(slots, system, n, values), t)
+    at_point(
+        find_and_update(slots, system, plan, schedule, t, n, values),
+        t,
+    )
 }
 
 fn find_and_update<L: Peer>(
     slots: &mut [Slot<L>],
     system: &System,
+    plan: &Plan,
+    schedule: &mut Schedule,
+    t: u64,
     n: u64,
     values: &mut [Option<i128>],
 ) -> Result<Updated, BadAnswer>
     requires sound { IsSound system.now }
-    requires clockless { IsWithoutClocks system.now }
+    requires counts { CountsBy system.now plan.now }
     requires few { length slots.old ≤ 2 ^ 32 }
     requires shapes { shapes (instances L.view slots.old) ≡ shapes_of system.now }
     requires live { All (LiveSlot L.view) slots.old }
     requires begins { All (Stands BeginsInstant L.view) slots.old }
     requires places { length values.old ≡ length system.now.ports }
     requires fitting { AreFitting system.now values.old }
+    requires table { (schedule.old.start ≡ plan.now.start) × (schedule.old.stop ≡ plan.now.stop) }
+    requires stands { StandsAt system.now t (n == 0) schedule.old }
     ensures live { OnOk result (All (LiveSlot L.view) slots.new) }
-    ensures at { OnOk result ((t stop step : ℕ) → All (Stands (IsAt t stop step) L.view) slots.old → All (Stands (IsAt t stop step) L.view) slots.new) }
-    ensures settled { IfOk result (λ u. u.again ≡ false → (t stop step : ℕ) → All (Stands (IsAt t stop step) L.view) slots.old → All (Stands (IsSettled t stop step) L.view) slots.new) }
+    ensures at { OnOk result ((stop step : ℕ) → All (Stands (IsAt t stop step) L.view) slots.old → All (Stands (IsAt t stop step) L.view) slots.new) }
+    ensures settled { IfOk result (λ u. u.again ≡ false → (stop step : ℕ) → All (Stands (IsAt t stop step) L.view) slots.old → All (Stands (IsSettled t stop step) L.view) slots.new) }
     ensures fitting { AreFitting system.now values.new }
-    ensures takes { TakesInstant system.now n values.old values.new (instances L.view slots.old) (instances L.view slots.new) result }
+    ensures table { (schedule.new.start ≡ plan.now.start) × (schedule.new.stop ≡ plan.now.stop) }
+    ensures stands { OnOk result (StandsAt system.now t false schedule.new) }
+    ensures takes { TakesInstant system.now plan.now t n (timers_in schedule.old) (timers_in schedule.new) values.old values.new (instances L.view slots.old) (instances L.view slots.new) result }
 {
-    instant(slots, system, n == 0, values)?;
-    update(slots, system)
+    let is_first = n == 0;
+    instant(slots, system, schedule, t, is_first, values)?;
+    let is_armed = ask_intervals(
+        slots,
+        system,
+        schedule,
+        plan.resolution,
+        is_first,
+        values,
+        t,
+    )?;
+    let updated = update(slots, system)?;
+    Ok(Updated {
+        again: updated.again || is_armed,
+        asked: updated.asked,
+    })
 }
 
 // Leads each FMU with event mode into Step Mode at a point that is done, up to the first answer that isn't good.
@@ -404,8 +459,25 @@ fn at_point<T>(answer: Result<T, BadAnswer>, point: u64) -> Result<T, Break>
     }
 }
 
-// The bound of the step from a point before the stop, in counts: the next grid point or the stop.
-fn next_bound(plan: &Plan, t: u64) -> u64
+// The bound of the step from a point before the stop that is done, in counts: the next grid point, the next tick or the stop.
+fn next_bound(plan: &Plan, schedule: &Schedule, t: u64) -> u64
+    requires plan { IsPlan plan.now }
+    requires begun { plan.now.start ≤ t }
+    requires before { t < plan.now.stop }
+    requires table { (schedule.now.start ≡ plan.now.start) × (schedule.now.stop ≡ plan.now.stop) }
+    requires next { All (IsNextFrom schedule.now.start t false) schedule.now.clocks }
+    requires done { is_some_armed t (timers_in schedule.now) ≡ false }
+    ensures { IsBound plan.now (timers_in schedule.now) t result }
+{
+    let mark = next_mark(plan, t);
+    match next_tick::<Brand>(schedule, t, Blank::new(1)) {
+        Some(tick) => mark.min(tick),
+        None => mark,
+    }
+}
+
+// The bound where no Clock ticks: the next grid point or the stop.
+fn next_mark(plan: &Plan, t: u64) -> u64
     requires plan { IsPlan plan.now }
     requires begun { plan.now.start ≤ t }
     requires before { t < plan.now.stop }
@@ -414,6 +486,20 @@ fn next_bound(plan: &Plan, t: u64) -> u64
     let steps = (t - plan.start) / plan.step + 1;
     let grid = plan.start + steps * plan.step;
     plan.stop.min(grid)
+}
+
+// The next tick behind a point, up to the stop.
+fn next_tick<K: Ledger>(schedule: &Schedule, t: u64, blank: Blank) -> Option<u64>
+    requires name { blank.name ≡ K.name }
+    requires parts { blank.parts ≡ K.parts }
+    requires some { 0 < blank.parts }
+    requires none_up_to { (clock point : ℕ) → TicksAt schedule.now clock point → t < point }
+    ensures due { IfSome result (λ point. (clock : ℕ) × TicksAt schedule.now clock point) }
+    ensures after { IfSome result (λ point. t < point) }
+    ensures least { IfSome result (λ point. (clock other : ℕ) → TicksAt schedule.now clock other → point ≤ other) }
+    ensures none { IfNone result ((clock point : ℕ) → TicksAt schedule.now clock point → ⊥) }
+{
+    schedule.next_after(t, &mut Steps::<K>::new(blank))
 }
 
 // The least component that takes no step of this size.

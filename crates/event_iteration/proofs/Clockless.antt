@@ -9,10 +9,9 @@ use Rattle.system_model.specs.declared.system.System.{System}
 use Rattle.system_model.specs.Needs.{is_unclocked}
 use Rattle.system_model.specs.Ports.{is_clock_role, numbers}
 use Rattle.system_model.specs.Sound.{IsSound}
-use Rattle.system_model.proofs.Lists.{all_at, at_contains, true_false}
+use Rattle.system_model.proofs.Lists.{at_contains, true_false}
 use Rattle.system_model.proofs.SoundLemmas.{clock_at, events_of, place_of}
 use Rattle.run_model.specs.Inputs.{is_present}
-use Rattle.event_iteration.specs.Instants.{IsWithoutClocks}
 
 -- a port without Clocks is none, and has none
 pub unclocked_parts : (port : Port) → is_unclocked port ≡ true → (is_clock_role port.role ≡ false) × ((length port.clocks == 0) ≡ true)
@@ -30,24 +29,6 @@ present_unclocked port values h = always (is_clock_role port.role) (length port.
     always true b c e = refl
     always false true c e = refl
     always false false c e = absurd (true_false (sym e))
-
--- ---- a system whose ports are all without Clocks
-
-module _ (system : System) (plain : IsWithoutClocks system) where
-  pub unclocked : (p : ℕ) (port : Port) → slice_get system.ports p ≡ Some port → is_unclocked port ≡ true
-  unclocked p port is = all_at (λ (x : Port). is_unclocked x ≡ true) system.ports p port plain is
-
-  -- no port is a Clock
-  pub no_clock : (p : ℕ) (port : Port) → slice_get system.ports p ≡ Some port → is_clock_role port.role ≡ false
-  no_clock p port is = (unclocked_parts port (unclocked p port is)).0
-
-  -- nor has one
-  pub clockless : (p : ℕ) (port : Port) → slice_get system.ports p ≡ Some port → (length port.clocks == 0) ≡ true
-  clockless p port is = (unclocked_parts port (unclocked p port is)).1
-
-  -- so each is present
-  pub present : (p : ℕ) (port : Port) (values : List (Option ℤ)) → slice_get system.ports p ≡ Some port → is_present port values ≡ true
-  present p port values is = present_unclocked port values (unclocked p port is)
 
 -- ---- an FMU without event mode
 

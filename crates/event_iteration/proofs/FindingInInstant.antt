@@ -1,5 +1,5 @@
 -- Over machines the walk through an instant finds its solution, and writes it where there is event mode.
-use Rattle.std.proofs.Common.{◌≡◌, ℕ, ◌<◌, ℤ, Bool, true, false, List, [], ◌∷◌, ◌++◌, Option, Some, None, Contains, refl, sym, ap, ap₂, ◌∙◌, subst, arith, append-nil, length, get_or}
+use Rattle.std.proofs.Common.{◌≡◌, inl, inr, ℕ, ◌<◌, ℤ, pos, Bool, true, false, List, [], ◌∷◌, ◌++◌, Option, Some, None, Contains, refl, sym, ap, ap₂, ◌∙◌, subst, arith, append-nil, length, get_or}
 use Rattle.std.specs.Prelude.{All, ◌==◌, if◌then◌else◌, option_map, slice_get}
 use Rattle.std.proofs.lemmas.List.{ext_get_or}
 use Rattle.std.proofs.lemmas.List.Elements.{All-nil, Contains-append_left, Contains-push}
@@ -9,10 +9,11 @@ use Rattle.fmi_calls.specs.declared.call.Call.TheVariants as C
 use Rattle.fmi_calls.specs.declared.call.Reply.{Reply}
 use Rattle.fmu_peer.specs.declared.peer.Exchange.{Exchange}
 use Rattle.fmu_peer.specs.CloseAll.{Instance}
-use Rattle.fmu_peer.specs.Machine.{Machine, MachineState}
+use Rattle.fmu_peer.specs.Machine.{Machine, MachineState, output_of}
 use Rattle.system_model.specs.declared.system.Component.{Component}
 use Rattle.system_model.specs.declared.system.Feed.{Feed}
 use Rattle.system_model.specs.declared.system.Role.{Role}
+use Rattle.system_model.specs.declared.system.Timing.{Timing}
 use Rattle.system_model.specs.declared.system.Role.TheVariants.{Input, Output, ClockInput, ClockOutput, TimeClock}
 use Rattle.system_model.specs.declared.system.Port.{Port}
 use Rattle.system_model.specs.declared.system.System.{System}
@@ -22,11 +23,12 @@ use Rattle.system_model.specs.Sound.{IsSound}
 use Rattle.system_model.proofs.Lists.{true_false}
 use Rattle.run_model.specs.Run.{IsFmu, Run, Situation, at_fmu, value}
 use Rattle.run_model.specs.AfterInstant.{written}
-use Rattle.run_model.specs.Equations.{Solves, SolvesAt, fed, output_value, shown, value_in}
-use Rattle.run_model.specs.Inputs.{is_present, state_with, state_written, written_at_port, written_by}
+use Rattle.run_model.specs.Equations.{IsTickValue, Solves, SolvesAt, fed, output_value, shown, ticking, timer_of, value_in}
+use Rattle.run_model.specs.Inputs.{is_active, is_present, state_with, state_written, written_at_port, written_by}
 use Rattle.run_model.specs.Machines.{AreMachines, IsSituation}
 use Rattle.run_model.specs.Walk.{only_at, write_if}
-use Rattle.run_model.proofs.Alike.{written_at-is}
+use Rattle.run_model.specs.Timers.{IsDue}
+use Rattle.run_model.proofs.Alike.{present_alike, written_at-is}
 use Rattle.run_model.proofs.Decided.{decided}
 use Rattle.run_model.proofs.Midst.{all_at_last, keeps_beside, looks_in_midst, nothing_at_first, writes_at_port}
 use Rattle.run_model.proofs.Solvable.{solvable}
@@ -37,17 +39,21 @@ use Rattle.slot_calls.specs.Replies.{AreReplies, RepliesBy, state_by, states_by}
 use Rattle.slot_calls.specs.Stage.{IsGoodOf, shapes_of}
 use Rattle.slot_calls.proofs.Logs.{part_append}
 use Rattle.slot_calls.proofs.Replying.{replies_back, replies_front, state_by_append}
-use Rattle.event_iteration.specs.Instants.{IsWithoutClocks, SolvesInInstant, asks_in_instant, in_instant, seen_or, takes_in_instant}
+use Rattle.tick_schedule.specs.Timetable.{Timetable}
+use Rattle.event_iteration.specs.Clocks.{AreTicks, StandsAt, is_due_at, timers_in}
+use Rattle.event_iteration.specs.Explains.{Explains}
+use Rattle.event_iteration.specs.Instants.{SolvesInInstant, asks_in_instant, in_instant, seen_or, takes_in_instant, tick_value}
+use Rattle.event_iteration.specs.Intervals.{TellsTicks, is_time_clock}
 use Rattle.event_iteration.specs.Machines.{AreAt}
 use Rattle.event_iteration.specs.Turns.{IsPaired, Turn, Walked}
-use Rattle.event_iteration.proofs.Clockless.{no_clock, present}
+use Rattle.event_iteration.proofs.ClockTicks.{are_ticks}
 use Rattle.event_iteration.proofs.Fmus.{after_if, are_replies, at_fmu-is, each_same, exchanges_of, got, none_reply, part_other_of, part_own_of, state_by_one, told_at}
-use Rattle.event_iteration.proofs.InInstant.{ReadsOrSets, reads_or_sets}
+use Rattle.event_iteration.proofs.InInstant.{ReadsOrSets, clock_events, reads_or_sets}
 use Rattle.event_iteration.proofs.Parts.{good_in_part}
 use Rattle.event_iteration.proofs.Turning.{IsCallOf, all_good, calls_more}
 use Rattle.event_iteration.proofs.Walking.{Here, along, by_number, next_beside, next_here}
 
-module _ (r : Run) (sound : IsSound r.system) (plain : IsWithoutClocks r.system) (machines : AreMachines r) (s : Situation) (situation : IsSituation r s) where
+module _ (r : Run) (sound : IsSound r.system) (machines : AreMachines r) (s : Situation) (situation : IsSituation r s) (ticks : ℕ → Bool) (are_ticks : AreTicks r.system r.plan.start s.timers s.t s.n ticks) where
   record There (i : ℕ) (c : Component) : Type 0 where
     machine : Machine
     state : MachineState
@@ -77,7 +83,7 @@ module _ (r : Run) (sound : IsSound r.system) (plain : IsWithoutClocks r.system)
       pub states : (i : ℕ) (c : Component) (m : Machine) (z : MachineState) → IsFmu r s.states i c m z → state_by m z (part i log) ≡ midst taken c.shape.has_event_mode i m z
 
     module _ (pre : List ℕ) (p : ℕ) (reply : Option Reply) (values next : List (Option ℤ)) (front sent : List Sent) (here : Here (Needs r.system) pre p) (len : length values ≡ length r.system.ports)
-        (was : Midst pre values front) (turn : Turn r.system (in_instant (s.n == 0)) p reply values next sent) (replies : AreReplies r s.states (front ++ sent)) where
+        (was : Midst pre values front) (turn : Turn r.system (in_instant ticks (s.n == 0)) p reply values next sent) (replies : AreReplies r s.states (front ++ sent)) where
       abbrev port : Port
       port = turn.port
 
@@ -88,7 +94,7 @@ module _ (r : Run) (sound : IsSound r.system) (plain : IsWithoutClocks r.system)
       first = s.n == 0
 
       abbrev call : Option Call
-      call = asks_in_instant port.role port events first values
+      call = asks_in_instant port.role port events first (ticks p) values
 
       abbrev get : Call
       get = C.Get port.kind port.reference
@@ -97,80 +103,115 @@ module _ (r : Run) (sound : IsSound r.system) (plain : IsWithoutClocks r.system)
       mine = there port.component.0 turn.component turn.of
 
       -- the source of an input has its value
-      fed_same : (feed : Feed) → port.role ≡ Input (Some feed) → fed feed values ≡ fed feed W
-      fed_same feed same = was.taken_values feed.from.0 (here.needed feed.from.0 (ByFeed port turn.is (ap source_of same)))
+      fed_same : (feed : Feed) → source_of port.role ≡ Some feed.from.0 → fed feed values ≡ fed feed W
+      fed_same feed from = was.taken_values feed.from.0 (here.needed feed.from.0 (ByFeed port turn.is from))
+
+      -- it is present by the solution where it is by the values so far
+      present_same : is_present port values ≡ is_present port W
+      present_same = present_alike r.system p port values W turn.is (λ q n. was.taken_values q (here.needed q n))
+
+      last_same : value values p ≡ value s.before p
+      last_same = was.left p here.fresh
 
       equation : (role : Role) → port.role ≡ role → SolvesAt role r s W p port (value s.before p) (value W p)
       equation role same = subst (λ x. SolvesAt x r s W p port (value s.before p) (value W p)) same (solved.equations p port turn.is)
 
-      never : {X : Type 0} → is_clock_role port.role ≡ true → X
-      never clock = absurd (true_false (sym clock ∙ no_clock r.system plain p port turn.is))
+      -- a Clock's FMU has event mode
+      events_of : is_clock_role port.role ≡ true → events ≡ true
+      events_of clock = clock_events r.system sound p port turn.component turn.is turn.of clock
 
       state_mid : state_by mine.machine mine.state (part port.component.0 front) ≡ midst pre events port.component.0 mine.machine mine.state
       state_mid = was.states port.component.0 turn.component mine.machine mine.state mine.fmu
 
-      -- a reply to a Get is the machine's, in the midst
-      replied : (x : Reply) → reply ≡ Some x → call ≡ Some get → x ≡ mine.machine.look (midst pre events port.component.0 mine.machine mine.state) get
-      replied x is asks =
+      -- a reply is the machine's, in the midst
+      replied : (k : Call) (x : Reply) → reply ≡ Some x → call ≡ Some k → x ≡ mine.machine.look (midst pre events port.component.0 mine.machine mine.state) k
+      replied k x is asks =
           let part_is : part port.component.0 (front ++ sent) ≡ part port.component.0 front ++ exchanges_of call reply =
           part_append port.component.0 front sent ∙ ap (λ es. part port.component.0 front ++ part port.component.0 es) turn.sent_is ∙ ap (λ es. part port.component.0 front ++ es) (part_own_of port.component.0 call reply) in
           let own : RepliesBy mine.machine mine.state (part port.component.0 front ++ exchanges_of call reply) = subst (RepliesBy mine.machine mine.state) part_is (replies port.component.0 turn.component mine.machine mine.state mine.fmu) in
           let behind = replies_back mine.machine (get_or (shapes_of r.system) port.component.0 turn.component.shape) mine.state (part port.component.0 front) (exchanges_of call reply)
           (good_in_part (shapes_of r.system) front (all_good ReadsOrSets r.system pre front was.calls) port.component.0 turn.component.shape) own in
-          let one : RepliesBy mine.machine (midst pre events port.component.0 mine.machine mine.state) (exchanges_of (Some get) (Some x)) =
-          subst (λ z. RepliesBy mine.machine z (exchanges_of (Some get) (Some x))) state_mid
+          let one : RepliesBy mine.machine (midst pre events port.component.0 mine.machine mine.state) (exchanges_of (Some k) (Some x)) =
+          subst (λ z. RepliesBy mine.machine z (exchanges_of (Some k) (Some x))) state_mid
           (subst (λ (es : List Exchange). RepliesBy mine.machine (state_by mine.machine mine.state (part port.component.0 front)) es) (ap₂ exchanges_of asks is) behind) in
           one.0
 
+      -- what is seen without a call, and with one
+      seen_last : (o : Option Reply) → reply ≡ o → call ≡ None → seen_or port (value values p) reply ≡ value s.before p
+      seen_last o is asks =
+          ap (seen_or port (value values p)) (none_reply turn.component.shape reply (subst (λ k. IsPaired turn.component.shape k reply) asks turn.paired)) ∙ last_same
+
+      seen_by : (k : Call) → call ≡ Some k → (state : MachineState) → mine.machine.look (midst pre events port.component.0 mine.machine mine.state) k ≡ mine.machine.look state k →
+          seen_or port (value values p) reply ≡ value_in port.kind (mine.machine.look state k)
+      seen_by k asks state looks = by reply refl (subst (λ a. IsPaired turn.component.shape a reply) asks turn.paired)
+        where
+          by : (o : Option Reply) → reply ≡ o → IsPaired turn.component.shape (Some k) o → seen_or port (value values p) o ≡ value_in port.kind (mine.machine.look state k)
+          by None is paired = absurd paired
+          by (Some x) is paired = ap (value_in port.kind) (replied k x is asks ∙ looks)
+
+      -- with event mode an output shows in the midst what it shows with all values written
+      looks_same : is_output_role port.role ≡ true → events ≡ true → (k : Call) → output_of k ≡ Some port.reference →
+          mine.machine.look (midst pre events port.component.0 mine.machine mine.state) k ≡ mine.machine.look (state_with r.system.ports W port.component.0 mine.machine mine.state) k
+      looks_same out e k at =
+          ap (λ x. mine.machine.look (midst pre x port.component.0 mine.machine mine.state) k) e
+          ∙ looks_in_midst r sound machines s.states situation.shapes p port turn.is out W pre here.needed turn.component mine.machine mine.state mine.fmu e k at
+
       -- an output that is read shows what it shows with all values written
       module _ (same : port.role ≡ Output) where
-        abbrev asks_get : Bool → Option Call
-        asks_get b = if (if b then is_present port values else first) then Some get else None
+        abbrev asks_get : Bool → Bool → Option Call
+        asks_get b present = if (if b then present else first) then Some get else None
 
-        call_is : (b : Bool) → events ≡ b → call ≡ asks_get b
-        call_is b e = ap (λ x. asks_in_instant x port events first values) same ∙ ap asks_get e
+        call_is : (b present : Bool) → events ≡ b → is_present port W ≡ present → call ≡ asks_get b present
+        call_is b present e there =
+            ap (λ x. asks_in_instant x port events first (ticks p) values) same ∙ ap (λ x. asks_get x (is_present port values)) e ∙ ap (asks_get b) (present_same ∙ there)
 
-        seen_last : (o : Option Reply) → reply ≡ o → call ≡ None → seen_or port (value values p) reply ≡ value s.before p
-        seen_last o is asks =
-            ap (seen_or port (value values p)) (none_reply turn.component.shape reply (subst (λ k. IsPaired turn.component.shape k reply) asks turn.paired)) ∙ was.left p here.fresh
-
-        seen_get : call ≡ Some get → (state : MachineState) → mine.machine.look (midst pre events port.component.0 mine.machine mine.state) get ≡ mine.machine.look state get → seen_or port (value values p) reply ≡ shown mine.machine state port
-        seen_get asks state looks = by reply refl (subst (λ k. IsPaired turn.component.shape k reply) asks turn.paired)
-          where
-            by : (o : Option Reply) → reply ≡ o → IsPaired turn.component.shape (Some get) o → seen_or port (value values p) o ≡ shown mine.machine state port
-            by None is paired = absurd paired
-            by (Some x) is paired = ap (value_in port.kind) (replied x is asks ∙ looks)
-
-        abbrev output_by : Bool → Bool → Option ℤ
-        output_by b n =
-            if b then (if is_present port W then shown mine.machine (state_with r.system.ports W port.component.0 mine.machine mine.state) port else value s.before p)
+        abbrev output_by : Bool → Bool → Bool → Option ℤ
+        output_by b present n =
+            if b then (if present then shown mine.machine (state_with r.system.ports W port.component.0 mine.machine mine.state) port else value s.before p)
             else (if n then shown mine.machine mine.state port else value s.before p)
 
-        seen_by : (b : Bool) → events ≡ b → (n : Bool) → first ≡ n → seen_or port (value values p) reply ≡ output_by b n
-        seen_by true e n f =
-            seen_get (call_is true e ∙ ap (λ x. if x then Some get else None) (present r.system plain p port values turn.is)) (state_with r.system.ports W port.component.0 mine.machine mine.state)
-            (ap (λ x. mine.machine.look (midst pre x port.component.0 mine.machine mine.state) get) e
-            ∙ looks_in_midst r sound machines s.states situation.shapes p port turn.is (ap is_output_role same) W pre here.needed turn.component mine.machine mine.state mine.fmu e get refl)
-            ∙ ap (λ x. if x then shown mine.machine (state_with r.system.ports W port.component.0 mine.machine mine.state) port else value s.before p) (sym (present r.system plain p port W turn.is))
-        seen_by false e true f =
-            seen_get (call_is false e ∙ ap (λ x. if x then Some get else None) f) mine.state (ap (λ x. mine.machine.look (midst pre x port.component.0 mine.machine mine.state) get) e)
-        seen_by false e false f = seen_last reply refl (call_is false e ∙ ap (λ x. if x then Some get else None) f)
+        seen_output : (b : Bool) → events ≡ b → (present : Bool) → is_present port W ≡ present → (n : Bool) → first ≡ n → seen_or port (value values p) reply ≡ output_by b present n
+        seen_output true e true there n f =
+            seen_by get (call_is true true e there) (state_with r.system.ports W port.component.0 mine.machine mine.state) (looks_same (ap is_output_role same) e get refl)
+        seen_output true e false there n f = seen_last reply refl (call_is true false e there)
+        seen_output false e present there true f =
+            seen_by get (call_is false present e there ∙ ap (λ x. if x then Some get else None) f) mine.state (ap (λ x. mine.machine.look (midst pre x port.component.0 mine.machine mine.state) get) e)
+        seen_output false e present there false f = seen_last reply refl (call_is false present e there ∙ ap (λ x. if x then Some get else None) f)
 
         output_here : seen_or port (value values p) reply ≡ at_fmu r s.states port.component.0 (output_value r s W (value s.before p) port)
         output_here =
-            seen_by events refl first refl
+            seen_output events refl (is_present port W) refl first refl
             ∙ sym (at_fmu-is r s.states port.component.0 turn.component mine.machine mine.state (output_value r s W (value s.before p) port) mine.fmu)
 
+      -- an output Clock is active as it is with all values written
+      clock_here : port.role ≡ ClockOutput → seen_or port (value values p) reply ≡ at_fmu r s.states port.component.0 (λ c m state. ticking m (state_with r.system.ports W port.component.0 m state) port)
+      clock_here same =
+          seen_by (C.GetClock port.reference) (ap (λ x. asks_in_instant x port events first (ticks p) values) same) (state_with r.system.ports W port.component.0 mine.machine mine.state)
+          (looks_same (ap is_output_role same) (events_of (ap is_clock_role same)) (C.GetClock port.reference) refl)
+          ∙ sym (at_fmu-is r s.states port.component.0 turn.component mine.machine mine.state (λ c m state. ticking m (state_with r.system.ports W port.component.0 m state) port) mine.fmu)
+
+      -- a time-based Clock ticks as its timer does
+      time_here : (timing : Timing) → port.role ≡ TimeClock timing → Some (tick_value (ticks p)) ≡ value W p
+      time_here timing same = by (ticks p) refl (equation (TimeClock timing) same)
+        where
+          by : (b : Bool) → ticks p ≡ b → IsTickValue (IsDue r.plan.start (timer_of s.timers p) s.t s.n) (value W p) → Some (tick_value b) ≡ value W p
+          by true e (inl due) = sym due.1
+          by true e (inr not_due) = absurd (not_due.0 ((are_ticks p port timing turn.is same).0 e))
+          by false e (inl due) = absurd (true_false (sym ((are_ticks p port timing turn.is same).1 due.0) ∙ e))
+          by false e (inr not_due) = sym not_due.1
+
       -- the value that the port takes is the solution's
-      value_here : (role : Role) → port.role ≡ role → takes_in_instant role port values (value values p) reply ≡ value W p
+      value_here : (role : Role) → port.role ≡ role → takes_in_instant role port (ticks p) values (value values p) reply ≡ value W p
       value_here (Input None) same = sym (equation (Input None) same)
       value_here (Input (Some feed)) same =
-          ap (λ b. if b then fed feed values else value values p) (present r.system plain p port values turn.is) ∙ fed_same feed same
-          ∙ sym (equation (Input (Some feed)) same ∙ ap (λ b. if b then fed feed W else value s.before p) (present r.system plain p port W turn.is))
+          ap (λ b. if b then fed feed values else value values p) present_same
+          ∙ ap₂ (λ (x y : Option ℤ). if is_present port W then x else y) (fed_same feed (ap source_of same)) last_same
+          ∙ sym (equation (Input (Some feed)) same)
       value_here Output same = output_here same ∙ sym (equation Output same)
-      value_here (ClockInput feed) same = never (ap is_clock_role same)
-      value_here ClockOutput same = never (ap is_clock_role same)
-      value_here (TimeClock timing) same = never (ap is_clock_role same)
+      value_here (ClockInput None) same = sym (equation (ClockInput None) same)
+      value_here (ClockInput (Some feed)) same = fed_same feed (ap source_of same) ∙ sym (equation (ClockInput (Some feed)) same)
+      value_here ClockOutput same = clock_here same ∙ sym (equation ClockOutput same)
+      value_here (TimeClock timing) same = time_here timing same
 
       next_is_W : value next p ≡ value W p
       next_is_W = next_here turn len ∙ value_here port.role refl
@@ -180,38 +221,63 @@ module _ (r : Run) (sound : IsSound r.system) (plain : IsWithoutClocks r.system)
       as_written m x None = refl
       as_written m x (Some v) = refl
 
-      set_writes : (feed : Feed) → port.role ≡ Input (Some feed) → (m : Machine) (x : MachineState) →
-          after_if m x (if is_present port values then option_map (λ v. C.Set port.kind port.reference v) (fed feed values) else None) ≡ write_if m port.reference x (if is_present port W then value W p else None)
-      set_writes feed same m x =
-          ap (λ b. after_if m x (if b then option_map (λ v. C.Set port.kind port.reference v) (fed feed values) else None)) (present r.system plain p port values turn.is)
-          ∙ ap (λ o. after_if m x (option_map (λ v. C.Set port.kind port.reference v) o)) (sym (value_fed feed same))
-          ∙ as_written m x (value W p)
-          ∙ ap (λ b. write_if m port.reference x (if b then value W p else None)) (sym (present r.system plain p port W turn.is))
+      set_writes : (feed : Feed) → port.role ≡ Input (Some feed) → (present : Bool) → is_present port W ≡ present → (m : Machine) (x : MachineState) →
+          after_if m x (if present then option_map (λ v. C.Set port.kind port.reference v) (fed feed values) else None) ≡ write_if m port.reference x (if present then value W p else None)
+      set_writes feed same true there m x =
+          ap (λ o. after_if m x (option_map (λ v. C.Set port.kind port.reference v) o)) (sym value_fed) ∙ as_written m x (value W p)
         where
-          value_fed : (feed : Feed) → port.role ≡ Input (Some feed) → value W p ≡ fed feed values
-          value_fed feed same = equation (Input (Some feed)) same ∙ ap (λ b. if b then fed feed W else value s.before p) (present r.system plain p port W turn.is) ∙ sym (fed_same feed same)
+          value_fed : value W p ≡ fed feed values
+          value_fed = equation (Input (Some feed)) same ∙ ap (λ b. if b then fed feed W else value s.before p) there ∙ sym (fed_same feed (ap source_of same))
+      set_writes feed same false there m x = refl
 
       get_keeps : (b : Bool) (m : Machine) (x : MachineState) → after_if m x (if b then Some get else None) ≡ x
       get_keeps true m x = refl
       get_keeps false m x = refl
 
-      call_writes : (role : Role) → port.role ≡ role → (b : Bool) (m : Machine) (x : MachineState) → after_if m x (asks_in_instant role port b first values) ≡ (if b then write_if m port.reference x (written_by role port W (value W p)) else x)
-      call_writes (Input None) same true m x = refl
-      call_writes (Input None) same false m x = refl
-      call_writes (Input (Some feed)) same true m x = set_writes feed same m x
-      call_writes (Input (Some feed)) same false m x = refl
-      call_writes Output same true m x = get_keeps (is_present port values) m x
-      call_writes Output same false m x = get_keeps first m x
-      call_writes (ClockInput feed) same b m x = never (ap is_clock_role same)
-      call_writes ClockOutput same b m x = never (ap is_clock_role same)
-      call_writes (TimeClock timing) same b m x = never (ap is_clock_role same)
+      tick_writes : (b : Bool) (m : Machine) (x : MachineState) → after_if m x (if b then Some (C.SetClock port.reference) else None) ≡ write_if m port.reference x (if b then Some (pos 1) else None)
+      tick_writes true m x = refl
+      tick_writes false m x = refl
 
-      written_on : (b : Bool) (m : Machine) (z : MachineState) → after_if m (midst pre b port.component.0 m z) (asks_in_instant port.role port b first values) ≡ midst (pre ++ p ∷ []) b port.component.0 m z
-      written_on true m z =
-          call_writes port.role refl true m (midst pre true port.component.0 m z)
+      is_ticking : (b : Bool) → is_active (Some (tick_value b)) ≡ b
+      is_ticking true = refl
+      is_ticking false = refl
+
+      -- whether an input Clock is set is whether it is active
+      sets_clock : (b : Bool) → b ≡ is_active (value W p) → (m : Machine) (x : MachineState) →
+          after_if m x (if b then Some (C.SetClock port.reference) else None) ≡ write_if m port.reference x (if is_active (value W p) then Some (pos 1) else None)
+      sets_clock b same m x = tick_writes b m x ∙ ap (λ c. write_if m port.reference x (if c then Some (pos 1) else None)) same
+
+      abbrev writes_if : Bool → Machine → MachineState → Option ℤ → MachineState
+      writes_if b m x o = if b then write_if m port.reference x o else x
+
+      clock_writes : is_clock_role port.role ≡ true → (b : Bool) → events ≡ b → (m : Machine) (x y : MachineState) (o : Option ℤ) → y ≡ write_if m port.reference x o → y ≡ writes_if b m x o
+      clock_writes clock true e m x y o h = h
+      clock_writes clock false e m x y o h = absurd (true_false (sym (events_of clock) ∙ e))
+
+      call_writes : (role : Role) → port.role ≡ role → (b : Bool) → events ≡ b → (m : Machine) (x : MachineState) →
+          after_if m x (asks_in_instant role port b first (ticks p) values) ≡ writes_if b m x (written_by role port W (value W p))
+      call_writes (Input None) same true e m x = refl
+      call_writes (Input None) same false e m x = refl
+      call_writes (Input (Some feed)) same true e m x =
+          ap (λ c. after_if m x (if c then option_map (λ v. C.Set port.kind port.reference v) (fed feed values) else None)) present_same ∙ set_writes feed same (is_present port W) refl m x
+      call_writes (Input (Some feed)) same false e m x = refl
+      call_writes Output same true e m x = get_keeps (is_present port values) m x
+      call_writes Output same false e m x = get_keeps first m x
+      call_writes (ClockInput None) same b e m x =
+          clock_writes (ap is_clock_role same) b e m x x _ (ap (λ o. write_if m port.reference x (if is_active o then Some (pos 1) else None)) (sym (equation (ClockInput None) same)))
+      call_writes (ClockInput (Some feed)) same b e m x =
+          clock_writes (ap is_clock_role same) b e m x _ _
+          (sets_clock (is_active (fed feed values)) (ap is_active (fed_same feed (ap source_of same) ∙ sym (equation (ClockInput (Some feed)) same))) m x)
+      call_writes ClockOutput same b e m x = clock_writes (ap is_clock_role same) b e m x x None refl
+      call_writes (TimeClock timing) same b e m x =
+          clock_writes (ap is_clock_role same) b e m x _ _ (sets_clock (ticks p) (sym (is_ticking (ticks p)) ∙ ap is_active (time_here timing same)) m x)
+
+      written_on : (b : Bool) → events ≡ b → (m : Machine) (z : MachineState) → after_if m (midst pre b port.component.0 m z) (asks_in_instant port.role port b first (ticks p) values) ≡ midst (pre ++ p ∷ []) b port.component.0 m z
+      written_on true e m z =
+          call_writes port.role refl true e m (midst pre true port.component.0 m z)
           ∙ ap (write_if m port.reference (midst pre true port.component.0 m z)) (sym (written_at-is r.system.ports W p port turn.is))
           ∙ writes_at_port r.system sound p port turn.is pre here.fresh at_port m z
-      written_on false m z = call_writes port.role refl false m z
+      written_on false e m z = call_writes port.role refl false e m z
 
       state_here : (m : Machine) (z : MachineState) → state_by m z (part port.component.0 front) ≡ midst pre events port.component.0 m z → state_by m z (part port.component.0 (front ++ sent)) ≡ midst (pre ++ p ∷ []) events port.component.0 m z
       state_here m z so_far =
@@ -219,7 +285,7 @@ module _ (r : Run) (sound : IsSound r.system) (plain : IsWithoutClocks r.system)
           ∙ state_by_append m z (part port.component.0 front) (exchanges_of call reply)
           ∙ ap (λ y. state_by m y (exchanges_of call reply)) so_far
           ∙ state_by_one turn.component.shape m (midst pre events port.component.0 m z) call reply turn.paired
-          ∙ written_on events m z
+          ∙ written_on events refl m z
 
       beside_on : (b : Bool) (i : ℕ) → (i ≡ port.component.0 → ⊥) → (m : Machine) (z : MachineState) → midst pre b i m z ≡ midst (pre ++ p ∷ []) b i m z
       beside_on true i other m z = keeps_beside r.system p port turn.is pre at_port i other m z
@@ -232,7 +298,7 @@ module _ (r : Run) (sound : IsSound r.system) (plain : IsWithoutClocks r.system)
 
       midst_more : Midst (pre ++ p ∷ []) next (front ++ sent)
       midst_more = record {
-        calls = calls_more ReadsOrSets r.system (in_instant (s.n == 0)) (reads_or_sets r.system (s.n == 0)) pre p reply values next front sent was.calls turn;
+        calls = calls_more ReadsOrSets r.system (in_instant ticks (s.n == 0)) (reads_or_sets r.system sound ticks (s.n == 0)) pre p reply values next front sent was.calls turn;
         taken_values = λ q m. push_cases pre p q m
             (λ old. next_beside turn q (λ same. here.fresh (subst (Contains pre) same old)) ∙ was.taken_values q old)
             (λ same. subst (λ x. value next x ≡ value W x) same next_is_W);
@@ -255,10 +321,10 @@ module _ (r : Run) (sound : IsSound r.system) (plain : IsWithoutClocks r.system)
     none_midst false i m z = refl
 
     -- all along the walk
-    pub midst_along : (taken rest : List ℕ) (values : List (Option ℤ)) (log : List Sent) → numbers r.system.instant_order ≡ taken ++ rest → Walked r.system (in_instant (s.n == 0)) s.before taken values log → AreReplies r s.states log →
+    pub midst_along : (taken rest : List ℕ) (values : List (Option ℤ)) (log : List Sent) → numbers r.system.instant_order ≡ taken ++ rest → Walked r.system (in_instant ticks (s.n == 0)) s.before taken values log → AreReplies r s.states log →
         (length values ≡ length r.system.ports) × Midst taken values log
     midst_along taken rest values log is walked replies =
-        let all = along (λ q. q < length r.system.ports) (Needs r.system) r.system (in_instant (s.n == 0)) s.before (numbers r.system.instant_order) sound.instant_order situation.before
+        let all = along (λ q. q < length r.system.ports) (Needs r.system) r.system (in_instant ticks (s.n == 0)) s.before (numbers r.system.instant_order) sound.instant_order situation.before
         (λ t v l. AreReplies r s.states l → Midst t v l)
         (λ none. record {
           calls = All-nil (IsCallOf ReadsOrSets r.system []);
@@ -271,7 +337,7 @@ module _ (r : Run) (sound : IsSound r.system) (plain : IsWithoutClocks r.system)
         (all.0, all.1 replies)
 
   -- ---- at the end
-  module _ (values : List (Option ℤ)) (log : List Sent) (walked : Walked r.system (in_instant (s.n == 0)) s.before (numbers r.system.instant_order) values log) (replies : AreReplies r s.states log) where
+  module _ (values : List (Option ℤ)) (log : List Sent) (walked : Walked r.system (in_instant ticks (s.n == 0)) s.before (numbers r.system.instant_order) values log) (replies : AreReplies r s.states log) where
     some : (W : List (Option ℤ)) × Solves r s W
     some = solvable r sound machines s situation.shapes (decided r s)
 
@@ -300,7 +366,7 @@ module _ (r : Run) (sound : IsSound r.system) (plain : IsWithoutClocks r.system)
     answers_good = all_good ReadsOrSets r.system (numbers r.system.instant_order) log end.1.calls
 
   module _ (olds news : List Instance) (at : AreAt r s.states olds) (values : List (Option ℤ)) (log : List Sent) (told : Told log olds news)
-      (walked : Walked r.system (in_instant (s.n == 0)) s.before (numbers r.system.instant_order) values log) where
+      (walked : Walked r.system (in_instant ticks (s.n == 0)) s.before (numbers r.system.instant_order) values log) where
     abbrev replies : AreReplies r s.states log
     replies = are_replies r s.states olds news at log told
 
@@ -318,10 +384,33 @@ module _ (r : Run) (sound : IsSound r.system) (plain : IsWithoutClocks r.system)
     )
 
 -- the walk over a system finds the solution
-pub solves_in_instant : (system : System) → IsSound system → IsWithoutClocks system → (is_first : Bool) (olds news : List Instance) (before values : List (Option ℤ)) (log : List Sent) → Told log olds news →
-    Walked system (in_instant is_first) before (numbers system.instant_order) values log → SolvesInInstant system is_first before values olds news
-solves_in_instant system sound plain is_first olds news before values log told walked r s same machines situation first was at =
-    found r (subst IsSound (sym same) sound) (subst IsWithoutClocks (sym same) plain) machines s situation olds news at values log told
-    (subst (λ (x : System). Walked x (in_instant (s.n == 0)) s.before (numbers x.instant_order) values log) (sym same)
-    (subst (λ b. Walked system (in_instant b) s.before (numbers system.instant_order) values log) (sym first)
-    (subst (λ V. Walked system (in_instant is_first) V (numbers system.instant_order) values log) (sym was) walked)))
+pub solves_in_instant : (system : System) → IsSound system → (t : ℕ) (is_first : Bool) (table : Timetable) → StandsAt system t is_first table → (olds news : List Instance) (before values : List (Option ℤ)) (log : List Sent) → Told log olds news →
+    Walked system (in_instant (is_due_at table t) is_first) before (numbers system.instant_order) values log → SolvesInInstant system table t is_first before values olds news
+solves_in_instant system sound t is_first table stands olds news before values log told walked r s same start machines situation at first timers was there =
+    found r (subst IsSound (sym same) sound) machines s situation (is_due_at table t)
+    (subst (λ (x : System). AreTicks x r.plan.start s.timers s.t s.n (is_due_at table t)) (sym same)
+    (subst (λ n. AreTicks system n s.timers s.t s.n (is_due_at table t)) (sym start)
+    (subst (λ xs. AreTicks system table.start xs s.t s.n (is_due_at table t)) (sym timers)
+    (subst (λ n. AreTicks system table.start (timers_in table) n s.n (is_due_at table t)) (sym at) (are_ticks system t is_first table stands s.n first)))))
+    olds news there values log told
+    (subst (λ (x : System). Walked x (in_instant (is_due_at table t) (s.n == 0)) s.before (numbers x.instant_order) values log) (sym same)
+    (subst (λ b. Walked system (in_instant (is_due_at table t) b) s.before (numbers system.instant_order) values log) (sym first)
+    (subst (λ V. Walked system (in_instant (is_due_at table t) is_first) V (numbers system.instant_order) values log) (sym was) walked)))
+
+-- ---- the time-based Clocks that tick are those that are due
+
+pub tells_ticks : (system : System) → IsSound system → (t : ℕ) (is_first : Bool) (table : Timetable) (before values : List (Option ℤ)) (log : List Sent) →
+    Explains system (in_instant (is_due_at table t) is_first) before (numbers system.instant_order) values log → TellsTicks system table t values
+tells_ticks system sound t is_first table before values log told p port is time =
+    ap is_active (told.taken_values p port is (sound.instant_order.each p (slice_get_within system.ports p port is))) ∙ by port.role time
+  where
+    ticks : (b : Bool) → is_active (Some (tick_value b)) ≡ b
+    ticks true = refl
+    ticks false = refl
+
+    by : (role : Role) → is_time_clock role ≡ true → is_active (takes_in_instant role port (is_due_at table t p) values (value before p) (told.replies p)) ≡ is_due_at table t p
+    by (TimeClock timing) h = ticks (is_due_at table t p)
+    by (Input feed) h = absurd (true_false (sym h))
+    by Output h = absurd (true_false (sym h))
+    by (ClockInput feed) h = absurd (true_false (sym h))
+    by ClockOutput h = absurd (true_false (sym h))

@@ -17,3 +17,13 @@ pub mod FindingInInstant
 pub mod Setting
 pub mod Departing
 pub mod Updating
+pub mod Asking
+pub mod Answering
+pub mod Places
+pub mod Reading
+pub mod Fixing
+pub mod Rearming
+pub mod ClockTicks
+pub mod Rooms
+pub mod Activity
+pub mod Ticking

@@ -1,5 +1,5 @@
--- Which variables are marked behind Gets and Sets.
-use Rattle.std.proofs.Common.{◌≡◌, ℕ, zero, suc, ◌+◌, ℤ, Bool, true, false, not, List, [], ◌∷◌, Option, Some, None, refl, sym, ap, ◌∙◌, subst, arith, get_or, set}
+-- Which variables are marked behind Gets, Sets and calls of Clocks.
+use Rattle.std.proofs.Common.{◌≡◌, ◌⊎◌, inl, inr, ℕ, zero, suc, ◌+◌, ℤ, Bool, true, false, not, List, [], ◌∷◌, Option, Some, None, refl, sym, ap, ◌∙◌, subst, arith, get_or, set}
 use Rattle.std.specs.Prelude.{All, ◌==◌, if◌then◌else◌, slice_get}
 use Rattle.std.specs.List.{list_any, position_from}
 use Rattle.std.specs.Option.{option_map_or}
@@ -86,16 +86,21 @@ unmarked shape marks r none = by (place_of shape.variables r)
     by None = refl
     by (Some k) = flag marks k none
 
--- ---- Gets and Sets
+-- ---- Gets, Sets and calls of Clocks
 
 -- the call is a Get
 abbrev pub IsGet : Call → Type 0
 IsGet call = (kind : PortType) × (reference : ℕ) × (call ≡ C.Get kind reference)
 
--- the call is a Get, or a Set of a variable that isn't this one
+-- the call asks or sets the Clock under the reference
+abbrev pub IsClockCall : ℕ → Call → Type 0
+IsClockCall reference call = (call ≡ C.GetClock reference) ⊎ (call ≡ C.SetClock reference)
+
+-- the call is a Get, or a Set or a Clock's call for a variable that isn't this one
 pub data Passes (r : ℕ) (call : Call) : Type 0 where
   ByGet : IsGet call → Passes r call
   BySet : (kind : PortType) (reference : ℕ) (value : ℤ) → call ≡ C.Set kind reference value → (r ≡ reference → ⊥) → Passes r call
+  ByClock : (reference : ℕ) → IsClockCall reference call → (r ≡ reference → ⊥) → Passes r call
 
 -- the mode stays, and the variable's mark
 abbrev Beside : Shape → ℕ → Phase → Phase → Type 0
@@ -105,6 +110,10 @@ passes_one : (shape : Shape) (r : ℕ) (call : Call) → Passes r call → (phas
 passes_one shape r call (ByGet get) phase reply = subst (λ (c : Call). Beside shape r phase (entered shape phase c reply)) (sym get.2) (refl, refl)
 passes_one shape r call (BySet kind reference value is other) phase reply =
     subst (λ (c : Call). Beside shape r phase (entered shape phase c reply)) (sym is) (refl, set_beside phase.state shape phase.marks reference r other)
+passes_one shape r call (ByClock reference (inl is) other) phase reply =
+    subst (λ (c : Call). Beside shape r phase (entered shape phase c reply)) (sym is) (refl, marked_beside shape phase.marks reference r other)
+passes_one shape r call (ByClock reference (inr is) other) phase reply =
+    subst (λ (c : Call). Beside shape r phase (entered shape phase c reply)) (sym is) (refl, marked_beside shape phase.marks reference r other)
 
 -- all pass by the variable, and were answered well
 pub passes_beside : (shape : Shape) (r : ℕ) (v w : View) (es : List Exchange) → v.fixed.shape ≡ shape → Talks v es w → All (λ (e : Exchange). Passes r e.call × T.IsGood shape e) es → Beside shape r v.phase w.phase

@@ -44,7 +44,7 @@ use Rattle.run_model.proofs.Alike.{both}
 use Rattle.run_model.proofs.AlongRun.{reply_fits}
 use Rattle.run_model.proofs.Initially.{read_unclocked, unclocked_at-is}
 use Rattle.slot_calls.specs.Log.{Sent, Talks, Told, part}
-use Rattle.slot_calls.specs.Slots.{sets_or_gets}
+use Rattle.slot_calls.specs.Slots.{reads_or_sets}
 use Rattle.slot_calls.specs.Stage.{IsGoodOf, shapes, shapes_of}
 use Rattle.slot_calls.proofs.Answered.{map_at, shape_of}
 use Rattle.slot_calls.proofs.Leading.{led}
@@ -86,7 +86,7 @@ taken_fits system sound values fits p port is (TimeClock timing) same reply = tt
 -- ---- the calls are Gets and Sets, and good
 
 abbrev pub IsQuiet : System → Sent → Type 0
-IsQuiet system s = (sets_or_gets s.exchange.call ≡ true) × IsGoodOf (shapes_of system) s
+IsQuiet system s = (reads_or_sets s.exchange.call ≡ true) × IsGoodOf (shapes_of system) s
 
 -- behind each turn of the walk
 pub record Keeps (system : System) (values : List (Option ℤ)) (log : List Sent) : Type 0 where
@@ -94,18 +94,18 @@ pub record Keeps (system : System) (values : List (Option ℤ)) (log : List Sent
   pub fits : AreFitting system values
   pub quiet : All (IsQuiet system) log
 
-option_set : (port : Port) (o : Option ℤ) (call : Call) → option_map (λ x. C.Set port.kind port.reference x) o ≡ Some call → sets_or_gets call ≡ true
+option_set : (port : Port) (o : Option ℤ) (call : Call) → option_map (λ x. C.Set port.kind port.reference x) o ≡ Some call → reads_or_sets call ≡ true
 option_set port None call h = absurd (cc)
-option_set port (Some x) call h = ap sets_or_gets (sym (same_Some _ _ h))
+option_set port (Some x) call h = ap reads_or_sets (sym (same_Some _ _ h))
 
 if_some : {X : Type 0} (b : Bool) (o : Option X) (x : X) → (if b then o else None) ≡ Some x → (b ≡ true) × (o ≡ Some x)
 if_some true o x h = (refl, h)
 if_some false o x h = absurd (cc)
 
-pub asks_quietly : (role : Role) (ports : List Port) (read : Bool) (port : Port) (values : List (Option ℤ)) (call : Call) → asks_initially role ports read port values ≡ Some call → sets_or_gets call ≡ true
+pub asks_quietly : (role : Role) (ports : List Port) (read : Bool) (port : Port) (values : List (Option ℤ)) (call : Call) → asks_initially role ports read port values ≡ Some call → reads_or_sets call ≡ true
 asks_quietly (Input None) ports read port values call h = absurd (cc)
 asks_quietly (Input (Some feed)) ports read port values call h = option_set port (fed feed values) call (if_some (is_set_from_feed ports port feed) _ call h).1
-asks_quietly Output ports read port values call h = ap sets_or_gets (sym (same_Some _ _ (if_some read (Some (C.Get port.kind port.reference)) call h).1))
+asks_quietly Output ports read port values call h = ap reads_or_sets (sym (same_Some _ _ (if_some read (Some (C.Get port.kind port.reference)) call h).1))
 asks_quietly (ClockInput feed) ports read port values call h = absurd (cc)
 asks_quietly ClockOutput ports read port values call h = absurd (cc)
 asks_quietly (TimeClock timing) ports read port values call h = absurd (cc)
@@ -119,7 +119,7 @@ shape_of_component system i c of d = at system.components i of
     at (x ∷ cs) zero h = ap (λ (y : Component). y.shape) (sym (same_Some _ _ h))
     at (x ∷ cs) (suc i) h = at cs i h
 
-pub sent_quiet : (system : System) (i : ℕ) (c : Component) → slice_get system.components i ≡ Some c → (call : Option Call) (reply : Option Reply) → ((k : Call) → call ≡ Some k → sets_or_gets k ≡ true) → IsPaired c.shape call reply → All (IsQuiet system) (sent_of i call reply)
+pub sent_quiet : (system : System) (i : ℕ) (c : Component) → slice_get system.components i ≡ Some c → (call : Option Call) (reply : Option Reply) → ((k : Call) → call ≡ Some k → reads_or_sets k ≡ true) → IsPaired c.shape call reply → All (IsQuiet system) (sent_of i call reply)
 sent_quiet system i c of None reply quiet paired = All-nil (IsQuiet system)
 sent_quiet system i c of (Some call) None quiet paired = absurd paired
 sent_quiet system i c of (Some call) (Some reply) quiet paired =
@@ -149,7 +149,7 @@ keeps system sound before len fits _ _ _ (Went taken pre p reply values next log
 
 -- ---- the FMUs stay in Initialization Mode
 
-stays : (call : Call) → sets_or_gets call ≡ true → (shape : Shape) (phase : Phase) (reply : Reply) → (entered shape phase call reply).state ≡ phase.state
+stays : (call : Call) → reads_or_sets call ≡ true → (shape : Shape) (phase : Phase) (reply : Reply) → (entered shape phase call reply).state ≡ phase.state
 stays (C.Get kind reference) h shape phase reply = refl
 stays (C.Set kind reference value) h shape phase reply = refl
 stays (C.Instantiate event_mode early) h shape phase reply = absurd (cc)
@@ -164,13 +164,13 @@ stays C.FreeInstance h shape phase reply = absurd (cc)
 stays C.EnterEvent h shape phase reply = absurd (cc)
 stays C.EnterStep h shape phase reply = absurd (cc)
 stays C.Update h shape phase reply = absurd (cc)
-stays (C.GetClock reference) h shape phase reply = absurd (cc)
-stays (C.SetClock reference) h shape phase reply = absurd (cc)
-stays (C.GetInterval reference) h shape phase reply = absurd (cc)
-stays (C.GetShift reference) h shape phase reply = absurd (cc)
+stays (C.GetClock reference) h shape phase reply = refl
+stays (C.SetClock reference) h shape phase reply = refl
+stays (C.GetInterval reference) h shape phase reply = refl
+stays (C.GetShift reference) h shape phase reply = refl
 
 abbrev pub IsQuietOf : Shape → Exchange → Type 0
-IsQuietOf shape e = (sets_or_gets e.call ≡ true) × IsGood shape e
+IsQuietOf shape e = (reads_or_sets e.call ≡ true) × IsGood shape e
 
 talks_stay : (shape : Shape) (v w : View) (es : List Exchange) → v.fixed.shape ≡ shape → Talks v es w → All (IsQuietOf shape) es → w.phase.state ≡ v.phase.state
 talks_stay shape v w [] is t all = ap (λ (x : View). x.phase.state) t
@@ -215,17 +215,20 @@ no_references R (x ∷ xs) (y ∷ ys) zip h = absurd (let e : length (y ∷ ys) 
 
 -- a port's variable, by the shape of its FMU
 module _ (system : System) (sound : IsSound system) (p : ℕ) (port : Port) (is : slice_get system.ports p ≡ Some port) (c : Component) (of : slice_get system.components port.component.0 ≡ Some c) (shape : Shape) (same : shape ≡ c.shape) where
-  placed : Placed system p port
+  abbrev pub placed : Placed system p port
   placed = place_of system sound p port is
 
-  under : variable_at shape.variables port.reference ≡ Some placed.variable
+  pub under : variable_at shape.variables port.reference ≡ Some placed.variable
   under = ap (λ (s : Shape). variable_at s.variables port.reference) (same ∙ ap (λ (x : Component). x.shape) (same_Some _ _ (sym of ∙ placed.is.of))) ∙ placed.is.there
 
-  at_under : (test : Variable → Bool) → test placed.variable ≡ true → is_at test shape.variables port.reference ≡ true
+  pub at_under : (test : Variable → Bool) → test placed.variable ≡ true → is_at test shape.variables port.reference ≡ true
   at_under test h = ap (λ o. option_map_or test o false) under ∙ h
 
+  pub no_clocks_there : (length port.clocks == 0) ≡ true → has_no_clocks placed.variable ≡ true
+  no_clocks_there none = no_references _ placed.variable.clocks port.clocks (sound.ports.clocks p port placed.component placed.variable placed.is) none
+
   pub without_clocks : (length port.clocks == 0) ≡ true → is_at has_no_clocks shape.variables port.reference ≡ true
-  without_clocks none = at_under has_no_clocks (no_references _ placed.variable.clocks port.clocks (sound.ports.clocks p port placed.component placed.variable placed.is) none)
+  without_clocks none = at_under has_no_clocks (no_clocks_there none)
 
   pub input_there : is_output_role port.role ≡ false → is_at (λ (x : Variable). is_input x.causality) shape.variables port.reference ≡ true
   input_there input = at_under (λ (x : Variable). is_input x.causality) (ap is_input (is_input_of system p port placed input))
@@ -248,13 +251,13 @@ module _ (system : System) (sound : IsSound system) (p : ℕ) (port : Port) (is 
 
   may_read : is_output_role port.role ≡ true → Permitted v.fixed.shape v.phase (C.Get port.kind port.reference)
   may_read out = (
-    ap (λ (s : InstanceState). can_be_read s v.fixed.shape v.phase.marks port.reference) initializing ∙ no_clocks,
+    ap (λ (s : InstanceState). can_be_read s v.fixed.shape v.phase.marks v.phase.active port.reference) initializing ∙ no_clocks,
     readable system sound p port is c of v.fixed.shape shape (unclocked_parts port unclocked).0 out,
   )
 
   may_write : is_output_role port.role ≡ false → (x : ℤ) → Fits port.kind x → Permitted v.fixed.shape v.phase (C.Set port.kind port.reference x)
   may_write input x fits = (
-    ap (λ (s : InstanceState). can_be_set s v.fixed.shape v.phase.marks port.reference) initializing
+    ap (λ (s : InstanceState). can_be_set s v.fixed.shape v.phase.marks v.phase.active port.reference) initializing
         ∙ ap (λ b. b && is_at has_no_clocks v.fixed.shape.variables port.reference) (input_there system sound p port is c of v.fixed.shape shape input) ∙ no_clocks,
     writable system sound p port is c of v.fixed.shape shape (unclocked_parts port unclocked).0,
     fits,

@@ -1,5 +1,5 @@
 -- The walk of the Sets before a step: each call of it is permitted.
-use Rattle.std.proofs.Common.{◌≡◌, ◌⊎◌, inr, ℕ, ◌<◌, ◌≤◌, ◌+◌, ℤ, Bool, true, false, not, List, Option, Some, None, Result, Contains, refl, sym, ap, ◌∙◌, subst, arith, length, get_or, take, drop}
+use Rattle.std.proofs.Common.{◌≡◌, inl, inr, ℕ, ◌<◌, ◌≤◌, ◌+◌, ℤ, Bool, true, false, not, List, Option, Some, None, Result, Contains, refl, sym, ap, ◌∙◌, subst, arith, length, get_or, take, drop}
 use Rattle.std.specs.Prelude.{All, IfSome, ◌&&◌, if◌then◌else◌, option_map, slice_get, slice_set}
 use Rattle.std.proofs.lemmas.List.{set-get_or, take_all}
 use Rattle.std.proofs.lemmas.List.FromFn.{get_or-range_with_len, length-range_with_len}
@@ -32,7 +32,7 @@ use Rattle.event_iteration.specs.Turns.{MayAsk, MayTurn, TakesTurn, Walked}
 use Rattle.event_iteration.proofs.Loops.{split_order}
 use Rattle.event_iteration.proofs.Marks.{unmarked}
 use Rattle.event_iteration.proofs.Permits.{input_there, writable}
-use Rattle.event_iteration.proofs.Turning.{AsksBy, Gets, Sets, all_was, behind, calls_of, shape_here}
+use Rattle.event_iteration.proofs.Turning.{AsksBy, Sets, Touches, all_was, behind, calls_of, shape_here}
 use Rattle.event_iteration.proofs.Walking.{AreAbout}
 
 -- ---- the order of the ports
@@ -88,10 +88,10 @@ abbrev pub SetsPort : Component → Port → Call → Type 0
 SetsPort c port call = Sets port call
 
 pub sets_ports : (system : System) (now : List (Option ℤ)) → AsksBy SetsPort system (before_step now)
-sets_ports system now p port c values call is h = let asked = asked_before_step now p port c values call h in (asked.to, asked.set)
+sets_ports system now p port c values call is of h = let asked = asked_before_step now p port c values call h in (asked.to, asked.set)
 
-pub set_alone : (c : Component) (port : Port) (call : Call) → SetsPort c port call → Gets port call ⊎ Sets port call
-set_alone c port call set = inr set
+pub set_alone : (c : Component) (port : Port) (call : Call) → SetsPort c port call → Touches port call
+set_alone c port call set = inr (inl set)
 
 -- ---- a turn of the loop
 
@@ -127,8 +127,8 @@ module _ (system : System) (sound : IsSound system) (now : List (Option ℤ)) (f
     may_call call asked =
         let fit : Fits port.kind asked.to = subst (λ o. IfSome o (Fits port.kind)) asked.is (fits k port is) in
         let events : x.view.fixed.shape.has_event_mode ≡ false = ap (λ (s : Shape). s.has_event_mode) shape ∙ asked.none in
-        let can : can_be_set x.view.phase.state x.view.fixed.shape x.view.phase.marks port.reference ≡ true =
-        ap (λ (s : InstanceState). can_be_set s x.view.fixed.shape x.view.phase.marks port.reference) (beside.0 ∙ was_unset.state)
+        let can : can_be_set x.view.phase.state x.view.fixed.shape x.view.phase.marks x.view.phase.active port.reference ≡ true =
+        ap (λ (s : InstanceState). can_be_set s x.view.fixed.shape x.view.phase.marks x.view.phase.active port.reference) (beside.0 ∙ was_unset.state)
         ∙ ap (λ b. b && not x.view.fixed.shape.has_event_mode && not (is_marked x.view.fixed.shape x.view.phase.marks port.reference)) (input_there system sound k port is c of x.view.fixed.shape shape (ap is_output_role asked.input))
         ∙ ap (λ b. not b && not (is_marked x.view.fixed.shape x.view.phase.marks port.reference)) events ∙ ap not not_marked in
         subst (λ (y : Call). MayAsk (Some y) x.view) (sym asked.set) ((can, writable system sound k port is c of x.view.fixed.shape shape (ap is_clock_role asked.input), fit), refl)

@@ -1,5 +1,5 @@
 -- What a walk leaves behind: a log of calls of the ports that were taken, values of their ports' types, and instances in the same mode.
-use Rattle.std.proofs.Common.{◌≡◌, ◌⊎◌, inl, inr, ℕ, ◌<◌, ℤ, List, [], ◌∷◌, ◌++◌, Option, Some, None, Contains, refl, sym, ap, ◌∙◌, subst, arith, length, get_or}
+use Rattle.std.proofs.Common.{◌≡◌, ◌⊎◌, inl, inr, ℕ, ◌<◌, ℤ, true, List, [], ◌∷◌, ◌++◌, Option, Some, None, Contains, refl, sym, ap, ◌∙◌, subst, arith, length, get_or}
 use Rattle.std.specs.Prelude.{All, IfSome, slice_get}
 use Rattle.std.proofs.lemmas.List.{get_or_default, length-set}
 use Rattle.std.proofs.lemmas.List.Elements.{All-append, All-cons, All-nil, Contains-append_left, Contains-push}
@@ -21,12 +21,13 @@ use Rattle.system_model.proofs.SoundLemmas.{own}
 use Rattle.run_model.specs.Run.{value}
 use Rattle.run_model.specs.Machines.{AreFitting}
 use Rattle.slot_calls.specs.Log.{Sent, Talks, Told, part}
+use Rattle.slot_calls.specs.Slots.{reads_or_sets}
 use Rattle.slot_calls.specs.Stage.{IsGoodOf, shapes, shapes_of}
 use Rattle.slot_calls.proofs.Answered.{map_at, shape_of, shapes_same}
 use Rattle.event_iteration.specs.Turns.{Begun, IsPaired, Rules, Turn, Walked, Went, sent_of}
-use Rattle.event_iteration.proofs.Marks.{ByGet, BySet, IsGet, Passes, gets_leave, passes_beside}
+use Rattle.event_iteration.proofs.Marks.{ByClock, ByGet, BySet, IsClockCall, IsGet, Passes, gets_leave, passes_beside}
 use Rattle.event_iteration.proofs.Parts.{part_all}
-use Rattle.event_iteration.proofs.Permits.{shape_of_component}
+use Rattle.event_iteration.proofs.Permits.{IsQuietOf, shape_of_component}
 use Rattle.event_iteration.proofs.Walking.{by_number, next_beside, next_here}
 
 -- ---- the calls of a walk
@@ -38,10 +39,18 @@ Gets port call = call ≡ C.Get port.kind port.reference
 abbrev pub Sets : Port → Call → Type 0
 Sets port call = (x : ℤ) × (call ≡ C.Set port.kind port.reference x)
 
+-- the call asks or sets the port, which is a Clock
+abbrev pub Ticks : Port → Call → Type 0
+Ticks port call = IsClockCall port.reference call
+
+-- the call is of one of these sorts
+abbrev pub Touches : Port → Call → Type 0
+Touches port call = Gets port call ⊎ (Sets port call ⊎ Ticks port call)
+
 -- each call by the rules is of this sort, by its port and its component
 abbrev pub AsksBy : (Component → Port → Call → Type 0) → System → Rules → Type 0
 AsksBy Sort system rules =
-    (p : ℕ) (port : Port) (c : Component) (values : List (Option ℤ)) (call : Call) → slice_get system.ports p ≡ Some port → rules.asks p port c values ≡ Some call → Sort c port call
+    (p : ℕ) (port : Port) (c : Component) (values : List (Option ℤ)) (call : Call) → slice_get system.ports p ≡ Some port → slice_get system.components port.component.0 ≡ Some c → rules.asks p port c values ≡ Some call → Sort c port call
 
 -- a call of this sort to a port that was taken, which was answered well
 pub record IsCallOf (Sort : Component → Port → Call → Type 0) (system : System) (taken : List ℕ) (s : Sent) : Type 0 where
@@ -73,7 +82,7 @@ module _ (Sort : Component → Port → Call → Type 0) (system : System) where
     calls_more pre p reply values next front sent all turn =
         All-append (IsCallOf Sort system (pre ++ p ∷ [])) front sent (still_calls pre p front all)
         (subst (All (IsCallOf Sort system (pre ++ p ∷ []))) (sym turn.sent_is)
-        (sent_call (pre ++ p ∷ []) p turn.port turn.component (Contains-push pre p) turn.is turn.of _ reply (λ call asks. by p turn.port turn.component values call turn.is asks) turn.paired))
+        (sent_call (pre ++ p ∷ []) p turn.port turn.component (Contains-push pre p) turn.is turn.of _ reply (λ call asks. by p turn.port turn.component values call turn.is turn.of asks) turn.paired))
 
     -- all along a walk
     pub calls_of : (before : List (Option ℤ)) (taken : List ℕ) (values : List (Option ℤ)) (log : List Sent) → Walked system rules before taken values log → All (IsCallOf Sort system taken) log
@@ -89,6 +98,12 @@ module _ (Sort : Component → Port → Call → Type 0) (system : System) where
 
   pub all_good : (taken : List ℕ) (log : List Sent) → All (IsCallOf Sort system taken) log → All (IsGoodOf (shapes_of system)) log
   all_good taken log all = λ k d w. λ x. good_of taken _ (all k d w) _ x refl
+
+pub touches_quietly : (port : Port) (call : Call) → Touches port call → reads_or_sets call ≡ true
+touches_quietly port call (inl get) = ap reads_or_sets get
+touches_quietly port call (inr (inl (x, set))) = ap reads_or_sets set
+touches_quietly port call (inr (inr (inl clock))) = ap reads_or_sets clock
+touches_quietly port call (inr (inr (inr clock))) = ap reads_or_sets clock
 
 -- ---- values
 
@@ -144,24 +159,32 @@ module _ (system : System) (olds mids : List Instance) (log : List Sent) (told :
   pub all_was : (P : Instance → Type 0) → All P olds → P (get_or olds i x)
   all_was P all = all i x in_olds
 
--- Gets and Sets of a port that was taken
+-- the calls of ports that were taken
 module _ (Sort : Component → Port → Call → Type 0) (system : System) (sound : IsSound system) (taken : List ℕ) (log : List Sent) (calls : All (IsCallOf Sort system taken) log) (olds mids : List Instance) (told : Told log olds mids)
     (same : shapes olds ≡ shapes_of system) (i : ℕ) (c : Component) (of : slice_get system.components i ≡ Some c) (x : Instance) (there : slice_get mids i ≡ Some x) where
   good_for : (s : Sent) → IsCallOf Sort system taken s → s.component ≡ i → T.IsGood c.shape s.exchange
   good_for s call here = subst (λ (y : Shape). T.IsGood y s.exchange) (sym (shape_of_component system i c of c.shape)) (good_of Sort system taken s call i c.shape here)
 
   -- pass by a port that wasn't
-  pub behind : ((d : Component) (port : Port) (call : Call) → Sort d port call → Gets port call ⊎ Sets port call) → (p : ℕ) (port : Port) → slice_get system.ports p ≡ Some port → port.component.0 ≡ i → (Contains taken p → ⊥) →
+  pub behind : ((d : Component) (port : Port) (call : Call) → Sort d port call → Touches port call) → (p : ℕ) (port : Port) → slice_get system.ports p ≡ Some port → port.component.0 ≡ i → (Contains taken p → ⊥) →
       (x.view.phase.state ≡ (get_or olds i x).view.phase.state) × (is_marked c.shape x.view.phase.marks port.reference ≡ is_marked c.shape (get_or olds i x).view.phase.marks port.reference)
   behind sort p port is at fresh =
       passes_beside c.shape port.reference (get_or olds i x).view x.view (part i log) (shape_was system olds mids log told same i c of x there) (talks_here system olds mids log told same i c of x there)
       (part_all (λ (e : Exchange). Passes port.reference e.call × T.IsGood c.shape e) i log
       (λ k y w here. let call = calls k y w in (passes (get_or log k y) call here (sort call.component call.port _ call.sort), good_for _ call here)))
     where
-      passes : (s : Sent) (call : IsCallOf Sort system taken s) → s.component ≡ i → Gets call.port s.exchange.call ⊎ Sets call.port s.exchange.call → Passes port.reference s.exchange.call
+      other_than : (s : Sent) (call : IsCallOf Sort system taken s) → s.component ≡ i → port.reference ≡ call.port.reference → ⊥
+      other_than s call here e = fresh (subst (Contains taken) (own system sound call.number p call.port port call.is is (sym call.sent_to ∙ here ∙ sym at) (sym e)) call.among)
+
+      passes : (s : Sent) (call : IsCallOf Sort system taken s) → s.component ≡ i → Touches call.port s.exchange.call → Passes port.reference s.exchange.call
       passes s call here (inl get) = ByGet (call.port.kind, call.port.reference, get)
-      passes s call here (inr (v, set)) = BySet call.port.kind call.port.reference v set
-          (λ e. fresh (subst (Contains taken) (own system sound call.number p call.port port call.is is (sym call.sent_to ∙ here ∙ sym at) (sym e)) call.among))
+      passes s call here (inr (inl (v, set))) = BySet call.port.kind call.port.reference v set (other_than s call here)
+      passes s call here (inr (inr clock)) = ByClock call.port.reference clock (other_than s call here)
+
+  -- they read or set, and were answered well
+  pub quiet_behind : ((d : Component) (port : Port) (call : Call) → Sort d port call → Touches port call) → All (IsQuietOf c.shape) (part i log)
+  quiet_behind sort =
+      part_all (IsQuietOf c.shape) i log (λ k y w here. let call = calls k y w in (touches_quietly call.port _ (sort call.component call.port _ call.sort), good_for _ call here))
 
   -- where it was read alone, its marks stay
   pub read_alone : ((d : Component) (port : Port) (call : Call) → Sort d port call → d.shape ≡ c.shape → Gets port call) → x.view.phase.marks ≡ (get_or olds i x).view.phase.marks

@@ -27,10 +27,10 @@ by_number {P} a b same other = (elim (same_number a b) as (λ c. P) [
   | inr n ↦ other n
 ])
 
-is_same : (a b : ℕ) → a ≡ b → (a == b) ≡ true
+pub is_same : (a b : ℕ) → a ≡ b → (a == b) ≡ true
 is_same a b e = eq-eqb a b e
 
-is_other : (a b : ℕ) → (a ≡ b → ⊥) → (a == b) ≡ false
+pub is_other : (a b : ℕ) → (a ≡ b → ⊥) → (a == b) ≡ false
 is_other a b h = (elim (a == b) as (λ c. (a == b) ≡ c → c ≡ false) [
   | true ↦ λ e. absurd (h (eqb-true a b e))
   | false ↦ λ e. refl
@@ -140,10 +140,10 @@ said-same NeedsOf system rules about V W a b p h same = (elim (slice_get system.
 
 -- ---- the step
 
-abbrev with_reply : ℕ → Option Reply → (ℕ → Option Reply) → ℕ → Option Reply
+abbrev pub with_reply : ℕ → Option Reply → (ℕ → Option Reply) → ℕ → Option Reply
 with_reply p reply replies q = if q == p then reply else replies q
 
-explains_more : (NeedsOf : ℕ → ℕ → Type 0) (system : System) (rules : Rules) → AreAbout NeedsOf system rules → (before : List (Option ℤ)) (pre : List ℕ) (p : ℕ) (reply : Option Reply) (values next : List (Option ℤ)) (front sent : List Sent) →
+pub explains_more : (NeedsOf : ℕ → ℕ → Type 0) (system : System) (rules : Rules) → AreAbout NeedsOf system rules → (before : List (Option ℤ)) (pre : List ℕ) (p : ℕ) (reply : Option Reply) (values next : List (Option ℤ)) (front sent : List Sent) →
     Here NeedsOf pre p → length values ≡ length system.ports → Explains system rules before pre values front → Turn system rules p reply values next sent → Explains system rules before (pre ++ p ∷ []) next (front ++ sent)
 explains_more NeedsOf system rules about before pre p reply values next front sent here len told turn =
     let replies = with_reply p reply told.replies in
@@ -182,6 +182,12 @@ explains_more NeedsOf system rules about before pre p reply values next front se
           ∙ ap (rules.takes p turn.port next (value before p)) (sym reply_here))) port is);
       left = λ q m. next_beside turn q (λ same. m (subst (Contains (pre ++ p ∷ [])) (sym same) (Contains-push pre p))) ∙ told.left q (λ old. m (Contains-append_left pre (p ∷ []) q old));
     }
+
+pub more_replies : (NeedsOf : ℕ → ℕ → Type 0) (system : System) (rules : Rules) (about : AreAbout NeedsOf system rules) (before : List (Option ℤ)) (pre : List ℕ) (p : ℕ) (reply : Option Reply) (values next : List (Option ℤ)) (front sent : List Sent)
+    (here : Here NeedsOf pre p) (len : length values ≡ length system.ports) (told : Explains system rules before pre values front) (turn : Turn system rules p reply values next sent) →
+    (explains_more NeedsOf system rules about before pre p reply values next front sent here len told turn).replies ≡ with_reply p reply told.replies
+unfolding explains_more
+more_replies NeedsOf system rules about before pre p reply values next front sent here len told turn = refl
 
 -- what the log of a walk tells
 pub explained : (IsAmong : ℕ → Type 0) (NeedsOf : ℕ → ℕ → Type 0) (system : System) (rules : Rules) → AreAbout NeedsOf system rules → (before : List (Option ℤ)) (order : List ℕ) → IsOrder IsAmong NeedsOf order → length before ≡ length system.ports →

@@ -5,3 +5,6 @@ pub mod Machines
 pub mod Instants
 pub mod Updates
 pub mod Settings
+pub mod Clocks
+pub mod Intervals
+pub mod Questions

@@ -17,7 +17,7 @@ use Rattle.system_model.specs.declared.system.System.{System}
 use Rattle.run_model.specs.Run.{value}
 use Rattle.slot_calls.specs.declared.bad_answer.BadAnswer.{BadAnswer}
 use Rattle.slot_calls.specs.Carried.{reply_in}
-use Rattle.slot_calls.specs.Slots.{sets_or_gets}
+use Rattle.slot_calls.specs.Slots.{reads_or_sets}
 use Rattle.slot_calls.specs.Log.{One, Sent, Told}
 
 -- what the turn of each port is, by its number: the call that it sends once the values are these, and the value that it takes, by these, its last one and the reply to its call
@@ -71,10 +71,10 @@ pub record TakesTurn (system : System) (rules : Rules) (p : ℕ) (values next : 
   pub told : Told log olds news
   pub says : TurnSays system rules p values next log result
 
--- the call, if there is one, is a Get or a Set that is permitted
+-- the call, if there is one, reads or sets a variable or a Clock, and is permitted
 abbrev pub MayAsk : Option Call → View → Type 0
 MayAsk None v = Unit {0}
-MayAsk (Some call) v = Permitted v.fixed.shape v.phase call × IsTrue (sets_or_gets call)
+MayAsk (Some call) v = Permitted v.fixed.shape v.phase call × IsTrue (reads_or_sets call)
 
 -- the call of a port's turn may be sent
 abbrev pub MayTurn : System → Rules → ℕ → List (Option ℤ) → List Instance → Type 0

@@ -1,44 +1,56 @@
-ghost use Rattle.std.specs.Prelude.{◌≡◌, ◌<◌, true, OnOk, All, length};
+ghost use Rattle.std.specs.Prelude.{◌≡◌, ◌<◌, ◌≤◌, ◌==◌, ◌↔◌, ℕ, IsTrue, Some, None, OnOk, All, length, if◌then◌else◌};
+ghost use Rattle.std.specs.List.{list_any};
+ghost use Rattle.fmi_calls.specs.declared.call.Call.TheVariants as Call;
+ghost use Rattle.run_model.specs.Inputs.{is_active, is_present};
+ghost use Rattle.run_model.specs.Run.{value};
+ghost use Rattle.sim_base.specs.declared.numbers.PortId.{PortId};
 ghost use Rattle.system_model.specs.declared.system.Port.{Port};
-ghost use Rattle.system_model.specs.Needs.{is_unclocked};
 ghost use Rattle.system_model.specs.Ports.{numbers};
 ghost use Rattle.system_model.specs.Sound.{IsSound};
 ghost use Rattle.run_model.specs.Machines.{AreFitting};
+ghost use Rattle.tick_schedule.specs.Timetable.{TicksAt};
 ghost use Rattle.slot_calls.specs.Slots.{LiveSlot, Stands, instances};
 ghost use Rattle.slot_calls.specs.Stage.{shapes, shapes_of};
 ghost use Rattle.event_iteration.specs.Explains.{Walks};
 ghost use Rattle.event_iteration.specs.Initialization.{IsPlaced};
-ghost use Rattle.event_iteration.specs.Instants.{BeginsInstant, IsWithoutClocks, SolvesInInstant, asks_in_instant, in_instant, seen_or, takes_in_instant};
+ghost use Rattle.event_iteration.specs.Instants.{BeginsInstant, HasPlacedClocks, SolvesInInstant, asks_in_instant, in_instant, is_read_in_instant, seen_or, takes_in_instant};
+ghost use Rattle.event_iteration.specs.Clocks.{AreTicks, StandsAt, is_due_at, timers_in};
+ghost use Rattle.event_iteration.specs.Intervals.{TellsTicks};
 ghost use Rattle.event_iteration.specs.Turns.{MayTurn, TakesTurn};
 
 use crate::initialization::set_call;
 use crate::turn::{ask_if, has_event_mode};
 use fmi_calls::{Call, Reply};
 use fmu_peer::{Peer, Slot};
+use sim_base::PortId;
 use slot_calls::{BadAnswer, value_in};
+use std::marker::Brand;
+use std::sync::ledger::{Blank, Ledger};
 use system_model::{Port, Role, System};
+use tick_schedule::{Schedule, Steps};
 
-// The call that the turn of a port without Clocks sends.
+// The call that the turn of a port sends.
 fn call_of(
     port: &Port,
     has_event_mode: bool,
     is_first: bool,
+    ticks: bool,
     values: &[Option<i128>],
 ) -> Option<Call>
     requires placed { IsPlaced (length values.now) port.now }
-    requires unclocked { is_unclocked port.now ≡ true }
-    ensures { result ≡ asks_in_instant port.now.role port.now has_event_mode is_first values.now }
+    requires clocks { HasPlacedClocks (length values.now) port.now }
+    ensures { result ≡ asks_in_instant port.now.role port.now has_event_mode is_first ticks values.now }
 {
     match port.role {
         Role::Input { feed: Some(feed) } => {
-            if has_event_mode {
+            if has_event_mode && is_present(port, values) {
                 set_call(port, values[feed.from.0 as usize])
             } else {
                 None
             }
         }
         Role::Output => {
-            if has_event_mode || is_first {
+            if is_read(port, has_event_mode, is_first, values) {
                 Some(Call::Get {
                     kind: port.kind,
                     reference: port.reference,
@@ -47,31 +59,96 @@ fn call_of(
                 None
             }
         }
-        Role::Input { feed: None }
-        | Role::ClockInput { .. }
-        | Role::ClockOutput
-        | Role::TimeClock { .. } => None,
+        Role::ClockInput { feed: Some(feed) } => {
+            set_clock_if(port, is_active(values[feed.from.0 as usize]))
+        }
+        Role::ClockOutput => Some(Call::GetClock {
+            reference: port.reference,
+        }),
+        Role::TimeClock { .. } => set_clock_if(port, ticks),
+        Role::Input { feed: None } | Role::ClockInput { feed: None } => None,
     }
 }
 
-// The value that a port without Clocks takes with this reply; last is the one that it has.
+// The SetClock of a port, where it is active.
+fn set_clock_if(port: &Port, is_active: bool) -> Option<Call>
+    ensures { result ≡ (if is_active then Some (Call.SetClock port.now.reference) else None) }
+{
+    if is_active {
+        Some(Call::SetClock {
+            reference: port.reference,
+        })
+    } else {
+        None
+    }
+}
+
+// Whether a Clock of this value is active.
+pub(crate) fn is_active(value: Option<i128>) -> bool
+    ensures { result ≡ is_active value }
+{
+    value == Some(1)
+}
+
+// Whether a port is present: a Clock is always, and so is a port without Clocks; another where one of its Clocks is active.
+fn is_present(port: &Port, values: &[Option<i128>]) -> bool
+    requires clocks { HasPlacedClocks (length values.now) port.now }
+    ensures { result ≡ is_present port.now values.now }
+{
+    match port.role {
+        Role::ClockInput { .. } | Role::ClockOutput | Role::TimeClock { .. } => true,
+        Role::Input { .. } | Role::Output => {
+            port.clocks.len() == 0 || some_active(port.clocks.as_slice(), values)
+        }
+    }
+}
+
+fn some_active(clocks: &[PortId], values: &[Option<i128>]) -> bool
+    requires clocks { All (λ (c : PortId). c.0 < length values.now) clocks.now }
+    ensures { result ≡ list_any (λ (c : PortId). is_active (value values.now c.0)) clocks.now }
+{
+    clocks
+        .iter()
+        .any(|clock| is_active(values[clock.0 as usize]))
+}
+
+// Whether an output is read.
+fn is_read(port: &Port, has_event_mode: bool, is_first: bool, values: &[Option<i128>]) -> bool
+    requires clocks { HasPlacedClocks (length values.now) port.now }
+    ensures { result ≡ is_read_in_instant port.now has_event_mode is_first values.now }
+{
+    if has_event_mode {
+        is_present(port, values)
+    } else {
+        is_first
+    }
+}
+
+// The value that a port takes with this reply; last is the one that it has.
 fn value_of(
     port: &Port,
+    ticks: bool,
     values: &[Option<i128>],
     last: Option<i128>,
     reply: &Option<Reply>,
 ) -> Option<i128>
     requires placed { IsPlaced (length values.now) port.now }
-    requires unclocked { is_unclocked port.now ≡ true }
-    ensures { result ≡ takes_in_instant port.now.role port.now values.now last reply.now }
+    requires clocks { HasPlacedClocks (length values.now) port.now }
+    ensures { result ≡ takes_in_instant port.now.role port.now ticks values.now last reply.now }
 {
     match port.role {
-        Role::Input { feed: Some(feed) } => values[feed.from.0 as usize],
-        Role::Output => seen_or(port, last, reply),
-        Role::Input { feed: None }
-        | Role::ClockInput { .. }
-        | Role::ClockOutput
-        | Role::TimeClock { .. } => None,
+        Role::Input { feed: Some(feed) } => {
+            if is_present(port, values) {
+                values[feed.from.0 as usize]
+            } else {
+                last
+            }
+        }
+        Role::Output | Role::ClockOutput => seen_or(port, last, reply),
+        Role::ClockInput { feed: Some(feed) } => values[feed.from.0 as usize],
+        Role::ClockInput { feed: None } => Some(0),
+        Role::TimeClock { .. } => Some(i128::from(ticks)),
+        Role::Input { feed: None } => None,
     }
 }
 
@@ -85,31 +162,44 @@ fn seen_or(port: &Port, last: Option<i128>, reply: &Option<Reply>) -> Option<i12
     }
 }
 
+// Whether the Clock at a place of the schedule ticks at a point.
+fn is_due<K: Ledger>(schedule: &Schedule, t: u64, p: usize, blank: Blank) -> bool
+    requires name { blank.name ≡ K.name }
+    requires parts { blank.parts ≡ K.parts }
+    requires some { 0 < blank.parts }
+    requires place { p < length schedule.now.clocks }
+    requires none_below { (other point : ℕ) → TicksAt schedule.now other point → t ≤ point }
+    ensures { IsTrue result ↔ TicksAt schedule.now p t }
+{
+    schedule.due(p, t, &mut Steps::<K>::new(blank))
+}
+
 // Takes a port in its turn.
 fn take<L: Peer>(
     slots: &mut [Slot<L>],
     system: &System,
     is_first: bool,
+    ticks: bool,
     values: &mut [Option<i128>],
     p: usize,
 ) -> Result<(), BadAnswer>
     requires port { p < length system.now.ports }
     requires shapes { shapes (instances L.view slots.old) ≡ shapes_of system.now }
     requires placed { All (IsPlaced (length system.now.ports)) system.now.ports }
-    requires clockless { IsWithoutClocks system.now }
+    requires clocks { All (HasPlacedClocks (length system.now.ports)) system.now.ports }
     requires there { All (λ (port : Port). port.component.0 < length system.now.components) system.now.ports }
     requires values { length values.old ≡ length system.now.ports }
     requires live { All (LiveSlot L.view) slots.old }
-    requires may { MayTurn system.now (in_instant is_first) p values.old (instances L.view slots.old) }
+    requires may { MayTurn system.now (in_instant (λ q. ticks) is_first) p values.old (instances L.view slots.old) }
     ensures live { OnOk result (All (LiveSlot L.view) slots.new) }
-    ensures turn { TakesTurn system.now (in_instant is_first) p values.old values.new (instances L.view slots.old) (instances L.view slots.new) result }
+    ensures turn { TakesTurn system.now (in_instant (λ q. ticks) is_first) p values.old values.new (instances L.view slots.old) (instances L.view slots.new) result }
 {
     let port = &system.ports.as_slice()[p];
     let has_event_mode = has_event_mode(system, port.component);
-    let call = call_of(port, has_event_mode, is_first, values);
+    let call = call_of(port, has_event_mode, is_first, ticks, values);
     match ask_if(&mut slots[port.component.0 as usize], call) {
         Ok(reply) => {
-            values[p] = value_of(port, values, values[p], &reply);
+            values[p] = value_of(port, ticks, values, values[p], &reply);
             Ok(())
         }
         Err(why) => Err(BadAnswer {
@@ -119,31 +209,39 @@ fn take<L: Peer>(
     }
 }
 
-/// Finds the values of an instant, in the stored order (FMI 3.0, 4.2.1: Event Mode, Step Mode), from those of the instant
-/// before. With event mode it sets each connected input to its source's value and reads each output; without event mode it
-/// reads each output in the first instant at a point alone, and inputs take the values of their sources. It stops at the
-/// first answer that isn't good. No port may be a Clock or have one.
+/// Finds the values of an instant at a point, in the stored order (FMI 3.0, 4.2.1: Event Mode, Step Mode; 2.2.8: Clocks), from
+/// those of the instant before. With event mode it makes each input Clock active that ticks or whose source is active, asks
+/// each output Clock, sets each connected input that is present to its source's value and reads each output that is present;
+/// a port that is absent keeps its value. Without event mode it reads each output in the first instant at a point alone, and
+/// inputs take the values of their sources. It stops at the first answer that isn't good. The schedule has a place for each
+/// port and tells which time-based Clocks tick; `is_first` says that it is the first instant at the point, a count.
 pub fn instant<L: Peer>(
     slots: &mut [Slot<L>],
     system: &System,
+    schedule: &Schedule,
+    t: u64,
     is_first: bool,
     values: &mut [Option<i128>],
 ) -> Result<(), BadAnswer>
     requires sound { IsSound system.now }
-    requires clockless { IsWithoutClocks system.now }
+    requires stands { StandsAt system.now t is_first schedule.now }
     requires shapes { shapes (instances L.view slots.old) ≡ shapes_of system.now }
     requires live { All (LiveSlot L.view) slots.old }
     requires begins { All (Stands BeginsInstant L.view) slots.old }
     requires values { length values.old ≡ length system.now.ports }
     requires fitting { AreFitting system.now values.old }
     ensures live { OnOk result (All (LiveSlot L.view) slots.new) }
-    ensures walks { Walks system.now (in_instant is_first) values.old (numbers system.now.instant_order) values.new (instances L.view slots.old) (instances L.view slots.new) result }
+    ensures walks { Walks system.now (in_instant (is_due_at schedule.now t) is_first) values.old (numbers system.now.instant_order) values.new (instances L.view slots.old) (instances L.view slots.new) result }
     ensures fitting { AreFitting system.now values.new }
-    ensures solved { OnOk result (SolvesInInstant system.now is_first values.old values.new (instances L.view slots.old) (instances L.view slots.new)) }
+    ensures due { (n : ℕ) → (n == 0) ≡ is_first → AreTicks system.now schedule.now.start (timers_in schedule.now) t n (is_due_at schedule.now t) }
+    ensures ticks { OnOk result (TellsTicks system.now schedule.now t values.new) }
+    ensures solved { OnOk result (SolvesInInstant system.now schedule.now t is_first values.old values.new (instances L.view slots.old) (instances L.view slots.new)) }
 {
     let order = system.instant_order.as_slice();
     for k in 0..order.len() {
-        match take(slots, system, is_first, values, order[k].0 as usize) {
+        let p = order[k].0 as usize;
+        let ticks = is_due::<Brand>(schedule, t, p, Blank::new(1));
+        match take(slots, system, is_first, ticks, values, p) {
             Ok(()) => {}
             Err(bad) => return Err(bad),
         }

@@ -1,15 +1,20 @@
-//! The walks through the ports of a system that find the values of Initialization Mode and of instants.
+//! The walks through the ports of a system that find the values of Initialization Mode and of instants, and what its Clocks
+//! are asked for.
 #![tactic(auto)]
 
+mod clocks;
 mod initialization;
 mod inputs;
 mod instants;
+mod intervals;
 mod reads;
 mod turn;
 mod updates;
 
+pub use clocks::{fix_clocks, schedule_of};
 pub use initialization::initialize;
 pub use inputs::set_inputs;
 pub use instants::instant;
+pub use intervals::ask_intervals;
 pub use reads::InitialReads;
 pub use updates::{Updated, update};

@@ -1,5 +1,5 @@
--- The phase after a call with its reply, or with a fault in the reply's place (FMI 3.0, 4.2.1; 2.2.3 for Discard, Error and Fatal; 2.2.6: FMU state).
-use Rattle.std.specs.Prelude.{◌≡◌, ℕ, ◌+◌, ◌-◌, ◌^◌, Bool, true, false, not, if◌then◌else◌, min, List, length, replicate, set, Option, Some, None, unwrap_or}
+-- The phase after a call with its reply, or with a fault in the reply's place (FMI 3.0, 4.2.1; 2.2.3 for Discard, Error and Fatal; 2.2.6: FMU state; 2.2.9: Clocks).
+use Rattle.std.specs.Prelude.{◌≡◌, ℕ, ◌+◌, ◌-◌, ◌^◌, ◌==◌, Bool, true, false, not, if◌then◌else◌, min, List, length, replicate, set, Option, Some, None, unwrap_or}
 use Rattle.std.specs.Option.{option_map_or}
 use Rattle.value_types.specs.Shape.{place_of}
 use Rattle.value_types.specs.declared.shape.Shape.{Shape}
@@ -31,14 +31,16 @@ fresh shape = record {
   first_size = None;
   settled = false;
   marks = unmarked shape;
+  active = unmarked shape;
   slot = record { is_full = false; point = 0; marks = unmarked shape };
   exchanges = 0;
   restores = 0;
 }
 
--- the phase has a mark for each variable, and room to save the marks
+-- the phase has a mark for each variable, whether each is an active Clock, and room to save the marks
 pub record HasMarks (shape : Shape) (phase : Phase) : Type 0 where
   pub marks : length phase.marks ≡ length shape.variables
+  pub active : length phase.active ≡ length shape.variables
   pub saved : length phase.slot.marks ≡ length shape.variables
 
 -- the marks once a variable is marked
@@ -50,6 +52,11 @@ abbrev pub marks_after_set : InstanceState → Shape → List Bool → ℕ → L
 marks_after_set Event shape marks reference = marked shape marks reference
 marks_after_set Step shape marks reference = marked shape marks reference
 marks_after_set _ shape marks reference = marks
+
+-- the answer to GetClock is that the Clock is active
+abbrev pub is_tick : Reply → Bool
+is_tick (R.Done is_warning (A.GetClock word)) = word == 1
+is_tick _ = false
 
 -- where a step ended
 abbrev pub end_of : Reply → ℕ → ℕ
@@ -65,20 +72,28 @@ settles _ = false
 abbrev pub running_state : Shape → InstanceState
 running_state shape = if shape.has_event_mode then Event else Step
 
--- where a good reply leads: an Update ends its instant and takes the marks away, as a step does; Save fills the slot with the point and the marks, Restore brings them back and keeps the slot, Free empties it; the calls of Clocks, which no phase permits yet, leave it
+-- where a good reply leads: a Clock that is set or asked is marked, and active where it was set or answers so; an Update ends its instant, takes the marks away, as a step does, and leaves no Clock active; Save fills the slot with the point and the marks, Restore brings them back and keeps the slot, Free empties it; what only reads leaves it
 abbrev pub entered : Shape → Phase → Call → Reply → Phase
 entered shape phase (C.Instantiate event_mode early_return) reply = record phase { state = Instantiated }
 entered shape phase (C.EnterInitialization start stop) reply = record phase { state = Initialization; point = start; stop = stop }
 entered shape phase C.ExitInitialization reply = record phase { state = running_state shape; settled = false }
 entered shape phase C.EnterEvent reply = record phase { state = Event; settled = false }
 entered shape phase C.EnterStep reply = record phase { state = Step }
-entered shape phase C.Update reply = record phase { settled = settles reply; marks = unmarked shape }
+entered shape phase C.Update reply = record phase { settled = settles reply; marks = unmarked shape; active = unmarked shape }
 entered shape phase (C.DoStep at size) reply = record phase {
   point = end_of reply phase.point;
   first_size = Some (unwrap_or phase.first_size size);
   marks = unmarked shape;
 }
 entered shape phase (C.Set kind reference value) reply = record phase { marks = marks_after_set phase.state shape phase.marks reference }
+entered shape phase (C.GetClock reference) reply = record phase {
+  marks = marked shape phase.marks reference;
+  active = if is_tick reply then marked shape phase.active reference else phase.active;
+}
+entered shape phase (C.SetClock reference) reply = record phase {
+  marks = marked shape phase.marks reference;
+  active = marked shape phase.active reference;
+}
 entered shape phase C.Save reply = record phase { slot = record { is_full = true; point = phase.point; marks = phase.marks } }
 entered shape phase C.Restore reply = record phase { point = phase.slot.point; marks = phase.slot.marks }
 entered shape phase C.Free reply = record phase { slot = record { is_full = false; point = phase.slot.point; marks = phase.slot.marks } }

@@ -2,6 +2,8 @@
 #![tactic(auto)]
 
 mod call;
+#[cfg(test)]
+mod clock_tests;
 mod kind_facts;
 mod marks;
 mod next;

@@ -1,6 +1,6 @@
 ghost use Rattle.std.specs.Prelude.{◌≡◌, option_copied, length, true};
 ghost use Rattle.fmi_calls.specs.Permission.{Permitted};
-ghost use Rattle.fmi_calls.specs.Next.{HasMarks, next_of, entered, end_of, state_after_bad, restores_after, marked, marks_after_set, running_state, settles};
+ghost use Rattle.fmi_calls.specs.Next.{HasMarks, next_of, entered, end_of, is_tick, state_after_bad, restores_after, marked, marks_after_set, running_state, settles};
 
 use crate::{BadStatus, Call, Content, Grade, InstanceState, Marks, Phase, Reply, grade};
 use value_types::Shape;
@@ -74,6 +74,19 @@ fn settles(reply: &Reply) -> bool
     }
 }
 
+// Whether the answer to GetClock is that the Clock is active.
+fn is_tick(reply: &Reply) -> bool
+    ensures { result ≡ is_tick reply.now }
+{
+    match reply {
+        Reply::Done {
+            content: Content::GetClock { word },
+            ..
+        } => *word == 1,
+        _ => false,
+    }
+}
+
 // Where a good reply leads.
 fn enter(shape: &Shape, phase: &mut Phase, call: &Call, reply: &Reply)
     requires { HasMarks shape.now phase.old }
@@ -99,6 +112,7 @@ fn enter(shape: &Shape, phase: &mut Phase, call: &Call, reply: &Reply)
         Call::Update => {
             phase.settled = settles(reply);
             phase.marks.clear();
+            phase.active.clear();
         }
         Call::DoStep { size, .. } => {
             phase.point = end_of(reply, phase.point);
@@ -108,16 +122,22 @@ fn enter(shape: &Shape, phase: &mut Phase, call: &Call, reply: &Reply)
         Call::Set { reference, .. } => {
             mark_after_set(phase.state, shape, &mut phase.marks, reference);
         }
+        Call::GetClock { reference } => {
+            mark(shape, &mut phase.marks, reference);
+            if is_tick(reply) {
+                mark(shape, &mut phase.active, reference);
+            }
+        }
+        Call::SetClock { reference } => {
+            mark(shape, &mut phase.marks, reference);
+            mark(shape, &mut phase.active, reference);
+        }
         Call::Save => save(phase),
         Call::Restore => restore(phase),
         Call::Free => phase.slot.is_full = false,
         Call::Terminate => phase.state = InstanceState::Terminated,
         Call::FreeInstance => phase.state = InstanceState::Gone,
-        Call::Get { .. }
-        | Call::GetClock { .. }
-        | Call::SetClock { .. }
-        | Call::GetInterval { .. }
-        | Call::GetShift { .. } => {}
+        Call::Get { .. } | Call::GetInterval { .. } | Call::GetShift { .. } => {}
     }
 }
 

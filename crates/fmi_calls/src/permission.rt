@@ -1,9 +1,11 @@
 ghost use Rattle.std.specs.Prelude.{◌≡◌, ◌↔◌, IsTrue, IsSomeAnd, Some};
-ghost use Rattle.fmi_calls.specs.Permission.{Permitted, IsReadable, IsWritable, can_be_read, can_be_set, has_causality, is_marked, is_of_point};
-ghost use Rattle.value_types.specs.Shape.{IsOutput, is_at, is_input, is_parameter, is_unclocked, variable_at};
+ghost use Rattle.std.specs.List.{list_any};
+ghost use Rattle.std.specs.Option.{option_map_or};
+ghost use Rattle.fmi_calls.specs.Permission.{Permitted, IsReadable, IsWritable, can_be_read, can_be_set, can_be_ticked, counts_down, has_causality, has_interval, has_shift, is_answered, is_input_clock, is_marked, is_of_point, is_output_clock, is_present, is_timed};
+ghost use Rattle.value_types.specs.Shape.{IsOutput, is_at, is_input, is_parameter, is_unclocked, timing_at, variable_at};
 
 use crate::{Call, InstanceState, Marks, Phase, SavedPhase};
-use value_types::{Causality, PortType, Shape, fits};
+use value_types::{Causality, IntervalVariability, PortType, Shape, fits};
 
 fn is_readable(shape: &Shape, kind: PortType, reference: u32) -> bool
     ensures { IsTrue result ↔ IsReadable shape.now kind reference }
@@ -71,32 +73,120 @@ fn is_marked(shape: &Shape, marks: &Marks, reference: u32) -> bool
     }
 }
 
-fn can_be_read(state: InstanceState, shape: &Shape, marks: &Marks, reference: u32) -> bool
-    ensures { result ≡ can_be_read state shape.now marks.now reference }
+// Whether it has no Clocks, or one of them is active.
+fn is_present(shape: &Shape, active: &Marks, reference: u32) -> bool
+    ensures { result ≡ is_at (is_present shape.now active.now) shape.now.variables reference }
+{
+    match shape.variables.find(reference) {
+        Some(variable) => {
+            variable.is_unclocked() || is_any_marked(shape, active, variable.clocks.as_slice())
+        }
+        None => false,
+    }
+}
+
+fn is_any_marked(shape: &Shape, marks: &Marks, references: &[u32]) -> bool
+    ensures { result ≡ list_any (is_marked shape.now marks.now) references.now }
+{
+    references
+        .iter()
+        .any(|reference| is_marked(shape, marks, *reference))
+}
+
+fn is_input_clock(shape: &Shape, reference: u32) -> bool
+    ensures { result ≡ is_at is_input_clock shape.now.variables reference }
+{
+    match shape.variables.find(reference) {
+        Some(variable) => variable.is_input_port() && variable.is_clock(),
+        None => false,
+    }
+}
+
+fn is_output_clock(shape: &Shape, reference: u32) -> bool
+    ensures { result ≡ is_at is_output_clock shape.now.variables reference }
+{
+    match shape.variables.find(reference) {
+        Some(variable) => variable.is_output_port() && variable.is_clock(),
+        None => false,
+    }
+}
+
+fn can_be_set_active(phase: &Phase, shape: &Shape, reference: u32) -> bool
+    ensures { result ≡ can_be_ticked is_input_clock phase.now.state shape.now phase.now.marks reference }
+{
+    phase.state == InstanceState::Event
+        && is_input_clock(shape, reference)
+        && !is_marked(shape, &phase.marks, reference)
+}
+
+fn can_be_asked(phase: &Phase, shape: &Shape, reference: u32) -> bool
+    ensures { result ≡ can_be_ticked is_output_clock phase.now.state shape.now phase.now.marks reference }
+{
+    phase.state == InstanceState::Event
+        && is_output_clock(shape, reference)
+        && !is_marked(shape, &phase.marks, reference)
+}
+
+// Whether its interval and shift are answered.
+fn is_answered(shape: &Shape, reference: u32) -> bool
+    ensures { result ≡ is_timed is_answered shape.now reference }
+{
+    is_input_clock(shape, reference)
+        && match shape.clocks.find(reference) {
+            Some(clock) => {
+                clock.variability == IntervalVariability::Fixed && clock.supports_fraction
+            }
+            None => false,
+        }
+}
+
+fn counts_down(shape: &Shape, reference: u32) -> bool
+    ensures { result ≡ is_timed counts_down shape.now reference }
+{
+    is_input_clock(shape, reference)
+        && match shape.clocks.find(reference) {
+            Some(clock) => clock.variability == IntervalVariability::Countdown,
+            None => false,
+        }
+}
+
+fn has_interval(state: InstanceState, shape: &Shape, reference: u32) -> bool
+    ensures { result ≡ has_interval state shape.now reference }
 {
     match state {
-        InstanceState::Initialization | InstanceState::Event => is_unclocked(shape, reference),
-        InstanceState::Step => !shape.has_event_mode && !marks.any(),
+        InstanceState::Initialization => is_answered(shape, reference),
+        InstanceState::Event => counts_down(shape, reference),
         _ => false,
     }
 }
 
-fn can_be_set(state: InstanceState, shape: &Shape, marks: &Marks, reference: u32) -> bool
-    ensures { result ≡ can_be_set state shape.now marks.now reference }
+fn can_be_read(phase: &Phase, shape: &Shape, reference: u32) -> bool
+    ensures { result ≡ can_be_read phase.now.state shape.now phase.now.marks phase.now.active reference }
 {
-    match state {
+    match phase.state {
+        InstanceState::Initialization => is_unclocked(shape, reference),
+        InstanceState::Event => is_present(shape, &phase.active, reference),
+        InstanceState::Step => !shape.has_event_mode && !phase.marks.any(),
+        _ => false,
+    }
+}
+
+fn can_be_set(phase: &Phase, shape: &Shape, reference: u32) -> bool
+    ensures { result ≡ can_be_set phase.now.state shape.now phase.now.marks phase.now.active reference }
+{
+    match phase.state {
         InstanceState::Instantiated => is_parameter(shape, reference),
         InstanceState::Initialization => is_input(shape, reference)
             && is_unclocked(shape, reference),
         InstanceState::Event => {
             is_input(shape, reference)
-                && is_unclocked(shape, reference)
-                && !is_marked(shape, marks, reference)
+                && is_present(shape, &phase.active, reference)
+                && !is_marked(shape, &phase.marks, reference)
         }
         InstanceState::Step => {
             is_input(shape, reference)
                 && !shape.has_event_mode
-                && !is_marked(shape, marks, reference)
+                && !is_marked(shape, &phase.marks, reference)
         }
         _ => false,
     }
@@ -140,15 +230,14 @@ pub fn permitted(shape: &Shape, phase: &Phase, call: &Call) -> bool
                 && is_of_point(&phase.slot, phase.point)
         }
         Call::Get { kind, reference } => {
-            can_be_read(phase.state, shape, &phase.marks, reference)
-                && is_readable(shape, kind, reference)
+            can_be_read(phase, shape, reference) && is_readable(shape, kind, reference)
         }
         Call::Set {
             kind,
             reference,
             value,
         } => {
-            can_be_set(phase.state, shape, &phase.marks, reference)
+            can_be_set(phase, shape, reference)
                 && is_writable(shape, kind, reference)
                 && fits(kind, value)
         }
@@ -160,9 +249,11 @@ pub fn permitted(shape: &Shape, phase: &Phase, call: &Call) -> bool
         }
         Call::Terminate => phase.state.is_running() && !phase.slot.is_full,
         Call::FreeInstance => phase.state.can_be_freed(phase.slot.is_full),
-        Call::GetClock { .. }
-        | Call::SetClock { .. }
-        | Call::GetInterval { .. }
-        | Call::GetShift { .. } => false,
+        Call::GetClock { reference } => can_be_asked(phase, shape, reference),
+        Call::SetClock { reference } => can_be_set_active(phase, shape, reference),
+        Call::GetInterval { reference } => has_interval(phase.state, shape, reference),
+        Call::GetShift { reference } => {
+            phase.state == InstanceState::Initialization && is_answered(shape, reference)
+        }
     }
 }

@@ -40,8 +40,11 @@ pub struct Phase {
     pub first_size: Option<u64>,
     /// in Event Mode, whether an Update stands behind its beginning and the last one asked for no other
     pub settled: bool,
-    /// which variables were set, in Event Mode in this instant, in Step Mode since the last step
+    /// which variables were set, and which output Clocks were asked, in Event Mode in this instant, in Step Mode since the
+    /// last step
     pub marks: Marks,
+    /// which Clocks are active in this instant
+    pub active: Marks,
     /// where Save keeps a state
     pub slot: SavedPhase,
     /// how many exchanges there were; it stays at its last value
@@ -91,6 +94,7 @@ impl Phase {
             first_size: None,
             settled: false,
             marks: Marks::none(alloc, count)?,
+            active: Marks::none(alloc, count)?,
             slot: SavedPhase {
                 is_full: false,
                 point: 0,

@@ -50,7 +50,7 @@ const EMPTY: Call = Call::Free;
 
 const TERMINATE: Call = Call::Terminate;
 
-const FREE: Call = Call::FreeInstance;
+pub(crate) const FREE: Call = Call::FreeInstance;
 
 // Steps behind the first: one like it, from where it ended or ended early, a shorter one, and one past the stop.
 const SECOND: Call = Call::DoStep { at: 40, size: 30 };
@@ -62,7 +62,8 @@ const SHORTER: Call = Call::DoStep { at: 40, size: 20 };
 const LONG: Call = Call::DoStep { at: 10, size: 91 };
 
 // Others that no phase permits: another flag, a stop before the start, no size, an input that is read, another type, a
-// value out of range, an output that is set, the calls of event mode where there is none, and those of Clocks.
+// value out of range, an output that is set, the calls of event mode where there is none, and those of a Clock that is
+// no variable.
 const NEVER: [Call; 14] = [
     Call::Instantiate {
         event_mode: true,
@@ -150,9 +151,9 @@ macro_rules! refused {
 
 const STARTED: (Call, Option<Reply>) = (INSTANTIATE, done!(Content::Instantiate));
 
-const ENTERED: (Call, Option<Reply>) = (ENTER, done!(Content::EnterInitialization));
+pub(crate) const ENTERED: (Call, Option<Reply>) = (ENTER, done!(Content::EnterInitialization));
 
-const EXITED: (Call, Option<Reply>) = (EXIT, done!(Content::ExitInitialization));
+pub(crate) const EXITED: (Call, Option<Reply>) = (EXIT, done!(Content::ExitInitialization));
 
 const STEPPED: (Call, Option<Reply>) = (STEP, ended!(false, 40));
 
@@ -169,7 +170,7 @@ const EMPTIED: (Call, Option<Reply>) = (EMPTY, done!(Content::Free));
 const TERMINATED: (Call, Option<Reply>) = (TERMINATE, done!(Content::Terminate));
 
 // Calls with their replies, or none at a fault, then state and point, and what is permitted.
-type Row = (
+pub(crate) type Row = (
     &'static [(Call, Option<Reply>)],
     InstanceState,
     u64,
@@ -411,13 +412,16 @@ macro_rules! updated {
     };
 }
 
-const STARTED_EVENTS: (Call, Option<Reply>) = (INSTANTIATE_EVENTS, done!(Content::Instantiate));
+pub(crate) const STARTED_EVENTS: (Call, Option<Reply>) = (
+    INSTANTIATE_EVENTS,
+    done!(Content::Instantiate),
+);
 
 const AGAIN: (Call, Option<Reply>) = updated!(true);
 
-const SETTLED: (Call, Option<Reply>) = updated!(false);
+pub(crate) const SETTLED: (Call, Option<Reply>) = updated!(false);
 
-const IN_STEP: (Call, Option<Reply>) = (ENTER_STEP, done!(Content::EnterStep));
+pub(crate) const IN_STEP: (Call, Option<Reply>) = (ENTER_STEP, done!(Content::EnterStep));
 
 const IN_EVENT: (Call, Option<Reply>) = (ENTER_EVENT, done!(Content::EnterEvent));
 
@@ -731,7 +735,11 @@ const SHIFTS: [(Fraction, bool); 4] = [
     (UNKNOWN, false),
 ];
 
-fn variable(alloc: Global, reference: u32, causality: Causality) -> Result<Variable, AllocError> {
+pub(crate) fn variable(
+    alloc: Global,
+    reference: u32,
+    causality: Causality,
+) -> Result<Variable, AllocError> {
     Ok(Variable {
         name: Text::from_str(alloc, "v")?,
         aliases: Items::from_vec(Vec::new(alloc)),
@@ -744,7 +752,7 @@ fn variable(alloc: Global, reference: u32, causality: Causality) -> Result<Varia
     })
 }
 
-fn clock(reference: u32, variability: IntervalVariability) -> ClockTiming {
+pub(crate) fn clock(reference: u32, variability: IntervalVariability) -> ClockTiming {
     ClockTiming {
         reference,
         variability,
@@ -755,7 +763,7 @@ fn clock(reference: u32, variability: IntervalVariability) -> ClockTiming {
 }
 
 // An FMU without event mode and without variable steps.
-fn shape_of(alloc: Global, might_return_early: bool) -> Result<Shape, AllocError> {
+pub(crate) fn shape_of(alloc: Global, might_return_early: bool) -> Result<Shape, AllocError> {
     let variables = vec![in alloc;
         variable(alloc, 1, Causality::Input)?,
         variable(alloc, 2, Causality::Output)?,
@@ -795,7 +803,7 @@ fn follow(
     Ok(phase)
 }
 
-fn assert_phases(
+pub(crate) fn assert_phases(
     rt: &impl Abort,
     alloc: Global,
     shape: &Shape,

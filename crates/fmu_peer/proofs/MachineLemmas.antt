@@ -220,7 +220,7 @@ module _ (shape : Shape) (m : Machine) (is : IsMachineOf shape m) (phase : Phase
       (is.keeps s C.EnterStep refl ∙ mode_at m phase s P.Event old may.0 refl) (saved_at m phase s P.Event old may.0 refl)
   in_phase_after C.Update may =
       in_same m phase (new C.Update) s (after m s C.Update) old (leaves C.Update refl (bad_same phase.state)) (is.keeps s C.Update refl) old.saved
-  in_phase_after (C.GetClock reference) may = absurd may
-  in_phase_after (C.SetClock reference) may = absurd may
-  in_phase_after (C.GetInterval reference) may = absurd may
-  in_phase_after (C.GetShift reference) may = absurd may
+  in_phase_after (C.GetClock reference) may = in_same m phase (new (C.GetClock reference)) s (after m s (C.GetClock reference)) old (leaves (C.GetClock reference) refl (bad_same phase.state)) refl old.saved
+  in_phase_after (C.SetClock reference) may = in_same m phase (new (C.SetClock reference)) s (after m s (C.SetClock reference)) old (leaves (C.SetClock reference) refl (bad_same phase.state)) refl old.saved
+  in_phase_after (C.GetInterval reference) may = in_same m phase (new (C.GetInterval reference)) s (after m s (C.GetInterval reference)) old (leaves (C.GetInterval reference) refl (bad_same phase.state)) refl old.saved
+  in_phase_after (C.GetShift reference) may = in_same m phase (new (C.GetShift reference)) s (after m s (C.GetShift reference)) old (leaves (C.GetShift reference) refl (bad_same phase.state)) refl old.saved

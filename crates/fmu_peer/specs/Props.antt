@@ -73,16 +73,16 @@ Permitted-prop shape p C.EnterStep = hlevel (le_prop, state_set, bool_set, nat_s
 Permitted-prop shape p C.Update = hlevel (state_set)
 Permitted-prop shape p (C.DoStep at size) = hlevel (le_prop, state_set, bool_set, nat_set)
 Permitted-prop shape p (C.Get kind reference) = ×_prop (hlevel (bool_set)) (×_prop (hlevel (bool_set)) (is_output-prop (variable_at shape.variables reference) kind))
-Permitted-prop shape p (C.Set kind reference value) = set-prop (can_be_set p.state shape p.marks reference) shape kind reference value
+Permitted-prop shape p (C.Set kind reference value) = set-prop (can_be_set p.state shape p.marks p.active reference) shape kind reference value
 Permitted-prop shape p C.Save = hlevel (le_prop, state_set, bool_set, nat_set)
 Permitted-prop shape p C.Restore = hlevel (le_prop, state_set, bool_set, nat_set)
 Permitted-prop shape p C.Free = hlevel (le_prop, state_set, bool_set, nat_set)
 Permitted-prop shape p C.Terminate = hlevel (le_prop, state_set, bool_set, nat_set)
 Permitted-prop shape p C.FreeInstance = hlevel (le_prop, state_set, bool_set, nat_set)
-Permitted-prop shape p (C.GetClock reference) = λ a b. absurd a
-Permitted-prop shape p (C.SetClock reference) = λ a b. absurd a
-Permitted-prop shape p (C.GetInterval reference) = λ a b. absurd a
-Permitted-prop shape p (C.GetShift reference) = λ a b. absurd a
+Permitted-prop shape p (C.GetClock reference) = hlevel (bool_set)
+Permitted-prop shape p (C.SetClock reference) = hlevel (bool_set)
+Permitted-prop shape p (C.GetInterval reference) = hlevel (bool_set)
+Permitted-prop shape p (C.GetShift reference) = hlevel (bool_set)
 
 LegalFrom-prop : (shape : Shape) (p : Phase) (es : List Exchange) → IsProp (LegalFrom shape p es)
 LegalFrom-prop shape p [] = Unit-prop

@@ -233,6 +233,42 @@ impl<L: Peer, M: Mode> Fmu<L, M> {
         )
     }
 
+    /// Asks whether an output Clock is active.
+    pub fn get_clock(&mut self, reference: u32) -> Result<Reply, Why>
+        requires { Permitted (L.view self.old.peer).fixed.shape (L.view self.old.peer).phase (Call.GetClock reference) }
+        ensures ok { IfOk result (λ reply. Answered (L.view self.old.peer) (Call.GetClock reference) reply (L.view self.new.peer)) }
+        ensures err { IfErr result (λ why. Failed (L.view self.old.peer) (Call.GetClock reference) why (L.view self.new.peer)) }
+    {
+        ask(&mut self.peer, Call::GetClock { reference })
+    }
+
+    /// Sets an input Clock to active.
+    pub fn set_clock(&mut self, reference: u32) -> Result<Reply, Why>
+        requires { Permitted (L.view self.old.peer).fixed.shape (L.view self.old.peer).phase (Call.SetClock reference) }
+        ensures ok { IfOk result (λ reply. Answered (L.view self.old.peer) (Call.SetClock reference) reply (L.view self.new.peer)) }
+        ensures err { IfErr result (λ why. Failed (L.view self.old.peer) (Call.SetClock reference) why (L.view self.new.peer)) }
+    {
+        ask(&mut self.peer, Call::SetClock { reference })
+    }
+
+    /// Asks for the interval of a Clock: of a fixed one in Initialization Mode, of a countdown Clock in Event Mode.
+    pub fn interval(&mut self, reference: u32) -> Result<Reply, Why>
+        requires { Permitted (L.view self.old.peer).fixed.shape (L.view self.old.peer).phase (Call.GetInterval reference) }
+        ensures ok { IfOk result (λ reply. Answered (L.view self.old.peer) (Call.GetInterval reference) reply (L.view self.new.peer)) }
+        ensures err { IfErr result (λ why. Failed (L.view self.old.peer) (Call.GetInterval reference) why (L.view self.new.peer)) }
+    {
+        ask(&mut self.peer, Call::GetInterval { reference })
+    }
+
+    /// Asks for the shift of a fixed Clock.
+    pub fn shift(&mut self, reference: u32) -> Result<Reply, Why>
+        requires { Permitted (L.view self.old.peer).fixed.shape (L.view self.old.peer).phase (Call.GetShift reference) }
+        ensures ok { IfOk result (λ reply. Answered (L.view self.old.peer) (Call.GetShift reference) reply (L.view self.new.peer)) }
+        ensures err { IfErr result (λ why. Failed (L.view self.old.peer) (Call.GetShift reference) why (L.view self.new.peer)) }
+    {
+        ask(&mut self.peer, Call::GetShift { reference })
+    }
+
     /// Ends the instance by the calls that it still may be sent, or silently by none, and gives the peer back.
     pub fn close(self, silent: bool) -> L
         requires { IsTrue (can_be_closed (L.view self.peer).phase silent) }

@@ -21,6 +21,7 @@ pub struct TalkBook {
     pub faults: u64,
     ghost legal: { IfSome talk (λ t. Legal shape t.exchanges.items × (phase ≡ phase_after shape t.exchanges.items)) } by { legal-prop shape phase talk },
     ghost marks: { length phase.marks ≡ length shape.variables },
+    ghost active: { length phase.active ≡ length shape.variables },
     ghost saved: { length phase.slot.marks ≡ length shape.variables },
     ghost has_room: { IsTrue (is_lost phase.state || has_room talk) },
 }

@@ -1,5 +1,5 @@
--- FMUs that answer each call of a run well, in whatever state they are (FMI 3.0, 4.2.1: Co-Simulation).
-use Rattle.std.specs.Prelude.{◌≡◌, ◌⊎◌, ℕ, ◌<◌, true, length, Some, IsSomeAnd}
+-- FMUs that answer each call of a run well, in whatever state they are (FMI 3.0, 4.2.1: Co-Simulation), but perhaps those for the intervals and shifts of Clocks (2.2.9).
+use Rattle.std.specs.Prelude.{◌≡◌, ◌⊎◌, ℕ, ◌<◌, ℤ, Bool, true, false, List, length, Option, Some, IsSomeAnd}
 use Rattle.std.specs.List.{slice_get}
 use Rattle.value_types.specs.Shape.{IsOutput, is_clock, timing_at, variable_at}
 use Rattle.value_types.specs.Values.{Fits}
@@ -13,9 +13,15 @@ use Rattle.fmi_calls.specs.declared.call.Call.TheVariants as C
 use Rattle.fmi_calls.specs.Permission.{is_value_type}
 use Rattle.fmu_peer.specs.Machine.{MachineState, Machine, IsMachineOf}
 use Rattle.system_model.specs.declared.system.Component.{Component}
+use Rattle.system_model.specs.declared.system.Role.TheVariants.{TimeClock}
+use Rattle.system_model.specs.declared.system.Timing.TheVariants.{Countdown}
+use Rattle.system_model.specs.declared.system.Port.{Port}
 use Rattle.system_model.specs.Sound.{IsSound}
-use Rattle.run_model.specs.Run.{Run}
-use Rattle.run_model.specs.Behaved.{IsAnsweredWell, BehavesWell}
+use Rattle.run_model.specs.Run.{Run, Situation}
+use Rattle.run_model.specs.Equations.{Solves}
+use Rattle.run_model.specs.Initial.{SolvesInitially, initialized}
+use Rattle.run_model.specs.AfterInstant.{written}
+use Rattle.run_model.specs.Behaved.{AnswersInitially, AnswersWell, BehavesWell, IsAnsweredWell, Reached}
 
 -- a fixed Clock whose FMU is asked for its interval and shift
 abbrev pub IsAskedFixed : ClockTiming → Type 0
@@ -57,3 +63,28 @@ abbrev pub AlwaysBehaves : Type 0
 AlwaysBehaves = (r : Run) → IsSound r.system → (i : ℕ) →
     ((c : Component) (m : Machine) → slice_get r.system.components i ≡ Some c → slice_get r.machines i ≡ Some m → IsMachineOf c.shape m × AlwaysWell c.shape m) →
     BehavesWell r i
+
+-- ---- but for the intervals and shifts of Clocks
+
+-- the call asks for the interval or the shift of a Clock
+abbrev pub asks_timing : Call → Bool
+asks_timing (C.GetInterval reference) = true
+asks_timing (C.GetShift reference) = true
+asks_timing _ = false
+
+-- the machine answers each call of a run but these well in each state that has a value for each variable
+abbrev pub WellButTimings : Shape → Machine → Type 0
+WellButTimings shape m = (s : MachineState) (call : Call) → length s.values ≡ length shape.variables → RunSends shape call → asks_timing call ≡ false → IsAnsweredWell shape m s call
+
+-- these the i-th FMU answers well where the run sends them: of its fixed Clocks with the values of Initialization Mode, and of its countdown Clocks with the values of an instant
+pub record TimesWell (r : Run) (i : ℕ) : Type 0 where
+  pub initially : (values : List (Option ℤ)) → SolvesInitially r values → (p : ℕ) (port : Port) → slice_get r.system.ports p ≡ Some port → port.component.0 ≡ i →
+      AnswersInitially port.role r (initialized r values) port
+  pub in_instants : (s : Situation) (values : List (Option ℤ)) → Reached r s → Solves r s values → (p : ℕ) (port : Port) → slice_get r.system.ports p ≡ Some port → port.component.0 ≡ i →
+      port.role ≡ TimeClock Countdown → AnswersWell r (written r s values) port.component.0 (λ shape. C.GetInterval port.reference)
+
+-- such a machine that does so behaves well
+abbrev pub TimedBehaves : Type 0
+TimedBehaves = (r : Run) → IsSound r.system → (i : ℕ) →
+    ((c : Component) (m : Machine) → slice_get r.system.components i ≡ Some c → slice_get r.machines i ≡ Some m → IsMachineOf c.shape m × WellButTimings c.shape m) →
+    TimesWell r i → BehavesWell r i

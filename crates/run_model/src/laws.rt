@@ -1,4 +1,4 @@
-ghost use Rattle.run_model.specs.AlwaysWell.{AlwaysBehaves};
+ghost use Rattle.run_model.specs.AlwaysWell.{AlwaysBehaves, TimedBehaves};
 ghost use Rattle.run_model.specs.Laws.{BeginsInSituation, OneNext, OneTrace, ReachesSituations, ReadsFitting, SolvedByFitting, SolvedByFittingInitially, SolvedOnce, SolvedOnceInitially, StepsToSituation, UpdatesToSituation};
 ghost use Rattle.run_model.specs.Walk.{AllAtLast, AllAtLastInitially, KeepsBeside, LooksInMidst, LooksInitially, NothingAtFirst, PresentByNeeds, ValueByNeeds, WritesAtPort};
 
@@ -48,8 +48,10 @@ pub fn walk_laws()
     ensures value { ValueByNeeds }
 {}
 
-/// A law: a machine that answers each call of a run well in each of its states behaves well as one FMU of any run,
-/// whatever the others do.
+/// Laws: a machine that answers each call of a run well in each of its states behaves well as one FMU of any run,
+/// whatever the others do; and so does one that answers those for the intervals and shifts of Clocks well only where the
+/// run sends them.
 pub fn always_behaves()
-    ensures { AlwaysBehaves }
+    ensures always { AlwaysBehaves }
+    ensures timed { TimedBehaves }
 {}

@@ -106,7 +106,7 @@ module _ (shape : Shape) where
   ends_enter_step (R.Done is_warning (A.DoStep event_needed terminate e end)) h = absurd (grade_no false refl h)
   ends_enter_step reply h = refl
 
--- ---- a Get, a Set or an Update
+-- ---- a call that leaves the mode
 
 module _ (old new : View) (call : Call) where
   pub called_sent : (r : Result Reply Why) → Permitted old.fixed.shape old.phase call → IfOk r (λ reply. Answered old call reply new) → IfErr r (λ why. Failed old call why new) →

@@ -66,18 +66,20 @@ is_asked A.EnterEvent = has_events
 is_asked A.EnterStep = has_events
 is_asked (A.DoStep at size) = everyone
 
--- a Get or a Set
-abbrev pub sets_or_gets : Call → Bool
-sets_or_gets (C.Get kind reference) = true
-sets_or_gets (C.Set kind reference value) = true
-sets_or_gets _ = false
+-- the call reads or sets a variable or a Clock
+abbrev pub reads_or_sets : Call → Bool
+reads_or_sets (C.Get kind reference) = true
+reads_or_sets (C.Set kind reference value) = true
+reads_or_sets (C.GetClock reference) = true
+reads_or_sets (C.SetClock reference) = true
+reads_or_sets (C.GetInterval reference) = true
+reads_or_sets (C.GetShift reference) = true
+reads_or_sets _ = false
 
--- a Get, a Set or an Update, which leaves the mode
+-- such a call or an Update, which leaves the mode
 abbrev pub keeps_mode : Call → Bool
-keeps_mode (C.Get kind reference) = true
-keeps_mode (C.Set kind reference value) = true
 keeps_mode C.Update = true
-keeps_mode _ = false
+keeps_mode call = reads_or_sets call
 
 -- the FMU may be asked so
 abbrev pub MayBeAsked : Ask → View → Type 0

@@ -4,7 +4,7 @@ ghost use Rattle.fmu_peer.specs.CloseAll.{instance_in, peer_in};
 ghost use Rattle.run_model.specs.Equations.{value_in};
 ghost use Rattle.slot_calls.specs.Carried.{IsWide, get_of, reply_in, value_of, with_some};
 ghost use Rattle.slot_calls.specs.Log.{One};
-ghost use Rattle.slot_calls.specs.Slots.{Called, IsLive, Moves, keeps_mode, sets_or_gets};
+ghost use Rattle.slot_calls.specs.Slots.{Called, IsLive, Moves, keeps_mode, reads_or_sets};
 
 use crate::advancing::is_fatal;
 use fmi_calls::{Call, Content, Reply};
@@ -12,7 +12,7 @@ use fmu_peer::{Eventing, Fmu, Held, Mode, Peer, Slot, Why};
 use system_model::Port;
 use value_types::{PortType, from_word};
 
-/// Sends a Get, a Set or an Update to the FMU in a slot.
+/// Sends a call that reads or sets a variable or a Clock, or an Update, to the FMU in a slot.
 pub fn send<L: Peer>(slot: &mut Slot<L>, call: Call) -> Result<Reply, Why>
     requires live { IsLive L.view slot.old.held }
     requires permitted { Permitted (L.view (peer_in slot.old.held)).fixed.shape (L.view (peer_in slot.old.held)).phase call }
@@ -54,7 +54,7 @@ fn send_in_event<L: Peer>(fmu: &mut Fmu<L, Eventing>, call: Call) -> Result<Repl
 
 fn send_to<L: Peer, M: Mode>(fmu: &mut Fmu<L, M>, call: Call) -> Result<Reply, Why>
     requires permitted { Permitted (L.view fmu.old.peer).fixed.shape (L.view fmu.old.peer).phase call }
-    requires sort { IsTrue (sets_or_gets call) }
+    requires sort { IsTrue (reads_or_sets call) }
     ensures called { Called call reply_in (L.view fmu.old.peer) (L.view fmu.new.peer) (with_some result) }
     ensures state { OnOk result ((L.view fmu.new.peer).phase.state ≡ (L.view fmu.old.peer).phase.state) }
 {
@@ -65,6 +65,10 @@ fn send_to<L: Peer, M: Mode>(fmu: &mut Fmu<L, M>, call: Call) -> Result<Reply, W
             reference,
             value,
         } => fmu.set(kind, reference, value),
+        Call::GetClock { reference } => fmu.get_clock(reference),
+        Call::SetClock { reference } => fmu.set_clock(reference),
+        Call::GetInterval { reference } => fmu.interval(reference),
+        Call::GetShift { reference } => fmu.shift(reference),
         _ => unreachable!(),
     }
 }

@@ -49,7 +49,7 @@ plan_within (Check line) k = tt
 pub can_run : (system : System) → IsSound system → IsBuilt system → All IsNamed system.components → CanRun system
 can_run system sound built named = record {
   sound = sound;
-  built = record { no_clocks = built.no_clocks; no_early = built.no_early };
+  built = record { no_early = built.no_early };
   each = named;
 }
 

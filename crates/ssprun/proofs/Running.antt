@@ -119,7 +119,7 @@ goes a task old new can binds planned bound plan before after peers lived over r
   sound = can.sound;
   lived = lived;
   over = over a.system a.olds a.news (lived.made ++ lived.log) lived.lives lived.are;
-  so_far = λ r of is. run a r can.sound can.built (subst (λ (b : Bound). IsRunOf a.system b a.olds r) (sym bound) of) (is ∙ sym plan) lived;
+  so_far = λ r of is. run a r can.sound can.built planned (subst (λ (b : Bound). IsRunOf a.system b a.olds r) (sym bound) of) (is ∙ sym plan) lived;
   well = λ r of is well. trace a r can.sound can.built binds planned (subst (λ (b : Bound). IsRunOf a.system b a.olds r) (sym bound) of) (is ∙ sym plan) well lived;
 }
 

@@ -1,6 +1,6 @@
 -- The trace, where the file is taken and the identifier is known.
 use Rattle.std.proofs.Common.{◌≡◌, ◌⊎◌, inl, inr, ℕ, true, List, None, codes, [], ◌∷◌, ◌++◌, Some, map, refl, sym, ap, ap₂, ◌∙◌, subst, arith}
-use Rattle.std.specs.Prelude.{All}
+use Rattle.std.specs.Prelude.{All, slice_get}
 use Rattle.std.proofs.lemmas.List.Elements.{All-head, All-tail}
 use Rattle.std.proofs.lemmas.Option.{same_Some}
 use Rattle.sim_base.specs.Causes.{Rose}
@@ -14,7 +14,7 @@ use Rattle.system_model.specs.declared.system.System.{System}
 use Rattle.run_model.specs.Run.{Run}
 use Rattle.calling_sequence.specs.declared.run_end.RunEnd.{RunEnd}
 use Rattle.calling_sequence.specs.declared.run_end.RunEnd.TheVariants as E
-use Rattle.calling_sequence.specs.Course.{IsBoundOf, trace_pieces}
+use Rattle.calling_sequence.specs.Course.{trace_pieces}
 use Rattle.calling_sequence.specs.Ends.{EndsBy}
 use Rattle.step_master.specs.Lived.{Account}
 use Rattle.step_master.specs.Lives.{AreLives, IsLife, Life}
@@ -63,10 +63,10 @@ put_line text w h (inr p) quiet = absurd (quiet (cut_short_rose text h.err h.err
 
 module _ (h : Happened) (task : Task) (system : System) (quiet : Rose h.err.faults h.err_after.faults → ⊥) (r : Run) (of : r.system ≡ system) (planned : r.plan ≡ task.plan) where
   -- the whole text
-  whole : (a : Account) (kind : EndKind) (point : ℕ) → a.system ≡ system → a.plan ≡ task.plan → a.before ≡ h.old.run.out → a.after ≡ h.new.run.out → PutsTrace a r kind point → ReportsEnd h system task.plan kind point → WritesTrace h r
+  whole : (a : Account) (kind : EndKind) (point : ℕ) → a.system ≡ system → a.plan ≡ task.plan → a.before ≡ h.old.run.out → a.after ≡ h.new.run.out → PutsTrace a r kind point → ReportsEnd h r kind point → WritesTrace h r
   whole a kind point s p b n t ends =
       Whole t.is kind point t.trace
-      (subst (λ (x : System). ReportsEnd h x r.plan kind point) (sym of) (subst (λ (x : Plan). ReportsEnd h system x kind point) (sym planned) ends))
+      ends
       (sym n ∙ t.text.put ∙ ap (λ (v : SinkView). with_pieces v (trace_pieces a.system a.plan t.is kind point)) b
       ∙ ap (λ (x : System). with_pieces h.old.run.out (trace_pieces x a.plan t.is kind point)) (s ∙ sym of)
       ∙ ap (λ (x : Plan). with_pieces h.old.run.out (trace_pieces r.system x t.is kind point)) (p ∙ sym planned))
@@ -93,8 +93,8 @@ module _ (h : Happened) (task : Task) (system : System) (quiet : Rose h.err.faul
   ended (E.FixedStep component at end) e g named p none t by =
       let put : Reports (Some (fixed_message named.0 at end)) 9 h.status h.err h.err_after = subst (λ (x : End). Reports (end_message x) (end_status x) h.status h.err h.err_after) named.2 p in
       let said = put_line (fixed_message named.0 at end) 9 h put quiet in
-      let bound : IsBoundOf task.plan at end = subst (λ (x : Plan). IsBoundOf x at end) g.plan_is by.1.1.end_is in
-      whole g.account K.Fixed at g.system_is g.plan_is g.before_is g.after_is t (said.0, component.0, named.0, end, named.1, bound, said.1)
+      let name : slice_get (names_of r.system) component.0 ≡ Some named.0 = subst (λ (x : System). slice_get (names_of x) component.0 ≡ Some named.0) (sym of) named.1 in
+      whole g.account K.Fixed at g.system_is g.plan_is g.before_is g.after_is t.0 (said.0, component.0, named.0, end, name, t.1, said.1)
   ended (E.Bad bad) e g named p none t by = none_rose g.account.olds g.account.news none t.1
   ended E.WriteFault e g named p none t by = choose t
     where

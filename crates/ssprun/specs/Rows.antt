@@ -1,5 +1,5 @@
 -- When each status comes, and what stands then.
-use Rattle.std.specs.Prelude.{◌≡◌, ◌⊎◌, ℕ, ◌+◌, ◌<◌, ◌≤◌, true, List, ◌∷◌, ◌++◌, length, map, All, Some, None, IsSomeAnd, is_some, codes}
+use Rattle.std.specs.Prelude.{◌≡◌, ◌⊎◌, ℕ, ◌+◌, ◌<◌, ◌≤◌, true, List, [], ◌∷◌, ◌++◌, length, map, All, Contains, Some, None, IsSomeAnd, is_some, codes, slice_index_or}
 use Rattle.std.specs.List.{slice_get}
 use Rattle.sim_base.specs.Causes.{Rose}
 use Rattle.sim_base.specs.Sink.{with_piece}
@@ -29,12 +29,13 @@ use Rattle.run_model.specs.Behaved.{WellBehaved}
 use Rattle.slot_calls.specs.declared.bad_answer.BadAnswer.{BadAnswer}
 use Rattle.calling_sequence.specs.declared.run_end.RunEnd.{RunEnd}
 use Rattle.calling_sequence.specs.declared.run_end.RunEnd.TheVariants as E
-use Rattle.calling_sequence.specs.Course.{IsBoundOf, trace_pieces}
+use Rattle.calling_sequence.specs.Course.{trace_pieces}
 use Rattle.calling_sequence.specs.Puts.{CutsPiece, with_pieces}
-use Rattle.step_master.specs.Traced.{IsRunOf}
+use Rattle.step_master.specs.Traced.{IsRunOf, LacksStepAt}
 use Rattle.bench_fmus.specs.declared.built_in.BuiltIn.{BuiltIn}
 use Rattle.bench_fmus.specs.BuiltInView.{built_in_view}
 use Rattle.built_in_laws.specs.BuiltInRuns.{IsBuiltIn}
+use Rattle.built_in_laws.specs.Clocks.{TellsTimings}
 use Rattle.command_line.specs.Line.{IsLine, Line, RunLine, run_in}
 use Rattle.ssprun.specs.declared.outcome.StartCause.TheVariants.{Failed, Unknown}
 use Rattle.system_loading.specs.Assembly.{HaveSameParts}
@@ -300,18 +301,18 @@ pub record StatusRow (h : Happened) : Type 0 where
 
 -- ---- the run
 
--- status and line of a trace's end: 8 with its line where instants reach their limit, 9 with its line where a step begins that a component can't make, else 0
-abbrev pub ReportsEnd : Happened → System → Plan → EndKind → ℕ → Type 0
-ReportsEnd h system plan Stop point = (h.status ≡ 0) × IsSilent h
-ReportsEnd h system plan Asked point = (h.status ≡ 0) × IsSilent h
-ReportsEnd h system plan Limit point = (h.status ≡ 8) × Says h (limit_message point)
-ReportsEnd h system plan Fixed point = (h.status ≡ 9) × (place : ℕ) × (name : List ℕ) × (bound : ℕ)
-    × (slice_get (names_of system) place ≡ Some name) × IsBoundOf plan point bound × Says h (fixed_message name point bound)
-ReportsEnd h system plan Fault point = ⊥
+-- status and line of a run's end: 8 with its line where instants reach their limit; 9 with its line where a step begins that a component can't make, the least of those, with the point that the step would go to; else 0
+abbrev pub ReportsEnd : Happened → Run → EndKind → ℕ → Type 0
+ReportsEnd h r Stop point = (h.status ≡ 0) × IsSilent h
+ReportsEnd h r Asked point = (h.status ≡ 0) × IsSilent h
+ReportsEnd h r Limit point = (h.status ≡ 8) × Says h (limit_message point)
+ReportsEnd h r Fixed point = (h.status ≡ 9) × (place : ℕ) × (name : List ℕ) × (bound : ℕ)
+    × (slice_get (names_of r.system) place ≡ Some name) × LacksStepAt r place point bound × Says h (fixed_message name point bound)
+ReportsEnd h r Fault point = ⊥
 
 -- out has the text of the one trace, one piece a put, and the status is that of its end; or the put of one of its pieces failed, out has those before it and a front of that, and the status is 10
 pub data WritesTrace (h : Happened) (r : Run) : Type 0 where
-  Whole : (is : List Instant) (kind : EndKind) (point : ℕ) → IsTrace r is kind point → ReportsEnd h r.system r.plan kind point →
+  Whole : (is : List Instant) (kind : EndKind) (point : ℕ) → IsTrace r is kind point → ReportsEnd h r kind point →
       h.new.run.out ≡ with_pieces h.old.run.out (trace_pieces r.system r.plan is kind point) → WritesTrace h r
   Front : (is : List Instant) (kind : EndKind) (point : ℕ) (pieces : List (List ℕ)) (piece : List ℕ) (rest : List (List ℕ)) → IsTrace r is kind point → h.status ≡ 10 →
       trace_pieces r.system r.plan is kind point ≡ pieces ++ piece ∷ rest → CutsPiece (with_pieces h.old.run.out pieces) piece h.new.run.out → WritesTrace h r
@@ -366,6 +367,11 @@ pub record IsOverBuiltIns (h : Happened) : Type 0 where
   pub peers : List BuiltIn
   pub told : h.new.run.spawner.retired ≡ map built_in_view peers
 
+-- each of them that is of a component's shape can tell what it is asked of the Clocks there, with the values that the component's parameters are bound to: of a sampler its interval is at least one count and its shift whole, of every other no Clock is a fixed one with supportsFraction
+abbrev pub TellTimings : {h : Happened} → IsOverBuiltIns h → Loaded → Type 0
+TellTimings b loaded = (i : ℕ) (c : Component) (peer : BuiltIn) → slice_get loaded.system.components i ≡ Some c → Contains b.peers peer → (built_in_view peer).fixed.shape ≡ c.shape →
+    TellsTimings peer.model c.shape (slice_index_or loaded.bound.components i [])
+
 -- each component has a built-in machine
 pub record HasBuiltIns (r : Run) : Type 0 where
   pub count : length r.machines ≡ length r.system.components
@@ -380,9 +386,9 @@ pub record TracesBuiltIns (h : Happened) (plan : Plan) (loaded : Loaded) : Type 
   pub built_in : HasBuiltIns run
   pub writes : WritesTrace h run
 
--- the same trace over built-in machines, of which no premise says that they behave well
+-- the same trace over built-in machines, of which no premise says that they behave well but for what they are asked of Clocks
 pub record BuiltInRow (h : Happened) : Type 0 where
-  pub when : IsOverBuiltIns h → (line : Line) (asked : RunLine) (loaded : Loaded) → IsLine h.words line → run_in line ≡ Some asked → IsToFind h line (Found loaded) →
+  pub when : (b : IsOverBuiltIns h) (line : Line) (asked : RunLine) (loaded : Loaded) → IsLine h.words line → run_in line ≡ Some asked → IsToFind h line (Found loaded) → TellTimings b loaded →
       AreKnown asked.host h.old.run.spawner loaded.system.components →
       (Rose h.old.run.spawner.faults h.new.run.spawner.faults → ⊥) → (Rose h.err.faults h.err_after.faults → ⊥) → All (λ (v : View). v.faults ≡ 0) h.new.run.spawner.retired →
       ((h.status ≡ 11) × IsIdle h) ⊎ TracesBuiltIns h asked.plan loaded

@@ -5,6 +5,10 @@ mod args;
 #[cfg(test)]
 mod binding_tests;
 #[cfg(test)]
+mod clock_script_tests;
+#[cfg(test)]
+mod clock_tests;
+#[cfg(test)]
 mod event_script_tests;
 #[cfg(test)]
 mod event_tests;

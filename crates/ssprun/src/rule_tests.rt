@@ -27,10 +27,10 @@ const FOLDERS: &[(&str, &str)] = &[
         "early",
         r#"<fmiModelDescription fmiVersion="3.0" modelName="m" instantiationToken=""><CoSimulation modelIdentifier="counter" mightReturnEarlyFromDoStep="true" canGetAndSetFMUState="true"/></fmiModelDescription>"#,
     ),
-    // it has a clock
+    // so may this one
     (
-        "ticking",
-        r#"<fmiModelDescription fmiVersion="3.0" modelName="m" instantiationToken=""><CoSimulation modelIdentifier="counter" hasEventMode="true"/><ModelVariables><Clock name="c" valueReference="1" causality="input" intervalVariability="triggered"/></ModelVariables></fmiModelDescription>"#,
+        "hasty",
+        r#"<fmiModelDescription fmiVersion="3.0" modelName="m" instantiationToken=""><CoSimulation modelIdentifier="counter" hasEventMode="true" mightReturnEarlyFromDoStep="true" canGetAndSetFMUState="true"/></fmiModelDescription>"#,
     ),
     // it is of another version
     (
@@ -42,7 +42,7 @@ const FOLDERS: &[(&str, &str)] = &[
 ];
 
 // A structure, and the status and the line that it is refused with.
-static REFUSED: [(Structure, u8, &str); 43] = [
+static REFUSED: [(Structure, u8, &str); 42] = [
     (
         Structure::Whole(r#"<a><b></a>"#),
         4,
@@ -188,20 +188,15 @@ static REFUSED: [(Structure, u8, &str); 43] = [
     ),
     (
         Structure::Of(
-            r#"<Elements><Component name="a" source="counter"/><Component name="e" source="event"/><Component name="b" source="ticking"/></Elements>"#,
+            r#"<Elements><Component name="a" source="counter"/><Component name="e" source="event"/><Component name="b" source="hasty"/></Elements>"#,
         ),
         4,
-        "refused 29 d/ticking/modelDescription.xml /fmiModelDescription[1]\n",
+        "refused 29 d/hasty/modelDescription.xml /fmiModelDescription[1]\n",
     ),
     (
         Structure::Of(r#"<Elements><Component name="a" source="early"/></Elements>"#),
         4,
         "refused 29 d/early/modelDescription.xml /fmiModelDescription[1]\n",
-    ),
-    (
-        Structure::Of(r#"<Elements><Component name="a" source="mixed"/></Elements>"#),
-        4,
-        "refused 29 d/mixed/modelDescription.xml /fmiModelDescription[1]\n",
     ),
     // Of two rules at one element the lesser is told.
     (
@@ -249,14 +244,14 @@ static REFUSED: [(Structure, u8, &str); 43] = [
     ),
     (
         Structure::Of(
-            r#"<Elements><Component name="e" source="ticking"/><Component name="f" source="early"/></Elements>"#,
+            r#"<Elements><Component name="e" source="hasty"/><Component name="f" source="early"/></Elements>"#,
         ),
         4,
-        "refused 29 d/ticking/modelDescription.xml /fmiModelDescription[1]\n",
+        "refused 29 d/hasty/modelDescription.xml /fmiModelDescription[1]\n",
     ),
     (
         Structure::Of(
-            r#"<Elements><Component name="f" source="early"/><Component name="e" source="ticking"/></Elements>"#,
+            r#"<Elements><Component name="f" source="early"/><Component name="e" source="hasty"/></Elements>"#,
         ),
         4,
         "refused 29 d/early/modelDescription.xml /fmiModelDescription[1]\n",
@@ -338,7 +333,7 @@ static REFUSED: [(Structure, u8, &str); 43] = [
     ),
     (
         Structure::Of(
-            r#"<Elements><Component name="a" source="ticking"/><Component name="b" source="counter"><ParameterBindings><ParameterBinding source="v.ssv"/></ParameterBindings></Component></Elements>"#,
+            r#"<Elements><Component name="a" source="hasty"/><Component name="b" source="counter"><ParameterBindings><ParameterBinding source="v.ssv"/></ParameterBindings></Component></Elements>"#,
         ),
         3,
         "missing d/v.ssv\n",

@@ -3,6 +3,7 @@ ghost use Rattle.command_line.specs.Line.{IsWithin, KeepsLimits, directory_of, l
 ghost use Rattle.fmu_peer.specs.Start.{SpawnerView};
 ghost use Rattle.run_model.specs.Laws.{OneTrace};
 ghost use Rattle.sim_base.specs.Sink.{SinkView};
+ghost use Rattle.calling_sequence.specs.Plans.{CountsBy};
 ghost use Rattle.system_model.specs.Bounds.{BindsParameters};
 ghost use Rattle.system_model.specs.declared.system.System.{System};
 ghost use Rattle.ssprun.specs.Facts.{CheckFacts, Facts, LineFacts, LoadedFacts, RunFacts, subject_of};
@@ -152,6 +153,7 @@ fn run_loaded<R: Threads + Sync, S: Spawner, O: Sink>(
     requires within { IfSome options (λ o. IsWithin o.plan) }
     requires runnable { CanRun loaded.system }
     requires bound { BindsParameters loaded.system loaded.bound }
+    requires counts { IfSome options (λ o. CountsBy loaded.system o.plan) }
     requires folders { HasFolders loaded.folders loaded.system }
     ensures { LoadedFacts (option_map run_of options.entry) result.outcome loaded
         (scene (S.view spawner.old) (O.view out.old)) (scene (S.view spawner.new) (O.view out.new)) }
@@ -199,6 +201,7 @@ fn run_system<R: Threads + Sync, S: Spawner, O: Sink>(
     requires within { IsWithin options.plan }
     requires runnable { CanRun system }
     requires bound { BindsParameters system bound }
+    requires counts { CountsBy system options.plan }
     requires folders { HasFolders folders.now system }
     ensures { RunFacts result.outcome (record { plan = options.entry.plan; host = options.entry.host.now; bound = bound; folders = folders.now }) system
         (scene (S.view spawner.old) (O.view out.old)) (scene (S.view spawner.new) (O.view out.new)) }
@@ -260,6 +263,7 @@ fn run_peers<R: Threads + Sync, S: Spawner, O: Sink>(
     requires within { IsWithin options.plan }
     requires runnable { CanRun system }
     requires bound { BindsParameters system bound }
+    requires counts { CountsBy system options.plan }
     requires names { naming.names.items ≡ names_of system }
     requires each { length peers.items ≡ length system.components }
     requires started { AreStarted options.host.now folders.now system.components (map S.Link.view peers.items) }

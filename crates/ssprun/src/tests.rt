@@ -56,7 +56,7 @@ const WORKED: Case = Case {
 
 const REFUSED: Case = Case { out: "", ..WORKED };
 
-static CASES: [Case; 34] = [
+static CASES: [Case; 33] = [
     WORKED,
     Case {
         words: "one|d|--resolution|1000|--step|10|--stop|0",
@@ -183,16 +183,7 @@ static CASES: [Case; 34] = [
         ),
         ..WORKED
     },
-    // Clocks aren't built yet.
-    Case {
-        file: File::Whole(
-            r#"<fmiModelDescription fmiVersion="3.0" modelName="m" instantiationToken=""><CoSimulation modelIdentifier="counter" hasEventMode="true"/><ModelVariables><Clock name="c" valueReference="1" causality="input" intervalVariability="triggered"/></ModelVariables></fmiModelDescription>"#,
-        ),
-        status: 4,
-        err: "refused 29 d/modelDescription.xml /fmiModelDescription[1]\n",
-        ..REFUSED
-    },
-    // One that is local is foreign.
+    // A Clock that is local is foreign.
     Case {
         file: File::Whole(
             r#"<fmiModelDescription fmiVersion="3.0" modelName="m" instantiationToken=""><CoSimulation modelIdentifier="counter" hasEventMode="true"/><ModelVariables><Clock name="c" valueReference="5" intervalVariability="triggered"/><Int32 name="inc" valueReference="1" causality="parameter" start="2"/><Int32 name="y" valueReference="2" causality="output"/><Int32 name="z" valueReference="3" causality="output" clocks="5"/></ModelVariables></fmiModelDescription>"#,

@@ -3,6 +3,7 @@ use Rattle.std.proofs.Common.{◌≡◌, ◌⊎◌, inl, inr, ℕ, suc, ◌-◌,
 use Rattle.std.specs.Prelude.{All, if◌then◌else◌}
 use Rattle.std.specs.List.{slice_get}
 use Rattle.std.proofs.lemmas.List.Elements.{All-nil, All-append, All-cons}
+use Rattle.std.proofs.lemmas.Option.{same_Some}
 use Rattle.value_types.specs.declared.shape.Shape.{Shape}
 use Rattle.fmi_calls.specs.declared.call.Call.{Call}
 use Rattle.fmi_calls.specs.declared.call.Call.TheVariants as C
@@ -18,11 +19,12 @@ use Rattle.system_model.specs.declared.system.System.{System}
 use Rattle.system_model.specs.Bounds.{BindsParameters}
 use Rattle.system_model.specs.Needs.{Needs, NeedsInitially, is_unclocked_at}
 use Rattle.system_model.specs.Orders.{IsOrder}
-use Rattle.system_model.specs.Ports.{numbers}
+use Rattle.system_model.specs.Ports.{is_clock_role, numbers}
 use Rattle.system_model.specs.Sound.{IsSound}
 use Rattle.system_model.specs.Text.{Instant}
+use Rattle.system_model.proofs.SoundLemmas.{events_of, place_of}
 use Rattle.run_model.specs.Initial.{set_call}
-use Rattle.run_model.specs.Run.{value}
+use Rattle.run_model.specs.Run.{Timer, value}
 use Rattle.slot_calls.specs.declared.bad_answer.BadAnswer.{BadAnswer}
 use Rattle.slot_calls.specs.Log.{Asking, Sent, askings, part}
 use Rattle.slot_calls.specs.Stage.{StopsAt, has_events, shapes_of, to_each, to_those}
@@ -30,20 +32,22 @@ use Rattle.slot_calls.proofs.Logs.{askings_append}
 use Rattle.event_iteration.specs.Explains.{Explains}
 use Rattle.event_iteration.specs.Initialization.{initially, no_values}
 use Rattle.event_iteration.specs.Instants.{in_instant}
+use Rattle.event_iteration.specs.Intervals.{intervals, timing_calls}
 use Rattle.event_iteration.specs.Settings.{before_step, port_order}
 use Rattle.event_iteration.specs.Updates.{updating}
 use Rattle.event_iteration.proofs.Setting.{NoNeeds, in_order}
 use Rattle.calling_sequence.specs.declared.run_end.RunEnd.{RunEnd}
 use Rattle.calling_sequence.specs.declared.run_end.RunEnd.TheVariants as E
-use Rattle.calling_sequence.specs.Course.{AtStart, BeforeStep, BehindStep, Binding, ByStep, ByUpdate, Came, Departs, Entering, Finding, Finishes, InInitialization, InInstant, InSet, InStep, InUpdate, Interrupted, IsInitialized, Leaves, Leaving, Seen, StopsInitializing, WhereBad, binding, entering, entering_event, entering_step, leaving, stepping}
+use Rattle.calling_sequence.specs.Course.{AtStart, BeforeStep, BehindStep, Binding, ByStep, ByUpdate, Came, Departs, Entering, Finding, Finds, Finishes, InInitialization, InInstant, InIntervals, InSet, InStep, InUpdate, Interrupted, IsInitialized, Leaves, Leaving, Seen, StopsInitializing, Takes, Timing, WhereBad, binding, entering, entering_event, entering_step, leaving, stepping}
 use Rattle.slot_calls.proofs.Parts.{other}
 use Rattle.step_master.specs.Lives.{calls_in}
 use Rattle.step_master.specs.Master.{making}
 use Rattle.step_master.proofs.Calls.{event_of, is_event, own, own_append, own_calls, own_each, own_events}
 use Rattle.step_master.proofs.Configured.{distinct_at, own_binding, sets_are, sets_once}
 use Rattle.step_master.proofs.Needing.{none_twice_front, none_twice_on, seen_append, seen_behind, seen_staying, steps_fall}
-use Rattle.step_master.proofs.OwnWalks.{AsksOf, IsOwnWalk, IsUse, front_own, instant_use, own_walk_all, read_write, step_use, uses_use, walk_once, whole_own}
-use Rattle.step_master.proofs.WalkCalls.{Reads, Uses, finding_uses, in_instant_by, step_by}
+use Rattle.step_master.proofs.OwnWalks.{AsksOf, IsOwnWalk, IsUse, behind_use, front_own, instant_use, own_walk_all, read_write, step_use, times_use, timing_own, uses_use, walk_once, whole_own}
+use Rattle.step_master.proofs.Uses.{Differ, Times, Uses, differ_back, differ_by, is_timing, is_use, timing_kept, use_kept, use_no_timing}
+use Rattle.step_master.proofs.WalkCalls.{Reads, behind_instant_by, finding_uses, in_instant_by, step_by}
 use Rattle.step_master.proofs.WalkCalls as W
 
 -- calls of a run, none of which stands twice where it isn't needed; these hold of those since the last that moved the instance on
@@ -64,6 +68,18 @@ pub All-front : {A : Type 0} (P : A → Type 0) (xs ys : List A) → All P (xs +
 All-front P [] ys all = All-nil P
 All-front P (x ∷ xs) ys all = All-cons P x xs (all 0 x (omega arith)) (All-front P xs ys (λ i e w. all (suc i) e (omega (arith, w))))
 
+-- ---- parts of lists
+
+pub two : {A : Type 0} (a b c d : List A) → a ++ (b ++ (c ++ d)) ≡ ((a ++ b) ++ c) ++ d
+two a b c d = sym (append_assoc a b (c ++ d)) ∙ sym (append_assoc (a ++ b) c d)
+
+pub four : {A : Type 0} (a b c d e : List A) → a ++ (b ++ (c ++ (d ++ e))) ≡ (((a ++ b) ++ c) ++ d) ++ e
+four a b c d e = two a b c (d ++ e) ∙ sym (append_assoc ((a ++ b) ++ c) d e)
+
+-- the first four of five together
+pub whole : {A : Type 0} (a b c d e : List A) → a ++ (b ++ (c ++ (d ++ e))) ≡ (a ++ (b ++ (c ++ d))) ++ e
+whole a b c d e = four a b c d e ∙ ap (λ (l : List _). l ++ e) (sym (two a b c d))
+
 -- ---- what the calls since the last that moved on are
 
 abbrev IsMaking : Call → Type 0
@@ -72,10 +88,6 @@ IsMaking c = (event_mode : Bool) × (early : Bool) × (c ≡ C.Instantiate event
 -- those of some ports
 abbrev Some_of : (Port → Call → Type 0) → Call → Type 0
 Some_of T c = (port : Port) × T port c
-
--- two calls that differ but for the value of a Set
-abbrev Differ : Call → Call → Type 0
-Differ c d = without_value c ≡ without_value d → ⊥
 
 making_enters : (start stop : ℕ) (c : Call) → IsMaking c → Differ c (C.EnterInitialization start stop)
 making_enters start stop c (event_mode, early, is) e = absurd (let wrong = sym (ap without_value is) ∙ e in cc)
@@ -99,23 +111,39 @@ configured_enters start stop c (inl making) = making_enters start stop c making
 configured_enters start stop c (inr set) = sets_enters start stop c set
 
 -- a call that is none of a walk's
-module _ (call : Call) where
-  no_use : ((kind : _) (reference : ℕ) → without_value call ≡ C.Get kind reference → ⊥) → ((kind : _) (reference : ℕ) (x : ℤ) → without_value call ≡ C.Set kind reference x → ⊥) →
-      (c : Call) → c ≡ call → (port : Port) (d : Call) → Uses port d → Differ c d
-  no_use no_get no_set c is port d (inl t) e = no_get port.kind port.reference (sym (ap without_value is) ∙ e ∙ ap without_value t)
-  no_use no_get no_set c is port d (inr t) e = no_set port.kind port.reference _ (sym (ap without_value is) ∙ e ∙ ap without_value t.1)
+module _ (call : Call) (none : is_use call ≡ false) where
+  no_use : (c : Call) → c ≡ call → (port : Port) (d : Call) → Uses port d → Differ c d
+  no_use c is port d t = differ_back is_use use_kept c d (ap is_use is ∙ none) t.uses
 
-use_differs : (call : Call) → ((kind : _) (reference : ℕ) → C.Get kind reference ≡ without_value call → ⊥) → ((kind : _) (reference : ℕ) (x : ℤ) → C.Set kind reference x ≡ without_value call → ⊥) →
-    (port : Port) (c : Call) → Uses port c → Differ c call
-use_differs call no_get no_set port c (inl t) e = no_get port.kind port.reference (sym (ap without_value t) ∙ e)
-use_differs call no_get no_set port c (inr t) e = no_set port.kind port.reference _ (sym (ap without_value t.1) ∙ e)
+  use_differs : (port : Port) (c : Call) → Uses port c → Differ c call
+  use_differs port c t = differ_by is_use use_kept c call t.uses none
+
+-- and none for timing
+module _ (call : Call) (none : is_timing call ≡ false) where
+  no_timing : (c : Call) → c ≡ call → (port : Port) (d : Call) → Times port d → Differ c d
+  no_timing c is port d t = differ_back is_timing timing_kept c d (ap is_timing is ∙ none) t.timing
+
+  timing_differs : (port : Port) (c : Call) → Times port c → Differ c call
+  timing_differs port c t = differ_by is_timing timing_kept c call t.timing none
+
+use_times : (port : Port) (c : Call) → Uses port c → (other : Port) (d : Call) → Times other d → Differ c d
+use_times port c t other d u = differ_back is_timing timing_kept c d (use_no_timing c t.uses) u.timing
 
 enters_uses : (start stop : ℕ) (c : Call) → c ≡ C.EnterInitialization start stop → (port : Port) (d : Call) → Uses port d → Differ c d
-enters_uses start stop c is port d t = no_use (C.EnterInitialization start stop) (λ kind reference e. absurd (cc)) (λ kind reference x e. absurd (cc)) c is port d t
+enters_uses start stop c is port d t = no_use (C.EnterInitialization start stop) refl c is port d t
 
-enters_exits : (start stop : ℕ) (c : Call) → (c ≡ C.EnterInitialization start stop) ⊎ Some_of Uses c → Differ c C.ExitInitialization
-enters_exits start stop c (inl is) e = absurd (let wrong = sym (ap without_value is) ∙ e in cc)
-enters_exits start stop c (inr (port, t)) e = use_differs C.ExitInitialization (λ kind reference e. absurd (cc)) (λ kind reference x e. absurd (cc)) port c t e
+-- on the way into Initialization Mode, and behind its walk
+abbrev IsFoundBehind : Call → Call → Type 0
+IsFoundBehind enter c = (c ≡ enter) ⊎ Some_of Uses c
+
+found_times : (start stop : ℕ) (c : Call) → IsFoundBehind (C.EnterInitialization start stop) c → (port : Port) (d : Call) → Times port d → Differ c d
+found_times start stop c (inl is) port d u = no_timing (C.EnterInitialization start stop) refl c is port d u
+found_times start stop c (inr (other, t)) port d u = use_times other c t port d u
+
+timed_exits : (start stop : ℕ) (c : Call) → IsFoundBehind (C.EnterInitialization start stop) c ⊎ Some_of Times c → Differ c C.ExitInitialization
+timed_exits start stop c (inl (inl is)) e = absurd (let wrong = sym (ap without_value is) ∙ e in cc)
+timed_exits start stop c (inl (inr (port, t))) e = use_differs C.ExitInitialization refl port c t e
+timed_exits start stop c (inr (port, t)) e = timing_differs C.ExitInitialization refl port c t e
 
 -- ---- at a point, for an FMU with event mode or without
 
@@ -141,6 +169,10 @@ IsArrived t false false c = IsReadAt t c
 abbrev IsFound : ℕ → Bool → Bool → Call → Type 0
 IsFound t is_first has_event_mode c = IsArrived t is_first has_event_mode c ⊎ Some_of (W.InInstant has_event_mode is_first) c
 
+-- behind its questions for intervals
+abbrev IsAsked : ℕ → Bool → Bool → Call → Type 0
+IsAsked t is_first has_event_mode c = IsFound t is_first has_event_mode c ⊎ Some_of (W.BehindInstant has_event_mode) c
+
 -- behind its Updates
 abbrev IsUpdated : ℕ → Bool → Call → Type 0
 IsUpdated t true c = c ≡ C.Update
@@ -156,14 +188,14 @@ abbrev IsDeparting : ℕ → Bool → Call → Type 0
 IsDeparting t has_event_mode c = IsLeaving t has_event_mode c ⊎ Some_of (W.BeforeStep has_event_mode) c
 
 last_uses : (t : ℕ) (c : Call) → IsLastBefore t c → (port : Port) (d : Call) → Uses port d → Differ c d
-last_uses t c (inl is) port d u = no_use C.ExitInitialization (λ kind reference e. absurd (cc)) (λ kind reference x e. absurd (cc)) c is port d u
-last_uses t c (inr (from, size, is, before)) port d u = no_use (C.DoStep from size) (λ kind reference e. absurd (cc)) (λ kind reference x e. absurd (cc)) c is port d u
+last_uses t c (inl is) port d u = no_use C.ExitInitialization refl c is port d u
+last_uses t c (inr (from, size, is, before)) port d u = no_use (C.DoStep from size) refl c is port d u
 
 arrived_uses : (t : ℕ) (is_first has_event_mode : Bool) (c : Call) → IsArrived t is_first has_event_mode c → (port : Port) (d : Call) → W.InInstant has_event_mode is_first port d → Differ c d
 arrived_uses t is_first true c (inl is) port d u = last_uses t c (inl is) port d u
-arrived_uses t is_first true c (inr (inl is)) port d u = no_use C.EnterEvent (λ kind reference e. absurd (cc)) (λ kind reference x e. absurd (cc)) c is port d u
-arrived_uses t is_first true c (inr (inr is)) port d u = no_use C.Update (λ kind reference e. absurd (cc)) (λ kind reference x e. absurd (cc)) c is port d u
-arrived_uses t true false c last port d r = last_uses t c last port d (inl r)
+arrived_uses t is_first true c (inr (inl is)) port d u = no_use C.EnterEvent refl c is port d u
+arrived_uses t is_first true c (inr (inr is)) port d u = no_use C.Update refl c is port d u
+arrived_uses t true false c last port d r = last_uses t c last port d (W.read_uses port d r)
 arrived_uses t false false c last port d r = absurd r
 
 found_stays : (t : ℕ) (is_first : Bool) (c : Call) → IsFound t is_first false c → IsReadAt t c
@@ -172,12 +204,23 @@ found_stays t false c (inl seen) = seen
 found_stays t true c (inr (port, r)) = inr (port, r)
 found_stays t false c (inr (port, r)) = absurd r
 
+found_asks : (t : ℕ) (is_first has_event_mode : Bool) (c : Call) → IsFound t is_first has_event_mode c → (port : Port) (d : Call) → W.BehindInstant has_event_mode port d → Differ c d
+found_asks t is_first true c (inl (inl is)) port d u = no_timing C.ExitInitialization refl c is port d u
+found_asks t is_first true c (inl (inr (inl is))) port d u = no_timing C.EnterEvent refl c is port d u
+found_asks t is_first true c (inl (inr (inr is))) port d u = no_timing C.Update refl c is port d u
+found_asks t is_first true c (inr (other, v)) port d u = use_times other c v port d u
+found_asks t is_first false c found port d u = absurd u
+
+asked_stays : (t : ℕ) (is_first : Bool) (c : Call) → IsAsked t is_first false c → IsReadAt t c
+asked_stays t is_first c (inl found) = found_stays t is_first c found
+asked_stays t is_first c (inr (port, u)) = absurd u
+
 updated_leaves : (c : Call) → c ≡ C.Update → Differ c C.EnterStep
 updated_leaves c is e = absurd (let wrong = sym (ap without_value is) ∙ e in cc)
 
 leaving_writes : (t : ℕ) (has_event_mode : Bool) (c : Call) → IsLeaving t has_event_mode c → (port : Port) (d : Call) → W.BeforeStep has_event_mode port d → Differ c d
 leaving_writes t true c is port d w e = w
-leaving_writes t false c (inl last) port d w e = last_uses t c last port d (inr w) e
+leaving_writes t false c (inl last) port d w e = last_uses t c last port d (W.write_uses port d w) e
 leaving_writes t false c (inr (p, r)) port d w e = read_write p port c d r w e
 
 at_of : (a b x y : ℕ) → C.DoStep a x ≡ C.DoStep b y → a ≡ b
@@ -188,14 +231,14 @@ last_steps t size c (inl is) e = absurd (let wrong = sym (ap without_value is) �
 last_steps t size c (inr (from, last, is, before)) e = absurd (let same = at_of from t last size (sym (ap without_value is) ∙ e) in omega (arith, same, before))
 
 use_steps : (t size : ℕ) (port : Port) (c : Call) → Uses port c → Differ c (C.DoStep t size)
-use_steps t size port c u = use_differs (C.DoStep t size) (λ kind reference e. absurd (cc)) (λ kind reference x e. absurd (cc)) port c u
+use_steps t size port c u = use_differs (C.DoStep t size) refl port c u
 
 departing_steps : (t size : ℕ) (has_event_mode : Bool) (c : Call) → IsDeparting t has_event_mode c → Differ c (C.DoStep t size)
 departing_steps t size true c (inl is) e = absurd (let wrong = sym (ap without_value is) ∙ e in cc)
 departing_steps t size true c (inr (port, w)) e = w
 departing_steps t size false c (inl (inl last)) e = last_steps t size c last e
-departing_steps t size false c (inl (inr (port, r))) e = use_steps t size port c (inl r) e
-departing_steps t size false c (inr (port, w)) e = use_steps t size port c (inr w) e
+departing_steps t size false c (inl (inr (port, r))) e = use_steps t size port c (W.read_uses port c r) e
+departing_steps t size false c (inr (port, w)) e = use_steps t size port c (W.write_uses port c w) e
 
 stepped_enters : (t : ℕ) (c : Call) → IsStepped t c → Differ c C.EnterEvent
 stepped_enters t c (from, size, is, before) e = absurd (let wrong = sym (ap without_value is) ∙ e in cc)
@@ -330,17 +373,25 @@ module _ (system : System) (sound : IsSound system) (k : ℕ) (d : Shape) (withi
     entered_so calls more so is = called IsConfigured IsEntering calls so more enter is refl (λ once. configured_enters plan.start plan.stop) refl refl
 
     abbrev IsFinding : Call → Type 0
-    IsFinding c = IsEntering c ⊎ Some_of Uses c
+    IsFinding c = IsFoundBehind enter c
+
+    -- behind the questions for the timing of fixed Clocks
+    abbrev IsTimed : Call → Type 0
+    IsTimed c = IsFinding c ⊎ Some_of Times c
 
     found_so : (calls cs : List Call) → IsSo IsEntering calls → IsOwnWalk Uses system k (numbers system.initial_order) cs → IsSo IsFinding (calls ++ cs)
     found_so calls cs so w =
         walked Uses uses_use (λ q. is_unclocked_at system.ports q ≡ true) (NeedsInitially system) (numbers system.initial_order) sound.initial_order IsEntering calls so (enters_uses plan.start plan.stop) cs w
 
-    left_so : (t : ℕ) (calls more : List Call) → IsSo IsFinding calls → more ≡ C.ExitInitialization ∷ [] → IsSo (IsArrived t true has_events_here) (calls ++ more)
+    timed_so : (calls cs : List Call) → IsSo IsFinding calls → IsOwnWalk Times system k (port_order system) cs → IsSo IsTimed (calls ++ cs)
+    timed_so calls cs so w =
+        walked Times times_use (λ q. q < length system.ports) NoNeeds (port_order system) (in_order system) IsFinding calls so (found_times plan.start plan.stop) cs w
+
+    left_so : (t : ℕ) (calls more : List Call) → IsSo IsTimed calls → more ≡ C.ExitInitialization ∷ [] → IsSo (IsArrived t true has_events_here) (calls ++ more)
     left_so t calls more so is = by has_events_here where
       by : (e : Bool) → IsSo (IsArrived t true e) (calls ++ more)
-      by true = called IsFinding (IsArrived t true true) calls so more C.ExitInitialization is refl (λ once. enters_exits plan.start plan.stop) refl (inl refl)
-      by false = called IsFinding (IsArrived t true false) calls so more C.ExitInitialization is refl (λ once. enters_exits plan.start plan.stop) refl (inl refl)
+      by true = called IsTimed (IsArrived t true true) calls so more C.ExitInitialization is refl (λ once. timed_exits plan.start plan.stop) refl (inl refl)
+      by false = called IsTimed (IsArrived t true false) calls so more C.ExitInitialization is refl (λ once. timed_exits plan.start plan.stop) refl (inl refl)
 
     -- ---- at a point
 
@@ -350,12 +401,23 @@ module _ (system : System) (sound : IsSound system) (k : ℕ) (d : Shape) (withi
     abbrev InInstantHere : Bool → Port → Call → Type 0
     InInstantHere is_first = W.InInstant has_events_here is_first
 
-    asks_here : (is_first : Bool) → AsksOf (InInstantHere is_first) system k (in_instant is_first)
-    asks_here is_first p port c values call of asks =
-        subst (λ (e : Bool). W.InInstant e is_first port call) (event_here c of) (in_instant_by port.role port c.shape.has_event_mode is_first values call asks)
+    -- an FMU with a Clock has event mode
+    clock_here : (p : ℕ) (port : Port) (c : Component) → slice_get system.ports p ≡ Some port → port.component.0 ≡ k → slice_get system.components k ≡ Some c → is_clock_role port.role ≡ true → c.shape.has_event_mode ≡ true
+    clock_here p port c at here of clock =
+        let placed = place_of system sound p port at in
+        let same : placed.component ≡ c = same_Some _ _ (sym placed.is.of ∙ ap (slice_get system.components) here ∙ of) in
+        ap (λ (x : Component). x.shape.has_event_mode) (sym same) ∙ events_of system p port placed clock
+
+    asks_here : (ticks : ℕ → Bool) (is_first : Bool) → AsksOf (InInstantHere is_first) system k (in_instant ticks is_first)
+    asks_here ticks is_first p port c values call at here of asks =
+        subst (λ (e : Bool). W.InInstant e is_first port call) (event_here c of) (in_instant_by port.role port c.shape.has_event_mode is_first (ticks p) values call (clock_here p port c at here of) asks)
+
+    intervals_here : AsksOf (W.BehindInstant has_events_here) system k intervals
+    intervals_here p port c values call at here of asks =
+        subst (λ (e : Bool). W.BehindInstant e port call) (event_here c of) (behind_instant_by port.role port c.shape.has_event_mode call (clock_here p port c at here of) asks)
 
     sets_here : (now : List (Option ℤ)) → AsksOf (W.BeforeStep has_events_here) system k (before_step now)
-    sets_here now p port c values call of asks =
+    sets_here now p port c values call at here of asks =
         subst (λ (e : Bool). W.BeforeStep e port call) (event_here c of) (step_by port.role port c.shape.has_event_mode (value now p) call asks)
 
     instant_so : (t : ℕ) (is_first : Bool) (calls cs : List Call) → IsSo (IsArrived t is_first has_events_here) calls → IsOwnWalk (InInstantHere is_first) system k (numbers system.instant_order) cs →
@@ -364,9 +426,15 @@ module _ (system : System) (sound : IsSound system) (k : ℕ) (d : Shape) (withi
         walked (InInstantHere is_first) (instant_use has_events_here is_first) (λ q. q < length system.ports) (Needs system) (numbers system.instant_order) sound.instant_order
         (IsArrived t is_first has_events_here) calls so (arrived_uses t is_first has_events_here) cs w
 
-    updated_so : (t : ℕ) (is_first : Bool) (calls more : List Call) → IsSo (IsFound t is_first has_events_here) calls → more ≡ (if has_events_here then C.Update ∷ [] else []) → IsSo (IsUpdated t has_events_here) (calls ++ more)
+    asked_so : (t : ℕ) (is_first : Bool) (calls cs : List Call) → IsSo (IsFound t is_first has_events_here) calls → IsOwnWalk (W.BehindInstant has_events_here) system k (port_order system) cs →
+        IsSo (IsAsked t is_first has_events_here) (calls ++ cs)
+    asked_so t is_first calls cs so w =
+        walked (W.BehindInstant has_events_here) (behind_use has_events_here) (λ q. q < length system.ports) NoNeeds (port_order system) (in_order system)
+        (IsFound t is_first has_events_here) calls so (found_asks t is_first has_events_here) cs w
+
+    updated_so : (t : ℕ) (is_first : Bool) (calls more : List Call) → IsSo (IsAsked t is_first has_events_here) calls → more ≡ (if has_events_here then C.Update ∷ [] else []) → IsSo (IsUpdated t has_events_here) (calls ++ more)
     updated_so t is_first calls more so is =
-        switched has_events_here (λ (e : Bool) (c : Call). IsFound t is_first e c) (λ (e : Bool) (c : Call). IsUpdated t e c) calls so more C.Update is refl (λ once. absurd (let wrong : true ≡ false = once in cc)) refl refl (found_stays t is_first)
+        switched has_events_here (λ (e : Bool) (c : Call). IsAsked t is_first e c) (λ (e : Bool) (c : Call). IsUpdated t e c) calls so more C.Update is refl (λ once. absurd (let wrong : true ≡ false = once in cc)) refl refl (asked_stays t is_first)
 
     leaving_so : (t : ℕ) (calls more : List Call) → IsSo (IsUpdated t has_events_here) calls → more ≡ (if has_events_here then C.EnterStep ∷ [] else []) → IsSo (IsLeaving t has_events_here) (calls ++ more)
     leaving_so t calls more so is =
@@ -404,8 +472,8 @@ module _ (system : System) (sound : IsSound system) (k : ℕ) (d : Shape) (withi
     cut_behind : (S : Call → Type 0) (log a b : List Sent) → log ≡ a ++ b → (calls : List Asking) (bad : BadAnswer) → StopsAt (shapes_of system) calls bad b → IsSo S (upto a ++ own k calls) → IsNeeded (upto log)
     cut_behind S log a b is calls bad stops so = needed_behind log a b is (cut S b calls bad stops (upto a) so)
 
-    events_of : (call : Call) (log : List Sent) → askings log ≡ to_those has_events (λ (shape : Shape). call) (shapes_of system) → mine log ≡ (if has_events_here then call ∷ [] else [])
-    events_of call log is = ap (own k) is ∙ own_events call k (shapes_of system)
+    those_of : (call : Call) (log : List Sent) → askings log ≡ to_those has_events (λ (shape : Shape). call) (shapes_of system) → mine log ≡ (if has_events_here then call ∷ [] else [])
+    those_of call log is = ap (own k) is ∙ own_events call k (shapes_of system)
 
     -- the calls up to Initialization Mode
     set_upto : (set : List Sent) → askings set ≡ binding bound → IsSo IsConfigured (upto set)
@@ -422,29 +490,43 @@ module _ (system : System) (sound : IsSound system) (k : ℕ) (d : Shape) (withi
 
     finds_own : (values : List (Option ℤ)) (found : List Sent) → Explains system (initially system) (no_values system) (numbers system.initial_order) values found → IsOwnWalk Uses system k (numbers system.initial_order) (mine found)
     finds_own values found finds =
-        whole_own Uses system k (initially system) (λ p port c values call of asks. finding_uses system p port c values call asks) (no_values system) (numbers system.initial_order) values found finds
+        whole_own Uses system k (initially system) (λ p port c values call at here of asks. finding_uses system p port c values call asks) (no_values system) (numbers system.initial_order) values found finds
+
+    timed_upto : (set entered found asked : List Sent) (values : List (Option ℤ)) → askings set ≡ binding bound → askings entered ≡ entering system plan → Finds system values found → askings asked ≡ timing_calls system →
+        IsSo IsTimed (upto (((set ++ entered) ++ found) ++ asked))
+    timed_upto set entered found asked values sets enters finds asks =
+        so_behind IsTimed (((set ++ entered) ++ found) ++ asked) ((set ++ entered) ++ found) asked refl
+        (timed_so (upto ((set ++ entered) ++ found)) (mine asked) (found_upto set entered found sets enters (finds_own values found finds))
+        (subst (IsOwnWalk Times system k (port_order system)) (sym (ap (own k) asks)) (timing_own system k)))
 
     begins : (t : ℕ) (log : List Sent) → IsInitialized system bound plan log → IsSo (IsArrived t true has_events_here) (upto log)
     begins t log i =
-        so_behind (IsArrived t true has_events_here) log ((i.set ++ i.entered) ++ i.found) i.left
-        (i.log_is ∙ sym (append_assoc i.set i.entered (i.found ++ i.left)) ∙ sym (append_assoc (i.set ++ i.entered) i.found i.left))
-        (left_so t (upto ((i.set ++ i.entered) ++ i.found)) (mine i.left) (found_upto i.set i.entered i.found i.sets.calls_are i.enters.calls_are (finds_own i.values i.found i.finds))
+        so_behind (IsArrived t true has_events_here) log (((i.set ++ i.entered) ++ i.found) ++ i.asked) i.left
+        (i.log_is ∙ four i.set i.entered i.found i.asked i.left)
+        (left_so t (upto (((i.set ++ i.entered) ++ i.found) ++ i.asked)) (mine i.left) (timed_upto i.set i.entered i.found i.asked i.values i.sets.calls_are i.enters.calls_are i.finds i.asks.calls_are)
         (mine_each C.ExitInitialization i.left i.leaves.calls_are))
 
-    found_at : (t n : ℕ) (before values : List (Option ℤ)) (front found : List Sent) → IsSo (IsArrived t (n == 0) has_events_here) (upto front) →
-        Explains system (in_instant (n == 0)) before (numbers system.instant_order) values found → IsSo (IsFound t (n == 0) has_events_here) (upto (front ++ found))
-    found_at t n before values front found so explains =
+    found_at : (t n : ℕ) (ticks : ℕ → Bool) (before values : List (Option ℤ)) (front found : List Sent) → IsSo (IsArrived t (n == 0) has_events_here) (upto front) →
+        Explains system (in_instant ticks (n == 0)) before (numbers system.instant_order) values found → IsSo (IsFound t (n == 0) has_events_here) (upto (front ++ found))
+    found_at t n ticks before values front found so explains =
         so_behind (IsFound t (n == 0) has_events_here) (front ++ found) front found refl
-        (instant_so t (n == 0) (upto front) (mine found) so (whole_own (InInstantHere (n == 0)) system k (in_instant (n == 0)) (asks_here (n == 0)) before (numbers system.instant_order) values found explains))
+        (instant_so t (n == 0) (upto front) (mine found) so (whole_own (InInstantHere (n == 0)) system k (in_instant ticks (n == 0)) (asks_here ticks (n == 0)) before (numbers system.instant_order) values found explains))
 
-    taken_at : (t n : ℕ) (before values : List (Option ℤ)) (log front found updates : List Sent) → IsSo (IsArrived t (n == 0) has_events_here) (upto front) →
-        Explains system (in_instant (n == 0)) before (numbers system.instant_order) values found → askings updates ≡ updating (shapes_of system) → log ≡ front ++ (found ++ updates) → IsSo (IsUpdated t has_events_here) (upto log)
-    taken_at t n before values log front found updates so explains calls log_is =
-        so_behind (IsUpdated t has_events_here) log (front ++ found) updates (log_is ∙ sym (append_assoc front found updates))
-        (updated_so t (n == 0) (upto (front ++ found)) (mine updates) (found_at t n before values front found so explains) (events_of C.Update updates calls))
+    asked_at : (t n : ℕ) (values : List (Option ℤ)) (front asked : List Sent) → IsSo (IsFound t (n == 0) has_events_here) (upto front) → Explains system intervals values (port_order system) values asked →
+        IsSo (IsAsked t (n == 0) has_events_here) (upto (front ++ asked))
+    asked_at t n values front asked so explains =
+        so_behind (IsAsked t (n == 0) has_events_here) (front ++ asked) front asked refl
+        (asked_so t (n == 0) (upto front) (mine asked) so (whole_own (W.BehindInstant has_events_here) system k intervals intervals_here values (port_order system) values asked explains))
+
+    taken_at : (t n : ℕ) (timers next : List Timer) (before values : List (Option ℤ)) (log front found asked updates : List Sent) → IsSo (IsArrived t (n == 0) has_events_here) (upto front) →
+        Takes system plan t n timers next before values found asked updates → log ≡ front ++ (found ++ (asked ++ updates)) → IsSo (IsUpdated t has_events_here) (upto log)
+    taken_at t n timers next before values log front found asked updates so takes log_is =
+        so_behind (IsUpdated t has_events_here) log ((front ++ found) ++ asked) updates (log_is ∙ two front found asked updates)
+        (updated_so t (n == 0) (upto ((front ++ found) ++ asked)) (mine updates)
+        (asked_at t n values (front ++ found) asked (found_at t n takes.ticks before values front found so takes.explains) takes.rearms.explains) (those_of C.Update updates takes.answered.calls_are))
 
     left_at : (t : ℕ) (log front leaves : List Sent) → IsSo (IsUpdated t has_events_here) (upto front) → askings leaves ≡ entering_step system → log ≡ front ++ leaves → IsSo (IsLeaving t has_events_here) (upto log)
-    left_at t log front leaves so calls log_is = so_behind (IsLeaving t has_events_here) log front leaves log_is (leaving_so t (upto front) (mine leaves) so (events_of C.EnterStep leaves calls))
+    left_at t log front leaves so calls log_is = so_behind (IsLeaving t has_events_here) log front leaves log_is (leaving_so t (upto front) (mine leaves) so (those_of C.EnterStep leaves calls))
 
     set_at : (t : ℕ) (log front sets : List Sent) (now values : List (Option ℤ)) → IsSo (IsLeaving t has_events_here) (upto front) → Explains system (before_step now) values (port_order system) values sets → log ≡ front ++ sets →
         IsSo (IsDeparting t has_events_here) (upto log)
@@ -463,30 +545,27 @@ module _ (system : System) (sound : IsSound system) (k : ℕ) (d : Shape) (withi
     again_arrives t true c is = inr (inr is)
     again_arrives t false c seen = seen
 
-    came_so : (t n : ℕ) (values : List (Option ℤ)) (log : List Sent) (is : List Instant) → Came system bound plan t n values log is → IsSo (IsArrived t (n == 0) has_events_here) (upto log)
-    came_so _ _ _ _ _ (AtStart t n values log is initialized at first values_are none) =
+    came_so : (t n : ℕ) (values : List (Option ℤ)) (timers : List Timer) (log : List Sent) (is : List Instant) → Came system bound plan t n values timers log is → IsSo (IsArrived t (n == 0) has_events_here) (upto log)
+    came_so _ _ _ _ _ _ (AtStart t n values timers log is initialized at first values_are timers_are none) =
         subst (λ (m : ℕ). IsSo (IsArrived t (m == 0) has_events_here) (upto log)) (sym first) (begins t log initialized)
-    came_so _ _ _ _ _ (ByUpdate t n values log is m before front found updates js came takes again limit next log_is is_is) =
+    came_so _ _ _ _ _ _ (ByUpdate t n values timers log is m before olds front found asked updates js came takes again limit next log_is is_is) =
         subst (λ (b : Bool). IsSo (IsArrived t b has_events_here) (upto log)) (sym (ap (λ (i : ℕ). i == 0) next ∙ later m))
         (weaker (IsUpdated t has_events_here) (IsArrived t false has_events_here) (upto log)
-        (taken_at t m before values log front found updates (came_so t m before front js came) takes.explains takes.answered.calls_are log_is) (again_arrives t has_events_here))
-    came_so _ _ _ _ _ (ByStep t n values log is from m before front found updates leaves sets steps arrives js came takes done step parts asks answered first log_is is_is) =
-        let taken = taken_at from m before values (front ++ (found ++ updates)) front found updates (came_so from m before front js came) takes.explains takes.answered.calls_are refl in
-        let a = front ++ (found ++ updates) in
+        (taken_at t m olds timers before values log front found asked updates (came_so t m before olds front js came) takes log_is) (again_arrives t has_events_here))
+    came_so _ _ _ _ _ _ (ByStep t n values timers log is from m before olds front found asked updates leaves sets steps arrives js came takes done step parts asks answered first log_is is_is) =
+        let a = front ++ (found ++ (asked ++ updates)) in
+        let taken = taken_at from m olds timers before values a front found asked updates (came_so from m before olds front js came) takes refl in
         let left = left_at from (a ++ leaves) a leaves taken parts.left.calls_are refl in
         let set = set_at from ((a ++ leaves) ++ sets) (a ++ leaves) sets values values left parts.set refl in
         let stepped = stepped_at from t (((a ++ leaves) ++ sets) ++ steps) ((a ++ leaves) ++ sets) steps step.bound.bound.later set parts.stepped.calls_are refl in
-        let all : log ≡ (((a ++ leaves) ++ sets) ++ steps) ++ arrives =
-        log_is ∙ ap (λ (l : List Sent). front ++ l) (sym (append_assoc found updates (leaves ++ (sets ++ (steps ++ arrives)))))
-        ∙ sym (append_assoc front (found ++ updates) (leaves ++ (sets ++ (steps ++ arrives))))
-        ∙ sym (append_assoc a leaves (sets ++ (steps ++ arrives))) ∙ sym (append_assoc (a ++ leaves) sets (steps ++ arrives)) ∙ sym (append_assoc ((a ++ leaves) ++ sets) steps arrives) in
+        let all : log ≡ (((a ++ leaves) ++ sets) ++ steps) ++ arrives = log_is ∙ whole front found asked updates (leaves ++ (sets ++ (steps ++ arrives))) ∙ four a leaves sets steps arrives in
         subst (λ (i : ℕ). IsSo (IsArrived t (i == 0) has_events_here) (upto log)) (sym first)
         (so_behind (IsArrived t true has_events_here) log (((a ++ leaves) ++ sets) ++ steps) arrives all
-        (arriving_so t (upto (((a ++ leaves) ++ sets) ++ steps)) (mine arrives) stepped (events_of C.EnterEvent arrives answered.calls_are)))
+        (arriving_so t (upto (((a ++ leaves) ++ sets) ++ steps)) (mine arrives) stepped (those_of C.EnterEvent arrives answered.calls_are)))
 
     seen_so : (t : ℕ) (log : List Sent) (is : List Instant) → Seen system bound plan t log is → IsSo (IsUpdated t has_events_here) (upto log)
     seen_so t log is s =
-        taken_at t s.n s.before s.values log s.front s.found s.updates (came_so t s.n s.before s.front s.earlier s.came) s.takes.explains s.takes.answered.calls_are s.log_is
+        taken_at t s.n s.olds s.timers s.before s.values log s.front s.found s.asked s.updates (came_so t s.n s.before s.olds s.front s.earlier s.came) s.takes s.log_is
 
     leaves_so : (t to : ℕ) (log : List Sent) (is : List Instant) → Leaves system bound plan t to log is → IsSo (IsLeaving t has_events_here) (upto log)
     leaves_so t to log is l = left_at t log l.front l.leaves (seen_so t l.front is l.seen) l.left.calls_are l.log_is
@@ -508,10 +587,13 @@ module _ (system : System) (sound : IsSound system) (k : ℕ) (d : Shape) (withi
     initializing_needed bad log (Finding set entered found values sets enters finds log_is) =
         needed IsFinding (upto log) (subst (λ (l : List Sent). IsSo IsFinding (upto l)) (append_assoc set entered found ∙ sym log_is)
         (found_upto set entered found sets.calls_are enters.calls_are
-        (front_own Uses system k (initially system) (λ p port c values call of asks. finding_uses system p port c values call asks) (no_values system) (numbers system.initial_order) bad values found finds)))
-    initializing_needed bad log (Leaving set entered found left values sets enters finds stops log_is) =
-        cut_behind (IsArrived 0 true has_events_here) log ((set ++ entered) ++ found) left (log_is ∙ sym (append_assoc set entered (found ++ left)) ∙ sym (append_assoc (set ++ entered) found left)) (leaving system) bad stops
-        (left_so 0 (upto ((set ++ entered) ++ found)) (own k (leaving system)) (found_upto set entered found sets.calls_are enters.calls_are (finds_own values found finds))
+        (front_own Uses system k (initially system) (λ p port c values call at here of asks. finding_uses system p port c values call asks) (no_values system) (numbers system.initial_order) bad values found finds)))
+    initializing_needed bad log (Timing set entered found asked values sets enters finds stops log_is) =
+        cut_behind IsTimed log ((set ++ entered) ++ found) asked (log_is ∙ two set entered found asked) (timing_calls system) bad stops
+        (timed_so (upto ((set ++ entered) ++ found)) (own k (timing_calls system)) (found_upto set entered found sets.calls_are enters.calls_are (finds_own values found finds)) (timing_own system k))
+    initializing_needed bad log (Leaving set entered found asked left values sets enters finds asks stops log_is) =
+        cut_behind (IsArrived 0 true has_events_here) log (((set ++ entered) ++ found) ++ asked) left (log_is ∙ four set entered found asked left) (leaving system) bad stops
+        (left_so 0 (upto (((set ++ entered) ++ found) ++ asked)) (own k (leaving system)) (timed_upto set entered found asked values sets.calls_are enters.calls_are finds asks.calls_are)
         (own_each (λ (shape : Shape). C.ExitInitialization) k (shapes_of system) d within))
 
     bad_needed : (bad : BadAnswer) (point : ℕ) (log : List Sent) (is : List Instant) → WhereBad system bound plan bad point log is → IsNeeded (upto log)
@@ -519,12 +601,19 @@ module _ (system : System) (sound : IsSound system) (k : ℕ) (d : Shape) (withi
     bad_needed bad point log is (InInstant w) =
         needed (IsFound point (w.n == 0) has_events_here) (upto log)
         (so_behind (IsFound point (w.n == 0) has_events_here) log w.front w.found w.log_is
-        (instant_so point (w.n == 0) (upto w.front) (mine w.found) (came_so point w.n w.before w.front is w.came)
-        (front_own (InInstantHere (w.n == 0)) system k (in_instant (w.n == 0)) (asks_here (w.n == 0)) w.before (numbers system.instant_order) bad w.values w.found w.stops)))
+        (instant_so point (w.n == 0) (upto w.front) (mine w.found) (came_so point w.n w.before w.timers w.front is w.came)
+        (front_own (InInstantHere (w.n == 0)) system k (in_instant w.ticks (w.n == 0)) (asks_here w.ticks (w.n == 0)) w.before (numbers system.instant_order) bad w.values w.found w.stops)))
+    bad_needed bad point log is (InIntervals w) =
+        needed (IsAsked point (w.n == 0) has_events_here) (upto log)
+        (so_behind (IsAsked point (w.n == 0) has_events_here) log (w.front ++ w.found) w.asked (w.log_is ∙ sym (append_assoc w.front w.found w.asked))
+        (asked_so point (w.n == 0) (upto (w.front ++ w.found)) (mine w.asked)
+        (found_at point w.n w.ticks w.before w.values w.front w.found (came_so point w.n w.before w.timers w.front is w.came) w.explains)
+        (front_own (W.BehindInstant has_events_here) system k intervals intervals_here w.values (port_order system) bad w.values w.asked w.stops)))
     bad_needed bad point log is (InUpdate w) =
-        cut_behind (IsUpdated point has_events_here) log (w.front ++ w.found) w.updates (w.log_is ∙ sym (append_assoc w.front w.found w.updates)) (updating (shapes_of system)) bad w.stops
-        (updated_so point (w.n == 0) (upto (w.front ++ w.found)) (own k (updating (shapes_of system)))
-        (found_at point w.n w.before w.values w.front w.found (came_so point w.n w.before w.front is w.came) w.explains) (own_events C.Update k (shapes_of system)))
+        cut_behind (IsUpdated point has_events_here) log ((w.front ++ w.found) ++ w.asked) w.updates (w.log_is ∙ two w.front w.found w.asked w.updates) (updating (shapes_of system)) bad w.stops
+        (updated_so point (w.n == 0) (upto ((w.front ++ w.found) ++ w.asked)) (own k (updating (shapes_of system)))
+        (asked_at point w.n w.values (w.front ++ w.found) w.asked
+        (found_at point w.n w.ticks w.before w.values w.front w.found (came_so point w.n w.before w.olds w.front is w.came) w.explains) w.rearms.explains) (own_events C.Update k (shapes_of system)))
     bad_needed bad point log is (BeforeStep w) =
         cut_behind (IsLeaving point has_events_here) log w.front w.leaves w.log_is (entering_step system) bad w.stops
         (leaving_so point (upto w.front) (own k (entering_step system)) (seen_so point w.front is w.seen) (own_events C.EnterStep k (shapes_of system)))

@@ -7,6 +7,7 @@ use Rattle.std.proofs.lemmas.List.{append-nil, length-map}
 use Rattle.std.proofs.lemmas.List.Elements.{All-nil, All-cons, All-append, Contains-append_left, Contains-append_right, Contains-push}
 use Rattle.value_types.specs.declared.shape.Shape.{Shape}
 use Rattle.fmi_calls.specs.declared.call.Call.{Call}
+use Rattle.fmi_calls.specs.declared.call.Call.TheVariants as C
 use Rattle.fmi_calls.specs.declared.call.Grade.TheVariants as G
 use Rattle.fmi_calls.specs.declared.call.Reply.{Reply}
 use Rattle.fmi_calls.specs.Worth.{grade_of}
@@ -19,8 +20,14 @@ use Rattle.system_model.specs.declared.system.Component.{Component}
 use Rattle.system_model.specs.declared.system.Port.{Port}
 use Rattle.system_model.specs.declared.system.System.{System}
 use Rattle.system_model.specs.Bounds.{BindsParameters}
+use Rattle.system_model.specs.declared.system.Role.{Role}
+use Rattle.system_model.specs.declared.system.Role.TheVariants.{Input, Output, ClockInput, ClockOutput, TimeClock}
+use Rattle.system_model.specs.declared.system.Timing.TheVariants.{Periodic, Answered, Countdown}
 use Rattle.system_model.specs.Ports.{numbers}
+use Rattle.system_model.specs.Sound.{IsSound}
 use Rattle.system_model.specs.Text.{Instant}
+use Rattle.system_model.proofs.SoundLemmas.{place_of}
+use Rattle.run_model.specs.Run.{Timer}
 use Rattle.slot_calls.specs.declared.bad_answer.BadAnswer.{BadAnswer}
 use Rattle.slot_calls.specs.Log.{Asking, Sent, asking_of, askings, part}
 use Rattle.slot_calls.specs.Stage.{FailsIn, IsFirst, IsGoodOf, StopsAt, everyone, shapes_of, to_each, to_those, to_those_from}
@@ -28,14 +35,16 @@ use Rattle.slot_calls.proofs.Logs.{part_append}
 use Rattle.event_iteration.specs.Explains.{Explains, ExplainsUntil, all_said, call_at, said}
 use Rattle.event_iteration.specs.Initialization.{initially, no_values}
 use Rattle.event_iteration.specs.Instants.{in_instant}
+use Rattle.event_iteration.specs.Intervals.{intervals, timing_calls, timing_calls_in, timing_calls_of}
 use Rattle.event_iteration.specs.Settings.{before_step, port_order}
 use Rattle.event_iteration.specs.Turns.{IsPaired, Rules, sent_of}
 use Rattle.event_iteration.proofs.Permits.{shape_of_component}
 use Rattle.calling_sequence.specs.declared.run_end.RunEnd.{RunEnd}
 use Rattle.calling_sequence.specs.declared.run_end.RunEnd.TheVariants as E
-use Rattle.calling_sequence.specs.Course.{Arrives, AtStart, BeforeStep, BehindStep, Binding, ByStep, ByUpdate, Came, Departs, Entering, Finding, Finishes, InInitialization, InInstant, InSet, InStep, InUpdate, Interrupted, IsInitialized, Leaves, Leaving, Seen, StopsInitializing, Takes, WhereBad, binding}
+use Rattle.calling_sequence.specs.Course.{Arrives, AtStart, BeforeStep, BehindStep, Binding, ByStep, ByUpdate, Came, Departs, Entering, Finding, Finishes, InInitialization, InInstant, InIntervals, InSet, InStep, InUpdate, Interrupted, IsInitialized, Leaves, Leaving, Seen, StopsInitializing, Takes, Timing, WhereBad, binding}
 use Rattle.calling_sequence.proofs.Chains.{part_all}
 use Rattle.slot_calls.proofs.Parts.{first_same, none_before, other, rest_same, same, skips, takes, those_within}
+use Rattle.step_master.proofs.Along.{whole}
 use Rattle.step_master.proofs.Configured.{binding_all}
 use Rattle.step_master.proofs.Prepared.{is_within}
 
@@ -115,6 +124,34 @@ binding_to_one system bound binds =
     let inside = is_within system.components a.place a.component a.of in
     let at = a.at in
     omega (arith, e, inside, at)
+
+-- and the questions for the timing of fixed Clocks
+module _ (system : System) (sound : IsSound system) where
+  abbrev IsInSystem : Asking → Type 0
+  IsInSystem = IsToOne (length (shapes_of system))
+
+  timing_inside : (role : Role) (port : Port) → port.component.0 < length (shapes_of system) → All IsInSystem (timing_calls_of role port)
+  timing_inside (TimeClock Answered) port w =
+      All-cons IsInSystem (record { component = port.component.0; call = C.GetInterval port.reference }) (record { component = port.component.0; call = C.GetShift port.reference } ∷ []) w
+      (All-cons IsInSystem (record { component = port.component.0; call = C.GetShift port.reference }) [] w (All-nil IsInSystem))
+  timing_inside (TimeClock (Periodic interval shift)) port w = All-nil IsInSystem
+  timing_inside (TimeClock Countdown) port w = All-nil IsInSystem
+  timing_inside (Input feed) port w = All-nil IsInSystem
+  timing_inside Output port w = All-nil IsInSystem
+  timing_inside (ClockInput feed) port w = All-nil IsInSystem
+  timing_inside ClockOutput port w = All-nil IsInSystem
+
+  timing_from : (ports : List Port) → ((j : ℕ) (port : Port) → slice_get ports j ≡ Some port → port.component.0 < length (shapes_of system)) → All IsInSystem (timing_calls_in ports)
+  timing_from [] inside = All-nil IsInSystem
+  timing_from (port ∷ ports) inside =
+      All-append IsInSystem (timing_calls_of port.role port) (timing_calls_in ports) (timing_inside port.role port (inside 0 port refl)) (timing_from ports (λ j x at. inside (suc j) x at))
+
+  pub timing_to_one : All IsInSystem (timing_calls system)
+  timing_to_one = timing_from system.ports (λ j port at.
+      let placed = place_of system sound j port at in
+      let w = is_within system.components port.component.0 placed.component placed.is.of in
+      let e = length-map system.components (λ (c : Component). c.shape) in
+      omega (arith, w, e))
 
 -- so is one in their midst
 amid : (n : ℕ) (front : List Sent) (last : Sent) (back : List Sent) (left : List Asking) → All (IsToOne n) (askings (front ++ last ∷ back) ++ left) → last.component < n
@@ -211,6 +248,9 @@ module _ (system : System) (rules : Rules) (before : List (Option ℤ)) where
 
 -- ---- a course
 
+third : {A : Type 0} (a b c d : List A) → a ++ (b ++ (c ++ d)) ≡ (a ++ (b ++ c)) ++ d
+third a b c d = ap (λ (l : List _). a ++ l) (sym (append_assoc b c d)) ∙ sym (append_assoc a (b ++ c) d)
+
 -- the answers of the log by the end
 abbrev pub EndsLog : List Shape → RunEnd → List Sent → Type 0
 EndsLog ss E.Stop log = All (IsGoodOf ss) log
@@ -224,11 +264,12 @@ pub begins_good : (system : System) (bound : Bound) (plan : Plan) (log : List Se
 begins_good system bound plan log i =
     let Good : Sent → Type 0 = IsGoodOf (shapes_of system) in
     subst (All Good) (sym i.log_is)
-    (All-append Good i.set (i.entered ++ (i.found ++ i.left)) i.sets.good
-    (All-append Good i.entered (i.found ++ i.left) i.enters.good
-    (All-append Good i.found i.left (walk_good system (initially system) (no_values system) (numbers system.initial_order) i.values i.found i.finds) i.leaves.good)))
+    (All-append Good i.set (i.entered ++ (i.found ++ (i.asked ++ i.left))) i.sets.good
+    (All-append Good i.entered (i.found ++ (i.asked ++ i.left)) i.enters.good
+    (All-append Good i.found (i.asked ++ i.left) (walk_good system (initially system) (no_values system) (numbers system.initial_order) i.values i.found i.finds)
+    (All-append Good i.asked i.left i.asks.good i.leaves.good))))
 
-module _ (system : System) (bound : Bound) (plan : Plan) (binds : BindsParameters system bound) (made : List Sent) (good : All (IsGoodOf (shapes_of system)) made) where
+module _ (system : System) (sound : IsSound system) (bound : Bound) (plan : Plan) (binds : BindsParameters system bound) (made : List Sent) (good : All (IsGoodOf (shapes_of system)) made) where
   abbrev ss : List Shape
   ss = shapes_of system
 
@@ -241,30 +282,33 @@ module _ (system : System) (bound : Bound) (plan : Plan) (binds : BindsParameter
   on : (log a b : List Sent) → log ≡ a ++ b → Good a → Good b → Good log
   on log a b is x y = subst Good (sym is) (both a b x y)
 
-  found_good : (n : ℕ) (before values : List (Option ℤ)) (found : List Sent) → Explains system (in_instant (n == 0)) before (numbers system.instant_order) values found → Good found
-  found_good n before values found e = walk_good system (in_instant (n == 0)) before (numbers system.instant_order) values found e
+  found_good : (ticks : ℕ → Bool) (n : ℕ) (before values : List (Option ℤ)) (found : List Sent) → Explains system (in_instant ticks (n == 0)) before (numbers system.instant_order) values found → Good found
+  found_good ticks n before values found e = walk_good system (in_instant ticks (n == 0)) before (numbers system.instant_order) values found e
+
+  asked_good : (values : List (Option ℤ)) (asked : List Sent) → Explains system intervals values (port_order system) values asked → Good asked
+  asked_good values asked e = walk_good system intervals values (port_order system) values asked e
 
   set_good : (now values : List (Option ℤ)) (sets : List Sent) → Explains system (before_step now) values (port_order system) values sets → Good sets
   set_good now values sets e = walk_good system (before_step now) values (port_order system) values sets e
 
-  takes_good : (n : ℕ) (before values : List (Option ℤ)) (found updates : List Sent) → Takes system n before values found updates → Good (found ++ updates)
-  takes_good n before values found updates t = both found updates (found_good n before values found t.explains) t.answered.good
+  takes_good : (t n : ℕ) (timers next : List Timer) (before values : List (Option ℤ)) (found asked updates : List Sent) → Takes system plan t n timers next before values found asked updates → Good (found ++ (asked ++ updates))
+  takes_good t n timers next before values found asked updates taken =
+      both found (asked ++ updates) (found_good taken.ticks n before values found taken.explains) (both asked updates (asked_good values asked taken.rearms.explains) taken.answered.good)
 
-  came_good : (t n : ℕ) (values : List (Option ℤ)) (log : List Sent) (is : List Instant) → Came system bound plan t n values log is → Good log
-  came_good _ _ _ _ _ (AtStart t n values log is initialized at first values_are none) = begins_good system bound plan log initialized
-  came_good _ _ _ _ _ (ByUpdate t n values log is m before front found updates js came takes again limit next log_is is_is) =
-      on log front (found ++ updates) log_is (came_good t m before front js came) (takes_good m before values found updates takes)
-  came_good _ _ _ _ _ (ByStep t n values log is from m before front found updates leaves sets steps arrives js came takes done step parts asks answered first log_is is_is) =
-      on log front (found ++ (updates ++ (leaves ++ (sets ++ (steps ++ arrives))))) log_is (came_good from m before front js came)
-      (both found (updates ++ (leaves ++ (sets ++ (steps ++ arrives)))) (found_good m before values found takes.explains)
-      (both updates (leaves ++ (sets ++ (steps ++ arrives))) takes.answered.good
+  came_good : (t n : ℕ) (values : List (Option ℤ)) (timers : List Timer) (log : List Sent) (is : List Instant) → Came system bound plan t n values timers log is → Good log
+  came_good _ _ _ _ _ _ (AtStart t n values timers log is initialized at first values_are timers_are none) = begins_good system bound plan log initialized
+  came_good _ _ _ _ _ _ (ByUpdate t n values timers log is m before olds front found asked updates js came taken again limit next log_is is_is) =
+      on log front (found ++ (asked ++ updates)) log_is (came_good t m before olds front js came) (takes_good t m olds timers before values found asked updates taken)
+  came_good _ _ _ _ _ _ (ByStep t n values timers log is from m before olds front found asked updates leaves sets steps arrives js came taken done step parts asks answered first log_is is_is) =
+      on log (front ++ (found ++ (asked ++ updates))) (leaves ++ (sets ++ (steps ++ arrives))) (log_is ∙ whole front found asked updates (leaves ++ (sets ++ (steps ++ arrives))))
+      (both front (found ++ (asked ++ updates)) (came_good from m before olds front js came) (takes_good from m olds timers before values found asked updates taken))
       (both leaves (sets ++ (steps ++ arrives)) parts.left.good
       (both sets (steps ++ arrives) (set_good values values sets parts.set)
-      (both steps arrives parts.stepped.good answered.good)))))
+      (both steps arrives parts.stepped.good answered.good)))
 
   seen_good : (t : ℕ) (log : List Sent) (is : List Instant) → Seen system bound plan t log is → Good log
   seen_good t log is s =
-      on log s.front (s.found ++ s.updates) s.log_is (came_good t s.n s.before s.front s.earlier s.came) (takes_good s.n s.before s.values s.found s.updates s.takes)
+      on log s.front (s.found ++ (s.asked ++ s.updates)) s.log_is (came_good t s.n s.before s.olds s.front s.earlier s.came) (takes_good t s.n s.olds s.timers s.before s.values s.found s.asked s.updates s.takes)
 
   leaves_good : (t to : ℕ) (log : List Sent) (is : List Instant) → Leaves system bound plan t to log is → Good log
   leaves_good t to log is l = on log l.front l.leaves l.log_is (seen_good t l.front is l.seen) l.left.good
@@ -286,24 +330,37 @@ module _ (system : System) (bound : Bound) (plan : Plan) (binds : BindsParameter
   stops_at bad log before more is all test call stops =
       deeper bad log before more is (stops_badly ss bad (made ++ before) more (behind_made before all) (to_those test call ss) (to_those_to_one test call ss) stops)
 
+  found_behind : (set entered found : List Sent) (values : List (Option ℤ)) → Good set → Good entered → Explains system (initially system) (no_values system) (numbers system.initial_order) values found → Good (set ++ (entered ++ found))
+  found_behind set entered found values sets enters finds =
+      both set (entered ++ found) sets (both entered found enters (walk_good system (initially system) (no_values system) (numbers system.initial_order) values found finds))
+
   initializing_log : (bad : BadAnswer) (log : List Sent) → StopsInitializing system bound plan bad log → EndsBadly ss bad (made ++ log)
   initializing_log bad log (Binding stops) = stops_badly ss bad made log good (binding bound) (binding_to_one system bound binds) stops
   initializing_log bad log (Entering set entered sets stops log_is) = stops_at bad log set entered log_is sets.good _ _ stops
   initializing_log bad log (Finding set entered found values sets enters finds log_is) =
       deeper bad log (set ++ entered) found (log_is ∙ sym (append_assoc set entered found))
       (walk_badly system (initially system) (no_values system) (numbers system.initial_order) bad values found (made ++ (set ++ entered)) (behind_made (set ++ entered) (both set entered sets.good enters.good)) finds)
-  initializing_log bad log (Leaving set entered found left values sets enters finds stops log_is) =
-      stops_at bad log (set ++ (entered ++ found)) left (log_is ∙ ap (λ (l : List Sent). set ++ l) (sym (append_assoc entered found left)) ∙ sym (append_assoc set (entered ++ found) left))
-      (both set (entered ++ found) sets.good (both entered found enters.good (walk_good system (initially system) (no_values system) (numbers system.initial_order) values found finds))) _ _ stops
+  initializing_log bad log (Timing set entered found asked values sets enters finds stops log_is) =
+      deeper bad log (set ++ (entered ++ found)) asked (log_is ∙ third set entered found asked)
+      (stops_badly ss bad (made ++ (set ++ (entered ++ found))) asked (behind_made (set ++ (entered ++ found)) (found_behind set entered found values sets.good enters.good finds)) (timing_calls system) (timing_to_one system sound) stops)
+  initializing_log bad log (Leaving set entered found asked left values sets enters finds asks stops log_is) =
+      stops_at bad log ((set ++ (entered ++ found)) ++ asked) left
+      (log_is ∙ third set entered found (asked ++ left) ∙ sym (append_assoc (set ++ (entered ++ found)) asked left))
+      (both (set ++ (entered ++ found)) asked (found_behind set entered found values sets.good enters.good finds) asks.good) _ _ stops
 
   bad_log : (bad : BadAnswer) (point : ℕ) (log : List Sent) (is : List Instant) → WhereBad system bound plan bad point log is → EndsBadly ss bad (made ++ log)
   bad_log bad point log is (InInitialization w) = initializing_log bad log w.stops
   bad_log bad point log is (InInstant w) =
       deeper bad log w.front w.found w.log_is
-      (walk_badly system (in_instant (w.n == 0)) w.before (numbers system.instant_order) bad w.values w.found (made ++ w.front) (behind_made w.front (came_good point w.n w.before w.front is w.came)) w.stops)
+      (walk_badly system (in_instant w.ticks (w.n == 0)) w.before (numbers system.instant_order) bad w.values w.found (made ++ w.front) (behind_made w.front (came_good point w.n w.before w.timers w.front is w.came)) w.stops)
+  bad_log bad point log is (InIntervals w) =
+      deeper bad log (w.front ++ w.found) w.asked (w.log_is ∙ sym (append_assoc w.front w.found w.asked))
+      (walk_badly system intervals w.values (port_order system) bad w.values w.asked (made ++ (w.front ++ w.found))
+      (behind_made (w.front ++ w.found) (both w.front w.found (came_good point w.n w.before w.timers w.front is w.came) (found_good w.ticks w.n w.before w.values w.found w.explains))) w.stops)
   bad_log bad point log is (InUpdate w) =
-      stops_at bad log (w.front ++ w.found) w.updates (w.log_is ∙ sym (append_assoc w.front w.found w.updates))
-      (both w.front w.found (came_good point w.n w.before w.front is w.came) (found_good w.n w.before w.values w.found w.explains)) _ _ w.stops
+      stops_at bad log (w.front ++ (w.found ++ w.asked)) w.updates (w.log_is ∙ third w.front w.found w.asked w.updates)
+      (both w.front (w.found ++ w.asked) (came_good point w.n w.before w.olds w.front is w.came)
+      (both w.found w.asked (found_good w.ticks w.n w.before w.values w.found w.explains) (asked_good w.values w.asked w.rearms.explains))) _ _ w.stops
   bad_log bad point log is (BeforeStep w) = stops_at bad log w.front w.leaves w.log_is (seen_good point w.front is w.seen) _ _ w.stops
   bad_log bad point log is (InSet w) =
       let now = w.leaving.seen.values in

@@ -9,7 +9,7 @@ use Rattle.system_model.specs.declared.plan.EndKind.TheVariants as K
 use Rattle.system_model.specs.Ports.{numbers}
 use Rattle.system_model.specs.Sound.{IsSound}
 use Rattle.system_model.specs.Text.{Instant}
-use Rattle.run_model.specs.Run.{Run, Situation}
+use Rattle.run_model.specs.Run.{Run, Situation, Timer}
 use Rattle.run_model.specs.AfterInstant as F
 use Rattle.run_model.specs.AfterInstant.{Again, AtLimit, Done, Ended}
 use Rattle.run_model.specs.Equations.{Solves}
@@ -23,24 +23,26 @@ use Rattle.slot_calls.specs.Carried.{any_asks_to_end}
 use Rattle.slot_calls.specs.Log.{Sent}
 use Rattle.slot_calls.specs.Replies.{AreReplies}
 use Rattle.slot_calls.specs.Stage.{IsAnswered, has_events, shapes_of}
+use Rattle.event_iteration.specs.Clocks.{AreTicks}
 use Rattle.event_iteration.specs.Explains.{Explains}
 use Rattle.event_iteration.specs.Instants.{in_instant}
+use Rattle.event_iteration.specs.Intervals.{Rearms, intervals}
 use Rattle.event_iteration.specs.Settings.{before_step, entered_step, port_order}
 use Rattle.event_iteration.specs.Updates.{updated_by}
 use Rattle.event_iteration.proofs.Departing.{depart_from, sets_by}
 use Rattle.event_iteration.proofs.Fmus.{each_same}
 use Rattle.event_iteration.proofs.Updating.{states_updated}
 use Rattle.calling_sequence.specs.Course as Co
-use Rattle.calling_sequence.specs.Course.{ByStep, IsAgain, IsDone, IsStep, Takes, entering_event, entering_step, instant_at, stepping}
+use Rattle.calling_sequence.specs.Course.{ByStep, IsAgain, IsDone, IsStep, Takes, asks_again, entering_event, entering_step, instant_at, stepping}
 use Rattle.calling_sequence.specs.Systems.{IsBuilt}
 use Rattle.step_master.specs.Traced.{AtFirst, Behind, CameTo, IsFront, Onward}
 use Rattle.step_master.proofs.Badly.{walk_good}
-use Rattle.step_master.proofs.Begun.{IsHere, Stands, replies_at, stands_on}
+use Rattle.step_master.proofs.Begun.{IsHere, Stands, replies_at, stands_on, ticks_at}
 use Rattle.step_master.proofs.Looking.{replies_first, stage_states}
 use Rattle.step_master.proofs.Onward as N
-use Rattle.step_master.proofs.Quiet.{by_answers, following_is}
+use Rattle.step_master.proofs.Quiet.{by_answers, following_by}
 use Rattle.step_master.proofs.SideBySide.{each_each}
-use Rattle.step_master.proofs.Taken.{IsDoneAt, again_here, again_told, asked_told, done_begins, found_states, kept, leads_by, next, solves_here, stepped}
+use Rattle.step_master.proofs.Taken.{IsDoneAt, again_here, again_told, asked_states, asked_told, done_begins, found_states, kept, leads_by, next, next_told, solves_here, stepped}
 use Rattle.step_master.proofs.WalksBack.{setting_back}
 
 -- ---- traces
@@ -55,28 +57,33 @@ traced_on r kind end _ _ rest (Onward s is before values earlier came solves lea
 
 -- ---- a log
 
--- the run of the machines comes to this instant by this log, behind these instants
-pub record Reaches (r : Run) (t n : ℕ) (before : List (Option ℤ)) (log : List Sent) (is : List Instant) : Type 0 where
+pub three : (front found asked updates : List Sent) → ((front ++ found) ++ asked) ++ updates ≡ front ++ (found ++ (asked ++ updates))
+three front found asked updates = append_assoc (front ++ found) asked updates ∙ append_assoc front found (asked ++ updates)
+
+-- the run of the machines comes to this instant with these timers by this log, behind these instants
+pub record Reaches (r : Run) (t n : ℕ) (before : List (Option ℤ)) (timers : List Timer) (log : List Sent) (is : List Instant) : Type 0 where
   pub s : Situation
   pub came : CameTo r s is
-  pub here : IsHere r t n before s
+  pub here : IsHere r t n before timers s
   pub stands : Stands r log s.states
 
 -- the last of the instants is that of a situation, with these values
 pub record Sees (r : Run) (t n : ℕ) (values : List (Option ℤ)) (is : List Instant) : Type 0 where
   pub s : Situation
   pub before : List (Option ℤ)
+  pub timers : List Timer
   pub earlier : List Instant
   pub came : CameTo r s earlier
-  pub here : IsHere r t n before s
+  pub here : IsHere r t n before timers s
   pub solves : Solves r s values
   pub is_is : is ≡ earlier ++ instant_of s values ∷ []
 
--- and this log leads behind its Updates
-pub record Updates (r : Run) (t n : ℕ) (values : List (Option ℤ)) (updates log : List Sent) (is : List Instant) : Type 0 where
+-- and this log leads behind its Updates, where the timers are these
+pub record Updates (r : Run) (t n : ℕ) (values : List (Option ℤ)) (timers : List Timer) (updates log : List Sent) (is : List Instant) : Type 0 where
   pub seen : Sees r t n values is
   pub stands : Stands r log (F.updated r seen.s values).states
-  pub follows : F.following r seen.s values ≡ by_answers (updated_by updates).asked (updated_by updates).again (suc n == r.plan.limit)
+  pub next : timers ≡ F.next_timers r seen.s values
+  pub follows : F.following r seen.s values ≡ by_answers (updated_by updates).asked (asks_again t timers updates) (suc n == r.plan.limit)
 
 abbrev instant : ℕ → ℕ → List (Option ℤ) → Instant
 instant t n values = record { t = t; n = n; values = values }
@@ -117,32 +124,33 @@ module _ (r : Run) (t n : ℕ) (values : List (Option ℤ)) (is : List Instant) 
       subst (λ (xs : List Instant). IsTrace r xs kind end) (sym x.is_is)
       (traced_on r kind end x.s x.earlier (instant_of x.s values ∷ []) x.came (Last x.s values (instant_of x.s values ∷ []) kind end x.solves leads refl))
 
-  module _ (updates log : List Sent) (x : Updates r t n values updates log is) where
+  module _ (timers : List Timer) (updates log : List Sent) (x : Updates r t n values timers updates log is) where
     -- an Update asked for the end
     pub ended_seen : (updated_by updates).asked ≡ true → Leads r x.seen.s values (Ends K.Asked t)
     ended_seen asks = leads_by r x.seen.s values Ended (Ends K.Asked t) (x.follows ∙ asked_is _ _ _ asks) (ap (Ends K.Asked) (sym x.seen.here.point))
 
     -- or for one more instant than there may be
-    pub limited_seen : IsAgain updates → (suc n == r.plan.limit) ≡ true → Leads r x.seen.s values (Ends K.Limit t)
+    pub limited_seen : IsAgain t timers updates → (suc n == r.plan.limit) ≡ true → Leads r x.seen.s values (Ends K.Limit t)
     limited_seen again limit = leads_by r x.seen.s values AtLimit (Ends K.Limit t) (x.follows ∙ limit_is _ _ _ again.goes_on again.again limit) (ap (Ends K.Limit) (sym x.seen.here.point))
 
     -- or for another instant
-    pub again_seen : IsBuilt r.system → IsAgain updates → (suc n == r.plan.limit) ≡ false → Reaches r t (suc n) values log is
-    again_seen built again limit =
+    pub again_seen : IsAgain t timers updates → (suc n == r.plan.limit) ≡ false → Reaches r t (suc n) values timers log is
+    again_seen again limit =
         let e = x.follows ∙ again_is _ _ _ again.goes_on again.again limit in
         let z = F.updated r x.seen.s values in
         record {
           s = z;
           came = Onward z is x.seen.s values x.seen.earlier x.seen.came x.seen.solves (leads_by r x.seen.s values Again (GoesOn z) e refl) x.seen.is_is;
-          here = again_here r built t n x.seen.before values x.seen.s x.seen.here x.seen.solves e;
+          here = subst (λ (ts : List Timer). IsHere r t (suc n) values ts z) (sym x.next) (again_here r t n x.seen.before values x.seen.timers x.seen.s x.seen.here x.seen.solves e);
           stands = x.stands;
         }
 
     -- or the point is done
-    pub done_seen : IsDone updates → IsDoneAt r t x.seen.s values
+    pub done_seen : IsDone t timers updates → IsDoneAt r t x.seen.s values
     done_seen done = record {
       n = n;
       before = x.seen.before;
+      timers = x.seen.timers;
       here = x.seen.here;
       solves = x.seen.solves;
       done = x.follows ∙ done_is _ _ _ done.goes_on done.settled;
@@ -153,51 +161,74 @@ module _ (r : Run) (sound : IsSound r.system) (built : IsBuilt r.system) (machin
   first = I.instantiated r
 
   -- the values of an instant are found
-  module _ (t n : ℕ) (before values : List (Option ℤ)) (front found : List Sent) (earlier : List Instant) (old : Reaches r t n before front earlier) (places : length values ≡ length r.system.ports)
-      (told : Explains r.system (in_instant (n == 0)) before (numbers r.system.instant_order) values found) where
+  module _ (t n : ℕ) (before values : List (Option ℤ)) (timers : List Timer) (front found : List Sent) (earlier : List Instant) (old : Reaches r t n before timers front earlier) (places : length values ≡ length r.system.ports)
+      (ticks : ℕ → Bool) (are_ticks : AreTicks r.system r.plan.start timers t n ticks) (told : Explains r.system (in_instant ticks (n == 0)) before (numbers r.system.instant_order) values found) where
     abbrev s : Situation
     s = old.s
 
-    explains : Explains r.system (in_instant (s.n == 0)) s.before (numbers r.system.instant_order) values found
+    ticks_here : AreTicks r.system r.plan.start s.timers s.t s.n ticks
+    ticks_here = ticks_at r t n before timers s old.here ticks are_ticks
+
+    explains : Explains r.system (in_instant ticks (s.n == 0)) s.before (numbers r.system.instant_order) values found
     explains =
-        subst (λ (k : ℕ). Explains r.system (in_instant (k == 0)) s.before (numbers r.system.instant_order) values found) (sym old.here.number)
-        (subst (λ (vs : List (Option ℤ)). Explains r.system (in_instant (n == 0)) vs (numbers r.system.instant_order) values found) (sym old.here.values) told)
+        subst (λ (k : ℕ). Explains r.system (in_instant ticks (k == 0)) s.before (numbers r.system.instant_order) values found) (sym old.here.number)
+        (subst (λ (vs : List (Option ℤ)). Explains r.system (in_instant ticks (n == 0)) vs (numbers r.system.instant_order) values found) (sym old.here.values) told)
 
     pub finds : AreReplies r first (front ++ found) → Solves r s values × Stands r (front ++ found) (F.written r s values)
     finds replies =
         let inside = replies_at r front found s.states old.stands replies in (
-          solves_here r sound machines s old.here.reached built values found places explains inside,
-          stands_on r front found s.states old.stands (F.written r s values) (walk_good r.system (in_instant (n == 0)) before (numbers r.system.instant_order) values found told)
-              (found_states r sound machines s old.here.reached built values found places explains inside),
+          solves_here r sound machines s old.here.reached ticks ticks_here values found places explains inside,
+          stands_on r front found s.states old.stands (F.written r s values) (walk_good r.system (in_instant ticks (n == 0)) before (numbers r.system.instant_order) values found told)
+              (found_states r sound machines s old.here.reached ticks ticks_here values found places explains inside),
         )
 
-  -- an instant and its Updates
-  pub takes : (t n : ℕ) (before values : List (Option ℤ)) (front found updates : List Sent) (earlier : List Instant) → Reaches r t n before front earlier → Takes r.system n before values found updates →
-      AreReplies r first (front ++ (found ++ updates)) → Updates r t n values updates (front ++ (found ++ updates)) (earlier ++ instant_at t n values ∷ [])
-  takes t n before values front found updates earlier old take replies =
+    -- and then the countdown Clocks are asked
+    module _ (next : List Timer) (asked : List Sent) (rearms : Rearms r.system r.plan.resolution t values timers next asked) (replies : AreReplies r first ((front ++ found) ++ asked)) where
+      rearms_here : Rearms r.system r.plan.resolution s.t values s.timers next asked
+      rearms_here =
+          subst (λ (k : ℕ). Rearms r.system r.plan.resolution k values s.timers next asked) (sym old.here.point)
+          (subst (λ (ts : List Timer). Rearms r.system r.plan.resolution t values ts next asked) (sym old.here.timers_are) rearms)
+
+      walk : Solves r s values × Stands r (front ++ found) (F.written r s values)
+      walk = finds (replies_first r first (front ++ found) asked replies)
+
+      pub asks : (next ≡ F.next_timers r s values) × Stands r ((front ++ found) ++ asked) (F.written r s values)
+      asks = (
+        next_told r sound machines s old.here.reached values next asked rearms_here (replies_at r (front ++ found) asked (F.written r s values) walk.1 replies),
+        stands_on r (front ++ found) asked (F.written r s values) walk.1 (F.written r s values) (walk_good r.system intervals values (port_order r.system) values asked rearms.explains)
+            (asked_states r sound machines s old.here.reached values next asked rearms_here),
+      )
+
+  -- an instant, its questions for intervals and its Updates
+  pub takes : (t n : ℕ) (before values : List (Option ℤ)) (olds timers : List Timer) (front found asked updates : List Sent) (earlier : List Instant) → Reaches r t n before olds front earlier →
+      Takes r.system r.plan t n olds timers before values found asked updates → AreReplies r first (front ++ (found ++ (asked ++ updates))) →
+      Updates r t n values timers updates (front ++ (found ++ (asked ++ updates))) (earlier ++ instant_at t n values ∷ [])
+  takes t n before values olds timers front found asked updates earlier old take replies =
       let s = old.s in
       let here = old.here in
-      let all = subst (AreReplies r first) (sym (append_assoc front found updates)) replies in
-      let walk = finds t n before values front found earlier old take.places take.explains (replies_first r first (front ++ found) updates all) in
-      let behind = replies_at r (front ++ found) updates (F.written r s values) walk.1 all in
-      let asked = asked_told r sound machines s here.reached values updates take.answered behind in
+      let whole = three front found asked updates in
+      let all = subst (AreReplies r first) (sym whole) replies in
+      let walk = finds t n before values olds front found earlier old take.places take.ticks take.are_ticks take.explains
+      (replies_first r first (front ++ found) asked (replies_first r first ((front ++ found) ++ asked) updates all)) in
+      let rearmed = asks t n before values olds front found earlier old take.places take.ticks take.are_ticks take.explains timers asked take.rearms (replies_first r first ((front ++ found) ++ asked) updates all) in
+      let behind = replies_at r ((front ++ found) ++ asked) updates (F.written r s values) rearmed.1 all in
+      let ends = asked_told r sound machines s here.reached values updates take.answered behind in
       let again = again_told r sound machines s here.reached values updates take.answered behind in
       record {
         seen = record {
           s = s;
           before = before;
+          timers = olds;
           earlier = earlier;
           came = old.came;
           here = here;
           solves = walk.0;
           is_is = ap (λ (i : Instant). earlier ++ i ∷ []) (same_instant s t n values here.point here.number);
         };
-        stands = subst (λ (l : List Sent). Stands r l (F.updated r s values).states) (append_assoc front found updates)
-            (stands_on r (front ++ found) updates (F.written r s values) walk.1 (F.updated r s values).states take.answered.good (states_updated r s values updates take.answered));
-        follows = following_is r built s values here.never
-            ∙ ap (λ (a : Bool). by_answers a (F.any_update F.asks_again r s values) (suc s.n == r.plan.limit)) (sym asked)
-            ∙ ap (λ (a : Bool). by_answers (updated_by updates).asked a (suc s.n == r.plan.limit)) (sym again)
-            ∙ ap (λ (k : ℕ). by_answers (updated_by updates).asked (updated_by updates).again (suc k == r.plan.limit)) here.number;
+        stands = subst (λ (l : List Sent). Stands r l (F.updated r s values).states) whole
+            (stands_on r ((front ++ found) ++ asked) updates (F.written r s values) rearmed.1 (F.updated r s values).states take.answered.good (states_updated r s values updates take.answered));
+        next = rearmed.0;
+        follows = following_by r s values t n timers updates here.point here.number rearmed.0 ends again;
       }
 
   -- ---- a step from where a point is done
@@ -228,7 +259,7 @@ module _ (r : Run) (sound : IsSound r.system) (built : IsBuilt r.system) (machin
 
     module _ (u : ℕ) (log more : List Sent) where
       -- the step
-      module _ (bound : IsStep r.system r.plan t u) (stands : Stands r log (departing r z)) (answered : IsAnswered (shapes_of r.system) (stepping r.system t u) more) (replies : AreReplies r first (log ++ more)) where
+      module _ (bound : IsStep r.system r.plan z.timers t u) (stands : Stands r log (departing r z)) (answered : IsAnswered (shapes_of r.system) (stepping r.system t u) more) (replies : AreReplies r first (log ++ more)) where
         inside : AreReplies r (departing r z) more
         inside = replies_at r log more (departing r z) stands replies
 

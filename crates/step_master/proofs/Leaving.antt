@@ -17,7 +17,7 @@ use Rattle.fmi_calls.specs.declared.phase.InstanceState.TheVariants as P
 use Rattle.fmi_calls.specs.KindFacts.{IsRunCall}
 use Rattle.fmi_calls.specs.Kinds.{bad_status_of}
 use Rattle.fmi_calls.specs.Next.{fresh, graded, counted, entered, next_of, state_after_bad}
-use Rattle.fmi_calls.specs.Permission.{Permitted, can_be_freed, can_be_read, can_be_set}
+use Rattle.fmi_calls.specs.Permission.{Permitted, can_be_freed, can_be_read, can_be_set, can_be_ticked, has_interval, has_shift, is_input_clock, is_output_clock}
 use Rattle.fmi_calls.specs.Worth.{grade_of}
 use Rattle.fmu_peer.specs.declared.peer.Exchange.{Exchange}
 use Rattle.fmu_peer.specs.declared.peer.PeerFault.{PeerFault}
@@ -62,6 +62,8 @@ entered_closable shape p C.EnterStep reply m h = record { empty = h.empty; state
 entered_closable shape p C.Update reply m h = record { empty = h.empty; state = h.state }
 entered_closable shape p (C.DoStep at size) reply m h = record { empty = h.empty; state = h.state }
 entered_closable shape p (C.Set kind reference value) reply m h = record { empty = h.empty; state = h.state }
+entered_closable shape p (C.GetClock reference) reply m h = record { empty = h.empty; state = h.state }
+entered_closable shape p (C.SetClock reference) reply m h = record { empty = h.empty; state = h.state }
 entered_closable shape p C.Save reply m h = absurd (cc)
 entered_closable shape p C.Restore reply m h = absurd (cc)
 entered_closable shape p C.Free reply m h = absurd (cc)
@@ -99,6 +101,9 @@ talks_closable v (e ∷ es) w (mid, may, asked, rest) r h =
 abbrev IsStart : Call → Type 0
 IsStart call = (event_mode : Bool) × (early : Bool) × (call ≡ C.Instantiate event_mode early)
 
+not_both : {b : Bool} → b ≡ false → b ≡ true → ⊥
+not_both h k = cc
+
 -- what a run may send first makes the instance
 starts : (call : Call) (shape : Shape) (p : Phase) → p.state ≡ P.Fresh → IsRunCall call → Permitted shape p call → IsStart call
 starts (C.Instantiate event_mode early_return) shape p at r may = (event_mode, early_return, refl)
@@ -120,18 +125,17 @@ starts C.Update shape p at r may = absurd (clash at may) where
 starts (C.DoStep t size) shape p at r may = absurd (clash at may.0) where
   clash : {s : InstanceState} → s ≡ P.Fresh → s ≡ P.Step → ⊥
   clash h k = cc
-starts (C.Get kind reference) shape p at r may = absurd (clash (ap (λ (s : InstanceState). can_be_read s shape p.marks reference) at) may.0) where
-  clash : {b : Bool} → b ≡ false → b ≡ true → ⊥
-  clash h k = cc
-starts (C.Set kind reference value) shape p at r may = absurd (clash (ap (λ (s : InstanceState). can_be_set s shape p.marks reference) at) may.0) where
-  clash : {b : Bool} → b ≡ false → b ≡ true → ⊥
-  clash h k = cc
+starts (C.Get kind reference) shape p at r may = absurd (not_both (ap (λ (s : InstanceState). can_be_read s shape p.marks p.active reference) at) may.0)
+starts (C.Set kind reference value) shape p at r may = absurd (not_both (ap (λ (s : InstanceState). can_be_set s shape p.marks p.active reference) at) may.0)
+starts (C.GetClock reference) shape p at r may = absurd (not_both (ap (λ (s : InstanceState). can_be_ticked is_output_clock s shape p.marks reference) at) may)
+starts (C.SetClock reference) shape p at r may = absurd (not_both (ap (λ (s : InstanceState). can_be_ticked is_input_clock s shape p.marks reference) at) may)
+starts (C.GetInterval reference) shape p at r may = absurd (not_both (ap (λ (s : InstanceState). has_interval s shape reference) at) may)
+starts (C.GetShift reference) shape p at r may = absurd (not_both (ap (λ (s : InstanceState). has_shift s shape reference) at) may)
 starts C.Save shape p at r may = absurd (cc)
 starts C.Restore shape p at r may = absurd (cc)
 starts C.Free shape p at r may = absurd (cc)
 starts C.Terminate shape p at r may = absurd (cc)
 starts C.FreeInstance shape p at r may = absurd (cc)
-starts call shape p at r may = absurd may
 
 good_or_not : (g : Grade) → (g ≡ G.Good) ⊎ (g ≡ G.Good → ⊥)
 good_or_not G.Good = inl refl
@@ -149,9 +153,6 @@ start_closable shape p call (event_mode, early, is) empty (Ok reply) good =
     ap (λ (g : Grade). graded shape (counted p call) call reply g) good ∙ ap (λ (c : Call). entered shape (counted p call) c reply) is in
     subst IsClosable (sym phase) (record { empty = empty; state = inr refl })
 start_closable shape p call start empty (Err fault) good = absurd good
-
-clash : {b : Bool} → b ≡ false → b ≡ true → ⊥
-clash h k = cc
 
 leaves : (x : Instance) (es : List Exchange) (y : Instance) → x.view.phase ≡ fresh x.view.fixed.shape → Has x es y → All IsRunCall (calls_in es) → (talk : List Exchange) → talk ≡ es → IsLeft y talk
 leaves x es y f h r [] is = record {
@@ -171,7 +172,7 @@ leaves x es y f h r (e ∷ talk) is =
             let made : IsClosable t.0.phase = subst IsClosable (sym t.2.phase)
             (start_closable x.view.fixed.shape x.view.phase e.call start (ap (λ (p : Phase). p.slot.is_full) f) e.result good) in
             let shut : IsClosable y.view.phase = talks_closable t.0 talk y.view t.3 (All-tail IsRunCall e.call (calls_in talk) rs) made in
-            inr (record { alive = shut.state; kept = λ full. absurd (clash shut.empty full) })
+            inr (record { alive = shut.state; kept = λ full. absurd (not_both shut.empty full) })
         | inr bad ↦ inl (record { first = e; rest = talk; is = refl; bad = subst (λ (s : Shape). IsGood s e → ⊥) (sym shape_is) bad })
       ]);
     }

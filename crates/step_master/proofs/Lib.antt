@@ -1,10 +1,14 @@
 mod Along
+mod Arming
+mod Asking
 mod Badly
 mod Begun
+mod Bounds
 mod Calls
 mod Coming
 mod Configured
 mod Existing
+mod FirstTimers
 mod Followed
 mod Leaving
 mod Links
@@ -16,6 +20,7 @@ mod Over
 mod OwnWalks
 mod Prepared
 mod Quiet
+mod Rearming
 mod SeatLemmas
 mod SideBySide
 mod Taken
@@ -25,6 +30,7 @@ mod ToldWell
 mod UpdateCalls
 mod UpdateTables
 mod UpdatesAlong
+mod Uses
 mod WalkCalls
 mod WalksBack
 mod Well

@@ -29,7 +29,7 @@ use Rattle.slot_calls.specs.Replies.{AreReplies, states_by}
 use Rattle.step_master.proofs.Looking.{any_asks, one_of, stage_states}
 use Rattle.calling_sequence.proofs.Phases.{good_step_end}
 use Rattle.step_master.proofs.Prepared.{get_here, got, is_within}
-use Rattle.step_master.proofs.Quiet.{AreNever, bound_on, no_early}
+use Rattle.step_master.proofs.Quiet.{no_early}
 use Rattle.step_master.proofs.SideBySide.{AreAll, all_on, each_each, each_length}
 
 -- ---- lists
@@ -81,10 +81,9 @@ unfit_some false size step i o e h = (unequal size step e, h) where
   unequal : (a b : ℕ) → (a == b) ≡ false → a ≢ b
   unequal a b q = grind (arith, nat_tests)
 
--- a step begins at the point, where no Clock ticks
+-- a step begins at the point
 pub record BeginsStep (r : Run) (t : ℕ) (z : Situation) : Type 0 where
   pub point : z.t ≡ t
-  pub never : AreNever z.timers
   pub all : AreAll r z.states
 
 module _ (r : Run) (built : IsBuilt r.system) (t : ℕ) (z : Situation) (begins : BeginsStep r t z) where
@@ -111,10 +110,10 @@ module _ (r : Run) (built : IsBuilt r.system) (t : ℕ) (z : Situation) (begins 
       ∙ ap (position (λ b. b)) (map_from (stepper_of t) fixed_size (λ (c : Component). not c.shape.has_variable_steps) (λ i c m state. refl) 0 r.system.components r.machines departing_here departing_all.machines departing_all.states)
       ∙ position-map (λ (c : Component). not c.shape.has_variable_steps) (λ b. b) r.system.components
 
-  bound_here : (u : ℕ) → IsBoundOf r.plan t u → IsBound r.plan z.timers z.t u
-  bound_here u b = subst (λ (n : ℕ). IsBound r.plan z.timers n u) (sym begins.point) (bound_on r.plan z.timers t u begins.never b.bound)
+  bound_here : (u : ℕ) → IsBoundOf r.plan z.timers t u → IsBound r.plan z.timers z.t u
+  bound_here u b = subst (λ (n : ℕ). IsBound r.plan z.timers n u) (sym begins.point) b.bound
 
-  pub before_here : (u : ℕ) → IsBoundOf r.plan t u → z.t < r.plan.stop
+  pub before_here : (u : ℕ) → IsBoundOf r.plan z.timers t u → z.t < r.plan.stop
   before_here u b = subst (λ (n : ℕ). n < r.plan.stop) (sym begins.point) b.before_stop
 
   -- each may be asked to step so far
@@ -124,7 +123,7 @@ module _ (r : Run) (built : IsBuilt r.system) (t : ℕ) (z : Situation) (begins 
       (subst (λ (n : ℕ). u - n ≢ r.plan.step) begins.point fixed.other_size) (sym unvaried_here ∙ fixed.least)
 
   -- or the least that takes no such size is told
-  pub lacks_here : (u i : ℕ) → IsBoundOf r.plan t u → first_unfit r.system r.plan (u - t) ≡ Some i → P.LacksStep r z i u
+  pub lacks_here : (u i : ℕ) → IsBoundOf r.plan z.timers t u → first_unfit r.system r.plan (u - t) ≡ Some i → P.LacksStep r z i u
   lacks_here u i bound unfit =
       let so = unfit_some ((u - t) == r.plan.step) (u - t) r.plan.step i (position (λ (c : Component). not c.shape.has_variable_steps) r.system.components) refl unfit in
       record {
@@ -172,7 +171,7 @@ module _ (r : Run) (built : IsBuilt r.system) (t : ℕ) (z : Situation) (begins 
         (λ i c m state fmu. ap (λ call. let there : MachineState = after m state call in if c.shape.has_event_mode then after m there C.EnterEvent else there) (sym (call_is i c fmu.component)))
 
     -- a step that each answers well goes to its bound
-    module _ (bound : IsBoundOf r.plan t u) where
+    module _ (bound : IsBoundOf r.plan z.timers t u) where
       -- on the way to an agreement each is asked this alone
       pub asked_first : (i : ℕ) → first_unfit r.system r.plan (u - t) ≡ None → IsAsked (steppers r z) z.t r.plan.step u i u
       asked_first i fit = AskedFirst u i u (may_here u fit) refl
@@ -202,7 +201,7 @@ module _ (r : Run) (built : IsBuilt r.system) (t : ℕ) (z : Situation) (begins 
 
     -- by the log of the step
     module _ (steps : List Sent) (answered : IsAnswered (shapes_of r.system) (stepping r.system t u) steps) (replies : AreReplies r departing_here steps) where
-      pub step_here : IsBoundOf r.plan t u → first_unfit r.system r.plan (u - t) ≡ None → P.IsStep r z kept_to u
+      pub step_here : IsBoundOf r.plan z.timers t u → first_unfit r.system r.plan (u - t) ≡ None → P.IsStep r z kept_to u
       step_here bound fit = step_well bound (λ i c m state fmu. let one = one_of r departing_here everyone (λ (shape : Shape). C.DoStep t (u - t)) steps answered replies i c m state fmu refl in one.good) fit
 
       pub steps_states : states_by r departing_here steps ≡ stepped_here

@@ -1,5 +1,5 @@
 -- A legal talk that is closed leaves its instance unmade, gone or lost, or keeping a state.
-use Rattle.std.proofs.Common.{◌≡◌, ◌⊎◌, inl, inr, Bool, true, List, [], ◌∷◌, ◌++◌, Result, Ok, Err, refl, sym, ap, ◌∙◌, subst}
+use Rattle.std.proofs.Common.{◌≡◌, ◌⊎◌, inl, inr, Bool, true, false, List, [], ◌∷◌, ◌++◌, Result, Ok, Err, refl, sym, ap, ◌∙◌, subst}
 use Rattle.std.specs.Prelude.{MatchResult}
 use Rattle.std.specs.Result.{result_ok}
 use Rattle.value_types.specs.declared.shape.Shape.{Shape}
@@ -17,7 +17,7 @@ use Rattle.fmi_calls.specs.declared.phase.InstanceState.TheVariants as P
 use Rattle.fmi_calls.specs.declared.phase.Phase.{Phase}
 use Rattle.fmi_calls.specs.Kinds.{bad_status_of}
 use Rattle.fmi_calls.specs.Next.{counted, fresh, graded, next_of, state_after_bad}
-use Rattle.fmi_calls.specs.Permission.{Permitted, can_be_freed, can_be_read, can_be_set, is_running}
+use Rattle.fmi_calls.specs.Permission.{Permitted, can_be_freed, can_be_read, can_be_set, can_be_ticked, has_interval, has_shift, is_input_clock, is_output_clock, is_running}
 use Rattle.fmi_calls.specs.Worth.{grade_of}
 use Rattle.fmu_peer.specs.declared.peer.Exchange.{Exchange}
 use Rattle.fmu_peer.specs.declared.peer.PeerFault.{PeerFault}
@@ -31,21 +31,9 @@ IsEnded state = (state ≡ P.Gone) ⊎ (state ≡ P.Lost)
 
 -- ---- no call is permitted of an instance that is gone or lost
 
-none_read : (state : InstanceState) (shape : Shape) (marks : List Bool) (reference : _) → IsEnded state → can_be_read state shape marks reference ≡ true → ⊥
-none_read state shape marks reference (inl gone) h = let k = ap (λ s. can_be_read s shape marks reference) (sym gone) ∙ h in absurd (cc)
-none_read state shape marks reference (inr lost) h = let k = ap (λ s. can_be_read s shape marks reference) (sym lost) ∙ h in absurd (cc)
-
-none_set : (state : InstanceState) (shape : Shape) (marks : List Bool) (reference : _) → IsEnded state → can_be_set state shape marks reference ≡ true → ⊥
-none_set state shape marks reference (inl gone) h = let k = ap (λ s. can_be_set s shape marks reference) (sym gone) ∙ h in absurd (cc)
-none_set state shape marks reference (inr lost) h = let k = ap (λ s. can_be_set s shape marks reference) (sym lost) ∙ h in absurd (cc)
-
-none_freed : (state : InstanceState) (full : Bool) → IsEnded state → can_be_freed state full ≡ true → ⊥
-none_freed state full (inl gone) h = let k = ap (λ s. can_be_freed s full) (sym gone) ∙ h in absurd (cc)
-none_freed state full (inr lost) h = let k = ap (λ s. can_be_freed s full) (sym lost) ∙ h in absurd (cc)
-
-none_running : (state : InstanceState) → IsEnded state → is_running state ≡ true → ⊥
-none_running state (inl gone) h = let k = ap is_running (sym gone) ∙ h in absurd (cc)
-none_running state (inr lost) h = let k = ap is_running (sym lost) ∙ h in absurd (cc)
+none_passes : (test : InstanceState → Bool) (state : InstanceState) → IsEnded state → test P.Gone ≡ false → test P.Lost ≡ false → test state ≡ true → ⊥
+none_passes test state (inl gone) a b h = absurd (let k : true ≡ false = sym h ∙ ap test gone ∙ a in cc)
+none_passes test state (inr lost) a b h = absurd (let k : true ≡ false = sym h ∙ ap test lost ∙ b in cc)
 
 other : (state wanted : InstanceState) → IsEnded state → state ≡ wanted → (P.Gone ≡ wanted → ⊥) → (P.Lost ≡ wanted → ⊥) → ⊥
 other state wanted (inl gone) is a b = a (sym gone ∙ is)
@@ -56,20 +44,20 @@ none_permitted shape phase (C.Instantiate event_mode early_return) ended p = oth
 none_permitted shape phase (C.EnterInitialization start stop) ended p = other phase.state P.Instantiated ended p.0 (λ e. cc) (λ e. cc)
 none_permitted shape phase C.ExitInitialization ended p = other phase.state P.Initialization ended p (λ e. cc) (λ e. cc)
 none_permitted shape phase (C.DoStep at size) ended p = other phase.state P.Step ended p.0 (λ e. cc) (λ e. cc)
-none_permitted shape phase (C.Get kind reference) ended p = none_read phase.state shape phase.marks reference ended p.0
-none_permitted shape phase (C.Set kind reference value) ended p = none_set phase.state shape phase.marks reference ended p.0
+none_permitted shape phase (C.Get kind reference) ended p = none_passes (λ s. can_be_read s shape phase.marks phase.active reference) phase.state ended refl refl p.0
+none_permitted shape phase (C.Set kind reference value) ended p = none_passes (λ s. can_be_set s shape phase.marks phase.active reference) phase.state ended refl refl p.0
 none_permitted shape phase C.Save ended p = other phase.state P.Step ended p.0 (λ e. cc) (λ e. cc)
 none_permitted shape phase C.Restore ended p = other phase.state P.Step ended p.0 (λ e. cc) (λ e. cc)
 none_permitted shape phase C.Free ended p = other phase.state P.Step ended p.0 (λ e. cc) (λ e. cc)
-none_permitted shape phase C.Terminate ended p = none_running phase.state ended p.0
-none_permitted shape phase C.FreeInstance ended p = none_freed phase.state phase.slot.is_full ended p
+none_permitted shape phase C.Terminate ended p = none_passes is_running phase.state ended refl refl p.0
+none_permitted shape phase C.FreeInstance ended p = none_passes (λ s. can_be_freed s phase.slot.is_full) phase.state ended refl refl p
 none_permitted shape phase C.EnterEvent ended p = other phase.state P.Step ended p.0 (λ e. cc) (λ e. cc)
 none_permitted shape phase C.EnterStep ended p = other phase.state P.Event ended p.0 (λ e. cc) (λ e. cc)
 none_permitted shape phase C.Update ended p = other phase.state P.Event ended p (λ e. cc) (λ e. cc)
-none_permitted shape phase (C.GetClock reference) ended p = p
-none_permitted shape phase (C.SetClock reference) ended p = p
-none_permitted shape phase (C.GetInterval reference) ended p = p
-none_permitted shape phase (C.GetShift reference) ended p = p
+none_permitted shape phase (C.GetClock reference) ended p = none_passes (λ s. can_be_ticked is_output_clock s shape phase.marks reference) phase.state ended refl refl p
+none_permitted shape phase (C.SetClock reference) ended p = none_passes (λ s. can_be_ticked is_input_clock s shape phase.marks reference) phase.state ended refl refl p
+none_permitted shape phase (C.GetInterval reference) ended p = none_passes (λ s. has_interval s shape reference) phase.state ended refl refl p
+none_permitted shape phase (C.GetShift reference) ended p = none_passes (λ s. has_shift s shape reference) phase.state ended refl refl p
 
 none_behind : (shape : Shape) (phase : Phase) (es : List Exchange) → IsEnded phase.state → LegalFrom shape phase es → es ≡ []
 none_behind shape phase [] ended legal = refl
@@ -92,10 +80,10 @@ only_start shape C.FreeInstance p = absurd (cc)
 only_start shape C.EnterEvent p = absurd (let e = p.0 in cc)
 only_start shape C.EnterStep p = absurd (let e = p.0 in cc)
 only_start shape C.Update p = absurd (let e = p in cc)
-only_start shape (C.GetClock reference) p = absurd p
-only_start shape (C.SetClock reference) p = absurd p
-only_start shape (C.GetInterval reference) p = absurd p
-only_start shape (C.GetShift reference) p = absurd p
+only_start shape (C.GetClock reference) p = absurd (cc)
+only_start shape (C.SetClock reference) p = absurd (cc)
+only_start shape (C.GetInterval reference) p = absurd (cc)
+only_start shape (C.GetShift reference) p = absurd (cc)
 
 bad_start : (shape : Shape) (phase : Phase) (a b : Bool) (reply : Reply) (g : Grade) → (g ≡ G.Good → ⊥) → IsEnded (graded shape phase (C.Instantiate a b) reply g).state
 bad_start shape phase a b reply G.Good bad = absurd (bad refl)

@@ -1,19 +1,21 @@
 -- The calls of one component in a walk through the ports: none stands twice.
-use Rattle.std.proofs.Common.{◌≡◌, ◌⊎◌, inl, inr, ℕ, ◌==◌, ℤ, pos, Bool, true, false, List, [], ◌∷◌, ◌++◌, Option, Some, None, Contains, refl, sym, ap, ◌∙◌, subst, append_assoc, append-nil, arith}
+use Rattle.std.proofs.Common.{◌≡◌, ◌⊎◌, inl, inr, ℕ, suc, ◌+◌, ◌==◌, length, ℤ, Bool, true, false, List, [], ◌∷◌, ◌++◌, Option, Some, None, Contains, refl, sym, ap, ◌∙◌, subst, append_assoc, append-nil, arith}
 use Rattle.std.specs.Prelude.{All, if◌then◌else◌}
-use Rattle.std.specs.List.{slice_get}
+use Rattle.std.specs.List.{range_with_len, slice_get}
 use Rattle.std.specs.Option.{option_and_then, option_map_or}
 use Rattle.std.proofs.lemmas.Bool.Decides.{nat_tests}
 use Rattle.std.proofs.lemmas.List.Elements.{All-append, All-cons, All-head, All-nil, All-tail, Contains-append_left, Contains-push}
-use Rattle.value_types.specs.declared.values.PortType.{PortType}
 use Rattle.fmi_calls.specs.declared.call.Call.{Call}
 use Rattle.fmi_calls.specs.declared.call.Call.TheVariants as C
 use Rattle.fmi_calls.specs.declared.call.Reply.{Reply}
 use Rattle.fmi_calls.specs.KindFacts.{IsRunCall, moves_on}
-use Rattle.fmu_peer.specs.Lean.{IsNew, NoneTwiceBehind, without_value}
+use Rattle.fmu_peer.specs.Lean.{IsNew, NoneTwiceBehind, seen_after, without_value}
 use Rattle.system_model.specs.declared.system.Component.{Component}
 use Rattle.system_model.specs.declared.system.Port.{Port}
+use Rattle.system_model.specs.declared.system.Role.{Role}
+use Rattle.system_model.specs.declared.system.Role.TheVariants.{Input, Output, ClockInput, ClockOutput, TimeClock}
 use Rattle.system_model.specs.declared.system.System.{System}
+use Rattle.system_model.specs.declared.system.Timing.TheVariants.{Periodic, Answered, Countdown}
 use Rattle.system_model.specs.Orders.{IsOrder}
 use Rattle.system_model.specs.Sound.{IsSound}
 use Rattle.system_model.proofs.SoundLemmas as S
@@ -21,10 +23,13 @@ use Rattle.slot_calls.specs.Log.{Sent, asking_of, askings}
 use Rattle.slot_calls.specs.declared.bad_answer.BadAnswer.{BadAnswer}
 use Rattle.slot_calls.proofs.Logs.{askings_append}
 use Rattle.event_iteration.specs.Explains.{Explains, ExplainsUntil, all_said, call_at, said}
+use Rattle.event_iteration.specs.Intervals.{timing_calls, timing_calls_in, timing_calls_of}
+use Rattle.event_iteration.specs.Settings.{port_order}
 use Rattle.event_iteration.specs.Turns.{Rules, sent_of}
 use Rattle.step_master.proofs.Calls.{own, own_append}
 use Rattle.step_master.proofs.Needing.{none_twice_on, seen_behind}
-use Rattle.step_master.proofs.WalkCalls.{BeforeStep, InInstant, Reads, Uses, Writes}
+use Rattle.step_master.proofs.Uses.{Differ, Times, Uses, same_reference, timing_runs, timing_stays, use_runs, use_stays}
+use Rattle.step_master.proofs.WalkCalls.{BeforeStep, BehindInstant, InInstant, Reads, Writes, read_uses, write_uses}
 
 -- ---- kinds of turns
 
@@ -34,24 +39,11 @@ pub record IsUse (T : Port → Call → Type 0) : Type 0 where
   pub stays : (port : Port) (call : Call) → T port call → moves_on call ≡ false
   pub apart : (a b : Port) (c d : Call) → T a c → T b d → without_value c ≡ without_value d → a.reference ≡ b.reference
 
-get_reference : (a b : PortType) (r s : ℕ) → C.Get a r ≡ C.Get b s → r ≡ s
-get_reference a b r s e = cc
-
-set_reference : (a b : PortType) (r s : ℕ) (x y : ℤ) → C.Set a r x ≡ C.Set b s y → r ≡ s
-set_reference a b r s x y e = cc
-
-pub reads_use : IsUse Reads
-reads_use = record {
-  runs = λ port call t. subst IsRunCall (sym t) refl;
-  stays = λ port call t. ap moves_on t;
-  apart = λ a b c d t u e. get_reference a.kind b.kind a.reference b.reference (sym (ap without_value t) ∙ e ∙ ap without_value u);
-}
-
-pub writes_use : IsUse Writes
-writes_use = record {
-  runs = λ port call t. subst IsRunCall (sym t.1) refl;
-  stays = λ port call t. ap moves_on t.1;
-  apart = λ a b c d t u e. set_reference a.kind b.kind a.reference b.reference (pos 0) (pos 0) (sym (ap without_value t.1) ∙ e ∙ ap without_value u.1);
+use_by : (T : Port → Call → Type 0) → ((port : Port) (call : Call) → T port call → Uses port call) → IsUse T
+use_by T h = record {
+  runs = λ port call t. use_runs call (h port call t).uses;
+  stays = λ port call t. use_stays call (h port call t).uses;
+  apart = λ a b c d t u e. sym (h a c t).of ∙ same_reference c d e ∙ (h b d u).of;
 }
 
 -- a Get is no Set
@@ -59,32 +51,30 @@ pub read_write : (a b : Port) (c d : Call) → Reads a c → Writes b d → with
 read_write a b c d t u e = absurd (let wrong = sym (ap without_value t) ∙ e ∙ ap without_value u.1 in cc)
 
 pub uses_use : IsUse Uses
-uses_use = record { runs = runs; stays = stays; apart = apart } where
-  runs : (port : Port) (call : Call) → Uses port call → IsRunCall call
-  runs port call (inl t) = reads_use.runs port call t
-  runs port call (inr t) = writes_use.runs port call t
+uses_use = use_by Uses (λ port call t. t)
 
-  stays : (port : Port) (call : Call) → Uses port call → moves_on call ≡ false
-  stays port call (inl t) = reads_use.stays port call t
-  stays port call (inr t) = writes_use.stays port call t
-
-  apart : (a b : Port) (c d : Call) → Uses a c → Uses b d → without_value c ≡ without_value d → a.reference ≡ b.reference
-  apart a b c d (inl t) (inl u) e = reads_use.apart a b c d t u e
-  apart a b c d (inl t) (inr u) e = absurd (read_write a b c d t u e)
-  apart a b c d (inr t) (inl u) e = absurd (read_write b a d c u t (sym e))
-  apart a b c d (inr t) (inr u) e = writes_use.apart a b c d t u e
+pub times_use : IsUse Times
+times_use = record {
+  runs = λ port call t. timing_runs call t.timing;
+  stays = λ port call t. timing_stays call t.timing;
+  apart = λ a b c d t u e. sym t.of ∙ same_reference c d e ∙ u.of;
+}
 
 none_use : IsUse (λ (port : Port) (call : Call). ⊥)
 none_use = record { runs = λ port call t. absurd t; stays = λ port call t. absurd t; apart = λ a b c d t u e. absurd t }
 
 pub instant_use : (has_event_mode is_first : Bool) → IsUse (InInstant has_event_mode is_first)
-instant_use true is_first = record { runs = uses_use.runs; stays = uses_use.stays; apart = uses_use.apart }
-instant_use false true = record { runs = reads_use.runs; stays = reads_use.stays; apart = reads_use.apart }
-instant_use false false = record { runs = none_use.runs; stays = none_use.stays; apart = none_use.apart }
+instant_use true is_first = use_by (InInstant true is_first) (λ port call t. t)
+instant_use false true = use_by (InInstant false true) read_uses
+instant_use false false = use_by (InInstant false false) (λ port call t. absurd t)
+
+pub behind_use : (has_event_mode : Bool) → IsUse (BehindInstant has_event_mode)
+behind_use true = record { runs = times_use.runs; stays = times_use.stays; apart = times_use.apart }
+behind_use false = record { runs = none_use.runs; stays = none_use.stays; apart = none_use.apart }
 
 pub step_use : (has_event_mode : Bool) → IsUse (BeforeStep has_event_mode)
-step_use true = record { runs = none_use.runs; stays = none_use.stays; apart = none_use.apart }
-step_use false = record { runs = writes_use.runs; stays = writes_use.stays; apart = writes_use.apart }
+step_use true = use_by (BeforeStep true) (λ port call t. absurd t)
+step_use false = use_by (BeforeStep false) write_uses
 
 -- ---- the calls of turns
 
@@ -93,13 +83,15 @@ equal a b h = grind (arith, nat_tests)
 
 -- each call of these rules for the component is such a call of its port
 abbrev pub AsksOf : (Port → Call → Type 0) → System → ℕ → Rules → Type 0
-AsksOf T system k rules = (p : ℕ) (port : Port) (c : Component) (values : List (Option ℤ)) (call : Call) → slice_get system.components k ≡ Some c → rules.asks p port c values ≡ Some call → T port call
+AsksOf T system k rules = (p : ℕ) (port : Port) (c : Component) (values : List (Option ℤ)) (call : Call) → slice_get system.ports p ≡ Some port → port.component.0 ≡ k → slice_get system.components k ≡ Some c →
+    rules.asks p port c values ≡ Some call → T port call
 
 module _ (T : Port → Call → Type 0) (system : System) (k : ℕ) where
-  -- the component's call for a port, if there is one
+  -- the component's calls for a port: none, one, or two that differ
   pub data OfPort (p : ℕ) (calls : List Call) : Type 0 where
     None_here : calls ≡ [] → OfPort p calls
     One_here : (port : Port) (call : Call) → slice_get system.ports p ≡ Some port → port.component.0 ≡ k → T port call → calls ≡ call ∷ [] → OfPort p calls
+    Two_here : (port : Port) (call other : Call) → slice_get system.ports p ≡ Some port → port.component.0 ≡ k → T port call → T port other → Differ call other → calls ≡ call ∷ other ∷ [] → OfPort p calls
 
   -- those for several, in their order
   abbrev pub Turned : List ℕ → List Call → Type 0
@@ -124,7 +116,7 @@ module _ (T : Port → Call → Type 0) (system : System) (k : ℕ) where
     of_own p port at c of values call asks false same = None_here refl
     of_own p port at c of values call asks true same =
         let here : port.component.0 ≡ k = equal port.component.0 k same in
-        One_here port call at here (by p port c values call (ap (slice_get system.components) (sym here) ∙ of) asks) refl
+        One_here port call at here (by p port c values call at here (ap (slice_get system.components) (sym here) ∙ of) asks) refl
 
     said_turned : (values : List (Option ℤ)) (replies : ℕ → Option Reply) (p : ℕ) → OfPort p (own k (askings (said system rules values replies p)))
     said_turned values replies p = of_port (slice_get system.ports p) refl where
@@ -179,6 +171,7 @@ module _ (T : Port → Call → Type 0) (system : System) (k : ℕ) where
     port_all : (p : ℕ) (calls : List Call) → OfPort p calls → All P calls
     port_all p calls (None_here e) = subst (All P) (sym e) (All-nil P)
     port_all p calls (One_here port call at here t e) = subst (All P) (sym e) (All-cons P call [] (of port call t) (All-nil P))
+    port_all p calls (Two_here port call other at here t u differ e) = subst (All P) (sym e) (All-cons P call (other ∷ []) (of port call t) (All-cons P other [] (of port other u) (All-nil P)))
 
     turned_all : (ps : List ℕ) (calls : List Call) → Turned ps calls → All P calls
     turned_all [] calls t = subst (All P) (sym t) (All-nil P)
@@ -226,6 +219,19 @@ module _ (T : Port → Call → Type 0) (system : System) (k : ℕ) where
           subst (All (IsOld (pre ++ p ∷ []))) (sym (ap (λ (b : Bool). if b then call ∷ [] else call ∷ seen) (proper.stays port call t)))
               (All-cons (IsOld (pre ++ p ∷ [])) call seen (inr (p, port, Contains-push pre p, at, here, t)) (all_more pre p seen all)),
         )
+    port_once pre p calls fresh (Two_here port call other at here t u differ e) seen all =
+        let first : seen_after seen call ≡ call ∷ seen = ap (λ (b : Bool). if b then call ∷ [] else call ∷ seen) (proper.stays port call t) in
+        let second : seen_after (call ∷ seen) other ≡ other ∷ call ∷ seen = ap (λ (b : Bool). if b then other ∷ [] else other ∷ call ∷ seen) (proper.stays port other u) in
+        let New : List Call → Type 0 = IsNew other in
+        subst (Turns (pre ++ p ∷ []) seen) (sym e) (
+          (
+            (λ once. all_new pre p fresh port call at t here seen all),
+            ((λ once. subst New (sym first) (All-cons (λ (d : Call). without_value d ≡ without_value other → ⊥) call seen differ (all_new pre p fresh port other at u here seen all))), tt),
+          ),
+          subst (All (IsOld (pre ++ p ∷ []))) (sym (ap (λ (l : List Call). seen_after l other) first ∙ second))
+              (All-cons (IsOld (pre ++ p ∷ [])) other (call ∷ seen) (inr (p, port, Contains-push pre p, at, here, u))
+              (All-cons (IsOld (pre ++ p ∷ [])) call seen (inr (p, port, Contains-push pre p, at, here, t)) (all_more pre p seen all))),
+        )
 
     module _ (IsAmong : ℕ → Type 0) (NeedsOf : ℕ → ℕ → Type 0) (order : List ℕ) (ordered : IsOrder IsAmong NeedsOf order) where
       turned_once : (pre ps left : List ℕ) (calls : List Call) → order ≡ pre ++ (ps ++ left) → Turned ps calls → (seen : List Call) → All (IsOld pre) seen → NoneTwiceBehind seen calls
@@ -239,3 +245,40 @@ module _ (T : Port → Call → Type 0) (system : System) (k : ℕ) where
       -- behind other calls the calls of a walk are new
       pub walk_once : (calls : List Call) → IsOwnWalk order calls → (seen : List Call) → All (λ (c : Call). (port : Port) (call : Call) → T port call → without_value c ≡ without_value call → ⊥) seen → NoneTwiceBehind seen calls
       walk_once calls w seen other = turned_once [] w.taken w.left calls w.is w.turned seen (λ i d v. inl (other i d v))
+
+-- ---- the timing of fixed Clocks
+
+module _ (system : System) (k : ℕ) where
+  timing_two : (p : ℕ) (port : Port) → slice_get system.ports p ≡ Some port → (b : Bool) → (port.component.0 == k) ≡ b →
+      OfPort Times system k p (if b then C.GetInterval port.reference ∷ (if b then C.GetShift port.reference ∷ [] else []) else (if b then C.GetShift port.reference ∷ [] else []))
+  timing_two p port at true same =
+      Two_here port (C.GetInterval port.reference) (C.GetShift port.reference) at (equal port.component.0 k same) (record { timing = refl; of = refl }) (record { timing = refl; of = refl }) (λ e. absurd (cc)) refl
+  timing_two p port at false same = None_here refl
+
+  timing_of : (p : ℕ) (port : Port) → slice_get system.ports p ≡ Some port → (role : Role) → OfPort Times system k p (own k (timing_calls_of role port))
+  timing_of p port at (TimeClock Answered) = timing_two p port at (port.component.0 == k) refl
+  timing_of p port at (TimeClock (Periodic interval shift)) = None_here refl
+  timing_of p port at (TimeClock Countdown) = None_here refl
+  timing_of p port at (Input feed) = None_here refl
+  timing_of p port at Output = None_here refl
+  timing_of p port at (ClockInput feed) = None_here refl
+  timing_of p port at ClockOutput = None_here refl
+
+  timing_from : (p : ℕ) (ports : List Port) → ((j : ℕ) (port : Port) → slice_get ports j ≡ Some port → slice_get system.ports (p + j) ≡ Some port) → Turned Times system k (range_with_len p (length ports)) (own k (timing_calls_in ports))
+  timing_from p [] there = refl
+  timing_from p (port ∷ ports) there = (
+    own k (timing_calls_of port.role port),
+    own k (timing_calls_in ports),
+    own_append k (timing_calls_of port.role port) (timing_calls_in ports),
+    timing_of p port (subst (λ (q : ℕ). slice_get system.ports q ≡ Some port) (omega arith) (there 0 port refl)) port.role,
+    timing_from (p + 1) ports (λ j x at. subst (λ (q : ℕ). slice_get system.ports q ≡ Some x) (omega arith) (there (suc j) x at)),
+  )
+
+  -- the component's questions for the timing of its fixed Clocks, in port order
+  pub timing_own : IsOwnWalk Times system k (port_order system) (own k (timing_calls system))
+  timing_own = record {
+    taken = port_order system;
+    left = [];
+    is = sym (append-nil (port_order system));
+    turned = timing_from 0 system.ports (λ j port at. subst (λ (q : ℕ). slice_get system.ports q ≡ Some port) (omega arith) at);
+  }

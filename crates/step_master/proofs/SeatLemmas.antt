@@ -1,7 +1,7 @@
 -- Peers in the slots of their components.
 use Rattle.std.proofs.Common.{◌≡◌, ℕ, suc, ◌+◌, ◌<◌, false, List, [], ◌∷◌, ◌++◌, refl, sym, ap, ap₂, ◌∙◌, subst, append_assoc, arith, length, get_or, map, take, drop, drop-cons, add-one}
 use Rattle.std.specs.Prelude.{All}
-use Rattle.std.proofs.lemmas.List.{get_or_default, length-map, map-append}
+use Rattle.std.proofs.lemmas.List.{get_or_default, length-map, length-replicate, map-append}
 use Rattle.std.proofs.lemmas.List.Elements.{All-cons, All-nil}
 use Rattle.std.proofs.Math.Seq.{take-append_seam}
 use Rattle.fmi_calls.specs.declared.call.Call.{Call}
@@ -81,4 +81,6 @@ start_leads v w e h l is =
         unset = ap (λ (p : Phase). none_marked p.marks) phase ∙ ap (λ (p : Phase). none_marked p.marks) h.phase ∙ unmarked_is (length v.fixed.shape.variables);
         empty = ap (λ (p : Phase). p.slot.is_full) phase ∙ ap (λ (p : Phase). p.slot.is_full) h.phase;
       };
+      room = ap (λ (p : Phase). length p.active) phase ∙ ap (λ (p : Phase). length p.active) h.phase ∙ length-replicate (length v.fixed.shape.variables) false
+          ∙ ap (λ (f : Fixed). length f.shape.variables) (sym l.fixed);
     }

@@ -14,7 +14,7 @@ use Rattle.system_model.specs.declared.system.Component.{Component}
 use Rattle.system_model.specs.declared.system.System.{System}
 use Rattle.system_model.specs.Sound.{IsSound}
 use Rattle.system_model.specs.Text.{Instant}
-use Rattle.run_model.specs.Run.{Run, Situation}
+use Rattle.run_model.specs.Run.{Run, Situation, Timer}
 use Rattle.run_model.specs.AfterInstant as F
 use Rattle.run_model.specs.Initial as I
 use Rattle.run_model.specs.Machines.{AreMachines}
@@ -24,7 +24,7 @@ use Rattle.run_model.specs.Trace.{IsTrace, Leads}
 use Rattle.calling_sequence.specs.declared.run_end.RunEnd.{RunEnd}
 use Rattle.calling_sequence.specs.declared.run_end.RunEnd.TheVariants as E
 use Rattle.run_model.proofs.InitiallySolvable.{solvable_initially}
-use Rattle.calling_sequence.specs.Course.{Arrives, BehindStep, BeforeStep, Came, Departs, Finishes, InInitialization, InInstant, InSet, InStep, InUpdate, Interrupted, Leaves, Seen, WhereAsked, WhereBad, WhereEnded, WhereFixed, WhereLimited, WhereStopped, instant_at, kind_of_end, trace_pieces}
+use Rattle.calling_sequence.specs.Course.{Arrives, IsBoundOf, BehindStep, BeforeStep, Came, Departs, Finishes, InInitialization, InInstant, InIntervals, InSet, InStep, InUpdate, Interrupted, Leaves, Seen, WhereAsked, WhereBad, WhereEnded, WhereFixed, WhereLimited, WhereStopped, instant_at, kind_of_end, trace_pieces}
 use Rattle.calling_sequence.specs.Ends.{EndsBy, PutsWhole}
 use Rattle.slot_calls.specs.declared.bad_answer.BadAnswer.{BadAnswer}
 use Rattle.step_master.specs.Lived.{Account, Lived}
@@ -34,7 +34,7 @@ use Rattle.slot_calls.specs.Log.{Sent}
 use Rattle.calling_sequence.specs.Puts.{CutsPiece, with_pieces}
 use Rattle.calling_sequence.specs.Systems.{IsBuilt}
 use Rattle.step_master.specs.System.{TellTheirs}
-use Rattle.step_master.specs.Traced.{AtFirst, Before, CameTo, CutsFront, IsFront, PutsRun, PutsTrace, TellMachines, ToldRun}
+use Rattle.step_master.specs.Traced.{AtFirst, Before, CameTo, CutsFront, IsFront, LacksStepAt, PutsRun, PutsTrace, TellMachines, ToldRun}
 use Rattle.step_master.proofs.Begun.{made_states}
 use Rattle.step_master.proofs.Coming.{arrives_all, reaches, seen_all}
 use Rattle.step_master.proofs.Followed.{done_seen, ended_seen, front_seen, limited_seen, trace_seen}
@@ -122,13 +122,14 @@ module _ (r : Run) (sound : IsSound r.system) (built : IsBuilt r.system) (machin
   arrives_front : (t to : ℕ) (log : List Sent) (is : List Instant) → Arrives r.system r.bound r.plan t to log is → AreReplies r first log → IsFront r is
   arrives_front t to log is d replies = departs_front t to d.front is d.departs (front_replies log d.front d.steps d.log_is replies)
 
-  came_front : (t n : ℕ) (before : List (Option ℤ)) (log : List Sent) (is : List Instant) → Came r.system r.bound r.plan t n before log is → AreReplies r first log → IsFront r is
-  came_front t n before log is came replies = let x = reaches r sound built machines t n before log is came replies in Before x.s x.came
+  came_front : (t n : ℕ) (before : List (Option ℤ)) (timers : List Timer) (log : List Sent) (is : List Instant) → Came r.system r.bound r.plan t n before timers log is → AreReplies r first log → IsFront r is
+  came_front t n before timers log is came replies = let x = reaches r sound built machines t n before timers log is came replies in Before x.s x.came
 
   bad_front : (bad : BadAnswer) (point : ℕ) (log : List Sent) (is : List Instant) → WhereBad r.system r.bound r.plan bad point log is → AreReplies r first log → IsFront r is
   bad_front bad point log is (InInitialization w) replies = subst (IsFront r) (sym w.is_is) front_none
-  bad_front bad point log is (InInstant w) replies = came_front point w.n w.before w.front is w.came (front_replies log w.front w.found w.log_is replies)
-  bad_front bad point log is (InUpdate w) replies = came_front point w.n w.before w.front is w.came (front_replies log w.front (w.found ++ w.updates) w.log_is replies)
+  bad_front bad point log is (InInstant w) replies = came_front point w.n w.before w.timers w.front is w.came (front_replies log w.front w.found w.log_is replies)
+  bad_front bad point log is (InIntervals w) replies = came_front point w.n w.before w.timers w.front is w.came (front_replies log w.front (w.found ++ w.asked) w.log_is replies)
+  bad_front bad point log is (InUpdate w) replies = came_front point w.n w.before w.olds w.front is w.came (front_replies log w.front (w.found ++ (w.asked ++ w.updates)) w.log_is replies)
   bad_front bad point log is (BeforeStep w) replies = seen_front point w.front is w.seen (front_replies log w.front w.leaves w.log_is replies)
   bad_front bad point log is (InSet w) replies = leaves_front point w.to w.front is w.leaving (front_replies log w.front w.sets w.log_is replies)
   bad_front bad point log is (InStep w) replies = departs_front point w.to w.front is w.departs (front_replies log w.front w.steps w.log_is replies)
@@ -156,7 +157,7 @@ module _ (r : Run) (sound : IsSound r.system) (built : IsBuilt r.system) (machin
       let d = w.seen in
       let x = seen_all r sound built machines r.plan.stop log is d replies in
       trace_seen r r.plan.stop d.n d.values is x.seen K.Stop r.plan.stop
-      (leads_done r.plan.stop x.seen.s d.values (done_seen r r.plan.stop d.n d.values is d.updates log x w.done) K.Stop r.plan.stop
+      (leads_done r.plan.stop x.seen.s d.values (done_seen r r.plan.stop d.n d.values is d.timers d.updates log x w.done) K.Stop r.plan.stop
       (P.AtStop (Ends K.Stop r.plan.stop) x.seen.here.point (ap (Ends K.Stop) (sym x.seen.here.point))))
 
   -- where an answer asked for it
@@ -164,7 +165,7 @@ module _ (r : Run) (sound : IsSound r.system) (built : IsBuilt r.system) (machin
   asked_trace point log is (inl w) replies =
       let d = w.seen in
       let x = seen_all r sound built machines point log is d replies in
-      trace_seen r point d.n d.values is x.seen K.Asked point (ended_seen r point d.n d.values is d.updates log x w.asks)
+      trace_seen r point d.n d.values is x.seen K.Asked point (ended_seen r point d.n d.values is d.timers d.updates log x w.asks)
   asked_trace point log is (inr w) replies =
       let values = w.arrives.departs.leaving.seen.values in
       let x = arrives_all r sound built machines w.from point log is w.arrives replies in
@@ -176,18 +177,34 @@ module _ (r : Run) (sound : IsSound r.system) (built : IsBuilt r.system) (machin
   limit_trace point log is w replies =
       let d = w.seen in
       let x = seen_all r sound built machines point log is d replies in
-      trace_seen r point d.n d.values is x.seen K.Limit point (limited_seen r point d.n d.values is d.updates log x w.again w.limit)
+      trace_seen r point d.n d.values is x.seen K.Limit point (limited_seen r point d.n d.values is d.timers d.updates log x w.again w.limit)
 
   -- where a component takes no such step
   pub fixed_trace : (component at end : ℕ) (log : List Sent) (is : List Instant) → WhereFixed r.system r.bound r.plan component at end log is → AreReplies r first log → IsTrace r is K.Fixed at
   fixed_trace component at end log is w replies =
       let d = w.seen in
       let x = seen_all r sound built machines at log is d replies in
-      let done = done_seen r at d.n d.values is d.updates log x w.done in
+      let done = done_seen r at d.n d.values is d.timers d.updates log x w.done in
+      let bound : IsBoundOf r.plan (F.updated r x.seen.s d.values).timers at end = subst (λ (ts : List Timer). IsBoundOf r.plan ts at end) x.next w.end_is in
       trace_seen r at d.n d.values is x.seen K.Fixed at
       (leads_done at x.seen.s d.values done K.Fixed at
       (P.WhereFixed (Ends K.Fixed at) component end
-      (lacks_here r built at (F.updated r x.seen.s d.values) (done_begins r sound built machines at x.seen.s d.values done) end component w.end_is w.unfit) (ap (Ends K.Fixed) (sym x.seen.here.point))))
+      (lacks_here r built at (F.updated r x.seen.s d.values) (done_begins r sound built machines at x.seen.s d.values done) end component bound w.unfit) (ap (Ends K.Fixed) (sym x.seen.here.point))))
+
+  -- so the run stands where it takes none
+  pub fixed_lacks : (component at end : ℕ) (log : List Sent) (is : List Instant) → WhereFixed r.system r.bound r.plan component at end log is → AreReplies r first log → LacksStepAt r component at end
+  fixed_lacks component at end log is w replies =
+      let d = w.seen in
+      let x = seen_all r sound built machines at log is d replies in
+      let done = done_seen r at d.n d.values is d.timers d.updates log x w.done in
+      let bound : IsBoundOf r.plan (F.updated r x.seen.s d.values).timers at end = subst (λ (ts : List Timer). IsBoundOf r.plan ts at end) x.next w.end_is in
+      let lacks = lacks_here r built at (F.updated r x.seen.s d.values) (done_begins r sound built machines at x.seen.s d.values done) end component bound w.unfit in
+      record {
+        z = F.updated r x.seen.s d.values;
+        departed = record { s = x.seen.s; values = d.values; reached = done.here.reached; solves = done.solves; done = done.done; is = refl; before_stop = lacks.before_stop };
+        point = x.seen.here.point;
+        lacks = lacks;
+      }
 
 -- ---- the law
 
@@ -231,7 +248,7 @@ module _ (r : Run) (b : Account) (sound : IsSound r.system) (built : IsBuilt r.s
   cut_front pieces piece cut (inr (inl i)) =
       let d = i.seen in
       let all = seen_front r sound built machines i.t lived.log (lived.is ++ i.i ∷ []) d replies in
-      let old = reaches r sound built machines i.t d.n d.before d.front d.earlier d.came (front_replies r sound built machines lived.log d.front (d.found ++ d.updates) d.log_is replies) in
+      let old = reaches r sound built machines i.t d.n d.before d.olds d.front d.earlier d.came (front_replies r sound built machines lived.log d.front (d.found ++ (d.asked ++ d.updates)) d.log_is replies) in
       record {
         is = lived.is;
         front = Before old.s (subst (CameTo r old.s) (sym (same_front lived.is d.earlier i.i (instant_at i.t d.n d.values) d.is_is)) old.came);
@@ -250,7 +267,7 @@ module _ (r : Run) (b : Account) (sound : IsSound r.system) (built : IsBuilt r.s
   puts_run (E.Asked at) (point, f, put) = puts_trace (E.Asked at) point at put f.0 (asked_trace r sound built machines at lived.log lived.is f.1 replies)
   puts_run (E.EventLimit at) (point, f, put) = puts_trace (E.EventLimit at) point at put f.0 (limit_trace r sound built machines at lived.log lived.is f.1 replies)
   puts_run (E.FixedStep component at end) (point, f, put) =
-      puts_trace (E.FixedStep component at end) point at put f.0 (fixed_trace r sound built machines component.0 at end lived.log lived.is f.1 replies)
+      (puts_trace (E.FixedStep component at end) point at put f.0 (fixed_trace r sound built machines component.0 at end lived.log lived.is f.1 replies), fixed_lacks r sound built machines component.0 at end lived.log lived.is f.1 replies)
   puts_run (E.Bad bad) (point, f, put) = record {
     is = lived.is;
     point = point;
@@ -263,7 +280,7 @@ module _ (r : Run) (b : Account) (sound : IsSound r.system) (built : IsBuilt r.s
   puts = puts_run b.end lived.text
 
 pub told_run : ToldRun
-told_run a r sound built run plan_is lived =
+told_run a r sound built plan run plan_is lived =
     let e : a ≡ account r.system r.bound r.plan a =
     ap₂ (λ (s : System) (p : Plan). account s a.bound p a) (sym run.system_is) (sym plan_is) ∙ ap (λ (x : Bound). account r.system x r.plan a) (sym run.bound_is) in
     subst (λ (x : Account). PutsRun x r x.end) (sym e)

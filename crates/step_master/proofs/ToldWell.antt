@@ -22,7 +22,7 @@ use Rattle.system_model.specs.Text.{Instant, end_text}
 use Rattle.run_model.specs.Behaved.{WellBehaved}
 use Rattle.run_model.specs.Initial as I
 use Rattle.run_model.specs.Machines.{AreMachines}
-use Rattle.run_model.specs.Run.{Run}
+use Rattle.run_model.specs.Run.{Run, Timer}
 use Rattle.run_model.specs.AfterInstant as F
 use Rattle.run_model.specs.Stepping.{departing}
 use Rattle.system_model.specs.Ports.{numbers}
@@ -31,7 +31,7 @@ use Rattle.run_model.specs.Trace.{IsTrace, instant_of}
 use Rattle.slot_calls.specs.declared.bad_answer.BadAnswer.{BadAnswer}
 use Rattle.calling_sequence.specs.declared.run_end.RunEnd.{RunEnd}
 use Rattle.calling_sequence.specs.declared.run_end.RunEnd.TheVariants as E
-use Rattle.calling_sequence.specs.Course.{AtStart, BeforeStep, BehindStep, ByStep, ByUpdate, Came, Finishes, InInitialization, InInstant, InSet, InStep, InUpdate, Interrupted, Seen, WhereBad, WhereFinding, WhereUpdating, header_of, kind_of_end, pieces_of, text_of, trace_pieces}
+use Rattle.calling_sequence.specs.Course.{AtStart, BeforeStep, BehindStep, ByStep, ByUpdate, Came, Finishes, InInitialization, InInstant, InIntervals, InSet, InStep, InUpdate, Interrupted, Seen, WhereBad, WhereFinding, WhereRearming, WhereUpdating, header_of, kind_of_end, pieces_of, text_of, trace_pieces}
 use Rattle.calling_sequence.specs.Ends.{EndsBy}
 use Rattle.step_master.specs.Lived.{Account, Lived, Unmade}
 use Rattle.step_master.specs.Lives.{AreLives, IsLife, Life, is_unanswered, talk_in}
@@ -42,10 +42,10 @@ use Rattle.calling_sequence.specs.Plans.{IsPlan}
 use Rattle.calling_sequence.specs.Systems.{IsBuilt}
 use Rattle.step_master.specs.Traced.{AtFirst, CutsTrace, PutsRun, SomeRose, TellMachines, ToldTrace, ToldUnmade, TracesWell}
 use Rattle.slot_calls.proofs.Parts.{same, takes}
-use Rattle.step_master.proofs.Begun.{begins_at, replies_at}
+use Rattle.step_master.proofs.Begun.{begins_at, replies_at, ticks_at}
 use Rattle.step_master.proofs.Coming.{arrives_all, departs_all, leaves_all, leaving_from, reaches, seen_all}
 use Rattle.step_master.proofs.Existing.{below_more, rest_from, solution}
-use Rattle.step_master.proofs.Followed.{finds, traced_on}
+use Rattle.step_master.proofs.Followed.{asks, finds, three, traced_on}
 use Rattle.step_master.proofs.Links.{IsLost, lost_behind}
 use Rattle.slot_calls.proofs.Logs.{part_append}
 use Rattle.slot_calls.specs.Replies.{AreReplies}
@@ -58,7 +58,7 @@ use Rattle.step_master.proofs.Prepared.{get_here, got}
 use Rattle.step_master.proofs.Taken.{stepped}
 use Rattle.step_master.proofs.Told.{are_machines, asked_trace, fixed_trace, limit_trace, machines_of, puts, replies, replies_of, stop_trace}
 use Rattle.step_master.proofs.Well.{lost_initializing, lost_making}
-use Rattle.step_master.proofs.WellInInstants.{lost_found, lost_updating}
+use Rattle.step_master.proofs.WellInInstants.{lost_found, lost_rearming, lost_updating}
 use Rattle.step_master.proofs.WellInSteps.{lost_entering, lost_leaving, lost_setting, lost_stepping}
 
 -- ---- a call that failed
@@ -110,15 +110,15 @@ told_unmade system bound olds news bad r sound run well u = unmade_by r olds new
 -- ---- points
 
 -- a run's points are between start and stop, and the instants at each are below their limit
-came_within : (system : System) (bound : Bound) (plan : Plan) (t n : ℕ) (before : List (Option ℤ)) (log : List Sent) (is : List Instant) → IsPlan plan → Came system bound plan t n before log is → (plan.start ≤ t) × (t ≤ plan.stop) × (n < plan.limit)
-came_within system bound plan _ _ _ _ _ p (AtStart t n values log is initialized at number values_are none) =
+came_within : (system : System) (bound : Bound) (plan : Plan) (t n : ℕ) (before : List (Option ℤ)) (timers : List Timer) (log : List Sent) (is : List Instant) → IsPlan plan → Came system bound plan t n before timers log is → (plan.start ≤ t) × (t ≤ plan.stop) × (n < plan.limit)
+came_within system bound plan _ _ _ _ _ _ p (AtStart t n values timers log is initialized at number values_are timers_are none) =
     (omega (arith, at), (let o = p.ordered in omega (arith, at, o)), (let l = p.limit_above in omega (arith, number, l)))
-came_within system bound plan _ _ _ _ _ p (ByUpdate t n values log is m before front found updates js came take again below number log_is is_is) =
-    let old = came_within system bound plan t m before front js p came in
+came_within system bound plan _ _ _ _ _ _ p (ByUpdate t n values timers log is m before olds front found asked updates js came take again below number log_is is_is) =
+    let old = came_within system bound plan t m before olds front js p came in
     let next = below_more m plan.limit old.2 below in
     (old.0, old.1, omega (arith, number, next))
-came_within system bound plan _ _ _ _ _ p (ByStep t n values log is from m before front found updates left set steps arrives js came take done step parts asks entered number log_is is_is) =
-    let old = came_within system bound plan from m before front js p came in
+came_within system bound plan _ _ _ _ _ _ p (ByStep t n values timers log is from m before olds front found asked updates left set steps arrives js came take done step parts asks entered number log_is is_is) =
+    let old = came_within system bound plan from m before olds front js p came in
     let begun = old.0 in
     let later = step.bound.bound.later in
     let l = p.limit_above in
@@ -143,32 +143,46 @@ module _ (r : Run) (sound : IsSound r.system) (built : IsBuilt r.system) (machin
 
   bad_found : (bad : BadAnswer) (point : ℕ) (log : List Sent) (is : List Instant) → WhereFinding r.system r.bound r.plan bad point log is → AreReplies r first log → IsLost count log bad.why
   bad_found bad point log is w told =
-      let x = reaches r sound built machines point w.n w.before w.front is w.came (front_of_all log w.front w.found w.log_is told) in
-      let stops : ExplainsUntil r.system (in_instant (x.s.n == 0)) x.s.before (numbers r.system.instant_order) bad w.values w.found =
-      subst (λ (k : ℕ). ExplainsUntil r.system (in_instant (k == 0)) x.s.before (numbers r.system.instant_order) bad w.values w.found) (sym x.here.number)
-      (subst (λ (vs : List (Option ℤ)). ExplainsUntil r.system (in_instant (w.n == 0)) vs (numbers r.system.instant_order) bad w.values w.found) (sym x.here.values) w.stops) in
+      let x = reaches r sound built machines point w.n w.before w.timers w.front is w.came (front_of_all log w.front w.found w.log_is told) in
+      let stops : ExplainsUntil r.system (in_instant w.ticks (x.s.n == 0)) x.s.before (numbers r.system.instant_order) bad w.values w.found =
+      subst (λ (k : ℕ). ExplainsUntil r.system (in_instant w.ticks (k == 0)) x.s.before (numbers r.system.instant_order) bad w.values w.found) (sym x.here.number)
+      (subst (λ (vs : List (Option ℤ)). ExplainsUntil r.system (in_instant w.ticks (w.n == 0)) vs (numbers r.system.instant_order) bad w.values w.found) (sym x.here.values) w.stops) in
       behind_front bad.why log w.front w.found w.log_is
-      (lost_found r sound built machines well x.s x.here.reached bad w.values w.found stops (replies_at r w.front w.found x.s.states x.stands (all_of log w.front w.found w.log_is told)))
+      (lost_found r sound built machines well x.s x.here.reached w.ticks (ticks_at r point w.n w.before w.timers x.s x.here w.ticks w.are_ticks) bad w.values w.found stops
+      (replies_at r w.front w.found x.s.states x.stands (all_of log w.front w.found w.log_is told)))
+
+  bad_rearming : (bad : BadAnswer) (point : ℕ) (log : List Sent) (is : List Instant) → WhereRearming r.system r.bound r.plan bad point log is → AreReplies r first log → IsLost count log bad.why
+  bad_rearming bad point log is w told =
+      let all = subst (AreReplies r first) (sym (append_assoc w.front w.found w.asked)) (all_of log w.front (w.found ++ w.asked) w.log_is told) in
+      let to_found = replies_first r first (w.front ++ w.found) w.asked all in
+      let x = reaches r sound built machines point w.n w.before w.timers w.front is w.came (replies_first r first w.front w.found to_found) in
+      let y = finds r sound built machines point w.n w.before w.values w.timers w.front w.found is x w.places w.ticks w.are_ticks w.explains to_found in
+      behind_front bad.why log (w.front ++ w.found) w.asked (w.log_is ∙ sym (append_assoc w.front w.found w.asked))
+      (lost_rearming r sound built machines well x.s x.here.reached bad w.values w.asked y.0 (replies_at r (w.front ++ w.found) w.asked (F.written r x.s w.values) y.1 all) w.stops)
 
   bad_updating : (bad : BadAnswer) (point : ℕ) (log : List Sent) (is : List Instant) → WhereUpdating r.system r.bound r.plan bad point log is → AreReplies r first log → IsLost count log bad.why
   bad_updating bad point log is w told =
-      let all = all_of log w.front (w.found ++ w.updates) w.log_is told in
-      let x = reaches r sound built machines point w.n w.before w.front is w.came (replies_first r first w.front (w.found ++ w.updates) all) in
-      let y = finds r sound built machines point w.n w.before w.values w.front w.found is x w.places w.explains (replies_first r first (w.front ++ w.found) w.updates (subst (AreReplies r first) (sym (append_assoc w.front w.found w.updates)) all)) in
-      behind_front bad.why log (w.front ++ w.found) w.updates (w.log_is ∙ sym (append_assoc w.front w.found w.updates))
-      (lost_updating r sound built machines well x.s x.here.reached bad w.values w.updates y.0
-      (replies_at r (w.front ++ w.found) w.updates (F.written r x.s w.values) y.1 (subst (AreReplies r first) (sym (append_assoc w.front w.found w.updates)) all)) w.stops)
+      let whole = three w.front w.found w.asked w.updates in
+      let all = subst (AreReplies r first) (sym whole) (all_of log w.front (w.found ++ (w.asked ++ w.updates)) w.log_is told) in
+      let to_asked = replies_first r first ((w.front ++ w.found) ++ w.asked) w.updates all in
+      let to_found = replies_first r first (w.front ++ w.found) w.asked to_asked in
+      let x = reaches r sound built machines point w.n w.before w.olds w.front is w.came (replies_first r first w.front w.found to_found) in
+      let y = finds r sound built machines point w.n w.before w.values w.olds w.front w.found is x w.places w.ticks w.are_ticks w.explains to_found in
+      let z = asks r sound built machines point w.n w.before w.values w.olds w.front w.found is x w.places w.ticks w.are_ticks w.explains w.timers w.asked w.rearms to_asked in
+      behind_front bad.why log ((w.front ++ w.found) ++ w.asked) w.updates (w.log_is ∙ sym whole)
+      (lost_updating r sound built machines well x.s x.here.reached bad w.values w.updates y.0 (replies_at r ((w.front ++ w.found) ++ w.asked) w.updates (F.written r x.s w.values) z.1 all) w.stops)
 
   -- a bad answer that ends the run was lost
   pub finish_lost : (bad : BadAnswer) (point : ℕ) (log : List Sent) (is : List Instant) → WhereBad r.system r.bound r.plan bad point log is → AreReplies r first log → IsLost count log bad.why
   finish_lost bad point log is (InInitialization w) told = lost_initializing r sound built machines well binds bad log told w.stops
   finish_lost bad point log is (InInstant w) told = bad_found bad point log is w told
+  finish_lost bad point log is (InIntervals w) told = bad_rearming bad point log is w told
   finish_lost bad point log is (InUpdate w) told = bad_updating bad point log is w told
   finish_lost bad point log is (BeforeStep w) told =
       let V = w.seen.values in
       let x = leaving_from r sound built machines point w.to w.front is w.seen w.done w.step (front_of_all log w.front w.leaves w.log_is told) in
       behind_front bad.why log w.front w.leaves w.log_is
-      (lost_leaving r sound built machines well point x.0.seen.s V x.0.at w.to w.step bad w.leaves
+      (lost_leaving r sound built machines well point x.0.seen.s V x.0.at w.to x.0.step bad w.leaves
       (replies_at r w.front w.leaves (F.updated r x.0.seen.s V).states x.1 (all_of log w.front w.leaves w.log_is told)) w.stops)
   finish_lost bad point log is (InSet w) told =
       let V = w.leaving.seen.values in
@@ -204,7 +218,7 @@ module _ (r : Run) (sound : IsSound r.system) (built : IsBuilt r.system) (machin
         let s = I.beginning r W.0 in
         let here = begins_at r sound built machines W.0 W.1 in
         let V = solution r sound built machines s here.reached in
-        let rest = rest_from r sound built machines well plan r.plan.start 0 (no_values r.system) s here (omega arith) plan.ordered plan.limit_above V.0 V.1 in
+        let rest = rest_from r sound built machines well plan r.plan.start 0 (no_values r.system) s.timers s here (omega arith) plan.ordered plan.limit_above V.0 V.1 in
         record {
           kind = rest.kind;
           point = rest.end;
@@ -217,8 +231,8 @@ module _ (r : Run) (sound : IsSound r.system) (built : IsBuilt r.system) (machin
     whole_seen t log is seen told =
         let x = (seen_all r sound built machines t log is seen told).seen in
         let V = seen.values in
-        let between = came_within r.system r.bound r.plan t seen.n seen.before seen.front seen.earlier plan seen.came in
-        let rest = rest_from r sound built machines well plan t seen.n x.before x.s x.here between.0 between.1 between.2 V x.solves in
+        let between = came_within r.system r.bound r.plan t seen.n seen.before seen.olds seen.front seen.earlier plan seen.came in
+        let rest = rest_from r sound built machines well plan t seen.n x.before x.timers x.s x.here between.0 between.1 between.2 V x.solves in
         record {
           kind = rest.kind;
           point = rest.end;

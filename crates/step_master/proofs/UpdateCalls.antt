@@ -12,7 +12,7 @@ use Rattle.fmi_calls.specs.declared.call.Reply.TheVariants as R
 use Rattle.fmu_peer.specs.declared.peer.Exchange.{Exchange}
 use Rattle.fmu_peer.specs.declared.peer.PeerFault.{PeerFault}
 use Rattle.fmu_peer.specs.Updates as U
-use Rattle.fmu_peer.specs.Updates.{UpdateMark, marks_of, stands_behind, updates_from}
+use Rattle.fmu_peer.specs.Updates.{Stay, UpdateMark, marks_of, stay_behind, updates_from}
 use Rattle.system_model.specs.declared.bound.Bound.{Bound}
 use Rattle.system_model.specs.declared.bound.BoundValue.{BoundValue}
 use Rattle.system_model.specs.declared.system.Port.{Port}
@@ -24,7 +24,8 @@ use Rattle.slot_calls.specs.Log.{Asking, Sent, askings, part}
 use Rattle.slot_calls.specs.Stage.{StopsAt}
 use Rattle.slot_calls.proofs.Logs.{askings_append}
 use Rattle.event_iteration.specs.Explains.{Explains, ExplainsUntil}
-use Rattle.event_iteration.specs.Settings.{before_step}
+use Rattle.event_iteration.specs.Intervals.{intervals, timing_calls}
+use Rattle.event_iteration.specs.Settings.{port_order}
 use Rattle.event_iteration.specs.Turns.{Rules}
 use Rattle.event_iteration.specs.Updates.{answer_passes}
 use Rattle.calling_sequence.specs.Course.{binding}
@@ -33,26 +34,41 @@ use Rattle.step_master.specs.Lives.{calls_in}
 use Rattle.step_master.proofs.Along.{All-front, all_weaker}
 use Rattle.step_master.proofs.Calls.{own, own_append}
 use Rattle.step_master.proofs.Configured.{own_binding, sets_are}
-use Rattle.step_master.proofs.OwnWalks.{front_own, own_walk_all, whole_own}
-use Rattle.step_master.proofs.WalkCalls.{AsksBy, Uses, setting_writes}
+use Rattle.step_master.proofs.OwnWalks.{front_own, own_walk_all, timing_own, whole_own}
+use Rattle.step_master.proofs.Uses.{Times, Uses, is_timing, is_use}
+use Rattle.step_master.proofs.WalkCalls.{AsksBy, interval_times}
+
+-- ---- tests
+
+pub or_first : (a b : Bool) → a ≡ true → (a || b) ≡ true
+or_first true b h = refl
+or_first false b h = absurd (cc)
+
+pub or_second : (a b : Bool) → b ≡ true → (a || b) ≡ true
+or_second true b h = refl
+or_second false b h = h
+
+pub or_either : (a b : Bool) → (a || b) ≡ true → (a ≡ true) ⊎ (b ≡ true)
+or_either true b h = inl refl
+or_either false b h = inr h
 
 -- ---- exchanges one behind the other
 
--- whether an Update stands in this stay in Event Mode, behind exchanges
-abbrev pub stands_after : Bool → List Exchange → Bool
-stands_after before [] = before
-stands_after before (e ∷ es) = stands_after (stands_behind before e.call) es
+-- what stands before in a stay in Event Mode, behind exchanges
+abbrev pub stay_after : Stay → List Exchange → Stay
+stay_after stay [] = stay
+stay_after stay (e ∷ es) = stay_after (stay_behind stay e.call e.result) es
 
-pub stands_append : (before : Bool) (a b : List Exchange) → stands_after before (a ++ b) ≡ stands_after (stands_after before a) b
-stands_append before [] b = refl
-stands_append before (e ∷ a) b = stands_append (stands_behind before e.call) a b
+pub stay_append : (stay : Stay) (a b : List Exchange) → stay_after stay (a ++ b) ≡ stay_after (stay_after stay a) b
+stay_append stay [] b = refl
+stay_append stay (e ∷ a) b = stay_append (stay_behind stay e.call e.result) a b
 
-pub updates_append : (before : Bool) (a b : List Exchange) → updates_from before (a ++ b) ≡ updates_from before a ++ updates_from (stands_after before a) b
-updates_append before [] b = refl
-updates_append before (e ∷ a) b =
-    let marks = marks_of before e.call e.result in
-    let next = stands_behind before e.call in
-    ap (λ (l : List UpdateMark). marks ++ l) (updates_append next a b) ∙ sym (append_assoc marks (updates_from next a) (updates_from (stands_after next a) b))
+pub updates_append : (stay : Stay) (a b : List Exchange) → updates_from stay (a ++ b) ≡ updates_from stay a ++ updates_from (stay_after stay a) b
+updates_append stay [] b = refl
+updates_append stay (e ∷ a) b =
+    let marks = marks_of stay e.call e.result in
+    let next = stay_behind stay e.call e.result in
+    ap (λ (l : List UpdateMark). marks ++ l) (updates_append next a b) ∙ sym (append_assoc marks (updates_from next a) (updates_from (stay_after next a) b))
 
 -- ---- calls that are no Updates
 
@@ -60,46 +76,95 @@ abbrev pub IsNoUpdate : Call → Type 0
 IsNoUpdate C.Update = ⊥
 IsNoUpdate call = Unit {0}
 
--- and don't leave Event Mode
+-- and neither leave Event Mode nor come into it from Initialization Mode
 abbrev pub IsQuiet : Call → Type 0
 IsQuiet C.Update = ⊥
 IsQuiet C.EnterStep = ⊥
+IsQuiet C.ExitInitialization = ⊥
 IsQuiet call = Unit {0}
 
 quiet_no : (call : Call) → IsQuiet call → IsNoUpdate call
 quiet_no C.Update q = q
-quiet_no C.EnterStep q = tt
 quiet_no call q = tt
 
-no_mark : (call : Call) (before : Bool) (result : Result Reply PeerFault) → IsNoUpdate call → marks_of before call result ≡ []
-no_mark C.Update before result h = absurd h
-no_mark call before result h = refl
+no_mark : (call : Call) (stay : Stay) (result : Result Reply PeerFault) → IsNoUpdate call → marks_of stay call result ≡ []
+no_mark C.Update stay result h = absurd h
+no_mark call stay result h = refl
 
-quiet_stand : (call : Call) (before : Bool) → IsQuiet call → stands_behind before call ≡ before
-quiet_stand C.Update before h = absurd h
-quiet_stand C.EnterStep before h = absurd h
-quiet_stand call before h = refl
+quiet_follows : (call : Call) (stay : Stay) (result : Result Reply PeerFault) → IsQuiet call → (stay_behind stay call result).follows ≡ stay.follows
+quiet_follows C.Update stay result h = absurd h
+quiet_follows C.EnterStep stay result h = absurd h
+quiet_follows C.ExitInitialization stay result h = absurd h
+quiet_follows call stay result h = refl
 
-pub no_marks : (es : List Exchange) (before : Bool) → All IsNoUpdate (calls_in es) → updates_from before es ≡ []
-no_marks [] before all = refl
-no_marks (e ∷ es) before all =
-    ap₂ ◌++◌ (no_mark e.call before e.result (All-head IsNoUpdate e.call (calls_in es) all)) (no_marks es (stands_behind before e.call) (All-tail IsNoUpdate e.call (calls_in es) all))
+none_follows : (call : Call) (stay : Stay) (result : Result Reply PeerFault) → IsNoUpdate call → stay.follows ≡ false → (stay_behind stay call result).follows ≡ false
+none_follows C.Update stay result h none = absurd h
+none_follows C.EnterStep stay result h none = refl
+none_follows C.ExitInitialization stay result h none = refl
+none_follows call stay result h none = none
 
-pub quiet_stands : (es : List Exchange) (before : Bool) → All IsQuiet (calls_in es) → stands_after before es ≡ before
-quiet_stands [] before all = refl
-quiet_stands (e ∷ es) before all =
-    quiet_stands es (stands_behind before e.call) (All-tail IsQuiet e.call (calls_in es) all) ∙ quiet_stand e.call before (All-head IsQuiet e.call (calls_in es) all)
+pub no_marks : (es : List Exchange) (stay : Stay) → All IsNoUpdate (calls_in es) → updates_from stay es ≡ []
+no_marks [] stay all = refl
+no_marks (e ∷ es) stay all =
+    ap₂ ◌++◌ (no_mark e.call stay e.result (All-head IsNoUpdate e.call (calls_in es) all)) (no_marks es (stay_behind stay e.call e.result) (All-tail IsNoUpdate e.call (calls_in es) all))
+
+pub quiet_stands : (es : List Exchange) (stay : Stay) → All IsQuiet (calls_in es) → (stay_after stay es).follows ≡ stay.follows
+quiet_stands [] stay all = refl
+quiet_stands (e ∷ es) stay all =
+    quiet_stands es (stay_behind stay e.call e.result) (All-tail IsQuiet e.call (calls_in es) all) ∙ quiet_follows e.call stay e.result (All-head IsQuiet e.call (calls_in es) all)
+
+-- without an Update none comes to stand before
+pub none_stands : (es : List Exchange) (stay : Stay) → All IsNoUpdate (calls_in es) → stay.follows ≡ false → (stay_after stay es).follows ≡ false
+none_stands [] stay all none = none
+none_stands (e ∷ es) stay all none =
+    none_stands es (stay_behind stay e.call e.result) (All-tail IsNoUpdate e.call (calls_in es) all) (none_follows e.call stay e.result (All-head IsNoUpdate e.call (calls_in es) all) none)
+
+-- ---- a Clock that is armed
+
+abbrev arms_by : Call → Result Reply PeerFault → Bool
+arms_by (C.GetInterval reference) result = U.is_instant_interval result
+arms_by call result = false
+
+-- the exchange arms a Clock for the point where it was asked
+abbrev pub is_arming : Exchange → Bool
+is_arming e = arms_by e.call e.result
+
+quiet_arms : (call : Call) (stay : Stay) (result : Result Reply PeerFault) → IsQuiet call → stay.arms ≡ true → (stay_behind stay call result).arms ≡ true
+quiet_arms C.Update stay result h armed = absurd h
+quiet_arms C.EnterStep stay result h armed = absurd h
+quiet_arms C.ExitInitialization stay result h armed = absurd h
+quiet_arms (C.GetInterval reference) stay result h armed = or_first stay.arms (U.is_instant_interval result) armed
+quiet_arms call stay result h armed = armed
+
+arms_here : (call : Call) (stay : Stay) (result : Result Reply PeerFault) → arms_by call result ≡ true → (stay_behind stay call result).arms ≡ true
+arms_here (C.GetInterval reference) stay result h = or_second stay.arms (U.is_instant_interval result) h
+arms_here call stay result h = absurd (cc)
+
+arms_stay : (es : List Exchange) (stay : Stay) → All IsQuiet (calls_in es) → stay.arms ≡ true → (stay_after stay es).arms ≡ true
+arms_stay [] stay all armed = armed
+arms_stay (e ∷ es) stay all armed =
+    arms_stay es (stay_behind stay e.call e.result) (All-tail IsQuiet e.call (calls_in es) all) (quiet_arms e.call stay e.result (All-head IsQuiet e.call (calls_in es) all) armed)
+
+pub arms_after : (es : List Exchange) (stay : Stay) → All IsQuiet (calls_in es) → list_any is_arming es ≡ true → (stay_after stay es).arms ≡ true
+arms_after [] stay all h = absurd (cc)
+arms_after (e ∷ es) stay all h =
+    let rest : All IsQuiet (calls_in es) = All-tail IsQuiet e.call (calls_in es) all in
+    let next = stay_behind stay e.call e.result in
+    elim (or_either (is_arming e) (list_any is_arming es) h) [
+      | inl here ↦ arms_stay es next rest (arms_here e.call stay e.result here)
+      | inr later ↦ arms_after es next rest later
+    ]
 
 -- ---- one Update
 
-abbrev pub mark_by : Bool → Exchange → UpdateMark
-mark_by follows e = record { again = U.asks_again e.result; ends = U.asks_for_end e.result; follows = follows }
+abbrev pub mark_by : Stay → Exchange → UpdateMark
+mark_by stay e = record { again = U.asks_again e.result; ends = U.asks_for_end e.result; arms = stay.arms; follows = stay.follows }
 
-pub one_mark : (follows : Bool) (e : Exchange) → e.call ≡ C.Update → updates_from follows (e ∷ []) ≡ mark_by follows e ∷ []
-one_mark follows e is = ap (λ (c : Call). marks_of follows c e.result ++ []) is
+pub one_mark : (stay : Stay) (e : Exchange) → e.call ≡ C.Update → updates_from stay (e ∷ []) ≡ mark_by stay e ∷ []
+one_mark stay e is = ap (λ (c : Call). marks_of stay c e.result ++ []) is
 
-pub one_stands : (before : Bool) (e : Exchange) → e.call ≡ C.Update → stands_after before (e ∷ []) ≡ true
-one_stands before e is = ap (stands_behind before) is
+pub one_stands : (stay : Stay) (e : Exchange) → e.call ≡ C.Update → (stay_after stay (e ∷ [])).follows ≡ true
+one_stands stay e is = ap (λ (c : Call). (stay_behind stay c e.result).follows) is
 
 -- one at most, where there is event mode
 pub data AtMost (has_event_mode : Bool) (es : List Exchange) : Type 0 where
@@ -112,10 +177,10 @@ at_most true (e ∷ []) left is = OneOf refl e refl (sym (first_same C.Update e.
 at_most true (e ∷ (f ∷ es)) left is = absurd (let wrong = rest_same C.Update e.call [] (f.call ∷ (calls_in es ++ left)) is in cc)
 at_most false (e ∷ es) left is = absurd (cc)
 
-pub few_marks : (b : Bool) (follows : Bool) (es : List Exchange) → AtMost b es → length (updates_from follows es) ≤ (if b then 1 else 0)
-few_marks b follows es (NoneOf none) = subst (λ (l : List Exchange). length (updates_from follows l) ≤ (if b then 1 else 0)) (sym none) (omega arith)
-few_marks b follows es (OneOf is e one call) =
-    let len : length (updates_from follows es) ≡ 1 = ap (λ (l : List Exchange). length (updates_from follows l)) one ∙ ap length (one_mark follows e call) in
+pub few_marks : (b : Bool) (stay : Stay) (es : List Exchange) → AtMost b es → length (updates_from stay es) ≤ (if b then 1 else 0)
+few_marks b stay es (NoneOf none) = subst (λ (l : List Exchange). length (updates_from stay l) ≤ (if b then 1 else 0)) (sym none) (omega arith)
+few_marks b stay es (OneOf is e one call) =
+    let len : length (updates_from stay es) ≡ 1 = ap (λ (l : List Exchange). length (updates_from stay l)) one ∙ ap length (one_mark stay e call) in
     let one_more : ℕ = 1 in
     let most : (if b then one_more else 0) ≡ one_more = ap (λ (h : Bool). if h then one_more else 0) is in
     omega (arith, len, most)
@@ -124,26 +189,13 @@ pub same_mark : (m : UpdateMark) (j : ℕ) (mark : UpdateMark) → slice_get (m 
 same_mark m zero mark is = cc
 same_mark m (suc j) mark is = absurd (cc)
 
-pub marked_so : (b : Bool) (flag : Bool) (es : List Exchange) → AtMost b es → (j : ℕ) (mark : UpdateMark) → slice_get (updates_from (if b then flag else false) es) j ≡ Some mark → mark.follows ≡ flag
-marked_so b flag es (NoneOf none) j mark at = absurd (let wrong = ap (λ (l : List Exchange). slice_get (updates_from (if b then flag else false) l) j) (sym none) ∙ at in cc)
-marked_so b flag es (OneOf is e one call) j mark at =
-    let follows = if b then flag else false in
-    let here = ap (λ (l : List UpdateMark). slice_get l j) (sym (one_mark follows e call)) ∙ ap (λ (l : List Exchange). slice_get (updates_from follows l) j) (sym one) ∙ at in
-    ap (λ (m : UpdateMark). m.follows) (sym (same_mark (mark_by follows e) j mark here)) ∙ ap (λ (h : Bool). if h then flag else false) is
+pub marked_so : (b flag : Bool) (stay : Stay) (es : List Exchange) → stay.follows ≡ (if b then flag else false) → AtMost b es → (j : ℕ) (mark : UpdateMark) → slice_get (updates_from stay es) j ≡ Some mark → mark.follows ≡ flag
+marked_so b flag stay es stands (NoneOf none) j mark at = absurd (let wrong = ap (λ (l : List Exchange). slice_get (updates_from stay l) j) (sym none) ∙ at in cc)
+marked_so b flag stay es stands (OneOf is e one call) j mark at =
+    let here = ap (λ (l : List UpdateMark). slice_get l j) (sym (one_mark stay e call)) ∙ ap (λ (l : List Exchange). slice_get (updates_from stay l) j) (sym one) ∙ at in
+    ap (λ (m : UpdateMark). m.follows) (sym (same_mark (mark_by stay e) j mark here)) ∙ stands ∙ ap (λ (h : Bool). if h then flag else false) is
 
 -- ---- whether one of the answers passes a test
-
-pub or_first : (a b : Bool) → a ≡ true → (a || b) ≡ true
-or_first true b h = refl
-or_first false b h = absurd (cc)
-
-pub or_second : (a b : Bool) → b ≡ true → (a || b) ≡ true
-or_second true b h = refl
-or_second false b h = h
-
-or_either : (a b : Bool) → (a || b) ≡ true → (a ≡ true) ⊎ (b ≡ true)
-or_either true b h = inl refl
-or_either false b h = inr h
 
 module _ (f : Exchange → Bool) where
   if_any : (b : Bool) (e : Exchange) (es : List Exchange) → list_any f (if b then e ∷ es else es) ≡ true → (f e || list_any f es) ≡ true
@@ -203,21 +255,49 @@ throughout_front P ss log calls bad stops all i =
 pub no_of_quiet : (log : List Sent) → Throughout IsQuiet log → Throughout IsNoUpdate log
 no_of_quiet log all i = all_weaker IsQuiet IsNoUpdate quiet_no (own i (askings log)) (all i)
 
-use_quiet : (port : Port) (call : Call) → Uses port call → IsQuiet call
-use_quiet port call (inl t) = subst IsQuiet (sym t) tt
-use_quiet port call (inr t) = subst IsQuiet (sym t.1) tt
+use_quiet : (call : Call) → is_use call ≡ true → IsQuiet call
+use_quiet C.Update h = absurd (cc)
+use_quiet C.EnterStep h = absurd (cc)
+use_quiet C.ExitInitialization h = absurd (cc)
+use_quiet call h = tt
+
+timing_quiet : (call : Call) → is_timing call ≡ true → IsQuiet call
+timing_quiet C.Update h = absurd (cc)
+timing_quiet C.EnterStep h = absurd (cc)
+timing_quiet C.ExitInitialization h = absurd (cc)
+timing_quiet call h = tt
+
+uses_quiet : (port : Port) (call : Call) → Uses port call → IsQuiet call
+uses_quiet port call t = use_quiet call t.uses
+
+times_quiet : (port : Port) (call : Call) → Times port call → IsQuiet call
+times_quiet port call t = timing_quiet call t.timing
+
+-- walks
+module _ (T : Port → Call → Type 0) (quiet : (port : Port) (call : Call) → T port call → IsQuiet call) (system : System) (rules : Rules) (by : AsksBy T rules) (before : List (Option ℤ)) (order : List ℕ) where
+  walk_of : (values : List (Option ℤ)) (log : List Sent) → Explains system rules before order values log → Throughout IsQuiet log
+  walk_of values log e i =
+      own_walk_all T system i IsQuiet quiet order (own i (askings log)) (whole_own T system i rules (λ p port c values call at here of asks. by p port c values call asks) before order values log e)
+
+  until_of : (bad : BadAnswer) (values : List (Option ℤ)) (log : List Sent) → ExplainsUntil system rules before order bad values log → Throughout IsQuiet log
+  until_of bad values log u i =
+      own_walk_all T system i IsQuiet quiet order (own i (askings log)) (front_own T system i rules (λ p port c values call at here of asks. by p port c values call asks) before order bad values log u)
 
 pub walk_quiet : (system : System) (rules : Rules) → AsksBy Uses rules → (before : List (Option ℤ)) (order : List ℕ) (values : List (Option ℤ)) (log : List Sent) → Explains system rules before order values log → Throughout IsQuiet log
-walk_quiet system rules by before order values log e i =
-    own_walk_all Uses system i IsQuiet use_quiet order (own i (askings log)) (whole_own Uses system i rules (λ p port c values call of asks. by p port c values call asks) before order values log e)
+walk_quiet system rules by before order values log e = walk_of Uses uses_quiet system rules by before order values log e
 
 pub until_quiet : (system : System) (rules : Rules) → AsksBy Uses rules → (before : List (Option ℤ)) (order : List ℕ) (bad : BadAnswer) (values : List (Option ℤ)) (log : List Sent) → ExplainsUntil system rules before order bad values log →
     Throughout IsQuiet log
-until_quiet system rules by before order bad values log u i =
-    own_walk_all Uses system i IsQuiet use_quiet order (own i (askings log)) (front_own Uses system i rules (λ p port c values call of asks. by p port c values call asks) before order bad values log u)
+until_quiet system rules by before order bad values log u = until_of Uses uses_quiet system rules by before order bad values log u
 
-pub setting_uses : (now : List (Option ℤ)) → AsksBy Uses (before_step now)
-setting_uses now p port c values call asks = inr (setting_writes now p port c values call asks)
+pub intervals_quiet : (system : System) (values : List (Option ℤ)) (log : List Sent) → Explains system intervals values (port_order system) values log → Throughout IsQuiet log
+intervals_quiet system values log e = walk_of Times times_quiet system intervals interval_times values (port_order system) values log e
+
+pub intervals_until_quiet : (system : System) (bad : BadAnswer) (values : List (Option ℤ)) (log : List Sent) → ExplainsUntil system intervals values (port_order system) bad values log → Throughout IsQuiet log
+intervals_until_quiet system bad values log u = until_of Times times_quiet system intervals interval_times values (port_order system) bad values log u
+
+pub timings_quiet : (system : System) (i : ℕ) → All IsQuiet (own i (timing_calls system))
+timings_quiet system i = own_walk_all Times system i IsQuiet times_quiet (port_order system) (own i (timing_calls system)) (timing_own system i)
 
 pub binding_quiet : (bound : Bound) (i : ℕ) → All IsQuiet (own i (binding bound))
 binding_quiet bound i =

@@ -1,6 +1,6 @@
 -- The Updates of several talks: one more instant gives each FMU with event mode one more, and each other none.
 use Rattle.std.proofs.Common.{◌≡◌, ℕ, zero, suc, ◌+◌, ◌<◌, ◌≤◌, ◌⊎◌, inl, inr, Bool, true, false, List, [], ◌∷◌, ◌++◌, Option, Some, None, refl, sym, ap, ◌∙◌, subst, arith, length, get_or}
-use Rattle.std.specs.Prelude.{if◌then◌else◌}
+use Rattle.std.specs.Prelude.{◌||◌, if◌then◌else◌}
 use Rattle.std.specs.List.{slice_get}
 use Rattle.std.specs.Option.{option_map_or}
 use Rattle.std.proofs.lemmas.List.Folds.{Any-from_list_any, list_any_at}
@@ -43,9 +43,9 @@ module _ (n : ℕ) where
   abbrev pub SomeMark : (UpdateMark → Bool) → ℕ → Marks → Type 0
   SomeMark test k marks = (i : ℕ) × (mark : UpdateMark) × (i < n) × (slice_get (marks i) k ≡ Some mark) × (test mark ≡ true)
 
-  -- one of the k-th asks for another, and none for the end
+  -- one of the k-th asks for another, or a Clock was armed for its point, and none asks for the end
   pub record Asks (k : ℕ) (marks : Marks) : Type 0 where
-    pub again : SomeMark (λ (m : UpdateMark). m.again) k marks
+    pub again : SomeMark (λ (m : UpdateMark). m.again || m.arms) k marks
     pub goes_on : SomeMark (λ (m : UpdateMark). m.ends) k marks → ⊥
 
   abbrev pub AreNeeded : Marks → Type 0
@@ -85,7 +85,7 @@ module _ (n : ℕ) where
 
     pub asks_new : (k : ℕ) → k < m → Asks k olds → Asks k news
     asks_new k before asks = record {
-      again = some_new (λ (x : UpdateMark). x.again) k asks.again;
+      again = some_new (λ (x : UpdateMark). x.again || x.arms) k asks.again;
       goes_on = λ some. asks.goes_on (some_old (λ (x : UpdateMark). x.ends) k before some);
     }
 
@@ -158,6 +158,6 @@ module _ (n : ℕ) (log : List Sent) (talks : List (List Exchange)) (len : lengt
       let within : i < n = omega (arith, len, w) in
       let same : talk ≡ part i log = sym is ∙ at i talk within in
       let asks = needed k i mark within (ap (λ (l : List Exchange). slice_get (updates_in l) (suc k)) (sym same) ∙ here) follows in (
-        some_any (λ (m : UpdateMark). m.again) k asks.again,
+        some_any (λ (m : UpdateMark). m.again || m.arms) k asks.again,
         not_any (any_mark (λ (m : UpdateMark). m.ends) k talks) (λ h. asks.goes_on (any_some (λ (m : UpdateMark). m.ends) k h)),
       )

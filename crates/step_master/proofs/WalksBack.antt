@@ -172,10 +172,10 @@ module _ (system : System) (sound : IsSound system) where
       (length-map system.ports (λ (x : Port). None)) (λ p m. there_at system sound p (within_of p (sound.initial_order.only p m))) taken left is values log told
 
   -- of an instant, as far as it went
-  pub instant_back : (is_first : Bool) (before : List (Option ℤ)) → length before ≡ length system.ports → (taken left : List ℕ) → numbers system.instant_order ≡ taken ++ left → (values : List (Option ℤ)) (log : List Sent) →
-      Explains system (in_instant is_first) before taken values log → IsWalked system (in_instant is_first) before taken values log
-  instant_back is_first before len taken left is values log told =
-      walked_back (λ q. q < length system.ports) (Needs system) system (in_instant is_first) (about_instant system is_first) before (numbers system.instant_order) sound.instant_order len
+  pub instant_back : (ticks : ℕ → Bool) (is_first : Bool) (before : List (Option ℤ)) → length before ≡ length system.ports → (taken left : List ℕ) → numbers system.instant_order ≡ taken ++ left → (values : List (Option ℤ)) (log : List Sent) →
+      Explains system (in_instant ticks is_first) before taken values log → IsWalked system (in_instant ticks is_first) before taken values log
+  instant_back ticks is_first before len taken left is values log told =
+      walked_back (λ q. q < length system.ports) (Needs system) system (in_instant ticks is_first) (about_instant system ticks is_first) before (numbers system.instant_order) sound.instant_order len
       (λ p m. there_at system sound p (sound.instant_order.only p m)) taken left is values log told
 
   -- of the Sets before a step

@@ -1,6 +1,6 @@
 -- The calls of machines that behave well are answered well in an instant.
-use Rattle.std.proofs.Common.{◌≡◌, ℕ, ◌⊎◌, ◌==◌, ℤ, Bool, true, false, List, [], ◌∷◌, Option, Some, None, inl, inr, refl, sym, ap, ◌∙◌, subst, length, get_or}
-use Rattle.std.specs.Prelude.{All, IfSome, if◌then◌else◌}
+use Rattle.std.proofs.Common.{◌≡◌, ℕ, ◌==◌, ℤ, Bool, true, false, List, [], ◌∷◌, Option, Some, None, Contains, refl, sym, ap, ◌∙◌, subst, length}
+use Rattle.std.specs.Prelude.{All, IfSome, ◌&&◌, if◌then◌else◌}
 use Rattle.std.proofs.lemmas.Bool.{eqb-true}
 use Rattle.std.proofs.lemmas.Option.{same_Some}
 use Rattle.value_types.specs.Values.{Fits}
@@ -8,50 +8,88 @@ use Rattle.value_types.specs.declared.shape.Shape.{Shape}
 use Rattle.fmi_calls.specs.declared.call.Call.{Call}
 use Rattle.fmi_calls.specs.declared.call.Call.TheVariants as C
 use Rattle.fmi_calls.specs.Worth.{grade_of}
-use Rattle.fmu_peer.specs.Machine.{Machine, MachineState}
+use Rattle.fmu_peer.specs.Machine.{Machine, MachineState, output_of}
 use Rattle.system_model.specs.declared.system.Component.{Component}
+use Rattle.system_model.specs.declared.system.Feed.{Feed}
 use Rattle.system_model.specs.declared.system.Port.{Port}
 use Rattle.system_model.specs.declared.system.Role.{Role}
-use Rattle.system_model.specs.declared.system.Role.TheVariants.{Input, Output}
-use Rattle.system_model.specs.Ports.{is_output_role, numbers, source_of}
+use Rattle.system_model.specs.declared.system.Role.TheVariants.{Input, Output, ClockInput, ClockOutput, TimeClock}
+use Rattle.system_model.specs.Needs.{ByFeed, Needs}
+use Rattle.system_model.specs.Ports.{is_clock_role, is_output_role, numbers, source_of}
 use Rattle.system_model.specs.Sound.{IsSound}
+use Rattle.system_model.proofs.SoundLemmas.{events_of, place_of}
 use Rattle.run_model.specs.Run.{IsFmu, Run, Situation, value}
 use Rattle.run_model.specs.AfterInstant as F
-use Rattle.run_model.specs.Behaved.{AnswersAt, BehavesInInstant, IsAnsweredWell, Reached, WellBehaved}
+use Rattle.run_model.specs.Behaved.{AnswersAt, AnswersWell, BehavesInInstant, IsAnsweredWell, Reached, WellBehaved}
 use Rattle.run_model.specs.Equations.{Solves, fed}
-use Rattle.run_model.specs.Inputs.{is_present, state_with, state_written, written_at_port}
+use Rattle.run_model.specs.Inputs.{is_active, is_present, state_with, state_written, written_at_port}
 use Rattle.run_model.specs.Walk.{only_at}
 use Rattle.run_model.specs.Machines.{AreMachines, IsSituation}
-use Rattle.run_model.proofs.AlongRun.{situation_reached}
+use Rattle.run_model.proofs.Alike.{both, present_alike}
+use Rattle.run_model.proofs.AlongRun.{situation_reached, values_fit}
 use Rattle.run_model.proofs.Midst.{looks_in_midst}
 use Rattle.run_model.proofs.States.{fmu_before}
 use Rattle.slot_calls.specs.declared.bad_answer.BadAnswer.{BadAnswer}
 use Rattle.slot_calls.specs.Log.{Sent, part}
 use Rattle.slot_calls.specs.Replies.{AreReplies, state_by}
-use Rattle.slot_calls.specs.Slots.{sets_or_gets}
+use Rattle.slot_calls.specs.Slots.{reads_or_sets}
 use Rattle.slot_calls.specs.Stage.{StopsAt, has_events, shapes_of}
+use Rattle.event_iteration.specs.Clocks.{AreTicks}
 use Rattle.event_iteration.specs.Explains.{ExplainsUntil}
-use Rattle.event_iteration.specs.Instants.{asks_in_instant, in_instant}
+use Rattle.event_iteration.specs.Instants.{asks_in_instant, in_instant, is_read_in_instant}
+use Rattle.event_iteration.specs.Intervals.{intervals}
+use Rattle.event_iteration.specs.Settings.{port_order}
 use Rattle.event_iteration.specs.Updates.{updating}
-use Rattle.event_iteration.proofs.Clockless.{present}
 use Rattle.event_iteration.proofs.FindingInInstant.{Midst, midst_along}
 use Rattle.event_iteration.proofs.Fmus.{fmu_on}
-use Rattle.event_iteration.proofs.InInstant.{IsAskedInInstant, ReadsOutput, SetsInput, asked_in_instant, gets_or_sets, takes_fitting}
-use Rattle.event_iteration.proofs.Parts.{part_all}
 use Rattle.event_iteration.proofs.Permits.{fed_fits}
-use Rattle.event_iteration.proofs.Turning.{Gets, Sets, fits_along}
 use Rattle.calling_sequence.specs.Systems.{IsBuilt}
+use Rattle.step_master.proofs.Asking.{states_stay}
 use Rattle.step_master.proofs.Existing.{solution}
 use Rattle.step_master.proofs.Links.{IsLost, lost_stops, lost_walk}
 use Rattle.step_master.proofs.Looking.{replies_first}
+use Rattle.step_master.proofs.Rearming.{asked_interval, walk_asks}
 use Rattle.step_master.proofs.Taken.{states_all, written_all}
 use Rattle.step_master.proofs.WalksBack.{IsWalked, instant_back}
-use Rattle.step_master.proofs.Well.{IsQuiet, like_by, sets_eventing}
+use Rattle.step_master.proofs.Well.{IsQuiet, if_is, like_by, set_of, sets_clock, sets_eventing, walk_quiet}
 
--- a call that gets or sets a port is a Get or a Set
-pub quiet_call : (port : Port) (call : Call) → Gets port call ⊎ Sets port call → sets_or_gets call ≡ true
-quiet_call port call (inl get) = ap sets_or_gets get
-quiet_call port call (inr set) = ap sets_or_gets set.1
+-- ---- the calls
+
+-- an input is set to its source's value, an output is read, an input Clock is made active, or an output Clock is asked
+data IsAsked (port : Port) (events first : Bool) (values : List (Option ℤ)) (call : Call) : Type 0 where
+  SetsInput : (feed : Feed) (x : ℤ) → port.role ≡ Input (Some feed) → events ≡ true → fed feed values ≡ Some x → call ≡ C.Set port.kind port.reference x → IsAsked port events first values call
+  ReadsOutput : port.role ≡ Output → is_read_in_instant port events first values ≡ true → call ≡ C.Get port.kind port.reference → IsAsked port events first values call
+  SetsClock : is_output_role port.role ≡ false → is_clock_role port.role ≡ true → call ≡ C.SetClock port.reference → IsAsked port events first values call
+  ReadsClock : port.role ≡ ClockOutput → call ≡ C.GetClock port.reference → IsAsked port events first values call
+
+module _ (port : Port) (events first ticks : Bool) (values : List (Option ℤ)) (call : Call) where
+  asked_by : (role : Role) → port.role ≡ role → asks_in_instant role port events first ticks values ≡ Some call → IsAsked port events first values call
+  asked_by (Input None) same h = absurd (cc)
+  asked_by (Input (Some feed)) same h =
+      let test = if_is (events && is_present port values) _ call h in
+      let set = set_of port (fed feed values) call test.1 in
+      SetsInput feed set.0 same (both events _ test.0).0 set.1 set.2
+  asked_by Output same h =
+      let test = if_is (is_read_in_instant port events first values) (Some (C.Get port.kind port.reference)) call h in
+      ReadsOutput same test.0 (sym (same_Some _ _ test.1))
+  asked_by (ClockInput None) same h = absurd (cc)
+  asked_by (ClockInput (Some feed)) same h =
+      let test = if_is (is_active (fed feed values)) (Some (C.SetClock port.reference)) call h in
+      SetsClock (ap is_output_role same) (ap is_clock_role same) (sym (same_Some _ _ test.1))
+  asked_by ClockOutput same h = ReadsClock same (sym (same_Some _ _ h))
+  asked_by (TimeClock timing) same h =
+      let test = if_is ticks (Some (C.SetClock port.reference)) call h in
+      SetsClock (ap is_output_role same) (ap is_clock_role same) (sym (same_Some _ _ test.1))
+
+  asked_quiet : IsAsked port events first values call → reads_or_sets call ≡ true
+  asked_quiet (SetsInput feed x input on from set) = ap reads_or_sets set
+  asked_quiet (ReadsOutput output test get) = ap reads_or_sets get
+  asked_quiet (SetsClock input clock set) = ap reads_or_sets set
+  asked_quiet (ReadsClock output get) = ap reads_or_sets get
+
+instant_quiet : (ticks : ℕ → Bool) (is_first : Bool) (p : ℕ) (port : Port) (c : Component) (values : List (Option ℤ)) (call : Call) → (in_instant ticks is_first).asks p port c values ≡ Some call → reads_or_sets call ≡ true
+instant_quiet ticks is_first p port c values call h =
+    asked_quiet port c.shape.has_event_mode is_first (ticks p) values call (asked_by port c.shape.has_event_mode is_first (ticks p) values call port.role refl h)
 
 module _ (r : Run) (sound : IsSound r.system) (built : IsBuilt r.system) (machines : AreMachines r) (well : WellBehaved r) (s : Situation) (reached : Reached r s) where
   abbrev count : ℕ
@@ -62,7 +100,8 @@ module _ (r : Run) (sound : IsSound r.system) (built : IsBuilt r.system) (machin
 
   -- ---- a call that finds its values
 
-  module _ (bad : BadAnswer) (values : List (Option ℤ)) (found : List Sent) (u : ExplainsUntil r.system (in_instant (s.n == 0)) s.before (numbers r.system.instant_order) bad values found) (replies : AreReplies r s.states found) where
+  module _ (ticks : ℕ → Bool) (are_ticks : AreTicks r.system r.plan.start s.timers s.t s.n ticks) (bad : BadAnswer) (values : List (Option ℤ)) (found : List Sent)
+      (u : ExplainsUntil r.system (in_instant ticks (s.n == 0)) s.before (numbers r.system.instant_order) bad values found) (replies : AreReplies r s.states found) where
     abbrev port : Port
     port = u.stops.port
 
@@ -72,13 +111,23 @@ module _ (r : Run) (sound : IsSound r.system) (built : IsBuilt r.system) (machin
     abbrev solved : Solves r s W
     solved = (solution r sound built machines s reached).1
 
-    abbrev back : IsWalked r.system (in_instant (s.n == 0)) s.before u.taken values u.front
-    back = instant_back r.system sound (s.n == 0) s.before situation.before u.taken (u.p ∷ u.rest) u.order_is values u.front u.told
+    abbrev back : IsWalked r.system (in_instant ticks (s.n == 0)) s.before u.taken values u.front
+    back = instant_back r.system sound ticks (s.n == 0) s.before situation.before u.taken (u.p ∷ u.rest) u.order_is values u.front u.told
 
-    midst : Midst r sound built.no_clocks machines s situation W solved u.taken back.next u.front
+    midst : Midst r sound machines s situation ticks are_ticks W solved u.taken back.next u.front
     midst =
-        (midst_along r sound built.no_clocks machines s situation W solved u.taken (u.p ∷ u.rest) back.next u.front u.order_is back.walked
+        (midst_along r sound machines s situation ticks are_ticks W solved u.taken (u.p ∷ u.rest) back.next u.front u.order_is back.walked
         (replies_first r s.states u.front (u.last ∷ []) (subst (AreReplies r s.states) u.log_is replies))).1
+
+    -- what the port needs was taken
+    needed : (q : ℕ) → Needs r.system u.p q → Contains u.taken q
+    needed q n = sound.instant_order.after u.taken u.rest u.p q u.order_is n
+
+    same_at : (q : ℕ) → Needs r.system u.p q → value values q ≡ value W q
+    same_at q n = sym (back.same q) ∙ midst.taken_values q (needed q n)
+
+    present_same : is_present port values ≡ is_present port W
+    present_same = present_alike r.system u.p port values W u.stops.is same_at
 
     module _ (c : Component) (m : Machine) (z : MachineState) (fmu : IsFmu r s.states port.component.0 c m z) where
       abbrev there : MachineState
@@ -88,16 +137,21 @@ module _ (r : Run) (sound : IsSound r.system) (built : IsBuilt r.system) (machin
       own = (well port.component.0).in_instants s W reached solved
 
       quiet : All IsQuiet (part port.component.0 u.front)
-      quiet = part_all IsQuiet port.component.0 u.front
-          (λ k d w here. let call = midst.calls k d w in quiet_call call.port (get_or u.front k d).exchange.call (gets_or_sets call.component call.port (get_or u.front k d).exchange.call call.sort))
+      quiet = walk_quiet r.system (in_instant ticks (s.n == 0)) (instant_quiet ticks (s.n == 0)) s.before values u.taken u.front u.told port.component.0
 
-      set_well : (feed : _) → port.role ≡ Input (Some feed) → c.shape.has_event_mode ≡ true → (x : ℤ) → fed feed values ≡ Some x → IsAnsweredWell c.shape m there (C.Set port.kind port.reference x)
+      set_well : (feed : Feed) → port.role ≡ Input (Some feed) → c.shape.has_event_mode ≡ true → (x : ℤ) → fed feed values ≡ Some x → IsAnsweredWell c.shape m there (C.Set port.kind port.reference x)
       set_well feed same events x from =
           let like = like_by m z (part port.component.0 u.front) quiet in
-          let fits = (fits_along r.system (in_instant (s.n == 0)) (takes_fitting r.system sound (s.n == 0)) s.before situation.before situation.types u.taken back.next u.front back.walked).1 in
-          let fit : IfSome (value back.next feed.from.0) (Fits port.kind) = fed_fits r.system sound back.next fits u.p feed.from.0 port u.stops.is (ap source_of same) in
+          let fits = values_fit r sound s W situation.types solved in
+          let fit : IfSome (value W feed.from.0) (Fits port.kind) = fed_fits r.system sound W fits u.p feed.from.0 port u.stops.is (ap source_of same) in
+          let is : value W feed.from.0 ≡ Some x = sym (same_at feed.from.0 (ByFeed port u.stops.is (ap source_of same))) ∙ from in
           own.sets c m z there (C.Set port.kind port.reference x) fmu like.numbers like.values
-          (sets_eventing r sound built u.p port u.stops.is (ap is_output_role same) c fmu.component x (subst (λ o. IfSome o (Fits port.kind)) (back.same feed.from.0 ∙ from) fit) events)
+          (sets_eventing r sound u.p port u.stops.is (ap is_output_role same) (ap is_clock_role same) c fmu.component x (subst (λ o. IfSome o (Fits port.kind)) is fit) events)
+
+      set_clock_well : is_output_role port.role ≡ false → is_clock_role port.role ≡ true → IsAnsweredWell c.shape m there (C.SetClock port.reference)
+      set_clock_well input clock =
+          let like = like_by m z (part port.component.0 u.front) quiet in
+          own.sets c m z there (C.SetClock port.reference) fmu like.numbers like.values (sets_clock r sound u.p port u.stops.is input c fmu.component clock)
 
       abbrev get : Call
       get = C.Get port.kind port.reference
@@ -111,37 +165,68 @@ module _ (r : Run) (sound : IsSound r.system) (built : IsBuilt r.system) (machin
       there_is : (b : Bool) → c.shape.has_event_mode ≡ b → there ≡ (if b then mid else z)
       there_is b events = midst.states port.component.0 c m z fmu ∙ ap (λ (x : Bool). if x then mid else z) events
 
-      answers : port.role ≡ Output → AnswersAt Output r s W port
-      answers same = subst (λ (role : Role). AnswersAt role r s W port) same (own.ports u.p port u.stops.is refl)
+      answers : (role : Role) → port.role ≡ role → AnswersAt role r s W port
+      answers role same = subst (λ (x : Role). AnswersAt x r s W port) same (own.ports u.p port u.stops.is refl)
 
-      get_well : port.role ≡ Output → (b : Bool) → c.shape.has_event_mode ≡ b → (n : Bool) → (s.n == 0) ≡ n → (call : Call) → (if (if b then is_present port values else n) then Some get else None) ≡ Some call → IsAnsweredWell c.shape m there get
-      get_well same true events n first call asks =
-          let looks : m.look mid get ≡ m.look with_all get =
-          looks_in_midst r sound machines s.states situation.shapes u.p port u.stops.is (ap is_output_role same) W u.taken (λ q n. sound.instant_order.after u.taken u.rest u.p q u.order_is n) c m z fmu events get refl in
-          let written = (answers same).0 (present r.system built.no_clocks u.p port W u.stops.is) c m (if c.shape.has_event_mode then with_all else z)
-          (fmu_on r s.states (λ i d n y. if d.shape.has_event_mode then state_with r.system.ports W i n y else y) port.component.0 c m z fmu) events in
-          let all : IsAnsweredWell c.shape m with_all get = subst (λ (b : Bool). IsAnsweredWell c.shape m (if b then with_all else z) get) events written in
-          subst (λ (x : MachineState). IsAnsweredWell c.shape m x get) (sym (there_is true events)) (ap (grade_of c.shape get) looks ∙ all)
-      get_well same false events true first call asks =
-          subst (λ (x : MachineState). IsAnsweredWell c.shape m x get) (sym (there_is false events)) ((answers same).1 (eqb-true s.n 0 first) c m z fmu events)
-      get_well same false events false first call asks = absurd (cc)
+      -- what an output shows with all values written it shows here
+      shown_well : (call : Call) → output_of call ≡ Some port.reference → is_output_role port.role ≡ true → c.shape.has_event_mode ≡ true → IsAnsweredWell c.shape m with_all call → IsAnsweredWell c.shape m there call
+      shown_well call of output events all =
+          let looks : m.look mid call ≡ m.look with_all call =
+          looks_in_midst r sound machines s.states situation.shapes u.p port u.stops.is output W u.taken needed c m z fmu events call of in
+          subst (λ (x : MachineState). IsAnsweredWell c.shape m x call) (sym (there_is true events)) (ap (grade_of c.shape call) looks ∙ all)
 
-      call_well : (call : Call) → asks_in_instant port.role port c.shape.has_event_mode (s.n == 0) values ≡ Some call → IsAnsweredWell c.shape m there call
-      call_well call asks = by (asked_in_instant (s.n == 0) u.p port c values call asks) where
-        by : IsAskedInInstant c.shape.has_event_mode port values call → IsAnsweredWell c.shape m there call
-        by (SetsInput feed x input events from set) = subst (IsAnsweredWell c.shape m there) (sym set) (set_well feed input events x from)
-        by (ReadsOutput output is) =
-            subst (IsAnsweredWell c.shape m there) (sym is)
-            (get_well output c.shape.has_event_mode refl (s.n == 0) refl call (sym (ap (λ (role : Role). asks_in_instant role port c.shape.has_event_mode (s.n == 0) values) output) ∙ asks))
+      written_fmu : IsFmu r (F.written r s W) port.component.0 c m (if c.shape.has_event_mode then with_all else z)
+      written_fmu = fmu_on r s.states (λ i d n y. if d.shape.has_event_mode then state_with r.system.ports W i n y else y) port.component.0 c m z fmu
+
+      with_events : (call : Call) → c.shape.has_event_mode ≡ true → IsAnsweredWell c.shape m (if c.shape.has_event_mode then with_all else z) call → IsAnsweredWell c.shape m with_all call
+      with_events call events h = subst (λ (b : Bool). IsAnsweredWell c.shape m (if b then with_all else z) call) events h
+
+      get_well : port.role ≡ Output → (b : Bool) → c.shape.has_event_mode ≡ b → is_read_in_instant port b (s.n == 0) values ≡ true → IsAnsweredWell c.shape m there get
+      get_well same true events test =
+          shown_well get refl (ap is_output_role same) events (with_events get events ((answers Output same).0 (sym present_same ∙ test) c m (if c.shape.has_event_mode then with_all else z) written_fmu events))
+      get_well same false events test =
+          subst (λ (x : MachineState). IsAnsweredWell c.shape m x get) (sym (there_is false events)) ((answers Output same).1 (eqb-true s.n 0 test) c m z fmu events)
+
+      get_clock_well : port.role ≡ ClockOutput → IsAnsweredWell c.shape m there (C.GetClock port.reference)
+      get_clock_well same =
+          let placed = place_of r.system sound u.p port u.stops.is in
+          let events : c.shape.has_event_mode ≡ true =
+          ap (λ (d : Component). d.shape.has_event_mode) (same_Some _ _ (sym fmu.component ∙ placed.is.of)) ∙ events_of r.system u.p port placed (ap is_clock_role same) in
+          shown_well (C.GetClock port.reference) refl (ap is_output_role same) events
+          (with_events (C.GetClock port.reference) events (answers ClockOutput same c m (if c.shape.has_event_mode then with_all else z) written_fmu))
+
+      call_well : (call : Call) → IsAsked port c.shape.has_event_mode (s.n == 0) values call → IsAnsweredWell c.shape m there call
+      call_well call (SetsInput feed x input events from set) = subst (IsAnsweredWell c.shape m there) (sym set) (set_well feed input events x from)
+      call_well call (ReadsOutput output test is) = subst (IsAnsweredWell c.shape m there) (sym is) (get_well output c.shape.has_event_mode refl test)
+      call_well call (SetsClock input clock set) = subst (IsAnsweredWell c.shape m there) (sym set) (set_clock_well input clock)
+      call_well call (ReadsClock output is) = subst (IsAnsweredWell c.shape m there) (sym is) (get_clock_well output)
 
     pub lost_found : IsLost count found bad.why
     lost_found =
-        lost_walk r s.states (states_all r sound machines s reached) bad found replies (in_instant (s.n == 0)) s.before (numbers r.system.instant_order) values u
+        lost_walk r s.states (states_all r sound machines s reached) bad found replies (in_instant ticks (s.n == 0)) s.before (numbers r.system.instant_order) values u
         (λ c m y fmu.
         let old = fmu_before r s.states (λ i d n x. state_by n x (part i u.front)) port.component.0 c m y fmu in
         let same : u.stops.component ≡ c = same_Some _ _ (sym u.stops.of ∙ fmu.component) in
+        let asks : asks_in_instant port.role port c.shape.has_event_mode (s.n == 0) (ticks u.p) values ≡ Some u.last.exchange.call =
+        subst (λ (d : Component). asks_in_instant port.role port d.shape.has_event_mode (s.n == 0) (ticks u.p) values ≡ Some u.last.exchange.call) same u.stops.asks in
         subst (λ (x : MachineState). IsAnsweredWell c.shape m x u.last.exchange.call) (sym old.is)
-        (call_well c m old.before old.fmu u.last.exchange.call (subst (λ (d : Component). asks_in_instant port.role port d.shape.has_event_mode (s.n == 0) values ≡ Some u.last.exchange.call) same u.stops.asks)))
+        (call_well c m old.before old.fmu u.last.exchange.call (asked_by port c.shape.has_event_mode (s.n == 0) (ticks u.p) values u.last.exchange.call port.role refl asks)))
+
+  -- ---- a question for an interval
+
+  pub lost_rearming : (bad : BadAnswer) (values : List (Option ℤ)) (asked : List Sent) → Solves r s values → AreReplies r (F.written r s values) asked → ExplainsUntil r.system intervals values (port_order r.system) bad values asked → IsLost count asked bad.why
+  lost_rearming bad values asked solves replies u =
+      let there : List MachineState = F.written r s values in
+      let all = written_all r sound machines s reached values in
+      let port = u.stops.port in
+      lost_walk r there all bad asked replies intervals values (port_order r.system) values u
+      (λ c m y fmu.
+      let here : IsFmu r there port.component.0 c m y =
+      subst (λ (ss : List MachineState). IsFmu r ss port.component.0 c m y) (states_stay r there all u.front (walk_asks r.system values values u.taken u.front u.told)) fmu in
+      let asks = asked_interval port.role port u.last.exchange.call u.stops.asks in
+      let answers : AnswersWell r there port.component.0 (λ shape. C.GetInterval port.reference) =
+      subst (λ (x : Role). AnswersAt x r s values port) asks.0 (((well port.component.0).in_instants s values reached solves).ports u.p port u.stops.is refl) in
+      subst (IsAnsweredWell c.shape m y) (sym asks.1) (answers c m y here))
 
   -- ---- an Update
 

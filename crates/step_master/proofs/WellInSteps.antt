@@ -1,5 +1,5 @@
 -- The calls of machines that behave well are answered well in a step.
-use Rattle.std.proofs.Common.{◌≡◌, ℕ, ◌-◌, ℤ, Bool, false, List, ◌∷◌, Option, Some, sym, ap, ◌∙◌, subst, length, get_or}
+use Rattle.std.proofs.Common.{◌≡◌, ℕ, ◌-◌, ℤ, Bool, false, List, Option, Some, sym, ap, ◌∙◌, subst, length}
 use Rattle.std.specs.Prelude.{All, IfSome, if◌then◌else◌}
 use Rattle.std.proofs.lemmas.Option.{same_Some}
 use Rattle.value_types.specs.Values.{Fits}
@@ -7,7 +7,7 @@ use Rattle.value_types.specs.declared.shape.Shape.{Shape}
 use Rattle.fmi_calls.specs.declared.call.Call.TheVariants as C
 use Rattle.fmu_peer.specs.Machine.{MachineState, after}
 use Rattle.system_model.specs.declared.system.Component.{Component}
-use Rattle.system_model.specs.Ports.{is_output_role}
+use Rattle.system_model.specs.Ports.{is_clock_role, is_output_role}
 use Rattle.system_model.specs.Sound.{IsSound}
 use Rattle.run_model.specs.Run.{IsFmu, Run, Situation}
 use Rattle.run_model.specs.AfterInstant as F
@@ -20,12 +20,11 @@ use Rattle.run_model.proofs.States.{fmu_before}
 use Rattle.slot_calls.specs.declared.bad_answer.BadAnswer.{BadAnswer}
 use Rattle.slot_calls.specs.Log.{Sent, part}
 use Rattle.slot_calls.specs.Replies.{AreReplies, state_by}
+use Rattle.slot_calls.specs.Slots.{reads_or_sets}
 use Rattle.slot_calls.specs.Stage.{FailsIn, StopsAt, everyone, has_events, shapes_of}
 use Rattle.event_iteration.specs.Explains.{ExplainsUntil}
 use Rattle.event_iteration.specs.Settings.{before_step, entered_step, port_order}
-use Rattle.event_iteration.proofs.Parts.{part_all}
-use Rattle.event_iteration.proofs.Setting.{SetsPort, asked_before_step, set_alone, sets_ports}
-use Rattle.event_iteration.proofs.Turning.{calls_of}
+use Rattle.event_iteration.proofs.Setting.{asked_before_step}
 use Rattle.calling_sequence.specs.Course.{IsStep, entering_event, entering_step, stepping}
 use Rattle.calling_sequence.specs.Systems.{IsBuilt}
 use Rattle.step_master.proofs.Existing.{steps_well}
@@ -33,11 +32,9 @@ use Rattle.step_master.proofs.Links.{IsLost, lost_fails, lost_stops, lost_walk}
 use Rattle.step_master.proofs.Onward as N
 use Rattle.step_master.proofs.SideBySide.{AreAll, all_on}
 use Rattle.step_master.proofs.Taken.{IsDoneAt, departed_here, done_begins, kept, stepped}
-use Rattle.step_master.proofs.WalksBack.{setting_back}
-use Rattle.step_master.proofs.Well.{IsLike, IsQuiet, like_by, sets_stepping}
-use Rattle.step_master.proofs.WellInInstants.{quiet_call}
+use Rattle.step_master.proofs.Well.{IsLike, IsQuiet, like_by, sets_stepping, walk_quiet}
 
-module _ (r : Run) (sound : IsSound r.system) (built : IsBuilt r.system) (machines : AreMachines r) (well : WellBehaved r) (t : ℕ) (s : Situation) (V : List (Option ℤ)) (at : IsDoneAt r t s V) (u : ℕ) (step : IsStep r.system r.plan t u) (bad : BadAnswer) where
+module _ (r : Run) (sound : IsSound r.system) (built : IsBuilt r.system) (machines : AreMachines r) (well : WellBehaved r) (t : ℕ) (s : Situation) (V : List (Option ℤ)) (at : IsDoneAt r t s V) (u : ℕ) (step : IsStep r.system r.plan (F.updated r s V).timers t u) (bad : BadAnswer) where
   abbrev count : ℕ
   count = length r.system.components
 
@@ -63,10 +60,8 @@ module _ (r : Run) (sound : IsSound r.system) (built : IsBuilt r.system) (machin
   lost_setting log replies e =
       let port = e.stops.port in
       let i = port.component.0 in
-      let walked = setting_back r.system sound V at.solves.places e.taken (e.p ∷ e.rest) e.order_is e.front e.told in
-      let calls = calls_of SetsPort r.system (before_step V) (sets_ports r.system V) V e.taken V e.front walked in
       let quiet : All IsQuiet (part i e.front) =
-      part_all IsQuiet i e.front (λ k d w here. let call = calls k d w in quiet_call call.port (get_or e.front k d).exchange.call (set_alone call.component call.port (get_or e.front k d).exchange.call call.sort)) in
+      walk_quiet r.system (before_step V) (λ p x d values call h. ap reads_or_sets (asked_before_step V p x d values call h).set) V V e.taken e.front e.told i in
       lost_walk r (entered_step r z) entered_all bad log replies (before_step V) V (port_order r.system) V e
       (λ c m y fmu.
       let old = fmu_before r (entered_step r z) (λ j d n x. state_by n x (part j e.front)) i c m y fmu in
@@ -79,7 +74,7 @@ module _ (r : Run) (sound : IsSound r.system) (built : IsBuilt r.system) (machin
       let fit : IfSome (Some asked.to) (Fits port.kind) = subst (λ o. IfSome o (Fits port.kind)) asked.is (fits e.p port e.stops.is) in
       subst (IsAnsweredWell c.shape m y) (sym asked.set)
       ((own i).sets c fmu.component asked.none c m first.before y (C.Set port.kind port.reference asked.to) first.fmu like.numbers like.values
-      (sets_stepping r sound built e.p port e.stops.is (ap is_output_role asked.input) c fmu.component asked.to fit asked.none)))
+      (sets_stepping r sound e.p port e.stops.is (ap is_output_role asked.input) (ap is_clock_role asked.input) c fmu.component asked.to fit asked.none)))
 
   -- a step
   pub lost_stepping : (log : List Sent) → AreReplies r (departing r z) log → FailsIn (shapes_of r.system) (stepping r.system t u) bad log → IsLost count log bad.why

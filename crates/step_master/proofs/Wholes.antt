@@ -33,6 +33,7 @@ use Rattle.calling_sequence.specs.declared.run_end.RunEnd.{RunEnd}
 use Rattle.calling_sequence.specs.declared.run_end.RunEnd.TheVariants as E
 use Rattle.calling_sequence.specs.Course.{Finishes}
 use Rattle.calling_sequence.specs.Ends.{EndsBy}
+use Rattle.calling_sequence.specs.Plans.{CountsBy}
 use Rattle.step_master.specs.Lived.{Account, Lived, LivesAreOver, RunIsLived, UnmadeIsClosed}
 use Rattle.step_master.specs.Lives.{AreGood, AreLives, EndsLives, IsLeastBad, IsLife, Life, calls_in, is_spared, is_unanswered, shape_in, talk_in}
 use Rattle.slot_calls.specs.Log.{Asking, Has, Sent, Told, askings, part}
@@ -254,7 +255,7 @@ module _ (system : System) (olds : List View) (peers : ArePeersOf system olds) (
 
 -- ---- the laws
 
-module _ (system : System) (bound : Bound) (plan : Plan) (sound : IsSound system) (binds : BindsParameters system bound) (made log : List Sent) (is : List Instant) (making_is : IsAnswered (shapes_of system) (making system) made) where
+module _ (system : System) (bound : Bound) (plan : Plan) (sound : IsSound system) (binds : BindsParameters system bound) (counts : CountsBy system plan) (made log : List Sent) (is : List Instant) (making_is : IsAnswered (shapes_of system) (making system) made) where
   behind_made : (k : ℕ) → IsNeeded (own k (making system) ++ own k (askings log)) → IsNeeded (own k (askings (made ++ log)))
   behind_made k need =
       subst IsNeeded (ap (λ (l : List Asking). own k l ++ own k (askings log)) (sym making_is.calls_are) ∙ sym (own_append k (askings made) (askings log)) ∙ ap (own k) (sym (askings_append made log))) need
@@ -278,7 +279,7 @@ module _ (system : System) (bound : Bound) (plan : Plan) (sound : IsSound system
     ended_needed E.WriteFault before after e = interrupted_needed system sound k some_shape in_shapes bound plan binds log is e.pieces e.piece e.interrupted
 
   finished_talks : (end : RunEnd) (point : ℕ) → Finishes system bound plan end point log is → AreTalksNeeded (length system.components) (made ++ log)
-  finished_talks end point f = finishes_talks system bound plan made making_is end point log is f
+  finished_talks end point f = finishes_talks system sound bound plan counts made making_is end point log is f
 
   ended_talks : (end : RunEnd) (before after : SinkView) → EndsBy system bound plan log is end before after → AreTalksNeeded (length system.components) (made ++ log)
   ended_talks E.Stop before after e = finished_talks E.Stop e.0 e.1
@@ -286,17 +287,17 @@ module _ (system : System) (bound : Bound) (plan : Plan) (sound : IsSound system
   ended_talks (E.EventLimit point) before after e = finished_talks (E.EventLimit point) e.0 e.1
   ended_talks (E.FixedStep component at end) before after e = finished_talks (E.FixedStep component at end) e.0 e.1
   ended_talks (E.Bad bad) before after e = finished_talks (E.Bad bad) e.0 e.1
-  ended_talks E.WriteFault before after e = interrupted_talks system bound plan made making_is log is e.pieces e.piece e.interrupted
+  ended_talks E.WriteFault before after e = interrupted_talks system sound bound plan counts made making_is log is e.pieces e.piece e.interrupted
 
   ended_log : (end : RunEnd) (before after : SinkView) → EndsBy system bound plan log is end before after → EndsLog (shapes_of system) end (made ++ log)
-  ended_log E.Stop before after e = finishes_log system bound plan binds made making_is.good E.Stop e.0 log is e.1
-  ended_log (E.Asked point) before after e = finishes_log system bound plan binds made making_is.good (E.Asked point) e.0 log is e.1
-  ended_log (E.EventLimit point) before after e = finishes_log system bound plan binds made making_is.good (E.EventLimit point) e.0 log is e.1
-  ended_log (E.FixedStep component at end) before after e = finishes_log system bound plan binds made making_is.good (E.FixedStep component at end) e.0 log is e.1
-  ended_log (E.Bad bad) before after e = finishes_log system bound plan binds made making_is.good (E.Bad bad) e.0 log is e.1
-  ended_log E.WriteFault before after e = interrupted_log system bound plan binds made making_is.good log is e.pieces e.piece e.interrupted
+  ended_log E.Stop before after e = finishes_log system sound bound plan binds made making_is.good E.Stop e.0 log is e.1
+  ended_log (E.Asked point) before after e = finishes_log system sound bound plan binds made making_is.good (E.Asked point) e.0 log is e.1
+  ended_log (E.EventLimit point) before after e = finishes_log system sound bound plan binds made making_is.good (E.EventLimit point) e.0 log is e.1
+  ended_log (E.FixedStep component at end) before after e = finishes_log system sound bound plan binds made making_is.good (E.FixedStep component at end) e.0 log is e.1
+  ended_log (E.Bad bad) before after e = finishes_log system sound bound plan binds made making_is.good (E.Bad bad) e.0 log is e.1
+  ended_log E.WriteFault before after e = interrupted_log system sound bound plan binds made making_is.good log is e.pieces e.piece e.interrupted
 
-module _ (a : Account) (ready done : Standing) (sound : IsSound a.system) (binds : BindsParameters a.system a.bound) (peers : ArePeersOf a.system a.olds) (prepares : Prepares a.system a.bound a.plan a.olds ready)
+module _ (a : Account) (ready done : Standing) (sound : IsSound a.system) (binds : BindsParameters a.system a.bound) (counts : CountsBy a.system a.plan) (peers : ArePeersOf a.system a.olds) (prepares : Prepares a.system a.bound a.plan a.olds ready)
     (runs : Runs ready done a.before a.after a.end) (closes : Closes done.instances a.news) where
   text : EndsBy a.system a.bound a.plan runs.log runs.is a.end a.before a.after
   text = subst (λ (s : System). EndsBy s a.bound a.plan runs.log runs.is a.end a.before a.after) prepares.system_is
@@ -307,11 +308,11 @@ module _ (a : Account) (ready done : Standing) (sound : IsSound a.system) (binds
   told = told_on (seated a.system.components a.olds) ready.instances done.instances prepares.log runs.log prepares.told runs.told
 
   needed : (k : ℕ) → k < length a.system.components → IsNeeded (own k (askings (prepares.log ++ runs.log)))
-  needed k w = behind_made a.system a.bound a.plan sound binds prepares.log runs.log runs.is prepares.answered k
-      (ended_needed a.system a.bound a.plan sound binds prepares.log runs.log runs.is prepares.answered k w a.end a.before a.after text)
+  needed k w = behind_made a.system a.bound a.plan sound binds counts prepares.log runs.log runs.is prepares.answered k
+      (ended_needed a.system a.bound a.plan sound binds counts prepares.log runs.log runs.is prepares.answered k w a.end a.before a.after text)
 
   updates : AreTalksNeeded (length a.system.components) (prepares.log ++ runs.log)
-  updates = ended_talks a.system a.bound a.plan sound binds prepares.log runs.log runs.is prepares.answered a.end a.before a.after text
+  updates = ended_talks a.system a.bound a.plan sound binds counts prepares.log runs.log runs.is prepares.answered a.end a.before a.after text
 
   lived_by : a.instants ≡ done.instants → Lived a
   lived_by count = record {
@@ -324,12 +325,12 @@ module _ (a : Account) (ready done : Standing) (sound : IsSound a.system) (binds
     text = text;
     counted = count ∙ runs.counted;
     ends = ends_lives a.system a.olds peers (prepares.log ++ runs.log) done.instances a.news told closes needed updates a.end
-        (ended_log a.system a.bound a.plan sound binds prepares.log runs.log runs.is prepares.answered a.end a.before a.after text);
+        (ended_log a.system a.bound a.plan sound binds counts prepares.log runs.log runs.is prepares.answered a.end a.before a.after text);
     machines = prepares.machines;
   }
 
 pub run_is_lived : RunIsLived
-run_is_lived a ready done sound binds peers prepares runs closes count = lived_by a ready done sound binds peers prepares runs closes count
+run_is_lived a ready done sound binds counts peers prepares runs closes count = lived_by a ready done sound binds counts peers prepares runs closes count
 
 pub unmade_is_closed : UnmadeIsClosed
 unmade_is_closed system olds news bad sound peers u =

@@ -1,17 +1,21 @@
--- What a master keeps: a place for each value, room for each text, and where its instances stand.
+-- What a master keeps: when Clocks tick, a place for each value, room for each text, and where its instances stand.
 use Rattle.std.specs.Prelude.{◌≡◌, ◌≤◌, ◌^◌, ℕ, ℤ, Bool, List, Option, All, length}
 use Rattle.fmu_peer.specs.declared.slot.Slot.{Slot}
 use Rattle.fmu_peer.specs.View.{View}
+use Rattle.system_model.specs.declared.plan.Plan.{Plan}
 use Rattle.system_model.specs.declared.system.System.{System}
+use Rattle.tick_schedule.specs.Timetable.{Timetable}
 use Rattle.trace_text.specs.Room.{HoldsEach}
+use Rattle.event_iteration.specs.Clocks.{first_table}
 use Rattle.event_iteration.specs.Initialization.{AreReads}
 use Rattle.calling_sequence.specs.Place.{IsMade}
 use Rattle.slot_calls.specs.Slots.{LiveSlot, Stands, instances}
 use Rattle.slot_calls.specs.Stage.{shapes, shapes_of}
 
 -- the memory of a run
-pub record HasRoom (system : System) (reads : List Bool) (values : List (Option ℤ)) (text : List ℕ) : Type 0 where
+pub record HasRoom (system : System) (plan : Plan) (reads : List Bool) (schedule : Timetable) (values : List (Option ℤ)) (text : List ℕ) : Type 0 where
   pub reads_are : AreReads system reads
+  pub clocks : schedule ≡ first_table system plan.start plan.stop
   pub places : length values ≡ length system.ports
   pub holds : HoldsEach system (length text)
 

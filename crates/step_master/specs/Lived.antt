@@ -11,6 +11,7 @@ use Rattle.system_model.specs.Text.{Instant}
 use Rattle.slot_calls.specs.declared.bad_answer.BadAnswer.{BadAnswer}
 use Rattle.calling_sequence.specs.declared.run_end.RunEnd.{RunEnd}
 use Rattle.calling_sequence.specs.Ends.{EndsBy}
+use Rattle.calling_sequence.specs.Plans.{CountsBy}
 use Rattle.step_master.specs.Lives.{AreLives, AreOver, EndsLives, IsLeastBad, Life}
 use Rattle.slot_calls.specs.Log.{Sent}
 use Rattle.step_master.specs.Master.{Closes, IsUnmade, Prepares, Runs, Standing, making}
@@ -54,7 +55,7 @@ pub record Unmade (system : System) (olds : List View) (bad : BadAnswer) (news :
 
 -- a system that was prepared, run and closed
 abbrev pub RunIsLived : Type 0
-RunIsLived = (a : Account) (ready done : Standing) → IsSound a.system → BindsParameters a.system a.bound → ArePeersOf a.system a.olds →
+RunIsLived = (a : Account) (ready done : Standing) → IsSound a.system → BindsParameters a.system a.bound → CountsBy a.system a.plan → ArePeersOf a.system a.olds →
     Prepares a.system a.bound a.plan a.olds ready → Runs ready done a.before a.after a.end → Closes done.instances a.news → a.instants ≡ done.instants → Lived a
 
 -- a system that couldn't be prepared

@@ -6,7 +6,7 @@ use Rattle.system_model.specs.Sound.{IsSound}
 use Rattle.step_master.specs.Kept.{AreMade, AreSlots, HasRoom}
 use Rattle.step_master.specs.Master.{Standing}
 use Rattle.slot_calls.specs.Slots.{instances}
-use Rattle.calling_sequence.specs.Plans.{IsPlan}
+use Rattle.calling_sequence.specs.Plans.{CountsBy, IsPlan}
 use Rattle.calling_sequence.specs.Systems.{IsBuilt}
 use Rattle.std.specs.Prelude.{◌≡◌, false}
 
@@ -28,5 +28,6 @@ pub record IsReady {L : Type 0} {g : _} (view : L → View) (m : Master L g) : T
   pub binds : BindsParameters m.system m.bound
   pub plan : IsPlan m.plan
   pub slots : AreSlots view m.system m.seats.slots.items
-  pub room : HasRoom m.system m.room.reads m.room.values.items m.room.text.items
+  pub counts : CountsBy m.system m.plan
+  pub room : HasRoom m.system m.plan m.room.reads m.room.schedule m.room.values.items m.room.text.items
   pub made : AreMade view m.seats.slots.items m.instants

@@ -13,10 +13,10 @@ use Rattle.system_model.specs.Bounds.{BindsParameters}
 use Rattle.system_model.specs.Sound.{IsSound}
 use Rattle.system_model.specs.Text.{Instant, end_text}
 use Rattle.run_model.specs.Run.{Run, Situation}
-use Rattle.run_model.specs.Behaved.{WellBehaved}
+use Rattle.run_model.specs.Behaved.{Departed, WellBehaved}
 use Rattle.run_model.specs.Equations.{Solves}
 use Rattle.run_model.specs.Initial.{SolvesInitially, beginning}
-use Rattle.run_model.specs.Stepping.{GoesOn}
+use Rattle.run_model.specs.Stepping.{GoesOn, LacksStep}
 use Rattle.run_model.specs.Trace.{IsTrace, Leads, instant_of}
 use Rattle.slot_calls.specs.declared.bad_answer.BadAnswer.{BadAnswer}
 use Rattle.calling_sequence.specs.declared.run_end.RunEnd.{RunEnd}
@@ -85,12 +85,19 @@ pub record CutsFront (a : Account) (r : Run) : Type 0 where
   pub cut : CutsPiece a.before (header_of a.system a.plan) a.after
       ⊎ ((piece : List ℕ) × IsNextPiece r is piece × CutsPiece (with_pieces a.before (pieces_of a.system a.plan is)) piece a.after)
 
+-- the run stands at a point that is done, and the component, the least of those, can't take the step that would go from it to the end
+pub record LacksStepAt (r : Run) (component at end : ℕ) : Type 0 where
+  pub z : Situation
+  pub departed : Departed r z
+  pub point : z.t ≡ at
+  pub lacks : LacksStep r z component end
+
 -- by the end, whatever the machines answer: the trace, or the run so far
 abbrev pub PutsRun : Account → Run → RunEnd → Type 0
 PutsRun a r E.Stop = PutsTrace a r K.Stop a.plan.stop
 PutsRun a r (E.Asked point) = PutsTrace a r K.Asked point
 PutsRun a r (E.EventLimit point) = PutsTrace a r K.Limit point
-PutsRun a r (E.FixedStep component at end) = PutsTrace a r K.Fixed at
+PutsRun a r (E.FixedStep component at end) = PutsTrace a r K.Fixed at × LacksStepAt r component.0 at end
 PutsRun a r (E.Bad bad) = PutsBroken a r
 PutsRun a r E.WriteFault = CutsFront a r
 
@@ -122,7 +129,7 @@ abbrev pub TracesWell : Account → Run → RunEnd → Type 0
 TracesWell a r E.Stop = PutsTrace a r K.Stop a.plan.stop
 TracesWell a r (E.Asked point) = PutsTrace a r K.Asked point
 TracesWell a r (E.EventLimit point) = PutsTrace a r K.Limit point
-TracesWell a r (E.FixedStep component at end) = PutsTrace a r K.Fixed at
+TracesWell a r (E.FixedStep component at end) = PutsTrace a r K.Fixed at × LacksStepAt r component.0 at end
 TracesWell a r (E.Bad bad) = IsLink bad.why × SomeRose a.olds a.news
 TracesWell a r E.WriteFault = SomeRose a.olds a.news ⊎ CutsTrace a r
 
@@ -130,7 +137,7 @@ TracesWell a r E.WriteFault = SomeRose a.olds a.news ⊎ CutsTrace a r
 
 -- the instants that were put are those of the run of told machines
 abbrev pub ToldRun : Type 0
-ToldRun = (a : Account) (r : Run) → IsSound a.system → IsBuilt a.system → IsRunOf a.system a.bound a.olds r → r.plan ≡ a.plan → Lived a → PutsRun a r a.end
+ToldRun = (a : Account) (r : Run) → IsSound a.system → IsBuilt a.system → IsPlan a.plan → IsRunOf a.system a.bound a.olds r → r.plan ≡ a.plan → Lived a → PutsRun a r a.end
 
 -- of told machines that behave well the text of their trace is put
 abbrev pub ToldTrace : Type 0

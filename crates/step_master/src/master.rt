@@ -1,7 +1,7 @@
 ghost use Rattle.std.specs.Prelude.{◌≡◌, IfOk, IfErr, map};
 ghost use Rattle.system_model.specs.Bounds.{BindsParameters};
 ghost use Rattle.system_model.specs.Sound.{IsSound};
-ghost use Rattle.calling_sequence.specs.Plans.{IsPlan};
+ghost use Rattle.calling_sequence.specs.Plans.{CountsBy, IsPlan};
 ghost use Rattle.calling_sequence.specs.Systems.{IsBuilt};
 ghost use Rattle.step_master.specs.System.{ArePeersOf};
 
@@ -44,11 +44,12 @@ impl<L: Peer> Master<L> {
         requires bound { BindsParameters system bound }
         requires peers { ArePeersOf system (map L.view peers.items) }
         requires plan { IsPlan plan }
+        requires counts { CountsBy system plan }
         ensures ready { IfOk result (IsReady L.view) }
         ensures ok { IfOk result (λ master. Prepares system bound plan (map L.view peers.items) (standing L.view master)) }
         ensures err { IfErr result (λ end. FailsToPrepare system (map L.view peers.items) end.fault (map L.view end.peers.items)) }
     {
-        let Ok(room) = Room::new(alloc, &system) else {
+        let Ok(room) = Room::new(alloc, &system, &plan) else {
             return Err(PrepareEnd {
                 peers,
                 fault: PrepareFault::Memory,
@@ -78,9 +79,9 @@ impl<L: Peer> Master<L> {
     }
 
     /// Runs the system by its plan: the header, the Sets of the bound parameters, Initialization Mode, and then at each point
-    /// one instant after the other until no Update asks for another, the Sets of the inputs of the FMUs without event mode
-    /// and a step to the next point, until the run ends. It puts the trace, one piece for the header, one for each instant,
-    /// and one for the end.
+    /// one instant after the other until no Update asks for another and no Clock is armed for it, the Sets of the inputs of
+    /// the FMUs without event mode and a step to the next point, until the run ends. It puts the trace, one piece for the
+    /// header, one for each instant, and one for the end.
     /// It takes no memory.
     pub fn run<R: Threads + Sync, O: Sink>(&mut self, _rt: &R, out: &mut O) -> RunEnd
         requires { IsReady L.view self.old }
@@ -93,6 +94,7 @@ impl<L: Peer> Master<L> {
             &self.bound,
             &self.plan,
             &self.room.reads,
+            &mut self.room.schedule,
             &mut self.room.values,
             &mut self.room.text,
             &mut self.instants,

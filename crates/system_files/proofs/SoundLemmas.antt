@@ -130,6 +130,17 @@ are_named law per_second directory folder o shapes system whole short each makes
           token = within (length c.shape.token) (length h.2.2.0) (law per_second h.2.2.0 c.shape h.2.2.3.is) h.2.2.2;
         }
 
+-- each counts as it was read
+pub are_counting : ((per_second : ℕ) (bytes : List ℕ) (shape : Shape) → IsModel per_second bytes shape → shape.resolution ≡ per_second) →
+    (per_second : ℕ) (directory : List ℕ) (folder : FolderView) (o : Outline) (shapes : List Shape) (system : System) →
+    AllZip (HasShapeAlone per_second directory folder) o.systems.components shapes → Makes o shapes system → All (λ (c : Component). c.shape.resolution ≡ per_second) system.components
+are_counting law per_second directory folder o shapes system each makes = all_by_place (λ (c : Component). c.shape.resolution ≡ per_second) system.components counts
+  where
+    counts : (k : ℕ) (c : Component) → slice_get system.components k ≡ Some c → c.shape.resolution ≡ per_second
+    counts k c at =
+        let i = makes.flattens.flat.components.each k c at in
+        let h = zip_at (HasShapeAlone per_second directory folder) o.systems.components shapes each k c.shape i.shape in law per_second h.2.2.0 c.shape h.2.2.3.is
+
 -- ---- rules that files break together
 
 position_below : {X : Type 0} (p : X → Bool) (xs : List X) (i : ℕ) → position p xs ≡ Some i → i < length xs

@@ -2,6 +2,7 @@
 ghost use Rattle.std.specs.Prelude.{◌≡◌, ℕ, ◌≤◌, ◌^◌, All, IfErr, IfOk, length};
 ghost use Rattle.ssd_tree.specs.declared.tree.ComponentPart.{ComponentPart};
 ghost use Rattle.parameter_targets.specs.Named.{IsNamedTree};
+ghost use Rattle.system_model.specs.declared.system.Component.{Component};
 ghost use Rattle.system_model.specs.Bounds.{BindsParameters};
 ghost use Rattle.system_model.specs.Sound.{IsSound};
 ghost use Rattle.flatten.specs.Given.{AreShapesOf, IsWhole};
@@ -53,6 +54,7 @@ pub fn load<F: Folder>(
     ensures sound { IfOk result (λ loaded. IsSound loaded.system) }
     ensures built { IfOk result (λ loaded. IsBuilt loaded.system) }
     ensures named { IfOk result (λ loaded. All IsNamed loaded.system.components) }
+    ensures counts { IfOk result (λ loaded. All (λ (c : Component). c.shape.resolution ≡ resolution) loaded.system.components) }
     ensures bound { IfOk result (λ loaded. BindsParameters loaded.system loaded.bound) }
     ensures err { IfErr result (λ end. EndsLoading (search_of subject directory.now resolution) end (F.view folder.old) (F.view folder.new)) }
 {
@@ -105,6 +107,7 @@ fn load_models<F: Folder>(
     ensures sound { IfOk result (λ loaded. IsSound loaded.system) }
     ensures built { IfOk result (λ loaded. IsBuilt loaded.system) }
     ensures named { IfOk result (λ loaded. All IsNamed loaded.system.components) }
+    ensures counts { IfOk result (λ loaded. All (λ (c : Component). c.shape.resolution ≡ resolution) loaded.system.components) }
     ensures bound { IfOk result (λ loaded. BindsParameters loaded.system loaded.bound) }
     ensures err { IfErr result (λ end. EndsModels (search_of subject directory.now resolution) outline.now end (F.view folder.old) (F.view folder.new)) }
 {

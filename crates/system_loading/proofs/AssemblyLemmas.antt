@@ -22,7 +22,7 @@ use Rattle.system_loading.specs.declared.outline.Outline.{Outline}
 use Rattle.system_loading.specs.Outlines.{place_in, whole_place}
 use Rattle.system_loading.specs.Assembly.{is_unbuilt, IsOrdered, HasNoOrder, BreaksTogether, ByPart, ByLoop, ByShape, HaveSameParts, MakesAlone, BreaksTogetherAlone, AreBuilt, IsBuilt}
 use Rattle.system_loading.specs.Faults.{SaysTogether, TellsTogether, TellsUnbuilt}
-use Rattle.system_loading.proofs.BuiltLemmas.{position_some, none_at, built_clocks, built_early, unclocked}
+use Rattle.system_loading.proofs.BuiltLemmas.{position_some, none_at, built_early}
 
 module _ (o : Outline) (shapes : List Shape) where
   -- ---- what excludes what
@@ -156,7 +156,6 @@ module _ (o : Outline) (shapes : List Shape) where
 
   pub is_built : (system : System) → IsSound system → Flattens o.systems shapes system → AreBuilt shapes → IsBuilt system
   is_built system sound flattens built = record {
-    no_clocks = unclocked system sound (λ i c here. built_clocks c.shape (built_shape system flattens built i c here));
     no_early = λ k d within. built_early (get_or system.components k d).shape (at k d within);
   }
     where

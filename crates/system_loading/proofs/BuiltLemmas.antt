@@ -1,4 +1,4 @@
--- What isn't built yet, in a list of shapes, and which ports a system without it has.
+-- What isn't built yet, in a list of shapes.
 use Rattle.std.proofs.Common.{◌≡◌, ℕ, ◌<◌, ◌≤◌, ◌==◌, Bool, true, false, ◌||◌, ◌&&◌, not, List, [], ◌∷◌, length, get_or, Some, None, arith, refl, sym, ◌∙◌, ap, ap₂, subst, All, Contains}
 use Rattle.std.specs.List.{list_any, position, position_or_len, slice_get}
 use Rattle.std.proofs.lemmas.Grind.{common_steps}
@@ -7,18 +7,8 @@ use Rattle.std.proofs.lemmas.List.Sums.{prefix_len_passes}
 use Rattle.std.proofs.lemmas.Bool.Decides.{nat_tests}
 use Rattle.std.proofs.lemmas.List.Quantifiers.{position-Some}
 use Rattle.std.proofs.lemmas.Option.{slice_get_within, get_or_from_slice_get}
-use Rattle.sim_base.specs.declared.numbers.PortId.{PortId}
-use Rattle.value_types.specs.Shape.{is_clock, is_clock_type}
 use Rattle.value_types.specs.declared.shape.Shape.{Shape}
-use Rattle.system_model.specs.declared.system.Component.{Component}
-use Rattle.system_model.specs.declared.system.Port.{Port}
-use Rattle.system_model.specs.declared.system.System.{System}
-use Rattle.system_model.specs.Needs.{is_unclocked}
-use Rattle.system_model.specs.Ports.{is_clock_role, numbers}
-use Rattle.system_model.specs.Sound.{IsSound}
-use Rattle.system_model.proofs.Lists.{all_by_place, at_contains, true_false}
-use Rattle.system_model.proofs.SoundLemmas.{clock_at, clock_type_of, place_of}
-use Rattle.system_loading.specs.Assembly.{has_clocks, is_unbuilt}
+use Rattle.system_loading.specs.Assembly.{is_unbuilt}
 
 module _ {A : Type 0} (p : A → Bool) where
   -- where one passes first, some pass
@@ -51,33 +41,5 @@ module _ {A : Type 0} (p : A → Bool) where
 
 -- ---- a shape
 
-or_false : (a b : Bool) → (a || b) ≡ false → (a ≡ false) × (b ≡ false)
-or_false a b e = (grind (arith, common_steps), grind (arith, common_steps))
-
-pub built_clocks : (s : Shape) → is_unbuilt s ≡ false → has_clocks s ≡ false
-built_clocks s e = (or_false (has_clocks s) s.might_return_early e).0
-
 pub built_early : (s : Shape) → is_unbuilt s ≡ false → s.might_return_early ≡ false
-built_early s e = (or_false (has_clocks s) s.might_return_early e).1
-
--- ---- the ports of a system whose components have no Clocks
-
-module _ (system : System) (sound : IsSound system) (none : (i : ℕ) (c : Component) → slice_get system.components i ≡ Some c → has_clocks c.shape ≡ false) where
-  -- no port is a Clock
-  no_clock : (p : ℕ) (port : Port) → slice_get system.ports p ≡ Some port → is_clock_role port.role ≡ false
-  no_clock p port at =
-      let placed = place_of system sound p port at in
-      sym (clock_type_of system p port placed) ∙ ap is_clock_type (sym placed.kind)
-      ∙ none_at is_clock placed.component.shape.variables placed.place placed.variable (none port.component.0 placed.component placed.is.of) placed.there
-
-  -- and so no port has one
-  none_of : (p : ℕ) (port : Port) → slice_get system.ports p ≡ Some port → (clocks : List PortId) → port.clocks ≡ clocks → clocks ≡ []
-  none_of p port at [] e = refl
-  none_of p port at (c ∷ cs) e =
-      let among : Contains (numbers port.clocks) c.0 = subst (λ (xs : List PortId). Contains (numbers xs) c.0) (sym e) (at_contains (numbers (c ∷ cs)) 0 c.0 refl) in
-      let clock = clock_at system sound p port (place_of system sound p port at) c.0 among in
-      absurd (true_false (sym clock.role ∙ no_clock c.0 clock.clock clock.is))
-
-  pub unclocked : All (λ (port : Port). is_unclocked port ≡ true) system.ports
-  unclocked = all_by_place (λ (port : Port). is_unclocked port ≡ true) system.ports (λ p port at.
-      ap₂ (λ (is : Bool) (clocks : List PortId). not is && length clocks == 0) (no_clock p port at) (none_of p port at port.clocks refl))
+built_early s e = e

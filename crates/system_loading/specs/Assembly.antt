@@ -1,16 +1,13 @@
 -- The system that an outline and the shapes of its FMUs make together, or the first rule that they break together.
-use Rattle.std.specs.Prelude.{◌≡◌, ℕ, Bool, true, false, ◌||◌, List, [], Option, Some, None, All}
+use Rattle.std.specs.Prelude.{◌≡◌, ℕ, Bool, false, List, [], Option, Some, None, All}
 use Rattle.std.specs.List.{list_any, position}
 use Rattle.sim_base.specs.declared.numbers.PortId.{PortId}
-use Rattle.value_types.specs.Shape.{is_clock}
 use Rattle.value_types.specs.declared.shape.Shape.{Shape}
 use Rattle.doc_tree.specs.declared.place.Place.{Place}
 use Rattle.doc_tree.specs.declared.rule.Rule.{Rule}
 use Rattle.doc_tree.specs.declared.rule.Rule.TheVariants.{Loop, Unbuilt}
 use Rattle.system_model.specs.declared.system.Component.{Component}
-use Rattle.system_model.specs.declared.system.Port.{Port}
 use Rattle.system_model.specs.declared.system.System.{System}
-use Rattle.system_model.specs.Needs.{is_unclocked}
 use Rattle.flatten.specs.Answers.{TellsLoop}
 use Rattle.flatten.specs.Flat.{Flattens}
 use Rattle.flatten.specs.Rules.{IsFirstViolation, IsFitting}
@@ -19,17 +16,12 @@ use Rattle.system_loading.specs.Outlines.{place_in, whole_place}
 
 -- ---- what isn't built yet
 
--- a Clock that isn't foreign, which is an input or an output
-abbrev pub has_clocks : Shape → Bool
-has_clocks shape = list_any is_clock shape.variables
-
--- Clocks, or early return
+-- early return
 abbrev pub is_unbuilt : Shape → Bool
-is_unbuilt shape = has_clocks shape || shape.might_return_early
+is_unbuilt shape = shape.might_return_early
 
--- no port is a Clock or has Clocks, and no component might return early
+-- no component might return early
 pub record IsBuilt (system : System) : Type 0 where
-  pub no_clocks : All (λ (port : Port). is_unclocked port ≡ true) system.ports
   pub no_early : All (λ (c : Component). c.shape.might_return_early ≡ false) system.components
 
 -- ---- rules that the files break together

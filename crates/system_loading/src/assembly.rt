@@ -1,7 +1,6 @@
 //! The system that an outline and the shapes of its FMUs make together.
 ghost use Rattle.std.specs.Prelude.{◌≡◌, IfErr, IfOk, MatchOption, None, Some, []};
-ghost use Rattle.std.specs.List.{list_any, position};
-ghost use Rattle.value_types.specs.Shape.{is_clock};
+ghost use Rattle.std.specs.List.{position};
 ghost use Rattle.system_model.specs.Sound.{IsSound};
 ghost use Rattle.flatten.specs.Given.{AreShapesOf, IsWhole};
 ghost use Rattle.system_loading.specs.Assembly.{AreBuilt, IsBuilt, MakesAlone, is_unbuilt};
@@ -15,7 +14,7 @@ use flatten::flatten;
 use sim_base::{Items, PortId};
 use std::alloc::Global;
 use system_model::System;
-use value_types::{Shape, Variable};
+use value_types::Shape;
 
 /// Why files make no system together.
 #[derive(Debug, Drop)]
@@ -78,13 +77,7 @@ fn first_unbuilt(shapes: &[Shape]) -> Option<usize>
 fn is_unbuilt(shape: &Shape) -> bool
     ensures { result ≡ is_unbuilt shape.now }
 {
-    has_clocks(shape.variables.as_slice()) || shape.might_return_early
-}
-
-fn has_clocks(variables: &[Variable]) -> bool
-    ensures { result ≡ list_any is_clock variables.now }
-{
-    variables.iter().any(|x| x.is_clock())
+    shape.might_return_early
 }
 
 // The fault at an element of the outline.

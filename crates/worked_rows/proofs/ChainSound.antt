@@ -1,6 +1,6 @@
--- The two gains are a sound system without Clocks.
+-- The two gains are a sound system, which a master takes with a peer for each.
 use Rattle.std.proofs.Common.{◌≡◌, ◌∙◌, ℕ, zero, suc, ◌+◌, ◌<◌, ◌≤◌, List, [], ◌∷◌, ◌++◌, ap, get_or, length, refl, sym, subst, take}
-use Rattle.std.specs.Prelude.{All, None, Some, codes, false, slice_get, true}
+use Rattle.std.specs.Prelude.{All, Some, codes, false, slice_get}
 use Rattle.std.proofs.lemmas.List.Elements.{All-append, All-cons, All-nil}
 use Rattle.std.proofs.lemmas.List.{take_all, take_more}
 use Rattle.std.proofs.lemmas.Option.{none-some as none_some, same_Some}
@@ -10,15 +10,12 @@ use Rattle.system_model.specs.declared.bound.Bound.{Bound}
 use Rattle.system_model.specs.declared.bound.BoundValue.{BoundValue}
 use Rattle.system_model.specs.declared.system.Component.{Component}
 use Rattle.system_model.specs.declared.system.System.{System}
-use Rattle.system_model.specs.declared.system.Port.{Port}
-use Rattle.system_model.specs.declared.system.Role.TheVariants.{Input, Output}
-use Rattle.system_model.specs.Needs.{is_unclocked}
 use Rattle.system_model.specs.Sound.{IsSound}
 use Rattle.fmu_peer.specs.View.{View}
 use Rattle.calling_sequence.specs.Systems.{IsBuilt}
 use Rattle.step_master.specs.System.{ArePeersOf, IsNew}
 use Rattle.run_rows.proofs.OrderTests.{sound_by}
-use Rattle.worked_rows.specs.Chain.{chain, gain_on, port_of}
+use Rattle.worked_rows.specs.Chain.{chain, gain_on}
 use Rattle.worked_rows.specs.Trio.{component}
 
 pub chain_sound : (system : System) → system ≡ chain → IsSound system
@@ -35,25 +32,11 @@ of_first = component (codes "first") 0 (gain_on [])
 abbrev of_second : Component
 of_second = component (codes "second") 1 (gain_on (2 ∷ []))
 
-abbrev in_first : Port
-in_first = port_of 0 (codes "u") 2 (Input None)
-
-abbrev out_first : Port
-out_first = port_of 0 (codes "y") 3 Output
-
-abbrev in_second : Port
-in_second = port_of 1 (codes "u") 2 (Input (Some (record { from = record { 0 = 1 } })))
-
-abbrev out_second : Port
-out_second = port_of 1 (codes "y") 3 Output
-
 pub chain_built : (system : System) → system ≡ chain → IsBuilt system
-chain_built system is = subst IsBuilt (sym is) (record {
-  no_clocks = All-cons (λ (p : Port). is_unclocked p ≡ true) in_first (out_first ∷ in_second ∷ out_second ∷ []) refl
-      (All-cons (λ (p : Port). is_unclocked p ≡ true) out_first (in_second ∷ out_second ∷ []) refl
-      (both (λ (p : Port). is_unclocked p ≡ true) in_second out_second refl refl));
-  no_early = both (λ (c : Component). c.shape.might_return_early ≡ false) of_first of_second refl refl;
-})
+chain_built system is = subst IsBuilt (sym is) (record { no_early = both (λ (c : Component). c.shape.might_return_early ≡ false) of_first of_second refl refl })
+
+pub chain_counts : (system : System) → system ≡ chain → All (λ (c : Component). c.shape.resolution ≡ 1000) system.components
+chain_counts system is = subst (λ (s : System). All (λ (c : Component). c.shape.resolution ≡ 1000) s.components) (sym is) (both (λ (c : Component). c.shape.resolution ≡ 1000) of_first of_second refl refl)
 
 pub chain_unbound : (system : System) (bound : Bound) → system ≡ chain → bound.components ≡ [] ∷ [] ∷ [] → BindsParameters system bound
 unfolding IsDistinct

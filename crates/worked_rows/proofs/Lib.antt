@@ -1,2 +1,3 @@
 mod TrioSound
 pub mod ChainSound
+pub mod TickingSound

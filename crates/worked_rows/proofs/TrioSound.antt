@@ -17,7 +17,6 @@ use Rattle.system_model.specs.declared.bound.Bound.{Bound}
 use Rattle.system_model.specs.declared.bound.BoundValue.{BoundValue}
 use Rattle.system_model.specs.declared.system.Component.{Component}
 use Rattle.system_model.specs.declared.system.Port.{Port}
-use Rattle.system_model.specs.Needs.{is_unclocked}
 use Rattle.system_model.specs.declared.system.Role.TheVariants.{Output}
 use Rattle.system_model.specs.declared.system.System.{System}
 use Rattle.system_model.specs.Shapes.{HasFittingStart, HasNames, IsSoundShape, NamesClocks}
@@ -84,6 +83,9 @@ second = component (codes "second") 0 (counting (pos 2) true)
 abbrev third : Component
 third = component (codes "third") 1 (counting (pos 5) false)
 
+counts : All (λ (c : Component). c.shape.resolution ≡ 1000) trio.components
+counts = all3 (λ (c : Component). c.shape.resolution ≡ 1000) first second third refl refl refl
+
 of_outputs : IsOfOutputs trio
 of_outputs = record {
   few = omega arith;
@@ -92,7 +94,7 @@ of_outputs = record {
   per_second = 1000;
   above = omega arith;
   within = omega arith;
-  resolutions = all3 (λ (c : Component). c.shape.resolution ≡ 1000) first second third refl refl refl;
+  resolutions = counts;
   few_ports = omega arith;
   numbered = refl;
   outputs = all3 (λ (p : Port). (p.role ≡ Output) × (p.clocks ≡ [])) (port 0) (port 1) (port 2) (refl, refl) (refl, refl) (refl, refl);
@@ -104,13 +106,13 @@ pub trio_sound : (system : System) → system ≡ trio → IsSound system
 trio_sound system is = subst IsSound (sym is) (outputs_sound trio of_outputs)
 
 built : IsBuilt trio
-built = record {
-  no_clocks = all3 (λ (p : Port). is_unclocked p ≡ true) (port 0) (port 1) (port 2) refl refl refl;
-  no_early = all3 (λ (c : Component). c.shape.might_return_early ≡ false) first second third refl refl refl;
-}
+built = record { no_early = all3 (λ (c : Component). c.shape.might_return_early ≡ false) first second third refl refl refl }
 
 pub trio_built : (system : System) → system ≡ trio → IsBuilt system
 trio_built system is = subst IsBuilt (sym is) built
+
+pub trio_counts : (system : System) → system ≡ trio → All (λ (c : Component). c.shape.resolution ≡ 1000) system.components
+trio_counts system is = subst (λ (s : System). All (λ (c : Component). c.shape.resolution ≡ 1000) s.components) (sym is) counts
 
 -- ---- parameters
 

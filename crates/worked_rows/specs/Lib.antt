@@ -1,4 +1,5 @@
 pub mod Trio
 pub mod Chain
+pub mod Ticking
 pub mod OwnCounter
 pub mod OwnCounterLaws

@@ -1,4 +1,4 @@
--- A counter that heeds no input, whatever its output declares to depend on, and refuses each Get of a variable that isn't this output (FMI 3.0, 2.4.9: dependencies of outputs). What else it does is what a built-in counter does.
+-- A machine whose output shows its count, whatever the output declares to depend on, and which refuses each Get of a variable that isn't this output (FMI 3.0, 2.4.9: dependencies of outputs). What else it does is what a built-in machine does.
 use Rattle.std.specs.Prelude.{ℕ, ℤ, ◌==◌, List, Option, Some, None, option_map, unwrap_or, false, if◌then◌else◌}
 use Rattle.value_types.specs.Values.{word_of}
 use Rattle.fmi_calls.specs.declared.call.BadStatus.TheVariants.{Error}

@@ -39,7 +39,7 @@ fn make_gain(alloc: Global, inputs: &[u32]) -> Result<Shape, AllocError>
     })
 }
 
-fn make_port(
+pub(crate) fn make_port(
     alloc: Global,
     component: u32,
     name: &str,
@@ -58,7 +58,7 @@ fn make_port(
     })
 }
 
-fn make_order(alloc: Global) -> Result<Items<PortId>, AllocError>
+pub(crate) fn make_order(alloc: Global) -> Result<Items<PortId>, AllocError>
     ensures { IfOk result (λ order. order ≡ by_place) }
 {
     Ok(Items::from_vec(vec![in alloc; PortId(0), PortId(1), PortId(2), PortId(3)]?))

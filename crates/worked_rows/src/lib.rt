@@ -23,4 +23,6 @@ mod scripts;
 #[cfg(test)]
 mod talk_tests;
 #[cfg(test)]
+mod ticking;
+#[cfg(test)]
 mod trio;

@@ -1,4 +1,4 @@
-//! A counter of the tests' own, which heeds no input and lets nothing but its output be read.
+//! A machine of the tests' own, which counts, and lets nothing but its count be read.
 ghost use Rattle.std.specs.Prelude.{◌≡◌, IfOk};
 ghost use Rattle.bench_fmus.specs.BuiltIn.{listed};
 ghost use Rattle.bench_fmus.specs.Told.{told};
@@ -15,8 +15,9 @@ use value_types::{PortType, Shape, to_word};
 /// The count, an output.
 const OUTPUT: u32 = 3;
 
-/// A counter that shows its count under reference 3, and adds at each step what the parameter under reference 1 tells.
-/// It tells its machine.
+/// What counts as a built-in machine does, and shows the count under reference 3: by `Model::Counter` at each step what the
+/// parameter under reference 1 tells, by `Model::Timer` the Updates with the Clock under reference 2 active, and by
+/// `Model::Settle` the Updates since Event Mode was entered. It tells its machine.
 #[derive(Debug, Drop)]
 pub(crate) struct OwnCounter {
     pub(crate) inner: BuiltIn,
@@ -24,11 +25,15 @@ pub(crate) struct OwnCounter {
 
 impl OwnCounter {
     /// A counter of a component before its first call.
-    pub(crate) fn new(alloc: Global, component: &Component) -> Result<OwnCounter, AllocError>
+    pub(crate) fn new(
+        alloc: Global,
+        component: &Component,
+        model: Model,
+    ) -> Result<OwnCounter, AllocError>
         ensures { IfOk result (λ peer. IsNew component.now.shape (own_view peer)) }
     {
         let origin = Origin::from_texts(alloc, "host", component.name.as_str(), "fmus/c")?;
-        let inner = BuiltIn::new(alloc, Model::Counter, origin, &component.shape, None)?;
+        let inner = BuiltIn::new(alloc, model, origin, &component.shape, None)?;
         Ok(OwnCounter { inner })
     }
 }
@@ -52,7 +57,7 @@ fn shown(numbers: &Numbers, reference: u32) -> Reply
     }
 }
 
-// What it answers otherwise than a built-in counter.
+// What it answers otherwise than the built-in machine.
 fn own_answer(numbers: &Numbers, call: &Call) -> Option<Reply>
     ensures { result ≡ own_answer (listed (told numbers.now)) call.now }
 {

@@ -1,13 +1,16 @@
-//! A machine of the tests' own under the master.
+//! Machines of the tests' own under the master.
 ghost use Rattle.std.specs.Prelude.{◌≡◌, IfOk, map};
 ghost use Rattle.step_master.specs.System.{ArePeersOf};
 ghost use Rattle.worked_rows.specs.Chain.{chain};
 ghost use Rattle.worked_rows.specs.OwnCounter.{own_view};
+ghost use Rattle.worked_rows.specs.Ticking.{ticking};
 
 use crate::chain::make_chain;
 use crate::chain_master_tests::make_unbound;
 use crate::own_counter::OwnCounter;
+use crate::ticking::make_ticking;
 use crate::trio::{Ran, run_system};
+use bench_fmus::Model;
 use fmu_peer::StartFault;
 use sim_base::MemSink;
 use std::alloc::{AllocError, Global};
@@ -24,12 +27,12 @@ fn make_counters(alloc: Global, system: &System) -> Result<Vec<OwnCounter>, Allo
 {
     let components = system.components.as_slice();
     let mut peers = Vec::with_capacity(alloc, 2)?;
-    peers.push_reserved(OwnCounter::new(alloc, &components[0])?);
-    peers.push_reserved(OwnCounter::new(alloc, &components[1])?);
+    peers.push_reserved(OwnCounter::new(alloc, &components[0], Model::Counter)?);
+    peers.push_reserved(OwnCounter::new(alloc, &components[1], Model::Counter)?);
     Ok(peers)
 }
 
-#[tactic(auto, using(crate::proofs::ChainSound::chain_sound, crate::proofs::ChainSound::chain_built))]
+#[tactic(auto, using(crate::proofs::ChainSound::chain_sound, crate::proofs::ChainSound::chain_built, crate::proofs::ChainSound::chain_counts))]
 fn run_counters<R: Threads + Sync>(
     rt: &R,
     alloc: Global,
@@ -59,6 +62,52 @@ fn a_machine_that_heeds_no_input_has_its_text(rt: HostRuntime) -> Result<(), Fai
     let mut out = MemSink::with_room(alloc, 400, 8, Vec::new(alloc))?;
     let Ran { end, .. } = run_counters(&rt, alloc, &mut out)?;
     assert_eq!(rt; out.bytes.as_slice(), TEXT.as_bytes());
+    assert_eq!(rt; end, Ok(RunEnd::Stop));
+    Ok(())
+}
+
+// One that settles, and one that counts its Updates with its Clock active.
+#[tactic(auto, using(crate::proofs::TickingSound::ticking_peers))]
+fn make_tickers(alloc: Global, system: &System) -> Result<Vec<OwnCounter>, AllocError>
+    requires { system.now ≡ ticking }
+    ensures { IfOk result (λ peers. ArePeersOf ticking (map own_view peers.items)) }
+{
+    let components = system.components.as_slice();
+    let mut peers = Vec::with_capacity(alloc, 2)?;
+    peers.push_reserved(OwnCounter::new(alloc, &components[0], Model::Settle)?);
+    peers.push_reserved(OwnCounter::new(alloc, &components[1], Model::Timer)?);
+    Ok(peers)
+}
+
+#[tactic(auto, using(crate::proofs::TickingSound::ticking_sound, crate::proofs::TickingSound::ticking_built, crate::proofs::TickingSound::ticking_counts))]
+fn run_tickers<R: Threads + Sync>(
+    rt: &R,
+    alloc: Global,
+    out: &mut MemSink,
+) -> Result<Ran<OwnCounter>, StartFault> {
+    let Ok(system) = make_ticking(alloc) else {
+        return Err(StartFault::Memory);
+    };
+    let Ok(bound) = make_unbound(alloc) else {
+        return Err(StartFault::Memory);
+    };
+    let Ok(peers) = make_tickers(alloc, &system) else {
+        return Err(StartFault::Memory);
+    };
+    Ok(run_system(rt, alloc, system, bound, peers, 20, out))
+}
+
+// Worked out by hand. The Clock ticks in the first instant of a point alone. In the second, its input is absent and keeps its
+// value, and the Update of the first has made it inactive, so that the Update of the second isn't counted.
+const TICKS: &str =
+    "trace 1 1000 0 20\nport 0 Int32 settle y\nport 1 Clock own c\nport 2 Int32 own u\nport 3 Int32 own y\nat 0 0\n0 0\n1 1\n2 0\n3 0\nat 0 1\n0 1\n1 0\n2 0\n3 1\nat 10 0\n0 0\n1 1\n2 0\n3 1\nat 10 1\n0 1\n1 0\n2 0\n3 2\nat 20 0\n0 0\n1 1\n2 0\n3 2\nat 20 1\n0 1\n1 0\n2 0\n3 3\nend stop 20\n";
+
+#[test]
+fn a_constant_clock_ticks_once_at_a_point(rt: HostRuntime) -> Result<(), Fail> {
+    let alloc = rt.alloc();
+    let mut out = MemSink::with_room(alloc, 400, 8, Vec::new(alloc))?;
+    let Ran { end, .. } = run_tickers(&rt, alloc, &mut out)?;
+    assert_eq!(rt; out.bytes.as_slice(), TICKS.as_bytes());
     assert_eq!(rt; end, Ok(RunEnd::Stop));
     Ok(())
 }

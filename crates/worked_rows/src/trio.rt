@@ -1,5 +1,5 @@
 //! Three FMUs side by side, the first two of one source: their system, their peers, and a run of them.
-ghost use Rattle.std.specs.Prelude.{◌≡◌, ◌≤◌, ◌^◌, [], ◌∷◌, IfOk, map};
+ghost use Rattle.std.specs.Prelude.{◌≡◌, ◌≤◌, ◌^◌, [], ◌∷◌, All, IfOk, map};
 ghost use Rattle.value_types.specs.Values.{Fits};
 ghost use Rattle.value_types.specs.declared.values.PortType.TheVariants as PortType;
 ghost use Rattle.system_model.specs.Bounds.{BindsParameters};
@@ -211,7 +211,7 @@ pub(crate) struct Ran<L: Peer> {
 }
 
 /// Runs the three FMUs from 0 to the stop by steps of 10, each with `inc` bound where a value is given, and closes them.
-#[tactic(auto, using(crate::proofs::TrioSound::trio_built))]
+#[tactic(auto, using(crate::proofs::TrioSound::trio_built, crate::proofs::TrioSound::trio_counts))]
 pub(crate) fn run_trio<R: Abort + Threads + Sync, S: Spawner>(
     rt: &R,
     alloc: Global,
@@ -246,6 +246,7 @@ pub(crate) fn run_system<R: Threads + Sync, L: Peer>(
 ) -> Ran<L>
     requires sound { IsSound system }
     requires built { IsBuilt system }
+    requires counts { All (λ c. c.shape.resolution ≡ 1000) system.components }
     requires bound { BindsParameters system bound }
     requires peers { ArePeersOf system (map L.view peers.items) }
     requires stop { stop ≤ 2 ^ 62 }
@@ -255,7 +256,7 @@ pub(crate) fn run_system<R: Threads + Sync, L: Peer>(
         start: 0,
         step: 10,
         stop,
-        limit: 1,
+        limit: 2,
     };
     match Master::prepare(alloc, system, bound, peers, plan) {
         Ok(mut master) => {

@@ -3,6 +3,7 @@ use Rattle.core.proofs.result.Match.{err_is}
 use Rattle.fmu_peer.specs.CloseAll.{instance_in}
 use Rattle.fmi_calls.specs.declared.call.Call.TheVariants as C
 use Rattle.run_model.specs.Steps.{OnStop}
+use Rattle.event_iteration.specs.Clocks.{StandsAt, timers_in}
 use Rattle.calling_sequence.specs.declared.ending.Break.{Break}
 use Rattle.calling_sequence.specs.declared.ending.Ending.{Ending}
 use Rattle.calling_sequence.specs.Course.{IsStep}
@@ -10,8 +11,10 @@ use Rattle.calling_sequence.specs.Place.{IsStepping}
 use Rattle.slot_calls.specs.Slots.{instances}
 use Rattle.slot_calls.proofs.Parts.{stage_all}
 use Rattle.calling_sequence.specs.Steps.{Follows, Initializes, StepsAt}
-use Rattle.calling_sequence.proofs.Courses.{arrived, asked_there, at_point_err, at_point_ok, cut_there, departed, ends_there, enters_badly, fits_on, header_cut, here_again, here_first, here_on, lead_bad, leaves_badly, left, limited_there, more_left, on_ok, reached, sets_badly, shown, steps_badly, stops_there, takes_badly, unfit_there}
+use Rattle.calling_sequence.proofs.Chains.{fits_on}
+use Rattle.calling_sequence.proofs.Courses.{arrived, asked_there, at_point_err, at_point_ok, cut_there, departed, ends_there, enters_badly, header_cut, here_again, here_first, here_on, lead_bad, leaves_badly, left, limited_there, more_left, on_ok, reached, sets_badly, shown, steps_badly, stops_there, takes_badly, unarmed, unfit_there}
 use Rattle.calling_sequence.proofs.Phases.{CanStep, begins_at, may_enter_event, may_enter_step, may_step, step_leads, unset_at}
+use Rattle.calling_sequence.proofs.ScheduleSteps.{never_first, stands_behind}
 use Rattle.calling_sequence.proofs.Sizes.{can_step, same_length}
 use Rattle.calling_sequence.proofs.Stands.{no_values_are, none_fit, wide_all}
 use Rattle.calling_sequence.proofs.run.follow.Goals as goal
@@ -35,10 +38,11 @@ returns-in_err-at_point g c =
     let olds = instances g.L.Peer.view c.args.slots.now in
     let before = g.O.Sink.view c.args.out.now in
     let news = instances g.L.Peer.view c.initialize.new.slots in
+    let timers = timers_in c.initialize.new.schedule in
     let b = at_point_err c.initialize.result plan.start c.in_err-at_point.field-0.0 (sym c.at_point.ensures ∙ c.in_err-at_point.was) in
     subst (λ (r : Result Ending Break). Follows system bound plan olds news before (g.O.Sink.view c.put_head.new.out) c.args.instants.now r) (sym (err_is _ _ c.from_residual-in_err-at_point.ensures.1))
-    (lead_bad system bound plan olds before c.requires.shapes news _ _ b.0 c.in_err-at_point.field-0.0 b.2 c.requires.none c.in_ok-put_head.ensures.ok
-    (subst (λ r. Initializes system bound plan olds news r) b.1 c.initialize.ensures.initializes))
+    (lead_bad system bound plan olds before c.requires.shapes news _ _ b.0 c.in_err-at_point.field-0.0 b.2 c.requires.none c.in_ok-put_head.ensures.ok timers
+    (subst (λ r. Initializes system bound plan timers olds news r) b.1 c.initialize.ensures.initializes))
 
 pub instants-init : goal.instants-init
 instants-init g c =
@@ -48,19 +52,22 @@ instants-init g c =
     let olds = instances g.L.Peer.view c.args.slots.now in
     let before = g.O.Sink.view c.args.out.now in
     let news = instances g.L.Peer.view c.initialize.new.slots in
+    let timers = timers_in c.initialize.new.schedule in
     let ok = at_point_ok c.initialize.result plan.start c.in_ok-at_point.field-0 (sym c.at_point.ensures ∙ c.in_ok-at_point.was) in
     let empty = no_values_are system _ c.clear.new.values c.clear.ensures (c.initialize.auto.values ∙ c.requires.places) in
     record {
       live = on_ok c.initialize.result c.in_ok-at_point.field-0 _ ok c.initialize.ensures.live;
       at = on_ok c.initialize.result c.in_ok-at_point.field-0 _ ok c.initialize.ensures.at;
-      here = here_first system bound plan olds before c.requires.shapes c.clear.new.values news _ _ empty c.requires.none c.in_ok-put_head.ensures.ok
-          (subst (λ r. Initializes system bound plan olds news r) ok c.initialize.ensures.initializes);
+      here = here_first system bound plan olds before c.requires.shapes c.clear.new.values news _ _ empty c.requires.none c.in_ok-put_head.ensures.ok timers
+          (subst (λ r. Initializes system bound plan timers olds news r) ok c.initialize.ensures.initializes);
       few = let none = c.requires.none in omega (arith, none);
       below = c.requires.plan.limit_above;
       begun = omega arith;
       within = c.requires.plan.ordered;
       places = c.clear.auto.values ∙ c.initialize.auto.values ∙ c.requires.places;
       fitting = none_fit system c.clear.new.values empty;
+      table = c.initialize.ensures.table;
+      stands = on_ok c.initialize.result c.in_ok-at_point.field-0 _ ok c.initialize.ensures.stands;
     }
 
 pub take_instant-requires-clause-shapes : goal.take_instant-requires-clause-shapes
@@ -84,10 +91,12 @@ returns-in_err-updated g c =
     let n = c.instants.n in
     let mids = instances g.L.Peer.view c.instants.slots in
     let values = c.take_instant.new.values in
+    let timers = timers_in c.instants.schedule in
+    let next = timers_in c.take_instant.new.schedule in
     let taken = instances g.L.Peer.view c.take_instant.new.slots in
     let places = c.take_instant.auto.values ∙ c.instants.invariant.places in
     subst (λ (r : Result Ending Break). Follows system bound plan olds taken before (g.O.Sink.view c.instants.out) c.instants.instants r) (sym (err_is _ _ c.from_residual-in_err-updated.ensures.1))
-    (takes_badly system bound plan olds before c.requires.shapes t n c.instants.values mids taken _ _ c.instants.invariant.here c.instants.invariant.places values places _ c.in_err-updated.ensures.takes)
+    (takes_badly system bound plan olds before c.requires.shapes t n c.instants.values timers mids taken _ _ c.instants.invariant.here c.instants.invariant.places values places next _ c.in_err-updated.ensures.takes)
 
 pub put_values-requires-clause-wide : goal.put_values-requires-clause-wide
 put_values-requires-clause-wide g c =
@@ -106,12 +115,14 @@ returns-in_err-put_values g c =
     let n = c.instants.n in
     let mids = instances g.L.Peer.view c.instants.slots in
     let values = c.take_instant.new.values in
+    let timers = timers_in c.instants.schedule in
+    let next = timers_in c.take_instant.new.schedule in
     let taken = instances g.L.Peer.view c.take_instant.new.slots in
     let places = c.take_instant.auto.values ∙ c.instants.invariant.places in
     let u = c.in_ok-updated.updated in
     let cut = c.in_err-put_values.ensures in
     subst (λ (r : Result Ending Break). Follows system bound plan olds taken before (g.O.Sink.view c.put_values.new.out) c.put_values.new.instants r) (sym (err_is _ _ c.from_residual-in_err-put_values.ensures.1))
-    (cut_there system bound plan olds before c.requires.shapes t n c.instants.values mids taken _ _ c.instants.invariant.here c.instants.invariant.places values places u c.in_ok-updated.ensures.takes _ _ _ cut.write cut.cut cut.uncounted)
+    (cut_there system bound plan olds before c.requires.shapes t n c.instants.values timers mids taken _ _ c.instants.invariant.here c.instants.invariant.places values places next u c.in_ok-updated.ensures.takes _ _ _ cut.write cut.cut cut.uncounted)
 
 pub returns-then-updated : goal.returns-then-updated
 returns-then-updated g c =
@@ -124,11 +135,13 @@ returns-then-updated g c =
     let n = c.instants.n in
     let mids = instances g.L.Peer.view c.instants.slots in
     let values = c.take_instant.new.values in
+    let timers = timers_in c.instants.schedule in
+    let next = timers_in c.take_instant.new.schedule in
     let taken = instances g.L.Peer.view c.take_instant.new.slots in
     let places = c.take_instant.auto.values ∙ c.instants.invariant.places in
     let u = c.in_ok-updated.updated in
-    let there = shown system bound plan olds before c.requires.shapes t n c.instants.values mids taken _ _ c.instants.invariant.here c.instants.invariant.places values places u c.in_ok-updated.ensures.takes _ _ c.in_ok-put_values.ensures.put c.in_ok-put_values.ensures.counted in
-    ends_there system bound plan olds before c.requires.shapes t n values u taken _ _ there c.if-updated.true
+    let there = shown system bound plan olds before c.requires.shapes t n c.instants.values timers mids taken _ _ c.instants.invariant.here c.instants.invariant.places values places next u c.in_ok-updated.ensures.takes _ _ c.in_ok-put_values.ensures.put c.in_ok-put_values.ensures.counted in
+    ends_there system bound plan olds before c.requires.shapes t n values next u taken _ _ there c.if-updated.true
 
 pub returns-then-n-plan : goal.returns-then-n-plan
 returns-then-n-plan g c =
@@ -141,11 +154,13 @@ returns-then-n-plan g c =
     let n = c.instants.n in
     let mids = instances g.L.Peer.view c.instants.slots in
     let values = c.take_instant.new.values in
+    let timers = timers_in c.instants.schedule in
+    let next = timers_in c.take_instant.new.schedule in
     let taken = instances g.L.Peer.view c.take_instant.new.slots in
     let places = c.take_instant.auto.values ∙ c.instants.invariant.places in
     let u = c.in_ok-updated.updated in
-    let there = shown system bound plan olds before c.requires.shapes t n c.instants.values mids taken _ _ c.instants.invariant.here c.instants.invariant.places values places u c.in_ok-updated.ensures.takes _ _ c.in_ok-put_values.ensures.put c.in_ok-put_values.ensures.counted in
-    limited_there system bound plan olds before c.requires.shapes t n values u taken _ _ there c.if-updated.false c.if-updated-2.true (reached n plan.limit c.if-n-plan.true)
+    let there = shown system bound plan olds before c.requires.shapes t n c.instants.values timers mids taken _ _ c.instants.invariant.here c.instants.invariant.places values places next u c.in_ok-updated.ensures.takes _ _ c.in_ok-put_values.ensures.put c.in_ok-put_values.ensures.counted in
+    limited_there system bound plan olds before c.requires.shapes t n values next u taken _ _ there c.if-updated.false c.if-updated-2.true (reached n plan.limit c.if-n-plan.true)
 
 pub instants-preserved-then-updated-2 : goal.instants-preserved-then-updated-2
 instants-preserved-then-updated-2 g c =
@@ -158,10 +173,12 @@ instants-preserved-then-updated-2 g c =
     let n = c.instants.n in
     let mids = instances g.L.Peer.view c.instants.slots in
     let values = c.take_instant.new.values in
+    let timers = timers_in c.instants.schedule in
+    let next = timers_in c.take_instant.new.schedule in
     let taken = instances g.L.Peer.view c.take_instant.new.slots in
     let places = c.take_instant.auto.values ∙ c.instants.invariant.places in
     let u = c.in_ok-updated.updated in
-    let there = shown system bound plan olds before c.requires.shapes t n c.instants.values mids taken _ _ c.instants.invariant.here c.instants.invariant.places values places u c.in_ok-updated.ensures.takes _ _ c.in_ok-put_values.ensures.put c.in_ok-put_values.ensures.counted in
+    let there = shown system bound plan olds before c.requires.shapes t n c.instants.values timers mids taken _ _ c.instants.invariant.here c.instants.invariant.places values places next u c.in_ok-updated.ensures.takes _ _ c.in_ok-put_values.ensures.put c.in_ok-put_values.ensures.counted in
     let counted = c.in_ok-put_values.ensures.counted in
     let few = c.instants.invariant.few in
     let below = c.instants.invariant.below in
@@ -169,13 +186,15 @@ instants-preserved-then-updated-2 g c =
     record {
       live = c.in_ok-updated.ensures.live;
       at = c.in_ok-updated.ensures.at plan.stop plan.step c.instants.invariant.at;
-      here = here_again system bound plan olds before c.requires.shapes t n values u taken _ _ there c.if-updated.false c.if-updated-2.true _ (omega arith) (more_left n plan.limit c.if-n-plan.false);
+      here = here_again system bound plan olds before c.requires.shapes t n values next u taken _ _ there c.if-updated.false c.if-updated-2.true _ (omega arith) (more_left n plan.limit c.if-n-plan.false);
       few = omega (arith, counted, few);
       below = omega (arith, below, unequal);
       begun = c.instants.invariant.begun;
       within = c.instants.invariant.within;
       places = places;
       fitting = c.take_instant.ensures.fitting;
+      table = c.take_instant.ensures.table;
+      stands = subst (λ (b : Bool). StandsAt system t b c.take_instant.new.schedule) (sym (never_first _ n (omega arith))) c.in_ok-updated.ensures.stands;
     }
 
 pub returns-then-t-plan : goal.returns-then-t-plan
@@ -189,11 +208,13 @@ returns-then-t-plan g c =
     let n = c.instants.n in
     let mids = instances g.L.Peer.view c.instants.slots in
     let values = c.take_instant.new.values in
+    let timers = timers_in c.instants.schedule in
+    let next = timers_in c.take_instant.new.schedule in
     let taken = instances g.L.Peer.view c.take_instant.new.slots in
     let places = c.take_instant.auto.values ∙ c.instants.invariant.places in
     let u = c.in_ok-updated.updated in
-    let there = shown system bound plan olds before c.requires.shapes t n c.instants.values mids taken _ _ c.instants.invariant.here c.instants.invariant.places values places u c.in_ok-updated.ensures.takes _ _ c.in_ok-put_values.ensures.put c.in_ok-put_values.ensures.counted in
-    stops_there system bound plan olds before c.requires.shapes t n values u taken _ _ there c.if-updated.false c.if-updated-2.false c.if-t-plan.true
+    let there = shown system bound plan olds before c.requires.shapes t n c.instants.values timers mids taken _ _ c.instants.invariant.here c.instants.invariant.places values places next u c.in_ok-updated.ensures.takes _ _ c.in_ok-put_values.ensures.put c.in_ok-put_values.ensures.counted in
+    stops_there system bound plan olds before c.requires.shapes t n values next u taken _ _ there c.if-updated.false c.if-updated-2.false c.if-t-plan.true
 
 pub first_unfit-requires : goal.first_unfit-requires
 first_unfit-requires g c =
@@ -211,13 +232,37 @@ returns-in-Some g c =
     let n = c.instants.n in
     let mids = instances g.L.Peer.view c.instants.slots in
     let values = c.take_instant.new.values in
+    let timers = timers_in c.instants.schedule in
+    let next = timers_in c.take_instant.new.schedule in
     let taken = instances g.L.Peer.view c.take_instant.new.slots in
     let places = c.take_instant.auto.values ∙ c.instants.invariant.places in
     let u = c.in_ok-updated.updated in
     let e = c.next_bound-to.result in
     let earlier : t < plan.stop = omega (arith, c.if-t-plan.false, c.instants.invariant.within) in
-    let there = shown system bound plan olds before c.requires.shapes t n c.instants.values mids taken _ _ c.instants.invariant.here c.instants.invariant.places values places u c.in_ok-updated.ensures.takes _ _ c.in_ok-put_values.ensures.put c.in_ok-put_values.ensures.counted in
-    unfit_there system bound plan olds before c.requires.shapes t n values u taken _ _ there c.if-updated.false c.if-updated-2.false c.in-Some.component e (record { before_stop = earlier; bound = c.next_bound-to.ensures }) (sym c.in-Some.ensures)
+    let there = shown system bound plan olds before c.requires.shapes t n c.instants.values timers mids taken _ _ c.instants.invariant.here c.instants.invariant.places values places next u c.in_ok-updated.ensures.takes _ _ c.in_ok-put_values.ensures.put c.in_ok-put_values.ensures.counted in
+    unfit_there system bound plan olds before c.requires.shapes t n values next u taken _ _ there c.if-updated.false c.if-updated-2.false c.in-Some.component e (record { before_stop = earlier; bound = c.next_bound-to.ensures }) (sym c.in-Some.ensures)
+
+pub next_bound-to-requires-clause-next : goal.next_bound-to-requires-clause-next
+next_bound-to-requires-clause-next g c = c.in_ok-updated.ensures.stands.next
+
+pub next_bound-to-requires-clause-done : goal.next_bound-to-requires-clause-done
+next_bound-to-requires-clause-done g c =
+    let system = c.args.system.now in
+    let bound = c.args.bound.now in
+    let plan = c.args.plan.now in
+    let olds = instances g.L.Peer.view c.args.slots.now in
+    let before = g.O.Sink.view c.args.out.now in
+    let t = c.instants.t in
+    let n = c.instants.n in
+    let mids = instances g.L.Peer.view c.instants.slots in
+    let values = c.take_instant.new.values in
+    let timers = timers_in c.instants.schedule in
+    let next = timers_in c.take_instant.new.schedule in
+    let taken = instances g.L.Peer.view c.take_instant.new.slots in
+    let places = c.take_instant.auto.values ∙ c.instants.invariant.places in
+    let u = c.in_ok-updated.updated in
+    let there = shown system bound plan olds before c.requires.shapes t n c.instants.values timers mids taken _ _ c.instants.invariant.here c.instants.invariant.places values places next u c.in_ok-updated.ensures.takes _ _ c.in_ok-put_values.ensures.put c.in_ok-put_values.ensures.counted in
+    unarmed system bound plan olds before c.requires.shapes t n values next u taken _ _ there c.if-updated.false c.if-updated-2.false
 
 pub enter_step-requires-clause-permitted : goal.enter_step-requires-clause-permitted
 enter_step-requires-clause-permitted g c κs lives =
@@ -237,16 +282,18 @@ returns-in_err-enter_step g c =
     let n = c.instants.n in
     let mids = instances g.L.Peer.view c.instants.slots in
     let values = c.take_instant.new.values in
+    let timers = timers_in c.instants.schedule in
+    let next = timers_in c.take_instant.new.schedule in
     let taken = instances g.L.Peer.view c.take_instant.new.slots in
     let places = c.take_instant.auto.values ∙ c.instants.invariant.places in
     let u = c.in_ok-updated.updated in
     let e = c.next_bound-to.result in
     let earlier : t < plan.stop = omega (arith, c.if-t-plan.false, c.instants.invariant.within) in
-    let step : IsStep system plan t e = record { bound = record { before_stop = earlier; bound = c.next_bound-to.ensures }; fit = sym c.in_default.ensures } in
-    let there = shown system bound plan olds before c.requires.shapes t n c.instants.values mids taken _ _ c.instants.invariant.here c.instants.invariant.places values places u c.in_ok-updated.ensures.takes _ _ c.in_ok-put_values.ensures.put c.in_ok-put_values.ensures.counted in
+    let step : IsStep system plan next t e = record { bound = record { before_stop = earlier; bound = c.next_bound-to.ensures }; fit = sym c.in_default.ensures } in
+    let there = shown system bound plan olds before c.requires.shapes t n c.instants.values timers mids taken _ _ c.instants.invariant.here c.instants.invariant.places values places next u c.in_ok-updated.ensures.takes _ _ c.in_ok-put_values.ensures.put c.in_ok-put_values.ensures.counted in
     let entered = instances g.L.Peer.view c.enter_step.new.slots in
     subst (λ (r : Result Ending Break). Follows system bound plan olds entered before (g.O.Sink.view c.put_values.new.out) c.put_values.new.instants r) (sym (err_is _ _ c.from_residual-in_err-enter_step.ensures.1))
-    (leaves_badly system bound plan olds before c.requires.shapes t n values u taken _ _ there c.if-updated.false c.if-updated-2.false entered e step _ c.in_err-enter_step.ensures.switches)
+    (leaves_badly system bound plan olds before c.requires.shapes t n values next u taken _ _ there c.if-updated.false c.if-updated-2.false entered e step _ c.in_err-enter_step.ensures.switches)
 
 pub set_at-requires-clause-shapes : goal.set_at-requires-clause-shapes
 set_at-requires-clause-shapes g c κs lives =
@@ -272,18 +319,20 @@ returns-in_err-set_at g c =
     let n = c.instants.n in
     let mids = instances g.L.Peer.view c.instants.slots in
     let values = c.take_instant.new.values in
+    let timers = timers_in c.instants.schedule in
+    let next = timers_in c.take_instant.new.schedule in
     let taken = instances g.L.Peer.view c.take_instant.new.slots in
     let places = c.take_instant.auto.values ∙ c.instants.invariant.places in
     let u = c.in_ok-updated.updated in
     let e = c.next_bound-to.result in
     let earlier : t < plan.stop = omega (arith, c.if-t-plan.false, c.instants.invariant.within) in
-    let step : IsStep system plan t e = record { bound = record { before_stop = earlier; bound = c.next_bound-to.ensures }; fit = sym c.in_default.ensures } in
-    let there = shown system bound plan olds before c.requires.shapes t n c.instants.values mids taken _ _ c.instants.invariant.here c.instants.invariant.places values places u c.in_ok-updated.ensures.takes _ _ c.in_ok-put_values.ensures.put c.in_ok-put_values.ensures.counted in
+    let step : IsStep system plan next t e = record { bound = record { before_stop = earlier; bound = c.next_bound-to.ensures }; fit = sym c.in_default.ensures } in
+    let there = shown system bound plan olds before c.requires.shapes t n c.instants.values timers mids taken _ _ c.instants.invariant.here c.instants.invariant.places values places next u c.in_ok-updated.ensures.takes _ _ c.in_ok-put_values.ensures.put c.in_ok-put_values.ensures.counted in
     let entered = instances g.L.Peer.view c.enter_step.new.slots in
-    let gone = left system bound plan olds before c.requires.shapes t n values u taken _ _ there c.if-updated.false c.if-updated-2.false entered e step c.in_ok-enter_step.ensures.switches in
+    let gone = left system bound plan olds before c.requires.shapes t n values next u taken _ _ there c.if-updated.false c.if-updated-2.false entered e step c.in_ok-enter_step.ensures.switches in
     let set = instances g.L.Peer.view c.set_at.new.slots in
     subst (λ (r : Result Ending Break). Follows system bound plan olds set before (g.O.Sink.view c.put_values.new.out) c.put_values.new.instants r) (sym (err_is _ _ c.from_residual-in_err-set_at.ensures.1))
-    (sets_badly system bound plan olds before c.requires.shapes t e values entered _ _ gone set _ c.in_err-set_at.ensures.sets)
+    (sets_badly system bound plan olds before c.requires.shapes t e values next entered _ _ gone set _ c.in_err-set_at.ensures.sets)
 
 pub step_at-requires-clause-permitted : goal.step_at-requires-clause-permitted
 step_at-requires-clause-permitted g c κs lives =
@@ -310,20 +359,22 @@ returns-in_err-is_asked g c =
     let n = c.instants.n in
     let mids = instances g.L.Peer.view c.instants.slots in
     let values = c.take_instant.new.values in
+    let timers = timers_in c.instants.schedule in
+    let next = timers_in c.take_instant.new.schedule in
     let taken = instances g.L.Peer.view c.take_instant.new.slots in
     let places = c.take_instant.auto.values ∙ c.instants.invariant.places in
     let u = c.in_ok-updated.updated in
     let e = c.next_bound-to.result in
     let earlier : t < plan.stop = omega (arith, c.if-t-plan.false, c.instants.invariant.within) in
-    let step : IsStep system plan t e = record { bound = record { before_stop = earlier; bound = c.next_bound-to.ensures }; fit = sym c.in_default.ensures } in
-    let there = shown system bound plan olds before c.requires.shapes t n c.instants.values mids taken _ _ c.instants.invariant.here c.instants.invariant.places values places u c.in_ok-updated.ensures.takes _ _ c.in_ok-put_values.ensures.put c.in_ok-put_values.ensures.counted in
+    let step : IsStep system plan next t e = record { bound = record { before_stop = earlier; bound = c.next_bound-to.ensures }; fit = sym c.in_default.ensures } in
+    let there = shown system bound plan olds before c.requires.shapes t n c.instants.values timers mids taken _ _ c.instants.invariant.here c.instants.invariant.places values places next u c.in_ok-updated.ensures.takes _ _ c.in_ok-put_values.ensures.put c.in_ok-put_values.ensures.counted in
     let entered = instances g.L.Peer.view c.enter_step.new.slots in
-    let gone = left system bound plan olds before c.requires.shapes t n values u taken _ _ there c.if-updated.false c.if-updated-2.false entered e step c.in_ok-enter_step.ensures.switches in
+    let gone = left system bound plan olds before c.requires.shapes t n values next u taken _ _ there c.if-updated.false c.if-updated-2.false entered e step c.in_ok-enter_step.ensures.switches in
     let set = instances g.L.Peer.view c.set_at.new.slots in
-    let ready = departed system bound plan olds before c.requires.shapes t e values entered _ _ gone set c.in_ok-set_at.ensures.sets in
+    let ready = departed system bound plan olds before c.requires.shapes t e values next entered _ _ gone set c.in_ok-set_at.ensures.sets in
     let stepped = instances g.L.Peer.view c.step_at.new.slots in
     subst (λ (r : Result Ending Break). Follows system bound plan olds stepped before (g.O.Sink.view c.put_values.new.out) c.put_values.new.instants r) (sym (err_is _ _ c.from_residual-in_err-is_asked.ensures.1))
-    (steps_badly system bound plan olds before c.requires.shapes t e values set _ _ ready stepped _ c.in_err-is_asked.ensures.steps)
+    (steps_badly system bound plan olds before c.requires.shapes t e values next set _ _ ready stepped _ c.in_err-is_asked.ensures.steps)
 
 pub returns-then-is_asked : goal.returns-then-is_asked
 returns-then-is_asked g c =
@@ -336,20 +387,22 @@ returns-then-is_asked g c =
     let n = c.instants.n in
     let mids = instances g.L.Peer.view c.instants.slots in
     let values = c.take_instant.new.values in
+    let timers = timers_in c.instants.schedule in
+    let next = timers_in c.take_instant.new.schedule in
     let taken = instances g.L.Peer.view c.take_instant.new.slots in
     let places = c.take_instant.auto.values ∙ c.instants.invariant.places in
     let u = c.in_ok-updated.updated in
     let e = c.next_bound-to.result in
     let earlier : t < plan.stop = omega (arith, c.if-t-plan.false, c.instants.invariant.within) in
-    let step : IsStep system plan t e = record { bound = record { before_stop = earlier; bound = c.next_bound-to.ensures }; fit = sym c.in_default.ensures } in
-    let there = shown system bound plan olds before c.requires.shapes t n c.instants.values mids taken _ _ c.instants.invariant.here c.instants.invariant.places values places u c.in_ok-updated.ensures.takes _ _ c.in_ok-put_values.ensures.put c.in_ok-put_values.ensures.counted in
+    let step : IsStep system plan next t e = record { bound = record { before_stop = earlier; bound = c.next_bound-to.ensures }; fit = sym c.in_default.ensures } in
+    let there = shown system bound plan olds before c.requires.shapes t n c.instants.values timers mids taken _ _ c.instants.invariant.here c.instants.invariant.places values places next u c.in_ok-updated.ensures.takes _ _ c.in_ok-put_values.ensures.put c.in_ok-put_values.ensures.counted in
     let entered = instances g.L.Peer.view c.enter_step.new.slots in
-    let gone = left system bound plan olds before c.requires.shapes t n values u taken _ _ there c.if-updated.false c.if-updated-2.false entered e step c.in_ok-enter_step.ensures.switches in
+    let gone = left system bound plan olds before c.requires.shapes t n values next u taken _ _ there c.if-updated.false c.if-updated-2.false entered e step c.in_ok-enter_step.ensures.switches in
     let set = instances g.L.Peer.view c.set_at.new.slots in
-    let ready = departed system bound plan olds before c.requires.shapes t e values entered _ _ gone set c.in_ok-set_at.ensures.sets in
+    let ready = departed system bound plan olds before c.requires.shapes t e values next entered _ _ gone set c.in_ok-set_at.ensures.sets in
     let stepped = instances g.L.Peer.view c.step_at.new.slots in
-    let come = λ (asked : Bool) (is : c.in_ok-is_asked.is_asked ≡ asked). arrived system bound plan olds before c.requires.shapes t e values set _ _ ready stepped asked (subst (λ (b : Bool). StepsAt t (e - t) set stepped (Ok b)) is c.in_ok-is_asked.ensures.steps) in
-    asked_there system bound plan olds before c.requires.shapes t e values stepped _ _ (come true c.if-is_asked.true)
+    let come = λ (asked : Bool) (is : c.in_ok-is_asked.is_asked ≡ asked). arrived system bound plan olds before c.requires.shapes t e values next set _ _ ready stepped asked (subst (λ (b : Bool). StepsAt t (e - t) set stepped (Ok b)) is c.in_ok-is_asked.ensures.steps) in
+    asked_there system bound plan olds before c.requires.shapes t e values next stepped _ _ (come true c.if-is_asked.true)
 
 pub enter_event-requires-clause-permitted : goal.enter_event-requires-clause-permitted
 enter_event-requires-clause-permitted g c κs lives =
@@ -376,22 +429,24 @@ returns-in_err-enter_event g c =
     let n = c.instants.n in
     let mids = instances g.L.Peer.view c.instants.slots in
     let values = c.take_instant.new.values in
+    let timers = timers_in c.instants.schedule in
+    let next = timers_in c.take_instant.new.schedule in
     let taken = instances g.L.Peer.view c.take_instant.new.slots in
     let places = c.take_instant.auto.values ∙ c.instants.invariant.places in
     let u = c.in_ok-updated.updated in
     let e = c.next_bound-to.result in
     let earlier : t < plan.stop = omega (arith, c.if-t-plan.false, c.instants.invariant.within) in
-    let step : IsStep system plan t e = record { bound = record { before_stop = earlier; bound = c.next_bound-to.ensures }; fit = sym c.in_default.ensures } in
-    let there = shown system bound plan olds before c.requires.shapes t n c.instants.values mids taken _ _ c.instants.invariant.here c.instants.invariant.places values places u c.in_ok-updated.ensures.takes _ _ c.in_ok-put_values.ensures.put c.in_ok-put_values.ensures.counted in
+    let step : IsStep system plan next t e = record { bound = record { before_stop = earlier; bound = c.next_bound-to.ensures }; fit = sym c.in_default.ensures } in
+    let there = shown system bound plan olds before c.requires.shapes t n c.instants.values timers mids taken _ _ c.instants.invariant.here c.instants.invariant.places values places next u c.in_ok-updated.ensures.takes _ _ c.in_ok-put_values.ensures.put c.in_ok-put_values.ensures.counted in
     let entered = instances g.L.Peer.view c.enter_step.new.slots in
-    let gone = left system bound plan olds before c.requires.shapes t n values u taken _ _ there c.if-updated.false c.if-updated-2.false entered e step c.in_ok-enter_step.ensures.switches in
+    let gone = left system bound plan olds before c.requires.shapes t n values next u taken _ _ there c.if-updated.false c.if-updated-2.false entered e step c.in_ok-enter_step.ensures.switches in
     let set = instances g.L.Peer.view c.set_at.new.slots in
-    let ready = departed system bound plan olds before c.requires.shapes t e values entered _ _ gone set c.in_ok-set_at.ensures.sets in
+    let ready = departed system bound plan olds before c.requires.shapes t e values next entered _ _ gone set c.in_ok-set_at.ensures.sets in
     let stepped = instances g.L.Peer.view c.step_at.new.slots in
-    let come = λ (asked : Bool) (is : c.in_ok-is_asked.is_asked ≡ asked). arrived system bound plan olds before c.requires.shapes t e values set _ _ ready stepped asked (subst (λ (b : Bool). StepsAt t (e - t) set stepped (Ok b)) is c.in_ok-is_asked.ensures.steps) in
+    let come = λ (asked : Bool) (is : c.in_ok-is_asked.is_asked ≡ asked). arrived system bound plan olds before c.requires.shapes t e values next set _ _ ready stepped asked (subst (λ (b : Bool). StepsAt t (e - t) set stepped (Ok b)) is c.in_ok-is_asked.ensures.steps) in
     let news = instances g.L.Peer.view c.enter_event.new.slots in
     subst (λ (r : Result Ending Break). Follows system bound plan olds news before (g.O.Sink.view c.put_values.new.out) c.put_values.new.instants r) (sym (err_is _ _ c.from_residual-in_err-enter_event.ensures.1))
-    (enters_badly system bound plan olds before c.requires.shapes t e values stepped _ _ (come false c.if-is_asked.false) news _ c.in_err-enter_event.ensures.switches)
+    (enters_badly system bound plan olds before c.requires.shapes t e values next stepped _ _ (come false c.if-is_asked.false) news _ c.in_err-enter_event.ensures.switches)
 
 pub instants-preserved : goal.instants-preserved
 instants-preserved g c =
@@ -404,19 +459,21 @@ instants-preserved g c =
     let n = c.instants.n in
     let mids = instances g.L.Peer.view c.instants.slots in
     let values = c.take_instant.new.values in
+    let timers = timers_in c.instants.schedule in
+    let next = timers_in c.take_instant.new.schedule in
     let taken = instances g.L.Peer.view c.take_instant.new.slots in
     let places = c.take_instant.auto.values ∙ c.instants.invariant.places in
     let u = c.in_ok-updated.updated in
     let e = c.next_bound-to.result in
     let earlier : t < plan.stop = omega (arith, c.if-t-plan.false, c.instants.invariant.within) in
-    let step : IsStep system plan t e = record { bound = record { before_stop = earlier; bound = c.next_bound-to.ensures }; fit = sym c.in_default.ensures } in
-    let there = shown system bound plan olds before c.requires.shapes t n c.instants.values mids taken _ _ c.instants.invariant.here c.instants.invariant.places values places u c.in_ok-updated.ensures.takes _ _ c.in_ok-put_values.ensures.put c.in_ok-put_values.ensures.counted in
+    let step : IsStep system plan next t e = record { bound = record { before_stop = earlier; bound = c.next_bound-to.ensures }; fit = sym c.in_default.ensures } in
+    let there = shown system bound plan olds before c.requires.shapes t n c.instants.values timers mids taken _ _ c.instants.invariant.here c.instants.invariant.places values places next u c.in_ok-updated.ensures.takes _ _ c.in_ok-put_values.ensures.put c.in_ok-put_values.ensures.counted in
     let entered = instances g.L.Peer.view c.enter_step.new.slots in
-    let gone = left system bound plan olds before c.requires.shapes t n values u taken _ _ there c.if-updated.false c.if-updated-2.false entered e step c.in_ok-enter_step.ensures.switches in
+    let gone = left system bound plan olds before c.requires.shapes t n values next u taken _ _ there c.if-updated.false c.if-updated-2.false entered e step c.in_ok-enter_step.ensures.switches in
     let set = instances g.L.Peer.view c.set_at.new.slots in
-    let ready = departed system bound plan olds before c.requires.shapes t e values entered _ _ gone set c.in_ok-set_at.ensures.sets in
+    let ready = departed system bound plan olds before c.requires.shapes t e values next entered _ _ gone set c.in_ok-set_at.ensures.sets in
     let stepped = instances g.L.Peer.view c.step_at.new.slots in
-    let come = λ (asked : Bool) (is : c.in_ok-is_asked.is_asked ≡ asked). arrived system bound plan olds before c.requires.shapes t e values set _ _ ready stepped asked (subst (λ (b : Bool). StepsAt t (e - t) set stepped (Ok b)) is c.in_ok-is_asked.ensures.steps) in
+    let come = λ (asked : Bool) (is : c.in_ok-is_asked.is_asked ≡ asked). arrived system bound plan olds before c.requires.shapes t e values next set _ _ ready stepped asked (subst (λ (b : Bool). StepsAt t (e - t) set stepped (Ok b)) is c.in_ok-is_asked.ensures.steps) in
     let settled = c.in_ok-updated.ensures.settled c.if-updated-2.false plan.stop plan.step c.instants.invariant.at in
     let stepping = c.in_ok-enter_step.ensures.stepping plan.stop plan.step settled in
     let leaving = c.in_ok-set_at.ensures.departing plan.stop plan.step stepping in
@@ -434,11 +491,15 @@ instants-preserved g c =
     record {
       live = c.in_ok-enter_event.ensures.live;
       at = c.in_ok-enter_event.ensures.at plan.stop plan.step behind;
-      here = here_on system bound plan olds before c.requires.shapes t e values stepped _ _ (come false c.if-is_asked.false) news c.in_ok-enter_event.ensures.switches;
+      here = here_on system bound plan olds before c.requires.shapes t e values next stepped _ _ (come false c.if-is_asked.false) news c.in_ok-enter_event.ensures.switches;
       few = omega (arith, later, counted, few, below, limit);
       below = c.requires.plan.limit_above;
       begun = omega (arith, later, begun);
       within = most;
       places = places;
       fitting = c.take_instant.ensures.fitting;
+      table = c.take_instant.ensures.table;
+      stands = stands_behind system plan c.take_instant.new.schedule t e c.in_ok-updated.ensures.stands
+          (unarmed system bound plan olds before c.requires.shapes t n values next u taken _ _ there c.if-updated.false c.if-updated-2.false)
+          c.take_instant.ensures.table.0 c.take_instant.ensures.table.1 earlier c.next_bound-to.ensures;
     }

@@ -2,7 +2,8 @@ use Rattle.fmu_peer.specs.CloseAll.{instance_in}
 use Rattle.event_iteration.specs.Explains.{Walks}
 use Rattle.event_iteration.specs.Settings.{before_step, port_order}
 use Rattle.slot_calls.specs.Slots.{instances}
-use Rattle.calling_sequence.proofs.Courses.{fits_on, on_point, says_at}
+use Rattle.calling_sequence.proofs.Chains.{fits_on}
+use Rattle.calling_sequence.proofs.Courses.{on_point, says_at}
 use Rattle.calling_sequence.proofs.Stands.{departing}
 use Rattle.calling_sequence.proofs.run.set_at.Goals as goal
 

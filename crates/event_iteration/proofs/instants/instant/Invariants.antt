@@ -3,6 +3,7 @@ use Rattle.std.specs.Prelude.{All}
 use Rattle.system_model.specs.Ports.{numbers}
 use Rattle.slot_calls.specs.Log.{Sent, Told}
 use Rattle.slot_calls.specs.Slots.{LiveSlot, instances}
+use Rattle.event_iteration.specs.Clocks.{is_due_at}
 use Rattle.event_iteration.specs.Instants.{in_instant}
 use Rattle.event_iteration.specs.Turns.{Walked}
 use Rattle.event_iteration.proofs.instants.instant.Given as goal
@@ -14,5 +15,8 @@ invariant-loop-k g l =
       live : All (LiveSlot view) l.slots;
       log : List Sent;
       told : Told log (instances view l.fn.slots) (instances view l.slots);
-      walked : Walked l.system (in_instant l.is_first) l.fn.values (take l.k (numbers l.system.instant_order)) l.values log;
+      walked : Walked l.system (in_instant (is_due_at l.schedule l.t) l.is_first) l.fn.values (take l.k (numbers l.system.instant_order)) l.values log;
     }
+
+abbrev pub ghosts-is_due : goal.ghosts-is_due
+ghosts-is_due g a = record { name = a.blank.name; parts = a.blank.parts }

@@ -15,7 +15,7 @@ ask_if-requires-clause-may g c κs lives =
     let there = component_at system c.args.p port c.requires.there is in
     let within : port.component.0 < length c.args.slots.now = (let m = slots_many (λ s. instance_in g.L.Peer.view s) system c.args.slots.now c.requires.shapes in let w = there.within in omega (arith, m, w)) in
     subst (λ call. MayAsk call (instance_in g.L.Peer.view (get_or c.args.slots.now port.component.0 c.index-slots-port.result)).view)
-    (sym (c.call_of-call.ensures ∙ ap (λ b. asks_in_instant port.role port b c.args.is_first c.args.values.now) (c.has_event_mode-has_event_mode.ensures there.component there.is)))
+    (sym (c.call_of-call.ensures ∙ ap (λ b. asks_in_instant port.role port b c.args.is_first c.args.ticks c.args.values.now) (c.has_event_mode-has_event_mode.ensures there.component there.is)))
     (c.requires.may port there.component _ is there.is (instance_at (λ s. instance_in g.L.Peer.view s) c.args.slots.now port.component.0 c.index-slots-port.result within))
 
 pub returns-in-Ok-clause-live : goal.returns-in-Ok-clause-live
@@ -28,9 +28,9 @@ returns-in-Ok-clause-turn g c =
     let is = port_at _ system.ports c.args.p port c.as_slice.ensures c.index-as_slice-p.is c.requires.port in
     let there = component_at system c.args.p port c.requires.there is in
     let within : port.component.0 < length c.args.slots.now = (let m = slots_many (λ s. instance_in g.L.Peer.view s) system c.args.slots.now c.requires.shapes in let w = there.within in omega (arith, m, w)) in
-    took (λ s. instance_in g.L.Peer.view s) system (in_instant c.args.is_first) c.args.p port there.component c.args.slots.now c.index-slots-port.result c.ask_if.new.slot c.args.values.now is there.is within
+    took (λ s. instance_in g.L.Peer.view s) system (in_instant (λ q. c.args.ticks) c.args.is_first) c.args.p port there.component c.args.slots.now c.index-slots-port.result c.ask_if.new.slot c.args.values.now is there.is within
     (shape_in_slot (λ s. instance_in g.L.Peer.view s) system c.args.slots.now port.component.0 c.index-slots-port.result there.component c.requires.shapes within there.is)
-    c.call_of-call.result (c.call_of-call.ensures ∙ ap (λ b. asks_in_instant port.role port b c.args.is_first c.args.values.now) (c.has_event_mode-has_event_mode.ensures there.component there.is)) c.in-Ok.reply c.in-Ok.ensures.asks c.value_of.result c.value_of.ensures
+    c.call_of-call.result (c.call_of-call.ensures ∙ ap (λ b. asks_in_instant port.role port b c.args.is_first c.args.ticks c.args.values.now) (c.has_event_mode-has_event_mode.ensures there.component there.is)) c.in-Ok.reply c.in-Ok.ensures.asks c.value_of.result c.value_of.ensures
 
 pub returns-in-Err-clause-turn : goal.returns-in-Err-clause-turn
 returns-in-Err-clause-turn g c =
@@ -39,6 +39,6 @@ returns-in-Err-clause-turn g c =
     let is = port_at _ system.ports c.args.p port c.as_slice.ensures c.index-as_slice-p.is c.requires.port in
     let there = component_at system c.args.p port c.requires.there is in
     let within : port.component.0 < length c.args.slots.now = (let m = slots_many (λ s. instance_in g.L.Peer.view s) system c.args.slots.now c.requires.shapes in let w = there.within in omega (arith, m, w)) in
-    stopped (λ s. instance_in g.L.Peer.view s) system (in_instant c.args.is_first) c.args.p port there.component c.args.slots.now c.index-slots-port.result c.ask_if.new.slot c.args.values.now is there.is within
+    stopped (λ s. instance_in g.L.Peer.view s) system (in_instant (λ q. c.args.ticks) c.args.is_first) c.args.p port there.component c.args.slots.now c.index-slots-port.result c.ask_if.new.slot c.args.values.now is there.is within
     (shape_in_slot (λ s. instance_in g.L.Peer.view s) system c.args.slots.now port.component.0 c.index-slots-port.result there.component c.requires.shapes within there.is)
-    c.call_of-call.result (c.call_of-call.ensures ∙ ap (λ b. asks_in_instant port.role port b c.args.is_first c.args.values.now) (c.has_event_mode-has_event_mode.ensures there.component there.is)) (record { component = port.component; why = c.in-Err.why }) refl c.in-Err.ensures.asks
+    c.call_of-call.result (c.call_of-call.ensures ∙ ap (λ b. asks_in_instant port.role port b c.args.is_first c.args.ticks c.args.values.now) (c.has_event_mode-has_event_mode.ensures there.component there.is)) (record { component = port.component; why = c.in-Err.why }) refl c.in-Err.ensures.asks

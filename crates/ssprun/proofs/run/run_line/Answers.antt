@@ -1,6 +1,10 @@
 use Rattle.std.proofs.Common.{◌≡◌, ◌≤◌, ◌^◌, ℕ, List, refl, subst, sym, ap, ◌∙◌}
-use Rattle.std.specs.Prelude.{IfSome, None, Option, Some, option_map}
-use Rattle.command_line.specs.Line.{IsWithin, RunLine, line_of, run_of}
+use Rattle.std.specs.Prelude.{All, IfSome, None, Option, Some, option_map}
+use Rattle.std.proofs.lemmas.Option.{same_Some}
+use Rattle.calling_sequence.specs.Plans.{CountsBy}
+use Rattle.system_model.specs.declared.system.Component.{Component}
+use Rattle.system_model.specs.declared.system.System.{System}
+use Rattle.command_line.specs.Line.{Check, IsWithin, Line, One, Run, RunLine, line_of, resolution_of, run_in, run_of}
 use Rattle.command_line.specs.declared.words.Options.{Options}
 use Rattle.system_files.specs.declared.subject.Subject.{Subject}
 use Rattle.system_files.specs.Loads.{EndsLoading, Loads}
@@ -19,6 +23,18 @@ within_options : (options : Option Options) → IfSome (option_map run_of option
 within_options None within = within
 within_options (Some options) within = within
 
+-- the plan of a run counts as its documents are read
+plan_counts : (line : Line) (asked : RunLine) → run_in line ≡ Some asked → resolution_of line ≡ asked.plan.resolution
+plan_counts (One asked) other is = ap (λ (a : RunLine). a.plan.resolution) (same_Some asked other is)
+plan_counts (Run asked) other is = ap (λ (a : RunLine). a.plan.resolution) (same_Some asked other is)
+plan_counts (Check asked) other is = absurd (cc)
+
+counts_options : (system : System) (line : Line) (n : ℕ) → n ≡ resolution_of line → (options : Option Options) → option_map run_of options ≡ run_in line →
+    All (λ (c : Component). c.shape.resolution ≡ n) system.components → IfSome options (λ (o : Options). CountsBy system o.plan)
+counts_options system line n is None of counts = tt
+counts_options system line n is (Some o) of counts =
+    subst (λ (m : ℕ). All (λ (c : Component). c.shape.resolution ≡ m) system.components) (is ∙ plan_counts line (run_of o) (sym of)) counts
+
 pub load-requires-clause-above : goal.load-requires-clause-above
 load-requires-clause-above g c = subst (λ (n : ℕ). 1 ≤ n) (sym c.resolution_of.ensures) (above (line_of c.args.line) c.requires)
 
@@ -28,6 +44,10 @@ load-requires-clause-within g c = subst (λ (n : ℕ). n ≤ 2 ^ 62) (sym c.reso
 pub run_loaded-requires-clause-within : goal.run_loaded-requires-clause-within
 run_loaded-requires-clause-within g c κs bounds =
     within_options c.options_of.result (subst (λ (p : Option RunLine). IfSome p (λ (asked : RunLine). IsWithin asked.plan)) (sym c.options_of.ensures) (plan_within (line_of c.args.line) c.requires))
+
+pub run_loaded-requires-clause-counts : goal.run_loaded-requires-clause-counts
+run_loaded-requires-clause-counts g c κs bounds =
+    counts_options c.in-Ok.loaded.system (line_of c.args.line) c.resolution_of.result c.resolution_of.ensures c.options_of.result c.options_of.ensures c.in-Ok.ensures.counts
 
 pub run_loaded-requires-clause-runnable : goal.run_loaded-requires-clause-runnable
 run_loaded-requires-clause-runnable g c κs bounds = can_run c.in-Ok.loaded.system c.in-Ok.ensures.sound c.in-Ok.ensures.built c.in-Ok.ensures.named

@@ -32,7 +32,7 @@ retire_each-requires-after_bounds g c κs within =
     let news = map view c.close.result.items in
     let peers = new_peers c.args.options.host.now c.args.folders.now c.args.system olds c.requires.started (length-map c.args.peers.items view ∙ c.requires.each) in
     let account = account_of c.args.system c.args.bound c.args.options.plan olds news (g.O.Sink.view c.args.out.now) (g.O.Sink.view c.run-end.new.out) (standing view c.run-end.new.self) c.run-end.result in
-    let lived : Lived account = c.lives_of_peers.ensures.run account (standing view c.in-Ok.master) (standing view c.run-end.new.self) c.requires.runnable.sound c.requires.bound peers c.in-Ok.ensures.ok c.run-end.ensures c.close.ensures refl in
+    let lived : Lived account = c.lives_of_peers.ensures.run account (standing view c.in-Ok.master) (standing view c.run-end.new.self) c.requires.runnable.sound c.requires.bound c.requires.counts peers c.in-Ok.ensures.ok c.run-end.ensures c.close.ensures refl in
     let same : length c.close.result.items ≡ length c.args.peers.items = sym (length-map c.close.result.items view) ∙ lived_news account lived ∙ sym c.requires.each in
     let room = c.requires.fewer in
     omega (arith, same, room)
@@ -44,7 +44,7 @@ ended-requires g c =
     let news = map view c.close.result.items in
     let peers = new_peers c.args.options.host.now c.args.folders.now c.args.system olds c.requires.started (length-map c.args.peers.items view ∙ c.requires.each) in
     let account = account_of c.args.system c.args.bound c.args.options.plan olds news (g.O.Sink.view c.args.out.now) (g.O.Sink.view c.run-end.new.out) (standing view c.run-end.new.self) c.run-end.result in
-    let lived : Lived account = c.lives_of_peers.ensures.run account (standing view c.in-Ok.master) (standing view c.run-end.new.self) c.requires.runnable.sound c.requires.bound peers c.in-Ok.ensures.ok c.run-end.ensures c.close.ensures refl in
+    let lived : Lived account = c.lives_of_peers.ensures.run account (standing view c.in-Ok.master) (standing view c.run-end.new.self) c.requires.runnable.sound c.requires.bound c.requires.counts peers c.in-Ok.ensures.ok c.run-end.ensures c.close.ensures refl in
     subst (λ (n : ℕ). NamesOne n c.run-end.result) (sym (ap length c.requires.names ∙ length-map c.args.system.components (λ (x : Component). x.name))) (lived_names account lived)
 
 pub retire_each-requires-in-Err-after_bounds : goal.retire_each-requires-in-Err-after_bounds
@@ -76,7 +76,7 @@ returns-in-Ok g c before known told =
     let news = map view c.close.result.items in
     let peers = new_peers c.args.options.host.now c.args.folders.now c.args.system olds c.requires.started (length-map c.args.peers.items view ∙ c.requires.each) in
     let account = account_of c.args.system c.args.bound c.args.options.plan olds news (g.O.Sink.view c.args.out.now) (g.O.Sink.view c.run-end.new.out) (standing view c.run-end.new.self) c.run-end.result in
-    let lived : Lived account = c.lives_of_peers.ensures.run account (standing view c.in-Ok.master) (standing view c.run-end.new.self) c.requires.runnable.sound c.requires.bound peers c.in-Ok.ensures.ok c.run-end.ensures c.close.ensures refl in
+    let lived : Lived account = c.lives_of_peers.ensures.run account (standing view c.in-Ok.master) (standing view c.run-end.new.self) c.requires.runnable.sound c.requires.bound c.requires.counts peers c.in-Ok.ensures.ok c.run-end.ensures c.close.ensures refl in
     let task = task_with c.args.options c.args.bound c.args.folders.now in
     let old = scene before (g.O.Sink.view c.args.out.now) in
     let new = scene (g.S.Spawner.view c.retire_each.new.spawner) (g.O.Sink.view c.run-end.new.out) in

@@ -1,15 +1,16 @@
-use Rattle.std.proofs.Common.{ℕ, List, sym, subst}
+use Rattle.std.proofs.Common.{◌≡◌, ℕ, List, sym, subst}
 use Rattle.std.specs.Prelude.{All, IfErr, IfOk, Result, Ok, Err}
 use Rattle.std.specs.List.{AllZip}
 use Rattle.ssd_tree.specs.declared.tree.ComponentPart.{ComponentPart}
 use Rattle.value_types.specs.declared.shape.Shape.{Shape}
+use Rattle.system_model.specs.declared.system.Component.{Component}
 use Rattle.flatten.specs.Given.{AreShapesOf}
 use Rattle.system_files.specs.declared.loaded.Loaded.{Loaded}
 use Rattle.system_files.specs.declared.loading.LoadEnd.{LoadEnd}
 use Rattle.system_files.specs.Loads.{IsNamed}
 use Rattle.system_files.specs.Order.{search_of}
 use Rattle.system_files.specs.Steps.{EndsModels, EndsShapes, EndsTogether, HasShapeAlone, IsLoaded, OfBindings, OfShapes, OfSystem, TakesShapes}
-use Rattle.system_files.proofs.SoundLemmas.{are_named, are_ready, are_shapes, has_parts}
+use Rattle.system_files.proofs.SoundLemmas.{are_counting, are_named, are_ready, are_shapes, has_parts}
 use Rattle.system_files.proofs.loading.load_models.Goals as goal
 
 ok_so : (r : Result Loaded LoadEnd) (P Q : Loaded → Type 0) → ((loaded : Loaded) → P loaded → Q loaded) → IfOk r P → IfOk r Q
@@ -51,6 +52,17 @@ returns-in-Ok-load_bindings-clause-named g c =
     let each = subst (AllZip (HasShapeAlone c.args.resolution c.args.directory.now old) c.args.outline.now.systems.components) (sym c.deref.ensures.value) t.each in
     ok_so c.put_together.result (IsLoaded c.args.directory.now c.args.outline.now c.deref.result.now c.in-Ok-load_bindings.given.items) (λ (loaded : Loaded). All IsNamed loaded.system.components)
     (λ loaded is. are_named c.loading_laws.ensures.token c.args.resolution c.args.directory.now old c.args.outline.now c.deref.result.now loaded.system c.requires.whole c.requires.short each is.makes.is)
+    c.put_together.ensures.ok
+
+pub returns-in-Ok-load_bindings-clause-counts : goal.returns-in-Ok-load_bindings-clause-counts
+returns-in-Ok-load_bindings-clause-counts g c =
+    let old = g.F.Folder.view c.args.folder.now in
+    let mid = g.F.Folder.view c.load_shapes.new.folder in
+    let t = subst (λ (cs : List ComponentPart). TakesShapes c.args.resolution c.args.directory.now cs c.in-Ok.shapes.items old mid) c.as_slice-components.ensures c.in-Ok.ensures.ok in
+    let each = subst (AllZip (HasShapeAlone c.args.resolution c.args.directory.now old) c.args.outline.now.systems.components) (sym c.deref.ensures.value) t.each in
+    ok_so c.put_together.result (IsLoaded c.args.directory.now c.args.outline.now c.deref.result.now c.in-Ok-load_bindings.given.items)
+    (λ (loaded : Loaded). All (λ (x : Component). x.shape.resolution ≡ c.args.resolution) loaded.system.components)
+    (λ loaded is. are_counting c.loading_laws.ensures.resolution c.args.resolution c.args.directory.now old c.args.outline.now c.deref.result.now loaded.system each is.makes.is)
     c.put_together.ensures.ok
 
 pub returns-in-Ok-load_bindings-clause-err : goal.returns-in-Ok-load_bindings-clause-err

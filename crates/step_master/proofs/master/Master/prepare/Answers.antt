@@ -41,6 +41,7 @@ returns-in-Ok-make-clause-ready g c =
         few = subst (λ n. n ≤ 2 ^ 32) (sym (same_length (λ s. instance_in view s) news c.args.system c.args.plan fits)) (components_few c.args.system c.requires.sound);
         shapes_are = fits;
       };
+      counts = c.requires.counts;
       room = c.in-Ok.ensures;
       made = record { live = c.in-Ok-make.ensures.live; made = c.in-Ok-make.ensures.made; none = refl };
     }

@@ -1,0 +1,399 @@
+-- The questions of fixed Clocks, port by port.
+use Rattle.std.proofs.Common.{◌≡◌, inl, inr, ℕ, ◌+◌, ◌<◌, ◌≤◌, ◌==◌, ℤ, true, false, List, [], ◌∷◌, ◌++◌, Option, Some, None, Result, Ok, Err, refl, sym, ap, ap₂, ◌∙◌, subst, append_assoc, append-nil, arith, length, get_or, set, map, take, drop}
+use Rattle.std.specs.Prelude.{All, option_map, slice_get, unwrap_or}
+use Rattle.std.proofs.lemmas.Bool.{cases_lt}
+use Rattle.std.proofs.lemmas.List.{length-map, length-set, map-append, take-append-drop, take_all, take_more}
+use Rattle.std.proofs.lemmas.List.Elements.{All-cons, All-head, All-nil, All-tail}
+use Rattle.std.proofs.lemmas.Option.{get_or_from_slice_get, same_Some, slice_get-map, slice_get_within}
+use Rattle.value_types.specs.declared.shape.Shape.{Shape}
+use Rattle.fmi_calls.specs.declared.call.Call.{Call}
+use Rattle.fmi_calls.specs.declared.call.Call.TheVariants as C
+use Rattle.fmi_calls.specs.declared.call.Reply.{Reply}
+use Rattle.fmu_peer.specs.declared.peer.PeerFault.{PeerFault}
+use Rattle.fmu_peer.specs.CloseAll.{Instance}
+use Rattle.fmu_peer.specs.Machine.{Machine, MachineState, after}
+use Rattle.system_model.specs.declared.system.Component.{Component}
+use Rattle.system_model.specs.declared.system.Role.{Role}
+use Rattle.system_model.specs.declared.system.Role.TheVariants.{Input, Output, ClockInput, ClockOutput, TimeClock}
+use Rattle.system_model.specs.declared.system.Timing.TheVariants.{Periodic, Answered, Countdown}
+use Rattle.system_model.specs.declared.system.Port.{Port}
+use Rattle.system_model.specs.declared.system.System.{System}
+use Rattle.system_model.proofs.Lists.{all_by_place, true_false}
+use Rattle.tick_schedule.specs.declared.clock.ClockState.{ClockState}
+use Rattle.tick_schedule.specs.declared.clock.ClockState.TheVariants as S
+use Rattle.tick_schedule.specs.Timetable.{Timetable}
+use Rattle.fmu_peer.specs.Mode.{instantiate_of}
+use Rattle.run_model.specs.Initial.{asked_timer, bound_values, configured, enter_initialization, first_states, first_timer, first_timers, initialized, initializing, instantiated, interval_in, shift_in, with_bound}
+use Rattle.run_model.specs.Inputs.{state_with}
+use Rattle.run_model.specs.Machines.{AreMachines}
+use Rattle.run_model.specs.Run.{Run, Timer, Never, Every, at_fmu}
+use Rattle.run_model.specs.Timers.{fixed}
+use Rattle.slot_calls.specs.declared.bad_answer.BadAnswer.{BadAnswer}
+use Rattle.slot_calls.specs.Log.{Asking, Sent, Told, asking_of, askings, part}
+use Rattle.slot_calls.specs.Replies.{RepliesBy}
+use Rattle.slot_calls.specs.Stage.{IsAnswered, IsGoodOf, Stage, StopsAt, shapes, shapes_of}
+use Rattle.slot_calls.proofs.Answered.{answered_none, answered_on, shapes_same, stops_front, stops_on}
+use Rattle.slot_calls.proofs.Logs.{told_none, told_on}
+use Rattle.slot_calls.proofs.Parts.{same, sent_all, takes}
+use Rattle.slot_calls.proofs.Replying.{replied_good}
+use Rattle.event_iteration.specs.Clocks.{IsNextFrom, StandsAt, first_place, first_table, timer_in, timers_in}
+use Rattle.event_iteration.specs.Intervals.{Fixes, FixesForMachines, first_told_by, first_told_in, log_behind, timing_calls, timing_calls_in, timing_calls_of, told_timer}
+use Rattle.event_iteration.specs.Machines.{AreAt}
+use Rattle.event_iteration.specs.Questions.{FixSays, FixesPort, IsEntered, IsFirstPlace, IsFixed, IsFixedUpTo, first_reply, is_asked, modes}
+use Rattle.event_iteration.proofs.Answering.{one_answer}
+use Rattle.event_iteration.proofs.Fmus.{are_replies, at_fmu-is, each_many, got}
+use Rattle.event_iteration.proofs.Places.{map_take, set_beside, set_here, set_same, take_set}
+use Rattle.event_iteration.proofs.Reading.{Leaves, fmu_of, still_at}
+
+-- ---- one port
+
+first_of : (start : ℕ) (role : Role) → is_asked role ≡ false → IsFirstPlace start role (first_place role)
+first_of start (TimeClock Answered) none = absurd (true_false none)
+first_of start (TimeClock (Periodic interval shift)) none = record { of = (0, refl); next = (omega arith, λ k lt. absurd (omega (arith, lt))) }
+first_of start (TimeClock Countdown) none = record { of = (None, refl); next = tt }
+first_of start (Input feed) none = record { of = refl; next = tt }
+first_of start Output none = record { of = refl; next = tt }
+first_of start (ClockInput feed) none = record { of = refl; next = tt }
+first_of start ClockOutput none = record { of = refl; next = tt }
+
+timer_of_first : (role : Role) (per_second : ℕ) → is_asked role ≡ false → timer_in (first_place role) ≡ first_told_by role per_second []
+timer_of_first (TimeClock Answered) per_second none = absurd (true_false none)
+timer_of_first (TimeClock (Periodic interval shift)) per_second none = refl
+timer_of_first (TimeClock Countdown) per_second none = refl
+timer_of_first (Input feed) per_second none = refl
+timer_of_first Output per_second none = refl
+timer_of_first (ClockInput feed) per_second none = refl
+timer_of_first ClockOutput per_second none = refl
+
+no_calls : (role : Role) (port : Port) → is_asked role ≡ false → timing_calls_of role port ≡ []
+no_calls (TimeClock Answered) port none = absurd (true_false none)
+no_calls (TimeClock (Periodic interval shift)) port none = refl
+no_calls (TimeClock Countdown) port none = refl
+no_calls (Input feed) port none = refl
+no_calls Output port none = refl
+no_calls (ClockInput feed) port none = refl
+no_calls ClockOutput port none = refl
+
+-- a port that isn't asked
+pub fixes_none : (port : Port) (per_second p : ℕ) (table : Timetable) (is : List Instance) → is_asked port.role ≡ false → slice_get table.clocks p ≡ Some (first_place port.role) → FixesPort port per_second p table table is is (Ok tt)
+fixes_none port per_second p table is none first = record {
+  log = [];
+  told = told_none is;
+  says = (
+    subst (λ (cs : List Asking). IsAnswered (shapes is) cs []) (sym (no_calls port.role port none)) (answered_none (shapes is)),
+    record {
+      place = first_place port.role;
+      is = sym (ap (λ (cs : List ClockState). record table { clocks = cs }) (set_same table.clocks p (first_place port.role) first));
+      timer = timer_of_first port.role per_second none;
+      first = first_of table.start port.role none;
+    },
+  );
+}
+
+abbrev pub ask_interval : Port → Asking
+ask_interval port = record { component = port.component.0; call = C.GetInterval port.reference }
+
+abbrev pub ask_shift : Port → Asking
+ask_shift port = record { component = port.component.0; call = C.GetShift port.reference }
+
+-- one that is asked
+module _ (port : Port) (answered : port.role ≡ TimeClock Answered) (per_second p : ℕ) (before after : Timetable) (olds mids : List Instance) where
+  pub fixes_cut : (bad : BadAnswer) → Stage (ask_interval port ∷ []) first_reply olds mids (Err bad) → FixesPort port per_second p before after olds mids (Err bad)
+  fixes_cut bad stage = record {
+    log = stage.log;
+    told = stage.told;
+    says = subst (λ (r : Role). StopsAt (shapes olds) (timing_calls_of r port) bad stage.log) (sym answered) (stops_front (shapes olds) (ask_interval port ∷ []) (ask_shift port ∷ []) bad stage.log stage.says);
+  }
+
+  module _ (interval : Reply) (one : Stage (ask_interval port ∷ []) first_reply olds mids (Ok (Some interval))) (news : List Instance) where
+    pub fixes_cut_later : (bad : BadAnswer) → Stage (ask_shift port ∷ []) first_reply mids news (Err bad) → FixesPort port per_second p before after olds news (Err bad)
+    fixes_cut_later bad two = record {
+      log = one.log ++ two.log;
+      told = told_on olds mids news one.log two.log one.told two.told;
+      says = subst (λ (r : Role). StopsAt (shapes olds) (timing_calls_of r port) bad (one.log ++ two.log)) (sym answered)
+          (stops_on (shapes olds) (ask_interval port ∷ []) (ask_shift port ∷ []) one.log two.log one.says.0 bad (subst (λ (ss : List Shape). StopsAt ss (ask_shift port ∷ []) bad two.log) (shapes_same one.log olds mids one.told) two.says));
+    }
+
+    pub fixes_both : (shift : Reply) → Stage (ask_shift port ∷ []) first_reply mids news (Ok (Some shift)) → (shape : Shape) → slice_get (shapes olds) port.component.0 ≡ Some shape → IsEntered p (fixed per_second (interval_in interval) (shift_in shift)) before after →
+        FixesPort port per_second p before after olds news (Ok tt)
+    fixes_both shift two shape at entered =
+        let alike = shapes_same one.log olds mids one.told in
+        let later : IsAnswered (shapes olds) (ask_shift port ∷ []) two.log = subst (λ (ss : List Shape). IsAnswered ss (ask_shift port ∷ []) two.log) alike two.says.0 in
+        let a = one_answer (shapes olds) port.component.0 (C.GetInterval port.reference) shape interval one.log at one.says.0 one.says.1 in
+        let b = one_answer (shapes olds) port.component.0 (C.GetShift port.reference) shape shift two.log at later two.says.1 in
+        record {
+          log = one.log ++ two.log;
+          told = told_on olds mids news one.log two.log one.told two.told;
+          says = subst (λ (r : Role). FixSays r port per_second p (shapes olds) (one.log ++ two.log) before after (Ok tt)) (sym answered) (
+            answered_on (shapes olds) (ask_interval port ∷ []) (ask_shift port ∷ []) one.log two.log one.says.0 later,
+            record {
+              place = S.Periodic entered.interval entered.shift 0;
+              is = entered.is;
+              timer = sym entered.timer_is ∙ sym (ap₂ (λ (x y : List Sent). told_timer per_second (x ++ y)) a.is b.is);
+              first = record {
+                of = (entered.interval, entered.shift, 0, refl, entered.above);
+                next = (omega arith, λ k lt. absurd (omega (arith, lt)));
+              };
+            },
+          );
+        }
+
+-- ---- the calls and the timers of several ports
+
+calls_append : (xs ys : List Port) → timing_calls_in (xs ++ ys) ≡ timing_calls_in xs ++ timing_calls_in ys
+calls_append [] ys = refl
+calls_append (x ∷ xs) ys = ap (λ cs. timing_calls_of x.role x ++ cs) (calls_append xs ys) ∙ sym (append_assoc (timing_calls_of x.role x) (timing_calls_in xs) (timing_calls_in ys))
+
+told_append : (per_second : ℕ) (xs ys : List Port) (log more : List Sent) → askings log ≡ timing_calls_in xs →
+    first_told_in per_second (xs ++ ys) (log ++ more) ≡ first_told_in per_second xs log ++ first_told_in per_second ys more
+told_append per_second [] ys [] more is = refl
+told_append per_second [] ys (s ∷ log) more is = absurd (cc)
+told_append per_second (x ∷ xs) ys log more is = by x.role log is (λ rest rest_is. told_append per_second xs ys rest more rest_is)
+  where
+    by : (role : Role) (some : List Sent) → askings some ≡ timing_calls_of role x ++ timing_calls_in xs →
+        ((rest : List Sent) → askings rest ≡ timing_calls_in xs → first_told_in per_second (xs ++ ys) (rest ++ more) ≡ first_told_in per_second xs rest ++ first_told_in per_second ys more) →
+        first_told_by role per_second (some ++ more) ∷ first_told_in per_second (xs ++ ys) (log_behind role (some ++ more)) ≡ first_told_by role per_second some ∷ (first_told_in per_second xs (log_behind role some) ++ first_told_in per_second ys more)
+    by (TimeClock Answered) [] e on = absurd (cc)
+    by (TimeClock Answered) (a ∷ []) e on = absurd (cc)
+    by (TimeClock Answered) (a ∷ b ∷ rest) e on = ap (λ ts. told_timer per_second (a ∷ b ∷ rest) ∷ ts) (on rest (cc))
+    by (TimeClock (Periodic interval shift)) some e on = ap (λ ts. Every interval shift ∷ ts) (on some e)
+    by (TimeClock Countdown) some e on = ap (λ ts. Never ∷ ts) (on some e)
+    by (Input feed) some e on = ap (λ ts. Never ∷ ts) (on some e)
+    by Output some e on = ap (λ ts. Never ∷ ts) (on some e)
+    by (ClockInput feed) some e on = ap (λ ts. Never ∷ ts) (on some e)
+    by ClockOutput some e on = ap (λ ts. Never ∷ ts) (on some e)
+
+-- ---- machines
+
+leaving_calls : (role : Role) (port : Port) → All (λ (a : Asking). Leaves a.call) (timing_calls_of role port)
+leaving_calls (TimeClock Answered) port =
+    All-cons (λ (a : Asking). Leaves a.call) (ask_interval port) (ask_shift port ∷ []) (λ m s. refl)
+    (All-cons (λ (a : Asking). Leaves a.call) (ask_shift port) [] (λ m s. refl) (All-nil (λ (a : Asking). Leaves a.call)))
+leaving_calls (TimeClock (Periodic interval shift)) port = All-nil (λ (a : Asking). Leaves a.call)
+leaving_calls (TimeClock Countdown) port = All-nil (λ (a : Asking). Leaves a.call)
+leaving_calls (Input feed) port = All-nil (λ (a : Asking). Leaves a.call)
+leaving_calls Output port = All-nil (λ (a : Asking). Leaves a.call)
+leaving_calls (ClockInput feed) port = All-nil (λ (a : Asking). Leaves a.call)
+leaving_calls ClockOutput port = All-nil (λ (a : Asking). Leaves a.call)
+
+module _ (r : Run) (states : List MachineState) (few : length r.machines ≡ length r.system.components) (many : length states ≡ length r.system.components) (olds news : List Instance) (at : AreAt r states olds) (log : List Sent) (told : Told log olds news)
+    (port : Port) (c : Component) (of : slice_get r.system.components port.component.0 ≡ Some c) where
+  -- the two answers are the machine's
+  two_told : (a b : Sent) → log ≡ a ∷ b ∷ [] → asking_of a ≡ ask_interval port → asking_of b ≡ ask_shift port → All (IsGoodOf (shapes_of r.system)) log →
+      told_timer r.plan.resolution (a ∷ b ∷ []) ≡ unwrap_or (at_fmu r states port.component.0 (λ x m s. Some (asked_timer r port m s))) Never
+  two_told a b is asks_a asks_b good =
+      let i = port.component.0 in
+      let fmu = fmu_of r states few many i c of in
+      let m = fmu.0 in
+      let s = fmu.1 in
+      let at_a : a.component ≡ i = ap (λ (x : Asking). x.component) asks_a in
+      let at_b : b.component ≡ i = ap (λ (x : Asking). x.component) asks_b in
+      let call_a : a.exchange.call ≡ C.GetInterval port.reference = ap (λ (x : Asking). x.call) asks_a in
+      let call_b : b.exchange.call ≡ C.GetShift port.reference = ap (λ (x : Asking). x.call) asks_b in
+      let part_is : part i log ≡ a.exchange ∷ b.exchange ∷ [] =
+      ap (part i) is ∙ takes (a.component == i) a.exchange (part i (b ∷ [])) (same a.component i at_a) ∙ ap (λ es. a.exchange ∷ es) (takes (b.component == i) b.exchange [] (same b.component i at_b)) in
+      let good_here : All (IsGoodOf (shapes_of r.system)) (a ∷ b ∷ []) = subst (All (IsGoodOf (shapes_of r.system))) is good in
+      let good_a = All-head (IsGoodOf (shapes_of r.system)) a (b ∷ []) good_here c.shape in
+      let good_b = All-head (IsGoodOf (shapes_of r.system)) b [] (All-tail (IsGoodOf (shapes_of r.system)) a (b ∷ []) good_here) c.shape in
+      let first = replied_good m (get_or (shapes_of r.system) a.component c.shape) s a.exchange (b.exchange ∷ []) good_a (subst (RepliesBy m s) part_is (are_replies r states olds news at log told i c m s fmu.2)) in
+      let stays : after m s a.exchange.call ≡ s = ap (after m s) call_a in
+      let second = replied_good m (get_or (shapes_of r.system) b.component c.shape) s b.exchange [] good_b (subst (λ (z : MachineState). RepliesBy m z (b.exchange ∷ [])) stays first.1) in
+      let told_a : a.exchange.result ≡ Ok (m.look s (C.GetInterval port.reference)) = first.0 ∙ ap (λ (k : Call). Ok (m.look s k)) call_a in
+      let told_b : b.exchange.result ≡ Ok (m.look s (C.GetShift port.reference)) = second.0 ∙ ap (λ (k : Call). Ok (m.look s k)) call_b in
+      ap₂ (λ (x y : Result Reply PeerFault). told_timer r.plan.resolution (record { component = i; exchange = record { call = C.GetInterval port.reference; result = x } } ∷ record { component = i; exchange = record { call = C.GetShift port.reference; result = y } } ∷ [])) told_a told_b
+      ∙ sym (ap (λ (o : Option Timer). unwrap_or o Never) (at_fmu-is r states i c m s (λ x n z. Some (asked_timer r port n z)) fmu.2))
+
+  pub told_is : (role : Role) → IsAnswered (shapes_of r.system) (timing_calls_of role port) log → first_told_by role r.plan.resolution log ≡ first_timer role r states port
+  told_is (TimeClock Answered) answered = by log refl answered.calls_are
+    where
+      by : (some : List Sent) → log ≡ some → askings some ≡ ask_interval port ∷ ask_shift port ∷ [] → told_timer r.plan.resolution some ≡ unwrap_or (at_fmu r states port.component.0 (λ x m s. Some (asked_timer r port m s))) Never
+      by [] is e = absurd (cc)
+      by (a ∷ []) is e = absurd (cc)
+      by (a ∷ b ∷ []) is e = two_told a b is (cc) (cc) answered.good
+      by (a ∷ b ∷ d ∷ some) is e = absurd (cc)
+  told_is (TimeClock (Periodic interval shift)) answered = refl
+  told_is (TimeClock Countdown) answered = refl
+  told_is (Input feed) answered = refl
+  told_is Output answered = refl
+  told_is (ClockInput feed) answered = refl
+  told_is ClockOutput answered = refl
+
+-- a state for each component behind Initialization Mode
+initialized_many : (r : Run) (values : List (Option ℤ)) → AreMachines r → length (initialized r values) ≡ length r.system.components
+initialized_many r values machines =
+    let few = machines.count in
+    let a : length (instantiated r) ≡ length r.system.components = each_many r (first_states r) (λ i c m s. after m s (instantiate_of c.shape)) few (length-map r.machines (λ (m : Machine). m.first) ∙ few) in
+    let b : length (configured r) ≡ length r.system.components = each_many r (instantiated r) (λ i c m s. with_bound m (bound_values r i) s) few a in
+    let d : length (initializing r) ≡ length r.system.components = each_many r (configured r) (λ i c m s. after m s (enter_initialization r)) few b in
+    each_many r (initializing r) (λ i c m s. state_with r.system.ports values i m s) few d
+
+-- ---- the first ports
+
+pub record Fixing (system : System) (per_second k : ℕ) (first table : Timetable) (olds mids : List Instance) : Type 0 where
+  pub log : List Sent
+  pub told : Told log olds mids
+  pub answered : IsAnswered (shapes_of system) (timing_calls_in (take k system.ports)) log
+  pub modes_are : modes mids ≡ modes olds
+  pub start : table.start ≡ first.start
+  pub stop : table.stop ≡ first.stop
+  pub fixed : IsFixedUpTo system k table
+  pub timers : take k (timers_in table) ≡ first_told_in per_second (take k system.ports) log
+  pub machines : (r : Run) (states : List MachineState) → r.system ≡ system → r.plan.resolution ≡ per_second → length r.machines ≡ length r.system.components → length states ≡ length r.system.components → AreAt r states olds →
+      AreAt r states mids × (take k (timers_in table) ≡ take k (first_timers r states))
+
+pub fixing_none : (system : System) (per_second : ℕ) (table : Timetable) (is : List Instance) → table ≡ first_table system table.start table.stop → Fixing system per_second 0 table table is is
+fixing_none system per_second table is first =
+    let places : table.clocks ≡ map (λ (port : Port). first_place port.role) system.ports = ap (λ (x : Timetable). x.clocks) first in
+    record {
+      log = [];
+      told = told_none is;
+      answered = answered_none (shapes_of system);
+      modes_are = refl;
+      start = refl;
+      stop = refl;
+      fixed = record {
+        len = ap length places ∙ length-map system.ports (λ (port : Port). first_place port.role);
+        behind = λ q port place lt. absurd (omega (arith, lt));
+        ahead = λ q port le at. ap (λ xs. slice_get xs q) places ∙ slice_get-map (λ (x : Port). first_place x.role) system.ports q ∙ ap (option_map (λ (x : Port). first_place x.role)) at;
+      };
+      timers = refl;
+      machines = λ r states same counts few many at. (at, refl);
+    }
+
+module _ (system : System) (per_second k : ℕ) (port : Port) (is : slice_get system.ports k ≡ Some port) where
+  within : k < length system.ports
+  within = slice_get_within system.ports k port is
+
+  more_ports : take (k + 1) system.ports ≡ take k system.ports ++ port ∷ []
+  more_ports = take_more system.ports k port within ∙ ap (λ (x : Port). take k system.ports ++ x ∷ []) (get_or_from_slice_get system.ports k port port is)
+
+  more_calls : timing_calls_in (take (k + 1) system.ports) ≡ timing_calls_in (take k system.ports) ++ timing_calls_of port.role port
+  more_calls = ap timing_calls_in more_ports ∙ calls_append (take k system.ports) (port ∷ []) ∙ ap (λ cs. timing_calls_in (take k system.ports) ++ cs) (append-nil (timing_calls_of port.role port))
+
+  split_calls : timing_calls system ≡ (timing_calls_in (take k system.ports) ++ timing_calls_of port.role port) ++ timing_calls_in (drop (k + 1) system.ports)
+  split_calls = ap timing_calls_in (sym (take-append-drop (k + 1) system.ports)) ∙ calls_append (take (k + 1) system.ports) (drop (k + 1) system.ports) ∙ ap (λ cs. cs ++ timing_calls_in (drop (k + 1) system.ports)) more_calls
+
+  module _ (first table next : Timetable) (olds mids news : List Instance) (alike : shapes olds ≡ shapes_of system) (front : Fixing system per_second k first table olds mids) where
+    shapes_mid : shapes mids ≡ shapes_of system
+    shapes_mid = shapes_same front.log olds mids front.told ∙ alike
+
+    -- up to a bad answer
+    pub fixing_until : (bad : BadAnswer) → FixesPort port per_second k table next mids news (Err bad) → Fixes system per_second (timers_in next) olds news (Err bad)
+    fixing_until bad turn = record {
+      log = front.log ++ turn.log;
+      told = told_on olds mids news front.log turn.log front.told turn.told;
+      says = subst (λ (cs : List Asking). StopsAt (shapes_of system) cs bad (front.log ++ turn.log)) (sym split_calls)
+          (stops_front (shapes_of system) (timing_calls_in (take k system.ports) ++ timing_calls_of port.role port) (timing_calls_in (drop (k + 1) system.ports)) bad (front.log ++ turn.log)
+          (stops_on (shapes_of system) (timing_calls_in (take k system.ports)) (timing_calls_of port.role port) front.log turn.log front.answered bad (subst (λ (ss : List Shape). StopsAt ss (timing_calls_of port.role port) bad turn.log) shapes_mid turn.says)));
+    }
+
+    -- one port more
+    module _ (turn : FixesPort port per_second k table next mids news (Ok tt)) where
+      done : IsFixed port.role per_second k turn.log table next
+      done = turn.says.1
+
+      good_turn : IsAnswered (shapes_of system) (timing_calls_of port.role port) turn.log
+      good_turn = subst (λ (ss : List Shape). IsAnswered ss (timing_calls_of port.role port) turn.log) shapes_mid turn.says.0
+
+      in_clocks : k < length table.clocks
+      in_clocks = let e = front.fixed.len in let w = within in omega (arith, e, w)
+
+      clocks_are : next.clocks ≡ set table.clocks k done.place
+      clocks_are = ap (λ (x : Timetable). x.clocks) done.is
+
+      start_is : next.start ≡ table.start
+      start_is = ap (λ (x : Timetable). x.start) done.is
+
+      here : slice_get next.clocks k ≡ Some done.place
+      here = ap (λ xs. slice_get xs k) clocks_are ∙ set_here table.clocks k done.place in_clocks
+
+      beside : (q : ℕ) → (q ≡ k → ⊥) → slice_get next.clocks q ≡ slice_get table.clocks q
+      beside q other = ap (λ xs. slice_get xs q) clocks_are ∙ set_beside table.clocks k done.place q other
+
+      fixed_more : IsFixedUpTo system (k + 1) next
+      fixed_more = record {
+        len = ap length clocks_are ∙ length-set table.clocks k done.place ∙ front.fixed.len;
+        behind = λ q x place lt at at_place. (elim (cases_lt q k) as (λ c. IsFirstPlace next.start x.role place) [
+          | inl below ↦
+              subst (λ n. IsFirstPlace n x.role place) (sym start_is)
+              (front.fixed.behind q x place below at (sym (beside q (λ e. absurd (omega (arith, e, below)))) ∙ at_place))
+          | inr past ↦
+              let same_place : q ≡ k = omega (arith, lt, past) in
+              let its : port ≡ x = same_Some _ _ (sym is ∙ ap (slice_get system.ports) (sym same_place) ∙ at) in
+              let own : done.place ≡ place = same_Some _ _ (sym here ∙ ap (slice_get next.clocks) (sym same_place) ∙ at_place) in
+              subst (λ n. IsFirstPlace n x.role place) (sym start_is) (subst (λ (y : Port). IsFirstPlace table.start y.role place) its (subst (IsFirstPlace table.start port.role) own done.first))
+        ]);
+        ahead = λ q x le at. beside q (λ e. absurd (omega (arith, e, le))) ∙ front.fixed.ahead q x (omega (arith, le)) at;
+      }
+
+      timers_more : take (k + 1) (timers_in next) ≡ take k (timers_in table) ++ timer_in done.place ∷ []
+      timers_more =
+          sym (map_take timer_in (k + 1) next.clocks) ∙ ap (λ cs. map timer_in (take (k + 1) cs)) clocks_are ∙ ap (map timer_in) (take_set table.clocks k done.place in_clocks)
+          ∙ map-append timer_in (take k table.clocks) (done.place ∷ []) ∙ ap (λ ts. ts ++ timer_in done.place ∷ []) (map_take timer_in k table.clocks)
+
+      pub fixing_more : modes news ≡ modes mids → (c : Component) → slice_get system.components port.component.0 ≡ Some c → Fixing system per_second (k + 1) first next olds news
+      fixing_more modes_same c of = record {
+        log = front.log ++ turn.log;
+        told = told_on olds mids news front.log turn.log front.told turn.told;
+        answered = subst (λ (cs : List Asking). IsAnswered (shapes_of system) cs (front.log ++ turn.log)) (sym more_calls)
+            (answered_on (shapes_of system) (timing_calls_in (take k system.ports)) (timing_calls_of port.role port) front.log turn.log front.answered good_turn);
+        modes_are = modes_same ∙ front.modes_are;
+        start = start_is ∙ front.start;
+        stop = ap (λ (x : Timetable). x.stop) done.is ∙ front.stop;
+        fixed = fixed_more;
+        timers = timers_more ∙ ap₂ (λ ts (t : Timer). ts ++ t ∷ []) front.timers done.timer
+            ∙ sym (ap (λ ps. first_told_in per_second ps (front.log ++ turn.log)) more_ports ∙ told_append per_second (take k system.ports) (port ∷ []) front.log turn.log front.answered.calls_are);
+        machines = λ r states same counts few many at.
+            let before = front.machines r states same counts few many at in
+            let good : IsAnswered (shapes_of r.system) (timing_calls_of port.role port) turn.log = subst (λ (x : System). IsAnswered (shapes_of x) (timing_calls_of port.role port) turn.log) (sym same) good_turn in
+            let own : slice_get r.system.components port.component.0 ≡ Some c = ap (λ (x : System). slice_get x.components port.component.0) same ∙ of in
+            let told_own = told_is r states few many mids news before.0 turn.log turn.told port c own port.role good in
+            let ports_own : take (k + 1) r.system.ports ≡ take k r.system.ports ++ port ∷ [] = ap (λ (x : System). take (k + 1) x.ports) same ∙ more_ports ∙ sym (ap (λ (x : System). take k x.ports ++ port ∷ []) same) in
+            let timer_own : timer_in done.place ≡ first_timer port.role r states port = done.timer ∙ ap (λ n. first_told_by port.role n turn.log) (sym counts) ∙ told_own in (
+              still_at r states mids news before.0 turn.log turn.told good.good (sent_all (λ (a : Asking). Leaves a.call) turn.log (timing_calls_of port.role port) good.calls_are (leaving_calls port.role port)),
+              timers_more ∙ ap₂ (λ ts (t : Timer). ts ++ t ∷ []) before.1 timer_own
+                  ∙ sym (sym (map_take (λ (x : Port). first_timer x.role r states x) (k + 1) r.system.ports) ∙ ap (map (λ (x : Port). first_timer x.role r states x)) ports_own
+                  ∙ map-append (λ (x : Port). first_timer x.role r states x) (take k r.system.ports) (port ∷ []) ∙ ap (λ ts. ts ++ first_timer port.role r states port ∷ []) (map_take (λ (x : Port). first_timer x.role r states x) k r.system.ports)),
+            );
+      }
+
+-- ---- all of them
+
+module _ (system : System) (per_second k : ℕ) (first table : Timetable) (olds mids : List Instance) (all : Fixing system per_second k first table olds mids) (whole : length system.ports ≤ k) where
+  timers_whole : take k (timers_in table) ≡ timers_in table
+  timers_whole = take_all k (timers_in table) (let a = length-map table.clocks timer_in in let b = all.fixed.len in let w = whole in omega (arith, a, b, w))
+
+  ports_whole : take k system.ports ≡ system.ports
+  ports_whole = take_all k system.ports whole
+
+  pub fixing_all : Fixes system per_second (timers_in table) olds mids (Ok tt)
+  fixing_all = record {
+    log = all.log;
+    told = all.told;
+    says = (
+      subst (λ (ps : List Port). IsAnswered (shapes_of system) (timing_calls_in ps) all.log) ports_whole all.answered,
+      sym timers_whole ∙ all.timers ∙ ap (λ (ps : List Port). first_told_in per_second ps all.log) ports_whole,
+    );
+  }
+
+  pub fixing_machines : FixesForMachines system per_second (timers_in table) olds mids
+  fixing_machines r values same counts machines at =
+      let done = all.machines r (initialized r values) same counts machines.count (initialized_many r values machines) at in
+      let long : length (first_timers r (initialized r values)) ≡ length system.ports = length-map r.system.ports (λ (x : Port). first_timer x.role r (initialized r values) x) ∙ ap (λ (x : System). length x.ports) same in
+      (done.0, sym timers_whole ∙ done.1 ∙ take_all k (first_timers r (initialized r values)) (let w = whole in omega (arith, long, w)))
+
+  pub fixing_stands : first.start ≤ first.stop → StandsAt system first.start true table
+  fixing_stands run = record {
+    len = all.fixed.len;
+    places = λ p port place at at_place. (all.fixed.behind p port place (let w = slice_get_within system.ports p port at in let n = whole in omega (arith, w, n)) at at_place).of;
+    next = all_by_place (IsNextFrom table.start first.start true) table.clocks (λ q place at_place.
+        let w = slice_get_within table.clocks q place at_place in
+        let port = port_there q (let e = all.fixed.len in omega (arith, e, w)) in
+        let n = whole in
+        subst (λ t. IsNextFrom table.start t true place) all.start
+        (all.fixed.behind q port.0 place (let e = all.fixed.len in omega (arith, e, w, n)) port.1 at_place).next);
+    within = let e = all.stop in omega (arith, run, e);
+  }
+    where
+      port_there : (q : ℕ) → q < length system.ports → (port : Port) × (slice_get system.ports q ≡ Some port)
+      port_there q lt = got system.ports q lt

@@ -1,0 +1,342 @@
+-- Where Clocks stand in a schedule, and their timers.
+use Rattle.std.proofs.Common.{◌≡◌, inl, inr, ℕ, zero, suc, ◌+◌, ◌*◌, ◌^◌, ◌<◌, ◌≤◌, ◌==◌, ℤ, Bool, true, false, List, [], ◌∷◌, ◌++◌, Option, Some, None, refl, sym, ap, ap₂, ◌∙◌, subst, append_assoc, arith, length, get_or, set, map, take, drop}
+use Rattle.std.specs.Prelude.{IfSome, IsSomeAnd, if◌then◌else◌, option_map, slice_get}
+use Rattle.std.specs.List.{list_any}
+use Rattle.std.specs.Option.{option_map_or}
+use Rattle.std.proofs.lemmas.Bool.{cases_lt, eq-eqb, eqb-true}
+use Rattle.std.proofs.lemmas.Bool.Decides.{nat_tests}
+use Rattle.std.proofs.lemmas.List.{length-map, length-set, map-append, set-get_or, take_all, take_more}
+use Rattle.std.proofs.lemmas.List.Folds.{list_any-append}
+use Rattle.std.proofs.lemmas.Option.{get_or_from_slice_get, same_Some, slice_get-get_or, slice_get-map, slice_get_within}
+use Rattle.clock_fraction.specs.Counts.{counts_of}
+use Rattle.fmi_calls.specs.declared.call.Interval.{Interval}
+use Rattle.fmi_calls.specs.declared.call.Interval.TheVariants.{NotYetKnown, Unchanged, Changed}
+use Rattle.fmi_calls.specs.declared.call.Reply.{Reply}
+use Rattle.system_model.specs.declared.system.Role.{Role}
+use Rattle.system_model.specs.declared.system.Role.TheVariants.{Input, Output, ClockInput, ClockOutput, TimeClock}
+use Rattle.system_model.specs.declared.system.Timing.TheVariants.{Periodic, Answered, Countdown}
+use Rattle.system_model.proofs.Lists.{true_false}
+use Rattle.tick_schedule.specs.declared.clock.ClockState.{ClockState}
+use Rattle.tick_schedule.specs.declared.clock.ClockState.TheVariants as S
+use Rattle.tick_schedule.specs.Timetable.{HasNext, IsCountdown, IsToTick, Timetable, with_clock}
+use Rattle.run_model.specs.Inputs.{is_active}
+use Rattle.run_model.specs.Run.{Timer, Never, Every, Once}
+use Rattle.run_model.specs.Timers.{answered, armed_after, is_armed_for}
+use Rattle.event_iteration.specs.Clocks.{IsNextFrom, IsPlaceOf, is_due_in, timer_in}
+use Rattle.event_iteration.specs.Intervals.{interval_by, is_time_clock, timer_behind}
+use Rattle.event_iteration.specs.Questions.{GoesFrom, IsArmed, IsBehind, arms_now, counts_down, place_behind, rearmed, ticked_if}
+
+-- ---- lists
+
+pub set_here : {X : Type 0} (xs : List X) (k : ℕ) (x : X) → k < length xs → slice_get (set xs k x) k ≡ Some x
+set_here [] k x w = absurd (omega (arith, w))
+set_here (y ∷ xs) zero x w = refl
+set_here (y ∷ xs) (suc k) x w = set_here xs k x (omega (arith, w))
+
+pub set_beside : {X : Type 0} (xs : List X) (k : ℕ) (x : X) (q : ℕ) → (q ≡ k → ⊥) → slice_get (set xs k x) q ≡ slice_get xs q
+set_beside [] k x q other = refl
+set_beside (y ∷ xs) zero x zero other = absurd (other refl)
+set_beside (y ∷ xs) zero x (suc q) other = refl
+set_beside (y ∷ xs) (suc k) x zero other = refl
+set_beside (y ∷ xs) (suc k) x (suc q) other = set_beside xs k x q (λ e. other (ap suc e))
+
+pub set_same : {X : Type 0} (xs : List X) (k : ℕ) (x : X) → slice_get xs k ≡ Some x → set xs k x ≡ xs
+set_same xs k x is = ap (set xs k) (sym (get_or_from_slice_get xs k x x is)) ∙ set-get_or xs k x
+
+pub take_set : {X : Type 0} (xs : List X) (k : ℕ) (x : X) → k < length xs → take (k + 1) (set xs k x) ≡ take k xs ++ x ∷ []
+take_set xs k x w = (let e : k + 1 ≡ suc k = omega arith in ap (λ n. take n (set xs k x)) e) ∙ by xs k w
+  where
+    by : (ys : List _) (j : ℕ) → j < length ys → take (suc j) (set ys j x) ≡ take j ys ++ x ∷ []
+    by [] j v = absurd (omega (arith, v))
+    by (y ∷ ys) zero v = refl
+    by (y ∷ ys) (suc j) v = ap (λ zs. y ∷ zs) (by ys j (omega (arith, v)))
+
+pub map_take : {X Y : Type 0} (f : X → Y) (k : ℕ) (xs : List X) → map f (take k xs) ≡ take k (map f xs)
+map_take f zero xs = refl
+map_take f (suc k) [] = refl
+map_take f (suc k) (x ∷ xs) = ap (λ ys. f x ∷ ys) (map_take f k xs)
+
+-- ---- a Clock that has ticked or not
+
+due_ticks : (table : Timetable) (t p : ℕ) (place : ClockState) → slice_get table.clocks p ≡ Some place → t ≤ table.stop → is_due_in table.start t place ≡ true → HasNext table p
+due_ticks table t p place is within due = (t, (within, subst (λ (o : Option ClockState). IsSomeAnd o (λ state. IsToTick table.start state t)) (sym is) (by place due)))
+  where
+    by : (x : ClockState) → is_due_in table.start t x ≡ true → IsToTick table.start x t
+    by S.Unasked h = absurd (true_false (sym h))
+    by (S.Periodic interval shift ticks) h = let e = eqb-true (table.start + shift + ticks * interval) t h in ((ticks, sym e), omega (arith, e))
+    by (S.Countdown None) h = absurd (true_false (sym h))
+    by (S.Countdown (Some point)) h = ap Some (eqb-true point t h)
+
+timer_ticked : (b : Bool) (interval shift ticks : ℕ) → timer_in (ticked_if b (S.Periodic interval shift ticks)) ≡ Every interval shift
+timer_ticked true interval shift ticks = refl
+timer_ticked false interval shift ticks = refl
+
+timer_taken : (b : Bool) (armed : Option ℕ) → timer_in (ticked_if b (S.Countdown armed)) ≡ (if b then Never else timer_in (S.Countdown armed))
+timer_taken true armed = refl
+timer_taken false armed = refl
+
+timer_armed : (t : ℕ) (o : Option ℕ) → timer_in (S.Countdown (option_map (λ counts. t + counts) o)) ≡ armed_after t o
+timer_armed t None = refl
+timer_armed t (Some counts) = refl
+
+timer_rearmed : (per_second t : ℕ) (told : Interval) (place : ClockState) → timer_in (rearmed per_second t told place) ≡ answered per_second t told (timer_in place)
+timer_rearmed per_second t NotYetKnown place = refl
+timer_rearmed per_second t (Unchanged f) place = refl
+timer_rearmed per_second t (Changed f) place = timer_armed t (counts_of f per_second)
+
+-- the timer behind an instant
+pub timer_of_place : (role : Role) (per_second t : ℕ) (v : Option ℤ) (reply : Option Reply) (place : ClockState) → IsPlaceOf role place →
+    timer_in (place_behind role per_second t v (interval_by reply) place) ≡ timer_behind role per_second t v reply (timer_in place)
+timer_of_place (TimeClock Countdown) per_second t v reply place of =
+    timer_rearmed per_second t (interval_by reply) (ticked_if (is_active v) place)
+    ∙ ap (answered per_second t (interval_by reply)) (ap (λ (x : ClockState). timer_in (ticked_if (is_active v) x)) of.1 ∙ timer_taken (is_active v) of.0 ∙ sym (ap (λ (x : ClockState). if is_active v then Never else timer_in x) of.1))
+timer_of_place (TimeClock (Periodic interval shift)) per_second t v reply place of =
+    ap (λ (x : ClockState). timer_in (ticked_if (is_active v) x)) of.1 ∙ timer_ticked (is_active v) interval shift of.0 ∙ sym (ap timer_in of.1)
+timer_of_place (TimeClock Answered) per_second t v reply place of =
+    ap (λ (x : ClockState). timer_in (ticked_if (is_active v) x)) of.3 ∙ timer_ticked (is_active v) of.0 of.1 of.2 ∙ sym (ap timer_in of.3)
+timer_of_place (Input feed) per_second t v reply place of = refl
+timer_of_place Output per_second t v reply place of = refl
+timer_of_place (ClockInput feed) per_second t v reply place of = refl
+timer_of_place ClockOutput per_second t v reply place of = refl
+
+-- ---- where it stands then
+
+place_ticked : (b : Bool) (interval shift ticks : ℕ) → (n : ℕ) × (ticked_if b (S.Periodic interval shift ticks) ≡ S.Periodic interval shift n)
+place_ticked true interval shift ticks = (ticks + 1, refl)
+place_ticked false interval shift ticks = (ticks, refl)
+
+countdown_ticked : (b : Bool) (armed : Option ℕ) → (o : Option ℕ) × (ticked_if b (S.Countdown armed) ≡ S.Countdown o)
+countdown_ticked true armed = (None, refl)
+countdown_ticked false armed = (armed, refl)
+
+countdown_rearmed : (per_second t : ℕ) (told : Interval) (armed : Option ℕ) → (o : Option ℕ) × (rearmed per_second t told (S.Countdown armed) ≡ S.Countdown o)
+countdown_rearmed per_second t NotYetKnown armed = (None, refl)
+countdown_rearmed per_second t (Unchanged f) armed = (armed, refl)
+countdown_rearmed per_second t (Changed f) armed = (option_map (λ counts. t + counts) (counts_of f per_second), refl)
+
+pub place_of_behind : (role : Role) (per_second t : ℕ) (v : Option ℤ) (told : Interval) (place : ClockState) → IsPlaceOf role place → IsPlaceOf role (place_behind role per_second t v told place)
+place_of_behind (TimeClock Countdown) per_second t v told place of =
+    let ticked = countdown_ticked (is_active v) of.0 in
+    let behind = countdown_rearmed per_second t told ticked.0 in
+    (behind.0, ap (λ (x : ClockState). rearmed per_second t told (ticked_if (is_active v) x)) of.1 ∙ ap (rearmed per_second t told) ticked.1 ∙ behind.1)
+place_of_behind (TimeClock (Periodic interval shift)) per_second t v told place of =
+    let ticked = place_ticked (is_active v) interval shift of.0 in (ticked.0, ap (ticked_if (is_active v)) of.1 ∙ ticked.1)
+place_of_behind (TimeClock Answered) per_second t v told place of =
+    let ticked = place_ticked (is_active v) of.0 of.1 of.2 in (of.0, of.1, ticked.0, ap (ticked_if (is_active v)) of.3 ∙ ticked.1, of.4)
+place_of_behind (Input feed) per_second t v told place of = of
+place_of_behind Output per_second t v told place of = of
+place_of_behind (ClockInput feed) per_second t v told place of = of
+place_of_behind ClockOutput per_second t v told place of = of
+
+-- its next tick is behind the point
+next_periodic : (start t : ℕ) (is_first b : Bool) (interval shift ticks : ℕ) → 0 < interval → IsNextFrom start t is_first (S.Periodic interval shift ticks) → b ≡ (start + shift + ticks * interval == t) →
+    IsNextFrom start t false (ticked_if b (S.Periodic interval shift ticks))
+next_periodic start t true true interval shift ticks above next due =
+    let here : start + shift + ticks * interval ≡ t = eqb-true (start + shift + ticks * interval) t (sym due) in (
+      omega (arith, here, above),
+      λ k lt. by k lt here,
+    )
+  where
+    by : (k : ℕ) → k < ticks + 1 → start + shift + ticks * interval ≡ t → start + shift + k * interval ≤ t
+    by k lt here = (elim (cases_lt k ticks) as (λ c. start + shift + k * interval ≤ t) [
+      | inl below ↦ omega (arith, next.1 k below)
+      | inr past ↦ (let e : k ≡ ticks = omega (arith, lt, past) in let f = ap (λ n. n * interval) e in omega (arith, f, here))
+    ])
+next_periodic start t true false interval shift ticks above next due = (
+  (let ne : start + shift + ticks * interval ≡ t → ⊥ = (λ e. true_false (sym (eq-eqb (start + shift + ticks * interval) t e) ∙ sym due)) in let le = next.0 in below (start + shift + ticks * interval) t le ne),
+  λ k lt. let b = next.1 k lt in omega (arith, b),
+)
+  where
+    below : (a b : ℕ) → b ≤ a → (a ≡ b → ⊥) → b < a
+    below a b le ne = omega (arith, le, ne)
+next_periodic start t false true interval shift ticks above next due =
+    let here : start + shift + ticks * interval ≡ t = eqb-true (start + shift + ticks * interval) t (sym due) in
+    let le = next.0 in
+    absurd (omega (arith, here, le))
+next_periodic start t false false interval shift ticks above next due = next
+
+next_countdown : (start t : ℕ) (b : Bool) (armed : Option ℕ) → IfSome armed (λ point. t ≤ point) → IsNextFrom start t false (ticked_if b (S.Countdown armed))
+next_countdown start t true armed next = tt
+next_countdown start t false armed next = next
+
+next_armed : (t : ℕ) (o : Option ℕ) → IfSome (option_map (λ counts. t + counts) o) (λ point. t ≤ point)
+next_armed t None = tt
+next_armed t (Some counts) = omega arith
+
+next_rearmed : (per_second start t : ℕ) (told : Interval) (place : ClockState) → IsNextFrom start t false place → IsNextFrom start t false (rearmed per_second t told place)
+next_rearmed per_second start t NotYetKnown place next = tt
+next_rearmed per_second start t (Unchanged f) place next = next
+next_rearmed per_second start t (Changed f) place next = next_armed t (counts_of f per_second)
+
+next_first : (start t : ℕ) (is_first : Bool) (armed : Option ℕ) → IsNextFrom start t is_first (S.Countdown armed) → IfSome armed (λ point. t ≤ point)
+next_first start t true armed next = next
+next_first start t false armed next = next
+
+next_unasked : (start t : ℕ) (place : ClockState) → place ≡ S.Unasked → IsNextFrom start t false place
+next_unasked start t place is = subst (IsNextFrom start t false) (sym is) tt
+
+-- a periodic Clock has a positive interval by its description
+abbrev pub IsPositive : Role → Type 0
+IsPositive (TimeClock (Periodic interval shift)) = 0 < interval
+IsPositive (TimeClock Answered) = Unit {0}
+IsPositive (TimeClock Countdown) = Unit {0}
+IsPositive (Input feed) = Unit {0}
+IsPositive Output = Unit {0}
+IsPositive (ClockInput feed) = Unit {0}
+IsPositive ClockOutput = Unit {0}
+
+pub next_behind : (role : Role) (per_second start t : ℕ) (is_first : Bool) (v : Option ℤ) (told : Interval) (place : ClockState) → IsPlaceOf role place → IsPositive role → IsNextFrom start t is_first place →
+    (is_time_clock role ≡ true → is_active v ≡ is_due_in start t place) → IsNextFrom start t false (place_behind role per_second t v told place)
+next_behind (TimeClock Countdown) per_second start t is_first v told place of positive next ticks =
+    next_rearmed per_second start t told (ticked_if (is_active v) place)
+    (subst (λ (x : ClockState). IsNextFrom start t false (ticked_if (is_active v) x)) (sym of.1)
+    (next_countdown start t (is_active v) of.0 (next_first start t is_first of.0 (subst (IsNextFrom start t is_first) of.1 next))))
+next_behind (TimeClock (Periodic interval shift)) per_second start t is_first v told place of positive next ticks =
+    subst (λ (x : ClockState). IsNextFrom start t false (ticked_if (is_active v) x)) (sym of.1)
+    (next_periodic start t is_first (is_active v) interval shift of.0 positive (subst (IsNextFrom start t is_first) of.1 next) (ticks refl ∙ ap (is_due_in start t) of.1))
+next_behind (TimeClock Answered) per_second start t is_first v told place of positive next ticks =
+    subst (λ (x : ClockState). IsNextFrom start t false (ticked_if (is_active v) x)) (sym of.3)
+    (next_periodic start t is_first (is_active v) of.0 of.1 of.2 of.4 (subst (IsNextFrom start t is_first) of.3 next) (ticks refl ∙ ap (is_due_in start t) of.3))
+next_behind (Input feed) per_second start t is_first v told place of positive next ticks = next_unasked start t place of
+next_behind Output per_second start t is_first v told place of positive next ticks = next_unasked start t place of
+next_behind (ClockInput feed) per_second start t is_first v told place of positive next ticks = next_unasked start t place of
+next_behind ClockOutput per_second start t is_first v told place of positive next ticks = next_unasked start t place of
+
+-- ---- whether it is armed for the point
+
+unarmed_periodic : (t : ℕ) (b : Bool) (interval shift ticks : ℕ) → false ≡ is_armed_for t (timer_in (ticked_if b (S.Periodic interval shift ticks)))
+unarmed_periodic t true interval shift ticks = refl
+unarmed_periodic t false interval shift ticks = refl
+
+unarmed_due : (start t : ℕ) (armed : Option ℕ) (b : Bool) → b ≡ is_due_in start t (S.Countdown armed) → false ≡ is_armed_for t (timer_in (ticked_if b (S.Countdown armed)))
+unarmed_due start t armed true due = refl
+unarmed_due start t None false due = refl
+unarmed_due start t (Some point) false due = due
+
+now_armed : (t : ℕ) (o : Option ℕ) → option_map_or (λ counts. counts == 0) o false ≡ is_armed_for t (timer_in (S.Countdown (option_map (λ counts. t + counts) o)))
+now_armed t None = refl
+now_armed t (Some counts) = same counts t
+  where
+    same : (n m : ℕ) → (n == 0) ≡ (m + n == m)
+    same n m = (elim (cases_lt 0 n) as (λ c. (n == 0) ≡ (m + n == m)) [
+      | inl above ↦ grind (arith, nat_tests)
+      | inr none ↦ grind (arith, nat_tests)
+    ])
+
+armed_now : (per_second start t : ℕ) (told : Interval) (armed : Option ℕ) (b : Bool) → b ≡ is_due_in start t (S.Countdown armed) → arms_now per_second told ≡ is_armed_for t (timer_in (rearmed per_second t told (ticked_if b (S.Countdown armed))))
+armed_now per_second start t NotYetKnown armed b due = refl
+armed_now per_second start t (Unchanged f) armed b due = unarmed_due start t armed b due
+armed_now per_second start t (Changed f) armed b due = now_armed t (counts_of f per_second)
+
+-- what is told where the port doesn't count down, and where it does
+armed_else : (role : Role) (per_second t : ℕ) (v : Option ℤ) (told : Interval) (place : ClockState) → IsPlaceOf role place → counts_down role ≡ false → false ≡ is_armed_for t (timer_in (place_behind role per_second t v told place))
+armed_else (TimeClock Countdown) per_second t v told place of none = absurd (true_false none)
+armed_else (TimeClock (Periodic interval shift)) per_second t v told place of none =
+    unarmed_periodic t (is_active v) interval shift of.0 ∙ sym (ap (λ (x : ClockState). is_armed_for t (timer_in (ticked_if (is_active v) x))) of.1)
+armed_else (TimeClock Answered) per_second t v told place of none =
+    unarmed_periodic t (is_active v) of.0 of.1 of.2 ∙ sym (ap (λ (x : ClockState). is_armed_for t (timer_in (ticked_if (is_active v) x))) of.3)
+armed_else (Input feed) per_second t v told place of none = sym (ap (λ (x : ClockState). is_armed_for t (timer_in x)) of)
+armed_else Output per_second t v told place of none = sym (ap (λ (x : ClockState). is_armed_for t (timer_in x)) of)
+armed_else (ClockInput feed) per_second t v told place of none = sym (ap (λ (x : ClockState). is_armed_for t (timer_in x)) of)
+armed_else ClockOutput per_second t v told place of none = sym (ap (λ (x : ClockState). is_armed_for t (timer_in x)) of)
+
+armed_down : (per_second start t : ℕ) (v : Option ℤ) (told : Interval) (place : ClockState) → IsPlaceOf (TimeClock Countdown) place → is_active v ≡ is_due_in start t place →
+    arms_now per_second told ≡ is_armed_for t (timer_in (rearmed per_second t told (ticked_if (is_active v) place)))
+armed_down per_second start t v told place of ticks =
+    armed_now per_second start t told of.0 (is_active v) (ticks ∙ ap (is_due_in start t) of.1)
+    ∙ sym (ap (λ (x : ClockState). is_armed_for t (timer_in (rearmed per_second t told (ticked_if (is_active v) x)))) of.1)
+
+-- ---- what one port does
+
+-- the same place is the same table
+pub with_same : (table : Timetable) (p : ℕ) (place : ClockState) → slice_get table.clocks p ≡ Some place → table ≡ with_clock table p place
+with_same table p place is = sym (ap (λ (cs : List ClockState). record table { clocks = cs }) (set_same table.clocks p place is))
+
+set_twice : {X : Type 0} (xs : List X) (k : ℕ) (x y : X) → set (set xs k x) k y ≡ set xs k y
+set_twice [] k x y = refl
+set_twice (z ∷ xs) zero x y = refl
+set_twice (z ∷ xs) (suc k) x y = ap (λ zs. z ∷ zs) (set_twice xs k x y)
+
+pub with_twice : (table : Timetable) (p : ℕ) (a b : ClockState) → with_clock (with_clock table p a) p b ≡ with_clock table p b
+with_twice table p a b = ap (λ (cs : List ClockState). record table { clocks = cs }) (set_twice table.clocks p a b)
+
+pub there_now : (table next : Timetable) (p : ℕ) (old place : ClockState) → slice_get table.clocks p ≡ Some old → next ≡ with_clock table p place → slice_get next.clocks p ≡ Some place
+there_now table next p old place is goes = ap (λ (x : Timetable). slice_get x.clocks p) goes ∙ set_here table.clocks p place (slice_get_within table.clocks p old is)
+
+module _ (table : Timetable) (role : Role) (per_second t p : ℕ) (v : Option ℤ) (told : Interval) (from : GoesFrom table role t p v) where
+  own_place : (place : ClockState) → slice_get table.clocks p ≡ Some place → from.place ≡ place
+  own_place place is = same_Some _ _ (sym from.is ∙ is)
+
+  -- a port that is no time-based Clock
+  pub goes_else : is_time_clock role ≡ false → IsBehind role per_second t p v told table table × IsArmed t p table false
+  goes_else none = (
+    λ place is. with_same table p place is ∙ ap (with_clock table p) (sym (by role none place)),
+    λ place is. subst (λ (x : ClockState). false ≡ is_armed_for t (timer_in x)) (own_place place is) (unarmed role none from.of),
+  )
+    where
+      by : (r : Role) → is_time_clock r ≡ false → (place : ClockState) → place_behind r per_second t v told place ≡ place
+      by (TimeClock timing) h place = absurd (true_false h)
+      by (Input feed) h place = refl
+      by Output h place = refl
+      by (ClockInput feed) h place = refl
+      by ClockOutput h place = refl
+
+      unarmed : (r : Role) → is_time_clock r ≡ false → IsPlaceOf r from.place → false ≡ is_armed_for t (timer_in from.place)
+      unarmed (TimeClock timing) h of = absurd (true_false h)
+      unarmed (Input feed) h of = sym (ap (λ (x : ClockState). is_armed_for t (timer_in x)) of)
+      unarmed Output h of = sym (ap (λ (x : ClockState). is_armed_for t (timer_in x)) of)
+      unarmed (ClockInput feed) h of = sym (ap (λ (x : ClockState). is_armed_for t (timer_in x)) of)
+      unarmed ClockOutput h of = sym (ap (λ (x : ClockState). is_armed_for t (timer_in x)) of)
+
+  module _ (clock : is_time_clock role ≡ true) where
+    -- it ticks where it is due
+    pub ticks_next : is_active v ≡ true → HasNext table p
+    ticks_next active = due_ticks table t p from.place from.is from.within (sym (from.ticks clock) ∙ active)
+
+    module _ (mid : Timetable) (ticked : (place : ClockState) → slice_get table.clocks p ≡ Some place → mid ≡ with_clock table p (ticked_if (is_active v) place)) where
+      mid_is : mid ≡ with_clock table p (ticked_if (is_active v) from.place)
+      mid_is = ticked from.place from.is
+
+      mid_there : slice_get mid.clocks p ≡ Some (ticked_if (is_active v) from.place)
+      mid_there = there_now table mid p from.place _ from.is mid_is
+
+      -- one that doesn't count down
+      pub goes_periodic : counts_down role ≡ false → IsBehind role per_second t p v told table mid × IsArmed t p mid false
+      goes_periodic none = (
+        λ place is. ticked place is ∙ ap (with_clock table p) (sym (by role clock none place)),
+        λ place is.
+            let own : ticked_if (is_active v) from.place ≡ place = same_Some _ _ (sym mid_there ∙ is) in
+            armed_else role per_second t v told from.place from.of none ∙ ap (λ (x : ClockState). is_armed_for t (timer_in x)) (by role clock none from.place ∙ own),
+      )
+        where
+          by : (r : Role) → is_time_clock r ≡ true → counts_down r ≡ false → (place : ClockState) → place_behind r per_second t v told place ≡ ticked_if (is_active v) place
+          by (TimeClock Countdown) h k place = absurd (true_false k)
+          by (TimeClock (Periodic interval shift)) h k place = refl
+          by (TimeClock Answered) h k place = refl
+          by (Input feed) h k place = absurd (true_false (sym h))
+          by Output h k place = absurd (true_false (sym h))
+          by (ClockInput feed) h k place = absurd (true_false (sym h))
+          by ClockOutput h k place = absurd (true_false (sym h))
+
+      -- one that counts down
+      module _ (down : role ≡ TimeClock Countdown) where
+        of_countdown : IsPlaceOf (TimeClock Countdown) from.place
+        of_countdown = subst (λ (r : Role). IsPlaceOf r from.place) down from.of
+
+        pub counts : IsCountdown mid p
+        counts = let ticked_place = countdown_ticked (is_active v) of_countdown.0 in (ticked_place.0, mid_there ∙ ap (λ (x : ClockState). Some (ticked_if (is_active v) x)) of_countdown.1 ∙ ap Some ticked_place.1)
+
+        pub goes_countdown : (next : Timetable) → ((place : ClockState) → slice_get mid.clocks p ≡ Some place → next ≡ with_clock mid p (rearmed per_second t told place)) → (now : Bool) → now ≡ arms_now per_second told →
+            IsBehind role per_second t p v told table next × IsArmed t p next now
+        goes_countdown next rearms now now_is =
+            let next_is = rearms (ticked_if (is_active v) from.place) mid_there in (
+              λ place is.
+                  let own = own_place place is in
+                  next_is ∙ ap (λ (x : Timetable). with_clock x p (rearmed per_second t told (ticked_if (is_active v) from.place))) mid_is
+                  ∙ with_twice table p (ticked_if (is_active v) from.place) (rearmed per_second t told (ticked_if (is_active v) from.place))
+                  ∙ ap (λ (x : ClockState). with_clock table p (rearmed per_second t told (ticked_if (is_active v) x))) own
+                  ∙ sym (ap (λ (r : Role). with_clock table p (place_behind r per_second t v told place)) down),
+              λ place is.
+                  let own : rearmed per_second t told (ticked_if (is_active v) from.place) ≡ place = same_Some _ _ (sym (there_now mid next p _ _ mid_there next_is) ∙ is) in
+                  now_is ∙ armed_down per_second table.start t v told from.place of_countdown (from.ticks clock) ∙ ap (λ (x : ClockState). is_armed_for t (timer_in x)) own,
+            )

@@ -1,0 +1,584 @@
+-- The questions of countdown Clocks behind an instant, port by port.
+use Rattle.std.proofs.Common.{◌≡◌, inl, inr, ℕ, zero, suc, ◌+◌, ◌<◌, ◌≤◌, ℤ, Bool, true, false, List, [], ◌∷◌, ◌++◌, Option, Some, None, Result, Ok, Err, refl, sym, ap, ap₂, ◌∙◌, subst, arith, length, get_or, set, map, take, drop}
+use Rattle.std.specs.Prelude.{All, Contains, IsSomeAnd, if◌then◌else◌, option_map, slice_get, unwrap_or, ◌||◌}
+use Rattle.std.specs.List.{list_any}
+use Rattle.std.specs.Option.{option_map_or}
+use Rattle.std.proofs.lemmas.Bool.{cases_lt}
+use Rattle.std.proofs.lemmas.List.{ext_get_or, length-map, length-set, map-append, set-get_or, take_all}
+use Rattle.std.proofs.lemmas.List.Elements.{All-cons, All-nil}
+use Rattle.std.proofs.lemmas.List.Folds.{list_any-append}
+use Rattle.std.proofs.lemmas.Option.{get_or_from_slice_get, same_Some, slice_get-map, slice_get_within}
+use Rattle.value_types.specs.Shape.{timing_at}
+use Rattle.value_types.specs.declared.shape.ClockTiming.{ClockTiming}
+use Rattle.value_types.specs.declared.shape.Shape.{Shape}
+use Rattle.value_types.specs.declared.shape.Variable.{Variable}
+use Rattle.fmi_calls.specs.declared.call.Call.{Call}
+use Rattle.fmi_calls.specs.declared.call.Call.TheVariants as C
+use Rattle.fmi_calls.specs.declared.call.Interval.{Interval}
+use Rattle.fmi_calls.specs.declared.call.Interval.TheVariants.{NotYetKnown}
+use Rattle.fmi_calls.specs.declared.call.Reply.{Reply}
+use Rattle.fmi_calls.specs.Next.{running_state}
+use Rattle.fmu_peer.specs.declared.peer.Exchange.{Exchange}
+use Rattle.fmu_peer.specs.declared.peer.PeerFault.{PeerFault}
+use Rattle.fmu_peer.specs.Talk.{IsGood}
+use Rattle.fmu_peer.specs.CloseAll.{Instance}
+use Rattle.fmu_peer.specs.Answer.{IsWhy}
+use Rattle.fmu_peer.specs.Machine.{MachineState, after}
+use Rattle.system_model.specs.declared.system.Component.{Component}
+use Rattle.system_model.specs.declared.system.Role.{Role}
+use Rattle.system_model.specs.declared.system.Role.TheVariants.{Input, Output, ClockInput, ClockOutput, TimeClock}
+use Rattle.system_model.specs.declared.system.Timing.TheVariants.{Periodic, Answered, Countdown}
+use Rattle.system_model.specs.declared.system.Port.{Port}
+use Rattle.system_model.specs.declared.system.System.{System}
+use Rattle.system_model.specs.Sound.{IsRole, IsSound, IsTiming}
+use Rattle.system_model.proofs.Lists.{all_at, all_by_place, true_false}
+use Rattle.system_model.proofs.SoundLemmas.{Placed, place_of}
+use Rattle.tick_schedule.specs.declared.clock.ClockState.{ClockState}
+use Rattle.tick_schedule.specs.Timetable.{Timetable, with_clock}
+use Rattle.run_model.specs.AfterInstant.{next_timer, next_timers_from, written}
+use Rattle.run_model.specs.Initial.{interval_in}
+use Rattle.run_model.specs.Inputs.{is_active, state_with}
+use Rattle.run_model.specs.Run.{Run, Situation, Timer, Never, at_fmu, value}
+use Rattle.run_model.specs.Timers.{answered, is_armed_for}
+use Rattle.slot_calls.specs.declared.bad_answer.BadAnswer.{BadAnswer}
+use Rattle.run_model.proofs.Unique.{none_in}
+use Rattle.slot_calls.specs.Log.{Asking, Sent, Told, askings, part}
+use Rattle.slot_calls.specs.Replies.{RepliesBy}
+use Rattle.slot_calls.specs.Stage.{IsGoodOf, Stage, StopsAt, shapes, shapes_of}
+use Rattle.slot_calls.proofs.Answered.{shape_of}
+use Rattle.slot_calls.proofs.Logs.{told_none, told_on}
+use Rattle.slot_calls.proofs.Replying.{replied_good}
+use Rattle.event_iteration.specs.Clocks.{IsNextFrom, IsPlaceOf, StandsAt, is_due_in, timer_in, timers_in}
+use Rattle.event_iteration.specs.Explains.{Explains, all_said}
+use Rattle.event_iteration.specs.Instants.{IsRunning}
+use Rattle.event_iteration.specs.Intervals.{AsksIntervals, Rearms, RearmsForMachines, TellsTicks, asks_interval, interval_by, intervals, timer_behind, timers_behind, timers_behind_from}
+use Rattle.event_iteration.specs.Machines.{AreAt}
+use Rattle.event_iteration.specs.Questions.{AreRunning, AsksPort, GoesFrom, IsBehindUpTo, counts_down, first_reply, modes, place_behind}
+use Rattle.event_iteration.specs.Settings.{port_order}
+use Rattle.event_iteration.specs.Turns.{IsPaired, Stops, Turn, sent_of}
+use Rattle.event_iteration.proofs.Asking.{mode_of}
+use Rattle.event_iteration.proofs.Answering.{one_answer, own_shape}
+use Rattle.event_iteration.proofs.Fmus.{are_replies, at_fmu-is, each_many, got, part_own_of}
+use Rattle.event_iteration.proofs.Loops.{more_order, split_order}
+use Rattle.event_iteration.proofs.Permits.{shape_of_component}
+use Rattle.event_iteration.proofs.Places.{IsPositive, map_take, next_behind, place_of_behind, set_beside, set_here, take_set, timer_of_place}
+use Rattle.event_iteration.proofs.Reading.{Leaves, fmu_of, still_at}
+use Rattle.event_iteration.proofs.Setting.{NoNeeds, all_ports, in_order, port_number}
+use Rattle.event_iteration.proofs.Walking.{AreAbout, Here, explains_more, here_at, is_other, is_same, more_replies, with_reply}
+
+-- ---- the states of the components
+
+pub are_running : (system : System) (ss : List Instance) → shapes ss ≡ shapes_of system → All (λ (x : Instance). IsRunning x.view) ss → AreRunning system (modes ss)
+are_running system ss alike all i c state of at =
+    let x = got ss i (let w = slice_get_within (modes ss) i state at in let e = length-map ss mode_of in omega (arith, w, e)) in
+    let own : state ≡ x.0.view.phase.state = same_Some _ _ (sym at ∙ slice_get-map mode_of ss i ∙ ap (option_map mode_of) x.1) in
+    let shape : x.0.view.fixed.shape ≡ c.shape =
+    same_Some _ _ (sym (slice_get-map shape_of ss i ∙ ap (option_map shape_of) x.1) ∙ ap (λ xs. slice_get xs i) alike ∙ slice_get-map (λ (y : Component). y.shape) system.components i ∙ ap (option_map (λ (y : Component). y.shape)) of) in
+    own ∙ all_at (λ (y : Instance). IsRunning y.view) ss i x.0 all x.1 ∙ ap running_state shape
+
+-- ---- one port's call
+
+asks_none : (role : Role) (port : Port) → counts_down role ≡ false → asks_interval role port ≡ None
+asks_none (TimeClock Countdown) port none = absurd (true_false none)
+asks_none (TimeClock (Periodic interval shift)) port none = refl
+asks_none (TimeClock Answered) port none = refl
+asks_none (Input feed) port none = refl
+asks_none Output port none = refl
+asks_none (ClockInput feed) port none = refl
+asks_none ClockOutput port none = refl
+
+stays : (values : List (Option ℤ)) (p : ℕ) → values ≡ set values p (value values p)
+stays values p = sym (set-get_or values p None)
+
+first_is : (a b : Asking) (xs ys : List Asking) → a ∷ xs ≡ b ∷ ys → a ≡ b
+first_is a b xs ys same = cc
+
+module _ (system : System) (sound : IsSound system) (p : ℕ) (port : Port) (is : slice_get system.ports p ≡ Some port) where
+  abbrev placed : Placed system p port
+  placed = place_of system sound p port is
+
+  -- a port that isn't asked
+  pub asks_nothing : (olds : List Instance) → counts_down port.role ≡ false → AsksPort system p olds olds (Ok None)
+  asks_nothing olds none = record {
+    log = [];
+    told = told_none olds;
+    says = λ values. record {
+      port = port;
+      is = is;
+      component = placed.component;
+      of = placed.is.of;
+      paired = subst (λ (o : Option Call). IsPaired placed.component.shape o None) (sym (asks_none port.role port none)) tt;
+      sent_is = sym (ap (λ (o : Option Call). sent_of port.component.0 o None) (asks_none port.role port none));
+      next_is = stays values p;
+    };
+  }
+
+  module _ (olds news : List Instance) (alike : shapes olds ≡ shapes_of system) (down : port.role ≡ TimeClock Countdown) where
+    asks_is : asks_interval port.role port ≡ Some (C.GetInterval port.reference)
+    asks_is = ap (λ (x : Role). asks_interval x port) down
+
+    -- one that is asked
+    pub asks_well : (reply : Reply) → Stage (record { component = port.component.0; call = C.GetInterval port.reference } ∷ []) first_reply olds news (Ok (Some reply)) → AsksPort system p olds news (Ok (Some reply))
+    asks_well reply stage =
+        let one = one_answer (shapes olds) port.component.0 (C.GetInterval port.reference) placed.component.shape reply stage.log (ap (λ xs. slice_get xs port.component.0) alike ∙ own_shape system sound p port is olds alike) stage.says.0 stage.says.1 in
+        record {
+          log = stage.log;
+          told = stage.told;
+          says = λ values. record {
+            port = port;
+            is = is;
+            component = placed.component;
+            of = placed.is.of;
+            paired = subst (λ (o : Option Call). IsPaired placed.component.shape o (Some reply)) (sym asks_is) one.good;
+            sent_is = one.is ∙ sym (ap (λ (o : Option Call). sent_of port.component.0 o (Some reply)) asks_is);
+            next_is = stays values p;
+          };
+        }
+
+    pub asks_badly : (bad : BadAnswer) → Stage (record { component = port.component.0; call = C.GetInterval port.reference } ∷ []) first_reply olds news (Err bad) → AsksPort system p olds news (Err bad)
+    asks_badly bad stage = record {
+      log = stage.log;
+      told = stage.told;
+      says = last_one stage.says;
+    }
+      where
+        own : (d : Shape) → placed.component.shape ≡ get_or (shapes olds) port.component.0 d
+        own d = sym (get_or_from_slice_get (shapes olds) port.component.0 placed.component.shape d (ap (λ xs. slice_get xs port.component.0) alike ∙ own_shape system sound p port is olds alike))
+
+        last_one : StopsAt (shapes olds) (record { component = port.component.0; call = C.GetInterval port.reference } ∷ []) bad stage.log → (last : Sent) × (stage.log ≡ last ∷ []) × ((values : List (Option ℤ)) → Stops system intervals p bad values last)
+        last_one stops = by stops.front stops.left stops.log_is (stops.calls_are ∙ ap (λ es. askings es ++ stops.left) stops.log_is)
+          where
+            by : (front : List Sent) (left : List Asking) → stage.log ≡ front ++ stops.last ∷ [] → record { component = port.component.0; call = C.GetInterval port.reference } ∷ [] ≡ askings (front ++ stops.last ∷ []) ++ left →
+                (last : Sent) × (stage.log ≡ last ∷ []) × ((values : List (Option ℤ)) → Stops system intervals p bad values last)
+            by [] left log_is calls_are =
+                let own_call = first_is _ _ _ _ calls_are in
+                let at : stops.last.component ≡ port.component.0 = sym (ap (λ (a : Asking). a.component) own_call) in
+                let call_is : stops.last.exchange.call ≡ C.GetInterval port.reference = sym (ap (λ (a : Asking). a.call) own_call) in (
+                  stops.last,
+                  log_is,
+                  λ values. record {
+                    port = port;
+                    is = is;
+                    component = placed.component;
+                    of = placed.is.of;
+                    asks = asks_is ∙ ap Some (sym call_is);
+                    sent_to = at;
+                    told_of = sym stops.first.component ∙ at;
+                    why = subst (λ (s : Shape). IsWhy s bad.why stops.last.exchange) (ap (λ n. get_or (shapes olds) n placed.component.shape) at ∙ sym (own placed.component.shape)) (stops.first.why placed.component.shape);
+                  },
+                )
+            by (s ∷ []) left log_is calls_are = absurd (cc)
+            by (s ∷ u ∷ front) left log_is calls_are = absurd (cc)
+
+-- ---- what a machine answers
+
+abbrev pub shown_interval : Run → List MachineState → Port → Interval
+shown_interval r states port = unwrap_or (at_fmu r states port.component.0 (λ c m s. Some (interval_in (m.look s (C.GetInterval port.reference))))) NotYetKnown
+
+leaving : (i : ℕ) (role : Role) (port : Port) (reply : Option Reply) → All (λ (s : Sent). Leaves s.exchange.call) (sent_of i (asks_interval role port) reply)
+leaving i (TimeClock Countdown) port None = All-nil (λ (s : Sent). Leaves s.exchange.call)
+leaving i (TimeClock Countdown) port (Some reply) = All-cons (λ (s : Sent). Leaves s.exchange.call) _ [] (λ m s. refl) (All-nil (λ (s : Sent). Leaves s.exchange.call))
+leaving i (TimeClock (Periodic interval shift)) port reply = All-nil (λ (s : Sent). Leaves s.exchange.call)
+leaving i (TimeClock Answered) port reply = All-nil (λ (s : Sent). Leaves s.exchange.call)
+leaving i (Input feed) port reply = All-nil (λ (s : Sent). Leaves s.exchange.call)
+leaving i Output port reply = All-nil (λ (s : Sent). Leaves s.exchange.call)
+leaving i (ClockInput feed) port reply = All-nil (λ (s : Sent). Leaves s.exchange.call)
+leaving i ClockOutput port reply = All-nil (λ (s : Sent). Leaves s.exchange.call)
+
+good_sent : (system : System) (i : ℕ) (c : Component) → slice_get system.components i ≡ Some c → (call : Option Call) (reply : Option Reply) → IsPaired c.shape call reply → All (IsGoodOf (shapes_of system)) (sent_of i call reply)
+good_sent system i c of None reply paired = All-nil (IsGoodOf (shapes_of system))
+good_sent system i c of (Some call) None paired = All-nil (IsGoodOf (shapes_of system))
+good_sent system i c of (Some call) (Some reply) paired =
+    All-cons (IsGoodOf (shapes_of system)) _ [] (λ d. subst (λ (s : Shape). IsGood s (record { call = call; result = Ok reply })) (shape_of_component system i c of d) paired) (All-nil (IsGoodOf (shapes_of system)))
+
+module _ (r : Run) (states : List MachineState) (few : length r.machines ≡ length r.system.components) (many : length states ≡ length r.system.components) (olds news : List Instance) (at : AreAt r states olds) (log : List Sent) (told : Told log olds news)
+    (p : ℕ) (reply : Option Reply) (values : List (Option ℤ)) (turn : Turn r.system intervals p reply values values log) where
+  good_log : All (IsGoodOf (shapes_of r.system)) log
+  good_log = subst (All (IsGoodOf (shapes_of r.system))) (sym turn.sent_is) (good_sent r.system turn.port.component.0 turn.component turn.of (asks_interval turn.port.role turn.port) reply turn.paired)
+
+  pub still_there : AreAt r states news
+  still_there = still_at r states olds news at log told good_log (subst (All (λ (s : Sent). Leaves s.exchange.call)) (sym turn.sent_is) (leaving turn.port.component.0 turn.port.role turn.port reply))
+
+  abbrev i : ℕ
+  i = turn.port.component.0
+
+  abbrev call : Call
+  call = C.GetInterval turn.port.reference
+
+  -- a countdown Clock's reply is the machine's
+  pub shown_there : turn.port.role ≡ TimeClock Countdown → interval_by reply ≡ shown_interval r states turn.port
+  shown_there down = by reply turn.sent_is turn.paired
+    where
+      asks : asks_interval turn.port.role turn.port ≡ Some call
+      asks = ap (λ (x : Role). asks_interval x turn.port) down
+
+      by : (o : Option Reply) → log ≡ sent_of i (asks_interval turn.port.role turn.port) o → IsPaired turn.component.shape (asks_interval turn.port.role turn.port) o → interval_by o ≡ shown_interval r states turn.port
+      by None log_is paired = absurd (subst (λ (k : Option Call). IsPaired turn.component.shape k None) asks paired)
+      by (Some x) log_is paired =
+          let fmu = fmu_of r states few many i turn.component turn.of in
+          let m = fmu.0 in
+          let s = fmu.1 in
+          let e : Exchange = record { call = call; result = Ok x } in
+          let part_is : part i log ≡ e ∷ [] = ap (part i) (log_is ∙ ap (λ (k : Option Call). sent_of i k (Some x)) asks) ∙ part_own_of i (Some call) (Some x) in
+          let good = subst (λ (k : Option Call). IsPaired turn.component.shape k (Some x)) asks paired in
+          let told_own = replied_good m turn.component.shape s e [] good (subst (RepliesBy m s) part_is (are_replies r states olds news at log told i turn.component m s fmu.2)) in
+          let its : ◌≡◌ {A = Result Reply PeerFault} (Ok x) (Ok (m.look s call)) = told_own.0 in
+          let same : x ≡ m.look s call = (cc) in
+          ap interval_in same ∙ sym (ap (λ (o : Option Interval). unwrap_or o NotYetKnown) (at_fmu-is r states i turn.component m s (λ d n z. Some (interval_in (n.look z call))) fmu.2))
+
+-- ---- the first ports
+
+pub record Rearming (system : System) (per_second t k : ℕ) (values : List (Option ℤ)) (before table : Timetable) (armed : Bool) (olds mids : List Instance) : Type 0 where
+  pub log : List Sent
+  pub told : Told log olds mids
+  pub explains : Explains system intervals values (take k (port_order system)) values log
+  pub modes_are : modes mids ≡ modes olds
+  pub behind : IsBehindUpTo system per_second t values explains.replies k before table
+  pub armed_is : armed ≡ list_any (is_armed_for t) (take k (timers_in table))
+  pub machines : (r : Run) (states : List MachineState) → r.system ≡ system → length r.machines ≡ length r.system.components → length states ≡ length r.system.components → AreAt r states olds →
+      AreAt r states mids × ((q : ℕ) (port : Port) → q < k → slice_get system.ports q ≡ Some port → port.role ≡ TimeClock Countdown → interval_by (explains.replies q) ≡ shown_interval r states port)
+
+pub rearming_none : (system : System) (per_second t : ℕ) (values : List (Option ℤ)) (table : Timetable) (is : List Instance) → Rearming system per_second t 0 values table table false is is
+rearming_none system per_second t values table is = record {
+  log = [];
+  told = told_none is;
+  explains = record {
+    replies = λ q. None;
+    log_is = refl;
+    paired = λ p port c at of m. absurd (none_in p m);
+    taken_values = λ p port at m. refl;
+    left = λ p m. refl;
+  };
+  modes_are = refl;
+  behind = record {
+    start = refl;
+    stop = refl;
+    len = refl;
+    behind = λ q port place lt. absurd (omega (arith, lt));
+    ahead = λ q le. refl;
+  };
+  armed_is = refl;
+  machines = λ r states same few many at. (at, λ q port lt. absurd (omega (arith, lt)));
+}
+
+about_intervals : (system : System) → AreAbout NoNeeds system intervals
+about_intervals system = record { asks_same = λ p port c V W is h. refl; takes_same = λ p port V W last reply is h. refl }
+
+module _ (system : System) (values : List (Option ℤ)) (places : length values ≡ length system.ports) (k : ℕ) (within : k < length system.ports) (log more : List Sent) (reply : Option Reply)
+    (front : Explains system intervals values (take k (port_order system)) values log) (turn : Turn system intervals k reply values values more) where
+  abbrev here_now : Here NoNeeds (take k (port_order system)) k
+  here_now = here_at (λ q. q < length system.ports) NoNeeds (port_order system) (take k (port_order system)) k (drop (k + 1) (port_order system)) (in_order system) (split_order (port_order system) k k (port_number system k within))
+
+  abbrev on : Explains system intervals values (take k (port_order system) ++ k ∷ []) values (log ++ more)
+  on = explains_more NoNeeds system intervals (about_intervals system) values (take k (port_order system)) k reply values values log more
+      here_now places front turn
+
+  replies_on : on.replies ≡ with_reply k reply front.replies
+  replies_on = more_replies NoNeeds system intervals (about_intervals system) values (take k (port_order system)) k reply values values log more here_now places front turn
+
+  order_on : take k (port_order system) ++ k ∷ [] ≡ take (k + 1) (port_order system)
+  order_on = sym (more_order (port_order system) k k (port_number system k within))
+
+  pub explains_on : Explains system intervals values (take (k + 1) (port_order system)) values (log ++ more)
+  explains_on = record {
+    replies = on.replies;
+    log_is = on.log_is ∙ ap (λ (o : List ℕ). all_said system intervals values on.replies o) order_on;
+    paired = λ p port c is of m. on.paired p port c is of (subst (λ (o : List ℕ). Contains o p) (sym order_on) m);
+    taken_values = λ p port is m. refl;
+    left = λ p m. refl;
+  }
+
+  pub reply_here : explains_on.replies k ≡ reply
+  unfolding explains_on
+  reply_here = ap (λ (f : ℕ → Option Reply). f k) replies_on ∙ ap (λ b. if b then reply else front.replies k) (is_same k k refl)
+
+  pub reply_old : (q : ℕ) → (q ≡ k → ⊥) → explains_on.replies q ≡ front.replies q
+  unfolding explains_on
+  reply_old q other = ap (λ (f : ℕ → Option Reply). f q) replies_on ∙ ap (λ b. if b then reply else front.replies q) (is_other q k other)
+
+or_last : (a b : Bool) → (a || b) ≡ (a || (b || false))
+or_last true b = refl
+or_last false true = refl
+or_last false false = refl
+
+module _ (system : System) (per_second t k : ℕ) (values : List (Option ℤ)) (places : length values ≡ length system.ports) (port : Port) (is : slice_get system.ports k ≡ Some port) (before table next : Timetable) (armed told : Bool)
+    (olds mids news : List Instance) (front : Rearming system per_second t k values before table armed olds mids) where
+  within : k < length system.ports
+  within = slice_get_within system.ports k port is
+
+  -- up to a bad answer
+  pub rearming_until : (bad : BadAnswer) (after : List Timer) → AsksPort system k mids news (Err bad) → AsksIntervals system per_second t values (timers_in before) after olds news (Err bad)
+  rearming_until bad after turn = record {
+    log = front.log ++ turn.log;
+    told = told_on olds mids news front.log turn.log front.told turn.told;
+    says = record {
+      taken = take k (port_order system);
+      p = k;
+      rest = drop (k + 1) (port_order system);
+      order_is = split_order (port_order system) k k (port_number system k within);
+      front = front.log;
+      last = turn.says.0;
+      log_is = ap (λ es. front.log ++ es) turn.says.1;
+      told = front.explains;
+      stops = turn.says.2 values;
+    };
+  }
+
+  -- one port more
+  module _ (reply : Option Reply) (turn : AsksPort system k mids news (Ok reply)) (modes_same : modes news ≡ modes mids) (place : ClockState) (there : slice_get table.clocks k ≡ Some place)
+      (goes : next ≡ with_clock table k (place_behind port.role per_second t (value values k) (interval_by reply) place)) (arms : told ≡ is_armed_for t (timer_in (place_behind port.role per_second t (value values k) (interval_by reply) place))) where
+    abbrev explains_next : Explains system intervals values (take (k + 1) (port_order system)) values (front.log ++ turn.log)
+    explains_next = explains_on system values places k within front.log turn.log reply front.explains (turn.says values)
+
+    abbrev placed_next : ClockState
+    placed_next = place_behind port.role per_second t (value values k) (interval_by reply) place
+
+    in_clocks : k < length table.clocks
+    in_clocks = slice_get_within table.clocks k place there
+
+    clocks_are : next.clocks ≡ set table.clocks k placed_next
+    clocks_are = ap (λ (x : Timetable). x.clocks) goes
+
+    here : slice_get next.clocks k ≡ Some placed_next
+    here = ap (λ xs. slice_get xs k) clocks_are ∙ set_here table.clocks k placed_next in_clocks
+
+    beside : (q : ℕ) → (q ≡ k → ⊥) → slice_get next.clocks q ≡ slice_get table.clocks q
+    beside q other = ap (λ xs. slice_get xs q) clocks_are ∙ set_beside table.clocks k placed_next q other
+
+    behind_more : IsBehindUpTo system per_second t values explains_next.replies (k + 1) before next
+    behind_more = record {
+      start = ap (λ (x : Timetable). x.start) goes ∙ front.behind.start;
+      stop = ap (λ (x : Timetable). x.stop) goes ∙ front.behind.stop;
+      len = ap length clocks_are ∙ length-set table.clocks k placed_next ∙ front.behind.len;
+      behind = λ q x old lt at at_old. (elim (cases_lt q k) as (λ c. slice_get next.clocks q ≡ Some (place_behind x.role per_second t (value values q) (interval_by (explains_next.replies q)) old)) [
+        | inl below ↦
+            let other : q ≡ k → ⊥ = λ e. absurd (omega (arith, e, below)) in
+            beside q other ∙ front.behind.behind q x old below at at_old
+            ∙ ap (λ (o : Option Reply). Some (place_behind x.role per_second t (value values q) (interval_by o) old)) (sym (reply_old system values places k within front.log turn.log reply front.explains (turn.says values) q other))
+        | inr past ↦
+            let same_place : q ≡ k = omega (arith, lt, past) in
+            let its : port ≡ x = same_Some _ _ (sym is ∙ ap (slice_get system.ports) (sym same_place) ∙ at) in
+            let own : place ≡ old = same_Some _ _ (sym there ∙ front.behind.ahead k (omega arith) ∙ ap (slice_get before.clocks) (sym same_place) ∙ at_old) in
+            ap (slice_get next.clocks) same_place ∙ here
+            ∙ ap (λ (o : Option Reply). Some (place_behind port.role per_second t (value values k) (interval_by o) place)) (sym (reply_here system values places k within front.log turn.log reply front.explains (turn.says values)))
+            ∙ ap₂ (λ (n : ℕ) (y : Port). Some (place_behind y.role per_second t (value values n) (interval_by (explains_next.replies n)) place)) (sym same_place) its
+            ∙ ap (λ (y : ClockState). Some (place_behind x.role per_second t (value values q) (interval_by (explains_next.replies q)) y)) own
+      ]);
+      ahead = λ q le. beside q (λ e. absurd (omega (arith, e, le))) ∙ front.behind.ahead q (omega (arith, le));
+    }
+
+    timers_more : take (k + 1) (timers_in next) ≡ take k (timers_in table) ++ timer_in placed_next ∷ []
+    timers_more =
+        sym (map_take timer_in (k + 1) next.clocks) ∙ ap (λ cs. map timer_in (take (k + 1) cs)) clocks_are ∙ ap (map timer_in) (take_set table.clocks k placed_next in_clocks)
+        ∙ map-append timer_in (take k table.clocks) (placed_next ∷ []) ∙ ap (λ ts. ts ++ timer_in placed_next ∷ []) (map_take timer_in k table.clocks)
+
+    pub rearming_more : (now : Bool) → now ≡ (armed || told) → Rearming system per_second t (k + 1) values before next now olds news
+    rearming_more now now_is = record {
+      log = front.log ++ turn.log;
+      told = told_on olds mids news front.log turn.log front.told turn.told;
+      explains = explains_next;
+      modes_are = modes_same ∙ front.modes_are;
+      behind = behind_more;
+      armed_is = now_is ∙ or_last armed told
+          ∙ ap₂ (λ (a b : Bool). a || (b || false)) front.armed_is arms ∙ sym (ap (list_any (is_armed_for t)) timers_more ∙ list_any-append (is_armed_for t) (take k (timers_in table)) (timer_in placed_next ∷ []));
+      machines = λ r states same few many at.
+          let was = front.machines r states same few many at in
+          let own : Turn r.system intervals k reply values values turn.log = subst (λ (x : System). Turn x intervals k reply values values turn.log) (sym same) (turn.says values) in
+          let port_is : own.port ≡ port = same_Some _ _ (sym own.is ∙ ap (λ (x : System). slice_get x.ports k) same ∙ is) in (
+            still_there r states few many mids news was.0 turn.log turn.told k reply values own,
+            λ q x lt is_x down. (elim (cases_lt q k) as (λ c. interval_by (explains_next.replies q) ≡ shown_interval r states x) [
+              | inl below ↦
+                  ap interval_by (reply_old system values places k within front.log turn.log reply front.explains (turn.says values) q (λ e. absurd (omega (arith, e, below)))) ∙ was.1 q x below is_x down
+              | inr past ↦
+                  let same_place : q ≡ k = omega (arith, lt, past) in
+                  let its : port ≡ x = same_Some _ _ (sym is ∙ ap (slice_get system.ports) (sym same_place) ∙ is_x) in
+                  let its_own : own.port ≡ x = port_is ∙ its in
+                  ap (λ n. interval_by (explains_next.replies n)) same_place
+                  ∙ ap interval_by (reply_here system values places k within front.log turn.log reply front.explains (turn.says values))
+                  ∙ shown_there r states few many mids news was.0 turn.log turn.told k reply values own (ap (λ (y : Port). y.role) its_own ∙ down)
+                  ∙ ap (shown_interval r states) its_own
+            ]),
+          );
+    }
+
+-- ---- timers by place
+
+timers_behind_at : (per_second t : ℕ) (values : List (Option ℤ)) (replies : ℕ → Option Reply) (p : ℕ) (ports : List Port) (olds : List Timer) (q : ℕ) (port : Port) (old : Timer) → slice_get ports q ≡ Some port → slice_get olds q ≡ Some old →
+    slice_get (timers_behind_from per_second t values replies p ports olds) q ≡ Some (timer_behind port.role per_second t (value values (p + q)) (replies (p + q)) old)
+timers_behind_at per_second t values replies p [] olds q port old is is_old = absurd (cc)
+timers_behind_at per_second t values replies p (x ∷ ports) [] q port old is is_old = absurd (cc)
+timers_behind_at per_second t values replies p (x ∷ ports) (y ∷ olds) zero port old is is_old =
+    let place : p ≡ p + 0 = omega arith in
+    ap₂ (λ (z : Port) (w : Timer). Some (timer_behind z.role per_second t (value values p) (replies p) w)) (same_Some _ _ is) (same_Some _ _ is_old)
+    ∙ ap (λ n. Some (timer_behind port.role per_second t (value values n) (replies n) old)) place
+timers_behind_at per_second t values replies p (x ∷ ports) (y ∷ olds) (suc q) port old is is_old =
+    let place : suc p + q ≡ p + suc q = omega arith in
+    timers_behind_at per_second t values replies (suc p) ports olds q port old is is_old ∙ ap (λ n. Some (timer_behind port.role per_second t (value values n) (replies n) old)) place
+
+timers_behind_many : (per_second t : ℕ) (values : List (Option ℤ)) (replies : ℕ → Option Reply) (p : ℕ) (ports : List Port) (olds : List Timer) → length olds ≡ length ports → length (timers_behind_from per_second t values replies p ports olds) ≡ length olds
+timers_behind_many per_second t values replies p [] [] e = refl
+timers_behind_many per_second t values replies p [] (y ∷ olds) e = absurd (omega (arith, e))
+timers_behind_many per_second t values replies p (x ∷ ports) [] e = refl
+timers_behind_many per_second t values replies p (x ∷ ports) (y ∷ olds) e = ap suc (timers_behind_many per_second t values replies (suc p) ports olds (omega (arith, e)))
+
+-- the timers behind an instant are the run's where the replies are
+next_same : (r : Run) (s : Situation) (values : List (Option ℤ)) (replies : ℕ → Option Reply) (p : ℕ) (ports : List Port) (olds : List Timer) →
+    ((q : ℕ) (port : Port) → slice_get ports q ≡ Some port → port.role ≡ TimeClock Countdown → interval_by (replies (p + q)) ≡ shown_interval r (written r s values) port) →
+    timers_behind_from r.plan.resolution s.t values replies p ports olds ≡ next_timers_from r s values p ports olds
+next_same r s values replies p [] olds h = refl
+next_same r s values replies p (x ∷ ports) [] h = refl
+next_same r s values replies p (x ∷ ports) (y ∷ olds) h =
+    ap₂ (λ (a : Timer) bs. a ∷ bs) (by x.role (h 0 x refl))
+    (next_same r s values replies (suc p) ports olds (λ q port is down. let place : suc p + q ≡ p + suc q = omega arith in ap (λ n. interval_by (replies n)) place ∙ h (suc q) port is down))
+  where
+    by : (role : Role) → (role ≡ TimeClock Countdown → interval_by (replies (p + 0)) ≡ shown_interval r (written r s values) x) → timer_behind role r.plan.resolution s.t (value values p) (replies p) y ≡ next_timer role r s values p x y
+    by (TimeClock Countdown) shown =
+        let place : p ≡ p + 0 = omega arith in
+        ap (λ (i : Interval). answered r.plan.resolution s.t i (if is_active (value values p) then Never else y)) (ap (λ n. interval_by (replies n)) place ∙ shown refl)
+    by (TimeClock (Periodic interval shift)) shown = refl
+    by (TimeClock Answered) shown = refl
+    by (Input feed) shown = refl
+    by Output shown = refl
+    by (ClockInput feed) shown = refl
+    by ClockOutput shown = refl
+
+-- ---- where a port stands before it goes on
+
+module _ (system : System) (per_second t : ℕ) (is_first : Bool) (values : List (Option ℤ)) (before : Timetable) (stands : StandsAt system t is_first before) (ticks : TellsTicks system before t values) where
+  pub goes_from : (k : ℕ) (port : Port) (table : Timetable) (armed : Bool) (olds mids : List Instance) → slice_get system.ports k ≡ Some port → Rearming system per_second t k values before table armed olds mids → GoesFrom table port.role t k (value values k)
+  goes_from k port table armed olds mids is front =
+      let place = got before.clocks k (let w = slice_get_within system.ports k port is in let e = stands.len in omega (arith, w, e)) in
+      let start = front.behind.start in
+      let stop = front.behind.stop in
+      record {
+        place = place.0;
+        is = front.behind.ahead k (omega arith) ∙ place.1;
+        of = stands.places k port place.0 is place.1;
+        ticks = λ clock. ticks k port is clock ∙ ap (λ (o : Option ClockState). option_map_or (is_due_in before.start t) o false) place.1 ∙ ap (λ n. is_due_in n t place.0) (sym start);
+        within = (let w = stands.within in omega (arith, w, stop));
+      }
+
+-- ---- all of them
+
+positive_by : (system : System) → IsSound system → (p : ℕ) (port : Port) → slice_get system.ports p ≡ Some port → IsPositive port.role
+positive_by system sound p port is = let placed = place_of system sound p port is in by port.role placed.component.shape placed.variable placed.role
+  where
+    by : (role : Role) (shape : Shape) (x : Variable) → IsRole shape x role → IsPositive role
+    by (TimeClock (Periodic interval shift)) shape x h = some (timing_at shape.clocks x.reference) h.2
+      where
+        some : (o : Option ClockTiming) → IsSomeAnd o (λ (c : ClockTiming). IsTiming shape.resolution c (Periodic interval shift)) → 0 < interval
+        some None g = absurd g
+        some (Some c) g = g.interval_above
+    by (TimeClock Answered) shape x h = tt
+    by (TimeClock Countdown) shape x h = tt
+    by (Input feed) shape x h = tt
+    by Output shape x h = tt
+    by (ClockInput feed) shape x h = tt
+    by ClockOutput shape x h = tt
+
+module _ (system : System) (sound : IsSound system) (per_second t k : ℕ) (is_first : Bool) (values : List (Option ℤ)) (places : length values ≡ length system.ports) (before table : Timetable) (armed : Bool) (olds mids : List Instance)
+    (stands : StandsAt system t is_first before) (ticks : TellsTicks system before t values) (whole : length system.ports ≤ k) (all : Rearming system per_second t k values before table armed olds mids) where
+  len : length table.clocks ≡ length system.ports
+  len = all.behind.len ∙ stands.len
+
+  abbrev replies : ℕ → Option Reply
+  replies = all.explains.replies
+
+  record At (q : ℕ) : Type 0 where
+    port : Port
+    is : slice_get system.ports q ≡ Some port
+    place : ClockState
+    was : slice_get before.clocks q ≡ Some place
+    now : slice_get table.clocks q ≡ Some (place_behind port.role per_second t (value values q) (interval_by (replies q)) place)
+    of : IsPlaceOf port.role place
+
+  at_place : (q : ℕ) → q < length system.ports → At q
+  at_place q lt =
+      let port = got system.ports q lt in
+      let place = got before.clocks q (let e = stands.len in omega (arith, e, lt)) in
+      record {
+        port = port.0;
+        is = port.1;
+        place = place.0;
+        was = place.1;
+        now = all.behind.behind q port.0 place.0 (let w = whole in omega (arith, w, lt)) port.1 place.1;
+        of = stands.places q port.0 place.0 port.1 place.1;
+      }
+
+  pub rearming_stands : StandsAt system t false table
+  rearming_stands = record {
+    len = len;
+    places = λ p port place is is_place.
+        let here = at_place p (slice_get_within system.ports p port is) in
+        let its : here.port ≡ port = same_Some _ _ (sym here.is ∙ is) in
+        let own : place_behind here.port.role per_second t (value values p) (interval_by (replies p)) here.place ≡ place = same_Some _ _ (sym here.now ∙ is_place) in
+        subst (λ (x : Port). IsPlaceOf x.role place) its (subst (IsPlaceOf here.port.role) own (place_of_behind here.port.role per_second t (value values p) (interval_by (replies p)) here.place here.of));
+    next = all_by_place (IsNextFrom table.start t false) table.clocks (λ q place is_place.
+        let here = at_place q (let w = slice_get_within table.clocks q place is_place in let e = len in omega (arith, w, e)) in
+        let own : place_behind here.port.role per_second t (value values q) (interval_by (replies q)) here.place ≡ place = same_Some _ _ (sym here.now ∙ is_place) in
+        subst (λ n. IsNextFrom n t false place) (sym all.behind.start)
+        (subst (IsNextFrom before.start t false) own
+        (next_behind here.port.role per_second before.start t is_first (value values q) (interval_by (replies q)) here.place here.of (positive_by system sound q here.port here.is)
+        (all_at (IsNextFrom before.start t is_first) before.clocks q here.place stands.next here.was)
+        (λ clock. ticks q here.port here.is clock ∙ ap (λ (o : Option ClockState). option_map_or (is_due_in before.start t) o false) here.was))));
+    within = (let w = stands.within in let e = all.behind.stop in omega (arith, w, e));
+  }
+
+  olds_many : length (timers_in before) ≡ length system.ports
+  olds_many = length-map before.clocks timer_in ∙ stands.len
+
+  timers_are : timers_in table ≡ timers_behind per_second t system values replies (timers_in before)
+  timers_are =
+      let many : length (timers_behind per_second t system values replies (timers_in before)) ≡ length system.ports = timers_behind_many per_second t values replies 0 system.ports (timers_in before) olds_many ∙ olds_many in
+      let own : length (timers_in table) ≡ length system.ports = length-map table.clocks timer_in ∙ len in
+      ext_get_or Never (timers_in table) (timers_behind per_second t system values replies (timers_in before)) (own ∙ sym many)
+      (λ q lt.
+      let here = at_place q (omega (arith, own, lt)) in
+      let place : q ≡ 0 + q = omega arith in
+      let new : slice_get (timers_in table) q ≡ Some (timer_in (place_behind here.port.role per_second t (value values q) (interval_by (replies q)) here.place)) = slice_get-map timer_in table.clocks q ∙ ap (option_map timer_in) here.now in
+      let old : slice_get (timers_in before) q ≡ Some (timer_in here.place) = slice_get-map timer_in before.clocks q ∙ ap (option_map timer_in) here.was in
+      get_or_from_slice_get (timers_in table) q _ Never new
+      ∙ timer_of_place here.port.role per_second t (value values q) (replies q) here.place here.of
+      ∙ ap (λ n. timer_behind here.port.role per_second t (value values n) (replies n) (timer_in here.place)) place
+      ∙ sym (get_or_from_slice_get (timers_behind per_second t system values replies (timers_in before)) q _ Never (timers_behind_at per_second t values replies 0 system.ports (timers_in before) q here.port (timer_in here.place) here.is old)))
+
+  order_whole : take k (port_order system) ≡ port_order system
+  order_whole = all_ports system k whole
+
+  explains_whole : Explains system intervals values (port_order system) values all.log
+  explains_whole = record {
+    replies = replies;
+    log_is = all.explains.log_is ∙ ap (λ (o : List ℕ). all_said system intervals values replies o) order_whole;
+    paired = λ p port c is of m. all.explains.paired p port c is of (subst (λ (o : List ℕ). Contains o p) (sym order_whole) m);
+    taken_values = λ p port is m. refl;
+    left = λ p m. refl;
+  }
+
+  pub rearming_all : AsksIntervals system per_second t values (timers_in before) (timers_in table) olds mids (Ok armed)
+  unfolding explains_whole
+  rearming_all = record {
+    log = all.log;
+    told = all.told;
+    says = (
+      rearms,
+      all.armed_is ∙ ap (list_any (is_armed_for t)) (take_all k (timers_in table) (let a = length-map table.clocks timer_in in let b = len in let w = whole in omega (arith, a, b, w))),
+    );
+  }
+    where
+      rearms : Rearms system per_second t values (timers_in before) (timers_in table) all.log
+      rearms = record { explains = explains_whole; timers_are = timers_are }
+
+  pub rearming_machines : RearmsForMachines system per_second t values (timers_in before) (timers_in table) olds mids
+  rearming_machines r s same counts machines situation at_point timers at =
+      let many : length (written r s values) ≡ length r.system.components = each_many r s.states (λ i c m state. if c.shape.has_event_mode then state_with r.system.ports values i m state else state) machines.count situation.states in
+      let done = all.machines r (written r s values) same machines.count many at in (
+        done.0,
+        timers_are
+            ∙ ap₂ (λ (x : System) (olds : List Timer). timers_behind_from per_second t values replies 0 x.ports olds) (sym same) (sym timers)
+            ∙ ap₂ (λ (n m : ℕ). timers_behind_from n m values replies 0 r.system.ports s.timers) (sym counts) (sym at_point)
+            ∙ next_same r s values replies 0 r.system.ports s.timers
+            (λ q port is down.
+            let place : 0 + q ≡ q = omega arith in
+            let own : slice_get system.ports q ≡ Some port = ap (λ (x : System). slice_get x.ports q) (sym same) ∙ is in
+            ap (λ n. interval_by (replies n)) place ∙ done.1 q port (let a = slice_get_within system.ports q port own in let w = whole in omega (arith, a, w)) own down),
+      )

@@ -1,0 +1,45 @@
+use Rattle.std.proofs.Common.{sym, ap, ◌∙◌}
+use Rattle.tick_schedule.specs.Timetable.{with_clock}
+use Rattle.event_iteration.specs.Questions.{ticked_if}
+use Rattle.event_iteration.proofs.Answering.{countdown_role}
+use Rattle.event_iteration.proofs.Places.{counts, goes_countdown, goes_else, goes_periodic, ticks_next}
+use Rattle.event_iteration.proofs.intervals.go_on.Goals as goal
+
+pub returns-then-not-is_time_clock-clause-goes : goal.returns-then-not-is_time_clock-clause-goes
+returns-then-not-is_time_clock-clause-goes c =
+    (goes_else c.args.schedule.now c.args.role c.args.per_second c.args.t c.args.p c.args.value c.args.interval c.requires.place (sym c.is_time_clock.ensures ∙ c.if-not-is_time_clock.true)).0
+
+pub returns-then-not-is_time_clock-clause-armed : goal.returns-then-not-is_time_clock-clause-armed
+returns-then-not-is_time_clock-clause-armed c =
+    (goes_else c.args.schedule.now c.args.role c.args.per_second c.args.t c.args.p c.args.value c.args.interval c.requires.place (sym c.is_time_clock.ensures ∙ c.if-not-is_time_clock.true)).1
+
+pub tick_if-requires-clause-next : goal.tick_if-requires-clause-next
+tick_if-requires-clause-next c active =
+    ticks_next c.args.schedule.now c.args.role c.args.per_second c.args.t c.args.p c.args.value c.args.interval c.requires.place (sym c.is_time_clock.ensures ∙ c.if-not-is_time_clock.false) (sym c.is_active.ensures ∙ active)
+
+pub returns-then-not-counts_down-clause-goes : goal.returns-then-not-counts_down-clause-goes
+returns-then-not-counts_down-clause-goes c =
+    (goes_periodic c.args.schedule.now c.args.role c.args.per_second c.args.t c.args.p c.args.value c.args.interval c.requires.place (sym c.is_time_clock.ensures ∙ c.if-not-is_time_clock.false)
+    c.tick_if.new.schedule (λ place is. c.tick_if.ensures place is ∙ ap (λ b. with_clock c.args.schedule.now c.args.p (ticked_if b place)) c.is_active.ensures) (sym c.counts_down.ensures ∙ c.if-not-counts_down.true)).0
+
+pub returns-then-not-counts_down-clause-armed : goal.returns-then-not-counts_down-clause-armed
+returns-then-not-counts_down-clause-armed c =
+    (goes_periodic c.args.schedule.now c.args.role c.args.per_second c.args.t c.args.p c.args.value c.args.interval c.requires.place (sym c.is_time_clock.ensures ∙ c.if-not-is_time_clock.false)
+    c.tick_if.new.schedule (λ place is. c.tick_if.ensures place is ∙ ap (λ b. with_clock c.args.schedule.now c.args.p (ticked_if b place)) c.is_active.ensures) (sym c.counts_down.ensures ∙ c.if-not-counts_down.true)).1
+
+pub rearm-requires-clause-countdown : goal.rearm-requires-clause-countdown
+rearm-requires-clause-countdown c =
+    counts c.args.schedule.now c.args.role c.args.per_second c.args.t c.args.p c.args.value c.args.interval c.requires.place (sym c.is_time_clock.ensures ∙ c.if-not-is_time_clock.false)
+    c.tick_if.new.schedule (λ place is. c.tick_if.ensures place is ∙ ap (λ b. with_clock c.args.schedule.now c.args.p (ticked_if b place)) c.is_active.ensures) (countdown_role c.args.role (sym c.counts_down.ensures ∙ c.if-not-counts_down.false))
+
+pub returns-clause-goes : goal.returns-clause-goes
+returns-clause-goes c =
+    (goes_countdown c.args.schedule.now c.args.role c.args.per_second c.args.t c.args.p c.args.value c.args.interval c.requires.place (sym c.is_time_clock.ensures ∙ c.if-not-is_time_clock.false)
+    c.tick_if.new.schedule (λ place is. c.tick_if.ensures place is ∙ ap (λ b. with_clock c.args.schedule.now c.args.p (ticked_if b place)) c.is_active.ensures) (countdown_role c.args.role (sym c.counts_down.ensures ∙ c.if-not-counts_down.false))
+    c.rearm.new.schedule c.rearm.ensures.rearmed c.rearm.result c.rearm.ensures.now).0
+
+pub returns-clause-armed : goal.returns-clause-armed
+returns-clause-armed c =
+    (goes_countdown c.args.schedule.now c.args.role c.args.per_second c.args.t c.args.p c.args.value c.args.interval c.requires.place (sym c.is_time_clock.ensures ∙ c.if-not-is_time_clock.false)
+    c.tick_if.new.schedule (λ place is. c.tick_if.ensures place is ∙ ap (λ b. with_clock c.args.schedule.now c.args.p (ticked_if b place)) c.is_active.ensures) (countdown_role c.args.role (sym c.counts_down.ensures ∙ c.if-not-counts_down.false))
+    c.rearm.new.schedule c.rearm.ensures.rearmed c.rearm.result c.rearm.ensures.now).1

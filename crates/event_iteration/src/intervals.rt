@@ -1,0 +1,207 @@
+ghost use Rattle.std.specs.Prelude.{◌≡◌, ◌<◌, Some, false, true, OnOk, All, length};
+ghost use Rattle.std.specs.List.{slice_get};
+ghost use Rattle.system_model.specs.declared.system.Component.{Component};
+ghost use Rattle.system_model.specs.Sound.{IsSound};
+ghost use Rattle.tick_schedule.specs.declared.clock.ClockState.{ClockState};
+ghost use Rattle.tick_schedule.specs.Timetable.{HasNext, IsCountdown, with_clock};
+ghost use Rattle.slot_calls.specs.Slots.{LiveSlot, Stands, instances};
+ghost use Rattle.slot_calls.specs.Stage.{shapes, shapes_of};
+ghost use Rattle.event_iteration.specs.Clocks.{StandsAt, timers_in};
+ghost use Rattle.event_iteration.specs.Instants.{IsRunning};
+ghost use Rattle.event_iteration.specs.Intervals.{AsksIntervals, RearmsForMachines, TellsTicks, interval_by, is_time_clock};
+ghost use Rattle.event_iteration.specs.Questions.{AreRunning, AsksPort, GoesFrom, IsArmed, IsBehind, arms_now, counts_down, modes, rearmed, ticked_if};
+
+use crate::clocks::{ask, interval_in};
+use crate::instants::is_active;
+use clock_fraction::to_counts;
+use fmi_calls::{Call, Interval, Reply};
+use fmu_peer::{Peer, Slot};
+use slot_calls::BadAnswer;
+use std::marker::Brand;
+use std::sync::ledger::{Blank, Ledger};
+use system_model::{Role, System, Timing};
+use tick_schedule::{Schedule, Steps};
+
+/// Goes on behind an instant at a point, with its values (FMI 3.0, 2.2.9): each Clock that ticked in it goes on to its next
+/// tick, and each countdown Clock, whose arming a tick takes away, is asked for its interval, in port order, up to the first
+/// answer that isn't good. A new interval arms it for that many counts behind the point, one that is unchanged leaves it, and
+/// where there is none yet it is armed no longer. It is told whether a Clock is armed for the point itself.
+pub fn ask_intervals<L: Peer>(
+    slots: &mut [Slot<L>],
+    system: &System,
+    schedule: &mut Schedule,
+    per_second: u64,
+    is_first: bool,
+    values: &[Option<i128>],
+    t: u64,
+) -> Result<bool, BadAnswer>
+    requires sound { IsSound system.now }
+    requires counts { All (λ (c : Component). c.shape.resolution ≡ per_second) system.now.components }
+    requires shapes { shapes (instances L.view slots.old) ≡ shapes_of system.now }
+    requires live { All (LiveSlot L.view) slots.old }
+    requires running { All (Stands IsRunning L.view) slots.old }
+    requires places { length values.now ≡ length system.now.ports }
+    requires stands { StandsAt system.now t is_first schedule.old }
+    requires ticks { TellsTicks system.now schedule.old t values.now }
+    ensures live { OnOk result (All (LiveSlot L.view) slots.new) }
+    ensures run { (schedule.new.start ≡ schedule.old.start) × (schedule.new.stop ≡ schedule.old.stop) }
+    ensures stands { OnOk result (StandsAt system.now t false schedule.new) }
+    ensures asks { AsksIntervals system.now per_second t values.now (timers_in schedule.old) (timers_in schedule.new) (instances L.view slots.old) (instances L.view slots.new) result }
+    ensures machines { OnOk result (RearmsForMachines system.now per_second t values.now (timers_in schedule.old) (timers_in schedule.new) (instances L.view slots.old) (instances L.view slots.new)) }
+{
+    let ports = system.ports.as_slice();
+    let mut is_armed = false;
+    for p in 0..values.len() {
+        let reply = match ask_interval(slots, system, p) {
+            Ok(reply) => reply,
+            Err(bad) => return Err(bad),
+        };
+        let told = interval_by(&reply);
+        is_armed |= go_on(schedule, ports[p].role, per_second, values[p], t, p, told);
+    }
+    Ok(is_armed)
+}
+
+// Asks for the interval of one port, if it is a countdown Clock.
+fn ask_interval<L: Peer>(
+    slots: &mut [Slot<L>],
+    system: &System,
+    p: usize,
+) -> Result<Option<Reply>, BadAnswer>
+    requires port { p < length system.now.ports }
+    requires sound { IsSound system.now }
+    requires shapes { shapes (instances L.view slots.old) ≡ shapes_of system.now }
+    requires live { All (LiveSlot L.view) slots.old }
+    requires running { AreRunning system.now (modes (instances L.view slots.old)) }
+    ensures live { OnOk result (All (LiveSlot L.view) slots.new) }
+    ensures modes { OnOk result (modes (instances L.view slots.new) ≡ modes (instances L.view slots.old)) }
+    ensures asks { AsksPort system.now p (instances L.view slots.old) (instances L.view slots.new) result }
+{
+    let port = &system.ports.as_slice()[p];
+    if !counts_down(port.role) {
+        return Ok(None);
+    }
+    match ask(
+        slots,
+        port.component,
+        Call::GetInterval {
+            reference: port.reference,
+        },
+    ) {
+        Ok(reply) => Ok(Some(reply)),
+        Err(bad) => Err(bad),
+    }
+}
+
+// What a reply tells of an interval, if there is one.
+fn interval_by(reply: &Option<Reply>) -> Interval
+    ensures { result ≡ interval_by reply.now }
+{
+    match reply {
+        Some(reply) => interval_in(reply),
+        None => Interval::NotYetKnown,
+    }
+}
+
+// Goes on at one port with what was told of its interval, and tells whether it is a Clock that is armed for the point.
+fn go_on(
+    schedule: &mut Schedule,
+    role: Role,
+    per_second: u64,
+    value: Option<i128>,
+    t: u64,
+    p: usize,
+    interval: Interval,
+) -> bool
+    requires place { GoesFrom schedule.old role t p value }
+    ensures goes { IsBehind role per_second t p value interval schedule.old schedule.new }
+    ensures armed { IsArmed t p schedule.new result }
+{
+    if !is_time_clock(role) {
+        return false;
+    }
+    tick_if::<Brand>(schedule, p, is_active(value), Blank::new(1));
+    if !counts_down(role) {
+        return false;
+    }
+    rearm::<Brand>(schedule, p, interval, per_second, t, Blank::new(1))
+}
+
+// Whether a port is a time-based Clock.
+fn is_time_clock(role: Role) -> bool
+    ensures { result ≡ is_time_clock role }
+{
+    match role {
+        Role::TimeClock { .. } => true,
+        Role::Input { .. } | Role::Output | Role::ClockInput { .. } | Role::ClockOutput => false,
+    }
+}
+
+// Whether a port is a countdown Clock.
+fn counts_down(role: Role) -> bool
+    ensures { result ≡ counts_down role }
+{
+    match role {
+        Role::TimeClock {
+            timing: Timing::Countdown,
+        } => true,
+        Role::TimeClock {
+            timing: Timing::Periodic { .. },
+        }
+        | Role::TimeClock {
+            timing: Timing::Answered,
+        }
+        | Role::Input { .. }
+        | Role::Output
+        | Role::ClockInput { .. }
+        | Role::ClockOutput => false,
+    }
+}
+
+// The Clock has ticked, if it is so.
+fn tick_if<K: Ledger>(schedule: &mut Schedule, p: usize, ticks: bool, blank: Blank)
+    requires name { blank.name ≡ K.name }
+    requires parts { blank.parts ≡ K.parts }
+    requires some { 0 < blank.parts }
+    requires next { ticks ≡ true → HasNext schedule.old p }
+    ensures { (place : ClockState) → slice_get schedule.old.clocks p ≡ Some place → schedule.new ≡ with_clock schedule.old p (ticked_if ticks place) }
+{
+    if ticks {
+        schedule.ticked(p, &mut Steps::<K>::new(blank));
+    }
+}
+
+// Arms a countdown Clock by an interval that was answered at the point, and tells whether it is now armed for the point itself.
+fn rearm<K: Ledger>(
+    schedule: &mut Schedule,
+    p: usize,
+    interval: Interval,
+    per_second: u64,
+    t: u64,
+    blank: Blank,
+) -> bool
+    requires name { blank.name ≡ K.name }
+    requires parts { blank.parts ≡ K.parts }
+    requires some { 0 < blank.parts }
+    requires countdown { IsCountdown schedule.old p }
+    ensures rearmed { (place : ClockState) → slice_get schedule.old.clocks p ≡ Some place → schedule.new ≡ with_clock schedule.old p (rearmed per_second t interval place) }
+    ensures now { result ≡ arms_now per_second interval }
+{
+    match interval {
+        Interval::NotYetKnown => {
+            schedule.disarm(p, &mut Steps::<K>::new(blank));
+            false
+        }
+        Interval::Unchanged(_) => false,
+        Interval::Changed(interval) => match to_counts(interval, per_second) {
+            Some(counts) => {
+                schedule.arm(p, u128::from(t) + counts, &mut Steps::<K>::new(blank));
+                counts == 0
+            }
+            None => {
+                schedule.disarm(p, &mut Steps::<K>::new(blank));
+                false
+            }
+        },
+    }
+}

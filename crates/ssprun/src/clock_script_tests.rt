@@ -1,0 +1,225 @@
+//! An FMU with Clocks by itself, over a script: every call of its run, and what follows a bad answer to each kind of call
+//! that Clocks add.
+use crate::binding_tests::calls_of;
+use crate::tests::{
+    Answer, ENTERED, EXITED, FREED, STARTED, TERMINATED, Wanted, assert_run, make_file,
+};
+use bench_fmus::Scripts;
+use clock_fraction::Fraction;
+use fmi_calls::{BadStatus, Call, Content, Interval, Reply};
+use sim_base::{Items, MemFolder};
+use std::alloc::{AllocError, Global};
+use std::process::Abort;
+use std::test::Fail;
+use std::thread::Threads;
+
+// A fixed Clock whose FMU is asked, a countdown Clock and an output Clock.
+const CLOCKS: &str =
+    r#"<fmiModelDescription fmiVersion="3.0" modelName="m" instantiationToken="m"><CoSimulation modelIdentifier="m" hasEventMode="true" canHandleVariableCommunicationStepSize="true"/><ModelVariables><Clock name="f" valueReference="1" causality="input" variability="discrete" intervalVariability="fixed" supportsFraction="true"/><Clock name="d" valueReference="2" causality="input" variability="discrete" intervalVariability="countdown"/><Clock name="o" valueReference="3" causality="output" variability="discrete" intervalVariability="triggered"/></ModelVariables></fmiModelDescription>"#;
+
+macro_rules! done {
+    ($content:expr) => {
+        Ok(Reply::Done {
+            is_warning: false,
+            content: $content,
+        })
+    };
+}
+
+macro_rules! told {
+    ($counter:expr) => {
+        done!(Content::GetInterval {
+            interval: Interval::Changed(Fraction {
+                counter: $counter,
+                resolution: 1000,
+            }),
+        })
+    };
+}
+
+const SHIFTED: Answer = done!(Content::GetShift {
+    shift: Fraction {
+        counter: 0,
+        resolution: 1000,
+    },
+});
+
+const NOT_YET: Answer = done!(Content::GetInterval {
+    interval: Interval::NotYetKnown,
+});
+
+const TICKED: Answer = done!(Content::SetClock);
+
+const ACTIVE: Answer = done!(Content::GetClock { word: 1 });
+
+const INACTIVE: Answer = done!(Content::GetClock { word: 0 });
+
+const UPDATED: Answer = done!(Content::Update {
+    again: false,
+    terminate: false,
+    event_time: None,
+});
+
+const INTERVAL_OF_FIXED: Call = Call::GetInterval { reference: 1 };
+
+const INTERVAL: Call = Call::GetInterval { reference: 2 };
+
+// The whole run: the fixed Clock ticks at 0, in whose first instant the countdown Clock is armed for 0 itself, so that it
+// ticks in the second, and then it isn't armed.
+static RUN: [(Call, Answer); 14] = [
+    (
+        Call::Instantiate {
+            event_mode: true,
+            early_return: false,
+        },
+        STARTED,
+    ),
+    (Call::EnterInitialization { start: 0, stop: 0 }, ENTERED),
+    (INTERVAL_OF_FIXED, told!(20)),
+    (Call::GetShift { reference: 1 }, SHIFTED),
+    (Call::ExitInitialization, EXITED),
+    // the instant (0, 0)
+    (Call::SetClock { reference: 1 }, TICKED),
+    (Call::GetClock { reference: 3 }, ACTIVE),
+    (INTERVAL, told!(0)),
+    (Call::Update, UPDATED),
+    // the instant (0, 1)
+    (Call::SetClock { reference: 2 }, TICKED),
+    (Call::GetClock { reference: 3 }, INACTIVE),
+    (INTERVAL, NOT_YET),
+    (Call::Update, UPDATED),
+    (Call::Terminate, TERMINATED),
+];
+
+// The place of the call that closes the whole run.
+const END: usize = 13;
+
+const WORDS: &str = "one|d|--resolution|1000|--step|10|--stop|0";
+
+const HEAD: &str = "trace 1 1000 0 0\nport 0 Clock fmu f\nport 1 Clock fmu d\nport 2 Clock fmu o\n";
+
+const FIRST: &str = "at 0 0\n0 1\n1 0\n2 1\n";
+
+const SECOND: &str = "at 0 1\n0 0\n1 1\n2 0\n";
+
+// The place of an answer that is bad, the name of its call, and the instants before.
+static BAD: [(usize, &str, &[&str]); 6] = [
+    (2, "GetInterval", &[]),
+    (3, "GetShift", &[]),
+    (5, "SetClock", &[]),
+    (6, "GetClock", &[]),
+    (9, "SetClock", &[FIRST]),
+    (11, "GetInterval", &[FIRST]),
+];
+
+// The calls that close an instance in Initialization Mode, and in Event Mode.
+const FREEING: [Call; 1] = [Call::FreeInstance];
+
+const CLOSING: [Call; 2] = [Call::Terminate, Call::FreeInstance];
+
+// The statuses with their names, and whether the instance is still closed by Terminate, or by FreeInstance alone.
+static STATUSES: [(BadStatus, &str); 3] = [
+    (BadStatus::Discard, "Discard"),
+    (BadStatus::Error, "Error"),
+    (BadStatus::Fatal, "Fatal"),
+];
+
+// How an instance is closed behind a bad answer at a place.
+fn closing_behind(place: usize, status: BadStatus) -> &'static [Call] {
+    match status {
+        BadStatus::Discard if place > 4 => &CLOSING,
+        BadStatus::Discard | BadStatus::Error => &FREEING,
+        BadStatus::Fatal => &[],
+    }
+}
+
+// Runs the FMU up to a place, whose answer is this one, and compares what is given and each call that is sent.
+fn assert_cut<R: Abort + Threads + Sync>(
+    rt: &R,
+    alloc: Global,
+    place: usize,
+    answer: Answer,
+    closing: &[Call],
+    wanted: &Wanted<'_>,
+) -> Result<(), AllocError> {
+    let mut calls = Vec::new(alloc);
+    let mut answers = Vec::new(alloc);
+    for (call, usual) in RUN.iter().take(place) {
+        calls.push(*call)?;
+        answers.push(*usual)?;
+    }
+    if let Some((call, _)) = RUN.get(place) {
+        calls.push(*call)?;
+        answers.push(answer)?;
+    }
+    for call in closing {
+        calls.push(*call)?;
+        answers.push(match call {
+            Call::Terminate => TERMINATED,
+            _ => FREED,
+        })?;
+    }
+    let mut scripts = Scripts::new(
+        alloc,
+        vec![in alloc; Items::from_vec(answers)]?,
+        Vec::new(alloc),
+    );
+    let file = make_file(alloc, "d/modelDescription.xml", CLOCKS)?;
+    let mut folder = MemFolder::new(alloc, vec![in alloc; file]?, Vec::new(alloc));
+    assert_run(rt, alloc, wanted, &mut folder, &mut scripts)?;
+    for script in scripts.retired() {
+        let made = calls_of(alloc, script)?;
+        assert_eq!(rt; made.as_slice(), calls.as_slice(), "{}", wanted.err);
+    }
+    assert_eq!(rt; scripts.retired().len(), 1);
+    Ok(())
+}
+
+#[test]
+fn clocks_are_asked_and_set_in_their_order(rt: HostRuntime) -> Result<(), Fail> {
+    let alloc = rt.alloc();
+    let out = format!(in alloc; "{HEAD}{FIRST}{SECOND}end stop 0\n")?;
+    let wanted = Wanted {
+        words: WORDS,
+        outs: &[],
+        errs: &[],
+        status: 0,
+        out: out.as_str(),
+        err: "",
+    };
+    assert_cut(&rt, alloc, END, TERMINATED, &FREEING, &wanted)?;
+    Ok(())
+}
+
+#[test]
+fn a_bad_answer_about_a_clock_ends_the_run(rt: HostRuntime) -> Result<(), Fail> {
+    let alloc = rt.alloc();
+    for (place, name, instants) in &BAD {
+        for (status, status_name) in &STATUSES {
+            let mut out = String::from_str(alloc, HEAD)?;
+            for instant in *instants {
+                out.push_str(instant)?;
+            }
+            out.push_str("end fault 0\n")?;
+            let err = format!(in alloc; "fmu fmu {name} {status_name}\n")?;
+            let kind = RUN
+                .get(*place)
+                .map_or(Call::Update.kind(), |(call, _)| call.kind());
+            let wanted = Wanted {
+                words: WORDS,
+                outs: &[],
+                errs: &[],
+                status: 6,
+                out: out.as_str(),
+                err: err.as_str(),
+            };
+            let answer = Ok(Reply::Refused {
+                kind,
+                status: *status,
+            });
+            let closing = closing_behind(*place, *status);
+            assert_cut(&rt, alloc, *place, answer, closing, &wanted)?;
+        }
+    }
+    Ok(())
+}

@@ -1,0 +1,150 @@
+//! An FMU that settles feeds one with a constant Clock: their system.
+ghost use Rattle.std.specs.Prelude.{◌≡◌, ◌∷◌, [], IfOk};
+ghost use Rattle.value_types.specs.declared.shape.Knowns.TheVariants.{AllInputs};
+ghost use Rattle.worked_rows.specs.Ticking.{clock, clock_port, clocked, clocked_port, each_hundredth, eventful, own, settling, ticking};
+
+use crate::chain::{make_order, make_port};
+use crate::trio::{make_component, make_number};
+use clock_fraction::Fraction;
+use sim_base::{Items, PortId, Text};
+use std::alloc::{AllocError, Global};
+use system_model::{Component, Feed, Port, Role, System, Timing};
+use value_types::{
+    ByReference, Causality, ClockTiming, Dependency, IntervalVariability, Knowns, PortType, Shape,
+    Variable,
+};
+
+fn make_clock(alloc: Global) -> Result<Variable, AllocError>
+    ensures { IfOk result (λ v. v ≡ clock) }
+{
+    Ok(Variable {
+        kind: Some(PortType::Clock),
+        ..make_number(alloc, "c", 2, Causality::Input, None)?
+    })
+}
+
+fn make_clocked(alloc: Global) -> Result<Variable, AllocError>
+    ensures { IfOk result (λ v. v ≡ clocked) }
+{
+    Ok(Variable {
+        clocks: Items::from_vec(vec![in alloc; 2]?),
+        ..make_number(alloc, "u", 5, Causality::Input, None)?
+    })
+}
+
+// The output depends on all inputs.
+fn make_dependencies(alloc: Global) -> Result<ByReference<Dependency>, AllocError>
+    ensures { IfOk result (λ list. list ≡ record { output = 3; on = AllInputs } ∷ []) }
+{
+    let dependency = Dependency {
+        output: 3,
+        on: Knowns::AllInputs,
+    };
+    ByReference::new(alloc, vec![in alloc; dependency]?)
+}
+
+fn make_eventful(
+    alloc: Global,
+    variables: Vec<Variable>,
+    clocks: Vec<ClockTiming>,
+) -> Result<Shape, AllocError>
+    ensures { IfOk result (λ shape. shape ≡ eventful variables.items clocks.items) }
+{
+    Ok(Shape {
+        identifier: Text::from_str(alloc, "example")?,
+        token: Text::from_str(alloc, "")?,
+        resolution: 1000,
+        has_event_mode: true,
+        might_return_early: false,
+        has_variable_steps: true,
+        can_save_state: true,
+        can_serialize_state: false,
+        variables: ByReference::new(alloc, variables)?,
+        clocks: ByReference::new(alloc, clocks)?,
+        dependencies: make_dependencies(alloc)?,
+        initial_dependencies: make_dependencies(alloc)?,
+    })
+}
+
+fn each_hundredth() -> ClockTiming
+    ensures { result ≡ each_hundredth }
+{
+    ClockTiming {
+        reference: 2,
+        variability: IntervalVariability::Constant,
+        supports_fraction: false,
+        interval: Some(Fraction {
+            counter: 1,
+            resolution: 100,
+        }),
+        shift: Some(Fraction {
+            counter: 0,
+            resolution: 1,
+        }),
+    }
+}
+
+fn make_settling(alloc: Global) -> Result<Component, AllocError>
+    ensures { IfOk result (λ c. c ≡ settling) }
+{
+    let variables = vec![in alloc;
+        make_number(alloc, "k", 1, Causality::Parameter, Some(1))?,
+        make_number(alloc, "y", 3, Causality::Output, None)?,
+    ]?;
+    let shape = make_eventful(alloc, variables, Vec::new(alloc))?;
+    make_component(alloc, "settle", 0, shape)
+}
+
+fn make_own(alloc: Global) -> Result<Component, AllocError>
+    ensures { IfOk result (λ c. c ≡ own) }
+{
+    let variables = vec![in alloc;
+        make_clock(alloc)?,
+        make_clocked(alloc)?,
+        make_number(alloc, "y", 3, Causality::Output, None)?,
+    ]?;
+    let shape = make_eventful(alloc, variables, vec![in alloc; each_hundredth()]?)?;
+    make_component(alloc, "own", 1, shape)
+}
+
+fn make_clock_port(alloc: Global) -> Result<Port, AllocError>
+    ensures { IfOk result (λ port. port ≡ clock_port) }
+{
+    let timing = Timing::Periodic {
+        interval: 10,
+        shift: 0,
+    };
+    Ok(Port {
+        kind: PortType::Clock,
+        ..make_port(alloc, 1, "c", 2, Role::TimeClock { timing })?
+    })
+}
+
+fn make_clocked_port(alloc: Global) -> Result<Port, AllocError>
+    ensures { IfOk result (λ port. port ≡ clocked_port) }
+{
+    let feed = Some(Feed { from: PortId(0) });
+    Ok(Port {
+        clocks: Items::from_vec(vec![in alloc; PortId(1)]?),
+        ..make_port(alloc, 1, "u", 5, Role::Input { feed })?
+    })
+}
+
+/// The system.
+pub(crate) fn make_ticking(alloc: Global) -> Result<System, AllocError>
+    ensures { IfOk result (λ system. system ≡ ticking) }
+{
+    let components = vec![in alloc; make_settling(alloc)?, make_own(alloc)?]?;
+    let ports = vec![in alloc;
+        make_port(alloc, 0, "y", 3, Role::Output)?,
+        make_clock_port(alloc)?,
+        make_clocked_port(alloc)?,
+        make_port(alloc, 1, "y", 3, Role::Output)?,
+    ]?;
+    Ok(System {
+        components: Items::from_vec(components),
+        ports: Items::from_vec(ports),
+        instant_order: make_order(alloc)?,
+        initial_order: Items::from_vec(vec![in alloc; PortId(0), PortId(3)]?),
+    })
+}
