@@ -11,6 +11,7 @@ pub mod BeginLemmas
 pub mod TextLemmas
 pub mod PortLemmas
 pub mod TraceLemmas
+pub mod FirstLemmas
 pub mod TableLemmas
 pub mod WrittenLemmas
 pub mod SizeLemmas

@@ -1,0 +1,6 @@
+pub mod ValueLemmas
+pub mod SourceLemmas
+pub mod InstantLemmas
+pub mod TraceLemmas
+pub mod TickLemmas
+pub mod LawLemmas

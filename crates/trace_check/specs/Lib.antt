@@ -1,0 +1,5 @@
+pub mod Instants
+pub mod Values
+pub mod Ticks
+pub mod Rules
+pub mod Steps

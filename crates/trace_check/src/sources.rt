@@ -1,0 +1,120 @@
+ghost use Rattle.std.specs.Prelude.{◌≡◌, ◌≤◌, ◌<◌, ◌↔◌, ℕ, None, IfNone, IfSome, IsTrue};
+ghost use Rattle.std.specs.List.{list_any};
+ghost use Rattle.std.specs.Option.{option_map};
+ghost use Rattle.sim_base.specs.declared.numbers.PortId.{PortId};
+ghost use Rattle.system_model.specs.Ports.{is_clock_role, source_of};
+ghost use Rattle.system_model.specs.declared.system.Feed.{Feed};
+ghost use Rattle.trace_check.specs.Instants.{lines_to, value};
+ghost use Rattle.trace_check.specs.Steps.{IsOtherValue};
+ghost use Rattle.trace_check.specs.Values.{is_active, is_present, DiffersFromSource};
+
+use sim_base::PortId;
+use system_model::{Feed, Port, Role, System};
+
+/// The value of a port, or none.
+pub(crate) fn value(values: &[Option<i128>], p: usize) -> Option<i128>
+    ensures { result ≡ value values.now p }
+{
+    match values.get(p) {
+        Some(value) => *value,
+        None => None,
+    }
+}
+
+/// Whether a Clock with this value is active.
+pub(crate) fn is_active(value: Option<i128>) -> bool
+    ensures { result ≡ is_active value }
+{
+    match value {
+        Some(value) => value == 1,
+        None => false,
+    }
+}
+
+fn is_clock(role: Role) -> bool
+    ensures { result ≡ is_clock_role role }
+{
+    match role {
+        Role::Input { .. } | Role::Output => false,
+        Role::ClockInput { .. } | Role::ClockOutput | Role::TimeClock { .. } => true,
+    }
+}
+
+fn place_from(feed: Option<Feed>) -> Option<usize>
+    ensures { result ≡ option_map (λ (f : Feed). f.from.0) feed }
+{
+    match feed {
+        Some(feed) => Some(feed.from.0 as usize),
+        None => None,
+    }
+}
+
+// The port that feeds a port of this role.
+fn source_of(role: Role) -> Option<usize>
+    ensures { result ≡ source_of role }
+{
+    match role {
+        Role::Input { feed } | Role::ClockInput { feed } => place_from(feed),
+        Role::Output | Role::ClockOutput | Role::TimeClock { .. } => None,
+    }
+}
+
+// Whether a port is present in an instant with these values.
+fn is_present(port: &Port, values: &[Option<i128>]) -> bool
+    ensures { result ≡ is_present port.now values.now }
+{
+    is_clock(port.role) || port.clocks.len() == 0 || some_active(port.clocks.as_slice(), values)
+}
+
+fn some_active(clocks: &[PortId], values: &[Option<i128>]) -> bool
+    ensures { result ≡ list_any (λ (c : PortId). is_active (value values.now c.0)) clocks.now }
+{
+    clocks
+        .iter()
+        .any(|clock| is_active(value(values, clock.0 as usize)))
+}
+
+// Whether a port is an input that is present and hasn't its source's value.
+fn differs(system: &System, values: &[Option<i128>], p: usize) -> bool
+    ensures { IsTrue result ↔ DiffersFromSource system.now values.now p }
+{
+    let Some(port) = system.ports.get(p) else {
+        return false;
+    };
+    match source_of(port.role) {
+        Some(source) => is_present(port, values) && value(values, p) != value(values, source),
+        None => false,
+    }
+}
+
+/// An input that is present and has no value, where its source has one.
+pub(crate) fn first_without_value(system: &System, values: &[Option<i128>]) -> Option<usize>
+    ensures found { IfSome result (λ p. DiffersFromSource system.now values.now p × (value values.now p ≡ None)) }
+    ensures none { IfNone result ((p : ℕ) → DiffersFromSource system.now values.now p → value values.now p ≡ None → ⊥) }
+{
+    for p in 0..system.ports.len() {
+        if value(values, p).is_none() && differs(system, values, p) {
+            return Some(p);
+        }
+    }
+    None
+}
+
+/// Of the inputs that have a value, are present and haven't their source's the first: how many lines its line stands
+/// behind the `at` line.
+pub(crate) fn first_other_value(system: &System, values: &[Option<i128>]) -> Option<u64>
+    ensures found { IfSome result (IsOtherValue system.now values.now) }
+    ensures first { IfSome result (λ lines. (p : ℕ) → DiffersFromSource system.now values.now p → 0 < lines_to values.now p → lines ≤ lines_to values.now p) }
+    ensures none { IfNone result ((p : ℕ) → DiffersFromSource system.now values.now p → lines_to values.now p ≡ 0) }
+{
+    let mut lines = 0;
+    for (p, value) in values.iter().enumerate() {
+        if value.is_some() {
+            lines += 1;
+            if differs(system, values, p) {
+                return Some(lines);
+            }
+        }
+    }
+    None
+}

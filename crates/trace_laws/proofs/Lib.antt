@@ -1,0 +1,9 @@
+pub mod Replies
+pub mod Steps
+pub mod Timers
+pub mod Clocks
+pub mod Lines
+pub mod Along
+pub mod Rules
+pub mod Parts
+pub mod Pieces

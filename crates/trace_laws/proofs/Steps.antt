@@ -1,0 +1,99 @@
+-- The point that a step reaches: behind the one where it begins, at most the stop, and no tick lies between.
+use Rattle.std.proofs.Common.{◌≡◌, ℕ, suc, ◌+◌, ◌-◌, ◌<◌, ◌≤◌, Bool, true, false, not, cond, List, [], ◌∷◌, map, filter, refl, sym, ap, ◌∙◌, subst, arith}
+use Rattle.std.specs.Prelude.{Some, ◌==◌, slice_get}
+use Rattle.std.specs.List.{AllByRecursion}
+use Rattle.std.proofs.lemmas.Bool.{eq-eqb}
+use Rattle.fmu_peer.specs.Machine.{Machine, MachineState}
+use Rattle.system_model.specs.declared.system.Component.{Component}
+use Rattle.system_model.proofs.Lists.{true_false}
+use Rattle.run_model.specs.Run.{Run, Situation, Timer}
+use Rattle.run_model.specs.Timers.{TicksAt}
+use Rattle.run_model.specs.Steps.{Agree, AllMeet, AskedAgain, AskedFirst, AskedLater, AtTick, Falls, IsAsked, IsBound, MayAsk, MayAskAgain, OnStop, OthersMeet, Stepper, fallen_bound, is_other, least_or, met, others}
+use Rattle.run_model.specs.Stepping.{IsStep, departing, end_in, step_to, steppers}
+use Rattle.run_model.specs.Behaved.{BehavesInStep}
+use Rattle.run_model.proofs.States.{each-get}
+use Rattle.trace_laws.proofs.Replies.{IsBetween, step_end}
+
+-- ---- the least of some numbers
+
+least_between : (t b d : ℕ) (xs : List ℕ) → IsBetween t b d → AllByRecursion (IsBetween t b) xs → IsBetween t b (least_or d xs)
+least_between t b d [] here all = here
+least_between t b d (x ∷ xs) here all =
+    let more = least_between t b x xs all.0 all.1 in
+    (omega (arith, more.0, all.0.0), omega (arith, more.1, all.0.1))
+
+each_end : (P : ℕ → Type 0) (end : Stepper → ℕ) (fmus : List Stepper) → ((i : ℕ) (f : Stepper) → slice_get fmus i ≡ Some f → P (end f)) → AllByRecursion P (map end fmus)
+each_end P end [] h = tt
+each_end P end (f ∷ fmus) h = (h 0 f refl, each_end P end fmus (λ i g at. h (suc i) g at))
+
+passing_end : (P : ℕ → Type 0) (end : Stepper → ℕ) (test : Stepper → Bool) (fmus : List Stepper) → ((i : ℕ) (f : Stepper) → slice_get fmus i ≡ Some f → test f ≡ true → P (end f)) →
+    AllByRecursion P (map end (filter test fmus))
+passing_end P end test [] h = tt
+passing_end P end test (f ∷ fmus) h =
+    (elim (test f) as (λ b. test f ≡ b → AllByRecursion P (map end (cond b (f ∷ filter test fmus) (filter test fmus)))) [
+      | true ↦ λ e. (h 0 f refl e, passing_end P end test fmus (λ i g at. h (suc i) g at))
+      | false ↦ λ e. passing_end P end test fmus (λ i g at. h (suc i) g at)
+    ]) refl
+
+-- ---- the agreement
+
+-- an FMU that is asked to step from t to a later point ends above t, and at most there
+abbrev pub EndWell : List Stepper → ℕ → ℕ → ℕ → Type 0
+EndWell fmus t step b = (i e : ℕ) (f : Stepper) → slice_get fmus i ≡ Some f → IsAsked fmus t step b i e → t < e → IsBetween t e (f.end e)
+
+met_between : (fmus : List Stepper) (t step b : ℕ) → EndWell fmus t step b → MayAsk fmus t step b → t < b → IsBetween t b (met fmus b)
+met_between fmus t step b well may above =
+    least_between t b b (map (λ (f : Stepper). f.end b) fmus) (above, omega arith)
+    (each_end (IsBetween t b) (λ (f : Stepper). f.end b) fmus (λ i f at. well i b f at (AskedFirst b i b may refl) above))
+
+is_apart : (x m : ℕ) → not (x == m) ≡ true → x ≡ m → ⊥
+is_apart x m e same = true_false (sym e ∙ ap not (eq-eqb x m same))
+
+fallen_between : (fmus : List Stepper) (t step b : ℕ) → EndWell fmus t step b → MayAsk fmus t step b → (met fmus b ≡ b → ⊥) → MayAskAgain fmus t step b → t < b → IsBetween t b (fallen_bound fmus b)
+fallen_between fmus t step b well may unmet again above =
+    let m : ℕ = met fmus b in
+    let between : IsBetween t b m = met_between fmus t step b well may above in
+    least_between t b b (map (λ (f : Stepper). f.end (met fmus b)) (others fmus b)) (above, omega arith)
+    (passing_end (IsBetween t b) (λ (f : Stepper). f.end (met fmus b)) (is_other b (met fmus b)) fmus
+    (λ i f at other.
+    let asked = well i (met fmus b) f at (AskedAgain b i (met fmus b) may unmet again f at (is_apart (f.end b) (met fmus b) other) refl) between.0 in
+    (asked.0, omega (arith, asked.1, between.1))))
+
+agree_between : {fmus : List Stepper} {t step b : ℕ} {kept : List ℕ} {point : ℕ} → Agree fmus t step b kept point → EndWell fmus t step b → t < b → IsBetween t b point
+agree_between {fmus} {t} {step} (AllMeet b kept point may meets k p) well above = subst (IsBetween t b) (sym p) (above, omega arith)
+agree_between {fmus} {t} {step} (OthersMeet b kept point may unmet again all k p) well above = subst (IsBetween t b) (sym p) (met_between fmus t step b well may above)
+agree_between {fmus} {t} {step} (Falls b kept point may unmet again falls agree) well above =
+    let fallen : IsBetween t b (fallen_bound fmus b) = fallen_between fmus t step b well may unmet again above in
+    let more : IsBetween t (fallen_bound fmus b) point = agree_between agree (λ i e f at asked. well i e f at (AskedLater b i e may unmet again falls asked)) fallen.0 in
+    (more.0, omega (arith, more.1, fallen.1))
+
+-- ---- the step of a run
+
+-- the point is later than z's and at most the stop, and no timer ticks between
+pub record IsReachedFrom (r : Run) (z : Situation) (point : ℕ) : Type 0 where
+  pub later : z.t < point
+  pub within : point ≤ r.plan.stop
+  pub passes_none : (p tick : ℕ) (timer : Timer) → slice_get z.timers p ≡ Some timer → TicksAt r.plan.start timer tick → z.t < tick → point ≤ tick
+
+module _ (r : Run) (z : Situation) (behave : (i : ℕ) → BehavesInStep r z i) where
+  end_well : (bound : ℕ) → IsBound r.plan z.timers z.t bound → EndWell (steppers r z) z.t r.plan.step bound
+  end_well bound is i e f at asked above =
+      let stepper : ℕ → Component → Machine → MachineState → Stepper = λ j c m state. record { has_variable_steps = c.shape.has_variable_steps; end = end_in m state z.t } in
+      let fmu = each-get stepper 0 i r.system.components r.machines (departing r z) f at in
+      let good = ((behave i).asks bound e is asked above).0 fmu.component fmu.machine fmu.state (record { component = fmu.of_c; machine = fmu.of_m; state = fmu.of_s }) in
+      let whole : z.t + (e - z.t) ≡ e = omega (arith, above) in
+      let ends = step_end fmu.component.shape z.t (e - z.t) (fmu.machine.look fmu.state (step_to z.t e)) good in
+      subst (λ (g : Stepper). IsBetween z.t e (g.end e)) (sym fmu.is)
+      (subst (λ (x : ℕ). IsBetween z.t x (end_in fmu.machine fmu.state z.t e)) whole ends)
+
+  pub step_reaches : (kept : List ℕ) (point : ℕ) → IsStep r z kept point → IsReachedFrom r z point
+  step_reaches kept point step =
+      let between : IsBetween z.t step.bound point = agree_between step.agree (end_well step.bound step.is_bound) step.is_bound.later in
+      let stop : step.bound ≤ r.plan.stop = step.is_bound.least r.plan.stop step.before_stop (OnStop refl) in
+      record {
+        later = between.0;
+        within = omega (arith, between.1, stop);
+        passes_none = λ p tick timer at ticks behind.
+            let low : step.bound ≤ tick = step.is_bound.least tick behind (AtTick (p, timer, at, ticks)) in
+            omega (arith, between.1, low);
+      }
