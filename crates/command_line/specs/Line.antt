@@ -1,5 +1,5 @@
 -- The command lines of the program: `one DIR --resolution R --step H --stop T [--start S] [--max-iterations N]
--- [--host PROGRAM]`, `run` with the same words behind it, and `check DIR --resolution R`.
+-- [--host PROGRAM]`, `run` with the same words behind it, `check DIR --resolution R`, and `trace-check DIR FILE`.
 use Rattle.std.specs.Prelude.{◌≡◌, ℕ, ◌^◌, ◌≤◌, Bool, true, false, List, [], ◌∷◌, map, find, Option, Some, None, if◌then◌else◌, codes, decimal, String, string_bytes}
 use Rattle.std.specs.Str.{bytes_eq}
 use Rattle.std.specs.declared.alloc.Global.{Global}
@@ -9,6 +9,9 @@ use Rattle.command_line.specs.declared.words.CheckOptions.{CheckOptions}
 use Rattle.command_line.specs.declared.words.CommandLine.{CommandLine}
 use Rattle.command_line.specs.declared.words.CommandLine.TheVariants as R
 use Rattle.command_line.specs.declared.words.Options.{Options}
+use Rattle.command_line.specs.declared.words.Request.{Request}
+use Rattle.command_line.specs.declared.words.Request.TheVariants as Q
+use Rattle.command_line.specs.declared.words.TraceOptions.{TraceOptions}
 
 -- ---- the table of the commands
 
@@ -90,8 +93,12 @@ run_row = directory_row (codes "run") run_options
 abbrev pub check_row : CommandRow
 check_row = directory_row (codes "check") (CountOption resolution_row ∷ [])
 
+-- the check of a trace against a system
+abbrev pub trace_check_row : CommandRow
+trace_check_row = record { name = codes "trace-check"; positionals = codes "DIR" ∷ codes "FILE" ∷ []; options = [] }
+
 abbrev pub commands : List CommandRow
-commands = one_row ∷ run_row ∷ check_row ∷ []
+commands = one_row ∷ run_row ∷ check_row ∷ trace_check_row ∷ []
 
 -- ---- lines of a table
 
@@ -164,11 +171,21 @@ pub record CheckLine : Type 0 where
   pub directory : List ℕ
   pub resolution : ℕ
 
--- a line of a command
+-- a line that asks for a system, or for one FMU, to be run, or for the size of a system
 pub data Line : Type 0 where
   One : RunLine → Line
   Run : RunLine → Line
   Check : CheckLine → Line
+
+-- a line of the check of a trace: the directory of the system, and the file of the trace
+pub record TraceLine : Type 0 where
+  pub directory : List ℕ
+  pub file : List ℕ
+
+-- a line of a command
+pub data Asked : Type 0 where
+  OfSystem : Line → Asked
+  OfTrace : TraceLine → Asked
 
 -- the options give each count of the plan, which doesn't stop before it starts
 pub record GivesPlan (get : Lookup) (plan : Plan) : Type 0 where
@@ -188,18 +205,29 @@ AsksRun get line =
 abbrev pub AsksCheck : Lookup → CheckLine → Type 0
 AsksCheck get line = (get (codes "DIR") ≡ Some line.directory) × Counts resolution_row (get resolution_row.name) line.resolution
 
+-- a line of the check of a trace gives the directory and the file
+abbrev pub AsksTrace : Lookup → TraceLine → Type 0
+AsksTrace get line = (get (codes "DIR") ≡ Some line.directory) × (get (codes "FILE") ≡ Some line.file)
+
 -- what a line of each command asks for
-abbrev pub Asks : Word → Lookup → Line → Type 0
-Asks name get (One line) = (name ≡ one_row.name) × AsksRun get line
-Asks name get (Run line) = (name ≡ run_row.name) × AsksRun get line
-Asks name get (Check line) = (name ≡ check_row.name) × AsksCheck get line
+abbrev pub Asks : Word → Lookup → Asked → Type 0
+Asks name get (OfSystem (One line)) = (name ≡ one_row.name) × AsksRun get line
+Asks name get (OfSystem (Run line)) = (name ≡ run_row.name) × AsksRun get line
+Asks name get (OfSystem (Check line)) = (name ≡ check_row.name) × AsksCheck get line
+Asks name get (OfTrace line) = (name ≡ trace_check_row.name) × AsksTrace get line
 
 -- the words are a line that asks for this
-pub record IsLine (words : List Word) (line : Line) : Type 0 where
+pub record IsAsked (words : List Word) (asked : Asked) : Type 0 where
   pub name : Word
   pub get : Lookup
   pub is : IsLineOf commands words name get
-  pub asks : Asks name get line
+  pub asks : Asks name get asked
+
+abbrev pub IsLine : List Word → Line → Type 0
+IsLine words line = IsAsked words (OfSystem line)
+
+abbrev pub IsTraceLine : List Word → TraceLine → Type 0
+IsTraceLine words line = IsAsked words (OfTrace line)
 
 abbrev pub directory_of : Line → List ℕ
 directory_of (One line) = line.directory
@@ -232,6 +260,11 @@ KeepsLimits (One line) = IsWithin line.plan
 KeepsLimits (Run line) = IsWithin line.plan
 KeepsLimits (Check line) = (1 ≤ line.resolution) × (line.resolution ≤ 2 ^ 62)
 
+-- and so do those of any command
+abbrev pub IsWithinLimits : Asked → Type 0
+IsWithinLimits (OfSystem line) = KeepsLimits line
+IsWithinLimits (OfTrace line) = Unit {0}
+
 -- ---- words and options of the program
 
 -- the bytes of each word
@@ -251,3 +284,12 @@ abbrev pub line_of : CommandLine → Line
 line_of (R.One options) = One (run_of options)
 line_of (R.Run options) = Run (run_of options)
 line_of (R.Check options) = Check (check_of options)
+
+-- the line of the check of a trace that options tell
+abbrev pub trace_of : TraceOptions → TraceLine
+trace_of options = record { directory = options.directory.now; file = options.file.now }
+
+-- the line that a request tells
+abbrev pub asked_of : Request → Asked
+asked_of (Q.System line) = OfSystem (line_of line)
+asked_of (Q.TraceCheck options) = OfTrace (trace_of options)

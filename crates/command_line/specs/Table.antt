@@ -13,7 +13,7 @@ use Rattle.clap.specs.declared.builder.value_parser.ValueParser.{ValueParser}
 use Rattle.clap.specs.declared.builder.value_parser.ValueParser.TheVariants as vp
 use Rattle.clap.specs.declared.parser.matches.ArgMatches.{ArgMatches}
 use Rattle.command_line.specs.Words.{Word, is_plain}
-use Rattle.command_line.specs.Line.{CommandRow, IsLineOf, Asks, Line, option_names}
+use Rattle.command_line.specs.Line.{CommandRow, IsLineOf, Asks, Asked, option_names}
 
 abbrev pub is_set : ArgAction → Bool
 is_set Set = true
@@ -106,6 +106,6 @@ pub record GivesLine (rows : List CommandRow) (words : List Word) (m : ArgMatche
   pub line : IsLineOf rows words name (λ n. first_of n values)
 
 -- what the values of a subcommand ask for
-abbrev pub SubAsks : Option (Word × List Row) → Line → Type 0
-SubAsks None line = ⊥
-SubAsks (Some sub) line = Asks sub.0 (λ n. first_of n sub.1) line
+abbrev pub SubAsks : Option (Word × List Row) → Asked → Type 0
+SubAsks None asked = ⊥
+SubAsks (Some sub) asked = Asks sub.0 (λ n. first_of n sub.1) asked

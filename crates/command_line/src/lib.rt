@@ -9,7 +9,9 @@ mod values;
 mod words;
 
 pub use fault::WordsFault;
-pub use words::{BUILT_IN_HOST, CheckOptions, CommandLine, Options, read_words};
+pub use words::{
+    BUILT_IN_HOST, CheckOptions, CommandLine, Options, Request, TraceOptions, read_words,
+};
 
 #[cfg(test)]
 mod tests;

@@ -1,4 +1,4 @@
-use crate::{CommandLine, WordsFault, read_words};
+use crate::{CommandLine, Request, WordsFault, read_words};
 use std::alloc::{AllocError, Global};
 use std::test::Fail;
 use system_model::Plan;
@@ -9,12 +9,13 @@ enum Asked<'a> {
     One(&'a str, [u64; 5]),
     Run(&'a str, [u64; 5]),
     Check(&'a str, u64),
+    TraceCheck(&'a str, &'a str),
 }
 
-use Asked::{Check, One, Run};
+use Asked::{Check, One, Run, TraceCheck};
 
 // Words between bars, and what they ask for.
-const LINES: [(&str, Asked<'static>); 28] = [
+const LINES: [(&str, Asked<'static>); 31] = [
     // All is right.
     (
         "one|d|--resolution|10|--step|3|--stop|7",
@@ -125,10 +126,19 @@ const LINES: [(&str, Asked<'static>); 28] = [
     ("check|d|--resolution=1000", Check("d", 1000)),
     ("check|--resolution|1000|d", Check("d", 1000)),
     ("check|--resolution=1000|a=b", Check("a=b", 1000)),
+    ("trace-check|d|t.txt", TraceCheck("d", "t.txt")),
+    (
+        "trace-check|../my systems/d-1|/tmp/a trace",
+        TraceCheck("../my systems/d-1", "/tmp/a trace"),
+    ),
+    (
+        "trace-check|run|trace-check",
+        TraceCheck("run", "trace-check"),
+    ),
 ];
 
 // Words between bars that are no line.
-const OTHERS: [&str; 136] = [
+const OTHERS: [&str; 145] = [
     // A word is missing.
     "",
     "one",
@@ -152,6 +162,9 @@ const OTHERS: [&str; 136] = [
     "check|d",
     "check|--resolution|1000",
     "check|d|--resolution",
+    "trace-check",
+    "trace-check|d",
+    "trace-check|--resolution|1000|d",
     // A word is there twice, or there is one too many.
     "one|d|d|--resolution|10|--step|3|--stop|7",
     "one|d|--resolution|10|--step|3|--stop|7|d",
@@ -171,6 +184,11 @@ const OTHERS: [&str; 136] = [
     "check|d|--resolution|1000|--resolution=1000",
     "one|d|--resolution|10|--step|3|--stop|7|--max-iterations|5|--max-iterations|5",
     "run|d|--resolution|10|--step|3|--stop|7|--max-iterations=5|--max-iterations|6",
+    "trace-check|d|t|t",
+    // The check of a trace has no options.
+    "trace-check|d|t|--resolution|1000",
+    "trace-check|d|t|--host|h",
+    "trace-check|d|t|--",
     // A check has no step, stop or start, and no limit.
     "check|d|--resolution|1000|--step|10",
     "check|d|--resolution|1000|--step=10",
@@ -229,6 +247,8 @@ const OTHERS: [&str; 136] = [
     "run||--resolution|10|--step|3|--stop|7",
     "check|-d|--resolution|1000",
     "check|d|--resolution|-1000",
+    "trace-check|d|",
+    "trace-check|d|-t",
     "one|d|--resolution|10|--step|3|--stop|7|--max-iterations|",
     "one|d|--resolution|10|--step|3|--stop|7|--max-iterations=",
     "one|d|--resolution|10|--step|3|--stop|7|--max-iterations",
@@ -339,17 +359,22 @@ fn counts_of(plan: Plan) -> [u64; 5] {
 
 fn read(alloc: Global, words: &[String]) -> Result<Asked<'_>, WordsFault> {
     let asked = match read_words(alloc, words)? {
-        CommandLine::One(options) => One(options.directory, counts_of(options.plan)),
-        CommandLine::Run(options) => Run(options.directory, counts_of(options.plan)),
-        CommandLine::Check(options) => Check(options.directory, options.resolution),
+        Request::System(line) => match line {
+            CommandLine::One(options) => One(options.directory, counts_of(options.plan)),
+            CommandLine::Run(options) => Run(options.directory, counts_of(options.plan)),
+            CommandLine::Check(options) => Check(options.directory, options.resolution),
+        },
+        Request::TraceCheck(options) => TraceCheck(options.directory, options.file),
     };
     Ok(asked)
 }
 
-fn host_of<'a>(line: CommandLine<'a>) -> Option<&'a str> {
-    match line {
-        CommandLine::One(options) | CommandLine::Run(options) => Some(options.host),
-        CommandLine::Check(_) => None,
+fn host_of<'a>(request: Request<'a>) -> Option<&'a str> {
+    match request {
+        Request::System(CommandLine::One(options) | CommandLine::Run(options)) => {
+            Some(options.host)
+        }
+        Request::System(CommandLine::Check(_)) | Request::TraceCheck(_) => None,
     }
 }
 

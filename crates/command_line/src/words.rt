@@ -1,7 +1,7 @@
 ghost use Rattle.std.specs.Prelude.{◌≡◌, ◌≤◌, ◌^◌, IfOk, IfErr, IfSome, IsSomeAnd};
 ghost use Rattle.clap.specs.Words.{app_of, first_of, found_of, rows_of, subcommand_rows_of};
 ghost use Rattle.command_line.specs.App.{app_of_rows};
-ghost use Rattle.command_line.specs.Line.{Asks, AsksCheck, AsksRun, CheckLine, GivesPlan, IsLine, IsLineOf, IsWithin, KeepsLimits, Line, Lookup, RunLine, check_of, commands, line_of, run_of, texts};
+ghost use Rattle.command_line.specs.Line.{Asked, Asks, AsksCheck, AsksRun, AsksTrace, CheckLine, GivesPlan, IsAsked, IsLineOf, IsWithin, IsWithinLimits, Lookup, RunLine, TraceLine, asked_of, check_of, commands, run_of, texts, trace_of};
 ghost use Rattle.command_line.specs.Table.{GivesLine, SubAsks};
 ghost use Rattle.command_line.specs.Words.{Word};
 ghost use Rattle.command_line.specs.declared.fault.WordsFault.TheVariants.{NoLine};
@@ -32,7 +32,16 @@ pub const BUILT_IN_HOST: &str = "builtin";
 // The most instants at a point, where no option says it.
 const DEFAULT_LIMIT: u64 = 100;
 
-/// What a command line asks for, by its command.
+/// What a command line asks for.
+#[derive(Clone, Copy, Debug)]
+pub enum Request<'a> {
+    /// to run or to measure what a directory describes
+    System(CommandLine<'a>),
+    /// to check a trace against the system in a directory
+    TraceCheck(TraceOptions<'a>),
+}
+
+/// What the command line of a system or of one FMU asks for, by its command.
 #[derive(Clone, Copy, Debug)]
 pub enum CommandLine<'a> {
     /// to run the FMU in a directory
@@ -59,18 +68,25 @@ pub struct CheckOptions<'a> {
     pub resolution: u64,
 }
 
+/// What `trace-check` is asked for: the directory of the system, and the path of the trace's file.
+#[derive(Clone, Copy, Debug)]
+pub struct TraceOptions<'a> {
+    pub directory: &'a str,
+    pub file: &'a str,
+}
+
 /// Reads the words of a command line, without the program's name.
 ///
 /// `NoLine` comes only where the words are no line. `Memory` may come for any words.
-pub fn read_words(alloc: Global, words: &[String]) -> Result<CommandLine<'_>, WordsFault>
-    ensures ok { IfOk result (λ l. IsLine (texts words.now) (line_of l)) }
-    ensures none { IfErr result (λ e. e ≡ NoLine → (line : Line) → IsLine (texts words.now) line → ⊥) }
-    ensures only { (line : Line) → IsLine (texts words.now) line → IfOk result (λ l. line_of l ≡ line) }
-    ensures within { IfOk result (λ l. KeepsLimits (line_of l)) }
+pub fn read_words(alloc: Global, words: &[String]) -> Result<Request<'_>, WordsFault>
+    ensures ok { IfOk result (λ r. IsAsked (texts words.now) (asked_of r)) }
+    ensures none { IfErr result (λ e. e ≡ NoLine → (asked : Asked) → IsAsked (texts words.now) asked → ⊥) }
+    ensures only { (asked : Asked) → IsAsked (texts words.now) asked → IfOk result (λ r. asked_of r ≡ asked) }
+    ensures within { IfOk result (λ r. IsWithinLimits (asked_of r)) }
 {
     match find_line(alloc, words) {
         Ok(matches) => match read_matches(&matches) {
-            Some(line) => Ok(line),
+            Some(request) => Ok(request),
             None => Err(WordsFault::NoLine),
         },
         Err(fault) => Err(fault),
@@ -95,14 +111,15 @@ fn make_command<'a>(alloc: Global) -> Result<Command<'a>, AllocError>
     let command = top_command(alloc);
     let command = with_subcommand(alloc, command, "one", &["DIR"], &RUN_OPTIONS)?;
     let command = with_subcommand(alloc, command, "run", &["DIR"], &RUN_OPTIONS)?;
-    with_subcommand(alloc, command, "check", &["DIR"], &["resolution"])
+    let command = with_subcommand(alloc, command, "check", &["DIR"], &["resolution"])?;
+    with_subcommand(alloc, command, "trace-check", &["DIR", "FILE"], &[])
 }
 
 // The command that was matched, with its options.
-fn read_matches<'a>(matches: &ArgMatches<'a>) -> Option<CommandLine<'a>>
-    ensures ok { IfSome result (λ l. SubAsks (subcommand_rows_of matches.now) (line_of l)) }
-    ensures only { (line : Line) → SubAsks (subcommand_rows_of matches.now) line → IsSomeAnd result (λ l. line_of l ≡ line) }
-    ensures within { IfSome result (λ l. KeepsLimits (line_of l)) }
+fn read_matches<'a>(matches: &ArgMatches<'a>) -> Option<Request<'a>>
+    ensures ok { IfSome result (λ r. SubAsks (subcommand_rows_of matches.now) (asked_of r)) }
+    ensures only { (asked : Asked) → SubAsks (subcommand_rows_of matches.now) asked → IsSomeAnd result (λ r. asked_of r ≡ asked) }
+    ensures within { IfSome result (λ r. IsWithinLimits (asked_of r)) }
 {
     match matches.subcommand() {
         Some((name, inner)) => read_command(name, inner),
@@ -111,15 +128,16 @@ fn read_matches<'a>(matches: &ArgMatches<'a>) -> Option<CommandLine<'a>>
 }
 
 // A command with its options, by its name.
-fn read_command<'a>(name: &str, matches: &ArgMatches<'a>) -> Option<CommandLine<'a>>
-    ensures ok { IfSome result (λ l. Asks name.now (λ n. first_of n (rows_of (found_of matches.now))) (line_of l)) }
-    ensures only { (line : Line) → Asks name.now (λ n. first_of n (rows_of (found_of matches.now))) line → IsSomeAnd result (λ l. line_of l ≡ line) }
-    ensures within { IfSome result (λ l. KeepsLimits (line_of l)) }
+fn read_command<'a>(name: &str, matches: &ArgMatches<'a>) -> Option<Request<'a>>
+    ensures ok { IfSome result (λ r. Asks name.now (λ n. first_of n (rows_of (found_of matches.now))) (asked_of r)) }
+    ensures only { (asked : Asked) → Asks name.now (λ n. first_of n (rows_of (found_of matches.now))) asked → IsSomeAnd result (λ r. asked_of r ≡ asked) }
+    ensures within { IfSome result (λ r. IsWithinLimits (asked_of r)) }
 {
     match name {
-        "one" => Some(CommandLine::One(read_run(matches)?)),
-        "run" => Some(CommandLine::Run(read_run(matches)?)),
-        "check" => Some(CommandLine::Check(read_check(matches)?)),
+        "one" => Some(Request::System(CommandLine::One(read_run(matches)?))),
+        "run" => Some(Request::System(CommandLine::Run(read_run(matches)?))),
+        "check" => Some(Request::System(CommandLine::Check(read_check(matches)?))),
+        "trace-check" => Some(Request::TraceCheck(read_trace_check(matches)?)),
         _ => None,
     }
 }
@@ -151,6 +169,17 @@ fn read_check<'a>(matches: &ArgMatches<'a>) -> Option<CheckOptions<'a>>
     Some(CheckOptions {
         directory,
         resolution,
+    })
+}
+
+// The directory of the system and the file of the trace.
+fn read_trace_check<'a>(matches: &ArgMatches<'a>) -> Option<TraceOptions<'a>>
+    ensures ok { IfSome result (λ o. AsksTrace (λ n. first_of n (rows_of (found_of matches.now))) (trace_of o)) }
+    ensures only { (line : TraceLine) → AsksTrace (λ n. first_of n (rows_of (found_of matches.now))) line → IsSomeAnd result (λ o. trace_of o ≡ line) }
+{
+    Some(TraceOptions {
+        directory: value_of(matches, "DIR")?,
+        file: value_of(matches, "FILE")?,
     })
 }
 

@@ -141,6 +141,8 @@ module _ (behave : BuiltInsBehaveWell) (h : Happened) (task : Task) (system : Sy
     plan_is = same.plan_is;
     bound_is = same.bound_is;
     built_in = record { count = length-map t.olds machine_in ∙ t.peers.each; each = built_in };
+    sound = t.sound;
+    behaved = well asked loaded same timings;
     writes = t.writes run (record { system_is = refl; bound_is = refl; tell = tell }) refl (well asked loaded same timings) news_quiet;
   }
 

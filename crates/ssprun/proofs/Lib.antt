@@ -14,4 +14,5 @@ pub mod Tracing
 pub mod BuiltIns
 pub mod Rows
 pub mod NameLemmas
+pub mod TraceRows
 pub mod LoopText

@@ -11,7 +11,7 @@ use Rattle.ssprun.specs.Facts as W
 use Rattle.ssprun.specs.Facts.{WithLine, WithoutLine}
 use Rattle.ssprun.specs.Happened.{Happened, Stage}
 use Rattle.ssprun.specs.Message.{Reports, message, status_of}
-use Rattle.ssprun.specs.Rows.{IsNoLine, AnswersOr11, IsStatus, StatusRow, TraceRow, KeepsRows}
+use Rattle.ssprun.specs.Rows.{IsNoLine, AnswersOr11, IsStatus, StatusRow, TraceRow, KeepsSystemRows}
 use Rattle.ssprun.proofs.Exactly.{of_line, answers, memory_or, suits, file_exact, rule_exact, unknown_exact, reading_some}
 use Rattle.ssprun.proofs.Deciding.{decides}
 use Rattle.ssprun.proofs.Runs.{course, err_higher, out_higher, peer_case, uncalled_or_run}
@@ -65,7 +65,7 @@ trace_row o h f p = record {
       (suits o line h (Found loaded) (of_line o h f line is) to_find);
 }
 
-pub keeps_rows : BuiltInsBehaveWell → (o : Outcome) (h : Happened) → HasFacts o h → HasPut o h → KeepsRows h
+pub keeps_rows : BuiltInsBehaveWell → (o : Outcome) (h : Happened) → HasFacts o h → HasPut o h → KeepsSystemRows h
 keeps_rows behave o h f p = let trace = trace_row o h f p in record {
   ended = record { when = λ e. when_is Done o h f p (λ ten. omega arith) e };
   words = record {

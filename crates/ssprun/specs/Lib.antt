@@ -6,3 +6,4 @@ pub mod Facts
 pub mod Rows
 pub mod Refusing
 pub mod Given
+pub mod TraceCheck

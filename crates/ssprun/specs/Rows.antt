@@ -384,6 +384,8 @@ pub record TracesBuiltIns (h : Happened) (plan : Plan) (loaded : Loaded) : Type 
   pub plan_is : run.plan ≡ plan
   pub bound_is : run.bound ≡ loaded.bound
   pub built_in : HasBuiltIns run
+  pub sound : IsSound run.system
+  pub behaved : WellBehaved run
   pub writes : WritesTrace h run
 
 -- the same trace over built-in machines, of which no premise says that they behave well but for what they are asked of Clocks
@@ -401,8 +403,8 @@ pub data PeerRow (h : Happened) : Type 0 where
 
 -- ---- all of it
 
--- what holds of each call of the program
-pub record KeepsRows (h : Happened) : Type 0 where
+-- what holds of each call of the program whose words don't ask for the check of a trace
+pub record KeepsSystemRows (h : Happened) : Type 0 where
   pub ended : EndRow h
   pub words : WordsRow h
   pub file : FileRow h

@@ -5,7 +5,7 @@ ghost use Rattle.command_line.specs.Line.{texts};
 ghost use Rattle.ssprun.specs.Given.{ungiven_outcome};
 ghost use Rattle.ssprun.specs.Happened.{happened, stage};
 ghost use Rattle.ssprun.specs.Message.{Reports, message, status_of};
-ghost use Rattle.ssprun.specs.Rows.{KeepsRows};
+ghost use Rattle.ssprun.specs.TraceCheck.{KeepsRows};
 
 use crate::report::Report;
 use crate::run::run_words;

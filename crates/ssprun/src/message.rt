@@ -5,6 +5,7 @@ ghost use Rattle.std.specs.List.{count_by};
 ghost use Rattle.system_model.specs.Ports.{source_of};
 ghost use Rattle.system_files.specs.Rooms.{room_for};
 ghost use Rattle.ssprun.specs.Message.{bad_message, file_message, fixed_message, frame_of, limit_message, loop_room, loop_text, numbers_text, path_room, place_room, place_text, size_text, start_message};
+ghost use Rattle.ssprun.specs.TraceCheck.{verdict_text};
 
 use crate::names::{kind_name, status_name};
 use crate::outcome::StartCause;
@@ -16,6 +17,7 @@ use link_frames::put_reply;
 use sim_base::{PortId, escape};
 use system_files::FileFault;
 use system_model::{Port, Role, System};
+use trace_check::Verdict;
 
 /// Writes the line of a file that wasn't taken to the front of `text`, and answers its length.
 #[tactic(auto, unfolding(crate::specs::Message::file_message))]
@@ -250,6 +252,25 @@ pub(crate) fn write_size(system: &System, unreached: u64, text: &mut [u8]) -> us
     let at = append(b" unreached ", text, at);
     let at = append_number(unreached, text, at);
     append(b"\n", text, at)
+}
+
+/// Writes the line of a verdict to the front of `text`, and answers its length.
+#[tactic(auto, unfolding(crate::specs::TraceCheck::verdict_text))]
+pub(crate) fn write_verdict(verdict: Verdict, text: &mut [u8]) -> usize
+    requires { 45 ≤ length text.old }
+    ensures length { result ≤ length text.new }
+    ensures text { take result text.new ≡ verdict_text verdict }
+{
+    match verdict {
+        Verdict::Yes => append(b"yes\n", text, 0),
+        Verdict::No { line, rule } => {
+            let at = append(b"no ", text, 0);
+            let at = append_number(line, text, at);
+            let at = append(b" ", text, at);
+            let at = append_number(u64::from(rule), text, at);
+            append(b"\n", text, at)
+        }
+    }
 }
 
 fn count_feeds(ports: &[Port]) -> usize

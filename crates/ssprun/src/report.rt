@@ -76,8 +76,8 @@ impl Report {
     }
 }
 
-// Puts a line that stands for a status, and answers the status: 10 where the put fails.
-fn put_line<E: Sink>(line: &[u8], status: u8, err: &mut E) -> u8
+/// Puts a line that stands for a status, and answers the status: 10 where the put fails.
+pub(crate) fn put_line<E: Sink>(line: &[u8], status: u8, err: &mut E) -> u8
     ensures { Reports (Some line.now) status result (E.view err.old) (E.view err.new) }
 {
     match err.put(line) {

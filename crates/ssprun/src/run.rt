@@ -6,11 +6,11 @@ ghost use Rattle.sim_base.specs.Sink.{SinkView};
 ghost use Rattle.calling_sequence.specs.Plans.{CountsBy};
 ghost use Rattle.system_model.specs.Bounds.{BindsParameters};
 ghost use Rattle.system_model.specs.declared.system.System.{System};
-ghost use Rattle.ssprun.specs.Facts.{CheckFacts, Facts, LineFacts, LoadedFacts, RunFacts, subject_of};
+ghost use Rattle.ssprun.specs.Facts.{CheckFacts, LineFacts, LoadedFacts, RunFacts, subject_of};
 ghost use Rattle.system_files.specs.declared.loaded.Loaded.{Loaded};
 ghost use Rattle.ssprun.specs.Happened.{happened, scene, stage};
 ghost use Rattle.ssprun.specs.Peers.{AreKnown, AreStarted, StartsUpTo, with_all_started};
-ghost use Rattle.ssprun.specs.Rows.{KeepsRows};
+ghost use Rattle.ssprun.specs.TraceCheck.{KeepsRows};
 ghost use Rattle.ssprun.specs.Runs.{CanRun, HasFolders, Task, names_of};
 
 use crate::message::write_size;
@@ -19,8 +19,9 @@ use crate::outcome::StartCause;
 use crate::peers::{Unstarted, retire_each, start_each};
 use crate::refusing::refuse;
 use crate::report::Report;
+use crate::trace_check::check_trace;
 use built_in_laws::built_in_runs;
-use command_line::{CommandLine, Options, WordsFault, read_words};
+use command_line::{CommandLine, Options, Request, WordsFault, read_words};
 use fmu_peer::{Spawner, StartFault};
 use run_model::one_trace;
 use sim_base::{Folder, Sink, Text};
@@ -37,7 +38,8 @@ use system_model::{Bound, System};
 /// `out`; `one` does so with the FMU that is described there. Each FMU is run by the host, or where none is given by the
 /// program itself. R, H, T and S are counts: R of them are one second, and the run goes from
 /// S, which is 0 where it isn't given, to T by steps of H. A point has at most N instants, and at most 100 where that isn't
-/// given. `check DIR --resolution R` puts the size of the system on `out`. At each status but 0 one line is put on `err`.
+/// given. `check DIR --resolution R` puts the size of the system on `out`, and `trace-check DIR FILE` whether the trace in
+/// a file keeps the rules of that system. At each status but 0 and 1 one line is put on `err`.
 pub fn run_words<R: Threads + Sync, F: Folder, S: Spawner, O: Sink, E: Sink>(
     rt: &R,
     alloc: Global,
@@ -55,26 +57,11 @@ pub fn run_words<R: Threads + Sync, F: Folder, S: Spawner, O: Sink, E: Sink>(
 {
     one_trace();
     built_in_runs();
-    run(rt, alloc, words, folder, spawner, out).put(err)
-}
-
-// Does what the words say, and answers how it ended.
-fn run<R: Threads + Sync, F: Folder, S: Spawner, O: Sink>(
-    rt: &R,
-    alloc: Global,
-    words: &[String],
-    folder: &mut F,
-    spawner: &mut S,
-    out: &mut O,
-) -> Report
-    ensures { Facts result.outcome (texts words.now)
-        (stage (F.view folder.old) (S.view spawner.old) (O.view out.old))
-        (stage (F.view folder.new) (S.view spawner.new) (O.view out.new)) }
-{
     match read_words(alloc, words) {
-        Ok(line) => run_line(rt, alloc, line, folder, spawner, out),
-        Err(WordsFault::NoLine) => Report::words(alloc),
-        Err(WordsFault::Memory) => Report::memory(alloc),
+        Ok(Request::System(line)) => run_line(rt, alloc, line, folder, spawner, out).put(err),
+        Ok(Request::TraceCheck(options)) => check_trace(alloc, options, folder, out, err),
+        Err(WordsFault::NoLine) => Report::words(alloc).put(err),
+        Err(WordsFault::Memory) => Report::memory(alloc).put(err),
     }
 }
 

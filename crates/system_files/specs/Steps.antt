@@ -96,6 +96,10 @@ abbrev pub EndsAt : (List ℕ → Rule → Place → Type 0) → List ℕ → Lo
 EndsAt Breaks path (end.File file fault) old new = (file.path ≡ path) × FaultAt Breaks path fault old new
 EndsAt Breaks path end.Memory old new = (new ≡ with_asked old path) ⊎ (new ≡ old)
 
+-- the end at the file at a path of which nothing is asked but its bytes
+abbrev pub EndsUnread : List ℕ → LoadEnd → FolderView → FolderView → Type 0
+EndsUnread path ended old new = EndsAt (λ bytes rule place. ⊥) path ended old new
+
 -- the end at a file that wasn't answered
 abbrev pub unread_end : NamedFile → ReadFault → LoadEnd
 unread_end file r.Failed = end.File file Unread

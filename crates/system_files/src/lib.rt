@@ -15,5 +15,6 @@ mod together;
 pub use loaded::Loaded;
 pub use loading::{LoadEnd, load};
 pub use named::{FileFault, NamedFile};
+pub use reading::read_file;
 pub use room::{NoMemory, make_room};
 pub use subject::Subject;

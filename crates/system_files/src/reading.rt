@@ -3,18 +3,40 @@ ghost use Rattle.std.specs.Prelude.{◌≡◌, IfErr, IfOk};
 ghost use Rattle.sim_base.specs.Folder.{with_asked};
 ghost use Rattle.parameter_values.specs.Ranges.{AreInRange};
 ghost use Rattle.system_files.specs.Files.{HasFile, description_path, structure_path};
-ghost use Rattle.system_files.specs.Steps.{EndsAt, FailsMapping, FailsModel, FailsStructure, FailsValues, SaysMapping, SaysModel, SaysStructure, SaysValues, fault_end, unread_end};
+ghost use Rattle.system_files.specs.Steps.{EndsAt, EndsUnread, FailsMapping, FailsModel, FailsStructure, FailsValues, SaysMapping, SaysModel, SaysStructure, SaysValues, fault_end, unread_end};
 
 use crate::loading::LoadEnd;
 use crate::named::{FileFault, NamedFile};
 use crate::paths::{description_path, structure_path};
 use crate::room::NoMemory;
-use sim_base::{Folder, Items, MOST_FILE_BYTES, ReadFault};
+use sim_base::{Folder, Items, MOST_FILE_BYTES, ReadFault, Text};
 use std::alloc::Global;
 use system_loading::{
     Fault, GivenMapping, GivenSet, Outline, read_mapping, read_outline, read_shape, read_values,
 };
 use value_types::Shape;
+
+/// Reads the bytes of the file at a path, of which there are at most 16 MiB, whatever they say.
+pub fn read_file<F: Folder>(alloc: Global, path: &str, folder: &mut F) -> Result<Vec<u8>, LoadEnd>
+    ensures ok { IfOk result (λ bytes. HasFile (λ read given. read ≡ given) (F.view folder.old) path.now bytes.items) }
+    ensures told { IfOk result (λ bytes. F.view folder.new ≡ with_asked (F.view folder.old) path.now) }
+    ensures err { IfErr result (λ end. EndsUnread path.now end (F.view folder.old) (F.view folder.new)) }
+{
+    let Ok(file) = name_file(alloc, path) else {
+        return Err(LoadEnd::Memory);
+    };
+    match folder.read(alloc, file.path.as_str(), MOST_FILE_BYTES) {
+        Ok(bytes) => Ok(bytes),
+        Err(fault) => Err(leave_unread(file, fault)),
+    }
+}
+
+// The file at a path, before it is read.
+fn name_file(alloc: Global, path: &str) -> Result<NamedFile, NoMemory>
+    ensures { IfOk result (λ file. file.path ≡ path.now) }
+{
+    NamedFile::new(alloc, Text::from_str(alloc, path)?)
+}
 
 /// Reads the structure of a system.
 pub(crate) fn read_structure<F: Folder>(

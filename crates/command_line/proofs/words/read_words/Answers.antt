@@ -2,7 +2,7 @@ use Rattle.std.proofs.Common.{sym, subst, List}
 use Rattle.std.specs.Prelude.{Option}
 use Rattle.clap.specs.Walk.{Row}
 use Rattle.command_line.specs.App.{app_of_rows}
-use Rattle.command_line.specs.Line.{Asks, IsLine, Line, Lookup, commands}
+use Rattle.command_line.specs.Line.{Asked, Asks, IsAsked, Lookup, commands}
 use Rattle.command_line.specs.Table.{GivesLine, SubAsks}
 use Rattle.command_line.specs.Words.{Word}
 use Rattle.clap.specs.declared.parser.matches.ArgMatches.{ArgMatches}
@@ -12,7 +12,7 @@ use Rattle.command_line.proofs.Tables.{unique_line}
 use Rattle.command_line.proofs.words.read_words.Goals as goal
 
 -- what a line asks for is what the matches ask for
-asks_by_matches : (words : List Word) (m : ArgMatches) (line : Line) → GivesLine commands words m → IsLine words line → SubAsks (subcommand_rows_of m) line
+asks_by_matches : (words : List Word) (m : ArgMatches) (line : Asked) → GivesLine commands words m → IsAsked words line → SubAsks (subcommand_rows_of m) line
 asks_by_matches words m line gives is_line =
     let one = unique_line (app_of_rows commands) commands program_table words _ _ _ _ is_line.is gives.line in
     subst (λ (s : Option (Word × List Row)). SubAsks s line) (sym gives.sub)

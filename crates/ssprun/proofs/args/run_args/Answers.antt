@@ -2,11 +2,9 @@ use Rattle.std.proofs.Common.{drop, refl, sym, subst}
 use Rattle.std.specs.Prelude.{IfOk}
 use Rattle.std.specs.Vec.Iter.{into_iter_items}
 use Rattle.command_line.specs.Line.{texts}
-use Rattle.ssprun.specs.declared.outcome.Outcome.{Outcome}
-use Rattle.ssprun.specs.Facts.{Facts, WithoutLine}
 use Rattle.ssprun.specs.Happened.{happened, stage}
-use Rattle.ssprun.specs.Rows.{KeepsRows}
-use Rattle.ssprun.proofs.Rows.{keeps_rows}
+use Rattle.ssprun.specs.TraceCheck.{KeepsRows}
+use Rattle.ssprun.proofs.TraceRows.{unread_rows}
 use Rattle.ssprun.proofs.args.run_args.Goals as goal
 
 pub returns-in-Err-words_behind-clause-given : goal.returns-in-Err-words_behind-clause-given
@@ -16,6 +14,4 @@ returns-in-Err-words_behind-clause-given g c =
     let err = g.E.Sink.view c.args.err.now in
     let err_after = g.E.Sink.view c.put.new.err in
     subst (λ a. IfOk a (λ given. KeepsRows (happened (texts (drop 1 (into_iter_items given))) here here err err_after c.put.result))) (sym c.in-Ok.is)
-    (keeps_rows c.built_in_runs.ensures.behaves c.memory.result.outcome (happened words here here err err_after c.put.result)
-    (subst (λ (o : Outcome). Facts o words here here) (sym c.memory.ensures) (WithoutLine (record { why = tt; same = refl })))
-    c.put.ensures)
+    (unread_rows c.built_in_runs.ensures.behaves c.memory.result.outcome (happened words here here err err_after c.put.result) c.memory.ensures refl c.put.ensures)
