@@ -1,7 +1,7 @@
 ghost use Rattle.std.specs.Prelude.{◌≡◌, ◌≤◌, ◌^◌, [], IfErr, IfOk, length};
 ghost use Rattle.bench_fmus.specs.BuiltInView.{built_in_view};
 ghost use Rattle.bench_fmus.specs.Models.{is_model};
-ghost use Rattle.child_hosts.specs.Links.{is_known, link_view};
+ghost use Rattle.child_hosts.specs.Links.{IsOfHost, built_in_host, is_known, link_view};
 ghost use Rattle.fmu_peer.specs.Start.{AnswersUnknown, IsStarted};
 
 use crate::{ChildFmu, HostLink};
@@ -42,6 +42,7 @@ impl<'a, R: Processes<Started = SystemProcess>> Hosts<'a, R> {
 impl<'a, R: Processes<Started = SystemProcess>> Spawner for Hosts<'a, R> {
     type Link = HostLink;
 
+    ghost use Rattle.fmu_peer.specs.Start.{NotesStart};
     ghost use Rattle.child_hosts.specs.Links.{hosts_view};
     ghost use Rattle.child_hosts.specs.LinkLaws.{fewer_views};
 
@@ -56,7 +57,14 @@ impl<'a, R: Processes<Started = SystemProcess>> Spawner for Hosts<'a, R> {
         name: &str,
         directory: &str,
         shape: &Shape,
-    ) -> Result<HostLink, StartFault> {
+    ) -> Result<HostLink, StartFault>
+        requires name { (1 ≤ length name.now) × (length name.now ≤ 2 ^ 24) }
+        requires token { length shape.now.token ≤ 2 ^ 24 }
+        ensures fresh { IfOk result (λ link. IsStarted host.now name.now directory.now shape.now (link_view link)) }
+        ensures unknown { AnswersUnknown (is_known host.now shape.now.identifier) result }
+        ensures noted { NotesStart (hosts_view self.old) (hosts_view self.new) result }
+        ensures host { IfOk result (λ link. IsOfHost host.now shape.now link) }
+    {
         match start_link(self.processes, alloc, host, name, directory, shape) {
             Ok(link) => self.count(link),
             Err(fault) => {
@@ -116,6 +124,7 @@ fn start_link<R: Processes<Started = SystemProcess>>(
     requires token { length shape.now.token ≤ 2 ^ 24 }
     ensures fresh { IfOk result (λ l. IsStarted host.now name.now directory.now shape.now (link_view l)) }
     ensures unknown { AnswersUnknown (is_known host.now shape.now.identifier) result }
+    ensures host { IfOk result (λ l. IsOfHost host.now shape.now l) }
 {
     if host == BUILT_IN_HOST {
         return start_built_in(alloc, host, name, directory, shape);
@@ -134,8 +143,10 @@ fn start_built_in(
     directory: &str,
     shape: &Shape,
 ) -> Result<HostLink, StartFault>
+    requires { host.now ≡ built_in_host }
     ensures fresh { IfOk result (λ l. IsStarted host.now name.now directory.now shape.now (link_view l)) }
     ensures unknown { AnswersUnknown (is_model shape.now.identifier) result }
+    ensures host { IfOk result (λ l. IsOfHost host.now shape.now l) }
 {
     let Some(model) = Model::named(shape.identifier.as_str()) else {
         return Err(StartFault::Unknown);
@@ -154,7 +165,8 @@ fn make_built_in(
     directory: &str,
     shape: &Shape,
 ) -> Result<BuiltIn, AllocError>
-    ensures { IfOk result (λ b. IsStarted host.now name.now directory.now shape.now (built_in_view b)) }
+    ensures fresh { IfOk result (λ b. IsStarted host.now name.now directory.now shape.now (built_in_view b)) }
+    ensures model { IfOk result (λ b. b.model ≡ model) }
 {
     let origin = Origin::from_texts(alloc, host, name, directory)?;
     let peer = BuiltIn::new(alloc, model, origin, shape, None)?;

@@ -5,6 +5,7 @@ use Rattle.fmu_host.specs.Happened.{Happened}
 use Rattle.fmu_host.specs.Rows.{IsStatus, KeepsRows}
 use Rattle.fmu_host.specs.Status.{status_of}
 use Rattle.fmu_host.proofs.Exactly.{big_exact, missing_exact, rule_exact, served_exact, unknown_exact, words_exact}
+use Rattle.fmu_host.proofs.Told.{told_exact}
 use Rattle.fmu_host.proofs.Statuses.{Done, WrongFrame, WrongWords, NoFile, BrokenRule, NoMachine, WrongCall, ManyCalls, LostLink, known, numbered, of_end}
 use Rattle.fmu_host.proofs.When.{HasFacts, when_is}
 
@@ -31,6 +32,7 @@ keeps_rows e h f status = record {
     many = λ n. when_is ManyCalls e h f status n;
     failed = λ n. when_is LostLink e h f status n;
     exact = λ line shape model t named. served_exact e h f status line shape model t named;
+    told = λ line shape replies end t calls. told_exact e h f status line shape replies end t calls;
   };
   known = subst IsStatus (sym (status ∙ numbered e)) (known (of_end e));
 }

@@ -1,15 +1,19 @@
 -- When each status comes. An `exact` row speaks of a call in which the folder tells its files and no read of it failed, and yields to want of memory.
-use Rattle.std.specs.Prelude.{◌≡◌, ◌⊎◌, ℕ, ◌^◌, ◌<◌, ◌≤◌, List, length, Option, Some, None}
+use Rattle.std.specs.Prelude.{◌≡◌, ◌⊎◌, ℕ, ◌-◌, ◌^◌, ◌<◌, ◌≤◌, List, length, Option, Some, None}
 use Rattle.sim_base.specs.Causes.{Rose}
 use Rattle.value_types.specs.declared.shape.Shape.{Shape}
 use Rattle.doc_tree.specs.declared.place.Place.{Place}
 use Rattle.doc_tree.specs.declared.rule.Rule.{Rule}
 use Rattle.system_loading.specs.Readings.{BreaksModel, IsModel}
+use Rattle.fmi_calls.specs.Next.{fresh}
 use Rattle.fmi_calls.specs.declared.call.Call.{Call}
+use Rattle.fmi_calls.specs.declared.call.Reply.{Reply}
+use Rattle.bench_fmus.specs.BuiltIn.{first_state, machine_of}
 use Rattle.bench_fmus.specs.declared.model.Model.{Model}
-use Rattle.bench_fmus.specs.Models.{model_named}
+use Rattle.bench_fmus.specs.Models.{behaviour_of, model_named}
 use Rattle.host_serving.specs.declared.serving.ServeEnd.{ServeEnd}
 use Rattle.host_serving.specs.declared.serving.ServeEnd.TheVariants as E
+use Rattle.host_serving.specs.Told.{Comes, with_frames}
 use Rattle.fmu_host.specs.Description.{Breaks, Holds, IsAsked, IsRead, IsTooLong, IsUnread, path_of}
 use Rattle.fmu_host.specs.Facts.{ServesShape}
 use Rattle.fmu_host.specs.Happened.{Happened}
@@ -44,6 +48,37 @@ pub record TellsShape (h : Happened) (line : Line) (shape : Shape) : Type 0 wher
   pub within : length bytes ≤ 2 ^ 24
   pub is : IsModel line.resolution bytes shape
 
+-- ---- what the input tells
+
+-- the count of the input rose, or that of the output
+abbrev pub LosesLink : Happened → Type 0
+LosesLink h = Rose h.old.link.input.faults h.new.link.input.faults ⊎ Rose h.old.link.output.faults h.new.link.output.faults
+
+-- the shape names a machine, and the input tells its bytes: in the machine's first state they come to these replies, fewer than are counted, and to this end. No count rose
+pub record TellsCalls (h : Happened) (shape : Shape) (replies : List Reply) (end : ServeEnd) : Type 0 where
+  pub model : Model
+  pub named : model_named shape.identifier ≡ Some model
+  pub bytes : List ℕ
+  pub told : h.old.link.input.left ≡ Some bytes
+  pub come : Comes shape (machine_of (behaviour_of model) shape) (fresh shape) (first_state shape.variables) bytes replies end
+  pub few : length replies < 2 ^ 64 - 1
+  pub calm : LosesLink h → ⊥
+
+-- the status of each end
+abbrev pub serve_status : ServeEnd → ℕ
+serve_status E.Freed = 0
+serve_status E.Ended = 0
+serve_status (E.BadFrame at) = 1
+serve_status (E.NotPermitted call) = 6
+serve_status E.Failed = 10
+serve_status E.TooMany = 9
+serve_status E.Memory = 11
+
+-- the frames of these replies were put, and the status is that of this end
+pub record Answers (h : Happened) (replies : List Reply) (end : ServeEnd) : Type 0 where
+  pub output : h.new.link.output ≡ with_frames h.old.link.output replies
+  pub status : h.status ≡ serve_status end
+
 -- ---- the statuses
 
 -- the shape was read, and the machine that it names was served to such an end
@@ -65,16 +100,6 @@ IsBadFrame end = (at : ℕ) × (end ≡ E.BadFrame at)
 -- at a call that isn't permitted
 abbrev pub IsUnpermitted : ServeEnd → Type 0
 IsUnpermitted end = (call : Call) × (end ≡ E.NotPermitted call)
-
--- the status of each end
-abbrev pub serve_status : ServeEnd → ℕ
-serve_status E.Freed = 0
-serve_status E.Ended = 0
-serve_status (E.BadFrame at) = 1
-serve_status (E.NotPermitted call) = 6
-serve_status E.Failed = 10
-serve_status E.TooMany = 9
-serve_status E.Memory = 11
 
 -- 2: exactly where the words are no line; then nothing is done
 pub record WordsRow (h : Happened) : Type 0 where
@@ -104,16 +129,17 @@ pub record UnknownRow (h : Happened) : Type 0 where
       OnLine h (λ line. (shape : Shape) × IsRead line shape h.old.folder h.new.folder × (model_named shape.identifier ≡ None)) × IsUnserved h
   pub exact : (line : Line) (shape : Shape) → TellsShape h line shape → model_named shape.identifier ≡ None → OrMemory h 5
 
--- 0, 1, 6, 9 and 10: the machine that the description names was served, and this is how that ended; at 10 a count rose
+-- 0, 1, 6, 9 and 10: the machine that the description names was served, and this is how that ended; at 10 a count rose. Where none rises, what the input tells decides: 0 exactly where the permitted calls end with it or with FreeInstance, 1 at bytes that are no frame, 6 at a call that isn't permitted; and the output gets the frames of the machine's replies, those and no others
 pub record ServedRow (h : Happened) : Type 0 where
   pub done : h.status ≡ 0 → OnLine h (Ends h IsDone)
   pub bad : h.status ≡ 1 → OnLine h (Ends h IsBadFrame)
   pub unpermitted : h.status ≡ 6 → OnLine h (Ends h IsUnpermitted)
   pub many : h.status ≡ 9 → OnLine h (Ends h (λ end. end ≡ E.TooMany))
-  pub failed : h.status ≡ 10 → OnLine h (Ends h (λ end. end ≡ E.Failed))
-      × (Rose h.old.link.input.faults h.new.link.input.faults ⊎ Rose h.old.link.output.faults h.new.link.output.faults)
+  pub failed : h.status ≡ 10 → OnLine h (Ends h (λ end. end ≡ E.Failed)) × LosesLink h
   pub exact : (line : Line) (shape : Shape) (model : Model) → TellsShape h line shape → model_named shape.identifier ≡ Some model →
       (h.status ≡ 11) ⊎ ((end : ServeEnd) × (h.status ≡ serve_status end) × ServesShape end shape h.old.link h.new.link)
+  pub told : (line : Line) (shape : Shape) (replies : List Reply) (end : ServeEnd) → TellsShape h line shape → TellsCalls h shape replies end →
+      Answers h replies end ⊎ (h.status ≡ 11)
 
 -- no other status comes
 abbrev pub IsStatus : ℕ → Type 0

@@ -10,7 +10,6 @@ use Rattle.link_frames.specs.Call.{IsCallFrame}
 use Rattle.link_frames.specs.Taking.{Breaks, Gets, IsFront}
 use Rattle.link_frames.proofs.CallLemmas.{call_single}
 use Rattle.host_serving.specs.Frames.{IsNoFrame, IsRoom, Takes, TakesCall}
-use Rattle.host_serving.proofs.FrameLemmas.{takes_more}
 use Rattle.host_serving.proofs.HeadLemmas.{frame_long}
 
 -- ---- the head

@@ -1,9 +1,9 @@
 -- Bytes that are taken one part behind another.
-use Rattle.std.proofs.Common.{◌≡◌, ℕ, ◌+◌, ◌≤◌, ◌<◌, List, [], ◌++◌, length, take, Option, Some, None, refl, sym, ap, ◌∙◌, append_assoc}
+use Rattle.std.proofs.Common.{◌≡◌, ℕ, ◌+◌, ◌≤◌, List, [], ◌++◌, length, take, Option, Some, None, refl, sym, ap, ◌∙◌, append_assoc}
 use Rattle.std.specs.Io.KnownBytes.{Consumes}
 use Rattle.sim_base.specs.Source.{SourceView}
 use Rattle.host_serving.specs.Frames.{Takes}
-use Rattle.std.proofs.Common.{◌-◌, arith, subst, length-append, length-take, min}
+use Rattle.std.proofs.Common.{◌-◌, arith, subst, length-append, length-take}
 use Rattle.std.proofs.Math.Seq.{take-append-add}
 use Rattle.std.proofs.lemmas.List.{take-take, take-append-le, take_all}
 use Rattle.std.proofs.lemmas.Slice.{take-put_mid}

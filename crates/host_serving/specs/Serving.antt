@@ -1,5 +1,5 @@
 -- An FMU behind a link: the calls that were read, the replies that were put, and what ended it (FMI 3.0, 4.2: the functions of Co-Simulation).
-use Rattle.std.specs.Prelude.{◌≡◌, ◌≢◌, ◌⊎◌, ℕ, ◌-◌, ◌^◌, List, [], ◌∷◌, ◌++◌, length, Ok}
+use Rattle.std.specs.Prelude.{◌≡◌, ◌≢◌, ℕ, ◌-◌, ◌^◌, ◌<◌, List, [], ◌∷◌, ◌++◌, length, Ok}
 use Rattle.sim_base.specs.Causes.{Rose}
 use Rattle.sim_base.specs.Sink.{SinkView, with_piece}
 use Rattle.sim_base.specs.Source.{SourceView}
@@ -71,10 +71,10 @@ EndsBy old new E.Failed = LosesLink old new
 EndsBy old new E.TooMany = new ≡ old
 EndsBy old new E.Memory = IsStill old new
 
--- so many calls are too many
+-- as many calls were served as are counted exactly where they were too many
 abbrev pub IsCounted : ServeEnd → ℕ → Type 0
 IsCounted E.TooMany count = count ≡ 2 ^ 64 - 1
-IsCounted end count = Unit {0}
+IsCounted end count = count < 2 ^ 64 - 1
 
 -- all of it: the calls that were served, and behind them what ended it
 pub record HasServed (old new : Scene) (end : ServeEnd) : Type 0 where

@@ -1,6 +1,7 @@
 //! Calls are served one after another.
 ghost use Rattle.std.specs.Prelude.{◌≡◌, ◌≢◌, IfNone, IfSome};
 ghost use Rattle.host_serving.specs.Serving.{EndsBy, GoesOn, HasServed, Served, scene};
+ghost use Rattle.host_serving.specs.Told.{ServesAsTold};
 
 use crate::reading::{NextCall, next_call};
 use fmi_calls::{Call, permitted};
@@ -37,7 +38,9 @@ pub fn serve<I: Source, O: Sink, M: Peer>(
     output: &mut O,
     machine: &mut M,
 ) -> ServeEnd
-    ensures { HasServed (scene (I.view input.old) (O.view output.old) (M.view machine.old))
+    ensures served { HasServed (scene (I.view input.old) (O.view output.old) (M.view machine.old))
+        (scene (I.view input.new) (O.view output.new) (M.view machine.new)) result }
+    ensures told { ServesAsTold (scene (I.view input.old) (O.view output.old) (M.view machine.old))
         (scene (I.view input.new) (O.view output.new) (M.view machine.new)) result }
 {
     'calls: for _ in 0..u64::MAX {

@@ -15,5 +15,5 @@ returns-in-Ok g c =
       machine = after;
       calm = c.serve.new.machine.calm;
       serves = subst (λ (v : View). HasServed (scene (g.I.Source.view c.args.input.now) (g.O.Sink.view c.args.output.now) v)
-          (scene (g.I.Source.view c.serve.new.input) (g.O.Sink.view c.serve.new.output) after) c.serve.result) c.in-Ok.ensures c.serve.ensures;
+          (scene (g.I.Source.view c.serve.new.input) (g.O.Sink.view c.serve.new.output) after) c.serve.result) c.in-Ok.ensures c.serve.ensures.served;
     }

@@ -1,5 +1,5 @@
 -- So many bytes were taken, and stand at the front of the room.
-use Rattle.std.proofs.Common.{ℕ, ◌-◌, ◌≤◌, length, take}
+use Rattle.std.proofs.Common.{◌-◌, ◌≤◌, length, take}
 use Rattle.host_serving.specs.Frames.{Takes}
 use Rattle.host_serving.proofs.reading.fill.Given as goal
 

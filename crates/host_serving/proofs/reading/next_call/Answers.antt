@@ -1,4 +1,4 @@
-use Rattle.std.proofs.Common.{◌≡◌, ◌≤◌, sym, ap, subst, arith, rules, length, length-take}
+use Rattle.std.proofs.Common.{◌≡◌, sym, ap, subst, arith, rules, length, length-take}
 use Rattle.host_serving.specs.Frames.{ComesTo, Takes}
 use Rattle.host_serving.proofs.ComingLemmas.{head_came}
 use Rattle.host_serving.proofs.reading.next_call.Goals as goal

@@ -1,5 +1,4 @@
-use Rattle.std.proofs.Common.{◌≡◌, ◌-◌, ◌+◌, ◌++◌, ◌∙◌, sym, subst, ap, arith, rules, length, length-take, length-drop, take, drop}
-use Rattle.std.proofs.lemmas.Grind.{common_steps}
+use Rattle.std.proofs.Common.{◌≡◌, ◌-◌, ◌+◌, ◌∙◌, sym, subst, ap, arith, rules, length, length-take, take}
 use Rattle.host_serving.specs.Frames.{ComesTo, IsNoFrame}
 use Rattle.host_serving.proofs.ComingLemmas.{texts_broke, texts_came, texts_cut}
 use Rattle.host_serving.proofs.FrameLemmas.{front_more, takes_more}

@@ -1,4 +1,4 @@
-use Rattle.std.proofs.Common.{arith, rules, ◌≡◌, ◌≤◌, length}
+use Rattle.std.proofs.Common.{arith, rules, ◌≡◌, length}
 use Rattle.host_serving.proofs.FrameLemmas.{resized}
 use Rattle.host_serving.proofs.reading.with_room.Goals as goal
 

@@ -1,6 +1,6 @@
-use Rattle.std.proofs.Common.{◌≡◌, refl, rules}
+use Rattle.std.proofs.Common.{refl, rules}
 use Rattle.fmi_calls.specs.Permission.{Permitted}
-use Rattle.host_serving.specs.Serving.{IsAnswered, OfMachine, OfOutput, ServesOne, Served, scene}
+use Rattle.host_serving.specs.Serving.{OfMachine, OfOutput}
 use Rattle.host_serving.proofs.ServingLemmas.{ends_freed, goes_on, put_rose}
 use Rattle.host_serving.proofs.serving.serve_next.Goals as goal
 
