@@ -14,6 +14,10 @@ use Rattle.fmu_peer.specs.View.{View}
 use Rattle.calling_sequence.specs.Systems.{IsBuilt}
 use Rattle.step_master.specs.System.{ArePeersOf, IsNew}
 use Rattle.run_rows.proofs.OrderTests.{sound_by}
+use Rattle.fmu_peer.specs.Machine.{IsMachineOf}
+use Rattle.worked_rows.specs.declared.counted.Counts.TheVariants.{Ticks, Updates}
+use Rattle.worked_rows.specs.Ticker.{ticker}
+use Rattle.worked_rows.specs.TickerLaws.{machine_by}
 use Rattle.worked_rows.specs.Ticking.{own, settling, ticking}
 use Rattle.worked_rows.proofs.ChainSound.{both}
 
@@ -40,3 +44,10 @@ ticking_peers a b new_a new_b = record { len = refl; each = each }
     each zero of v at is = subst (λ (x : Component). IsNew x.shape v) (same_Some settling of at) (subst (IsNew settling.shape) (same_Some a v is) new_a)
     each (suc zero) of v at is = subst (λ (x : Component). IsNew x.shape v) (same_Some own of at) (subst (IsNew own.shape) (same_Some b v is) new_b)
     each (suc (suc i)) of v at is = absurd (none_some _ is)
+
+-- each of the two machines is one of its FMU
+pub settling_machine : IsMachineOf settling.shape (ticker Updates)
+settling_machine = machine_by settling.shape Updates refl refl refl
+
+pub own_machine : IsMachineOf own.shape (ticker Ticks)
+own_machine = machine_by own.shape Ticks refl refl refl

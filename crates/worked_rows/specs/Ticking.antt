@@ -1,10 +1,10 @@
--- `settle` with k 1 feeds the u of an FMU that counts its Updates with its constant Clock active (FMI 3.0, 2.1.5: super-dense time; 2.2.8: constant Clocks). The Clock c ticks each 10 counts, and clocks u.
-use Rattle.std.specs.Prelude.{ℕ, pos, true, List, [], ◌∷◌, Some, None, codes}
+-- An FMU that asks for a second Update at each point feeds the u of one that counts its Updates with its constant Clock active (FMI 3.0, 2.1.5: super-dense time; 2.2.8: constant Clocks). The Clock c ticks each 10 counts, and clocks u.
+use Rattle.std.specs.Prelude.{true, List, [], ◌∷◌, Some, None, codes}
 use Rattle.sim_base.specs.declared.numbers.PortId.{PortId}
 use Rattle.value_types.specs.declared.values.PortType.TheVariants as T
 use Rattle.value_types.specs.declared.shape.Causality.TheVariants as V
 use Rattle.value_types.specs.declared.shape.ClockTiming.{ClockTiming}
-use Rattle.value_types.specs.declared.shape.Knowns.TheVariants.{AllInputs}
+use Rattle.value_types.specs.declared.shape.Knowns.TheVariants.{Listed}
 use Rattle.value_types.specs.declared.shape.Variable.{Variable}
 use Rattle.value_types.specs.declared.shape.Shape.{Shape}
 use Rattle.system_model.specs.declared.system.Component.{Component}
@@ -18,9 +18,6 @@ use Rattle.worked_rows.specs.Trio.{component, number}
 
 -- ---- the FMUs
 
-abbrev pub limit : Variable
-limit = number (codes "k") 1 V.Parameter (Some (pos 1))
-
 abbrev pub shown : Variable
 shown = number (codes "y") 3 V.Output None
 
@@ -30,16 +27,16 @@ clock = record (number (codes "c") 2 V.Input None) { kind = Some T.Clock }
 abbrev pub clocked : Variable
 clocked = record (number (codes "u") 5 V.Input None) { clocks = 2 ∷ [] }
 
--- an FMU with event mode whose output depends on all its inputs
+-- an FMU with event mode whose output depends on nothing
 abbrev pub eventful : List Variable → List ClockTiming → Shape
-eventful variables clocks = shape_of true variables clocks (record { output = 3; on = AllInputs } ∷ [])
+eventful variables clocks = shape_of true variables clocks (record { output = 3; on = Listed [] } ∷ [])
 
 -- a hundredth of a second, from the start on
 abbrev pub each_hundredth : ClockTiming
 each_hundredth = constant_timing 2 (record { counter = 1; resolution = 100 }) (record { counter = 0; resolution = 1 })
 
 abbrev pub settling : Component
-settling = component (codes "settle") 0 (eventful (limit ∷ shown ∷ []) [])
+settling = component (codes "settle") 0 (eventful (shown ∷ []) [])
 
 abbrev pub own : Component
 own = component (codes "own") 1 (eventful (clock ∷ clocked ∷ shown ∷ []) (each_hundredth ∷ []))

@@ -7,6 +7,7 @@ mod chain;
 mod chain_master_tests;
 #[cfg(test)]
 mod closing;
+mod counted;
 #[cfg(test)]
 mod driver;
 #[cfg(test)]
@@ -22,6 +23,7 @@ mod own_machine_tests;
 mod scripts;
 #[cfg(test)]
 mod talk_tests;
+mod ticker;
 #[cfg(test)]
 mod ticking;
 #[cfg(test)]

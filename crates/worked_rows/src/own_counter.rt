@@ -15,9 +15,8 @@ use value_types::{PortType, Shape, to_word};
 /// The count, an output.
 const OUTPUT: u32 = 3;
 
-/// What counts as a built-in machine does, and shows the count under reference 3: by `Model::Counter` at each step what the
-/// parameter under reference 1 tells, by `Model::Timer` the Updates with the Clock under reference 2 active, and by
-/// `Model::Settle` the Updates since Event Mode was entered. It tells its machine.
+/// What counts as a built-in machine does, at each step what the parameter under reference 1 tells, and shows the count under
+/// reference 3. It tells its machine.
 #[derive(Debug, Drop)]
 pub(crate) struct OwnCounter {
     pub(crate) inner: BuiltIn,

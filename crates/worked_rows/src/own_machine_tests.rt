@@ -3,11 +3,14 @@ ghost use Rattle.std.specs.Prelude.{◌≡◌, IfOk, map};
 ghost use Rattle.step_master.specs.System.{ArePeersOf};
 ghost use Rattle.worked_rows.specs.Chain.{chain};
 ghost use Rattle.worked_rows.specs.OwnCounter.{own_view};
+ghost use Rattle.worked_rows.specs.TickerView.{ticker_view};
 ghost use Rattle.worked_rows.specs.Ticking.{ticking};
 
 use crate::chain::make_chain;
 use crate::chain_master_tests::make_unbound;
+use crate::counted::Counts;
 use crate::own_counter::OwnCounter;
+use crate::ticker::Ticker;
 use crate::ticking::make_ticking;
 use crate::trio::{Ran, run_system};
 use bench_fmus::Model;
@@ -67,15 +70,15 @@ fn a_machine_that_heeds_no_input_has_its_text(rt: HostRuntime) -> Result<(), Fai
 }
 
 // One that settles, and one that counts its Updates with its Clock active.
-#[tactic(auto, using(crate::proofs::TickingSound::ticking_peers))]
-fn make_tickers(alloc: Global, system: &System) -> Result<Vec<OwnCounter>, AllocError>
+#[tactic(auto, using(crate::proofs::TickingSound::ticking_peers, crate::proofs::TickingSound::settling_machine, crate::proofs::TickingSound::own_machine))]
+fn make_tickers(alloc: Global, system: &System) -> Result<Vec<Ticker>, AllocError>
     requires { system.now ≡ ticking }
-    ensures { IfOk result (λ peers. ArePeersOf ticking (map own_view peers.items)) }
+    ensures { IfOk result (λ peers. ArePeersOf ticking (map ticker_view peers.items)) }
 {
     let components = system.components.as_slice();
     let mut peers = Vec::with_capacity(alloc, 2)?;
-    peers.push_reserved(OwnCounter::new(alloc, &components[0], Model::Settle)?);
-    peers.push_reserved(OwnCounter::new(alloc, &components[1], Model::Timer)?);
+    peers.push_reserved(Ticker::new(alloc, Counts::Updates, &components[0].shape)?);
+    peers.push_reserved(Ticker::new(alloc, Counts::Ticks, &components[1].shape)?);
     Ok(peers)
 }
 
@@ -84,7 +87,7 @@ fn run_tickers<R: Threads + Sync>(
     rt: &R,
     alloc: Global,
     out: &mut MemSink,
-) -> Result<Ran<OwnCounter>, StartFault> {
+) -> Result<Ran<Ticker>, StartFault> {
     let Ok(system) = make_ticking(alloc) else {
         return Err(StartFault::Memory);
     };

@@ -1,6 +1,6 @@
 //! An FMU that settles feeds one with a constant Clock: their system.
 ghost use Rattle.std.specs.Prelude.{◌≡◌, ◌∷◌, [], IfOk};
-ghost use Rattle.value_types.specs.declared.shape.Knowns.TheVariants.{AllInputs};
+ghost use Rattle.value_types.specs.declared.shape.Knowns.TheVariants.{Listed};
 ghost use Rattle.worked_rows.specs.Ticking.{clock, clock_port, clocked, clocked_port, each_hundredth, eventful, own, settling, ticking};
 
 use crate::chain::{make_order, make_port};
@@ -32,13 +32,13 @@ fn make_clocked(alloc: Global) -> Result<Variable, AllocError>
     })
 }
 
-// The output depends on all inputs.
+// The output depends on nothing.
 fn make_dependencies(alloc: Global) -> Result<ByReference<Dependency>, AllocError>
-    ensures { IfOk result (λ list. list ≡ record { output = 3; on = AllInputs } ∷ []) }
+    ensures { IfOk result (λ list. list ≡ record { output = 3; on = Listed [] } ∷ []) }
 {
     let dependency = Dependency {
         output: 3,
-        on: Knowns::AllInputs,
+        on: Knowns::Listed(Items::from_vec(Vec::new(alloc))),
     };
     ByReference::new(alloc, vec![in alloc; dependency]?)
 }
@@ -87,10 +87,7 @@ fn each_hundredth() -> ClockTiming
 fn make_settling(alloc: Global) -> Result<Component, AllocError>
     ensures { IfOk result (λ c. c ≡ settling) }
 {
-    let variables = vec![in alloc;
-        make_number(alloc, "k", 1, Causality::Parameter, Some(1))?,
-        make_number(alloc, "y", 3, Causality::Output, None)?,
-    ]?;
+    let variables = vec![in alloc; make_number(alloc, "y", 3, Causality::Output, None)?]?;
     let shape = make_eventful(alloc, variables, Vec::new(alloc))?;
     make_component(alloc, "settle", 0, shape)
 }
