@@ -194,7 +194,8 @@ def expect(what, found, wanted):
 
 
 def drive_sampler(program, directory, resolution):
-    """Clock 1 has interval 4/5 and shift 6/5 of a second; y under 3 shows u under 2 where the Clock ticks."""
+    """The sampler: its Clock is under 1, its interval and shift in seconds are the values under 4 and 6 over that under 5;
+    y under 3 shows u under 2 where the Clock ticks."""
     int32 = TYPES.index("Int32") + 1
     host = Host(program, directory, resolution)
     host.instantiate("s", "{s}", event_mode=True)
