@@ -28,9 +28,9 @@ mod run;
 mod system_tests;
 #[cfg(test)]
 mod tests;
-mod trace_check;
 #[cfg(test)]
 mod trace_check_tests;
+mod trace_verdict;
 
 use args::run_args;
 use child_hosts::Hosts;

@@ -19,7 +19,7 @@ use crate::outcome::StartCause;
 use crate::peers::{Unstarted, retire_each, start_each};
 use crate::refusing::refuse;
 use crate::report::Report;
-use crate::trace_check::check_trace;
+use crate::trace_verdict::check_trace;
 use built_in_laws::built_in_runs;
 use command_line::{CommandLine, Options, Request, WordsFault, read_words};
 use fmu_peer::{Spawner, StartFault};

@@ -3,7 +3,7 @@ use Rattle.command_line.specs.Line.{trace_of}
 use Rattle.trace_judging.specs.Judging.{Gives}
 use Rattle.ssprun.specs.TraceCheck.{Judges}
 use Rattle.ssprun.proofs.TraceRows.{refused}
-use Rattle.ssprun.proofs.trace_check.check_trace.Goals as goal
+use Rattle.ssprun.proofs.trace_verdict.check_trace.Goals as goal
 
 pub returns-in-Ok : goal.returns-in-Ok
 returns-in-Ok g c = λ words spawner.
