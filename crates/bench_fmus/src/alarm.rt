@@ -14,7 +14,8 @@ const AT: u32 = 1;
 const OUTPUT: u32 = 2;
 
 pub(crate) fn shown(shape: &Shape, state: &BuiltInState, reference: u32) -> i128
-    ensures { result ≡ alarm.shown shape.now (told state.now.numbers) (values_in shape.now.variables state.now) reference }
+    ensures { result ≡ alarm.shown shape.now (told state.now.numbers)
+        (values_in shape.now.variables state.now) reference }
 {
     state.count_at(shape, OUTPUT, reference)
 }
@@ -41,7 +42,8 @@ fn rings(shape: &Shape, state: &BuiltInState, at: u64, size: u64) -> bool
 
 /// The numbers after a call: a step that ends early counts.
 pub(crate) fn changed(shape: &Shape, state: &BuiltInState, call: &Call) -> Numbers
-    ensures { told result ≡ rung shape.now (told state.now.numbers) (values_in shape.now.variables state.now) call.now }
+    ensures { told result ≡ rung shape.now (told state.now.numbers)
+        (values_in shape.now.variables state.now) call.now }
 {
     match *call {
         Call::DoStep { at, size } => if rings(shape, state, at, size) {

@@ -51,7 +51,8 @@ impl Bench {
         directory: &str,
         shape: &Shape,
     ) -> Result<BuiltIn, AllocError>
-        ensures fresh { IfOk result (λ b. IsStarted host.now name.now directory.now shape.now (built_in_view b)) }
+        ensures fresh { IfOk result (λ b. IsStarted host.now name.now directory.now shape.now
+            (built_in_view b)) }
         ensures talk { IfOk result (λ b. option_map (λ t. t.room) b.book.talk ≡ self.now.room) }
     {
         let talk = make_talk(alloc, self.room)?;
@@ -95,12 +96,14 @@ impl Spawner for Bench {
     ) -> Result<BuiltIn, StartFault>
         requires name { (1 ≤ length name.now) × (length name.now ≤ 2 ^ 24) }
         requires token { length shape.now.token ≤ 2 ^ 24 }
-        ensures fresh { IfOk result (λ b. IsStarted host.now name.now directory.now shape.now (built_in_view b)) }
+        ensures fresh { IfOk result (λ b. IsStarted host.now name.now directory.now shape.now
+            (built_in_view b)) }
         ensures talk { IfOk result (λ b. option_map (λ t. t.room) b.book.talk ≡ self.old.room) }
         ensures room { self.new.room ≡ self.old.room }
         ensures failing { self.new.plan.failing ≡ self.old.plan.failing }
         ensures counted { self.new.plan.starts ≡ min (self.old.plan.starts + 1) (2 ^ 64 - 1) }
-        ensures failed { (result ≡ Err Failed) ↔ Contains self.old.plan.failing self.old.plan.starts }
+        ensures failed { (result ≡ Err Failed) ↔ Contains self.old.plan.failing
+            self.old.plan.starts }
         ensures unknown { AnswersUnknown (is_model shape.now.identifier) result }
 
         // Another name is refused without memory.

@@ -42,7 +42,8 @@ impl BuiltIn {
         ensures phase { IfOk result (λ b. b.book.phase ≡ fresh shape.now) }
         ensures talk { IfOk result (λ b. b.book.talk ≡ talk) }
         ensures faults { IfOk result (λ b. b.book.faults ≡ 0) }
-        ensures state { IfOk result (λ b. state_in shape.now.variables b.state ≡ first_state shape.now.variables) }
+        ensures state { IfOk result (λ b. state_in shape.now.variables b.state ≡
+            first_state shape.now.variables) }
     {
         let state = BuiltInState::at_first(alloc, shape)?;
         let book = TalkBook::new(alloc, shape.copy(alloc)?, talk)?;
@@ -93,8 +94,11 @@ impl Peer for BuiltIn {
     fn call(&mut self, call: &Call) -> Result<Reply, PeerFault>
         requires { Permitted self.old.book.shape self.old.book.phase call.now }
         ensures asked { Asked (built_in_view self.old) call.now result (built_in_view self.new) }
-        ensures answers { result ≡ (if fills_next self.old.book.talk then Err PeerFault.Failed else Ok (built_in_reply self.old call.now)) }
-        ensures room { option_map (λ t. t.room) self.new.book.talk ≡ option_map (λ t. t.room) self.old.book.talk }
+        ensures answers { result ≡
+            (if fills_next self.old.book.talk then Err PeerFault.Failed else Ok
+            (built_in_reply self.old call.now)) }
+        ensures room { option_map (λ t. t.room) self.new.book.talk ≡
+            option_map (λ t. t.room) self.old.book.talk }
     {
         let book = &self.book;
         let model = self.model;

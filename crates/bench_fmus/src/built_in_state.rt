@@ -71,7 +71,8 @@ impl BuiltInState {
 
     /// The state before the first call.
     pub fn at_first(alloc: Global, shape: &Shape) -> Result<BuiltInState, AllocError>
-        ensures first { IfOk result (λ s. state_in shape.now.variables s ≡ first_state shape.now.variables) }
+        ensures first { IfOk result (λ s. state_in shape.now.variables s ≡
+            first_state shape.now.variables) }
         ensures room { IfOk result (HasRoom shape.now) }
     {
         Ok(BuiltInState {
@@ -106,7 +107,8 @@ impl BuiltInState {
         counter: u32,
         resolution: u32,
     ) -> Fraction
-        ensures { result ≡ fraction_at variables.now (values_in variables.now self.now) counter resolution }
+        ensures { result ≡ fraction_at variables.now (values_in variables.now self.now) counter
+            resolution }
     {
         Fraction {
             counter: count_of(self.value(variables, counter)),
@@ -116,7 +118,8 @@ impl BuiltInState {
 
     /// The count under a reference of its own, and the value under any other.
     pub(crate) fn count_at(&self, shape: &Shape, own: u32, reference: u32) -> i128
-        ensures { result ≡ count_at own shape.now (told self.now.numbers) (values_in shape.now.variables self.now) reference }
+        ensures { result ≡ count_at own shape.now (told self.now.numbers)
+            (values_in shape.now.variables self.now) reference }
     {
         if reference == own {
             i128::from(self.numbers.count)
@@ -128,7 +131,8 @@ impl BuiltInState {
     /// What an output sees of the variable under a reference: its value where the output declares to depend on it, else
     /// what is held.
     pub(crate) fn seen_by(&self, shape: &Shape, output: u32, reference: u32) -> i128
-        ensures { result ≡ seen_by shape.now (told self.now.numbers) (values_in shape.now.variables self.now) output reference }
+        ensures { result ≡ seen_by shape.now (told self.now.numbers)
+            (values_in shape.now.variables self.now) output reference }
     {
         if self.is_declared_at(shape, output, reference) {
             self.value(&shape.variables, reference)
@@ -151,7 +155,8 @@ impl BuiltInState {
     /// What a good reply to a call carries.
     pub(crate) fn content(&self, model: Model, shape: &Shape, phase: &Phase, call: &Call) -> Content
         requires { Permitted shape.now phase.now call.now }
-        ensures { result ≡ content_of (behaviour_of model) shape.now (told self.now.numbers) (values_in shape.now.variables self.now) call.now }
+        ensures { result ≡ content_of (behaviour_of model) shape.now (told self.now.numbers)
+            (values_in shape.now.variables self.now) call.now }
     {
         match *call {
             Call::Instantiate { .. } => Content::Instantiate,
@@ -195,7 +200,8 @@ impl BuiltInState {
     // The point of time after a call.
     fn next_point(&self, model: Model, shape: &Shape, phase: &Phase, call: &Call) -> u64
         requires { Permitted shape.now phase.now call.now }
-        ensures { pos result ≡ point_after (behaviour_of model) shape.now (pos self.now.numbers.point) (values_in shape.now.variables self.now) call.now }
+        ensures { pos result ≡ point_after (behaviour_of model) shape.now
+            (pos self.now.numbers.point) (values_in shape.now.variables self.now) call.now }
     {
         match *call {
             Call::EnterInitialization { start, .. } => start,
@@ -209,7 +215,8 @@ impl BuiltInState {
 
     fn next_numbers(&self, model: Model, shape: &Shape, phase: &Phase, call: &Call) -> Numbers
         requires { Permitted shape.now phase.now call.now }
-        ensures { told result ≡ numbers_after (behaviour_of model) shape.now (told self.now.numbers) (values_in shape.now.variables self.now) call.now }
+        ensures { told result ≡ numbers_after (behaviour_of model) shape.now (told self.now.numbers)
+            (values_in shape.now.variables self.now) call.now }
     {
         Numbers {
             is_initializing: is_initializing_after(self.numbers.is_initializing, call),
@@ -222,7 +229,9 @@ impl BuiltInState {
     pub(crate) fn change(&mut self, model: Model, shape: &Shape, phase: &Phase, call: &Call)
         requires permitted { Permitted shape.now phase.now call.now }
         requires room { HasRoom shape.now self.old }
-        ensures state { state_in shape.now.variables self.new ≡ after (machine_of (behaviour_of model) shape.now) (state_in shape.now.variables self.old) call.now }
+        ensures state { state_in shape.now.variables self.new ≡
+            after (machine_of (behaviour_of model) shape.now)
+            (state_in shape.now.variables self.old) call.now }
         ensures room { HasRoom shape.now self.new }
     {
         match *call {
@@ -261,8 +270,10 @@ impl BuiltInState {
     fn save(&mut self)
         requires { length self.old.saved.values.items ≡ length self.old.values.items }
         ensures full { self.new.saved.is_full ≡ true }
-        ensures kept { (self.new.saved.numbers ≡ self.old.numbers) × (self.new.saved.values.items ≡ self.old.values.items) }
-        ensures same { (self.new.numbers ≡ self.old.numbers) × (self.new.values.items ≡ self.old.values.items) }
+        ensures kept { (self.new.saved.numbers ≡ self.old.numbers) ×
+            (self.new.saved.values.items ≡ self.old.values.items) }
+        ensures same { (self.new.numbers ≡ self.old.numbers) ×
+            (self.new.values.items ≡ self.old.values.items) }
     {
         self.saved.is_full = true;
         self.saved.numbers = self.numbers;
@@ -271,8 +282,11 @@ impl BuiltInState {
 
     fn restore(&mut self)
         requires { length self.old.saved.values.items ≡ length self.old.values.items }
-        ensures numbers { self.new.numbers ≡ (if self.old.saved.is_full then self.old.saved.numbers else self.old.numbers) }
-        ensures values { self.new.values.items ≡ (if self.old.saved.is_full then self.old.saved.values.items else self.old.values.items) }
+        ensures numbers { self.new.numbers ≡
+            (if self.old.saved.is_full then self.old.saved.numbers else self.old.numbers) }
+        ensures values { self.new.values.items ≡
+            (if self.old.saved.is_full then self.old.saved.values.items else
+            self.old.values.items) }
         ensures same { self.new.saved ≡ self.old.saved }
     {
         if self.saved.is_full {
@@ -344,7 +358,8 @@ fn first_values(alloc: Global, variables: &[Variable]) -> Result<Vec<i128>, Allo
 // Writes the value under a reference.
 fn write_value(variables: &ByReference<Variable>, values: &mut [i128], reference: u32, value: i128)
     requires { length values.old ≡ length variables.now }
-    ensures values { spread variables.now values.new ≡ written (map (λ v. v.reference) variables.now) (spread variables.now values.old) reference value }
+    ensures values { spread variables.now values.new ≡ written
+        (map (λ v. v.reference) variables.now) (spread variables.now values.old) reference value }
     ensures room { length values.new ≡ length values.old }
 {
     match variables.place_of(reference) {
@@ -356,7 +371,10 @@ fn write_value(variables: &ByReference<Variable>, values: &mut [i128], reference
 // Makes the input Clocks inactive.
 fn untick(variables: &ByReference<Variable>, values: &mut [i128])
     requires { length values.old ≡ length variables.now }
-    ensures values { spread variables.now values.new ≡ all_written (map (λ v. v.reference) variables.now) (zero_at (map (λ v. v.reference) (filter is_input_clock variables.now))) (spread variables.now values.old) }
+    ensures values { spread variables.now values.new ≡ all_written
+        (map (λ v. v.reference) variables.now)
+        (zero_at (map (λ v. v.reference) (filter is_input_clock variables.now)))
+        (spread variables.now values.old) }
     ensures room { length values.new ≡ length values.old }
 {
     for variable in variables.as_slice() {
@@ -392,7 +410,8 @@ fn is_initializing_after(is_initializing: bool, call: &Call) -> bool
 
 // What the outputs depend on, in Initialization Mode or behind it.
 fn dependencies_in(shape: &Shape, is_initializing: bool) -> &ByReference<Dependency>
-    ensures { result.now ≡ (if int_lt (pos 0) (number_of_flag is_initializing) then shape.now.initial_dependencies else shape.now.dependencies) }
+    ensures { result.now ≡ (if int_lt (pos 0) (number_of_flag is_initializing) then
+        shape.now.initial_dependencies else shape.now.dependencies) }
 {
     if is_initializing {
         &shape.initial_dependencies
@@ -403,7 +422,8 @@ fn dependencies_in(shape: &Shape, is_initializing: bool) -> &ByReference<Depende
 
 // Whether the output declares by this list to depend on the variable.
 fn declares(dependencies: &ByReference<Dependency>, output: u32, variable: &Variable) -> bool
-    ensures { result ≡ option_map_or (λ d. is_known d.on variable.now) (dependency_at dependencies.now output) false }
+    ensures { result ≡ option_map_or (λ d. is_known d.on variable.now)
+        (dependency_at dependencies.now output) false }
 {
     match dependencies.find(output) {
         Some(dependency) => is_known(&dependency.on, variable),

@@ -18,7 +18,8 @@ const OUTPUT: u32 = 2;
 const LONG: u32 = 3;
 
 pub(crate) fn shown(shape: &Shape, state: &BuiltInState, reference: u32) -> i128
-    ensures { result ≡ counter.shown shape.now (told state.now.numbers) (values_in shape.now.variables state.now) reference }
+    ensures { result ≡ counter.shown shape.now (told state.now.numbers)
+        (values_in shape.now.variables state.now) reference }
 {
     state.count_at(shape, OUTPUT, reference)
 }
@@ -36,7 +37,8 @@ pub(crate) fn asks_to_end(
 
 /// The numbers after a call: a step counts.
 pub(crate) fn changed(shape: &Shape, state: &BuiltInState, call: &Call) -> Numbers
-    ensures { told result ≡ counted shape.now (told state.now.numbers) (values_in shape.now.variables state.now) call.now }
+    ensures { told result ≡ counted shape.now (told state.now.numbers)
+        (values_in shape.now.variables state.now) call.now }
 {
     match *call {
         Call::DoStep { .. } => Numbers {

@@ -20,7 +20,8 @@ const INPUT: u32 = 2;
 const OUTPUT: u32 = 3;
 
 pub(crate) fn shown(shape: &Shape, state: &BuiltInState, reference: u32) -> i128
-    ensures { result ≡ gain.shown shape.now (told state.now.numbers) (values_in shape.now.variables state.now) reference }
+    ensures { result ≡ gain.shown shape.now (told state.now.numbers)
+        (values_in shape.now.variables state.now) reference }
 {
     if reference == OUTPUT {
         i128::from(product(shape, state))
@@ -30,13 +31,15 @@ pub(crate) fn shown(shape: &Shape, state: &BuiltInState, reference: u32) -> i128
 }
 
 fn product(shape: &Shape, state: &BuiltInState) -> i64
-    ensures { result ≡ product shape.now (told state.now.numbers) (values_in shape.now.variables state.now) }
+    ensures { result ≡ product shape.now (told state.now.numbers)
+        (values_in shape.now.variables state.now) }
 {
     wrapping_product(factor(shape, state), state.seen_by(shape, OUTPUT, INPUT))
 }
 
 fn factor(shape: &Shape, state: &BuiltInState) -> i128
-    ensures { result ≡ factor shape.now (told state.now.numbers) (values_in shape.now.variables state.now) }
+    ensures { result ≡ factor shape.now (told state.now.numbers)
+        (values_in shape.now.variables state.now) }
 {
     if is_input_at(&shape.variables, FACTOR) {
         state.seen_by(shape, OUTPUT, FACTOR)
@@ -56,7 +59,8 @@ fn is_input_at(variables: &ByReference<Variable>, reference: u32) -> bool
 
 /// The numbers after a call: the input is held where time goes on.
 pub(crate) fn changed(shape: &Shape, state: &BuiltInState, call: &Call) -> Numbers
-    ensures { told result ≡ holding shape.now (told state.now.numbers) (values_in shape.now.variables state.now) call.now }
+    ensures { told result ≡ holding shape.now (told state.now.numbers)
+        (values_in shape.now.variables state.now) call.now }
 {
     match *call {
         Call::ExitInitialization | Call::Update | Call::DoStep { .. } => Numbers {

@@ -40,7 +40,8 @@ impl Model {
 
     /// What a reference shows, before it is wrapped into its type.
     pub(crate) fn shown(self, shape: &Shape, state: &BuiltInState, reference: u32) -> i128
-        ensures { result ≡ (behaviour_of self).shown shape.now (told state.now.numbers) (values_in shape.now.variables state.now) reference }
+        ensures { result ≡ (behaviour_of self).shown shape.now (told state.now.numbers)
+            (values_in shape.now.variables state.now) reference }
     {
         match self {
             Model::Counter => counter::shown(shape, state, reference),
@@ -62,7 +63,8 @@ impl Model {
         size: u64,
     ) -> Option<u64>
         requires { at + size < 2 ^ 64 }
-        ensures { result ≡ (behaviour_of self).early_end shape.now (values_in shape.now.variables state.now) at size }
+        ensures { result ≡ (behaviour_of self).early_end shape.now
+            (values_in shape.now.variables state.now) at size }
     {
         match self {
             Model::Alarm => alarm::early_end(shape, state, at, size),
@@ -77,7 +79,8 @@ impl Model {
         state: &BuiltInState,
         size: u64,
     ) -> bool
-        ensures { result ≡ (behaviour_of self).asks_to_end variables.now (values_in variables.now state.now) size }
+        ensures { result ≡ (behaviour_of self).asks_to_end variables.now
+            (values_in variables.now state.now) size }
     {
         match self {
             Model::Counter => counter::asks_to_end(variables, state, size),
@@ -87,7 +90,8 @@ impl Model {
 
     /// Whether an update asks for another.
     pub(crate) fn asks_again(self, variables: &ByReference<Variable>, state: &BuiltInState) -> bool
-        ensures { result ≡ (behaviour_of self).asks_again variables.now (told state.now.numbers) (values_in variables.now state.now) }
+        ensures { result ≡ (behaviour_of self).asks_again variables.now (told state.now.numbers)
+            (values_in variables.now state.now) }
     {
         match self {
             Model::Settle => settle::asks_again(variables, state),
@@ -97,7 +101,8 @@ impl Model {
 
     /// The interval of the Clock under a reference.
     pub(crate) fn interval(self, shape: &Shape, state: &BuiltInState, reference: u32) -> Interval
-        ensures { result ≡ (behaviour_of self).interval shape.now (told state.now.numbers) (values_in shape.now.variables state.now) reference }
+        ensures { result ≡ (behaviour_of self).interval shape.now (told state.now.numbers)
+            (values_in shape.now.variables state.now) reference }
     {
         match self {
             Model::Sampler => sampler::interval(shape, state, reference),
@@ -113,7 +118,8 @@ impl Model {
         state: &BuiltInState,
         reference: u32,
     ) -> Fraction
-        ensures { result ≡ (behaviour_of self).shift variables.now (values_in variables.now state.now) reference }
+        ensures { result ≡ (behaviour_of self).shift variables.now
+            (values_in variables.now state.now) reference }
     {
         match self {
             Model::Sampler => sampler::shift(variables, state, reference),
@@ -123,7 +129,8 @@ impl Model {
 
     /// The numbers after a call, but for the mark of Initialization Mode and the point of time.
     pub(crate) fn changed(self, shape: &Shape, state: &BuiltInState, call: &Call) -> Numbers
-        ensures { told result ≡ (behaviour_of self).changed shape.now (told state.now.numbers) (values_in shape.now.variables state.now) call.now }
+        ensures { told result ≡ (behaviour_of self).changed shape.now (told state.now.numbers)
+            (values_in shape.now.variables state.now) call.now }
     {
         match self {
             Model::Counter => counter::changed(shape, state, call),

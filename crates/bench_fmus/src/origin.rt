@@ -19,7 +19,8 @@ impl Origin {
         name: &str,
         directory: &str,
     ) -> Result<Origin, AllocError>
-        ensures { IfOk result (λ o. o ≡ record { host = host.now; name = name.now; directory = directory.now }) }
+        ensures { IfOk result
+            (λ o. o ≡ record { host = host.now; name = name.now; directory = directory.now }) }
     {
         Ok(Origin {
             host: Text::from_str(alloc, host)?,

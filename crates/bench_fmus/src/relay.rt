@@ -18,7 +18,8 @@ const CLOCK: u32 = 2;
 const OUTPUT: u32 = 3;
 
 pub(crate) fn shown(shape: &Shape, state: &BuiltInState, reference: u32) -> i128
-    ensures { result ≡ relayed shape.now (told state.now.numbers) (values_in shape.now.variables state.now) reference }
+    ensures { result ≡ relayed shape.now (told state.now.numbers)
+        (values_in shape.now.variables state.now) reference }
 {
     if reference == CLOCK {
         let input = state.seen_by(shape, CLOCK, INPUT);
@@ -40,7 +41,8 @@ fn differ(a: i128, b: i128) -> bool
 
 /// The numbers after a call: the input is held where an instant ends.
 pub(crate) fn changed(shape: &Shape, state: &BuiltInState, call: &Call) -> Numbers
-    ensures { told result ≡ passed_on shape.now (told state.now.numbers) (values_in shape.now.variables state.now) call.now }
+    ensures { told result ≡ passed_on shape.now (told state.now.numbers)
+        (values_in shape.now.variables state.now) call.now }
 {
     match *call {
         Call::Update => Numbers {

@@ -29,7 +29,8 @@ const RESOLUTION: u32 = 5;
 const SHIFT: u32 = 6;
 
 pub(crate) fn shown(shape: &Shape, state: &BuiltInState, reference: u32) -> i128
-    ensures { result ≡ sampler.shown shape.now (told state.now.numbers) (values_in shape.now.variables state.now) reference }
+    ensures { result ≡ sampler.shown shape.now (told state.now.numbers)
+        (values_in shape.now.variables state.now) reference }
 {
     if reference == OUTPUT {
         state.seen_by(shape, OUTPUT, INPUT)
@@ -40,7 +41,8 @@ pub(crate) fn shown(shape: &Shape, state: &BuiltInState, reference: u32) -> i128
 
 /// The interval of the Clock under a reference.
 pub(crate) fn interval(shape: &Shape, state: &BuiltInState, reference: u32) -> Interval
-    ensures { result ≡ sampling_interval shape.now (told state.now.numbers) (values_in shape.now.variables state.now) reference }
+    ensures { result ≡ sampling_interval shape.now (told state.now.numbers)
+        (values_in shape.now.variables state.now) reference }
 {
     if reference == CLOCK {
         Interval::Changed(state.fraction_at(&shape.variables, INTERVAL, RESOLUTION))
@@ -66,7 +68,8 @@ pub(crate) fn shift(
 
 /// The numbers after a call: the input is held where an instant ends at which the Clock ticks.
 pub(crate) fn changed(shape: &Shape, state: &BuiltInState, call: &Call) -> Numbers
-    ensures { told result ≡ sampled shape.now (told state.now.numbers) (values_in shape.now.variables state.now) call.now }
+    ensures { told result ≡ sampled shape.now (told state.now.numbers)
+        (values_in shape.now.variables state.now) call.now }
 {
     match *call {
         Call::Update => if state.is_ticking(&shape.variables, CLOCK) {

@@ -56,7 +56,8 @@ fn make_book(
     ensures shape { IfOk result (λ b. b.shape ≡ shape.now) }
     ensures phase { IfOk result (λ b. b.phase ≡ fresh shape.now) }
     ensures talk { IfOk result (λ b. talk_in b.talk ≡ Some []) }
-    ensures room { IfOk result (λ b. option_map (λ t. t.room) b.talk ≡ Some (length answers.now + 1)) }
+    ensures room { IfOk result (λ b. option_map (λ t. t.room) b.talk ≡
+        Some (length answers.now + 1)) }
     ensures faults { IfOk result (λ b. b.faults ≡ 0) }
 {
     let talk = TalkRoom::with_room(alloc, answers.len() + 1)?;
@@ -71,9 +72,11 @@ fn make_script(
     shape: &Shape,
     answers: &[Result<Reply, PeerFault>],
 ) -> Result<Script, AllocError>
-    ensures fresh { IfOk result (λ s. IsStarted host.now name.now directory.now shape.now (script_view s)) }
+    ensures fresh { IfOk result (λ s. IsStarted host.now name.now directory.now shape.now
+        (script_view s)) }
     ensures answers { IfOk result (λ s. s.answers ≡ answers.now) }
-    ensures room { IfOk result (λ s. option_map (λ t. t.room) s.book.talk ≡ Some (length answers.now + 1)) }
+    ensures room { IfOk result (λ s. option_map (λ t. t.room) s.book.talk ≡
+        Some (length answers.now + 1)) }
 {
     let book = make_book(alloc, shape, answers)?;
     let origin = Origin::from_texts(alloc, host, name, directory)?;
@@ -108,13 +111,18 @@ impl Spawner for Scripts {
     ) -> Result<Script, StartFault>
         requires name { (1 ≤ length name.now) × (length name.now ≤ 2 ^ 24) }
         requires token { length shape.now.token ≤ 2 ^ 24 }
-        ensures fresh { IfOk result (λ s. IsStarted host.now name.now directory.now shape.now (script_view s)) }
-        ensures answers { IfOk result (λ s. Some s.answers ≡ slice_get self.old.lists self.old.plan.starts) }
-        ensures room { IfOk result (λ s. option_map (λ t. t.room) s.book.talk ≡ Some (length s.answers + 1)) }
+        ensures fresh { IfOk result (λ s. IsStarted host.now name.now directory.now shape.now
+            (script_view s)) }
+        ensures answers { IfOk result
+            (λ s. Some s.answers ≡ slice_get self.old.lists self.old.plan.starts) }
+        ensures room { IfOk result (λ s. option_map (λ t. t.room) s.book.talk ≡
+            Some (length s.answers + 1)) }
         ensures lists { self.new.lists ≡ self.old.lists }
         ensures failing { self.new.plan.failing ≡ self.old.plan.failing }
         ensures counted { self.new.plan.starts ≡ min (self.old.plan.starts + 1) (2 ^ 64 - 1) }
-        ensures failed { (result ≡ Err Failed) ↔ (Contains self.old.plan.failing self.old.plan.starts ⊎ (length self.old.lists ≤ self.old.plan.starts)) }
+        ensures failed { (result ≡ Err Failed) ↔
+            (Contains self.old.plan.failing self.old.plan.starts ⊎
+            (length self.old.lists ≤ self.old.plan.starts)) }
         ensures unknown { AnswersUnknown true result }
         ensures noted { NotesStart (scripts_view self.old) (scripts_view self.new) result }
     {

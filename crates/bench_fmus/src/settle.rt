@@ -14,20 +14,23 @@ const LIMIT: u32 = 1;
 const OUTPUT: u32 = 2;
 
 pub(crate) fn shown(shape: &Shape, state: &BuiltInState, reference: u32) -> i128
-    ensures { result ≡ settle.shown shape.now (told state.now.numbers) (values_in shape.now.variables state.now) reference }
+    ensures { result ≡ settle.shown shape.now (told state.now.numbers)
+        (values_in shape.now.variables state.now) reference }
 {
     state.count_at(shape, OUTPUT, reference)
 }
 
 pub(crate) fn asks_again(variables: &ByReference<Variable>, state: &BuiltInState) -> bool
-    ensures { result ≡ settle.asks_again variables.now (told state.now.numbers) (values_in variables.now state.now) }
+    ensures { result ≡ settle.asks_again variables.now (told state.now.numbers)
+        (values_in variables.now state.now) }
 {
     i128::from(state.numbers.count) < state.value(variables, LIMIT)
 }
 
 /// The numbers after a call: an update counts, from EnterEvent on.
 pub(crate) fn changed(_shape: &Shape, state: &BuiltInState, call: &Call) -> Numbers
-    ensures { told result ≡ updated _shape.now (told state.now.numbers) (values_in _shape.now.variables state.now) call.now }
+    ensures { told result ≡ updated _shape.now (told state.now.numbers)
+        (values_in _shape.now.variables state.now) call.now }
 {
     match *call {
         Call::Update => state.numbers.one_more(),

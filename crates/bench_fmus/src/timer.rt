@@ -23,14 +23,16 @@ const OUTPUT: u32 = 3;
 const WAIT: u32 = 4;
 
 pub(crate) fn shown(shape: &Shape, state: &BuiltInState, reference: u32) -> i128
-    ensures { result ≡ timer.shown shape.now (told state.now.numbers) (values_in shape.now.variables state.now) reference }
+    ensures { result ≡ timer.shown shape.now (told state.now.numbers)
+        (values_in shape.now.variables state.now) reference }
 {
     state.count_at(shape, OUTPUT, reference)
 }
 
 /// The interval of the Clock under a reference.
 pub(crate) fn interval(shape: &Shape, state: &BuiltInState, reference: u32) -> Interval
-    ensures { result ≡ timer.interval shape.now (told state.now.numbers) (values_in shape.now.variables state.now) reference }
+    ensures { result ≡ timer.interval shape.now (told state.now.numbers)
+        (values_in shape.now.variables state.now) reference }
 {
     if reference == CLOCK {
         countdown(shape, state)
@@ -40,7 +42,8 @@ pub(crate) fn interval(shape: &Shape, state: &BuiltInState, reference: u32) -> I
 }
 
 fn countdown(shape: &Shape, state: &BuiltInState) -> Interval
-    ensures { result ≡ countdown shape.now (told state.now.numbers) (values_in shape.now.variables state.now) }
+    ensures { result ≡ countdown shape.now (told state.now.numbers)
+        (values_in shape.now.variables state.now) }
 {
     if state.numbers.has_fired {
         Interval::Unchanged(no_fraction())
@@ -55,14 +58,16 @@ fn countdown(shape: &Shape, state: &BuiltInState) -> Interval
 }
 
 fn is_due(shape: &Shape, state: &BuiltInState) -> bool
-    ensures { result ≡ is_due shape.now (told state.now.numbers) (values_in shape.now.variables state.now) }
+    ensures { result ≡ is_due shape.now (told state.now.numbers)
+        (values_in shape.now.variables state.now) }
 {
     i128::from(state.numbers.point) == state.value(&shape.variables, WHEN)
 }
 
 /// The numbers after a call: an instant ends, and with it a tick, or the point at which the Clock was armed.
 pub(crate) fn changed(shape: &Shape, state: &BuiltInState, call: &Call) -> Numbers
-    ensures { told result ≡ timed shape.now (told state.now.numbers) (values_in shape.now.variables state.now) call.now }
+    ensures { told result ≡ timed shape.now (told state.now.numbers)
+        (values_in shape.now.variables state.now) call.now }
 {
     match *call {
         Call::Update => if is_due(shape, state) {
@@ -79,7 +84,8 @@ pub(crate) fn changed(shape: &Shape, state: &BuiltInState, call: &Call) -> Numbe
 
 // A tick is counted.
 fn ticked(shape: &Shape, state: &BuiltInState) -> Numbers
-    ensures { told result ≡ ticked shape.now (told state.now.numbers) (values_in shape.now.variables state.now) }
+    ensures { told result ≡ ticked shape.now (told state.now.numbers)
+        (values_in shape.now.variables state.now) }
 {
     if state.is_ticking(&shape.variables, CLOCK) {
         state.numbers.one_more()

@@ -20,10 +20,12 @@ pub(crate) fn set_parameters<L: Peer>(slots: &mut [Slot<L>], bound: &Bound) -> R
     requires few { length slots.old ≤ 2 ^ 32 }
     requires live { All (LiveSlot L.view) slots.old }
     requires made { All (Stands IsMade L.view) slots.old }
-    requires bound { AllZip AreParameterValues (shapes (instances L.view slots.old)) bound.now.components }
+    requires bound { AllZip AreParameterValues (shapes (instances L.view slots.old))
+        bound.now.components }
     ensures live { OnOk result (All (LiveSlot L.view) slots.new) }
     ensures made { OnOk result (All (Stands IsMade L.view) slots.new) }
-    ensures sets { Stage (binding bound.now) nothing (instances L.view slots.old) (instances L.view slots.new) result }
+    ensures sets { Stage (binding bound.now) nothing (instances L.view slots.old)
+        (instances L.view slots.new) result }
 {
     for (place, values) in bound.components.as_slice().iter().enumerate() {
         set_values(slots, place, values.as_slice())?;
@@ -41,10 +43,13 @@ fn set_values<L: Peer>(
     requires within { place < length slots.old }
     requires live { All (LiveSlot L.view) slots.old }
     requires made { All (Stands IsMade L.view) slots.old }
-    requires values { (d : Shape) → All (IsParameterValue (slice_index_or (shapes (instances L.view slots.old)) place d)) values.now }
+    requires values { (d : Shape) →
+        All (IsParameterValue (slice_index_or (shapes (instances L.view slots.old)) place d))
+        values.now }
     ensures live { OnOk result (All (LiveSlot L.view) slots.new) }
     ensures made { OnOk result (All (Stands IsMade L.view) slots.new) }
-    ensures sets { Stage (sets_of place values.now) nothing (instances L.view slots.old) (instances L.view slots.new) result }
+    ensures sets { Stage (sets_of place values.now) nothing (instances L.view slots.old)
+        (instances L.view slots.new) result }
 {
     for value in values {
         match send(&mut slots[place], set_call(value)) {

@@ -78,7 +78,8 @@ pub fn follow<L: Peer, O: Sink>(
     requires places { length values.old ≡ length system.now.ports }
     requires room { HoldsEach system.now (length text.old) }
     requires none { instants.old ≡ 0 }
-    ensures { Follows system.now bound.now plan.now (instances L.view slots.old) (instances L.view slots.new) (O.view out.old) (O.view out.new) instants.new result }
+    ensures { Follows system.now bound.now plan.now (instances L.view slots.old)
+        (instances L.view slots.new) (O.view out.old) (O.view out.new) instants.new result }
 {
     put_head(system, plan, text, out)?;
     at_point(
@@ -168,7 +169,8 @@ pub fn run_slots<L: Peer, O: Sink>(
     requires places { length values.old ≡ length system.now.ports }
     requires room { HoldsEach system.now (length text.old) }
     requires none { instants.old ≡ 0 }
-    ensures { RunsSlots system.now bound.now plan.now (instances L.view slots.old) (instances L.view slots.new) (O.view out.old) (O.view out.new) instants.new result }
+    ensures { RunsSlots system.now bound.now plan.now (instances L.view slots.old)
+        (instances L.view slots.new) (O.view out.old) (O.view out.new) instants.new result }
 {
     let outcome = follow(
         slots, system, bound, plan, reads, schedule, values, text, instants, out,
@@ -218,8 +220,10 @@ fn put_head<O: Sink>(
     out: &mut O,
 ) -> Result<(), Break>
     requires { HoldsEach system.now (length text.old) }
-    ensures ok { OnOk result (O.view out.new ≡ with_piece (O.view out.old) (header_of system.now plan.now)) }
-    ensures err { IfErr result (λ b. (b ≡ Break.Write) × CutsPiece (O.view out.old) (header_of system.now plan.now) (O.view out.new)) }
+    ensures ok { OnOk result (O.view out.new ≡ with_piece (O.view out.old)
+        (header_of system.now plan.now)) }
+    ensures err { IfErr result (λ b. (b ≡ Break.Write) ×
+        CutsPiece (O.view out.old) (header_of system.now plan.now) (O.view out.new)) }
 {
     let length = put_header(system, plan.resolution, plan.start, plan.stop, text);
     match out.put(&text[..length]) {
@@ -251,11 +255,13 @@ fn initialize<L: Peer>(
     requires reads { AreReads system.now reads.now }
     requires places { length values.old ≡ length system.now.ports }
     ensures live { OnOk result (All (LiveSlot L.view) slots.new) }
-    ensures at { OnOk result (All (Stands (IsAt plan.now.start plan.now.stop plan.now.step) L.view) slots.new) }
+    ensures at { OnOk result (All (Stands (IsAt plan.now.start plan.now.stop plan.now.step) L.view)
+        slots.new) }
     ensures fitting { OnOk result (AreFitting system.now values.new) }
     ensures table { (schedule.new.start ≡ plan.now.start) × (schedule.new.stop ≡ plan.now.stop) }
     ensures stands { OnOk result (StandsAt system.now plan.now.start true schedule.new) }
-    ensures initializes { Initializes system.now bound.now plan.now (timers_in schedule.new) (instances L.view slots.old) (instances L.view slots.new) result }
+    ensures initializes { Initializes system.now bound.now plan.now (timers_in schedule.new)
+        (instances L.view slots.old) (instances L.view slots.new) result }
 {
     set_parameters(slots, bound)?;
     each(
@@ -295,12 +301,17 @@ fn take_instant<L: Peer>(
     requires stands { StandsAt system.now t (n == 0) schedule.old }
     ensures live { OnOk result (All (LiveSlot L.view) slots.new) }
     ensures shapes { shapes (instances L.view slots.new) ≡ shapes_of system.now }
-    ensures at { OnOk result ((stop step : ℕ) → All (Stands (IsAt t stop step) L.view) slots.old → All (Stands (IsAt t stop step) L.view) slots.new) }
-    ensures settled { IfOk result (λ u. u.again ≡ false → (stop step : ℕ) → All (Stands (IsAt t stop step) L.view) slots.old → All (Stands (IsSettled t stop step) L.view) slots.new) }
+    ensures at { OnOk result ((stop step : ℕ) → All (Stands (IsAt t stop step) L.view) slots.old →
+        All (Stands (IsAt t stop step) L.view) slots.new) }
+    ensures settled { IfOk result (λ u. u.again ≡ false → (stop step : ℕ) →
+        All (Stands (IsAt t stop step) L.view) slots.old →
+        All (Stands (IsSettled t stop step) L.view) slots.new) }
     ensures fitting { AreFitting system.now values.new }
     ensures table { (schedule.new.start ≡ plan.now.start) × (schedule.new.stop ≡ plan.now.stop) }
     ensures stands { OnOk result (StandsAt system.now t false schedule.new) }
-    ensures takes { TakesAt system.now plan.now t n (timers_in schedule.old) (timers_in schedule.new) values.old values.new (instances L.view slots.old) (instances L.view slots.new) result }
+    ensures takes { TakesAt system.now plan.now t n (timers_in schedule.old)
+        (timers_in schedule.new) values.old values.new (instances L.view slots.old)
+        (instances L.view slots.new) result }
 {
     at_point(
         find_and_update(slots, system, plan, schedule, t, n, values),
@@ -328,12 +339,17 @@ fn find_and_update<L: Peer>(
     requires table { (schedule.old.start ≡ plan.now.start) × (schedule.old.stop ≡ plan.now.stop) }
     requires stands { StandsAt system.now t (n == 0) schedule.old }
     ensures live { OnOk result (All (LiveSlot L.view) slots.new) }
-    ensures at { OnOk result ((stop step : ℕ) → All (Stands (IsAt t stop step) L.view) slots.old → All (Stands (IsAt t stop step) L.view) slots.new) }
-    ensures settled { IfOk result (λ u. u.again ≡ false → (stop step : ℕ) → All (Stands (IsAt t stop step) L.view) slots.old → All (Stands (IsSettled t stop step) L.view) slots.new) }
+    ensures at { OnOk result ((stop step : ℕ) → All (Stands (IsAt t stop step) L.view) slots.old →
+        All (Stands (IsAt t stop step) L.view) slots.new) }
+    ensures settled { IfOk result (λ u. u.again ≡ false → (stop step : ℕ) →
+        All (Stands (IsAt t stop step) L.view) slots.old →
+        All (Stands (IsSettled t stop step) L.view) slots.new) }
     ensures fitting { AreFitting system.now values.new }
     ensures table { (schedule.new.start ≡ plan.now.start) × (schedule.new.stop ≡ plan.now.stop) }
     ensures stands { OnOk result (StandsAt system.now t false schedule.new) }
-    ensures takes { TakesInstant system.now plan.now t n (timers_in schedule.old) (timers_in schedule.new) values.old values.new (instances L.view slots.old) (instances L.view slots.new) result }
+    ensures takes { TakesInstant system.now plan.now t n (timers_in schedule.old)
+        (timers_in schedule.new) values.old values.new (instances L.view slots.old)
+        (instances L.view slots.new) result }
 {
     let is_first = n == 0;
     instant(slots, system, schedule, t, is_first, values)?;
@@ -359,8 +375,11 @@ fn enter_step<L: Peer>(slots: &mut [Slot<L>], t: u64) -> Result<(), Break>
     requires live { All (LiveSlot L.view) slots.old }
     requires permitted { All (Stands (MayTakePart Ask.EnterStep) L.view) slots.old }
     ensures live { OnOk result (All (LiveSlot L.view) slots.new) }
-    ensures stepping { OnOk result ((stop step : ℕ) → All (Stands (IsSettled t stop step) L.view) slots.old → All (Stands (IsStepping t stop step) L.view) slots.new) }
-    ensures switches { SwitchesAt (λ shape. Call.EnterStep) t (instances L.view slots.old) (instances L.view slots.new) result }
+    ensures stepping { OnOk result ((stop step : ℕ) →
+        All (Stands (IsSettled t stop step) L.view) slots.old →
+        All (Stands (IsStepping t stop step) L.view) slots.new) }
+    ensures switches { SwitchesAt (λ shape. Call.EnterStep) t (instances L.view slots.old)
+        (instances L.view slots.new) result }
 {
     at_point(each(slots, Ask::EnterStep), t)
 }
@@ -371,8 +390,11 @@ fn enter_event<L: Peer>(slots: &mut [Slot<L>], t: u64) -> Result<(), Break>
     requires live { All (LiveSlot L.view) slots.old }
     requires permitted { All (Stands (MayTakePart Ask.EnterEvent) L.view) slots.old }
     ensures live { OnOk result (All (LiveSlot L.view) slots.new) }
-    ensures at { OnOk result ((stop step : ℕ) → All (Stands (IsStepping t stop step) L.view) slots.old → All (Stands (IsAt t stop step) L.view) slots.new) }
-    ensures switches { SwitchesAt (λ shape. Call.EnterEvent) t (instances L.view slots.old) (instances L.view slots.new) result }
+    ensures at { OnOk result ((stop step : ℕ) →
+        All (Stands (IsStepping t stop step) L.view) slots.old →
+        All (Stands (IsAt t stop step) L.view) slots.new) }
+    ensures switches { SwitchesAt (λ shape. Call.EnterEvent) t (instances L.view slots.old)
+        (instances L.view slots.new) result }
 {
     at_point(each(slots, Ask::EnterEvent), t)
 }
@@ -392,8 +414,11 @@ fn set_at<L: Peer>(
     requires fitting { AreFitting system.now values.now }
     ensures live { OnOk result (All (LiveSlot L.view) slots.new) }
     ensures shapes { shapes (instances L.view slots.new) ≡ shapes_of system.now }
-    ensures departing { OnOk result ((stop step : ℕ) → All (Stands (IsStepping t stop step) L.view) slots.old → All (Stands (IsDeparting t stop step) L.view) slots.new) }
-    ensures sets { SetsAt system.now t values.now (instances L.view slots.old) (instances L.view slots.new) result }
+    ensures departing { OnOk result ((stop step : ℕ) →
+        All (Stands (IsStepping t stop step) L.view) slots.old →
+        All (Stands (IsDeparting t stop step) L.view) slots.new) }
+    ensures sets { SetsAt system.now t values.now (instances L.view slots.old)
+        (instances L.view slots.new) result }
 {
     at_point(set_inputs(slots, system, values), t)
 }
@@ -404,7 +429,8 @@ fn step_at<L: Peer>(slots: &mut [Slot<L>], t: u64, size: u64) -> Result<bool, Br
     requires live { All (LiveSlot L.view) slots.old }
     requires permitted { All (Stands (MayBeAsked (Ask.DoStep t size)) L.view) slots.old }
     ensures live { OnOk result (All (LiveSlot L.view) slots.new) }
-    ensures steps { StepsAt t size (instances L.view slots.old) (instances L.view slots.new) result }
+    ensures steps { StepsAt t size (instances L.view slots.old)
+        (instances L.view slots.new) result }
 {
     at_point(round(slots, Ask::DoStep { at: t, size }), t)
 }
@@ -423,10 +449,12 @@ fn put_values<O: Sink>(
     requires places { length values.now ≡ length system.now.ports }
     requires room { HoldsEach system.now (length text.old) }
     requires counts { instants.old < 2 ^ 127 }
-    ensures put { OnOk result (O.view out.new ≡ with_piece (O.view out.old) (instant_text t n values.now)) }
+    ensures put { OnOk result (O.view out.new ≡ with_piece (O.view out.old)
+        (instant_text t n values.now)) }
     ensures counted { OnOk result (instants.new ≡ instants.old + 1) }
     ensures write { IfErr result (λ b. b ≡ Break.Write) }
-    ensures cut { IfErr result (λ b. CutsPiece (O.view out.old) (instant_text t n values.now) (O.view out.new)) }
+    ensures cut { IfErr result (λ b. CutsPiece (O.view out.old) (instant_text t n values.now)
+        (O.view out.new)) }
     ensures uncounted { IfErr result (λ b. instants.new ≡ instants.old) }
 {
     let length = put_instant(system, t, n, values, text);
@@ -496,7 +524,8 @@ fn next_tick<K: Ledger>(schedule: &Schedule, t: u64, blank: Blank) -> Option<u64
     requires none_up_to { (clock point : ℕ) → TicksAt schedule.now clock point → t < point }
     ensures due { IfSome result (λ point. (clock : ℕ) × TicksAt schedule.now clock point) }
     ensures after { IfSome result (λ point. t < point) }
-    ensures least { IfSome result (λ point. (clock other : ℕ) → TicksAt schedule.now clock other → point ≤ other) }
+    ensures least { IfSome result (λ point. (clock other : ℕ) → TicksAt schedule.now clock other →
+        point ≤ other) }
     ensures none { IfNone result ((clock point : ℕ) → TicksAt schedule.now clock point → ⊥) }
 {
     schedule.next_after(t, &mut Steps::<K>::new(blank))

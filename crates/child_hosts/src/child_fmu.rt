@@ -41,7 +41,8 @@ impl ChildFmu {
     ) -> Result<ChildFmu, StartFault>
         requires name { (1 ≤ length name.now) × (length name.now ≤ 2 ^ 24) }
         requires token { length shape.now.token ≤ 2 ^ 24 }
-        ensures fresh { IfOk result (λ c. IsStarted program.now name.now directory.now shape.now (child_view c)) }
+        ensures fresh { IfOk result (λ c. IsStarted program.now name.now directory.now shape.now
+            (child_view c)) }
         ensures known { IfErr result (λ e. e ≡ Unknown → ⊥) }
     {
         let Started { wire, child } = match start_program(

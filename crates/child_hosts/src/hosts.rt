@@ -60,7 +60,8 @@ impl<'a, R: Processes<Started = SystemProcess>> Spawner for Hosts<'a, R> {
     ) -> Result<HostLink, StartFault>
         requires name { (1 ≤ length name.now) × (length name.now ≤ 2 ^ 24) }
         requires token { length shape.now.token ≤ 2 ^ 24 }
-        ensures fresh { IfOk result (λ link. IsStarted host.now name.now directory.now shape.now (link_view link)) }
+        ensures fresh { IfOk result (λ link. IsStarted host.now name.now directory.now shape.now
+            (link_view link)) }
         ensures unknown { AnswersUnknown (is_known host.now shape.now.identifier) result }
         ensures noted { NotesStart (hosts_view self.old) (hosts_view self.new) result }
         ensures host { IfOk result (λ link. IsOfHost host.now shape.now link) }
@@ -122,7 +123,8 @@ fn start_link<R: Processes<Started = SystemProcess>>(
 ) -> Result<HostLink, StartFault>
     requires name { (1 ≤ length name.now) × (length name.now ≤ 2 ^ 24) }
     requires token { length shape.now.token ≤ 2 ^ 24 }
-    ensures fresh { IfOk result (λ l. IsStarted host.now name.now directory.now shape.now (link_view l)) }
+    ensures fresh { IfOk result (λ l. IsStarted host.now name.now directory.now shape.now
+        (link_view l)) }
     ensures unknown { AnswersUnknown (is_known host.now shape.now.identifier) result }
     ensures host { IfOk result (λ l. IsOfHost host.now shape.now l) }
 {
@@ -144,7 +146,8 @@ fn start_built_in(
     shape: &Shape,
 ) -> Result<HostLink, StartFault>
     requires { host.now ≡ built_in_host }
-    ensures fresh { IfOk result (λ l. IsStarted host.now name.now directory.now shape.now (link_view l)) }
+    ensures fresh { IfOk result (λ l. IsStarted host.now name.now directory.now shape.now
+        (link_view l)) }
     ensures unknown { AnswersUnknown (is_model shape.now.identifier) result }
     ensures host { IfOk result (λ l. IsOfHost host.now shape.now l) }
 {
@@ -165,7 +168,8 @@ fn make_built_in(
     directory: &str,
     shape: &Shape,
 ) -> Result<BuiltIn, AllocError>
-    ensures fresh { IfOk result (λ b. IsStarted host.now name.now directory.now shape.now (built_in_view b)) }
+    ensures fresh { IfOk result (λ b. IsStarted host.now name.now directory.now shape.now
+        (built_in_view b)) }
     ensures model { IfOk result (λ b. b.model ≡ model) }
 {
     let origin = Origin::from_texts(alloc, host, name, directory)?;

@@ -121,7 +121,8 @@ fn take_behind<S: Source>(
     requires { filled < length into.old }
     ensures some { IfOk result (λ n. (1 ≤ n) × (filled + n ≤ length into.new)) }
     ensures front { take filled into.new ≡ take filled into.old }
-    ensures taken { FillsMore (S.view source.old).left (S.view source.new).left filled into.new result }
+    ensures taken { FillsMore (S.view source.old).left (S.view source.new).left filled into.new
+        result }
 {
     match source.take(&mut into[filled..]) {
         Ok(0) => Err(WireFault::Ended),

@@ -4,5 +4,6 @@ ghost use Rattle.clock_fraction.specs.Decimal.{Denotes};
 
 /// A law: a text writes one fraction at most.
 pub fn one_decimal()
-    ensures { (text : List ℕ) (one other : Fraction) → Denotes text one → Denotes text other → one ≡ other }
+    ensures { (text : List ℕ) (one other : Fraction) → Denotes text one → Denotes text other →
+        one ≡ other }
 {}

@@ -14,7 +14,8 @@ const MOST_PLACES: u128 = 18;
 pub(crate) fn shortest(number: u128, up: u128, down: u128) -> Option<Fraction>
     requires { number ≢ 0 → number % 10 ≢ 0 }
     ensures value { IfSome result (λ fraction. (k : ℕ) × IsShortest number up down k fraction) }
-    ensures exact { (k : ℕ) (fraction : Fraction) → IsShortest number up down k fraction → result ≡ Some fraction }
+    ensures exact { (k : ℕ) (fraction : Fraction) → IsShortest number up down k fraction →
+        result ≡ Some fraction }
 {
     if number == 0 {
         return Some(Fraction {

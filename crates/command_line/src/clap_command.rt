@@ -26,7 +26,8 @@ pub(crate) fn with_subcommand<'a>(
     positionals: &[&'a str],
     options: &[&'a str],
 ) -> Result<Command<'a>, AllocError>
-    ensures { IfOk result (AddsSub command.entry name.entry.now (texts positionals.now) (texts options.now)) }
+    ensures { IfOk result (AddsSub command.entry name.entry.now (texts positionals.now)
+        (texts options.now)) }
 {
     let subcommand = make_subcommand(alloc, name, positionals, options)?;
     command.subcommand(subcommand)
@@ -38,7 +39,8 @@ fn make_subcommand<'a>(
     positionals: &[&'a str],
     options: &[&'a str],
 ) -> Result<Command<'a>, AllocError>
-    ensures { IfOk result (IsMadeAs (sub_app name.entry.now (texts positionals.now) (texts options.now))) }
+    ensures { IfOk result
+        (IsMadeAs (sub_app name.entry.now (texts positionals.now) (texts options.now))) }
 {
     let mut command = Command::new(alloc, name);
     for positional in positionals {

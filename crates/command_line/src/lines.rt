@@ -16,7 +16,8 @@ pub(crate) fn read_line<'a>(
     words: &'a [String],
 ) -> Result<ArgMatches<'a>, WordsFault>
     requires { is_simple_and_free (app_of command) ≡ true }
-    ensures ok { (rows : List CommandRow) → IsTable (app_of command.entry) rows → IfOk result (GivesLine rows (texts words.entry.now)) }
+    ensures ok { (rows : List CommandRow) → IsTable (app_of command.entry) rows →
+        IfOk result (GivesLine rows (texts words.entry.now)) }
     ensures none { (rows : List CommandRow) → IsTable (app_of command.entry) rows
         → IfErr result (λ e. e ≡ NoLine → (name : Word) (get : Lookup) → IsLineOf rows (texts words.entry.now) name get → ⊥) }
 {
@@ -31,7 +32,8 @@ fn parse<'a>(command: Command<'a>, words: &'a [String]) -> Result<ArgMatches<'a>
     requires { is_simple_and_free (app_of command) ≡ true }
     ensures ok { IfOk result (λ m. (fault_of (app_of command.entry) (texts words.entry.now) ≡ [])
         × (subcommand_rows_of m ≡ subcommand_of (app_of command.entry) (texts words.entry.now))) }
-    ensures none { IfErr result (λ e. e ≡ NoLine → fault_of (app_of command.entry) (texts words.entry.now) ≡ [] → ⊥) }
+    ensures none { IfErr result (λ e. e ≡ NoLine → fault_of (app_of command.entry)
+        (texts words.entry.now) ≡ [] → ⊥) }
 {
     match command.try_get_matches_from(words) {
         Ok(matches) => Ok(matches),

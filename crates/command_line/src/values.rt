@@ -13,8 +13,10 @@ pub(crate) fn option_count(
     most: u64,
     default: Option<u64>,
 ) -> Option<u64>
-    ensures ok { IfSome result (Counts (count_row name.now least most default) (first_of name.now (rows_of (found_of matches.now)))) }
-    ensures only { (n : ℕ) → Counts (count_row name.now least most default) (first_of name.now (rows_of (found_of matches.now))) n → result ≡ Some n }
+    ensures ok { IfSome result (Counts (count_row name.now least most default)
+        (first_of name.now (rows_of (found_of matches.now)))) }
+    ensures only { (n : ℕ) → Counts (count_row name.now least most default)
+        (first_of name.now (rows_of (found_of matches.now))) n → result ≡ Some n }
 {
     match value_of(matches, name) {
         Some(word) => read_count(word, least, most),
@@ -24,7 +26,8 @@ pub(crate) fn option_count(
 
 /// The text of an option: its value, or where it isn't given the default.
 pub(crate) fn option_text<'a>(matches: &ArgMatches<'a>, name: &str, default: &'a str) -> &'a str
-    ensures { Gives (text_row name.now default.entry.now) (first_of name.now (rows_of (found_of matches.now))) result.now }
+    ensures { Gives (text_row name.now default.entry.now)
+        (first_of name.now (rows_of (found_of matches.now))) result.now }
 {
     value_of(matches, name).unwrap_or(default)
 }

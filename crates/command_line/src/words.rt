@@ -80,8 +80,10 @@ pub struct TraceOptions<'a> {
 /// `NoLine` comes only where the words are no line. `Memory` may come for any words.
 pub fn read_words(alloc: Global, words: &[String]) -> Result<Request<'_>, WordsFault>
     ensures ok { IfOk result (λ r. IsAsked (texts words.now) (asked_of r)) }
-    ensures none { IfErr result (λ e. e ≡ NoLine → (asked : Asked) → IsAsked (texts words.now) asked → ⊥) }
-    ensures only { (asked : Asked) → IsAsked (texts words.now) asked → IfOk result (λ r. asked_of r ≡ asked) }
+    ensures none { IfErr result (λ e. e ≡ NoLine → (asked : Asked) →
+        IsAsked (texts words.now) asked → ⊥) }
+    ensures only { (asked : Asked) → IsAsked (texts words.now) asked →
+        IfOk result (λ r. asked_of r ≡ asked) }
     ensures within { IfOk result (λ r. IsWithinLimits (asked_of r)) }
 {
     match find_line(alloc, words) {
@@ -96,7 +98,8 @@ pub fn read_words(alloc: Global, words: &[String]) -> Result<Request<'_>, WordsF
 // The matches of the words, where they are a line of the program's commands.
 fn find_line<'a>(alloc: Global, words: &'a [String]) -> Result<ArgMatches<'a>, WordsFault>
     ensures ok { IfOk result (GivesLine commands (texts words.entry.now)) }
-    ensures none { IfErr result (λ e. e ≡ NoLine → (name : Word) (get : Lookup) → IsLineOf commands (texts words.entry.now) name get → ⊥) }
+    ensures none { IfErr result (λ e. e ≡ NoLine → (name : Word) (get : Lookup) →
+        IsLineOf commands (texts words.entry.now) name get → ⊥) }
 {
     match make_command(alloc) {
         Ok(command) => read_line(command, words),
@@ -118,7 +121,8 @@ fn make_command<'a>(alloc: Global) -> Result<Command<'a>, AllocError>
 // The command that was matched, with its options.
 fn read_matches<'a>(matches: &ArgMatches<'a>) -> Option<Request<'a>>
     ensures ok { IfSome result (λ r. SubAsks (subcommand_rows_of matches.now) (asked_of r)) }
-    ensures only { (asked : Asked) → SubAsks (subcommand_rows_of matches.now) asked → IsSomeAnd result (λ r. asked_of r ≡ asked) }
+    ensures only { (asked : Asked) → SubAsks (subcommand_rows_of matches.now) asked →
+        IsSomeAnd result (λ r. asked_of r ≡ asked) }
     ensures within { IfSome result (λ r. IsWithinLimits (asked_of r)) }
 {
     match matches.subcommand() {
@@ -129,8 +133,11 @@ fn read_matches<'a>(matches: &ArgMatches<'a>) -> Option<Request<'a>>
 
 // A command with its options, by its name.
 fn read_command<'a>(name: &str, matches: &ArgMatches<'a>) -> Option<Request<'a>>
-    ensures ok { IfSome result (λ r. Asks name.now (λ n. first_of n (rows_of (found_of matches.now))) (asked_of r)) }
-    ensures only { (asked : Asked) → Asks name.now (λ n. first_of n (rows_of (found_of matches.now))) asked → IsSomeAnd result (λ r. asked_of r ≡ asked) }
+    ensures ok { IfSome result
+        (λ r. Asks name.now (λ n. first_of n (rows_of (found_of matches.now))) (asked_of r)) }
+    ensures only { (asked : Asked) →
+        Asks name.now (λ n. first_of n (rows_of (found_of matches.now))) asked →
+        IsSomeAnd result (λ r. asked_of r ≡ asked) }
     ensures within { IfSome result (λ r. IsWithinLimits (asked_of r)) }
 {
     match name {
@@ -144,8 +151,10 @@ fn read_command<'a>(name: &str, matches: &ArgMatches<'a>) -> Option<Request<'a>>
 
 // The directory, the host and the plan of a run.
 fn read_run<'a>(matches: &ArgMatches<'a>) -> Option<Options<'a>>
-    ensures ok { IfSome result (λ o. AsksRun (λ n. first_of n (rows_of (found_of matches.now))) (run_of o)) }
-    ensures only { (line : RunLine) → AsksRun (λ n. first_of n (rows_of (found_of matches.now))) line → IsSomeAnd result (λ o. run_of o ≡ line) }
+    ensures ok { IfSome result (λ o. AsksRun (λ n. first_of n (rows_of (found_of matches.now)))
+        (run_of o)) }
+    ensures only { (line : RunLine) → AsksRun (λ n. first_of n (rows_of (found_of matches.now)))
+        line → IsSomeAnd result (λ o. run_of o ≡ line) }
     ensures within { IfSome result (λ o. IsWithin o.plan) }
 {
     let directory = value_of(matches, "DIR")?;
@@ -160,8 +169,10 @@ fn read_run<'a>(matches: &ArgMatches<'a>) -> Option<Options<'a>>
 
 // The directory and the resolution of a check.
 fn read_check<'a>(matches: &ArgMatches<'a>) -> Option<CheckOptions<'a>>
-    ensures ok { IfSome result (λ o. AsksCheck (λ n. first_of n (rows_of (found_of matches.now))) (check_of o)) }
-    ensures only { (line : CheckLine) → AsksCheck (λ n. first_of n (rows_of (found_of matches.now))) line → IsSomeAnd result (λ o. check_of o ≡ line) }
+    ensures ok { IfSome result (λ o. AsksCheck (λ n. first_of n (rows_of (found_of matches.now)))
+        (check_of o)) }
+    ensures only { (line : CheckLine) → AsksCheck (λ n. first_of n (rows_of (found_of matches.now)))
+        line → IsSomeAnd result (λ o. check_of o ≡ line) }
     ensures within { IfSome result (λ o. (1 ≤ o.resolution) × (o.resolution ≤ 2 ^ 62)) }
 {
     let directory = value_of(matches, "DIR")?;
@@ -174,8 +185,10 @@ fn read_check<'a>(matches: &ArgMatches<'a>) -> Option<CheckOptions<'a>>
 
 // The directory of the system and the file of the trace.
 fn read_trace_check<'a>(matches: &ArgMatches<'a>) -> Option<TraceOptions<'a>>
-    ensures ok { IfSome result (λ o. AsksTrace (λ n. first_of n (rows_of (found_of matches.now))) (trace_of o)) }
-    ensures only { (line : TraceLine) → AsksTrace (λ n. first_of n (rows_of (found_of matches.now))) line → IsSomeAnd result (λ o. trace_of o ≡ line) }
+    ensures ok { IfSome result (λ o. AsksTrace (λ n. first_of n (rows_of (found_of matches.now)))
+        (trace_of o)) }
+    ensures only { (line : TraceLine) → AsksTrace (λ n. first_of n (rows_of (found_of matches.now)))
+        line → IsSomeAnd result (λ o. trace_of o ≡ line) }
 {
     Some(TraceOptions {
         directory: value_of(matches, "DIR")?,
@@ -185,7 +198,8 @@ fn read_trace_check<'a>(matches: &ArgMatches<'a>) -> Option<TraceOptions<'a>>
 
 fn read_plan(matches: &ArgMatches<'_>) -> Option<Plan>
     ensures ok { IfSome result (GivesPlan (λ n. first_of n (rows_of (found_of matches.now)))) }
-    ensures only { (plan : Plan) → GivesPlan (λ n. first_of n (rows_of (found_of matches.now))) plan → result ≡ Some plan }
+    ensures only { (plan : Plan) → GivesPlan (λ n. first_of n (rows_of (found_of matches.now)))
+        plan → result ≡ Some plan }
 {
     let plan = Plan {
         resolution: option_count(matches, "resolution", 1, MOST_COUNTS, None)?,

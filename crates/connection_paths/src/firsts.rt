@@ -14,7 +14,8 @@ fn first_of(
 ) -> Result<usize, AllocError>
     ensures found { IfOk result (λ c. at table.new number ≡ Some c) }
     ensures kept { OnOk result ((v c : ℕ) → at table.old v ≡ Some c → at table.new v ≡ Some c) }
-    ensures only { OnOk result ((v c : ℕ) → at table.new v ≡ Some c → (at table.old v ≡ Some c) ⊎ ((v ≡ number) × (c ≡ place))) }
+    ensures only { OnOk result ((v c : ℕ) → at table.new v ≡ Some c → (at table.old v ≡ Some c) ⊎
+        ((v ≡ number) × (c ≡ place))) }
 {
     if let Some(first) = table.get(&number).copied() {
         return Ok(first);

@@ -24,7 +24,8 @@ pub(crate) fn links(
     connections: &[Connection],
 ) -> Result<Lists, AllocError>
     requires ends { All (IsWithin (length firsts.now)) connections.now }
-    requires firsts { (c : ℕ) → c < length firsts.now → slice_index_or firsts.now c 0 < length firsts.now }
+    requires firsts { (c : ℕ) → c < length firsts.now →
+        slice_index_or firsts.now c 0 < length firsts.now }
     ensures links { IfOk result (AreLinks firsts.now connections.now) }
     ensures len { IfOk result (λ links. length links ≡ length firsts.now) }
 {
@@ -49,7 +50,8 @@ fn is_of_system(point: Point) -> bool
 /// Which connectors are of a system.
 pub(crate) fn system_marks(alloc: Global, points: &[Point]) -> Result<Vec<bool>, AllocError>
     ensures len { IfOk result (λ marks. length marks.items ≡ length points.now) }
-    ensures marks { IfOk result (λ marks. (c : ℕ) (p : Point) → slice_get points.now c ≡ Some p → (IsMarked marks.items c ↔ IsOfSystem p)) }
+    ensures marks { IfOk result (λ marks. (c : ℕ) (p : Point) → slice_get points.now c ≡ Some p →
+        (IsMarked marks.items c ↔ IsOfSystem p)) }
 {
     let mut marks = Vec::new(alloc);
     for point in points {

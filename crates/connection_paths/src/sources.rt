@@ -16,7 +16,8 @@ fn firsts_of(
     connectors: &[usize],
 ) -> Result<Vec<usize>, AllocError>
     requires { All (λ c. c < length firsts.now) connectors.now }
-    ensures { IfOk result (λ all. all.items ≡ map (λ c. slice_index_or firsts.now c 0) connectors.now) }
+    ensures { IfOk result (λ all. all.items ≡ map (λ c. slice_index_or firsts.now c 0)
+        connectors.now) }
 {
     let mut all = Vec::new(alloc);
     for connector in connectors {
@@ -32,7 +33,8 @@ fn found_at(
     firsts: &[usize],
 ) -> Result<Vec<Option<usize>>, AllocError>
     requires { (c : ℕ) → c < length firsts.now → slice_index_or firsts.now c 0 < length found.now }
-    ensures { IfOk result (λ all. all.items ≡ map (λ c. slice_index_or found.now c None) firsts.now) }
+    ensures { IfOk result (λ all. all.items ≡ map (λ c. slice_index_or found.now c None)
+        firsts.now) }
 {
     let mut all = Vec::new(alloc);
     for first in firsts {
@@ -51,7 +53,8 @@ pub fn sources_of(
 ) -> Result<Vec<Option<usize>>, AllocError>
     requires ends { All (IsWithin (length points.now)) connections.now }
     requires starts { All (λ c. c < length points.now) starts.now }
-    ensures found { IfOk result (λ found. (c : ℕ) (p : Point) → slice_get points.now c ≡ Some p → FindsSource points.now connections.now starts.now p (slice_index_or found.items c None)) }
+    ensures found { IfOk result (λ found. (c : ℕ) (p : Point) → slice_get points.now c ≡ Some p →
+        FindsSource points.now connections.now starts.now p (slice_index_or found.items c None)) }
     ensures len { IfOk result (λ found. length found.items ≡ length points.now) }
 {
     let firsts = firsts(alloc, points)?;

@@ -70,7 +70,8 @@ impl Lists {
     /// Puts a number behind the list at a place.
     pub fn push(&mut self, at: usize, number: usize) -> Result<(), AllocError>
         requires { at < length self.old }
-        ensures pushed { OnOk result (self.new ≡ slice_set self.old at (slice_index_or self.old at [] ++ number ∷ [])) }
+        ensures pushed { OnOk result (self.new ≡ slice_set self.old at
+            (slice_index_or self.old at [] ++ number ∷ [])) }
     {
         self.rows[at].push(number)?;
         Ok(())

@@ -64,7 +64,8 @@ pub(crate) fn find_loop(
 fn least_place(nodes: &[usize]) -> usize
     requires { 0 < length nodes.now }
     ensures within { result < length nodes.now }
-    ensures least { (k : ℕ) → k < length nodes.now → slice_index_or nodes.now result 0 ≤ slice_index_or nodes.now k 0 }
+    ensures least { (k : ℕ) → k < length nodes.now →
+        slice_index_or nodes.now result 0 ≤ slice_index_or nodes.now k 0 }
 {
     let mut least = 0;
     for place in 0..nodes.len() {

@@ -18,7 +18,8 @@ impl Spreading {
     // A link leads to this node.
     fn reach(&mut self, through: &[bool], node: usize, from: usize) -> Result<(), AllocError>
         requires { length through.now ≡ length self.old.found.items }
-        ensures { OnOk result (Spreads through.now from (node ∷ []) self.old.found.items self.new.found.items self.old.work.items self.new.work.items) }
+        ensures { OnOk result (Spreads through.now from (node ∷ []) self.old.found.items
+            self.new.found.items self.old.work.items self.new.work.items) }
     {
         if node < self.found.len() && self.found[node].is_none() {
             self.found[node] = Some(from);
@@ -37,7 +38,8 @@ impl Spreading {
         from: usize,
     ) -> Result<(), AllocError>
         requires { length through.now ≡ length self.old.found.items }
-        ensures { OnOk result (Spreads through.now from nodes.now self.old.found.items self.new.found.items self.old.work.items self.new.work.items) }
+        ensures { OnOk result (Spreads through.now from nodes.now self.old.found.items
+            self.new.found.items self.old.work.items self.new.work.items) }
     {
         for node in nodes {
             self.reach(through, *node, from)?;
@@ -54,7 +56,9 @@ impl Spreading {
         requires len { length self.old.found.items ≡ length links.now }
         ensures work { OnOk result (self.new.work.items ≡ []) }
         ensures len { OnOk result (length self.new.found.items ≡ length links.now) }
-        ensures spread { OnOk result ((starts : List ℕ) → IsSpread links.now through.now starts self.old.found.items → IsSpread links.now through.now (starts ++ from ∷ []) self.new.found.items) }
+        ensures spread { OnOk result ((starts : List ℕ) →
+            IsSpread links.now through.now starts self.old.found.items →
+            IsSpread links.now through.now (starts ++ from ∷ []) self.new.found.items) }
     {
         self.reach_all(through, links.row(from), from)?;
         while let Some(node) = self.work.pop() {
@@ -100,7 +104,9 @@ pub fn one_source(
     requires starts { All (λ s. s < length links.now) starts.now }
     requires single { IsSingle links.now }
     requires apart { (s : ℕ) → Contains starts.now s → IsMarked through.now s → ⊥ }
-    ensures exact { IfOk result (λ found. (x s : ℕ) → (at found.items x ≡ Some s) ↔ (Contains starts.now s × IsReached links.now through.now s x)) }
+    ensures exact { IfOk result (λ found. (x s : ℕ) →
+        (at found.items x ≡ Some s) ↔ (Contains starts.now s ×
+        IsReached links.now through.now s x)) }
     ensures len { IfOk result (λ found. length found.items ≡ length links.now) }
 {
     reached_from(alloc, links, through, starts)

@@ -30,7 +30,8 @@ struct Sorting {
 
 impl Sorting {
     fn new(alloc: Global, len: usize) -> Result<Sorting, AllocError>
-        ensures { IfOk result (λ s. (g : List (List ℕ)) → length g ≡ len → IsSorting g s.order.items s.placed.items s.passed.items s.waiting) }
+        ensures { IfOk result (λ s. (g : List (List ℕ)) → length g ≡ len →
+            IsSorting g s.order.items s.placed.items s.passed.items s.waiting) }
     {
         Ok(Sorting {
             order: Vec::new(alloc),
@@ -42,14 +43,18 @@ impl Sorting {
 
     // The next of its needs that isn't placed.
     fn pass(&mut self, needs: &Lists, node: usize) -> Option<usize>
-        requires sorting { IsSorting needs.now self.old.order.items self.old.placed.items self.old.passed.items self.old.waiting }
+        requires sorting { IsSorting needs.now self.old.order.items self.old.placed.items
+            self.old.passed.items self.old.waiting }
         requires closed { IsClosed needs.now }
         requires node { node < length needs.now }
-        ensures sorting { IsSorting needs.now self.new.order.items self.new.placed.items self.new.passed.items self.new.waiting }
+        ensures sorting { IsSorting needs.now self.new.order.items self.new.placed.items
+            self.new.passed.items self.new.waiting }
         ensures order { self.new.order.items ≡ self.old.order.items }
         ensures placed { self.new.placed.items ≡ self.old.placed.items }
         ensures waiting { self.new.waiting ≡ self.old.waiting }
-        ensures found { MatchOption result ((q : ℕ) → Needs needs.now node q → IsMarked self.old.placed.items q) (λ q. Needs needs.now node q × (IsMarked self.old.placed.items q → ⊥)) }
+        ensures found { MatchOption result ((q : ℕ) → Needs needs.now node q →
+            IsMarked self.old.placed.items q) (λ q. Needs needs.now node q ×
+            (IsMarked self.old.placed.items q → ⊥)) }
     {
         let row = needs.row(node);
         let at = next_unplaced(self.placed.as_slice(), row, self.passed[node]);
@@ -59,12 +64,18 @@ impl Sorting {
 
     // Places a node, or has it wait.
     fn examine(&mut self, needs: &Lists, node: usize) -> Result<(), AllocError>
-        requires sorting { IsSorting needs.now self.old.order.items self.old.placed.items self.old.passed.items self.old.waiting }
+        requires sorting { IsSorting needs.now self.old.order.items self.old.placed.items
+            self.old.passed.items self.old.waiting }
         requires closed { IsClosed needs.now }
         requires node { node < length needs.now }
-        ensures sorting { OnOk result (IsSorting needs.now self.new.order.items self.new.placed.items self.new.passed.items self.new.waiting) }
-        ensures further { OnOk result (IsFurther needs.now self.old.order.items self.new.order.items self.old.placed.items self.new.placed.items self.old.waiting self.new.waiting) }
-        ensures held { OnOk result ((at : ℕ) → at ≤ length self.old.order.items → IsHeld needs.now self.new.order.items self.new.placed.items self.new.waiting at node) }
+        ensures sorting { OnOk result
+            (IsSorting needs.now self.new.order.items self.new.placed.items self.new.passed.items
+            self.new.waiting) }
+        ensures further { OnOk result
+            (IsFurther needs.now self.old.order.items self.new.order.items self.old.placed.items
+            self.new.placed.items self.old.waiting self.new.waiting) }
+        ensures held { OnOk result ((at : ℕ) → at ≤ length self.old.order.items →
+            IsHeld needs.now self.new.order.items self.new.placed.items self.new.waiting at node) }
     {
         if self.placed[node] {
             return Ok(());
@@ -81,12 +92,19 @@ impl Sorting {
 
     // Examines nodes, one after another.
     fn examine_all(&mut self, needs: &Lists, nodes: &[usize]) -> Result<(), AllocError>
-        requires sorting { IsSorting needs.now self.old.order.items self.old.placed.items self.old.passed.items self.old.waiting }
+        requires sorting { IsSorting needs.now self.old.order.items self.old.placed.items
+            self.old.passed.items self.old.waiting }
         requires closed { IsClosed needs.now }
         requires nodes { (p : ℕ) → Contains nodes.now p → p < length needs.now }
-        ensures sorting { OnOk result (IsSorting needs.now self.new.order.items self.new.placed.items self.new.passed.items self.new.waiting) }
-        ensures further { OnOk result (IsFurther needs.now self.old.order.items self.new.order.items self.old.placed.items self.new.placed.items self.old.waiting self.new.waiting) }
-        ensures held { OnOk result ((at p : ℕ) → at ≤ length self.old.order.items → Contains nodes.now p → IsHeld needs.now self.new.order.items self.new.placed.items self.new.waiting at p) }
+        ensures sorting { OnOk result
+            (IsSorting needs.now self.new.order.items self.new.placed.items self.new.passed.items
+            self.new.waiting) }
+        ensures further { OnOk result
+            (IsFurther needs.now self.old.order.items self.new.order.items self.old.placed.items
+            self.new.placed.items self.old.waiting self.new.waiting) }
+        ensures held { OnOk result ((at p : ℕ) → at ≤ length self.old.order.items →
+            Contains nodes.now p → IsHeld needs.now self.new.order.items self.new.placed.items
+            self.new.waiting at p) }
     {
         for node in nodes {
             self.examine(needs, *node)?;
@@ -96,12 +114,18 @@ impl Sorting {
 
     // Examines the nodes that wait for the one at a place of the order.
     fn release(&mut self, alloc: Global, needs: &Lists, at: usize) -> Result<(), AllocError>
-        requires sorting { IsSorting needs.now self.old.order.items self.old.placed.items self.old.passed.items self.old.waiting }
+        requires sorting { IsSorting needs.now self.old.order.items self.old.placed.items
+            self.old.passed.items self.old.waiting }
         requires closed { IsClosed needs.now }
         requires at { at < length self.old.order.items }
-        requires held { (p : ℕ) → p < length needs.now → IsHeld needs.now self.old.order.items self.old.placed.items self.old.waiting at p }
-        ensures sorting { OnOk result (IsSorting needs.now self.new.order.items self.new.placed.items self.new.passed.items self.new.waiting) }
-        ensures held { OnOk result ((p : ℕ) → p < length needs.now → IsHeld needs.now self.new.order.items self.new.placed.items self.new.waiting (at + 1) p) }
+        requires held { (p : ℕ) → p < length needs.now →
+            IsHeld needs.now self.old.order.items self.old.placed.items self.old.waiting at p }
+        ensures sorting { OnOk result
+            (IsSorting needs.now self.new.order.items self.new.placed.items self.new.passed.items
+            self.new.waiting) }
+        ensures held { OnOk result ((p : ℕ) → p < length needs.now →
+            IsHeld needs.now self.new.order.items self.new.placed.items self.new.waiting
+            (at + 1) p) }
         ensures longer { OnOk result (length self.old.order.items ≤ length self.new.order.items) }
     {
         let node = self.order[at];
@@ -111,9 +135,12 @@ impl Sorting {
 
     // Places what can be placed.
     fn place_all(&mut self, alloc: Global, needs: &Lists) -> Result<(), AllocError>
-        requires sorting { IsSorting needs.now self.old.order.items self.old.placed.items self.old.passed.items self.old.waiting }
+        requires sorting { IsSorting needs.now self.old.order.items self.old.placed.items
+            self.old.passed.items self.old.waiting }
         requires closed { IsClosed needs.now }
-        ensures sorting { OnOk result (IsSorting needs.now self.new.order.items self.new.placed.items self.new.passed.items self.new.waiting) }
+        ensures sorting { OnOk result
+            (IsSorting needs.now self.new.order.items self.new.placed.items self.new.passed.items
+            self.new.waiting) }
         ensures stuck { OnOk result (IsStuck needs.now self.new.placed.items) }
     {
         for node in 0..needs.len() {
@@ -131,8 +158,10 @@ impl Sorting {
 // The place of the next node in the list that isn't placed, or one past its end.
 fn next_unplaced(placed: &[bool], row: &[usize], from: usize) -> usize
     requires { (k : ℕ) → k < length row.now → slice_index_or row.now k 0 < length placed.now }
-    ensures passed { (k : ℕ) → from ≤ k → k < result → k < length row.now → IsMarked placed.now (slice_index_or row.now k 0) }
-    ensures found { result < length row.now → IsMarked placed.now (slice_index_or row.now result 0) → ⊥ }
+    ensures passed { (k : ℕ) → from ≤ k → k < result → k < length row.now →
+        IsMarked placed.now (slice_index_or row.now k 0) }
+    ensures found { result < length row.now → IsMarked placed.now
+        (slice_index_or row.now result 0) → ⊥ }
 {
     for at in from..row.len() {
         if !placed[row[at]] {
@@ -144,7 +173,8 @@ fn next_unplaced(placed: &[bool], row: &[usize], from: usize) -> usize
 
 // The first node that isn't placed.
 fn first_unplaced(placed: &[bool]) -> Option<usize>
-    ensures { MatchOption result ((p : ℕ) → p < length placed.now → IsMarked placed.now p) (λ p. (p < length placed.now) × (IsMarked placed.now p → ⊥)) }
+    ensures { MatchOption result ((p : ℕ) → p < length placed.now → IsMarked placed.now p)
+        (λ p. (p < length placed.now) × (IsMarked placed.now p → ⊥)) }
 {
     for node in 0..placed.len() {
         if !placed[node] {

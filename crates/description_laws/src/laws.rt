@@ -7,6 +7,8 @@ ghost use Rattle.system_model.specs.Shapes.{IsSoundShape};
 
 /// Laws: the shape that a description without violation says is sound, and has the resolution at which it was read.
 pub fn read_shapes()
-    ensures sound { (t : List Node) (per_second : ℕ) (shape : Shape) → IsSound t per_second → Describes t per_second shape → IsSoundShape shape }
-    ensures resolution { (t : List Node) (per_second : ℕ) (shape : Shape) → Describes t per_second shape → shape.resolution ≡ per_second }
+    ensures sound { (t : List Node) (per_second : ℕ) (shape : Shape) → IsSound t per_second →
+        Describes t per_second shape → IsSoundShape shape }
+    ensures resolution { (t : List Node) (per_second : ℕ) (shape : Shape) →
+        Describes t per_second shape → shape.resolution ≡ per_second }
 {}

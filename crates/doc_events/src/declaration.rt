@@ -178,7 +178,8 @@ fn next_part(part: Part, b: char) -> Result<State, Stop>
 
 /// In the word of a part, of which `done` characters were read.
 pub(crate) fn worded(part: Part, done: usize, b: char) -> Result<State, Stop>
-    ensures { Goes (m.step strict (worded_from (part_of part) (drop done (g.word (part_of part)))) (class b) b) result }
+    ensures { Goes (m.step strict (worded_from (part_of part) (drop done (g.word (part_of part))))
+        (class b) b) result }
 {
     match next_of(word(part), done) {
         None => equal(part, b),
@@ -257,7 +258,8 @@ pub(crate) fn quote_char(quote: Quote) -> char
 /// In what a part says, of which `done` characters were read.
 #[tactic(auto, using(crate::proofs::Steps::said_step))]
 pub(crate) fn said(saying: Saying, quote: Quote, done: usize, b: char) -> Result<State, Stop>
-    ensures { Goes (m.step strict (said_from (said_part saying) (quote_of quote) (drop done (said_text saying))) (class b) b) result }
+    ensures { Goes (m.step strict (said_from (said_part saying) (quote_of quote)
+        (drop done (said_text saying))) (class b) b) result }
 {
     match next_of(text(saying), done) {
         None => exactly(quote_char(quote), b, State::Told(part(saying))),

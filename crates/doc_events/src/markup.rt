@@ -214,7 +214,8 @@ pub(crate) fn bracketed(
     done: usize,
     b: char,
 ) -> Result<State, Stop>
-    ensures { Goes (m.step strict (bracketed_from name.items (names_of names.items) (drop done cdata)) (class b) b) result }
+    ensures { Goes (m.step strict (bracketed_from name.items (names_of names.items)
+        (drop done cdata)) (class b) b) result }
 {
     match next_of(&CDATA, done) {
         None => section(name, names, b),

@@ -30,7 +30,8 @@ use std::str;
 /// One character more.
 #[tactic(auto, using(crate::proofs::Steps::goes_moves))]
 fn next(alloc: Global, state: State, b: char, out: &mut Vec<Event>) -> Result<State, Stop>
-    ensures { Moves (m.step strict (state_of state) (class b) b) result out.old.items out.new.items }
+    ensures { Moves (m.step strict (state_of state) (class b) b) result out.old.items
+        out.new.items }
 {
     match state {
         State::Start => start(alloc, b),
@@ -158,7 +159,8 @@ pub fn read_events(alloc: Global, bytes: &[u8]) -> Result<Vec<Event>, DocError>
     ensures found { IfOk result (λ t. IsDocument strict bytes.now (events_of t.items)) }
     ensures fault { IfErr result (λ e. Faults e bytes.now) }
     ensures only { (tree : List g.Event) → IsDocument strict bytes.now tree → Gives result tree }
-    ensures exact { (rule : Rule) (place : ℕ) → IsFault bytes.now rule place → Refuses result rule place }
+    ensures exact { (rule : Rule) (place : ℕ) → IsFault bytes.now rule place →
+        Refuses result rule place }
 {
     match str::from_utf8(bytes) {
         Ok(text) => read_text(alloc, text),

@@ -123,7 +123,8 @@ pub(crate) fn in_tag(
     b: char,
     out: &mut Vec<Event>,
 ) -> Result<State, Stop>
-    ensures { Moves (m.step_tag (place_of place) tag.name.items tag.attrs (class b)) result out.old.items out.new.items }
+    ensures { Moves (m.step_tag (place_of place) tag.name.items tag.attrs (class b)) result
+        out.old.items out.new.items }
 {
     match class_of(b) {
         Class::Blank => Ok(State::Tagged(place, tag)),
@@ -146,7 +147,8 @@ pub(crate) fn naming(
     b: char,
     out: &mut Vec<Event>,
 ) -> Result<State, Stop>
-    ensures { Moves (m.step_naming (place_of place) name.items (class b) b) result out.old.items out.new.items }
+    ensures { Moves (m.step_naming (place_of place) name.items (class b) b) result out.old.items
+        out.new.items }
 {
     match class_of(b) {
         Class::Letter | Class::Digit | Class::Dash => {
@@ -175,7 +177,8 @@ pub(crate) fn tagged(
     b: char,
     out: &mut Vec<Event>,
 ) -> Result<State, Stop>
-    ensures { Moves (m.step_tagged (place_of place) tag.name.items tag.attrs (class b) b) result out.old.items out.new.items }
+    ensures { Moves (m.step_tagged (place_of place) tag.name.items tag.attrs (class b) b) result
+        out.old.items out.new.items }
 {
     match class_of(b) {
         Class::Letter => Ok(State::Attr(place, tag, one(alloc, b)?)),
@@ -192,7 +195,8 @@ pub(crate) fn attr(
     mut name: Vec<char>,
     b: char,
 ) -> Result<State, Stop>
-    ensures { Goes (m.step_attr strict (place_of place) tag.name.items tag.attrs name.items (class b) b) result }
+    ensures { Goes (m.step_attr strict (place_of place) tag.name.items tag.attrs name.items
+        (class b) b) result }
 {
     match class_of(b) {
         Class::Letter | Class::Digit | Class::Dash => {
@@ -220,7 +224,8 @@ pub(crate) fn attr(
 
 /// Behind an attribute's name.
 pub(crate) fn equals(place: Place, tag: Tag, name: Vec<char>, b: char) -> Result<State, Stop>
-    ensures { Goes (m.step_equals (place_of place) tag.name.items tag.attrs name.items (class b)) result }
+    ensures { Goes (m.step_equals (place_of place) tag.name.items tag.attrs name.items (class b))
+        result }
 {
     match class_of(b) {
         Class::Blank => Ok(State::Equals(place, tag, name)),
@@ -237,7 +242,8 @@ pub(crate) fn valued(
     name: Vec<char>,
     b: char,
 ) -> Result<State, Stop>
-    ensures { Goes (m.step_valued (place_of place) tag.name.items tag.attrs name.items (class b)) result }
+    ensures { Goes (m.step_valued (place_of place) tag.name.items tag.attrs name.items (class b))
+        result }
 {
     match class_of(b) {
         Class::Blank => Ok(State::Valued(place, tag, name)),
@@ -303,7 +309,8 @@ pub(crate) fn value(
     behind_return: bool,
     b: char,
 ) -> Result<State, Stop>
-    ensures { Goes (m.step_value (place_of place) tag.name.items tag.attrs name.items (quote_of quote) text.items behind_return (class b) b) result }
+    ensures { Goes (m.step_value (place_of place) tag.name.items tag.attrs name.items
+        (quote_of quote) text.items behind_return (class b) b) result }
 {
     match (quote, class_of(b)) {
         (Quote::Double, Class::DoubleQuote) => {
@@ -330,7 +337,8 @@ pub(crate) fn slashed(
     b: char,
     out: &mut Vec<Event>,
 ) -> Result<State, Stop>
-    ensures { Moves (m.step strict (m.slashed (place_of place) tag.name.items tag.attrs) (class b) b) result out.old.items out.new.items }
+    ensures { Moves (m.step strict (m.slashed (place_of place) tag.name.items tag.attrs)
+        (class b) b) result out.old.items out.new.items }
 {
     match class_of(b) {
         Class::Greater => {
@@ -344,7 +352,8 @@ pub(crate) fn slashed(
 
 /// Behind an end tag's name.
 pub(crate) fn finished(names: Vec<Vec<char>>, b: char, out: &mut Vec<Event>) -> Result<State, Stop>
-    ensures { Moves (m.step_finished (names_of names.items) (class b)) result out.old.items out.new.items }
+    ensures { Moves (m.step_finished (names_of names.items) (class b)) result out.old.items
+        out.new.items }
 {
     match class_of(b) {
         Class::Blank => Ok(State::Finished(names)),
@@ -365,7 +374,8 @@ pub(crate) fn finishing(
     b: char,
     out: &mut Vec<Event>,
 ) -> Result<State, Stop>
-    ensures { Moves (m.step_finishing (names_of names.items) (drop done name.items) (class b) b) result out.old.items out.new.items }
+    ensures { Moves (m.step_finishing (names_of names.items) (drop done name.items) (class b) b)
+        result out.old.items out.new.items }
 {
     match name.get(done) {
         None => finished(names, b, out),

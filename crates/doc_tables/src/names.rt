@@ -24,7 +24,9 @@ impl<'a> NamePlaces<'a> {
 
     /// Puts in the next element, unless one with its name is there.
     pub fn put(&mut self, name: Option<&'a str>, node: usize) -> Result<(), AllocError>
-        ensures { OnOk result ((key : ℕ → Option (List ℕ)) → option_copied name.entry ≡ key node → IsTableBelow key node (found_name self.old) → IsTableBelow key (node + 1) (found_name self.new)) }
+        ensures { OnOk result ((key : ℕ → Option (List ℕ)) → option_copied name.entry ≡ key node →
+            IsTableBelow key node (found_name self.old) →
+            IsTableBelow key (node + 1) (found_name self.new)) }
     {
         let Some(name) = name else {
             return Ok(());
@@ -44,7 +46,8 @@ impl<'a> NamePlaces<'a> {
 
     /// Whether an element before this one has its name, where it has one.
     pub fn is_repeated(&self, name: Option<&str>, node: usize) -> bool
-        ensures { (key : ℕ → Option (List ℕ)) → IsTable key (found_name self.now) → option_copied name.entry ≡ key node → (IsTrue result ↔ IsRepeated key node) }
+        ensures { (key : ℕ → Option (List ℕ)) → IsTable key (found_name self.now) →
+            option_copied name.entry ≡ key node → (IsTrue result ↔ IsRepeated key node) }
     {
         let Some(name) = name else {
             return false;

@@ -24,7 +24,9 @@ impl<'a> ScopedPlaces<'a> {
 
     /// Puts in the next element, unless one with its name is there in its scope.
     pub fn put(&mut self, key: Option<(usize, &'a str)>, node: usize) -> Result<(), AllocError>
-        ensures { OnOk result ((wanted : ℕ → Option (ℕ × List ℕ)) → scoped key.entry ≡ wanted node → IsTableBelow wanted node (found_in self.old) → IsTableBelow wanted (node + 1) (found_in self.new)) }
+        ensures { OnOk result ((wanted : ℕ → Option (ℕ × List ℕ)) → scoped key.entry ≡ wanted node →
+            IsTableBelow wanted node (found_in self.old) →
+            IsTableBelow wanted (node + 1) (found_in self.new)) }
     {
         let Some((scope, name)) = key else {
             return Ok(());
@@ -44,7 +46,8 @@ impl<'a> ScopedPlaces<'a> {
 
     /// Whether an element before this one has its name in its scope, where it has one.
     pub fn is_repeated(&self, key: Option<(usize, &'a str)>, node: usize) -> bool
-        ensures { (wanted : ℕ → Option (ℕ × List ℕ)) → IsTable wanted (found_in self.now) → scoped key.entry ≡ wanted node → (IsTrue result ↔ IsRepeated wanted node) }
+        ensures { (wanted : ℕ → Option (ℕ × List ℕ)) → IsTable wanted (found_in self.now) →
+            scoped key.entry ≡ wanted node → (IsTrue result ↔ IsRepeated wanted node) }
     {
         let Some((scope, name)) = key else {
             return false;

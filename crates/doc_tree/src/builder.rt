@@ -93,7 +93,8 @@ pub fn read_tree(alloc: Global, bytes: &[u8]) -> Result<Tree, DocError>
     ensures found { IfOk result (λ t. Denotes bytes.now t) }
     ensures fault { IfErr result (λ e. Faults e bytes.now) }
     ensures only { (nodes : List Node) → Denotes bytes.now nodes → Gives result nodes }
-    ensures exact { (rule : Rule) (place : ℕ) → IsFault bytes.now rule place → Refuses result rule place }
+    ensures exact { (rule : Rule) (place : ℕ) → IsFault bytes.now rule place →
+        Refuses result rule place }
 {
     match read_events(alloc, bytes) {
         Ok(events) => match build(alloc, events.as_slice()) {

@@ -52,7 +52,8 @@ fn named(alloc: Global, attr: &Attribute) -> Result<Named, AllocError>
 
 /// Adds an attribute, if it is kept.
 fn add(alloc: Global, attrs: &mut Vec<Named>, attr: &Attribute) -> Result<(), AllocError>
-    ensures { OnOk result (map e.pair_of attrs.new.items ≡ map e.pair_of attrs.old.items ++ kept_if (is_kept attr.now.name.items) (pair_of attr.now) []) }
+    ensures { OnOk result (map e.pair_of attrs.new.items ≡ map e.pair_of attrs.old.items ++ kept_if
+        (is_kept attr.now.name.items) (pair_of attr.now) []) }
 {
     if keeps(attr.name.as_slice()) {
         attrs.push(named(alloc, attr)?)?;

@@ -33,7 +33,8 @@ impl Tree {
     }
 
     fn push_step(&self, path: &mut String, node: usize) -> Result<(), AllocError>
-        ensures { OnOk result (string_bytes path.new ≡ string_bytes path.old ++ step_text self.now node) }
+        ensures { OnOk result (string_bytes path.new ≡ string_bytes path.old ++ step_text self.now
+            node) }
     {
         path.push_str("/")?;
         path.push_str(self.name_at(node))?;

@@ -54,7 +54,8 @@ fn find<'a>(attrs: &'a [Named], name: &str) -> Option<&'a str>
 /// Puts a node behind the children of its parent.
 fn adopt(children: &mut Vec<Vec<usize>>, parent: usize, node: usize) -> Result<(), AllocError>
     requires { parent < length children.old.items }
-    ensures lists { OnOk result (map items_of children.new.items ≡ with_child (map items_of children.old.items) parent node) }
+    ensures lists { OnOk result (map items_of children.new.items ≡
+        with_child (map items_of children.old.items) parent node) }
     ensures len { length children.new.items ≡ length children.old.items }
 {
     children[parent].push(node)?;
@@ -69,7 +70,8 @@ fn adopt_if(
     node: usize,
 ) -> Result<(), AllocError>
     requires { IsBelow (length children.old.items) parent }
-    ensures lists { OnOk result (Adopts (map items_of children.old.items) (map items_of children.new.items) parent node) }
+    ensures lists { OnOk result (Adopts (map items_of children.old.items)
+        (map items_of children.new.items) parent node) }
     ensures len { length children.new.items ≡ length children.old.items }
 {
     if let Some(parent) = parent {
@@ -123,7 +125,8 @@ impl Tree {
     /// The value of an attribute.
     pub fn attribute(&self, node: usize, name: &str) -> Option<&str>
         requires { node < length self.now }
-        ensures { IfSome (slice_get self.now node) (λ n. option_map (λ v. v.now) result ≡ value_at n.attrs name.now) }
+        ensures { IfSome (slice_get self.now node)
+            (λ n. option_map (λ v. v.now) result ≡ value_at n.attrs name.now) }
     {
         find(self.elements[node].attrs.as_slice(), name)
     }

@@ -49,7 +49,8 @@ pub fn schedule_of(
 
 // What each port is to the schedule.
 fn clocks_of(alloc: Global, ports: &[Port]) -> Result<Vec<TimeClock>, AllocError>
-    ensures { IfOk result (λ clocks. clocks.items ≡ map (λ (port : Port). first_clock port.role) ports.now) }
+    ensures { IfOk result (λ clocks. clocks.items ≡ map (λ (port : Port). first_clock port.role)
+        ports.now) }
 {
     ports.iter().map(|port| clock_of(port.role)).collect(alloc)
 }
@@ -96,17 +97,21 @@ pub fn fix_clocks<L: Peer>(
     per_second: u64,
 ) -> Result<(), BadAnswer>
     requires sound { IsSound system.now }
-    requires counts { All (λ (c : Component). c.shape.resolution ≡ per_second) system.now.components }
+    requires counts { All (λ (c : Component). c.shape.resolution ≡ per_second)
+        system.now.components }
     requires shapes { shapes (instances L.view slots.old) ≡ shapes_of system.now }
     requires live { All (LiveSlot L.view) slots.old }
     requires initializing { All (Stands IsInitializing L.view) slots.old }
     requires first { schedule.old ≡ first_table system.now schedule.old.start schedule.old.stop }
     requires run { schedule.old.start ≤ schedule.old.stop }
     ensures live { OnOk result (All (LiveSlot L.view) slots.new) }
-    ensures run { (schedule.new.start ≡ schedule.old.start) × (schedule.new.stop ≡ schedule.old.stop) }
+    ensures run { (schedule.new.start ≡ schedule.old.start) ×
+        (schedule.new.stop ≡ schedule.old.stop) }
     ensures stands { OnOk result (StandsAt system.now schedule.old.start true schedule.new) }
-    ensures fixes { Fixes system.now per_second (timers_in schedule.new) (instances L.view slots.old) (instances L.view slots.new) result }
-    ensures machines { OnOk result (FixesForMachines system.now per_second (timers_in schedule.new) (instances L.view slots.old) (instances L.view slots.new)) }
+    ensures fixes { Fixes system.now per_second (timers_in schedule.new)
+        (instances L.view slots.old) (instances L.view slots.new) result }
+    ensures machines { OnOk result (FixesForMachines system.now per_second (timers_in schedule.new)
+        (instances L.view slots.old) (instances L.view slots.new)) }
 {
     for p in 0..system.ports.len() {
         match fix_clock(slots, system, schedule, per_second, p) {
@@ -127,15 +132,22 @@ fn fix_clock<L: Peer>(
 ) -> Result<(), BadAnswer>
     requires port { p < length system.now.ports }
     requires sound { IsSound system.now }
-    requires counts { All (λ (c : Component). c.shape.resolution ≡ per_second) system.now.components }
+    requires counts { All (λ (c : Component). c.shape.resolution ≡ per_second)
+        system.now.components }
     requires shapes { shapes (instances L.view slots.old) ≡ shapes_of system.now }
     requires live { All (LiveSlot L.view) slots.old }
-    requires initializing { (i : ℕ) (mode : InstanceState) → slice_get (modes (instances L.view slots.old)) i ≡ Some mode → mode ≡ P.Initialization }
-    requires first { (port : Port) → slice_get system.now.ports p ≡ Some port → slice_get schedule.old.clocks p ≡ Some (first_place port.role) }
+    requires initializing { (i : ℕ) (mode : InstanceState) →
+        slice_get (modes (instances L.view slots.old)) i ≡ Some mode → mode ≡ P.Initialization }
+    requires first { (port : Port) → slice_get system.now.ports p ≡ Some port →
+        slice_get schedule.old.clocks p ≡ Some (first_place port.role) }
     ensures live { OnOk result (All (LiveSlot L.view) slots.new) }
-    ensures modes { OnOk result (modes (instances L.view slots.new) ≡ modes (instances L.view slots.old)) }
-    ensures run { (schedule.new.start ≡ schedule.old.start) × (schedule.new.stop ≡ schedule.old.stop) }
-    ensures fixes { (port : Port) → slice_get system.now.ports p ≡ Some port → FixesPort port per_second p schedule.old schedule.new (instances L.view slots.old) (instances L.view slots.new) result }
+    ensures modes { OnOk result (modes (instances L.view slots.new) ≡
+        modes (instances L.view slots.old)) }
+    ensures run { (schedule.new.start ≡ schedule.old.start) ×
+        (schedule.new.stop ≡ schedule.old.stop) }
+    ensures fixes { (port : Port) → slice_get system.now.ports p ≡ Some port →
+        FixesPort port per_second p schedule.old schedule.new (instances L.view slots.old)
+        (instances L.view slots.new) result }
 {
     let port = &system.ports.as_slice()[p];
     if !is_asked(port.role) {
@@ -244,8 +256,10 @@ pub(crate) fn ask<L: Peer>(
     requires live { All (LiveSlot L.view) slots.old }
     requires may { MayTell call component.0 (instances L.view slots.old) }
     ensures live { OnOk result (All (LiveSlot L.view) slots.new) }
-    ensures modes { OnOk result (modes (instances L.view slots.new) ≡ modes (instances L.view slots.old)) }
-    ensures stage { Stage (record { component = component.0; call = call } ∷ []) first_reply (instances L.view slots.old) (instances L.view slots.new) (with_some result) }
+    ensures modes { OnOk result (modes (instances L.view slots.new) ≡
+        modes (instances L.view slots.old)) }
+    ensures stage { Stage (record { component = component.0; call = call } ∷ []) first_reply
+        (instances L.view slots.old) (instances L.view slots.new) (with_some result) }
 {
     match send(&mut slots[component.0 as usize], call) {
         Ok(reply) => Ok(reply),

@@ -132,12 +132,15 @@ fn take<L: Peer>(
     requires read { is_read ≡ I.is_read system.now.ports p }
     requires shapes { shapes (instances L.view slots.old) ≡ shapes_of system.now }
     requires placed { All (IsPlaced (length system.now.ports)) system.now.ports }
-    requires there { All (λ (port : Port). port.component.0 < length system.now.components) system.now.ports }
+    requires there { All (λ (port : Port). port.component.0 < length system.now.components)
+        system.now.ports }
     requires values { length values.old ≡ length system.now.ports }
     requires live { All (LiveSlot L.view) slots.old }
-    requires may { MayTurn system.now (initially system.now) p values.old (instances L.view slots.old) }
+    requires may { MayTurn system.now (initially system.now) p values.old
+        (instances L.view slots.old) }
     ensures live { OnOk result (All (LiveSlot L.view) slots.new) }
-    ensures turn { TakesTurn system.now (initially system.now) p values.old values.new (instances L.view slots.old) (instances L.view slots.new) result }
+    ensures turn { TakesTurn system.now (initially system.now) p values.old values.new
+        (instances L.view slots.old) (instances L.view slots.new) result }
 {
     let ports = system.ports.as_slice();
     let port = &ports[p];
@@ -170,9 +173,12 @@ pub fn initialize<L: Peer>(
     requires reads { AreReads system.now reads.now }
     requires values { length values.old ≡ length system.now.ports }
     ensures live { OnOk result (All (LiveSlot L.view) slots.new) }
-    ensures walks { Walks system.now (initially system.now) (no_values system.now) (numbers system.now.initial_order) values.new (instances L.view slots.old) (instances L.view slots.new) result }
+    ensures walks { Walks system.now (initially system.now) (no_values system.now)
+        (numbers system.now.initial_order) values.new (instances L.view slots.old)
+        (instances L.view slots.new) result }
     ensures fitting { AreFitting system.now values.new }
-    ensures solved { OnOk result (SolvesForMachines system.now values.new (instances L.view slots.old) (instances L.view slots.new)) }
+    ensures solved { OnOk result (SolvesForMachines system.now values.new
+        (instances L.view slots.old) (instances L.view slots.new)) }
 {
     clear(values);
     walk(slots, system, reads.as_slice(), values)
@@ -201,9 +207,12 @@ fn walk<L: Peer>(
     requires reads { AreReads system.now reads.now }
     requires none { values.old ≡ no_values system.now }
     ensures live { OnOk result (All (LiveSlot L.view) slots.new) }
-    ensures walks { Walks system.now (initially system.now) (no_values system.now) (numbers system.now.initial_order) values.new (instances L.view slots.old) (instances L.view slots.new) result }
+    ensures walks { Walks system.now (initially system.now) (no_values system.now)
+        (numbers system.now.initial_order) values.new (instances L.view slots.old)
+        (instances L.view slots.new) result }
     ensures fitting { AreFitting system.now values.new }
-    ensures solved { OnOk result (SolvesForMachines system.now values.new (instances L.view slots.old) (instances L.view slots.new)) }
+    ensures solved { OnOk result (SolvesForMachines system.now values.new
+        (instances L.view slots.old) (instances L.view slots.new)) }
 {
     let order = system.initial_order.as_slice();
     for k in 0..order.len() {

@@ -41,12 +41,15 @@ fn set_input<L: Peer>(
 ) -> Result<(), BadAnswer>
     requires port { p < length system.now.ports }
     requires shapes { shapes (instances L.view slots.old) ≡ shapes_of system.now }
-    requires there { All (λ (port : Port). port.component.0 < length system.now.components) system.now.ports }
+    requires there { All (λ (port : Port). port.component.0 < length system.now.components)
+        system.now.ports }
     requires values { length values.now ≡ length system.now.ports }
     requires live { All (LiveSlot L.view) slots.old }
-    requires may { MayTurn system.now (before_step values.now) p values.now (instances L.view slots.old) }
+    requires may { MayTurn system.now (before_step values.now) p values.now
+        (instances L.view slots.old) }
     ensures live { OnOk result (All (LiveSlot L.view) slots.new) }
-    ensures turn { TakesTurn system.now (before_step values.now) p values.now values.now (instances L.view slots.old) (instances L.view slots.new) result }
+    ensures turn { TakesTurn system.now (before_step values.now) p values.now values.now
+        (instances L.view slots.old) (instances L.view slots.new) result }
 {
     let port = &system.ports.as_slice()[p];
     let has_event_mode = has_event_mode(system, port.component);
@@ -74,8 +77,11 @@ pub fn set_inputs<L: Peer>(
     requires values { length values.now ≡ length system.now.ports }
     requires fitting { AreFitting system.now values.now }
     ensures live { OnOk result (All (LiveSlot L.view) slots.new) }
-    ensures walks { Walks system.now (before_step values.now) values.now (port_order system.now) values.now (instances L.view slots.old) (instances L.view slots.new) result }
-    ensures departs { OnOk result (DepartsForMachines system.now values.now (instances L.view slots.old) (instances L.view slots.new)) }
+    ensures walks { Walks system.now (before_step values.now) values.now
+        (port_order system.now) values.now (instances L.view slots.old)
+        (instances L.view slots.new) result }
+    ensures departs { OnOk result (DepartsForMachines system.now values.now
+        (instances L.view slots.old) (instances L.view slots.new)) }
 {
     for p in 0..values.len() {
         match set_input(slots, system, values, p) {

@@ -187,12 +187,15 @@ fn take<L: Peer>(
     requires shapes { shapes (instances L.view slots.old) ≡ shapes_of system.now }
     requires placed { All (IsPlaced (length system.now.ports)) system.now.ports }
     requires clocks { All (HasPlacedClocks (length system.now.ports)) system.now.ports }
-    requires there { All (λ (port : Port). port.component.0 < length system.now.components) system.now.ports }
+    requires there { All (λ (port : Port). port.component.0 < length system.now.components)
+        system.now.ports }
     requires values { length values.old ≡ length system.now.ports }
     requires live { All (LiveSlot L.view) slots.old }
-    requires may { MayTurn system.now (in_instant (λ q. ticks) is_first) p values.old (instances L.view slots.old) }
+    requires may { MayTurn system.now (in_instant (λ q. ticks) is_first) p values.old
+        (instances L.view slots.old) }
     ensures live { OnOk result (All (LiveSlot L.view) slots.new) }
-    ensures turn { TakesTurn system.now (in_instant (λ q. ticks) is_first) p values.old values.new (instances L.view slots.old) (instances L.view slots.new) result }
+    ensures turn { TakesTurn system.now (in_instant (λ q. ticks) is_first) p values.old values.new
+        (instances L.view slots.old) (instances L.view slots.new) result }
 {
     let port = &system.ports.as_slice()[p];
     let has_event_mode = has_event_mode(system, port.component);
@@ -231,11 +234,16 @@ pub fn instant<L: Peer>(
     requires values { length values.old ≡ length system.now.ports }
     requires fitting { AreFitting system.now values.old }
     ensures live { OnOk result (All (LiveSlot L.view) slots.new) }
-    ensures walks { Walks system.now (in_instant (is_due_at schedule.now t) is_first) values.old (numbers system.now.instant_order) values.new (instances L.view slots.old) (instances L.view slots.new) result }
+    ensures walks { Walks system.now (in_instant (is_due_at schedule.now t) is_first) values.old
+        (numbers system.now.instant_order) values.new (instances L.view slots.old)
+        (instances L.view slots.new) result }
     ensures fitting { AreFitting system.now values.new }
-    ensures due { (n : ℕ) → (n == 0) ≡ is_first → AreTicks system.now schedule.now.start (timers_in schedule.now) t n (is_due_at schedule.now t) }
+    ensures due { (n : ℕ) → (n == 0) ≡ is_first → AreTicks system.now schedule.now.start
+        (timers_in schedule.now) t n (is_due_at schedule.now t) }
     ensures ticks { OnOk result (TellsTicks system.now schedule.now t values.new) }
-    ensures solved { OnOk result (SolvesInInstant system.now schedule.now t is_first values.old values.new (instances L.view slots.old) (instances L.view slots.new)) }
+    ensures solved { OnOk result
+        (SolvesInInstant system.now schedule.now t is_first values.old values.new
+        (instances L.view slots.old) (instances L.view slots.new)) }
 {
     let order = system.instant_order.as_slice();
     for k in 0..order.len() {

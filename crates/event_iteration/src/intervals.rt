@@ -36,7 +36,8 @@ pub fn ask_intervals<L: Peer>(
     t: u64,
 ) -> Result<bool, BadAnswer>
     requires sound { IsSound system.now }
-    requires counts { All (λ (c : Component). c.shape.resolution ≡ per_second) system.now.components }
+    requires counts { All (λ (c : Component). c.shape.resolution ≡ per_second)
+        system.now.components }
     requires shapes { shapes (instances L.view slots.old) ≡ shapes_of system.now }
     requires live { All (LiveSlot L.view) slots.old }
     requires running { All (Stands IsRunning L.view) slots.old }
@@ -44,10 +45,14 @@ pub fn ask_intervals<L: Peer>(
     requires stands { StandsAt system.now t is_first schedule.old }
     requires ticks { TellsTicks system.now schedule.old t values.now }
     ensures live { OnOk result (All (LiveSlot L.view) slots.new) }
-    ensures run { (schedule.new.start ≡ schedule.old.start) × (schedule.new.stop ≡ schedule.old.stop) }
+    ensures run { (schedule.new.start ≡ schedule.old.start) ×
+        (schedule.new.stop ≡ schedule.old.stop) }
     ensures stands { OnOk result (StandsAt system.now t false schedule.new) }
-    ensures asks { AsksIntervals system.now per_second t values.now (timers_in schedule.old) (timers_in schedule.new) (instances L.view slots.old) (instances L.view slots.new) result }
-    ensures machines { OnOk result (RearmsForMachines system.now per_second t values.now (timers_in schedule.old) (timers_in schedule.new) (instances L.view slots.old) (instances L.view slots.new)) }
+    ensures asks { AsksIntervals system.now per_second t values.now (timers_in schedule.old)
+        (timers_in schedule.new) (instances L.view slots.old) (instances L.view slots.new) result }
+    ensures machines { OnOk result (RearmsForMachines system.now per_second t values.now
+        (timers_in schedule.old) (timers_in schedule.new) (instances L.view slots.old)
+        (instances L.view slots.new)) }
 {
     let ports = system.ports.as_slice();
     let mut is_armed = false;
@@ -74,8 +79,10 @@ fn ask_interval<L: Peer>(
     requires live { All (LiveSlot L.view) slots.old }
     requires running { AreRunning system.now (modes (instances L.view slots.old)) }
     ensures live { OnOk result (All (LiveSlot L.view) slots.new) }
-    ensures modes { OnOk result (modes (instances L.view slots.new) ≡ modes (instances L.view slots.old)) }
-    ensures asks { AsksPort system.now p (instances L.view slots.old) (instances L.view slots.new) result }
+    ensures modes { OnOk result (modes (instances L.view slots.new) ≡
+        modes (instances L.view slots.old)) }
+    ensures asks { AsksPort system.now p (instances L.view slots.old)
+        (instances L.view slots.new) result }
 {
     let port = &system.ports.as_slice()[p];
     if !counts_down(port.role) {
@@ -164,7 +171,8 @@ fn tick_if<K: Ledger>(schedule: &mut Schedule, p: usize, ticks: bool, blank: Bla
     requires parts { blank.parts ≡ K.parts }
     requires some { 0 < blank.parts }
     requires next { ticks ≡ true → HasNext schedule.old p }
-    ensures { (place : ClockState) → slice_get schedule.old.clocks p ≡ Some place → schedule.new ≡ with_clock schedule.old p (ticked_if ticks place) }
+    ensures { (place : ClockState) → slice_get schedule.old.clocks p ≡ Some place →
+        schedule.new ≡ with_clock schedule.old p (ticked_if ticks place) }
 {
     if ticks {
         schedule.ticked(p, &mut Steps::<K>::new(blank));
@@ -184,7 +192,8 @@ fn rearm<K: Ledger>(
     requires parts { blank.parts ≡ K.parts }
     requires some { 0 < blank.parts }
     requires countdown { IsCountdown schedule.old p }
-    ensures rearmed { (place : ClockState) → slice_get schedule.old.clocks p ≡ Some place → schedule.new ≡ with_clock schedule.old p (rearmed per_second t interval place) }
+    ensures rearmed { (place : ClockState) → slice_get schedule.old.clocks p ≡ Some place →
+        schedule.new ≡ with_clock schedule.old p (rearmed per_second t interval place) }
     ensures now { result ≡ arms_now per_second interval }
 {
     match interval {

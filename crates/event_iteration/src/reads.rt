@@ -49,7 +49,8 @@ impl InitialReads {
 fn mark_reads(ports: &[Port], flags: &mut [bool])
     requires placed { All (IsPlaced (length ports.now)) ports.now }
     requires none { flags.old ≡ replicate (length ports.now) false }
-    ensures { (p : ℕ) (d : Bool) → p < length ports.now → slice_index_or flags.new p d ≡ I.is_read ports.now p }
+    ensures { (p : ℕ) (d : Bool) → p < length ports.now →
+        slice_index_or flags.new p d ≡ I.is_read ports.now p }
 {
     for port in ports {
         if let Some(source) = read_by(ports, port) {

@@ -14,7 +14,8 @@ use system_model::System;
 // Whether the FMU of a component has event mode.
 pub(crate) fn has_event_mode(system: &System, component: CompId) -> bool
     requires { component.0 < length system.now.components }
-    ensures { (c : Component) → slice_get system.now.components component.0 ≡ Some c → result ≡ c.shape.has_event_mode }
+    ensures { (c : Component) → slice_get system.now.components component.0 ≡ Some c →
+        result ≡ c.shape.has_event_mode }
 {
     let components = system.components.as_slice();
     components[component.0 as usize].shape.has_event_mode

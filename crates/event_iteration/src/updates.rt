@@ -27,8 +27,10 @@ pub fn update<L: Peer>(slots: &mut [Slot<L>], system: &System) -> Result<Updated
     requires live { All (LiveSlot L.view) slots.old }
     requires running { All (Stands IsRunning L.view) slots.old }
     ensures live { OnOk result (All (LiveSlot L.view) slots.new) }
-    ensures stage { Stage (updating (shapes (instances L.view slots.old))) updated_by (instances L.view slots.old) (instances L.view slots.new) result }
-    ensures leads { LeadsForMachines system.now (instances L.view slots.old) (instances L.view slots.new) result }
+    ensures stage { Stage (updating (shapes (instances L.view slots.old))) updated_by
+        (instances L.view slots.old) (instances L.view slots.new) result }
+    ensures leads { LeadsForMachines system.now (instances L.view slots.old)
+        (instances L.view slots.new) result }
 {
     let components = system.components.as_slice();
     let mut updated = Updated {

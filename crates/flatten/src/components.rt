@@ -28,7 +28,8 @@ fn component(
     shape: &Shape,
     source: u32,
 ) -> Result<Component, AllocError>
-    ensures { IfOk result (λ component. (component.name ≡ part.now.name) × (component.source.0 ≡ source) × (component.shape ≡ shape.now)) }
+    ensures { IfOk result (λ component. (component.name ≡ part.now.name) ×
+        (component.source.0 ≡ source) × (component.shape ≡ shape.now)) }
 {
     Ok(Component {
         name: part.name.copy(alloc)?,

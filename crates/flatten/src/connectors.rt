@@ -47,7 +47,8 @@ fn make_variables(alloc: Global, shapes: &[Shape]) -> Result<Variables<'_>, Allo
 
 // The place in its description of the variable that a connector names.
 fn place_named<'a>(names: &VariableNames<'a>, connector: &'a Connector) -> Option<usize>
-    ensures { (shapes : List Shape) → AreNames shapes names.now → result ≡ place_for shapes connector.now.owner connector.now.name }
+    ensures { (shapes : List Shape) → AreNames shapes names.now →
+        result ≡ place_for shapes connector.now.owner connector.now.name }
 {
     match connector.owner {
         Owner::System(_) => None,
@@ -59,7 +60,8 @@ fn place_named<'a>(names: &VariableNames<'a>, connector: &'a Connector) -> Optio
 fn point(number: usize, owner: Owner, place: Option<usize>, variables: &Variables) -> Point
     requires placed { IsPlaceIn variables.now owner place }
     requires small { number < 2 ^ 63 }
-    ensures { (shapes : List Shape) → AreVariables shapes variables.now → result ≡ number_for shapes number owner place }
+    ensures { (shapes : List Shape) → AreVariables shapes variables.now →
+        result ≡ number_for shapes number owner place }
 {
     match (owner, place) {
         (Owner::System(_), _) => Point::OfSystem(number),
@@ -134,7 +136,8 @@ impl<'a> FlatTree<'a> {
     pub(crate) fn variable(&self, connector: usize) -> Option<&'a Variable>
         requires indexed { IsIndexed self.now }
         requires connector { connector < length self.now.tree.now.connectors }
-        ensures { option_copied result ≡ variable_of self.now.tree.now self.now.shapes.now connector }
+        ensures { option_copied result ≡ variable_of self.now.tree.now self.now.shapes.now
+            connector }
     {
         match self.points[connector] {
             Point::Variable(number) => self.variables.all.get(number).copied(),

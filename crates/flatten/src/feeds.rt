@@ -47,7 +47,9 @@ impl<'a> FlatTree<'a> {
     // The connectors that name outputs.
     fn output_connectors(&self, alloc: Global) -> Result<Vec<usize>, AllocError>
         requires indexed { IsIndexed self.now }
-        ensures { IfOk result (λ outputs. (c : ℕ) → Contains outputs.items c ↔ ((c < length self.now.tree.now.connectors) × IsOutputAt self.now.tree.now self.now.shapes.now c)) }
+        ensures { IfOk result (λ outputs. (c : ℕ) →
+            Contains outputs.items c ↔ ((c < length self.now.tree.now.connectors) ×
+            IsOutputAt self.now.tree.now self.now.shapes.now c)) }
     {
         let mut outputs = Vec::new(alloc);
         for connector in 0..self.tree.connectors.len() {
@@ -76,7 +78,8 @@ impl<'a> FlatTree<'a> {
     fn port_at(&self, numbers: &[Option<PortId>], connector: usize) -> Option<PortId>
         requires indexed { IsIndexed self.now }
         requires connector { connector < length self.now.tree.now.connectors }
-        ensures { (port : PortId) → (result ≡ Some port) ↔ HasPort self.now numbers.now connector port }
+        ensures { (port : PortId) → (result ≡ Some port) ↔ HasPort self.now numbers.now connector
+            port }
     {
         let number = variable_number(self.points[connector])?;
         if number < numbers.len() {
@@ -99,8 +102,12 @@ impl<'a> FlatTree<'a> {
         requires source { source < length self.now.tree.now.connectors }
         requires len { length feeds.old ≡ length (all_variables self.now.shapes.now) }
         ensures len { length feeds.new ≡ length feeds.old }
-        ensures noted { (n : ℕ) (from : PortId) → FeedsFrom self.now numbers.now connector source n from → slice_get feeds.new n ≡ Some (Some (record { from = from })) }
-        ensures only { (n : ℕ) → (slice_get feeds.new n ≡ slice_get feeds.old n) ⊎ ((from : PortId) × FeedsFrom self.now numbers.now connector source n from × (slice_get feeds.new n ≡ Some (Some (record { from = from })))) }
+        ensures noted { (n : ℕ) (from : PortId) →
+            FeedsFrom self.now numbers.now connector source n from →
+            slice_get feeds.new n ≡ Some (Some (record { from = from })) }
+        ensures only { (n : ℕ) → (slice_get feeds.new n ≡ slice_get feeds.old n) ⊎
+            ((from : PortId) × FeedsFrom self.now numbers.now connector source n from ×
+            (slice_get feeds.new n ≡ Some (Some (record { from = from })))) }
     {
         if let Some(from) = self.port_at(numbers, source) {
             if let Some(input) = self.input_number(connector) {
@@ -120,7 +127,8 @@ impl<'a> FlatTree<'a> {
         requires indexed { IsIndexed self.now }
         requires fitting { IsFitting self.now.tree.now self.now.shapes.now }
         requires numbers { ArePortNumbers self.now.shapes.now numbers.now }
-        ensures { IfOk result (λ feeds. AreFeeds self.now.tree.now self.now.shapes.now numbers.now feeds.items) }
+        ensures { IfOk result (λ feeds. AreFeeds self.now.tree.now self.now.shapes.now numbers.now
+            feeds.items) }
     {
         let outputs = self.output_connectors(alloc)?;
         let found = sources_of(

@@ -34,7 +34,8 @@ struct Parts {
 fn make_parts(alloc: Global, flat: &FlatTree) -> Result<Parts, AllocError>
     requires indexed { IsIndexed flat.now }
     requires fitting { IsFitting flat.now.tree.now flat.now.shapes.now }
-    ensures flat { IfOk result (λ parts. IsFlat flat.now.tree.now flat.now.shapes.now (unordered parts.components parts.ports)) }
+    ensures flat { IfOk result (λ parts. IsFlat flat.now.tree.now flat.now.shapes.now
+        (unordered parts.components parts.ports)) }
     ensures placed { IfOk result (λ parts. ArePlaced parts.components parts.ports) }
 {
     Ok(Parts {
@@ -46,7 +47,8 @@ fn make_parts(alloc: Global, flat: &FlatTree) -> Result<Parts, AllocError>
 // The loop is told at the outermost System.
 fn loop_refusal(tree: &SystemTree, ports: Items<PortId>) -> Refusal
     requires whole { IsWhole tree.now }
-    ensures { (shapes : List Shape) → TellsLoop tree.now shapes (root_node tree.now) ports → Faults tree.now shapes result }
+    ensures { (shapes : List Shape) → TellsLoop tree.now shapes (root_node tree.now) ports →
+        Faults tree.now shapes result }
 {
     Refusal::At {
         file: 0,
@@ -59,9 +61,12 @@ fn loop_refusal(tree: &SystemTree, ports: Items<PortId>) -> Refusal
 fn ordered(alloc: Global, tree: &SystemTree, parts: Parts) -> Result<System, Refusal>
     requires whole { IsWhole tree.now }
     requires placed { ArePlaced parts.components parts.ports }
-    ensures parts { IfOk result (λ system. (system.components ≡ parts.components) × (system.ports ≡ parts.ports)) }
+    ensures parts { IfOk result (λ system. (system.components ≡ parts.components) ×
+        (system.ports ≡ parts.ports)) }
     ensures orders { IfOk result HasOrders }
-    ensures fault { (shapes : List Shape) → IsFitting tree.now shapes → IsFlat tree.now shapes (unordered parts.components parts.ports) → IfErr result (Faults tree.now shapes) }
+    ensures fault { (shapes : List Shape) → IsFitting tree.now shapes →
+        IsFlat tree.now shapes (unordered parts.components parts.ports) →
+        IfErr result (Faults tree.now shapes) }
 {
     match order_system(alloc, parts.components.as_slice(), parts.ports.as_slice()) {
         Ok(orders) => Ok(System {
@@ -81,7 +86,8 @@ fn assemble(alloc: Global, flat: &FlatTree) -> Result<System, Refusal>
     requires fitting { IsFitting flat.now.tree.now flat.now.shapes.now }
     ensures found { IfOk result (Flattens flat.now.tree.now flat.now.shapes.now) }
     ensures fault { IfErr result (Faults flat.now.tree.now flat.now.shapes.now) }
-    ensures only { (system : System) → Flattens flat.now.tree.now flat.now.shapes.now system → GivesParts result system }
+    ensures only { (system : System) → Flattens flat.now.tree.now flat.now.shapes.now system →
+        GivesParts result system }
 {
     match make_parts(alloc, flat) {
         Ok(parts) => ordered(alloc, flat.tree, parts),
@@ -111,8 +117,10 @@ pub fn flatten(alloc: Global, tree: &SystemTree, shapes: &[Shape]) -> Result<Sys
     ensures found { IfOk result (Flattens tree.now shapes.now) }
     ensures sound { IfOk result (λ system. SavesStates system → IsSound system) }
     ensures fault { IfErr result (Faults tree.now shapes.now) }
-    ensures exact { (rule : Rule) (node : ℕ) → IsFirstViolation tree.now shapes.now node rule → Refuses result rule node }
-    ensures only { (system : System) → IsFitting tree.now shapes.now → Flattens tree.now shapes.now system → GivesParts result system }
+    ensures exact { (rule : Rule) (node : ℕ) → IsFirstViolation tree.now shapes.now node rule →
+        Refuses result rule node }
+    ensures only { (system : System) → IsFitting tree.now shapes.now →
+        Flattens tree.now shapes.now system → GivesParts result system }
 {
     match FlatTree::new(alloc, tree, shapes) {
         Ok(flat) => answer(alloc, &flat),

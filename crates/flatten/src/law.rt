@@ -8,5 +8,6 @@ ghost use Rattle.flatten.specs.Given.{IsWhole};
 
 /// The tree of systems that a document without violations describes may be flattened.
 pub fn whole_tree()
-    ensures { (document : List Node) (tree : SystemTree) → IsSound document → Describes document tree → IsWhole tree }
+    ensures { (document : List Node) (tree : SystemTree) → IsSound document →
+        Describes document tree → IsWhole tree }
 {}

@@ -100,7 +100,8 @@ impl<'a> FlatTree<'a> {
         requires indexed { IsIndexed self.now }
         requires len { length starts.items ≡ length self.now.tree.now.connectors }
         requires shared { AreShared self.now.tree.now self.now.shapes.now starts.items }
-        ensures { IfOk result (λ reached. AreLedTo self.now.tree.now self.now.shapes.now (IsMarked starts.items) reached.items) }
+        ensures { IfOk result (λ reached. AreLedTo self.now.tree.now self.now.shapes.now
+            (IsMarked starts.items) reached.items) }
     {
         let begins = marked(alloc, starts.as_slice())?;
         let found = sources_of(
@@ -140,7 +141,8 @@ impl<'a> FlatTree<'a> {
     /// For each connector whether it names an output.
     pub(crate) fn outputs(&self, alloc: Global) -> Result<Vec<bool>, AllocError>
         requires { IsIndexed self.now }
-        ensures { IfOk result (λ outputs. AreMarked self.now.tree.now (IsOutputAt self.now.tree.now self.now.shapes.now) outputs.items) }
+        ensures { IfOk result (λ outputs. AreMarked self.now.tree.now
+            (IsOutputAt self.now.tree.now self.now.shapes.now) outputs.items) }
     {
         let mut outputs = Vec::with_capacity(alloc, self.points.len())?;
         for connector in 0..self.points.len() {
@@ -153,7 +155,8 @@ impl<'a> FlatTree<'a> {
     fn is_output_of(&self, connector: usize, class: Option<Class>) -> bool
         requires indexed { IsIndexed self.now }
         requires connector { connector < length self.now.tree.now.connectors }
-        ensures { IsTrue result ↔ NamesOutput (λ x. class_at x ≡ class) self.now.tree.now self.now.shapes.now connector }
+        ensures { IsTrue result ↔ NamesOutput (λ x. class_at x ≡ class) self.now.tree.now
+            self.now.shapes.now connector }
     {
         match self.variable(connector) {
             Some(variable) => {
@@ -179,7 +182,8 @@ impl<'a> FlatTree<'a> {
     fn is_of_class(&self, fed: &[bool], connector: usize, class: Option<Class>) -> bool
         requires indexed { IsIndexed self.now }
         requires connector { connector < length self.now.tree.now.connectors }
-        requires fed { AreLedTo self.now.tree.now self.now.shapes.now (IsOutputAt self.now.tree.now self.now.shapes.now) fed.now }
+        requires fed { AreLedTo self.now.tree.now self.now.shapes.now
+            (IsOutputAt self.now.tree.now self.now.shapes.now) fed.now }
         ensures { IsTrue result ↔ IsOfClass self.now.tree.now self.now.shapes.now class connector }
     {
         self.is_output_of(connector, class) || fed[connector] && self.passes(connector, class)
@@ -192,7 +196,8 @@ impl<'a> FlatTree<'a> {
         class: Option<Class>,
     ) -> Result<ClassMarks, AllocError>
         requires indexed { IsIndexed self.now }
-        requires fed { AreLedTo self.now.tree.now self.now.shapes.now (IsOutputAt self.now.tree.now self.now.shapes.now) fed.now }
+        requires fed { AreLedTo self.now.tree.now self.now.shapes.now
+            (IsOutputAt self.now.tree.now self.now.shapes.now) fed.now }
         ensures { IfOk result (AreClassMarks self.now.tree.now self.now.shapes.now class) }
     {
         let mut starts = Vec::with_capacity(alloc, fed.len())?;
@@ -209,7 +214,8 @@ impl<'a> FlatTree<'a> {
     fn is_output_with(&self, connector: usize, kind: PortType) -> bool
         requires indexed { IsIndexed self.now }
         requires connector { connector < length self.now.tree.now.connectors }
-        ensures { IsTrue result ↔ NamesOutput (λ x. x.kind ≡ Some kind) self.now.tree.now self.now.shapes.now connector }
+        ensures { IsTrue result ↔ NamesOutput (λ x. x.kind ≡ Some kind) self.now.tree.now
+            self.now.shapes.now connector }
     {
         match self.variable(connector) {
             Some(variable) => {

@@ -37,7 +37,9 @@ impl<'a> VariableNames<'a> {
         component: usize,
         variables: &'a [Variable],
     ) -> Result<(), AllocError>
-        ensures { OnOk result ((places : ℕ → List ℕ → Option ℕ) → LeadTo places self.old → LeadTo (with_places places component (λ name. position (has_name name) variables.now)) self.new) }
+        ensures { OnOk result ((places : ℕ → List ℕ → Option ℕ) → LeadTo places self.old →
+            LeadTo (with_places places component (λ name. position (has_name name) variables.now))
+            self.new) }
     {
         for place in 0..variables.len() {
             self.put_variable(component, place, &variables[place])?;
@@ -51,7 +53,9 @@ impl<'a> VariableNames<'a> {
         place: usize,
         variable: &'a Variable,
     ) -> Result<(), AllocError>
-        ensures { OnOk result ((places : ℕ → List ℕ → Option ℕ) → LeadTo places self.old → LeadTo (with_places places component (λ name. place_if (has_name name variable.now) place)) self.new) }
+        ensures { OnOk result ((places : ℕ → List ℕ → Option ℕ) → LeadTo places self.old →
+            LeadTo (with_places places component
+            (λ name. place_if (has_name name variable.now) place)) self.new) }
     {
         self.put(component, variable.name.as_str(), place)?;
         for alias in variable.aliases.as_slice() {
@@ -62,7 +66,9 @@ impl<'a> VariableNames<'a> {
 
     // Puts in the next name, unless it is there.
     fn put(&mut self, component: usize, name: &'a str, place: usize) -> Result<(), AllocError>
-        ensures { OnOk result ((places : ℕ → List ℕ → Option ℕ) → LeadTo places self.old → LeadTo (with_places places component (λ other. place_if (bytes_eq name.now other) place)) self.new) }
+        ensures { OnOk result ((places : ℕ → List ℕ → Option ℕ) → LeadTo places self.old →
+            LeadTo (with_places places component
+            (λ other. place_if (bytes_eq name.now other) place)) self.new) }
     {
         self.first.put(Some((component, name)), self.places.len())?;
         self.places.push(place)?;

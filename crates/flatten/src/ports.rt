@@ -52,7 +52,8 @@ impl<'a> FlatTree<'a> {
     // The number of the variable at a place of a component.
     fn number_at(&self, component: usize, place: usize) -> usize
         requires indexed { IsIndexed self.now }
-        requires place { IsSomeAnd (slice_get self.now.shapes.now component) (λ (shape : Shape). place < length shape.variables) }
+        requires place { IsSomeAnd (slice_get self.now.shapes.now component)
+            (λ (shape : Shape). place < length shape.variables) }
         ensures number { result ≡ begin_of self.now.shapes.now component + place }
         ensures within { result < length (all_variables self.now.shapes.now) }
     {
@@ -63,7 +64,8 @@ impl<'a> FlatTree<'a> {
     fn clock_port(&self, table: &PortTable, component: usize, reference: u32) -> Option<PortId>
         requires indexed { IsIndexed self.now }
         requires table { IsPortTable self.now.tree.now self.now.shapes.now table.now }
-        requires known { IsSomeAnd (slice_get self.now.shapes.now component) (λ (shape : Shape). is_at is_clock shape.variables reference ≡ true) }
+        requires known { IsSomeAnd (slice_get self.now.shapes.now component)
+            (λ (shape : Shape). is_at is_clock shape.variables reference ≡ true) }
         ensures { IsSomeAnd result (IsPortUnder self.now.shapes.now component reference) }
     {
         let place = self.shapes[component].variables.place_of(reference)?;
@@ -80,7 +82,8 @@ impl<'a> FlatTree<'a> {
     ) -> Result<Items<PortId>, AllocError>
         requires indexed { IsIndexed self.now }
         requires table { IsPortTable self.now.tree.now self.now.shapes.now table.now }
-        requires known { IsSomeAnd (slice_get self.now.shapes.now component) (λ (shape : Shape). All (λ r. is_at is_clock shape.variables r ≡ true) references.now) }
+        requires known { IsSomeAnd (slice_get self.now.shapes.now component)
+            (λ (shape : Shape). All (λ r. is_at is_clock shape.variables r ≡ true) references.now) }
         ensures { IfOk result (AllZip (IsPortUnder self.now.shapes.now component) references.now) }
     {
         let mut clocks = Vec::with_capacity(alloc, references.len())?;
@@ -103,7 +106,9 @@ impl<'a> FlatTree<'a> {
         requires indexed { IsIndexed self.now }
         requires table { IsPortTable self.now.tree.now self.now.shapes.now table.now }
         requires component { component < length self.now.shapes.now }
-        requires place { IsSomeAnd (slice_get self.now.shapes.now component) (λ (shape : Shape). IsSomeAnd (slice_get shape.variables place) (λ (x : Variable). (is_port x ≡ true) × (x.kind ≡ Some kind))) }
+        requires place { IsSomeAnd (slice_get self.now.shapes.now component)
+            (λ (shape : Shape). IsSomeAnd (slice_get shape.variables place)
+            (λ (x : Variable). (is_port x ≡ true) × (x.kind ≡ Some kind))) }
         ensures { IfOk result (IsPortOf self.now.shapes.now table.now component place) }
     {
         let shape: &Shape = &self.shapes[component];
@@ -130,8 +135,10 @@ impl<'a> FlatTree<'a> {
         requires indexed { IsIndexed self.now }
         requires table { IsPortTable self.now.tree.now self.now.shapes.now table.now }
         requires component { component < length self.now.shapes.now }
-        ensures labels { OnOk result (map label_of ports.new.items ≡ map label_of ports.old.items ++ labels_at self.now.shapes.now component) }
-        ensures made { OnOk result (All (IsMade self.now.shapes.now table.now) ports.old.items → All (IsMade self.now.shapes.now table.now) ports.new.items) }
+        ensures labels { OnOk result (map label_of ports.new.items ≡
+            map label_of ports.old.items ++ labels_at self.now.shapes.now component) }
+        ensures made { OnOk result (All (IsMade self.now.shapes.now table.now) ports.old.items →
+            All (IsMade self.now.shapes.now table.now) ports.new.items) }
     {
         let variables = self.shapes[component].variables.as_slice();
         for place in 0..variables.len() {
@@ -146,7 +153,9 @@ impl<'a> FlatTree<'a> {
     pub(crate) fn ports(&self, alloc: Global) -> Result<Items<Port>, AllocError>
         requires indexed { IsIndexed self.now }
         requires fitting { IsFitting self.now.tree.now self.now.shapes.now }
-        ensures ports { IfOk result (λ ports. (components : List Component) → AreComponentsOf self.now.tree.now.components self.now.shapes.now components → HasSoundPorts (unordered components ports)) }
+        ensures ports { IfOk result (λ ports. (components : List Component) →
+            AreComponentsOf self.now.tree.now.components self.now.shapes.now components →
+            HasSoundPorts (unordered components ports)) }
         ensures feeds { IfOk result (HasFeeds self.now.tree.now self.now.shapes.now) }
     {
         let table = self.port_table(alloc)?;

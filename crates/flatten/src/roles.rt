@@ -17,7 +17,8 @@ use value_types::{Causality, ClockTiming, IntervalVariability, Shape, Variable};
 
 // The counts of a time that the description tells; the checks of descriptions leave no other.
 fn counts(told: Option<Fraction>, resolution: u64) -> u128
-    ensures exact { (n : ℕ) → IsSomeAnd told (λ (f : seconds.Fraction). IsCounts f resolution n) → result ≡ n }
+    ensures exact { (n : ℕ) → IsSomeAnd told (λ (f : seconds.Fraction). IsCounts f resolution n) →
+        result ≡ n }
     ensures within { resolution ≤ 2 ^ 62 → result ≤ 2 ^ 126 }
 {
     match told {
@@ -30,7 +31,9 @@ fn counts(told: Option<Fraction>, resolution: u64) -> u128
 fn periodic(clock: &ClockTiming, resolution: u64) -> Timing
     requires above { 0 < resolution }
     requires within { resolution ≤ 2 ^ 62 }
-    ensures { (shape : shapes.Shape) (v : variables.Variable) → IsSoundClock shape v clock.now → shape.resolution ≡ resolution → is_described clock.now.variability clock.now.supports_fraction ≡ true → IsTiming resolution clock.now result }
+    ensures { (shape : shapes.Shape) (v : variables.Variable) → IsSoundClock shape v clock.now →
+        shape.resolution ≡ resolution → is_described clock.now.variability
+        clock.now.supports_fraction ≡ true → IsTiming resolution clock.now result }
 {
     Timing::Periodic {
         interval: counts(clock.interval, resolution),
@@ -42,7 +45,9 @@ fn periodic(clock: &ClockTiming, resolution: u64) -> Timing
 fn timing(clock: &ClockTiming, resolution: u64) -> Timing
     requires above { 0 < resolution }
     requires within { resolution ≤ 2 ^ 62 }
-    ensures { (shape : shapes.Shape) (v : variables.Variable) → IsSoundClock shape v clock.now → shape.resolution ≡ resolution → clock.now.variability ≢ Triggered → IsTiming resolution clock.now result }
+    ensures { (shape : shapes.Shape) (v : variables.Variable) → IsSoundClock shape v clock.now →
+        shape.resolution ≡ resolution → clock.now.variability ≢ Triggered →
+        IsTiming resolution clock.now result }
 {
     match clock.variability {
         IntervalVariability::Countdown => Timing::Countdown,

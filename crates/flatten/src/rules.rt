@@ -89,7 +89,8 @@ fn is_for_other(kind: ConnectorKind, causality: Causality) -> bool
 }
 
 fn is_time_based(shape: &Shape, reference: u32) -> bool
-    ensures { IsTrue result ↔ IsSomeAnd (timing_at shape.now.clocks reference) (λ (clock : ClockTiming). clock.variability ≢ Triggered) }
+    ensures { IsTrue result ↔ IsSomeAnd (timing_at shape.now.clocks reference)
+        (λ (clock : ClockTiming). clock.variability ≢ Triggered) }
 {
     match shape.clocks.find(reference) {
         Some(clock) => clock.variability != IntervalVariability::Triggered,
@@ -98,7 +99,8 @@ fn is_time_based(shape: &Shape, reference: u32) -> bool
 }
 
 fn is_too_wide(from: PortType, to: Option<PortType>) -> bool
-    ensures { IsTrue result ↔ IsSomeAnd to (λ (wanted : PortType). types.Joins from wanted WrongRange) }
+    ensures { IsTrue result ↔ IsSomeAnd to
+        (λ (wanted : PortType). types.Joins from wanted WrongRange) }
 {
     match to {
         Some(to) => connectable(from, to) == Joint::WrongRange,
@@ -137,7 +139,9 @@ impl<'a> FlatTree<'a> {
     fn names_no_variable(&self, connector: usize) -> bool
         requires indexed { IsIndexed self.now }
         requires connector { connector < length self.now.tree.now.connectors }
-        ensures { IsTrue result ↔ IsSomeAnd (slice_get self.now.tree.now.connectors connector) (ConnectorBreaks self.now.tree.now self.now.shapes.now FlatteningRule.NoSuchVariable connector) }
+        ensures { IsTrue result ↔ IsSomeAnd (slice_get self.now.tree.now.connectors connector)
+            (ConnectorBreaks self.now.tree.now self.now.shapes.now FlatteningRule.NoSuchVariable
+            connector) }
     {
         !self.is_of_system(connector) && self.variable(connector).is_none()
     }
@@ -145,7 +149,9 @@ impl<'a> FlatTree<'a> {
     fn has_other_causality(&self, connector: usize) -> bool
         requires indexed { IsIndexed self.now }
         requires connector { connector < length self.now.tree.now.connectors }
-        ensures { IsTrue result ↔ IsSomeAnd (slice_get self.now.tree.now.connectors connector) (ConnectorBreaks self.now.tree.now self.now.shapes.now FlatteningRule.OtherCausality connector) }
+        ensures { IsTrue result ↔ IsSomeAnd (slice_get self.now.tree.now.connectors connector)
+            (ConnectorBreaks self.now.tree.now self.now.shapes.now FlatteningRule.OtherCausality
+            connector) }
     {
         match self.variable(connector) {
             Some(variable) => is_for_other(
@@ -159,7 +165,9 @@ impl<'a> FlatTree<'a> {
     fn has_other_type(&self, connector: usize) -> bool
         requires indexed { IsIndexed self.now }
         requires connector { connector < length self.now.tree.now.connectors }
-        ensures { IsTrue result ↔ IsSomeAnd (slice_get self.now.tree.now.connectors connector) (ConnectorBreaks self.now.tree.now self.now.shapes.now FlatteningRule.OtherClass connector) }
+        ensures { IsTrue result ↔ IsSomeAnd (slice_get self.now.tree.now.connectors connector)
+            (ConnectorBreaks self.now.tree.now self.now.shapes.now FlatteningRule.OtherClass
+            connector) }
     {
         match self.variable(connector) {
             Some(variable) => {
@@ -177,7 +185,8 @@ impl<'a> FlatTree<'a> {
     fn connector_breaks(&self, rule: FlatteningRule, connector: usize) -> bool
         requires indexed { IsIndexed self.now }
         requires connector { connector < length self.now.tree.now.connectors }
-        ensures { IsTrue result ↔ IsSomeAnd (slice_get self.now.tree.now.connectors connector) (ConnectorBreaks self.now.tree.now self.now.shapes.now rule connector) }
+        ensures { IsTrue result ↔ IsSomeAnd (slice_get self.now.tree.now.connectors connector)
+            (ConnectorBreaks self.now.tree.now self.now.shapes.now rule connector) }
     {
         match rule {
             FlatteningRule::NoSuchVariable => self.names_no_variable(connector),
@@ -223,7 +232,8 @@ impl<'a> FlatTree<'a> {
         requires indexed { IsIndexed self.now }
         requires marks { HasMarks self.now.tree.now self.now.shapes.now marks.now }
         requires start { start < length self.now.tree.now.connectors }
-        ensures { IsTrue result ↔ IsReachedBy (IsOtherClass self.now.tree.now self.now.shapes.now) self.now.tree.now self.now.shapes.now start input.now }
+        ensures { IsTrue result ↔ IsReachedBy (IsOtherClass self.now.tree.now self.now.shapes.now)
+            self.now.tree.now self.now.shapes.now start input.now }
     {
         if input.kind.is_none() && marks.fed[start] {
             return true;
@@ -241,7 +251,8 @@ impl<'a> FlatTree<'a> {
         requires indexed { IsIndexed self.now }
         requires marks { HasMarks self.now.tree.now self.now.shapes.now marks.now }
         requires start { start < length self.now.tree.now.connectors }
-        ensures { IsTrue result ↔ IsReachedBy IsTooWide self.now.tree.now self.now.shapes.now start input.now }
+        ensures { IsTrue result ↔ IsReachedBy IsTooWide self.now.tree.now self.now.shapes.now start
+            input.now }
     {
         for other in &marks.types {
             if tells_too_wide(other, input.kind, start) {
@@ -257,7 +268,8 @@ impl<'a> FlatTree<'a> {
         requires start { start < length self.now.tree.now.connectors }
         requires end { end < length self.now.tree.now.connectors }
         requires input { variable_of self.now.tree.now self.now.shapes.now end ≡ Some input.now }
-        ensures { IsTrue result ↔ IsReachedAt (IsTimeBased self.now.shapes.now) self.now.tree.now self.now.shapes.now start end input.now }
+        ensures { IsTrue result ↔ IsReachedAt (IsTimeBased self.now.shapes.now) self.now.tree.now
+            self.now.shapes.now start end input.now }
     {
         match self.tree.connectors.as_slice()[end].owner {
             Owner::Component(component) => {
@@ -272,7 +284,10 @@ impl<'a> FlatTree<'a> {
         requires indexed { IsIndexed self.now }
         requires marks { HasMarks self.now.tree.now self.now.shapes.now marks.now }
         requires connection { Contains self.now.connections.items ends }
-        ensures { (k : sides.Connection) → Contains self.now.tree.now.connections k → ends ≡ ends_of k → (IsTrue result ↔ IsLastOf (path_fault self.now.tree.now self.now.shapes.now rule) self.now.tree.now self.now.shapes.now k) }
+        ensures { (k : sides.Connection) → Contains self.now.tree.now.connections k →
+            ends ≡ ends_of k → (IsTrue result ↔ IsLastOf
+            (path_fault self.now.tree.now self.now.shapes.now rule) self.now.tree.now
+            self.now.shapes.now k) }
     {
         let Some(input) = self.input_at(ends.end) else {
             return false;
@@ -291,7 +306,8 @@ impl<'a> FlatTree<'a> {
     fn first_connection(&self, marks: &Marks, rule: FlatteningRule) -> Option<usize>
         requires indexed { IsIndexed self.now }
         requires marks { HasMarks self.now.tree.now self.now.shapes.now marks.now }
-        ensures { FindsLeast (IsBrokenConnection self.now.tree.now self.now.shapes.now rule) result }
+        ensures { FindsLeast (IsBrokenConnection self.now.tree.now self.now.shapes.now rule)
+            result }
     {
         let mut first = None;
         let connections = self.tree.connections.as_slice();
@@ -307,8 +323,10 @@ impl<'a> FlatTree<'a> {
     fn point_number(&self, connector: usize) -> usize
         requires indexed { IsIndexed self.now }
         requires connector { connector < length self.now.tree.now.connectors }
-        ensures number { (point : Point) → slice_get self.now.points.items connector ≡ Some point → result ≡ number_of (length self.now.variables.all.items) point }
-        ensures within { result < length self.now.variables.all.items + length self.now.points.items }
+        ensures number { (point : Point) → slice_get self.now.points.items connector ≡ Some point →
+            result ≡ number_of (length self.now.variables.all.items) point }
+        ensures within { result < length self.now.variables.all.items + length
+            self.now.points.items }
     {
         match self.points[connector] {
             Point::Variable(number) => number,

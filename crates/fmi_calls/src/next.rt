@@ -165,7 +165,8 @@ fn mark(shape: &Shape, marks: &mut Marks, reference: u32)
 
 fn save(phase: &mut Phase)
     requires { length phase.old.marks ≡ length phase.old.slot.marks }
-    ensures { phase.new ≡ record phase.old { slot = record { is_full = true; point = phase.old.point; marks = phase.old.marks } } }
+    ensures { phase.new ≡ record phase.old
+        { slot = record { is_full = true; point = phase.old.point; marks = phase.old.marks } } }
 {
     phase.slot.is_full = true;
     phase.slot.point = phase.point;
@@ -174,7 +175,8 @@ fn save(phase: &mut Phase)
 
 fn restore(phase: &mut Phase)
     requires { length phase.old.marks ≡ length phase.old.slot.marks }
-    ensures { phase.new ≡ record phase.old { point = phase.old.slot.point; marks = phase.old.slot.marks } }
+    ensures { phase.new ≡ record phase.old
+        { point = phase.old.slot.point; marks = phase.old.slot.marks } }
 {
     phase.point = phase.slot.point;
     phase.marks.copy_from(&phase.slot.marks);

@@ -29,7 +29,8 @@ fn is_writable(shape: &Shape, kind: PortType, reference: u32) -> bool
 }
 
 fn is_of_type(shape: &Shape, kind: PortType, reference: u32) -> bool
-    ensures { IsTrue result ↔ IsSomeAnd (variable_at shape.now.variables reference) (λ v. v.kind ≡ Some kind) }
+    ensures { IsTrue result ↔ IsSomeAnd (variable_at shape.now.variables reference)
+        (λ v. v.kind ≡ Some kind) }
 {
     match shape.variables.find(reference) {
         Some(variable) => variable.kind == Some(kind),
@@ -112,7 +113,8 @@ fn is_output_clock(shape: &Shape, reference: u32) -> bool
 }
 
 fn can_be_set_active(phase: &Phase, shape: &Shape, reference: u32) -> bool
-    ensures { result ≡ can_be_ticked is_input_clock phase.now.state shape.now phase.now.marks reference }
+    ensures { result ≡ can_be_ticked is_input_clock phase.now.state shape.now phase.now.marks
+        reference }
 {
     phase.state == InstanceState::Event
         && is_input_clock(shape, reference)
@@ -120,7 +122,8 @@ fn can_be_set_active(phase: &Phase, shape: &Shape, reference: u32) -> bool
 }
 
 fn can_be_asked(phase: &Phase, shape: &Shape, reference: u32) -> bool
-    ensures { result ≡ can_be_ticked is_output_clock phase.now.state shape.now phase.now.marks reference }
+    ensures { result ≡ can_be_ticked is_output_clock phase.now.state shape.now phase.now.marks
+        reference }
 {
     phase.state == InstanceState::Event
         && is_output_clock(shape, reference)
@@ -161,7 +164,8 @@ fn has_interval(state: InstanceState, shape: &Shape, reference: u32) -> bool
 }
 
 fn can_be_read(phase: &Phase, shape: &Shape, reference: u32) -> bool
-    ensures { result ≡ can_be_read phase.now.state shape.now phase.now.marks phase.now.active reference }
+    ensures { result ≡ can_be_read phase.now.state shape.now phase.now.marks phase.now.active
+        reference }
 {
     match phase.state {
         InstanceState::Initialization => is_unclocked(shape, reference),
@@ -172,7 +176,8 @@ fn can_be_read(phase: &Phase, shape: &Shape, reference: u32) -> bool
 }
 
 fn can_be_set(phase: &Phase, shape: &Shape, reference: u32) -> bool
-    ensures { result ≡ can_be_set phase.now.state shape.now phase.now.marks phase.now.active reference }
+    ensures { result ≡ can_be_set phase.now.state shape.now phase.now.marks phase.now.active
+        reference }
 {
     match phase.state {
         InstanceState::Instantiated => is_parameter(shape, reference),

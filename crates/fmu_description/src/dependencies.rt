@@ -23,7 +23,8 @@ pub(crate) fn dependencies(
     variables: &ByReference<Variable>,
 ) -> Result<ByReference<Dependency>, AllocError>
     requires { IsTable (output_key tree.now) (found outputs.now) }
-    ensures { IfOk result (AllZip (IsDependency tree.now variables.now) (outputs_among variables.now)) }
+    ensures { IfOk result (AllZip (IsDependency tree.now variables.now)
+        (outputs_among variables.now)) }
 {
     let mut dependencies = Vec::new(alloc);
     for variable in variables.as_slice() {
@@ -49,7 +50,8 @@ pub(crate) fn initial_dependencies(
     requires places { IsTable (variable_key tree.now) (found places.now) }
     requires unknowns { IsTable (initial_key tree.now) (found unknowns.now) }
     requires outputs { IsTable (output_key tree.now) (found outputs.now) }
-    ensures { IfOk result (AllZip (IsInitialDependency tree.now variables.now) (outputs_among variables.now)) }
+    ensures { IfOk result (AllZip (IsInitialDependency tree.now variables.now)
+        (outputs_among variables.now)) }
 {
     let mut dependencies = Vec::new(alloc);
     for variable in variables.as_slice() {
@@ -134,7 +136,8 @@ fn listed(
     node: usize,
     variables: &ByReference<Variable>,
 ) -> Result<Knowns, AllocError>
-    ensures { IfOk result (λ on. on ≡ listed variables.now (attribute tree.now node (codes "dependencies"))) }
+    ensures { IfOk result (λ on. on ≡ listed variables.now
+        (attribute tree.now node (codes "dependencies"))) }
 {
     match attribute(tree, node, "dependencies") {
         Some(_) => Ok(Knowns::Listed(ports_listed(alloc, tree, node, variables)?)),
@@ -149,7 +152,8 @@ fn ports_listed(
     node: usize,
     variables: &ByReference<Variable>,
 ) -> Result<Items<u32>, AllocError>
-    ensures { IfOk result (λ on. on ≡ filter (is_port_at variables.now) (references_of tree.now node (codes "dependencies"))) }
+    ensures { IfOk result (λ on. on ≡ filter (is_port_at variables.now)
+        (references_of tree.now node (codes "dependencies"))) }
 {
     let listed = references_of(alloc, tree, node, "dependencies")?;
     let named = listed

@@ -30,7 +30,8 @@ impl Foreign {
 
 fn has_dimension(tree: &Tree, node: usize) -> bool
     requires { node < length tree.now }
-    ensures { IsTrue result ↔ ((j : ℕ) × (is_dimension tree.now j ≡ true) × (parent tree.now j ≡ Some node)) }
+    ensures { IsTrue result ↔ ((j : ℕ) × (is_dimension tree.now j ≡ true) ×
+        (parent tree.now j ≡ Some node)) }
 {
     for child in tree.children(node) {
         if elements::is_dimension(tree, *child) {
@@ -41,7 +42,8 @@ fn has_dimension(tree: &Tree, node: usize) -> bool
 }
 
 fn is_local_clock(tree: &Tree, node: usize) -> bool
-    ensures { IsTrue result ↔ ((is_clock tree.now node ≡ true) × (causality_of tree.now node ≡ Causality.Local)) }
+    ensures { IsTrue result ↔ ((is_clock tree.now node ≡ true) ×
+        (causality_of tree.now node ≡ Causality.Local)) }
 {
     elements::is_clock(tree, node) && elements::causality_of(tree, node) == Causality::Local
 }
@@ -72,7 +74,8 @@ fn sources(alloc: Global, tree: &Tree) -> Result<Vec<usize>, AllocError>
 
 // Puts an element under a reference.
 fn put(table: &mut BTreeMap<u32, Vec<usize>>, reference: u32, node: usize) -> Result<(), AllocError>
-    ensures { OnOk result ((q : ℕ) → listed_at table.new q ≡ (if q == reference then listed_at table.old q ++ node ∷ [] else listed_at table.old q)) }
+    ensures { OnOk result ((q : ℕ) → listed_at table.new q ≡
+        (if q == reference then listed_at table.old q ++ node ∷ [] else listed_at table.old q)) }
 {
     table.entry(reference)?.or_default().push(node)?;
     Ok(())
@@ -84,7 +87,8 @@ fn put_under(
     references: &[u32],
     node: usize,
 ) -> Result<(), AllocError>
-    ensures { OnOk result (PutsUnder references.now node (listed_at table.old) (listed_at table.new)) }
+    ensures { OnOk result (PutsUnder references.now node (listed_at table.old)
+        (listed_at table.new)) }
 {
     for reference in references {
         put(table, *reference, node)?;
@@ -113,7 +117,8 @@ fn mark(
     work: &mut Vec<u32>,
     node: usize,
 ) -> Result<(), AllocError>
-    ensures { OnOk result (Marks tree.now (node ∷ []) marks.old.items marks.new.items work.old.items work.new.items) }
+    ensures { OnOk result (Marks tree.now (node ∷ []) marks.old.items marks.new.items work.old.items
+        work.new.items) }
 {
     if node < marks.len() && !marks[node] {
         marks[node] = true;
@@ -131,7 +136,8 @@ fn mark_all(
     work: &mut Vec<u32>,
     nodes: &[usize],
 ) -> Result<(), AllocError>
-    ensures { OnOk result (Marks tree.now nodes.now marks.old.items marks.new.items work.old.items work.new.items) }
+    ensures { OnOk result (Marks tree.now nodes.now marks.old.items marks.new.items work.old.items
+        work.new.items) }
 {
     for node in nodes {
         mark(tree, marks, work, *node)?;

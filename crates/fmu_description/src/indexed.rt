@@ -174,7 +174,8 @@ impl<'a> IndexedTree<'a> {
 
 /// One of the references isn't found.
 fn misses_one(places: &Places, references: &[u32]) -> bool
-    ensures { (key : ℕ → Option ℕ) → IsTable key (found places.now) → (IsTrue result ↔ NamesNone key references.now) }
+    ensures { (key : ℕ → Option ℕ) → IsTable key (found places.now) →
+        (IsTrue result ↔ NamesNone key references.now) }
 {
     for reference in references {
         if places.find(*reference).is_none() {

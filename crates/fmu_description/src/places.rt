@@ -28,7 +28,8 @@ impl Places {
 
     // Puts in an element, unless one with its reference is there.
     fn put(&mut self, reference: Option<u32>, node: usize) -> Result<(), AllocError>
-        ensures { OnOk result ((key : ℕ → Option ℕ) → reference ≡ key node → IsTableBelow key node (found self.old) → IsTableBelow key (node + 1) (found self.new)) }
+        ensures { OnOk result ((key : ℕ → Option ℕ) → reference ≡ key node →
+            IsTableBelow key node (found self.old) → IsTableBelow key (node + 1) (found self.new)) }
     {
         let Some(reference) = reference else {
             return Ok(());
@@ -48,7 +49,8 @@ impl Places {
 
     /// Whether an element before this one has its reference, where it has one.
     pub(crate) fn is_repeated(&self, reference: Option<u32>, node: usize) -> bool
-        ensures { (key : ℕ → Option ℕ) → IsTable key (found self.now) → reference ≡ key node → (IsTrue result ↔ IsRepeated key node) }
+        ensures { (key : ℕ → Option ℕ) → IsTable key (found self.now) → reference ≡ key node →
+            (IsTrue result ↔ IsRepeated key node) }
     {
         let Some(reference) = reference else {
             return false;

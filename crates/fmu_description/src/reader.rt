@@ -39,8 +39,11 @@ pub fn read_description(alloc: Global, tree: &Tree, resolution: u64) -> Result<S
     ensures sound { IfOk result (λ shape. IsSound tree.now resolution) }
     ensures found { IfOk result (Describes tree.now resolution) }
     ensures fault { IfErr result (Faults tree.now resolution) }
-    ensures exact { (rule : DescriptionRule) (node : ℕ) → IsFirstViolation tree.now resolution node rule → Refuses result (Rule.Description rule) node }
-    ensures only { (shape : Shape) → IsSound tree.now resolution → Describes tree.now resolution shape → Gives result shape }
+    ensures exact { (rule : DescriptionRule) (node : ℕ) →
+        IsFirstViolation tree.now resolution node rule →
+        Refuses result (Rule.Description rule) node }
+    ensures only { (shape : Shape) → IsSound tree.now resolution →
+        Describes tree.now resolution shape → Gives result shape }
 {
     one_description();
     let Ok(indexed) = IndexedTree::new(alloc, tree, resolution) else {

@@ -172,7 +172,8 @@ impl IndexedTree<'_> {
     /// Whether an element breaks a rule.
     fn breaks(&self, alloc: Global, rule: DescriptionRule, node: usize) -> Result<bool, AllocError>
         requires { IsIndexed self.now }
-        ensures { IfOk result (λ b. IsTrue b ↔ Violates self.now.tree.now self.now.resolution rule node) }
+        ensures { IfOk result (λ b. IsTrue b ↔ Violates self.now.tree.now self.now.resolution rule
+            node) }
     {
         match rule {
             DescriptionRule::RootName => Ok(has_other_name(self.tree, node)),

@@ -82,7 +82,8 @@ fn parts(alloc: Global, text: &str) -> Result<Vec<&str>, AllocError>
 }
 
 fn references_among(alloc: Global, parts: &[&str]) -> Result<Option<Vec<u32>>, AllocError>
-    ensures { IfOk result (λ found. option_map (λ v. v.items) found ≡ all_of (map (λ part. reference part.now) parts.now)) }
+    ensures { IfOk result (λ found. option_map (λ v. v.items) found ≡
+        all_of (map (λ part. reference part.now) parts.now)) }
 {
     let mut all = Vec::new(alloc);
     for part in parts {

@@ -145,8 +145,10 @@ fn read_model<F: Folder>(
     line: HostLine<'_>,
     folder: &mut F,
 ) -> Result<Shape, HostEnd>
-    ensures ok { IfOk result (λ shape. IsRead (line_of line.entry) shape (F.view folder.old) (F.view folder.new)) }
-    ensures err { IfErr result (λ end. LacksShape end (line_of line.entry) (F.view folder.old) (F.view folder.new)) }
+    ensures ok { IfOk result (λ shape. IsRead (line_of line.entry) shape (F.view folder.old)
+        (F.view folder.new)) }
+    ensures err { IfErr result (λ end. LacksShape end (line_of line.entry) (F.view folder.old)
+        (F.view folder.new)) }
 {
     let Ok(path) = description_path(alloc, line.directory) else {
         return Err(HostEnd::Memory);
@@ -166,7 +168,8 @@ fn read_model<F: Folder>(
 
 // Where the description of an FMU stands in its directory (FMI 3.0, 2.5.1).
 fn description_path(alloc: Global, directory: &str) -> Result<String, AllocError>
-    ensures { IfOk result (λ path. string_bytes path ≡ directory.now ++ codes "/modelDescription.xml") }
+    ensures { IfOk result (λ path. string_bytes path ≡ directory.now ++ codes
+        "/modelDescription.xml") }
 {
     let mut path = String::from_str(alloc, directory)?;
     path.push_str("/modelDescription.xml")?;
@@ -180,7 +183,8 @@ fn host_model<I: Source, O: Sink>(
     input: &mut I,
     output: &mut O,
 ) -> HostEnd
-    ensures { ShapeFacts result shape.now (link (I.view input.old) (O.view output.old)) (link (I.view input.new) (O.view output.new)) }
+    ensures { ShapeFacts result shape.now (link (I.view input.old) (O.view output.old))
+        (link (I.view input.new) (O.view output.new)) }
 {
     let Some(model) = Model::named(shape.identifier.as_str()) else {
         return HostEnd::Unknown;

@@ -53,7 +53,8 @@ impl Peer for QuietMachine {
 
     fn call(&mut self, call: &Call) -> Result<Reply, PeerFault>
         requires { Permitted self.old.machine.book.shape self.old.machine.book.phase call.now }
-        ensures { Asked (built_in_view self.old.machine) call.now result (built_in_view self.new.machine) }
+        ensures { Asked (built_in_view self.old.machine) call.now result
+            (built_in_view self.new.machine) }
     {
         self.machine.call(call)
     }

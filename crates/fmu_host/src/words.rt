@@ -16,7 +16,8 @@ pub(crate) struct HostLine<'a> {
 /// What the words ask for, where they are a directory and a resolution.
 pub(crate) fn read_words(words: &[String]) -> Option<HostLine<'_>>
     ensures ok { IfSome result (λ l. IsLine (texts words.now) (line_of l)) }
-    ensures only { (line : Line) → IsLine (texts words.now) line → option_map line_of result ≡ Some line }
+    ensures only { (line : Line) → IsLine (texts words.now) line →
+        option_map line_of result ≡ Some line }
 {
     let [directory, resolution] = words else {
         return None;

@@ -86,7 +86,8 @@ impl Wire for MemWire {
     fn receive(&mut self, into: &mut [u8]) -> Result<(), WireFault>
         ensures noted { NotesReceive (mem_view self.old) (mem_view self.new) into.new result }
         ensures kept { (self.new.room ≡ self.old.room) × (self.new.failing ≡ self.old.failing) }
-        ensures sent { (self.new.sent.items ≡ self.old.sent.items) × (self.new.coming ≡ self.old.coming) }
+        ensures sent { (self.new.sent.items ≡ self.old.sent.items) ×
+            (self.new.coming ≡ self.old.coming) }
         ensures counted { self.new.calls ≡ min (self.old.calls + 1) (2 ^ 64 - 1) }
         ensures exact { (result ≡ Err Failed) ↔ Contains self.old.failing self.old.calls }
         ensures failed { result ≡ Err Failed → self.new.taken ≡ self.old.taken }
@@ -116,7 +117,8 @@ fn is_listed(calls: &[u64], call: u64) -> bool
 // Fills all of `into` with the front of the bytes from a place on, if they are as many.
 fn fill(into: &mut [u8], bytes: &[u8], from: usize) -> bool
     ensures enough { IsTrue result ↔ (length into.old ≤ length (drop from bytes.now)) }
-    ensures filled { IsTrue result → drop from bytes.now ≡ into.new ++ drop (from + length into.new) bytes.now }
+    ensures filled { IsTrue result → drop from bytes.now ≡ into.new ++ drop
+        (from + length into.new) bytes.now }
 {
     let rest = bytes.get(from..).unwrap_or(&[]);
     let count = into.len();

@@ -42,7 +42,8 @@ impl<W: Wire> Piped<W> {
         requires name { (1 ≤ length name.now) × (length name.now ≤ 2 ^ 24) }
         requires token { length shape.now.token ≤ 2 ^ 24 }
         requires quiet { (W.view wire).faults ≡ 0 }
-        ensures fresh { IfOk result (λ p. IsStarted host.now name.now directory.now shape.now (piped_view W.view p)) }
+        ensures fresh { IfOk result (λ p. IsStarted host.now name.now directory.now shape.now
+            (piped_view W.view p)) }
         ensures wire { IfOk result (λ p. p.wire ≡ wire) }
         ensures back { IfErr result (λ u. u ≡ Unmade.Memory wire) }
     {
@@ -86,7 +87,8 @@ impl<W: Wire + Send> Peer for Piped<W> {
 
     fn call(&mut self, call: &Call) -> Result<Reply, PeerFault>
         requires { Permitted self.old.instance.shape self.old.instance.phase call.now }
-        ensures asked { Asked (piped_view W.view self.old) call.now result (piped_view W.view self.new) }
+        ensures asked { Asked (piped_view W.view self.old) call.now result
+            (piped_view W.view self.new) }
         ensures exchanged { Exchanged call.now self.old.instance.name self.old.instance.shape.token
             (line_view W.view self.old) (line_view W.view self.new) result }
     {

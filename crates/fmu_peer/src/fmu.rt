@@ -56,8 +56,11 @@ impl<L: Peer> Fmu<L, Fresh> {
     /// Makes the instance, by the flags of its shape.
     pub fn instantiate(self) -> Result<Fmu<L, Instantiated>, Ended<L>>
         requires { (L.view self.peer).phase.state ≡ P.Fresh }
-        ensures ok { IfOk result (λ fmu. (reply : Reply) × Answered (L.view self.peer) (instantiate_of (L.view self.peer).fixed.shape) reply (L.view fmu.peer)) }
-        ensures err { IfErr result (λ ended. Failed (L.view self.peer) (instantiate_of (L.view self.peer).fixed.shape) ended.why (L.view ended.peer)) }
+        ensures ok { IfOk result (λ fmu. (reply : Reply) ×
+            Answered (L.view self.peer) (instantiate_of (L.view self.peer).fixed.shape) reply
+            (L.view fmu.peer)) }
+        ensures err { IfErr result (λ ended. Failed (L.view self.peer)
+            (instantiate_of (L.view self.peer).fixed.shape) ended.why (L.view ended.peer)) }
     {
         let Fmu { mut peer, mode: _ } = self;
         let shape = peer.shape();
@@ -82,9 +85,13 @@ impl<L: Peer> Fmu<L, Instantiated> {
         start: u64,
         stop: u64,
     ) -> Result<Fmu<L, Initializing>, Ended<L>>
-        requires { Permitted (L.view self.peer).fixed.shape (L.view self.peer).phase (Call.EnterInitialization start stop) }
-        ensures ok { IfOk result (λ fmu. (reply : Reply) × Answered (L.view self.peer) (Call.EnterInitialization start stop) reply (L.view fmu.peer)) }
-        ensures err { IfErr result (λ ended. Failed (L.view self.peer) (Call.EnterInitialization start stop) ended.why (L.view ended.peer)) }
+        requires { Permitted (L.view self.peer).fixed.shape (L.view self.peer).phase
+            (Call.EnterInitialization start stop) }
+        ensures ok { IfOk result (λ fmu. (reply : Reply) ×
+            Answered (L.view self.peer) (Call.EnterInitialization start stop) reply
+            (L.view fmu.peer)) }
+        ensures err { IfErr result (λ ended. Failed (L.view self.peer)
+            (Call.EnterInitialization start stop) ended.why (L.view ended.peer)) }
     {
         let Fmu { mut peer, mode: _ } = self;
         match ask(&mut peer, Call::EnterInitialization { start, stop }) {
@@ -102,10 +109,15 @@ impl<L: Peer> Fmu<L, Initializing> {
 
     /// Leaves Initialization Mode.
     pub fn exit_initialization(self) -> Result<Running<L>, Ended<L>>
-        requires { Permitted (L.view self.peer).fixed.shape (L.view self.peer).phase Call.ExitInitialization }
-        ensures ok { IfOk result (λ running. (reply : Reply) × Answered (L.view self.peer) Call.ExitInitialization reply (L.view (peer_of running))) }
-        ensures mode { IfOk result (λ running. running_mode running ≡ (L.view (peer_of running)).phase.state) }
-        ensures err { IfErr result (λ ended. Failed (L.view self.peer) Call.ExitInitialization ended.why (L.view ended.peer)) }
+        requires { Permitted (L.view self.peer).fixed.shape (L.view self.peer).phase
+            Call.ExitInitialization }
+        ensures ok { IfOk result (λ running. (reply : Reply) ×
+            Answered (L.view self.peer) Call.ExitInitialization reply (L.view (peer_of running))) }
+        ensures mode { IfOk result (λ running. running_mode running ≡
+            (L.view (peer_of running)).phase.state) }
+        ensures err { IfErr result
+            (λ ended. Failed (L.view self.peer) Call.ExitInitialization ended.why
+            (L.view ended.peer)) }
     {
         let Fmu { mut peer, mode: _ } = self;
         match ask(&mut peer, Call::ExitInitialization) {
@@ -118,18 +130,24 @@ impl<L: Peer> Fmu<L, Initializing> {
 impl<L: Peer> Fmu<L, Eventing> {
     /// Asks for what follows the instant (FMI 3.0: fmi3UpdateDiscreteStates).
     pub fn update(&mut self) -> Result<Reply, Why>
-        requires { Permitted (L.view self.old.peer).fixed.shape (L.view self.old.peer).phase Call.Update }
-        ensures ok { IfOk result (λ reply. Answered (L.view self.old.peer) Call.Update reply (L.view self.new.peer)) }
-        ensures err { IfErr result (λ why. Failed (L.view self.old.peer) Call.Update why (L.view self.new.peer)) }
+        requires { Permitted (L.view self.old.peer).fixed.shape
+            (L.view self.old.peer).phase Call.Update }
+        ensures ok { IfOk result (λ reply. Answered (L.view self.old.peer) Call.Update reply
+            (L.view self.new.peer)) }
+        ensures err { IfErr result (λ why. Failed (L.view self.old.peer) Call.Update why
+            (L.view self.new.peer)) }
     {
         ask(&mut self.peer, Call::Update)
     }
 
     /// Leaves Event Mode.
     pub fn enter_step(self) -> Result<Fmu<L, Stepping>, Ended<L>>
-        requires { Permitted (L.view self.peer).fixed.shape (L.view self.peer).phase Call.EnterStep }
-        ensures ok { IfOk result (λ fmu. (reply : Reply) × Answered (L.view self.peer) Call.EnterStep reply (L.view fmu.peer)) }
-        ensures err { IfErr result (λ ended. Failed (L.view self.peer) Call.EnterStep ended.why (L.view ended.peer)) }
+        requires { Permitted (L.view self.peer).fixed.shape (L.view self.peer).phase
+            Call.EnterStep }
+        ensures ok { IfOk result (λ fmu. (reply : Reply) ×
+            Answered (L.view self.peer) Call.EnterStep reply (L.view fmu.peer)) }
+        ensures err { IfErr result (λ ended. Failed (L.view self.peer) Call.EnterStep ended.why
+            (L.view ended.peer)) }
     {
         let Fmu { mut peer, mode: _ } = self;
         match ask(&mut peer, Call::EnterStep) {
@@ -145,9 +163,12 @@ impl<L: Peer> Fmu<L, Eventing> {
 impl<L: Peer> Fmu<L, Stepping> {
     /// Enters Event Mode.
     pub fn enter_event(self) -> Result<Fmu<L, Eventing>, Ended<L>>
-        requires { Permitted (L.view self.peer).fixed.shape (L.view self.peer).phase Call.EnterEvent }
-        ensures ok { IfOk result (λ fmu. (reply : Reply) × Answered (L.view self.peer) Call.EnterEvent reply (L.view fmu.peer)) }
-        ensures err { IfErr result (λ ended. Failed (L.view self.peer) Call.EnterEvent ended.why (L.view ended.peer)) }
+        requires { Permitted (L.view self.peer).fixed.shape (L.view self.peer).phase
+            Call.EnterEvent }
+        ensures ok { IfOk result (λ fmu. (reply : Reply) ×
+            Answered (L.view self.peer) Call.EnterEvent reply (L.view fmu.peer)) }
+        ensures err { IfErr result (λ ended. Failed (L.view self.peer) Call.EnterEvent ended.why
+            (L.view ended.peer)) }
     {
         let Fmu { mut peer, mode: _ } = self;
         match ask(&mut peer, Call::EnterEvent) {
@@ -161,18 +182,24 @@ impl<L: Peer> Fmu<L, Stepping> {
 
     /// Makes a step from a point. Point and size are counts.
     pub fn do_step(&mut self, at: u64, size: u64) -> Result<Reply, Why>
-        requires { Permitted (L.view self.old.peer).fixed.shape (L.view self.old.peer).phase (Call.DoStep at size) }
-        ensures ok { IfOk result (λ reply. Answered (L.view self.old.peer) (Call.DoStep at size) reply (L.view self.new.peer)) }
-        ensures err { IfErr result (λ why. Failed (L.view self.old.peer) (Call.DoStep at size) why (L.view self.new.peer)) }
+        requires { Permitted (L.view self.old.peer).fixed.shape (L.view self.old.peer).phase
+            (Call.DoStep at size) }
+        ensures ok { IfOk result (λ reply. Answered (L.view self.old.peer)
+            (Call.DoStep at size) reply (L.view self.new.peer)) }
+        ensures err { IfErr result (λ why. Failed (L.view self.old.peer) (Call.DoStep at size) why
+            (L.view self.new.peer)) }
     {
         ask(&mut self.peer, Call::DoStep { at, size })
     }
 
     /// Saves the state in the instance's slot. What it gives is spent by `free` or by `abandon`.
     pub fn save(&mut self) -> Result<Saved, Why>
-        requires { Permitted (L.view self.old.peer).fixed.shape (L.view self.old.peer).phase Call.Save }
-        ensures ok { OnOk result ((reply : Reply) × Answered (L.view self.old.peer) Call.Save reply (L.view self.new.peer)) }
-        ensures err { IfErr result (λ why. Failed (L.view self.old.peer) Call.Save why (L.view self.new.peer)) }
+        requires { Permitted (L.view self.old.peer).fixed.shape
+            (L.view self.old.peer).phase Call.Save }
+        ensures ok { OnOk result ((reply : Reply) ×
+            Answered (L.view self.old.peer) Call.Save reply (L.view self.new.peer)) }
+        ensures err { IfErr result (λ why. Failed (L.view self.old.peer) Call.Save why
+            (L.view self.new.peer)) }
     {
         match ask(&mut self.peer, Call::Save) {
             Ok(_) => Ok(Saved { kept: () }),
@@ -182,18 +209,24 @@ impl<L: Peer> Fmu<L, Stepping> {
 
     /// Goes back to the state that was saved, which stays saved.
     pub fn restore(&mut self, _saved: &Saved) -> Result<Reply, Why>
-        requires { Permitted (L.view self.old.peer).fixed.shape (L.view self.old.peer).phase Call.Restore }
-        ensures ok { IfOk result (λ reply. Answered (L.view self.old.peer) Call.Restore reply (L.view self.new.peer)) }
-        ensures err { IfErr result (λ why. Failed (L.view self.old.peer) Call.Restore why (L.view self.new.peer)) }
+        requires { Permitted (L.view self.old.peer).fixed.shape
+            (L.view self.old.peer).phase Call.Restore }
+        ensures ok { IfOk result (λ reply. Answered (L.view self.old.peer) Call.Restore reply
+            (L.view self.new.peer)) }
+        ensures err { IfErr result (λ why. Failed (L.view self.old.peer) Call.Restore why
+            (L.view self.new.peer)) }
     {
         ask(&mut self.peer, Call::Restore)
     }
 
     /// Frees the state that was saved.
     pub fn free(&mut self, saved: Saved) -> Result<Reply, Why>
-        requires { Permitted (L.view self.old.peer).fixed.shape (L.view self.old.peer).phase Call.Free }
-        ensures ok { IfOk result (λ reply. Answered (L.view self.old.peer) Call.Free reply (L.view self.new.peer)) }
-        ensures err { IfErr result (λ why. Failed (L.view self.old.peer) Call.Free why (L.view self.new.peer)) }
+        requires { Permitted (L.view self.old.peer).fixed.shape
+            (L.view self.old.peer).phase Call.Free }
+        ensures ok { IfOk result (λ reply. Answered (L.view self.old.peer) Call.Free reply
+            (L.view self.new.peer)) }
+        ensures err { IfErr result (λ why. Failed (L.view self.old.peer) Call.Free why
+            (L.view self.new.peer)) }
     {
         let Saved { kept: () } = saved;
         ask(&mut self.peer, Call::Free)
@@ -210,18 +243,24 @@ impl<L: Peer> Fmu<L, Stepping> {
 impl<L: Peer, M: Mode> Fmu<L, M> {
     /// Reads an output.
     pub fn get(&mut self, kind: PortType, reference: u32) -> Result<Reply, Why>
-        requires { Permitted (L.view self.old.peer).fixed.shape (L.view self.old.peer).phase (Call.Get kind reference) }
-        ensures ok { IfOk result (λ reply. Answered (L.view self.old.peer) (Call.Get kind reference) reply (L.view self.new.peer)) }
-        ensures err { IfErr result (λ why. Failed (L.view self.old.peer) (Call.Get kind reference) why (L.view self.new.peer)) }
+        requires { Permitted (L.view self.old.peer).fixed.shape (L.view self.old.peer).phase
+            (Call.Get kind reference) }
+        ensures ok { IfOk result (λ reply. Answered (L.view self.old.peer)
+            (Call.Get kind reference) reply (L.view self.new.peer)) }
+        ensures err { IfErr result (λ why. Failed (L.view self.old.peer)
+            (Call.Get kind reference) why (L.view self.new.peer)) }
     {
         ask(&mut self.peer, Call::Get { kind, reference })
     }
 
     /// Writes a value: a parameter before Initialization Mode, later an input.
     pub fn set(&mut self, kind: PortType, reference: u32, value: i128) -> Result<Reply, Why>
-        requires { Permitted (L.view self.old.peer).fixed.shape (L.view self.old.peer).phase (Call.Set kind reference value) }
-        ensures ok { IfOk result (λ reply. Answered (L.view self.old.peer) (Call.Set kind reference value) reply (L.view self.new.peer)) }
-        ensures err { IfErr result (λ why. Failed (L.view self.old.peer) (Call.Set kind reference value) why (L.view self.new.peer)) }
+        requires { Permitted (L.view self.old.peer).fixed.shape (L.view self.old.peer).phase
+            (Call.Set kind reference value) }
+        ensures ok { IfOk result (λ reply. Answered (L.view self.old.peer)
+            (Call.Set kind reference value) reply (L.view self.new.peer)) }
+        ensures err { IfErr result (λ why. Failed (L.view self.old.peer)
+            (Call.Set kind reference value) why (L.view self.new.peer)) }
     {
         ask(
             &mut self.peer,
@@ -235,36 +274,48 @@ impl<L: Peer, M: Mode> Fmu<L, M> {
 
     /// Asks whether an output Clock is active.
     pub fn get_clock(&mut self, reference: u32) -> Result<Reply, Why>
-        requires { Permitted (L.view self.old.peer).fixed.shape (L.view self.old.peer).phase (Call.GetClock reference) }
-        ensures ok { IfOk result (λ reply. Answered (L.view self.old.peer) (Call.GetClock reference) reply (L.view self.new.peer)) }
-        ensures err { IfErr result (λ why. Failed (L.view self.old.peer) (Call.GetClock reference) why (L.view self.new.peer)) }
+        requires { Permitted (L.view self.old.peer).fixed.shape (L.view self.old.peer).phase
+            (Call.GetClock reference) }
+        ensures ok { IfOk result (λ reply. Answered (L.view self.old.peer)
+            (Call.GetClock reference) reply (L.view self.new.peer)) }
+        ensures err { IfErr result (λ why. Failed (L.view self.old.peer)
+            (Call.GetClock reference) why (L.view self.new.peer)) }
     {
         ask(&mut self.peer, Call::GetClock { reference })
     }
 
     /// Sets an input Clock to active.
     pub fn set_clock(&mut self, reference: u32) -> Result<Reply, Why>
-        requires { Permitted (L.view self.old.peer).fixed.shape (L.view self.old.peer).phase (Call.SetClock reference) }
-        ensures ok { IfOk result (λ reply. Answered (L.view self.old.peer) (Call.SetClock reference) reply (L.view self.new.peer)) }
-        ensures err { IfErr result (λ why. Failed (L.view self.old.peer) (Call.SetClock reference) why (L.view self.new.peer)) }
+        requires { Permitted (L.view self.old.peer).fixed.shape (L.view self.old.peer).phase
+            (Call.SetClock reference) }
+        ensures ok { IfOk result (λ reply. Answered (L.view self.old.peer)
+            (Call.SetClock reference) reply (L.view self.new.peer)) }
+        ensures err { IfErr result (λ why. Failed (L.view self.old.peer)
+            (Call.SetClock reference) why (L.view self.new.peer)) }
     {
         ask(&mut self.peer, Call::SetClock { reference })
     }
 
     /// Asks for the interval of a Clock: of a fixed one in Initialization Mode, of a countdown Clock in Event Mode.
     pub fn interval(&mut self, reference: u32) -> Result<Reply, Why>
-        requires { Permitted (L.view self.old.peer).fixed.shape (L.view self.old.peer).phase (Call.GetInterval reference) }
-        ensures ok { IfOk result (λ reply. Answered (L.view self.old.peer) (Call.GetInterval reference) reply (L.view self.new.peer)) }
-        ensures err { IfErr result (λ why. Failed (L.view self.old.peer) (Call.GetInterval reference) why (L.view self.new.peer)) }
+        requires { Permitted (L.view self.old.peer).fixed.shape (L.view self.old.peer).phase
+            (Call.GetInterval reference) }
+        ensures ok { IfOk result (λ reply. Answered (L.view self.old.peer)
+            (Call.GetInterval reference) reply (L.view self.new.peer)) }
+        ensures err { IfErr result (λ why. Failed (L.view self.old.peer)
+            (Call.GetInterval reference) why (L.view self.new.peer)) }
     {
         ask(&mut self.peer, Call::GetInterval { reference })
     }
 
     /// Asks for the shift of a fixed Clock.
     pub fn shift(&mut self, reference: u32) -> Result<Reply, Why>
-        requires { Permitted (L.view self.old.peer).fixed.shape (L.view self.old.peer).phase (Call.GetShift reference) }
-        ensures ok { IfOk result (λ reply. Answered (L.view self.old.peer) (Call.GetShift reference) reply (L.view self.new.peer)) }
-        ensures err { IfErr result (λ why. Failed (L.view self.old.peer) (Call.GetShift reference) why (L.view self.new.peer)) }
+        requires { Permitted (L.view self.old.peer).fixed.shape (L.view self.old.peer).phase
+            (Call.GetShift reference) }
+        ensures ok { IfOk result (λ reply. Answered (L.view self.old.peer)
+            (Call.GetShift reference) reply (L.view self.new.peer)) }
+        ensures err { IfErr result (λ why. Failed (L.view self.old.peer)
+            (Call.GetShift reference) why (L.view self.new.peer)) }
     {
         ask(&mut self.peer, Call::GetShift { reference })
     }

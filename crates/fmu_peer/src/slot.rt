@@ -71,7 +71,8 @@ impl<L: Peer> Slot<L> {
 /// terminated from Event Mode or Step Mode, and freed. After a refusal with Fatal, in the run or in the closing, the instances of that
 /// source are sent nothing more (FMI 3.0, 2.2.3). No answer keeps it from going on, and it takes no memory.
 pub fn close_all<L: Peer>(slots: &mut [Slot<L>])
-    ensures { ClosesAll (map (λ s. instance_in L.view s) slots.old) (map (λ s. instance_in L.view s) slots.new) }
+    ensures { ClosesAll (map (λ s. instance_in L.view s) slots.old)
+        (map (λ s. instance_in L.view s) slots.new) }
 {
     for place in 0..slots.len() {
         close_at(slots, place);

@@ -39,8 +39,10 @@ pub trait Spawner {
     ) -> Result<Self::Link, StartFault>
         requires name { (1 ≤ length name.now) × (length name.now ≤ 2 ^ 24) }
         requires token { length shape.now.token ≤ 2 ^ 24 }
-        ensures fresh { IfOk result (λ link. IsStarted host.now name.now directory.now shape.now (Self.Link.view link)) }
-        ensures unknown { AnswersUnknown ((view self.old).knows host.now shape.now.identifier) result }
+        ensures fresh { IfOk result (λ link. IsStarted host.now name.now directory.now shape.now
+            (Self.Link.view link)) }
+        ensures unknown { AnswersUnknown ((view self.old).knows host.now shape.now.identifier)
+            result }
         ensures noted { NotesStart (view self.old) (view self.new) result };
 
     /// Takes a peer back. It can't fail.

@@ -51,12 +51,15 @@ impl TalkBook {
         answer: Result<Reply, PeerFault>,
     ) -> Result<Reply, PeerFault>
         requires { Permitted self.old.shape self.old.phase call.now }
-        ensures kept { result ≡ (if fills_next self.old.talk then Err PeerFault.Failed else answer) }
+        ensures kept { result ≡
+            (if fills_next self.old.talk then Err PeerFault.Failed else answer) }
         ensures shape { self.new.shape ≡ self.old.shape }
-        ensures phase { self.new.phase ≡ next_of self.old.shape self.old.phase call.now (result_ok result) }
+        ensures phase { self.new.phase ≡ next_of self.old.shape self.old.phase call.now
+            (result_ok result) }
         ensures talk { option_map (λ t. t.exchanges.items) self.new.talk
             ≡ option_map (λ t. t.exchanges.items ++ record { call = call.now; result = result } ∷ []) self.old.talk }
-        ensures room { option_map (λ t. t.room) self.new.talk ≡ option_map (λ t. t.room) self.old.talk }
+        ensures room { option_map (λ t. t.room) self.new.talk ≡
+            option_map (λ t. t.room) self.old.talk }
         ensures cause { HasCause self.old.faults self.new.faults result }
     {
         let result = if fills_next(&self.talk) {
@@ -92,7 +95,8 @@ fn fills_next(talk: &Option<TalkRoom>) -> bool
 
 fn keep_in(talk: &mut Option<TalkRoom>, exchange: Exchange)
     requires { IsTrue (has_room talk.old) }
-    ensures exchanges { option_map (λ t. t.exchanges.items) talk.new ≡ option_map (λ t. t.exchanges.items ++ exchange ∷ []) talk.old }
+    ensures exchanges { option_map (λ t. t.exchanges.items) talk.new ≡
+        option_map (λ t. t.exchanges.items ++ exchange ∷ []) talk.old }
     ensures room { option_map (λ t. t.room) talk.new ≡ option_map (λ t. t.room) talk.old }
 {
     if let Some(talk) = talk {

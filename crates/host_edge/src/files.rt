@@ -94,7 +94,8 @@ impl<H: OpenFiles> OpenedFolder<H> {
     /// A folder before its first read.
     pub fn new(alloc: Global, host: H) -> OpenedFolder<H>
         ensures host { result.host ≡ host }
-        ensures quiet { (result.book.asked ≡ []) × (result.book.failed ≡ []) × (result.book.faults ≡ 0) }
+        ensures quiet { (result.book.asked ≡ []) × (result.book.failed ≡ []) ×
+            (result.book.faults ≡ 0) }
     {
         OpenedFolder {
             host,
@@ -108,10 +109,12 @@ impl<H: OpenFiles> Folder for OpenedFolder<H> {
 
     fn read(&mut self, alloc: Global, path: &str, limit: u64) -> Result<Vec<u8>, ReadFault>
         ensures within { KeepsLimit limit result }
-        ensures noted { NotesRead (folder_view None self.old.book) (folder_view None self.new.book) path.now result }
+        ensures noted { NotesRead (folder_view None self.old.book)
+            (folder_view None self.new.book) path.now result }
 
         // The host is asked for what is told, once, and for no other file.
-        ensures opened { Opens (H.opened self.old.host) (H.opened self.new.host) self.old.book self.new.book }
+        ensures opened { Opens (H.opened self.old.host) (H.opened self.new.host) self.old.book
+            self.new.book }
     {
         let Ok(asked) = self.book.ask(alloc, path) else {
             return Err(ReadFault::Memory);
@@ -131,7 +134,8 @@ pub fn read_opened<S: OpenedFile>(
     alloc: Global,
     limit: u64,
 ) -> Result<Vec<u8>, ReadFault>
-    ensures ok { IfOk opened.old (λ old. IsOkAnd opened.new (λ new. ReadsWithin (S.view old) (S.view new) limit result)) }
+    ensures ok { IfOk opened.old
+        (λ old. IsOkAnd opened.new (λ new. ReadsWithin (S.view old) (S.view new) limit result)) }
     ensures err { IfErr opened.old (λ error. result ≡ Err (unopened (error_kind error))) }
     ensures bound { KeepsLimit limit result }
 {
@@ -160,7 +164,8 @@ fn read_within<S: OpenedFile>(
 // The bytes, where they are no more than the limit.
 fn within(bytes: Vec<u8>, limit: u64) -> Result<Vec<u8>, ReadFault>
     ensures fits { length bytes.items ≤ limit → result ≡ Ok bytes }
-    ensures big { limit < length bytes.items → result ≡ Err (ReadFault.TooBig (length bytes.items)) }
+    ensures big { limit < length bytes.items →
+        result ≡ Err (ReadFault.TooBig (length bytes.items)) }
 {
     let length = bytes.len() as u64;
     if length > limit {

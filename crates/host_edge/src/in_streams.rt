@@ -58,7 +58,8 @@ impl<R: InStream> Source for StreamSource<R> {
             (source_view (R.view self.new.stream).left self.new.faults) into.new result }
 
         // It fails only where a read went wrong, and stops there, or where signals broke off all of them.
-        ensures retried { Retries (R.view self.old.stream).counts (R.view self.new.stream).counts result }
+        ensures retried { Retries (R.view self.old.stream).counts
+            (R.view self.new.stream).counts result }
     {
         match read_front(&mut self.stream, into) {
             Ok(count) => Ok(count),

@@ -80,7 +80,8 @@ impl<W: Stream> Sink for StreamSink<W> {
             (record { content = (W.view self.new.stream).content; puts = None; faults = self.new.faults }) bytes.now result }
 
         // It fails only where a call of the stream went wrong, and stops there, or behind 2^63 signals.
-        ensures takes { TakesBytes (W.view self.old.stream) (W.view self.new.stream) bytes.now result }
+        ensures takes { TakesBytes (W.view self.old.stream) (W.view self.new.stream) bytes.now
+            result }
     {
         match write_through(&mut self.stream, bytes) {
             Ok(()) => Ok(()),

@@ -73,7 +73,8 @@ fn front_of(bytes: &[u8], count: usize) -> &[u8]
 // Takes the texts of a frame whose beginning was taken.
 fn next_with_texts<I: Source>(alloc: Global, head: &[u8; HEAD], input: &mut I) -> NextCall
     requires { IsFront IsCallFrame head.now }
-    ensures { (before : SourceView) → Takes before (I.view input.old) head.now → ComesTo before (I.view input.new) result }
+    ensures { (before : SourceView) → Takes before (I.view input.old) head.now →
+        ComesTo before (I.view input.new) result }
 {
     match with_room(alloc, head) {
         Ok(mut frame) => next_in(frame.as_mut_slice(), input),
@@ -86,7 +87,8 @@ fn next_in<I: Source>(frame: &mut [u8], input: &mut I) -> NextCall
     requires front { IsFront IsCallFrame (take 24 frame.old) }
     requires long { 24 ≤ length frame.old }
     requires room { IsRoom (take 24 frame.old) (length frame.old - 24) }
-    ensures { (before : SourceView) → Takes before (I.view input.old) (take 24 frame.old) → ComesTo before (I.view input.new) result }
+    ensures { (before : SourceView) → Takes before (I.view input.old) (take 24 frame.old) →
+        ComesTo before (I.view input.new) result }
 {
     let Ok(count) = fill(input, &mut frame[HEAD..]) else {
         return NextCall::Failed;
@@ -102,7 +104,8 @@ fn next_in<I: Source>(frame: &mut [u8], input: &mut I) -> NextCall
 // The beginning of a frame, with room for its texts.
 fn with_room(alloc: Global, head: &[u8; HEAD]) -> Result<Vec<u8>, AllocError>
     ensures front { IfOk result (λ frame. take 24 frame.items ≡ head.now) }
-    ensures room { IfOk result (λ frame. (value : FrameSpec) (more : List ℕ) → 0 < length more → IsCallFrame value (head.now ++ more) → length frame.items ≡ 24 + length more) }
+    ensures room { IfOk result (λ frame. (value : FrameSpec) (more : List ℕ) → 0 < length more →
+        IsCallFrame value (head.now ++ more) → length frame.items ≡ 24 + length more) }
 {
     let mut frame = Vec::from_slice(alloc, head)?;
     frame.resize(HEAD.saturating_add(texts_len(head)), 0)?;
@@ -111,7 +114,8 @@ fn with_room(alloc: Global, head: &[u8; HEAD]) -> Result<Vec<u8>, AllocError>
 
 // The length of the texts that follow the beginning of a frame, if any do.
 fn texts_len(head: &[u8; HEAD]) -> usize
-    ensures { (value : FrameSpec) (more : List ℕ) → 0 < length more → IsCallFrame value (head.now ++ more) → result ≡ length more }
+    ensures { (value : FrameSpec) (more : List ℕ) → 0 < length more →
+        IsCallFrame value (head.now ++ more) → result ≡ length more }
 {
     let name = number_at(head, 8);
     let token = number_at(head, 16);
@@ -138,7 +142,8 @@ fn number_at(bytes: &[u8], place: usize) -> u64
 // Takes bytes from the source until the room is full or the source ends, and answers how many.
 fn fill<I: Source>(input: &mut I, into: &mut [u8]) -> Result<usize, SourceFault>
     ensures bound { IfOk result (λ n. n ≤ length into.new) }
-    ensures takes { IfOk result (λ n. Takes (I.view input.old) (I.view input.new) (take n into.new)) }
+    ensures takes { IfOk result (λ n. Takes (I.view input.old) (I.view input.new)
+        (take n into.new)) }
     ensures end { IfOk result (λ n. n < length into.new → IsAtEnd (I.view input.new).left) }
     ensures rose { OnErr result (Rose (I.view input.old).faults (I.view input.new).faults) }
 {

@@ -185,7 +185,8 @@ fn frame_at(numbers: &Numbers) -> CallFrame
 fn put_at(out: &mut [u8], place: usize, bytes: &[u8])
     requires { place + length bytes.now ≤ length out.old }
     ensures front { take (place + length bytes.now) out.new ≡ take place out.old ++ bytes.now }
-    ensures rest { drop (place + length bytes.now) out.new ≡ drop (place + length bytes.now) out.old }
+    ensures rest { drop (place + length bytes.now) out.new ≡ drop
+        (place + length bytes.now) out.old }
 {
     out[place..place + bytes.len()].copy_from_slice(bytes);
 }
@@ -217,8 +218,10 @@ pub fn frame_len(call: &Call, name: &str, token: &str) -> usize
 /// calls the texts aren't used. Answers the frame's length. What stands behind the frame stays.
 pub fn put_call(call: &Call, name: &str, token: &str, out: &mut [u8]) -> usize
     requires has_frame { CanBeSent call.now (length name.now) (length token.now) }
-    requires has_room { 24 + length (sent call.now name.now) + length (sent call.now token.now) ≤ length out.old }
-    ensures length { result ≡ 24 + length (sent call.now name.now) + length (sent call.now token.now) }
+    requires has_room { 24 + length (sent call.now name.now) + length
+        (sent call.now token.now) ≤ length out.old }
+    ensures length { result ≡ 24 + length (sent call.now name.now) + length
+        (sent call.now token.now) }
     ensures frame { IsFrameOf call.now name.now token.now (take result out.new) }
     ensures rest { drop result out.new ≡ drop result out.old }
 {
@@ -264,7 +267,8 @@ pub fn take_call(bytes: &[u8]) -> Taken<CallFrame>
     // What stands there.
     ensures taken { Takes IsCallFrame bytes.now result }
     // Nothing else does.
-    ensures only { (other : TakenSpec CallFrame) → Takes IsCallFrame bytes.now other → result ≡ other }
+    ensures only { (other : TakenSpec CallFrame) → Takes IsCallFrame bytes.now other →
+        result ≡ other }
 {
     match take_numbers(Form::OfCall, bytes) {
         Taken::Got { value, length } => behind(length, take_texts(&value, &bytes[length..])),

@@ -10,9 +10,15 @@ ghost use Rattle.link_frames.specs.Taking.{AreSingle};
 pub fn frame_laws()
     ensures calls { AreSingle IsCallFrame }
     ensures replies { AreSingle IsReplyFrame }
-    ensures one_of_call { (call : Call) (name token bytes others : List ℕ) → IsFrameOf call name token bytes → IsFrameOf call name token others → bytes ≡ others }
-    ensures one_of_reply { (reply : Reply) (bytes others : List ℕ) → IsReplyFrame reply bytes → IsReplyFrame reply others → bytes ≡ others }
-    ensures call_length { (call : Call) (name token bytes : List ℕ) → IsFrameOf call name token bytes → length bytes ≡ 24 + length (sent call name) + length (sent call token) }
-    ensures reply_length { (reply : Reply) (bytes : List ℕ) → IsReplyFrame reply bytes → length bytes ≡ 24 }
-    ensures taken { (call : Call) (name token bytes : List ℕ) → IsFrameOf call name token bytes → IsCallFrame (frame_with call name token) bytes }
+    ensures one_of_call { (call : Call) (name token bytes others : List ℕ) →
+        IsFrameOf call name token bytes → IsFrameOf call name token others → bytes ≡ others }
+    ensures one_of_reply { (reply : Reply) (bytes others : List ℕ) → IsReplyFrame reply bytes →
+        IsReplyFrame reply others → bytes ≡ others }
+    ensures call_length { (call : Call) (name token bytes : List ℕ) →
+        IsFrameOf call name token bytes → length bytes ≡ 24 + length (sent call name) + length
+        (sent call token) }
+    ensures reply_length { (reply : Reply) (bytes : List ℕ) → IsReplyFrame reply bytes →
+        length bytes ≡ 24 }
+    ensures taken { (call : Call) (name token bytes : List ℕ) → IsFrameOf call name token bytes →
+        IsCallFrame (frame_with call name token) bytes }
 {}

@@ -109,7 +109,8 @@ fn last_front(sorted: &[(&[u8], usize)], shorter: &[Option<usize>]) -> Option<us
     requires next { length shorter.now < length sorted.now }
     requires rising { IsRising sorted.now }
     requires links { AreLinks sorted.now shorter.now }
-    ensures { (e : Entry) → slice_get sorted.now (length shorter.now) ≡ Some e → FindsLastBelow (BeginsAt sorted.now e.0.now) (length shorter.now) result }
+    ensures { (e : Entry) → slice_get sorted.now (length shorter.now) ≡ Some e →
+        FindsLastBelow (BeginsAt sorted.now e.0.now) (length shorter.now) result }
 {
     let (text, _) = sorted[shorter.len()];
     let mut next = shorter.len().checked_sub(1);

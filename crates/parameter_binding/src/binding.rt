@@ -83,9 +83,12 @@ pub fn bind(
     requires { AreGiven tree.now shapes.now sets.now }
     ensures ok { IfOk result (AreBound tree.now shapes.now sets.now) }
     ensures fitting { IfOk result (λ bound. IsFitting tree.now shapes.now sets.now) }
-    ensures parameters { IfOk result (λ bound. AllZip AreParameterValues shapes.now bound.components) }
+    ensures parameters { IfOk result
+        (λ bound. AllZip AreParameterValues shapes.now bound.components) }
     ensures err { IfErr result (Faults tree.now shapes.now sets.now) }
-    ensures exact { (place : Place) (rule : ParameterRule) (file : ℕ) → IsFirstViolation tree.now shapes.now sets.now place rule → IsToldIn sets.now place file → Refuses result file place.node rule }
+    ensures exact { (place : Place) (rule : ParameterRule) (file : ℕ) →
+        IsFirstViolation tree.now shapes.now sets.now place rule → IsToldIn sets.now place file →
+        Refuses result file place.node rule }
 {
     match gather(alloc, tree, shapes, sets) {
         Ok(gathered) => match gathered.fault {

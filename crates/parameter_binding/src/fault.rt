@@ -18,8 +18,10 @@ pub(crate) struct Fault {
 impl Fault {
     /// Whether it isn't behind the other in the order of refusals: sets before mappings, then by element and rule.
     pub(crate) fn is_up_to(self, other: Fault) -> bool
-        ensures first { IsTrue result → IsUpTo (place_of self) self.rule (place_of other) other.rule }
-        ensures second { result ≡ false → IsUpTo (place_of other) other.rule (place_of self) self.rule }
+        ensures first { IsTrue result → IsUpTo (place_of self) self.rule
+            (place_of other) other.rule }
+        ensures second { result ≡ false → IsUpTo (place_of other) other.rule
+            (place_of self) self.rule }
     {
         if self.binding != other.binding {
             return self.binding < other.binding;
@@ -37,7 +39,8 @@ impl Fault {
 /// The one that comes first.
 pub(crate) fn first_of(one: Option<Fault>, other: Option<Fault>) -> Option<Fault>
     ensures either { (result ≡ one) ⊎ (result ≡ other) }
-    ensures covers { (p : Place) (rule : ParameterRule) → CoveredBy one p rule ⊎ CoveredBy other p rule → CoveredBy result p rule }
+    ensures covers { (p : Place) (rule : ParameterRule) → CoveredBy one p rule ⊎
+        CoveredBy other p rule → CoveredBy result p rule }
 {
     match (one, other) {
         (Some(a), Some(b)) => Some(if a.is_up_to(b) { a } else { b }),

@@ -61,8 +61,14 @@ impl Gathered {
         targets: &[Target],
     ) -> Result<(), AllocError>
         requires range { IsInRange visit.now.parameter.now.value }
-        requires targets { (target : Target) → Contains targets.now target → (v : Variable) × IsTarget shapes.now target v }
-        ensures { OnOk result ((t : SystemTree) (sets : List BindingSets) (binding : Binding) (name : List ℕ) (change : Option Change) → IsVisit t sets visit.now binding name change → AreSeen t shapes.now binding name targets.now → IsGathered t shapes.now sets (triple_of visit.now) self.old → AreGathered t shapes.now sets (IsUpToTriple (triple_of visit.now)) self.new) }
+        requires targets { (target : Target) → Contains targets.now target → (v : Variable) ×
+            IsTarget shapes.now target v }
+        ensures { OnOk result ((t : SystemTree) (sets : List BindingSets) (binding : Binding)
+            (name : List ℕ) (change : Option Change) →
+            IsVisit t sets visit.now binding name change →
+            AreSeen t shapes.now binding name targets.now →
+            IsGathered t shapes.now sets (triple_of visit.now) self.old →
+            AreGathered t shapes.now sets (IsUpToTriple (triple_of visit.now)) self.new) }
     {
         self.fault = first_of(self.fault, visit.fault(shapes, targets));
         if self.fault.is_none() {

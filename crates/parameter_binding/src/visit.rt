@@ -88,7 +88,11 @@ impl Visit<'_> {
     // The first rule that is broken by what the value and its change are for a type.
     fn judged(&self, kind: PortType) -> Option<Fault>
         requires { IsInRange self.now.parameter.now.value }
-        ensures { (t : SystemTree) (shapes : List Shape) (sets : List BindingSets) (binding : Binding) (name : List ℕ) (change : Option Change) (target : Target) (v : Variable) → IsVisit t sets self.now binding name change → Sees t shapes binding.owner name target → IsTarget shapes target v → v.kind ≡ Some kind → IsJudged t shapes sets (triple_of self.now) target result }
+        ensures { (t : SystemTree) (shapes : List Shape) (sets : List BindingSets)
+            (binding : Binding) (name : List ℕ) (change : Option Change) (target : Target)
+            (v : Variable) → IsVisit t sets self.now binding name change →
+            Sees t shapes binding.owner name target → IsTarget shapes target v →
+            v.kind ≡ Some kind → IsJudged t shapes sets (triple_of self.now) target result }
     {
         match self.ready.judge(self.parameter.value, kind) {
             Judgement::Taken(_) => None,
@@ -102,8 +106,12 @@ impl Visit<'_> {
     /// The first rule that is broken where these are the targets.
     pub(crate) fn fault(&self, shapes: &[Shape], targets: &[Target]) -> Option<Fault>
         requires range { IsInRange self.now.parameter.now.value }
-        requires targets { (target : Target) → Contains targets.now target → (v : Variable) × IsTarget shapes.now target v }
-        ensures { (t : SystemTree) (sets : List BindingSets) (binding : Binding) (name : List ℕ) (change : Option Change) → IsVisit t sets self.now binding name change → AreSeen t shapes.now binding name targets.now → FindsFault t shapes.now sets (λ c. c ≡ triple_of self.now) result }
+        requires targets { (target : Target) → Contains targets.now target → (v : Variable) ×
+            IsTarget shapes.now target v }
+        ensures { (t : SystemTree) (sets : List BindingSets) (binding : Binding) (name : List ℕ)
+            (change : Option Change) → IsVisit t sets self.now binding name change →
+            AreSeen t shapes.now binding name targets.now →
+            FindsFault t shapes.now sets (λ c. c ≡ triple_of self.now) result }
     {
         let mut fault = None;
         for target in targets {
@@ -120,7 +128,11 @@ impl Visit<'_> {
     fn put(&self, shapes: &[Shape], winners: &mut Winners, target: Target) -> Result<(), AllocError>
         requires range { IsInRange self.now.parameter.now.value }
         requires target { (v : Variable) × IsTarget shapes.now target v }
-        ensures { OnOk result ((t : SystemTree) (sets : List BindingSets) (binding : Binding) (name : List ℕ) (change : Option Change) → IsVisit t sets self.now binding name change → Sees t shapes.now binding.owner name target → NoneBreaks t shapes.now sets (λ c. c ≡ triple_of self.now) → PutsTaken t shapes.now change self.now target winners.old winners.new) }
+        ensures { OnOk result ((t : SystemTree) (sets : List BindingSets) (binding : Binding)
+            (name : List ℕ) (change : Option Change) → IsVisit t sets self.now binding name change →
+            Sees t shapes.now binding.owner name target →
+            NoneBreaks t shapes.now sets (λ c. c ≡ triple_of self.now) →
+            PutsTaken t shapes.now change self.now target winners.old winners.new) }
     {
         let variable = variable_of(shapes, target);
         let kind = variable.kind.unwrap();
@@ -148,8 +160,14 @@ impl Visit<'_> {
         targets: &[Target],
     ) -> Result<(), AllocError>
         requires range { IsInRange self.now.parameter.now.value }
-        requires targets { (target : Target) → Contains targets.now target → (v : Variable) × IsTarget shapes.now target v }
-        ensures { OnOk result ((t : SystemTree) (sets : List BindingSets) (binding : Binding) (name : List ℕ) (change : Option Change) → IsVisit t sets self.now binding name change → AreSeen t shapes.now binding name targets.now → NoneBreaks t shapes.now sets (λ c. c ≡ triple_of self.now) → AreWinners t shapes.now sets (IsLater (triple_of self.now)) winners.old → AreWinners t shapes.now sets (IsUpToTriple (triple_of self.now)) winners.new) }
+        requires targets { (target : Target) → Contains targets.now target → (v : Variable) ×
+            IsTarget shapes.now target v }
+        ensures { OnOk result ((t : SystemTree) (sets : List BindingSets) (binding : Binding)
+            (name : List ℕ) (change : Option Change) → IsVisit t sets self.now binding name change →
+            AreSeen t shapes.now binding name targets.now →
+            NoneBreaks t shapes.now sets (λ c. c ≡ triple_of self.now) →
+            AreWinners t shapes.now sets (IsLater (triple_of self.now)) winners.old →
+            AreWinners t shapes.now sets (IsUpToTriple (triple_of self.now)) winners.new) }
     {
         for target in targets {
             self.put(shapes, winners, *target)?;

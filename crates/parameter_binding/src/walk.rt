@@ -122,7 +122,12 @@ impl<'a> Walk<'a> {
         requires walk { IsWalk self.now }
         requires owner { IsOwner self.now.tree.now binding.now.owner }
         requires range { IsInRange visit.now.parameter.now.value }
-        ensures { OnOk result ((change : Option Change) → IsVisit self.now.tree.now self.now.sets.now visit.now binding.now name.now change → IsGathered self.now.tree.now self.now.shapes.now self.now.sets.now (triple_of visit.now) gathered.old → AreGathered self.now.tree.now self.now.shapes.now self.now.sets.now (IsUpToTriple (triple_of visit.now)) gathered.new) }
+        ensures { OnOk result ((change : Option Change) →
+            IsVisit self.now.tree.now self.now.sets.now visit.now binding.now name.now change →
+            IsGathered self.now.tree.now self.now.shapes.now self.now.sets.now
+            (triple_of visit.now) gathered.old →
+            AreGathered self.now.tree.now self.now.shapes.now self.now.sets.now
+            (IsUpToTriple (triple_of visit.now)) gathered.new) }
     {
         let targets = self.targets.seen(alloc, binding.owner, name)?;
         gathered.put(self.shapes, visit, targets.as_slice())?;

@@ -19,7 +19,8 @@ use sim_base::Items;
 use std::alloc::{AllocError, Global};
 
 fn integer_pair(tree: &Tree, node: usize) -> Option<IntegerPair>
-    ensures { MatchOption result ((x : IntegerPair) → IsIntegerPair tree.now node x → ⊥) (IsIntegerPair tree.now node) }
+    ensures { MatchOption result ((x : IntegerPair) → IsIntegerPair tree.now node x → ⊥)
+        (IsIntegerPair tree.now node) }
 {
     let source = whole(tree, node, "source")?;
     let target = whole(tree, node, "target")?;
@@ -27,7 +28,8 @@ fn integer_pair(tree: &Tree, node: usize) -> Option<IntegerPair>
 }
 
 fn boolean_pair(tree: &Tree, node: usize) -> Option<BooleanPair>
-    ensures { MatchOption result ((x : BooleanPair) → IsBooleanPair tree.now node x → ⊥) (IsBooleanPair tree.now node) }
+    ensures { MatchOption result ((x : BooleanPair) → IsBooleanPair tree.now node x → ⊥)
+        (IsBooleanPair tree.now node) }
 {
     let source = boolean(tree, node, "source")?;
     let target = boolean(tree, node, "target")?;
@@ -85,7 +87,8 @@ fn linear(tree: &Tree, node: usize) -> Option<Change>
 
 fn integer_mapping(alloc: Global, tree: &Tree, node: usize) -> Result<Option<Change>, AllocError>
     requires { is_named tree.now node (codes "IntegerMappingTransformation") ≡ true }
-    ensures { IfOk result (λ o. MatchOption o (IsMisreadTransformation tree.now node) (IsChange tree.now node)) }
+    ensures { IfOk result (λ o. MatchOption o (IsMisreadTransformation tree.now node)
+        (IsChange tree.now node)) }
 {
     let entries = children_named(alloc, tree, node, "MapEntry")?;
     match integer_pairs(alloc, tree, entries.as_slice())? {
@@ -98,7 +101,8 @@ fn integer_mapping(alloc: Global, tree: &Tree, node: usize) -> Result<Option<Cha
 
 fn boolean_mapping(alloc: Global, tree: &Tree, node: usize) -> Result<Option<Change>, AllocError>
     requires { is_named tree.now node (codes "BooleanMappingTransformation") ≡ true }
-    ensures { IfOk result (λ o. MatchOption o (IsMisreadTransformation tree.now node) (IsChange tree.now node)) }
+    ensures { IfOk result (λ o. MatchOption o (IsMisreadTransformation tree.now node)
+        (IsChange tree.now node)) }
 {
     let entries = children_named(alloc, tree, node, "MapEntry")?;
     match boolean_pairs(alloc, tree, entries.as_slice())? {
@@ -111,7 +115,8 @@ fn boolean_mapping(alloc: Global, tree: &Tree, node: usize) -> Result<Option<Cha
 
 /// What a transformation does to values, where it reads.
 pub(crate) fn change(alloc: Global, tree: &Tree, node: usize) -> Result<Option<Change>, AllocError>
-    ensures { IfOk result (λ o. MatchOption o (IsMisreadTransformation tree.now node) (IsChange tree.now node)) }
+    ensures { IfOk result (λ o. MatchOption o (IsMisreadTransformation tree.now node)
+        (IsChange tree.now node)) }
 {
     if is_named(tree, node, "LinearTransformation") {
         Ok(linear(tree, node))

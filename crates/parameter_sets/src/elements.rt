@@ -14,7 +14,8 @@ fn put_named(
     node: usize,
     wanted: &str,
 ) -> Result<(), AllocError>
-    ensures { OnOk result (found.new.items ≡ found.old.items ++ children_named tree.now wanted.now node) }
+    ensures { OnOk result (found.new.items ≡ found.old.items ++ children_named tree.now wanted.now
+        node) }
 {
     for child in children(tree, node) {
         if is_named(tree, *child, wanted) {

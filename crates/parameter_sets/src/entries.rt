@@ -33,7 +33,8 @@ fn transformation(
     tree: &Tree,
     node: usize,
 ) -> Result<Option<Transformation>, AllocError>
-    requires { (k : ℕ) → Contains (transformations_of tree.now node) k → IsMisreadTransformation tree.now k → ⊥ }
+    requires { (k : ℕ) → Contains (transformations_of tree.now node) k →
+        IsMisreadTransformation tree.now k → ⊥ }
     ensures { IfOk result (IsTransformation tree.now (first_transformation tree.now node)) }
 {
     let Some(child) = first_transformation(tree, node) else {
@@ -48,7 +49,8 @@ fn transformation(
 
 fn entry(alloc: Global, tree: &Tree, node: usize) -> Result<MappingEntry, AllocError>
     requires complete { IsIncompleteEntry tree.now node → ⊥ }
-    requires read { (k : ℕ) → Contains (transformations_of tree.now node) k → IsMisreadTransformation tree.now k → ⊥ }
+    requires read { (k : ℕ) → Contains (transformations_of tree.now node) k →
+        IsMisreadTransformation tree.now k → ⊥ }
     ensures { IfOk result (IsEntry tree.now node) }
 {
     Ok(MappingEntry {
@@ -66,7 +68,8 @@ pub(crate) fn entries(
     nodes: &[usize],
 ) -> Result<Vec<MappingEntry>, AllocError>
     requires complete { (k : ℕ) → Contains nodes.now k → IsIncompleteEntry tree.now k → ⊥ }
-    requires read { (k : ℕ) → Contains (flat_map (transformations_of tree.now) nodes.now) k → IsMisreadTransformation tree.now k → ⊥ }
+    requires read { (k : ℕ) → Contains (flat_map (transformations_of tree.now) nodes.now) k →
+        IsMisreadTransformation tree.now k → ⊥ }
     ensures { IfOk result (λ v. AllZip (IsEntry tree.now) nodes.now v.items) }
 {
     let mut found = Vec::new(alloc);

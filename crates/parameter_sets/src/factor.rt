@@ -29,7 +29,8 @@ fn are_zeros(text: &str) -> bool
 fn read_unmarked(text: &str) -> Option<i64>
     ensures unmarked { IfSome result (λ value. starts_with nat_eq text.now (codes "+") ≡ false) }
     ensures value { IfSome result (Reads PortType.Int64 text.now) }
-    ensures exact { (value : ℤ) → starts_with nat_eq text.now (codes "+") ≡ false → Reads PortType.Int64 text.now value → result ≡ Some value }
+    ensures exact { (value : ℤ) → starts_with nat_eq text.now (codes "+") ≡ false →
+        Reads PortType.Int64 text.now value → result ≡ Some value }
 {
     if text.starts_with("+") {
         return None;

@@ -31,7 +31,8 @@ pub(crate) fn whole(tree: &Tree, node: usize, name: &str) -> Option<i128>
 
 fn read_boolean(text: &str) -> Option<bool>
     ensures value { IfSome result (λ value. Reads PortType.Boolean text.now (bit value)) }
-    ensures exact { (value : Bool) → Reads PortType.Boolean text.now (bit value) → result ≡ Some value }
+    ensures exact { (value : Bool) → Reads PortType.Boolean text.now (bit value) →
+        result ≡ Some value }
 {
     let value = read_value(PortType::Boolean, text)?;
     Some(value == 1)
@@ -48,7 +49,8 @@ pub(crate) fn boolean(tree: &Tree, node: usize, name: &str) -> Option<bool>
 /// The factor or offset that an attribute is; the default where it is absent.
 pub(crate) fn factor_or(default: i64, tree: &Tree, node: usize, name: &str) -> Option<i64>
     ensures value { IfSome result (WritesOr default (attribute tree.now node name.now)) }
-    ensures exact { (value : ℤ) → WritesOr default (attribute tree.now node name.now) value → result ≡ Some value }
+    ensures exact { (value : ℤ) → WritesOr default (attribute tree.now node name.now) value →
+        result ≡ Some value }
 {
     match attribute(tree, node, name) {
         Some(text) => read_factor(text),

@@ -17,7 +17,8 @@ use std::alloc::{AllocError, Global};
 
 // The value that an element gives, where it reads as its type.
 fn value_in(tree: &Tree, node: usize) -> Option<ParameterValue>
-    ensures { MatchOption result ((x : ParameterValue) → IsValue tree.now (Some node) x → ⊥) (IsValue tree.now (Some node)) }
+    ensures { MatchOption result ((x : ParameterValue) → IsValue tree.now (Some node) x → ⊥)
+        (IsValue tree.now (Some node)) }
 {
     if is_named(tree, node, "Integer") {
         Some(ParameterValue::Integer(whole(tree, node, "value")?))
@@ -30,7 +31,9 @@ fn value_in(tree: &Tree, node: usize) -> Option<ParameterValue>
 
 // The value of a Parameter, where it reads as its type.
 fn value(tree: &Tree, node: usize) -> Option<ParameterValue>
-    ensures { MatchOption result ((x : ParameterValue) → IsValue tree.now (first_value tree.now node) x → ⊥) (IsValue tree.now (first_value tree.now node)) }
+    ensures { MatchOption result ((x : ParameterValue) →
+        IsValue tree.now (first_value tree.now node) x → ⊥)
+        (IsValue tree.now (first_value tree.now node)) }
 {
     match first_value(tree, node) {
         Some(child) => value_in(tree, child),

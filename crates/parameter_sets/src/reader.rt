@@ -67,7 +67,8 @@ fn first_in_set(
     parts: &SetParts,
 ) -> Result<Option<(usize, ParameterRule)>, AllocError>
     requires { IsSetOf tree.now at parts.now }
-    ensures { IfOk result (λ found. MatchOption found (IsSoundSet tree.now at) (λ v. IsFirstInSet tree.now at v.0 v.1)) }
+    ensures { IfOk result (λ found. MatchOption found (IsSoundSet tree.now at)
+        (λ v. IsFirstInSet tree.now at v.0 v.1)) }
 {
     let structure = other_structure(tree, parts.sets.as_slice(), at);
     let incomplete = first_broken(alloc, tree, Part::Parameter, parts.parameters.as_slice())?;
@@ -82,7 +83,8 @@ fn first_in_mapping(
     parts: &MappingParts,
 ) -> Result<Option<(usize, ParameterRule)>, AllocError>
     requires { IsMappingOf tree.now at parts.now }
-    ensures { IfOk result (λ found. MatchOption found (IsSoundMapping tree.now at) (λ v. IsFirstInMapping tree.now at v.0 v.1)) }
+    ensures { IfOk result (λ found. MatchOption found (IsSoundMapping tree.now at)
+        (λ v. IsFirstInMapping tree.now at v.0 v.1)) }
 {
     let structure = other_structure(tree, parts.mappings.as_slice(), at);
     let incomplete = first_broken(alloc, tree, Part::Entry, parts.entries.as_slice())?;
@@ -133,8 +135,10 @@ fn read_set(alloc: Global, tree: &Tree, at: Option<usize>) -> Result<ParameterSe
     ensures found { IfOk result (DescribesSet tree.now at) }
     ensures range { IfOk result AreInRange }
     ensures fault { IfErr result (SetFaults tree.now at) }
-    ensures exact { (rule : ParameterRule) (node : ℕ) → IsFirstInSet tree.now at node rule → Refuses result (Rule.Parameters rule) node }
-    ensures only { (read : ParameterSet) → IsSoundSet tree.now at → DescribesSet tree.now at read → Gives result read }
+    ensures exact { (rule : ParameterRule) (node : ℕ) → IsFirstInSet tree.now at node rule →
+        Refuses result (Rule.Parameters rule) node }
+    ensures only { (read : ParameterSet) → IsSoundSet tree.now at → DescribesSet tree.now at read →
+        Gives result read }
 {
     one_set();
     let Ok(parts) = set_parts(alloc, tree, at) else {
@@ -155,8 +159,10 @@ fn read_mapping(alloc: Global, tree: &Tree, at: Option<usize>) -> Result<Mapping
     ensures sound { IfOk result (λ read. IsSoundMapping tree.now at) }
     ensures found { IfOk result (DescribesMapping tree.now at) }
     ensures fault { IfErr result (MappingFaults tree.now at) }
-    ensures exact { (rule : ParameterRule) (node : ℕ) → IsFirstInMapping tree.now at node rule → Refuses result (Rule.Parameters rule) node }
-    ensures only { (read : Mapping) → IsSoundMapping tree.now at → DescribesMapping tree.now at read → Gives result read }
+    ensures exact { (rule : ParameterRule) (node : ℕ) → IsFirstInMapping tree.now at node rule →
+        Refuses result (Rule.Parameters rule) node }
+    ensures only { (read : Mapping) → IsSoundMapping tree.now at →
+        DescribesMapping tree.now at read → Gives result read }
 {
     one_mapping();
     let Ok(parts) = mapping_parts(alloc, tree, at) else {
@@ -179,8 +185,10 @@ pub fn read_ssv(alloc: Global, tree: &Tree) -> Result<ParameterSet, Refusal>
     ensures found { IfOk result (DescribesSet tree.now None) }
     ensures range { IfOk result AreInRange }
     ensures fault { IfErr result (SetFaults tree.now None) }
-    ensures exact { (rule : ParameterRule) (node : ℕ) → IsFirstInSet tree.now None node rule → Refuses result (Rule.Parameters rule) node }
-    ensures only { (read : ParameterSet) → IsSoundSet tree.now None → DescribesSet tree.now None read → Gives result read }
+    ensures exact { (rule : ParameterRule) (node : ℕ) → IsFirstInSet tree.now None node rule →
+        Refuses result (Rule.Parameters rule) node }
+    ensures only { (read : ParameterSet) → IsSoundSet tree.now None →
+        DescribesSet tree.now None read → Gives result read }
 {
     read_set(alloc, tree, None)
 }
@@ -192,8 +200,10 @@ pub fn read_values_in(alloc: Global, tree: &Tree, holder: usize) -> Result<Param
     ensures found { IfOk result (DescribesSet tree.now (Some holder)) }
     ensures range { IfOk result AreInRange }
     ensures fault { IfErr result (SetFaults tree.now (Some holder)) }
-    ensures exact { (rule : ParameterRule) (node : ℕ) → IsFirstInSet tree.now (Some holder) node rule → Refuses result (Rule.Parameters rule) node }
-    ensures only { (read : ParameterSet) → IsSoundSet tree.now (Some holder) → DescribesSet tree.now (Some holder) read → Gives result read }
+    ensures exact { (rule : ParameterRule) (node : ℕ) →
+        IsFirstInSet tree.now (Some holder) node rule → Refuses result (Rule.Parameters rule) node }
+    ensures only { (read : ParameterSet) → IsSoundSet tree.now (Some holder) →
+        DescribesSet tree.now (Some holder) read → Gives result read }
 {
     read_set(alloc, tree, Some(holder))
 }
@@ -204,8 +214,10 @@ pub fn read_ssm(alloc: Global, tree: &Tree) -> Result<Mapping, Refusal>
     ensures sound { IfOk result (λ read. IsSoundMapping tree.now None) }
     ensures found { IfOk result (DescribesMapping tree.now None) }
     ensures fault { IfErr result (MappingFaults tree.now None) }
-    ensures exact { (rule : ParameterRule) (node : ℕ) → IsFirstInMapping tree.now None node rule → Refuses result (Rule.Parameters rule) node }
-    ensures only { (read : Mapping) → IsSoundMapping tree.now None → DescribesMapping tree.now None read → Gives result read }
+    ensures exact { (rule : ParameterRule) (node : ℕ) → IsFirstInMapping tree.now None node rule →
+        Refuses result (Rule.Parameters rule) node }
+    ensures only { (read : Mapping) → IsSoundMapping tree.now None →
+        DescribesMapping tree.now None read → Gives result read }
 {
     read_mapping(alloc, tree, None)
 }
@@ -216,8 +228,11 @@ pub fn read_mapping_in(alloc: Global, tree: &Tree, holder: usize) -> Result<Mapp
     ensures sound { IfOk result (λ read. IsSoundMapping tree.now (Some holder)) }
     ensures found { IfOk result (DescribesMapping tree.now (Some holder)) }
     ensures fault { IfErr result (MappingFaults tree.now (Some holder)) }
-    ensures exact { (rule : ParameterRule) (node : ℕ) → IsFirstInMapping tree.now (Some holder) node rule → Refuses result (Rule.Parameters rule) node }
-    ensures only { (read : Mapping) → IsSoundMapping tree.now (Some holder) → DescribesMapping tree.now (Some holder) read → Gives result read }
+    ensures exact { (rule : ParameterRule) (node : ℕ) →
+        IsFirstInMapping tree.now (Some holder) node rule →
+        Refuses result (Rule.Parameters rule) node }
+    ensures only { (read : Mapping) → IsSoundMapping tree.now (Some holder) →
+        DescribesMapping tree.now (Some holder) read → Gives result read }
 {
     read_mapping(alloc, tree, Some(holder))
 }

@@ -15,7 +15,8 @@ pub struct NameChains<'a> {
 
 impl<'a> NameChains<'a> {
     fn new(alloc: Global, len: usize) -> Result<NameChains<'a>, AllocError>
-        ensures { IfOk result (λ c. (texts : List (List ℕ)) → length texts ≡ len → IsChainedFrom texts len c) }
+        ensures { IfOk result (λ c. (texts : List (List ℕ)) → length texts ≡ len →
+            IsChainedFrom texts len c) }
     {
         Ok(NameChains {
             first: BTreeMap::new(alloc),
@@ -26,7 +27,8 @@ impl<'a> NameChains<'a> {
     // Puts a place in front.
     fn put(&mut self, name: &'a str, place: usize) -> Result<(), AllocError>
         requires within { place < length self.old.next.items }
-        ensures chained { OnOk result ((texts : List (List ℕ)) → name.now ≡ text_at texts place → IsChainedFrom texts (place + 1) self.old → IsChainedFrom texts place self.new) }
+        ensures chained { OnOk result ((texts : List (List ℕ)) → name.now ≡ text_at texts place →
+            IsChainedFrom texts (place + 1) self.old → IsChainedFrom texts place self.new) }
         ensures len { OnOk result (length self.new.next.items ≡ length self.old.next.items) }
     {
         let later = self.first.insert(name, place)?;

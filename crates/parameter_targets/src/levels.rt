@@ -18,7 +18,8 @@ impl Levels {
     /// The levels of a tree.
     pub fn of(alloc: Global, tree: &SystemTree) -> Result<Levels, AllocError>
         requires { IsNamedTree tree.now }
-        ensures { IfOk result (λ levels. AreDepths tree.now (length tree.now.systems) levels.depths.items) }
+        ensures { IfOk result (λ levels. AreDepths tree.now (length tree.now.systems)
+            levels.depths.items) }
     {
         let mut depths = Vec::new(alloc);
         for part in tree.systems.as_slice() {

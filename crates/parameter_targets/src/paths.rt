@@ -52,7 +52,9 @@ impl<'a> Paths<'a> {
         requires within { system < length self.old.below }
         requires rows { AreRows (length self.old.below) self.old }
         ensures rows { OnOk result (AreRows (length self.old.below) self.new) }
-        ensures told { OnOk result ((s c : ℕ) (path : List ℕ) → TellsPath self.new s c path ↔ (TellsPath self.old s c path ⊎ ((s ≡ system) × (c ≡ component) × (path ≡ text.now)))) }
+        ensures told { OnOk result ((s c : ℕ) (path : List ℕ) →
+            TellsPath self.new s c path ↔ (TellsPath self.old s c path ⊎
+            ((s ≡ system) × (c ≡ component) × (path ≡ text.now)))) }
     {
         let at = self.all.len();
         self.all.push(Path { component, text })?;
@@ -66,7 +68,9 @@ impl<'a> Paths<'a> {
         requires within { component < length tree.now.components }
         requires rows { AreRows (length tree.now.systems) self.old }
         ensures rows { OnOk result (AreRows (length tree.now.systems) self.new) }
-        ensures told { OnOk result ((s c : ℕ) (text : List ℕ) → TellsPath self.new s c text ↔ (TellsPath self.old s c text ⊎ ((c ≡ component) × IsPath tree.now s c text))) }
+        ensures told { OnOk result ((s c : ℕ) (text : List ℕ) →
+            TellsPath self.new s c text ↔ (TellsPath self.old s c text ⊎
+            ((c ≡ component) × IsPath tree.now s c text))) }
     {
         let part = &tree.components.as_slice()[component];
         let mut current = Some(part.system);

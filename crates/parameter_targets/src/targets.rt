@@ -94,7 +94,10 @@ impl<'a> Targets<'a> {
     ) -> Result<(), AllocError>
         requires targets { AreTargets self.now }
         requires within { component < length self.now.shapes.now }
-        ensures { OnOk result ((target : Target) → Contains seen.new.items target ↔ (Contains seen.old.items target ⊎ ((target.component ≡ component) × IsNamedIn self.now.shapes.now component name.now target.variable))) }
+        ensures { OnOk result ((target : Target) → Contains seen.new.items target ↔
+            (Contains seen.old.items target ⊎
+            ((target.component ≡ component) × IsNamedIn self.now.shapes.now component name.now
+            target.variable))) }
     {
         let places = self.names[component].places_of(alloc, name)?;
         for variable in &places {
@@ -130,7 +133,8 @@ impl<'a> Targets<'a> {
     ) -> Result<Vec<Target>, AllocError>
         requires targets { AreTargets self.now }
         requires within { system < length self.now.tree.now.systems }
-        ensures { IfOk result (λ seen. (target : Target) → Contains seen.items target ↔ IsSeenBelow self.now system name.now target) }
+        ensures { IfOk result (λ seen. (target : Target) →
+            Contains seen.items target ↔ IsSeenBelow self.now system name.now target) }
     {
         let mut seen = Vec::new(alloc);
         let ats = self.near(alloc, system, name)?;
@@ -147,7 +151,9 @@ impl<'a> Targets<'a> {
     pub fn seen(&self, alloc: Global, owner: Owner, name: &str) -> Result<Vec<Target>, AllocError>
         requires targets { AreTargets self.now }
         requires owner { IsOwner self.now.tree.now owner }
-        ensures { IfOk result (λ seen. (target : Target) → Contains seen.items target ↔ Sees self.now.tree.now self.now.shapes.now owner name.now target) }
+        ensures { IfOk result (λ seen. (target : Target) →
+            Contains seen.items target ↔ Sees self.now.tree.now self.now.shapes.now owner name.now
+            target) }
     {
         match owner {
             Owner::System(system) => self.seen_below(alloc, system, name),

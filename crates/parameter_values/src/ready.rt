@@ -89,7 +89,8 @@ impl ReadyChange {
 
     // Whether it may reach a parameter of the class.
     fn is_for(&self, class: Class) -> bool
-        ensures { (change : Option Change) → IsReady change self.now → (IsTrue result ↔ IsFor change class) }
+        ensures { (change : Option Change) → IsReady change self.now →
+            (IsTrue result ↔ IsFor change class) }
     {
         match self {
             ReadyChange::Same => true,
@@ -101,7 +102,8 @@ impl ReadyChange {
     // The number that the value has after the change.
     fn give(&self, value: ParameterValue) -> Option<i128>
         requires { IsInRange value }
-        ensures { (change : Option Change) → IsReady change self.now → FindsGiven change value result }
+        ensures { (change : Option Change) → IsReady change self.now →
+            FindsGiven change value result }
     {
         match (self, value) {
             (ReadyChange::Same, ParameterValue::Integer(number)) => Some(number),
@@ -126,7 +128,8 @@ impl ReadyChange {
     /// Whether a parameter of a type takes the value after the change. Time is logarithmic in the pairs.
     pub fn judge(&self, value: ParameterValue, kind: PortType) -> Judgement
         requires { IsInRange value }
-        ensures { (change : Option Change) → IsReady change self.now → Judges change value kind result }
+        ensures { (change : Option Change) → IsReady change self.now →
+            Judges change value kind result }
     {
         let class = class_of(kind);
         if !is_of(value, class) {

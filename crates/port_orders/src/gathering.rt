@@ -38,8 +38,10 @@ impl Gathering {
         requires held { IsGathering (length taken.now) self.old.stamps.items self.old.lists }
         requires port { port < length taken.now }
         requires need { need < length taken.now }
-        ensures held { OnOk result (IsGathering (length taken.now) self.new.stamps.items self.new.lists) }
-        ensures adds { OnOk result (Adds taken.now port (λ q. q ≡ need) self.old.lists self.new.lists) }
+        ensures held { OnOk result
+            (IsGathering (length taken.now) self.new.stamps.items self.new.lists) }
+        ensures adds { OnOk result
+            (Adds taken.now port (λ q. q ≡ need) self.old.lists self.new.lists) }
     {
         if !taken[need] {
             return Ok(());
@@ -56,8 +58,10 @@ impl Gathering {
         requires held { IsGathering (length taken.now) self.old.stamps.items self.old.lists }
         requires port { port < length taken.now }
         requires needs { All (λ q. q < length taken.now) needs.now }
-        ensures held { OnOk result (IsGathering (length taken.now) self.new.stamps.items self.new.lists) }
-        ensures adds { OnOk result (Adds taken.now port (Contains needs.now) self.old.lists self.new.lists) }
+        ensures held { OnOk result
+            (IsGathering (length taken.now) self.new.stamps.items self.new.lists) }
+        ensures adds { OnOk result
+            (Adds taken.now port (Contains needs.now) self.old.lists self.new.lists) }
     {
         for need in needs {
             self.add(taken, port, *need)?;
@@ -70,8 +74,10 @@ impl Gathering {
         requires held { IsGathering (length taken.now) self.old.stamps.items self.old.lists }
         requires port { port < length taken.now }
         requires source { IfSome (source_of role) (λ q. q < length taken.now) }
-        ensures held { OnOk result (IsGathering (length taken.now) self.new.stamps.items self.new.lists) }
-        ensures adds { OnOk result (Adds taken.now port (λ q. source_of role ≡ Some q) self.old.lists self.new.lists) }
+        ensures held { OnOk result
+            (IsGathering (length taken.now) self.new.stamps.items self.new.lists) }
+        ensures adds { OnOk result
+            (Adds taken.now port (λ q. source_of role ≡ Some q) self.old.lists self.new.lists) }
     {
         match source_of(role) {
             Some(source) => self.add(taken, port, source),
@@ -90,8 +96,11 @@ impl Gathering {
         requires held { IsGathering (length taken.now) self.old.stamps.items self.old.lists }
         requires port { port < length taken.now }
         requires clocks { All (λ (clock : PortId). clock.0 < length taken.now) clocks.now }
-        ensures held { OnOk result (IsGathering (length taken.now) self.new.stamps.items self.new.lists) }
-        ensures adds { OnOk result (Adds taken.now port (λ q. (initializing ≡ false) × Contains (numbers clocks.now) q) self.old.lists self.new.lists) }
+        ensures held { OnOk result
+            (IsGathering (length taken.now) self.new.stamps.items self.new.lists) }
+        ensures adds { OnOk result
+            (Adds taken.now port (λ q. (initializing ≡ false) × Contains (numbers clocks.now) q)
+            self.old.lists self.new.lists) }
     {
         if initializing {
             return Ok(());
@@ -115,8 +124,11 @@ impl Gathering {
         requires held { IsGathering (length taken.now) self.old.stamps.items self.old.lists }
         requires number { number < length taken.now }
         requires table { AreBelow table.now (length taken.now) }
-        ensures held { OnOk result (IsGathering (length taken.now) self.new.stamps.items self.new.lists) }
-        ensures adds { OnOk result (Adds taken.now number (IsReferred components.now port.now on.now table.now) self.old.lists self.new.lists) }
+        ensures held { OnOk result
+            (IsGathering (length taken.now) self.new.stamps.items self.new.lists) }
+        ensures adds { OnOk result
+            (Adds taken.now number (IsReferred components.now port.now on.now table.now)
+            self.old.lists self.new.lists) }
     {
         for reference in on {
             self.add_all(
@@ -141,8 +153,11 @@ impl Gathering {
         requires held { IsGathering (length taken.now) self.old.stamps.items self.old.lists }
         requires number { number < length taken.now }
         requires table { AreBelow table.now (length taken.now) }
-        ensures held { OnOk result (IsGathering (length taken.now) self.new.stamps.items self.new.lists) }
-        ensures adds { OnOk result (Adds taken.now number (IsKnown components.now initializing port.now table.now) self.old.lists self.new.lists) }
+        ensures held { OnOk result
+            (IsGathering (length taken.now) self.new.stamps.items self.new.lists) }
+        ensures adds { OnOk result
+            (Adds taken.now number (IsKnown components.now initializing port.now table.now)
+            self.old.lists self.new.lists) }
     {
         match knowns_in(components, initializing, port) {
             Some(Knowns::Listed(on)) => {
@@ -167,8 +182,11 @@ impl Gathering {
         requires number { number < length taken.now }
         requires placed { IsPlaced (length components.now) (length taken.now) port.now }
         requires table { AreBelow table.now (length taken.now) }
-        ensures held { OnOk result (IsGathering (length taken.now) self.new.stamps.items self.new.lists) }
-        ensures adds { OnOk result (Adds taken.now number (Concerns components.now initializing port.now table.now) self.old.lists self.new.lists) }
+        ensures held { OnOk result
+            (IsGathering (length taken.now) self.new.stamps.items self.new.lists) }
+        ensures adds { OnOk result
+            (Adds taken.now number (Concerns components.now initializing port.now table.now)
+            self.old.lists self.new.lists) }
     {
         self.add_source(taken, number, port.role)?;
         self.add_clocks(taken, number, initializing, port.clocks.as_slice())?;
@@ -210,7 +228,8 @@ fn lists_of(
     requires placed { ArePlaced components.now ports.now }
     requires taken { taken.now ≡ map (has_part initializing) ports.now }
     ensures len { IfOk result (λ lists. length lists ≡ length ports.now) }
-    ensures told { IfOk result (λ lists. (p q : ℕ) → Needs lists p q ↔ IsTold components.now ports.now taken.now initializing p q) }
+    ensures told { IfOk result (λ lists. (p q : ℕ) →
+        Needs lists p q ↔ IsTold components.now ports.now taken.now initializing p q) }
 {
     let tables = tables_of(alloc, components, ports, taken)?;
     let mut gathering = Gathering::new(alloc, ports.len())?;
@@ -230,7 +249,8 @@ fn groups_of(
     ports: &[Port],
     initializing: bool,
 ) -> Result<Vec<Option<usize>>, AllocError>
-    ensures { IfOk result (λ groups. groups.items ≡ map (group_in components.now initializing) ports.now) }
+    ensures { IfOk result (λ groups. groups.items ≡ map (group_in components.now initializing)
+        ports.now) }
 {
     let mut groups = Vec::new(alloc);
     for port in ports {

@@ -10,7 +10,8 @@ use std::alloc::{AllocError, Global};
 use system_model::{Component, Port};
 
 fn empty_tables(alloc: Global, components: &[Component]) -> Result<Vec<Lists>, AllocError>
-    ensures { IfOk result (λ tables. tables.items ≡ map (λ (c : Component). replicate (length c.shape.variables) []) components.now) }
+    ensures { IfOk result (λ tables. tables.items ≡ map
+        (λ (c : Component). replicate (length c.shape.variables) []) components.now) }
 {
     let mut tables = Vec::new(alloc);
     for component in components {
@@ -21,7 +22,8 @@ fn empty_tables(alloc: Global, components: &[Component]) -> Result<Vec<Lists>, A
 
 // The place of the variable of a port that has part.
 fn place_if(part: bool, components: &[Component], port: &Port) -> Option<usize>
-    ensures { result ≡ (if part then place_in components.now port.now port.now.reference else None) }
+    ensures { result ≡ (if part then place_in components.now port.now port.now.reference else
+        None) }
 {
     if part {
         place_in(components, port, port.reference)
@@ -40,7 +42,9 @@ fn is_input_if(part: bool, components: &[Component], port: &Port) -> bool
 fn note(tables: &mut Vec<Lists>, at: usize, place: usize, number: usize) -> Result<(), AllocError>
     requires at { at < length tables.old.items }
     requires place { place < length (slice_index_or tables.old.items at []) }
-    ensures { OnOk result (tables.new.items ≡ slice_set tables.old.items at (slice_set (slice_index_or tables.old.items at []) place (slice_index_or (slice_index_or tables.old.items at []) place [] ++ number ∷ []))) }
+    ensures { OnOk result (tables.new.items ≡ slice_set tables.old.items at
+        (slice_set (slice_index_or tables.old.items at []) place
+        (slice_index_or (slice_index_or tables.old.items at []) place [] ++ number ∷ []))) }
 {
     tables[at].push(place, number)
 }
@@ -54,7 +58,8 @@ pub(crate) fn tables_of(
 ) -> Result<Vec<Lists>, AllocError>
     requires placed { ArePlaced components.now ports.now }
     requires marks { length taken.now ≡ length ports.now }
-    ensures { IfOk result (λ tables. AreTables components.now ports.now taken.now (length ports.now) tables.items) }
+    ensures { IfOk result (λ tables. AreTables components.now ports.now taken.now
+        (length ports.now) tables.items) }
 {
     let mut tables = empty_tables(alloc, components)?;
     for number in 0..ports.len() {

@@ -32,7 +32,8 @@ pub(crate) fn is_input_in(components: &[Component], port: &Port) -> bool
 }
 
 fn knowns(dependency: Option<&Dependency>) -> Option<&Knowns>
-    ensures { option_copied result ≡ option_map (λ (d : Dependency). d.on) (option_copied dependency.entry) }
+    ensures { option_copied result ≡ option_map (λ (d : Dependency). d.on)
+        (option_copied dependency.entry) }
 {
     match dependency {
         Some(dependency) => Some(&dependency.on),

@@ -54,7 +54,8 @@ fn marks_of(alloc: Global, ports: &[Port], initializing: bool) -> Result<Vec<boo
 
 // Those that are marked.
 fn marked(alloc: Global, nodes: &[usize], marks: &[bool]) -> Result<Vec<usize>, AllocError>
-    ensures { IfOk result (λ kept. kept.items ≡ filter (λ p. slice_index_or marks.now p false) nodes.now) }
+    ensures { IfOk result (λ kept. kept.items ≡ filter (λ p. slice_index_or marks.now p false)
+        nodes.now) }
 {
     let mut kept = Vec::new(alloc);
     for node in nodes {
@@ -94,7 +95,8 @@ fn order_in(
     initializing: bool,
 ) -> Result<Items<PortId>, OrderFault>
     requires placed { ArePlaced components.now ports.now }
-    ensures order { IfOk result (λ order. IsOrderIn initializing (unordered components.now ports.now) (numbers order)) }
+    ensures order { IfOk result (λ order. IsOrderIn initializing
+        (unordered components.now ports.now) (numbers order)) }
     ensures cause { IfErr result (HasCauseIn initializing (unordered components.now ports.now)) }
 {
     let taken = marks_of(alloc, ports, initializing)?;

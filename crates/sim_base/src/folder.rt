@@ -56,7 +56,8 @@ impl MemFolder {
     pub fn new(alloc: Global, files: Vec<MemFile>, failing: Vec<u64>) -> MemFolder
         ensures files { result.files ≡ files.items }
         ensures failing { result.failing ≡ failing.items }
-        ensures quiet { (result.reads ≡ 0) × (result.book.asked ≡ []) × (result.book.failed ≡ []) × (result.book.faults ≡ 0) }
+        ensures quiet { (result.reads ≡ 0) × (result.book.asked ≡ []) × (result.book.failed ≡ []) ×
+            (result.book.faults ≡ 0) }
     {
         MemFolder {
             files: Items::from_vec(files),
@@ -93,7 +94,8 @@ impl Folder for MemFolder {
         ensures kept { (self.new.files ≡ self.old.files) × (self.new.failing ≡ self.old.failing) }
         ensures counted { self.new.reads ≡ min (self.old.reads + 1) (2 ^ 64 - 1) }
         ensures failed { result ≡ Err Failed → Contains self.old.failing self.old.reads }
-        ensures failing { Contains self.old.failing self.old.reads → (result ≡ Err Failed) ⊎ (result ≡ Err Memory) }
+        ensures failing { Contains self.old.failing self.old.reads → (result ≡ Err Failed) ⊎
+            (result ≡ Err Memory) }
     {
         let is_failing = is_listed(self.failing.as_slice(), self.reads);
         self.reads = self.reads.saturating_add(1);

@@ -43,7 +43,8 @@ impl ReadBook {
     /// Notes that a path is asked for, and answers it, to be handed back where its read fails.
     pub fn ask(&mut self, alloc: Global, path: &str) -> Result<Text, AllocError>
         ensures path { IfOk result (λ text. text ≡ path.now) }
-        ensures ok { OnOk result (self.new ≡ record self.old { asked = self.old.asked ++ path.now ∷ [] }) }
+        ensures ok { OnOk result
+            (self.new ≡ record self.old { asked = self.old.asked ++ path.now ∷ [] }) }
         ensures room { OnOk result (length self.new.failed < length self.new.asked) }
         ensures err { OnErr result (self.new ≡ self.old) }
     {

@@ -58,7 +58,8 @@ impl MemSink {
         most_puts: usize,
         failing: Vec<u64>,
     ) -> Result<MemSink, AllocError>
-        ensures empty { IfOk result (λ s. (s.bytes.items ≡ []) × (s.lengths.items ≡ []) × (s.beyond ≡ 0)) }
+        ensures empty { IfOk result (λ s. (s.bytes.items ≡ []) × (s.lengths.items ≡ []) ×
+            (s.beyond ≡ 0)) }
         ensures room { IfOk result (λ s. (s.room ≡ room) × (s.most_puts ≡ most_puts)) }
         ensures failing { IfOk result (λ s. s.failing ≡ failing.items) }
         ensures quiet { IfOk result (λ s. (s.puts ≡ 0) × (s.faults ≡ 0)) }
@@ -117,7 +118,8 @@ impl Sink for MemSink {
     #[tactic(auto, using(crate::proofs::SinkLemmas::pieces_push))]
     fn put(&mut self, bytes: &[u8]) -> Result<(), SinkFault>
         ensures noted { NotesPut (mem_view self.old) (mem_view self.new) bytes.now result }
-        ensures kept { (self.new.room ≡ self.old.room) × (self.new.most_puts ≡ self.old.most_puts) × (self.new.failing ≡ self.old.failing) }
+        ensures kept { (self.new.room ≡ self.old.room) × (self.new.most_puts ≡ self.old.most_puts) ×
+            (self.new.failing ≡ self.old.failing) }
         ensures counted { self.new.puts ≡ min (self.old.puts + 1) (2 ^ 64 - 1) }
         ensures exact { IsErr result ↔ (Contains self.old.failing self.old.puts
             ⊎ (self.old.room < length self.old.bytes.items + length bytes.now)

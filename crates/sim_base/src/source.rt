@@ -63,7 +63,8 @@ impl Source for MemSource {
         ensures kept { (self.new.bytes ≡ self.old.bytes) × (self.new.failing ≡ self.old.failing) }
         ensures counted { self.new.takes ≡ min (self.old.takes + 1) (2 ^ 64 - 1) }
         ensures exact { IsErr result ↔ Contains self.old.failing self.old.takes }
-        ensures all { IfOk result (λ n. n ≡ min (length into.old) (length (drop self.old.taken self.old.bytes))) }
+        ensures all { IfOk result (λ n. n ≡ min (length into.old)
+            (length (drop self.old.taken self.old.bytes))) }
     {
         let is_failing = is_listed(self.failing.as_slice(), self.takes);
         self.takes = self.takes.saturating_add(1);

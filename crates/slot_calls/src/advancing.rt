@@ -23,14 +23,16 @@ pub fn advance<L: Peer>(slot: &mut Slot<L>, ask: Ask) -> Result<bool, Why>
     requires live { IsLive L.view slot.old.held }
     requires permitted { MayBeAsked ask (L.view (peer_in slot.old.held)) }
     ensures live { OnOk result (IsLive L.view slot.new.held) }
-    ensures one { One (call_of ask (L.view (peer_in slot.old.held)).fixed.shape) asks_to_end (instance_in L.view slot.old) (instance_in L.view slot.new) result }
+    ensures one { One (call_of ask (L.view (peer_in slot.old.held)).fixed.shape) asks_to_end
+        (instance_in L.view slot.old) (instance_in L.view slot.new) result }
 {
     let answer = replace_with(
         &mut slot.held,
         ask,
         |held, ask| -> (Held<L>, Result<bool, Why>)
             requires { IsLive L.view held × MayBeAsked ask (L.view (peer_in held)) }
-            ensures { Moves L.view held (call_of ask (L.view (peer_in held)).fixed.shape) asks_to_end result.0 result.1 }
+            ensures { Moves L.view held (call_of ask (L.view (peer_in held)).fixed.shape)
+                asks_to_end result.0 result.1 }
         { advance_held(held, ask) },
     );
     slot.is_fatal = slot.is_fatal || is_fatal(&answer);
@@ -62,7 +64,8 @@ fn is_fatal_why(why: &Why) -> bool
 fn advance_held<L: Peer>(held: Held<L>, ask: Ask) -> (Held<L>, Result<bool, Why>)
     requires live { IsLive L.view held }
     requires permitted { MayBeAsked ask (L.view (peer_in held)) }
-    ensures { Moves L.view held (call_of ask (L.view (peer_in held)).fixed.shape) asks_to_end result.0 result.1 }
+    ensures { Moves L.view held (call_of ask (L.view (peer_in held)).fixed.shape) asks_to_end
+        result.0 result.1 }
 {
     match ask {
         Ask::Instantiate => match held {
@@ -94,7 +97,8 @@ fn advance_held<L: Peer>(held: Held<L>, ask: Ask) -> (Held<L>, Result<bool, Why>
 
 fn instantiate<L: Peer>(fmu: Fmu<L, Fresh>) -> (Held<L>, Result<bool, Why>)
     requires state { (L.view fmu.peer).phase.state ≡ P.Fresh }
-    ensures { Moves L.view (Held.Fresh fmu) (instantiate_of (L.view fmu.peer).fixed.shape) asks_to_end result.0 result.1 }
+    ensures { Moves L.view (Held.Fresh fmu) (instantiate_of (L.view fmu.peer).fixed.shape)
+        asks_to_end result.0 result.1 }
 {
     match fmu.instantiate() {
         Ok(fmu) => (Held::Instantiated(fmu), Ok(false)),
@@ -110,8 +114,10 @@ fn enter_initialization<L: Peer>(
     start: u64,
     stop: u64,
 ) -> (Held<L>, Result<bool, Why>)
-    requires permitted { Permitted (L.view fmu.peer).fixed.shape (L.view fmu.peer).phase (C.EnterInitialization start stop) }
-    ensures { Moves L.view (Held.Instantiated fmu) (C.EnterInitialization start stop) asks_to_end result.0 result.1 }
+    requires permitted { Permitted (L.view fmu.peer).fixed.shape (L.view fmu.peer).phase
+        (C.EnterInitialization start stop) }
+    ensures { Moves L.view (Held.Instantiated fmu) (C.EnterInitialization start stop) asks_to_end
+        result.0 result.1 }
 {
     match fmu.enter_initialization(start, stop) {
         Ok(fmu) => (Held::Initializing(fmu), Ok(false)),
@@ -123,8 +129,10 @@ fn enter_initialization<L: Peer>(
 }
 
 fn exit_initialization<L: Peer>(fmu: Fmu<L, Initializing>) -> (Held<L>, Result<bool, Why>)
-    requires permitted { Permitted (L.view fmu.peer).fixed.shape (L.view fmu.peer).phase C.ExitInitialization }
-    ensures { Moves L.view (Held.Initializing fmu) C.ExitInitialization asks_to_end result.0 result.1 }
+    requires permitted { Permitted (L.view fmu.peer).fixed.shape
+        (L.view fmu.peer).phase C.ExitInitialization }
+    ensures { Moves L.view (Held.Initializing fmu) C.ExitInitialization asks_to_end result.0
+        result.1 }
 {
     match fmu.exit_initialization() {
         Ok(running) => (held_running(running), Ok(false)),
@@ -146,7 +154,8 @@ fn held_running<L: Peer>(running: Running<L>) -> Held<L>
 }
 
 fn enter_event<L: Peer>(fmu: Fmu<L, Stepping>) -> (Held<L>, Result<bool, Why>)
-    requires permitted { Permitted (L.view fmu.peer).fixed.shape (L.view fmu.peer).phase C.EnterEvent }
+    requires permitted { Permitted (L.view fmu.peer).fixed.shape
+        (L.view fmu.peer).phase C.EnterEvent }
     ensures { Moves L.view (Held.Stepping fmu) C.EnterEvent asks_to_end result.0 result.1 }
 {
     match fmu.enter_event() {
@@ -159,7 +168,8 @@ fn enter_event<L: Peer>(fmu: Fmu<L, Stepping>) -> (Held<L>, Result<bool, Why>)
 }
 
 fn enter_step<L: Peer>(fmu: Fmu<L, Eventing>) -> (Held<L>, Result<bool, Why>)
-    requires permitted { Permitted (L.view fmu.peer).fixed.shape (L.view fmu.peer).phase C.EnterStep }
+    requires permitted { Permitted (L.view fmu.peer).fixed.shape
+        (L.view fmu.peer).phase C.EnterStep }
     ensures { Moves L.view (Held.Eventing fmu) C.EnterStep asks_to_end result.0 result.1 }
 {
     match fmu.enter_step() {
@@ -172,7 +182,8 @@ fn enter_step<L: Peer>(fmu: Fmu<L, Eventing>) -> (Held<L>, Result<bool, Why>)
 }
 
 fn do_step<L: Peer>(fmu: Fmu<L, Stepping>, at: u64, size: u64) -> (Held<L>, Result<bool, Why>)
-    requires permitted { Permitted (L.view fmu.peer).fixed.shape (L.view fmu.peer).phase (C.DoStep at size) }
+    requires permitted { Permitted (L.view fmu.peer).fixed.shape (L.view fmu.peer).phase
+        (C.DoStep at size) }
     ensures { Moves L.view (Held.Stepping fmu) (C.DoStep at size) asks_to_end result.0 result.1 }
 {
     let mut fmu = fmu;

@@ -15,10 +15,12 @@ use value_types::{PortType, from_word};
 /// Sends a call that reads or sets a variable or a Clock, or an Update, to the FMU in a slot.
 pub fn send<L: Peer>(slot: &mut Slot<L>, call: Call) -> Result<Reply, Why>
     requires live { IsLive L.view slot.old.held }
-    requires permitted { Permitted (L.view (peer_in slot.old.held)).fixed.shape (L.view (peer_in slot.old.held)).phase call }
+    requires permitted { Permitted (L.view (peer_in slot.old.held)).fixed.shape
+        (L.view (peer_in slot.old.held)).phase call }
     requires sort { IsTrue (keeps_mode call) }
     ensures live { OnOk result (IsLive L.view slot.new.held) }
-    ensures one { One call reply_in (instance_in L.view slot.old) (instance_in L.view slot.new) (with_some result) }
+    ensures one { One call reply_in (instance_in L.view slot.old) (instance_in L.view slot.new)
+        (with_some result) }
 {
     let answer = send_held(&mut slot.held, call);
     slot.is_fatal |= is_fatal(&answer);
@@ -27,7 +29,8 @@ pub fn send<L: Peer>(slot: &mut Slot<L>, call: Call) -> Result<Reply, Why>
 
 fn send_held<L: Peer>(held: &mut Held<L>, call: Call) -> Result<Reply, Why>
     requires live { IsLive L.view held.old }
-    requires permitted { Permitted (L.view (peer_in held.old)).fixed.shape (L.view (peer_in held.old)).phase call }
+    requires permitted { Permitted (L.view (peer_in held.old)).fixed.shape
+        (L.view (peer_in held.old)).phase call }
     requires sort { IsTrue (keeps_mode call) }
     ensures moves { Moves L.view held.old call reply_in held.new (with_some result) }
 {
@@ -41,10 +44,13 @@ fn send_held<L: Peer>(held: &mut Held<L>, call: Call) -> Result<Reply, Why>
 }
 
 fn send_in_event<L: Peer>(fmu: &mut Fmu<L, Eventing>, call: Call) -> Result<Reply, Why>
-    requires permitted { Permitted (L.view fmu.old.peer).fixed.shape (L.view fmu.old.peer).phase call }
+    requires permitted { Permitted (L.view fmu.old.peer).fixed.shape
+        (L.view fmu.old.peer).phase call }
     requires sort { IsTrue (keeps_mode call) }
-    ensures called { Called call reply_in (L.view fmu.old.peer) (L.view fmu.new.peer) (with_some result) }
-    ensures state { OnOk result ((L.view fmu.new.peer).phase.state ≡ (L.view fmu.old.peer).phase.state) }
+    ensures called { Called call reply_in (L.view fmu.old.peer) (L.view fmu.new.peer)
+        (with_some result) }
+    ensures state { OnOk result ((L.view fmu.new.peer).phase.state ≡
+        (L.view fmu.old.peer).phase.state) }
 {
     match call {
         Call::Update => fmu.update(),
@@ -53,10 +59,13 @@ fn send_in_event<L: Peer>(fmu: &mut Fmu<L, Eventing>, call: Call) -> Result<Repl
 }
 
 fn send_to<L: Peer, M: Mode>(fmu: &mut Fmu<L, M>, call: Call) -> Result<Reply, Why>
-    requires permitted { Permitted (L.view fmu.old.peer).fixed.shape (L.view fmu.old.peer).phase call }
+    requires permitted { Permitted (L.view fmu.old.peer).fixed.shape
+        (L.view fmu.old.peer).phase call }
     requires sort { IsTrue (reads_or_sets call) }
-    ensures called { Called call reply_in (L.view fmu.old.peer) (L.view fmu.new.peer) (with_some result) }
-    ensures state { OnOk result ((L.view fmu.new.peer).phase.state ≡ (L.view fmu.old.peer).phase.state) }
+    ensures called { Called call reply_in (L.view fmu.old.peer) (L.view fmu.new.peer)
+        (with_some result) }
+    ensures state { OnOk result ((L.view fmu.new.peer).phase.state ≡
+        (L.view fmu.old.peer).phase.state) }
 {
     match call {
         Call::Get { kind, reference } => fmu.get(kind, reference),
@@ -76,9 +85,11 @@ fn send_to<L: Peer, M: Mode>(fmu: &mut Fmu<L, M>, call: Call) -> Result<Reply, W
 /// Reads an output of the FMU in a slot.
 pub fn read<L: Peer>(slot: &mut Slot<L>, port: &Port) -> Result<Option<i128>, Why>
     requires live { IsLive L.view slot.old.held }
-    requires permitted { Permitted (L.view (peer_in slot.old.held)).fixed.shape (L.view (peer_in slot.old.held)).phase (get_of port.now) }
+    requires permitted { Permitted (L.view (peer_in slot.old.held)).fixed.shape
+        (L.view (peer_in slot.old.held)).phase (get_of port.now) }
     ensures live { OnOk result (IsLive L.view slot.new.held) }
-    ensures one { One (get_of port.now) value_of (instance_in L.view slot.old) (instance_in L.view slot.new) result }
+    ensures one { One (get_of port.now) value_of (instance_in L.view slot.old)
+        (instance_in L.view slot.new) result }
     ensures wide { IfOk result IsWide }
 {
     let call = Call::Get {

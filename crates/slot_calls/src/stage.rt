@@ -16,7 +16,9 @@ pub fn each<L: Peer>(slots: &mut [Slot<L>], ask: Ask) -> Result<(), BadAnswer>
     requires live { All (LiveSlot L.view) slots.old }
     requires permitted { All (Stands (MayTakePart ask) L.view) slots.old }
     ensures live { OnOk result (All (LiveSlot L.view) slots.new) }
-    ensures stage { Stage (to_those (is_asked ask) (call_of ask) (shapes (instances L.view slots.old))) nothing (instances L.view slots.old) (instances L.view slots.new) result }
+    ensures stage { Stage (to_those (is_asked ask) (call_of ask)
+        (shapes (instances L.view slots.old))) nothing (instances L.view slots.old)
+        (instances L.view slots.new) result }
 {
     for place in 0..slots.len() {
         if !is_asked(&slots[place], ask) {
@@ -55,7 +57,8 @@ pub fn round<L: Peer>(slots: &mut [Slot<L>], ask: Ask) -> Result<bool, BadAnswer
     requires live { All (LiveSlot L.view) slots.old }
     requires permitted { All (Stands (MayBeAsked ask) L.view) slots.old }
     ensures live { OnOk result (All (LiveSlot L.view) slots.new) }
-    ensures round { Round (to_each (call_of ask) (shapes (instances L.view slots.old))) any_asks_to_end (instances L.view slots.old) (instances L.view slots.new) result }
+    ensures round { Round (to_each (call_of ask) (shapes (instances L.view slots.old)))
+        any_asks_to_end (instances L.view slots.old) (instances L.view slots.new) result }
 {
     let mut so_far = Ok(false);
     for place in 0..slots.len() {

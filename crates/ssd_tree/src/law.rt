@@ -6,5 +6,6 @@ ghost use Rattle.ssd_tree.specs.Rules.{IsSound};
 
 /// A sound document has one tree of systems.
 pub(crate) fn one_tree()
-    ensures { (t : List Node) (a b : SystemTree) → IsSound t → Describes t a → Describes t b → a ≡ b }
+    ensures { (t : List Node) (a b : SystemTree) → IsSound t → Describes t a → Describes t b →
+        a ≡ b }
 {}

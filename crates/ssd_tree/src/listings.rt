@@ -5,7 +5,8 @@ ghost use Rattle.ssd_tree.specs.Listings.{IsRising};
 /// The place of an element in a list.
 pub(crate) fn place_of(nodes: &[usize], node: usize) -> Option<usize>
     requires { IsRising nodes.now }
-    ensures { MatchOption result (Contains nodes.now node → ⊥) (λ place. slice_get nodes.now place ≡ Some node) }
+    ensures { MatchOption result (Contains nodes.now node → ⊥)
+        (λ place. slice_get nodes.now place ≡ Some node) }
 {
     nodes.binary_search(&node).ok()
 }

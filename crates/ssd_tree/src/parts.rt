@@ -155,7 +155,8 @@ impl IndexedTree<'_> {
         requires indexed { IsIndexed self.now }
         requires sound { IsSound self.now.tree.now }
         requires is { IsSystem self.now.tree.now node }
-        ensures { IsPlaceOf self.now.lists.systems.items result (holder self.now.tree.now node (codes "Elements")) }
+        ensures { IsPlaceOf self.now.lists.systems.items result
+            (holder self.now.tree.now node (codes "Elements")) }
     {
         match holder(self.tree, node, "Elements") {
             Some(system) => Some(self.system_place(system)),
@@ -167,7 +168,8 @@ impl IndexedTree<'_> {
     fn system_of(&self, node: usize) -> usize
         requires indexed { IsIndexed self.now }
         requires is { IsComponent self.now.tree.now node }
-        ensures { IsPlaceOf self.now.lists.systems.items (Some result) (holder self.now.tree.now node (codes "Elements")) }
+        ensures { IsPlaceOf self.now.lists.systems.items (Some result)
+            (holder self.now.tree.now node (codes "Elements")) }
     {
         let system = holder(self.tree, node, "Elements").unwrap();
         self.system_place(system)
@@ -177,7 +179,8 @@ impl IndexedTree<'_> {
     fn owner(&self, node: usize, list: &str) -> Owner
         requires indexed { IsIndexed self.now }
         requires part { IsOfPart self.now.tree.now node list.now }
-        ensures { (part : ℕ) → holder self.now.tree.now node list.now ≡ Some part → owner_node (nodes_of self.now.lists) result ≡ Some part }
+        ensures { (part : ℕ) → holder self.now.tree.now node list.now ≡ Some part →
+            owner_node (nodes_of self.now.lists) result ≡ Some part }
     {
         let part = holder(self.tree, node, list).unwrap();
         if self.is_system(part) {
@@ -274,7 +277,9 @@ impl IndexedTree<'_> {
     fn system_parts(&self, alloc: Global) -> Result<Vec<SystemPart>, AllocError>
         requires indexed { IsIndexed self.now }
         requires sound { IsSound self.now.tree.now }
-        ensures { IfOk result (λ v. AllZip (IsSystemPart self.now.tree.now (nodes_of self.now.lists)) self.now.lists.systems.items v.items) }
+        ensures { IfOk result
+            (λ v. AllZip (IsSystemPart self.now.tree.now (nodes_of self.now.lists))
+            self.now.lists.systems.items v.items) }
     {
         let mut parts = Vec::new(alloc);
         for node in &self.lists.systems {
@@ -286,7 +291,9 @@ impl IndexedTree<'_> {
     fn component_parts(&self, alloc: Global) -> Result<Vec<ComponentPart>, AllocError>
         requires indexed { IsIndexed self.now }
         requires sound { IsSound self.now.tree.now }
-        ensures { IfOk result (λ v. AllZip (IsComponentPart self.now.tree.now (nodes_of self.now.lists)) self.now.lists.components.items v.items) }
+        ensures { IfOk result
+            (λ v. AllZip (IsComponentPart self.now.tree.now (nodes_of self.now.lists))
+            self.now.lists.components.items v.items) }
     {
         let mut parts = Vec::new(alloc);
         for node in &self.lists.components {
@@ -298,7 +305,9 @@ impl IndexedTree<'_> {
     fn connector_parts(&self, alloc: Global) -> Result<Vec<Connector>, AllocError>
         requires indexed { IsIndexed self.now }
         requires sound { IsSound self.now.tree.now }
-        ensures { IfOk result (λ v. AllZip (IsConnectorPart self.now.tree.now (nodes_of self.now.lists)) self.now.lists.connectors.items v.items) }
+        ensures { IfOk result
+            (λ v. AllZip (IsConnectorPart self.now.tree.now (nodes_of self.now.lists))
+            self.now.lists.connectors.items v.items) }
     {
         let mut parts = Vec::new(alloc);
         for node in &self.lists.connectors {
@@ -310,7 +319,9 @@ impl IndexedTree<'_> {
     fn connection_parts(&self, alloc: Global) -> Result<Vec<Connection>, AllocError>
         requires indexed { IsIndexed self.now }
         requires sound { IsSound self.now.tree.now }
-        ensures { IfOk result (λ v. AllZip (IsConnectionPart self.now.tree.now (nodes_of self.now.lists)) self.now.lists.connections.items v.items) }
+        ensures { IfOk result
+            (λ v. AllZip (IsConnectionPart self.now.tree.now (nodes_of self.now.lists))
+            self.now.lists.connections.items v.items) }
     {
         let mut parts = Vec::new(alloc);
         for node in &self.lists.connections {
@@ -322,7 +333,9 @@ impl IndexedTree<'_> {
     fn binding_parts(&self, alloc: Global) -> Result<Vec<Binding>, AllocError>
         requires indexed { IsIndexed self.now }
         requires sound { IsSound self.now.tree.now }
-        ensures { IfOk result (λ v. AllZip (IsBindingPart self.now.tree.now (nodes_of self.now.lists)) self.now.lists.bindings.items v.items) }
+        ensures { IfOk result
+            (λ v. AllZip (IsBindingPart self.now.tree.now (nodes_of self.now.lists))
+            self.now.lists.bindings.items v.items) }
     {
         let mut parts = Vec::new(alloc);
         for node in &self.lists.bindings {

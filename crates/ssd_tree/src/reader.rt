@@ -21,8 +21,10 @@ pub fn read_ssd(alloc: Global, tree: &Tree) -> Result<SystemTree, Refusal>
     ensures sound { IfOk result (λ read. IsSound tree.now) }
     ensures found { IfOk result (Describes tree.now) }
     ensures fault { IfErr result (Faults tree.now) }
-    ensures exact { (rule : SystemRule) (node : ℕ) → IsFirstViolation tree.now node rule → Refuses result (Rule.System rule) node }
-    ensures only { (read : SystemTree) → IsSound tree.now → Describes tree.now read → Gives result read }
+    ensures exact { (rule : SystemRule) (node : ℕ) → IsFirstViolation tree.now node rule →
+        Refuses result (Rule.System rule) node }
+    ensures only { (read : SystemTree) → IsSound tree.now → Describes tree.now read →
+        Gives result read }
 {
     one_tree();
     let Ok(indexed) = IndexedTree::new(alloc, tree) else {

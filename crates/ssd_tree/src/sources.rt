@@ -34,7 +34,8 @@ fn has_astray(segments: &[&str]) -> bool
 }
 
 fn leads_down(segments: &[&str]) -> bool
-    ensures { result ≡ (not (length segments.now == 0) && not (list_any (λ s. is_astray s.now) segments.now)) }
+    ensures { result ≡ (not (length segments.now == 0) && not
+        (list_any (λ s. is_astray s.now) segments.now)) }
 {
     !segments.is_empty() && !has_astray(segments)
 }

@@ -38,9 +38,11 @@ pub(crate) fn write_file_message(path: &str, fault: &FileFault, text: &mut [u8])
 
 #[tactic(auto, unfolding(crate::specs::Message::file_message))]
 fn write_broken(path: &str, rule: Rule, place: &Place, ports: &[PortId], text: &mut [u8]) -> usize
-    requires { room_for (length path.now) + place_room (FileFault.Broken rule place.now ports.now) ≤ length text.old }
+    requires { room_for (length path.now) + place_room (FileFault.Broken rule place.now ports.now) ≤
+        length text.old }
     ensures length { result ≤ length text.new }
-    ensures text { take result text.new ≡ file_message path.now (FileFault.Broken rule place.now ports.now) }
+    ensures text { take result text.new ≡ file_message path.now
+        (FileFault.Broken rule place.now ports.now) }
 {
     let at = append(b"refused ", text, 0);
     let at = append_number(u64::from(rule.number()), text, at);
@@ -142,7 +144,8 @@ fn write_call(word: &[u8], component: &str, call: &str, text: &mut [u8]) -> usiz
     requires call { length call.now ≤ 19 }
     requires room { 3 * length component.now + 29 ≤ length text.old }
     ensures end { result ≤ 3 * length component.now + 29 }
-    ensures text { take result text.new ≡ word.now ++ escaped component.now ++ codes " " ++ call.now }
+    ensures text { take result text.new ≡ word.now ++ escaped component.now ++ codes " " ++
+        call.now }
 {
     let at = append(word, text, 0);
     let at = append_name(component, text, at);

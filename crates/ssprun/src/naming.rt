@@ -46,7 +46,8 @@ impl Naming {
     /// The report of a component whose peer wasn't started.
     pub fn not_started(self, component: CompId, fault: StartCause) -> Report
         requires { component.0 < length self.names.items }
-        ensures { (name : _) × (slice_get self.names.items component.0 ≡ Some name) × (result.outcome ≡ Start name fault) }
+        ensures { (name : _) × (slice_get self.names.items component.0 ≡ Some name) ×
+            (result.outcome ≡ Start name fault) }
     {
         let Named { name, text } = self.take(component);
         Report {

@@ -29,8 +29,10 @@ pub(crate) fn start_each<S: Spawner>(
     requires few { length components.now ≤ 256 }
     requires folders { length folders.now ≡ length components.now }
     requires each { All IsNamed components.now }
-    ensures ok { IfOk result (λ peers. StartsEach host.now folders.now components.now (map S.Link.view peers.items) (S.view spawner.old) (S.view spawner.new)) }
-    ensures err { IfErr result (λ e. StartsUpTo host.now folders.now components.now e.component.0 e.fault (map S.Link.view e.peers.items) (S.view spawner.old) (S.view spawner.new)) }
+    ensures ok { IfOk result (λ peers. StartsEach host.now folders.now components.now
+        (map S.Link.view peers.items) (S.view spawner.old) (S.view spawner.new)) }
+    ensures err { IfErr result (λ e. StartsUpTo host.now folders.now components.now e.component.0
+        e.fault (map S.Link.view e.peers.items) (S.view spawner.old) (S.view spawner.new)) }
 {
     let mut peers = room;
     for place in 0..components.len() {
@@ -57,8 +59,10 @@ pub(crate) fn start_each<S: Spawner>(
 
 /// Takes the peers back, in their order.
 pub(crate) fn retire_each<S: Spawner>(peers: Vec<S::Link>, spawner: &mut S)
-    requires { length (S.view spawner.old).retired + length peers.items ≤ (S.view spawner.old).started }
-    ensures { S.view spawner.new ≡ with_all_retired (S.view spawner.old) (map S.Link.view peers.items) }
+    requires { length (S.view spawner.old).retired + length peers.items ≤
+        (S.view spawner.old).started }
+    ensures { S.view spawner.new ≡ with_all_retired (S.view spawner.old)
+        (map S.Link.view peers.items) }
 {
     let mut left = peers.into_iter();
     while let Some(peer) = left.next() {

@@ -55,7 +55,8 @@ fn refuse_broken(
     place: Place,
     ports: Items<PortId>,
 ) -> Report
-    ensures { (result.outcome ≡ File path (FileFault.Broken rule place ports)) ⊎ (result.outcome ≡ Memory) }
+    ensures { (result.outcome ≡ File path (FileFault.Broken rule place ports)) ⊎
+        (result.outcome ≡ Memory) }
 {
     let Some(more) = room_of(&place, ports.as_slice()) else {
         return Report::memory(alloc);

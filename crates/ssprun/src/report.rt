@@ -59,7 +59,8 @@ impl Report {
 
     /// Puts the line, if there is one, and answers the status.
     pub fn put<E: Sink>(self, err: &mut E) -> u8
-        ensures { Reports (message self.outcome) (status_of self.outcome) result (E.view err.old) (E.view err.new) }
+        ensures { Reports (message self.outcome) (status_of self.outcome) result (E.view err.old)
+            (E.view err.new) }
     {
         let Report { outcome, mut text } = self;
         match &outcome {
@@ -88,7 +89,8 @@ pub(crate) fn put_line<E: Sink>(line: &[u8], status: u8, err: &mut E) -> u8
 
 fn put_file_line<E: Sink>(path: &Text, fault: &FileFault, text: &mut [u8], err: &mut E) -> u8
     requires { room_for (length path.now) + place_room fault.now ≤ length text.old }
-    ensures { Reports (Some (file_message path.now fault.now)) (file_status fault.now) result (E.view err.old) (E.view err.new) }
+    ensures { Reports (Some (file_message path.now fault.now)) (file_status fault.now) result
+        (E.view err.old) (E.view err.new) }
 {
     let length = write_file_message(path.as_str(), fault, text);
     put_line(&text[..length], file_status(fault), err)
@@ -105,7 +107,8 @@ fn file_status(fault: &FileFault) -> u8
 
 fn put_start_line<E: Sink>(component: &Text, fault: StartCause, text: &mut [u8], err: &mut E) -> u8
     requires { room_for (length component.now) ≤ length text.old }
-    ensures { Reports (Some (start_message component.now fault)) 5 result (E.view err.old) (E.view err.new) }
+    ensures { Reports (Some (start_message component.now fault)) 5 result (E.view err.old)
+        (E.view err.new) }
 {
     let length = write_start_message(component.as_str(), fault, text);
     put_line(&text[..length], 5, err)
@@ -113,7 +116,8 @@ fn put_start_line<E: Sink>(component: &Text, fault: StartCause, text: &mut [u8],
 
 fn put_end_line<E: Sink>(end: &End, text: &mut [u8], err: &mut E) -> u8
     requires { end_room end.now ≤ length text.old }
-    ensures { Reports (end_message end.now) (end_status end.now) result (E.view err.old) (E.view err.new) }
+    ensures { Reports (end_message end.now) (end_status end.now) result (E.view err.old)
+        (E.view err.new) }
 {
     match end {
         End::Stop | End::Asked => 0,

@@ -167,7 +167,9 @@ fn run_loaded<R: Threads + Sync, S: Spawner, O: Sink>(
 
 // Tells the size of a system.
 fn tell_size<O: Sink>(alloc: Global, system: &System, unreached: u64, out: &mut O) -> Report
-    ensures { (spawner : SpawnerView) (loaded : Loaded) → loaded.system ≡ system.now → loaded.bound.unreached ≡ unreached → CheckFacts result.outcome loaded (scene spawner (O.view out.old)) (scene spawner (O.view out.new)) }
+    ensures { (spawner : SpawnerView) (loaded : Loaded) → loaded.system ≡ system.now →
+        loaded.bound.unreached ≡ unreached → CheckFacts result.outcome loaded
+        (scene spawner (O.view out.old)) (scene spawner (O.view out.new)) }
 {
     let mut text = [0u8; 128];
     let length = write_size(system, unreached, &mut text);
@@ -216,7 +218,8 @@ fn give_up<S: Spawner>(
     spawner: &mut S,
 ) -> Report
     requires one { unstarted.component.0 < length naming.names.items }
-    requires fewer { length (S.view spawner.old).retired + length unstarted.peers.items ≤ (S.view spawner.old).started }
+    requires fewer { length (S.view spawner.old).retired + length unstarted.peers.items ≤
+        (S.view spawner.old).started }
     ensures { (task : Task) (system : System) (before : SpawnerView) (out : SinkView) → naming.names.items ≡ names_of system →
         StartsUpTo task.host task.folders system.components unstarted.component.0 unstarted.fault (map S.Link.view unstarted.peers.items) before (S.view spawner.old) →
         RunFacts result.outcome task system (scene before out) (scene (S.view spawner.new) out) }
@@ -253,8 +256,10 @@ fn run_peers<R: Threads + Sync, S: Spawner, O: Sink>(
     requires counts { CountsBy system options.plan }
     requires names { naming.names.items ≡ names_of system }
     requires each { length peers.items ≡ length system.components }
-    requires started { AreStarted options.host.now folders.now system.components (map S.Link.view peers.items) }
-    requires fewer { length (S.view spawner.old).retired + length peers.items ≤ (S.view spawner.old).started }
+    requires started { AreStarted options.host.now folders.now system.components
+        (map S.Link.view peers.items) }
+    requires fewer { length (S.view spawner.old).retired + length peers.items ≤
+        (S.view spawner.old).started }
     ensures { (before : SpawnerView) → AreKnown options.entry.host.now before system.components → S.view spawner.old ≡ with_all_started before (length peers.items) →
         RunFacts result.outcome (record { plan = options.entry.plan; host = options.entry.host.now; bound = bound; folders = folders.now }) system (scene before (O.view out.old)) (scene (S.view spawner.new) (O.view out.new)) }
 {

@@ -46,8 +46,10 @@ impl<L: Peer> Master<L> {
         requires plan { IsPlan plan }
         requires counts { CountsBy system plan }
         ensures ready { IfOk result (IsReady L.view) }
-        ensures ok { IfOk result (λ master. Prepares system bound plan (map L.view peers.items) (standing L.view master)) }
-        ensures err { IfErr result (λ end. FailsToPrepare system (map L.view peers.items) end.fault (map L.view end.peers.items)) }
+        ensures ok { IfOk result (λ master. Prepares system bound plan (map L.view peers.items)
+            (standing L.view master)) }
+        ensures err { IfErr result (λ end. FailsToPrepare system (map L.view peers.items) end.fault
+            (map L.view end.peers.items)) }
     {
         let Ok(room) = Room::new(alloc, &system, &plan) else {
             return Err(PrepareEnd {
@@ -85,7 +87,8 @@ impl<L: Peer> Master<L> {
     /// It takes no memory.
     pub fn run<R: Threads + Sync, O: Sink>(&mut self, _rt: &R, out: &mut O) -> RunEnd
         requires { IsReady L.view self.old }
-        ensures { Runs (standing L.view self.old) (standing L.view self.new) (O.view out.old) (O.view out.new) result }
+        ensures { Runs (standing L.view self.old) (standing L.view self.new) (O.view out.old)
+            (O.view out.new) result }
     {
         self.was_run = true;
         run_slots(

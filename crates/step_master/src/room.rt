@@ -25,7 +25,8 @@ impl Room {
     pub fn new(alloc: Global, system: &System, plan: &Plan) -> Result<Room, PrepareFault>
         requires sound { IsSound system.now }
         requires plan { IsPlan plan.now }
-        ensures { IfOk result (λ room. HasRoom system.now plan.now room.reads room.schedule room.values.items room.text.items) }
+        ensures { IfOk result (λ room. HasRoom system.now plan.now room.reads room.schedule
+            room.values.items room.text.items) }
     {
         let Some(bytes) = room_for(system) else {
             return Err(PrepareFault::Memory);

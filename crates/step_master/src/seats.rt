@@ -28,7 +28,8 @@ impl<L: Peer> Seats<L> {
     pub fn new(alloc: Global, components: &[Component], peers: Vec<L>) -> Result<Seats<L>, Vec<L>>
         requires each { length components.now ≡ vec_len peers }
         requires fresh { All (λ p. (L.view p).phase.state ≡ P.Fresh) peers.items }
-        ensures ok { IfOk result (λ seats. instances L.view seats.slots.items ≡ seated components.now (map L.view peers.items)) }
+        ensures ok { IfOk result (λ seats. instances L.view seats.slots.items ≡
+            seated components.now (map L.view peers.items)) }
         ensures live { IfOk result (λ seats. All (LiveSlot L.view) seats.slots.items) }
         ensures err { IfErr result (λ left. left.items ≡ peers.items) }
     {
@@ -54,7 +55,9 @@ impl<L: Peer> Seats<L> {
         requires fresh { All (Stands IsFresh L.view) self.old.slots.items }
         ensures live { OnOk result (All (LiveSlot L.view) self.new.slots.items) }
         ensures made { OnOk result (All (Stands IsMade L.view) self.new.slots.items) }
-        ensures stage { Stage (to_each instantiate_of (shapes (instances L.view self.old.slots.items))) nothing (instances L.view self.old.slots.items) (instances L.view self.new.slots.items) result }
+        ensures stage { Stage
+            (to_each instantiate_of (shapes (instances L.view self.old.slots.items))) nothing
+            (instances L.view self.old.slots.items) (instances L.view self.new.slots.items) result }
     {
         make(&mut self.slots)
     }

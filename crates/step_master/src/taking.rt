@@ -86,7 +86,8 @@ pub(crate) fn make<L: Peer>(slots: &mut [Slot<L>]) -> Result<(), BadAnswer>
     requires fresh { All (Stands IsFresh L.view) slots.old }
     ensures live { OnOk result (All (LiveSlot L.view) slots.new) }
     ensures made { OnOk result (All (Stands IsMade L.view) slots.new) }
-    ensures stage { Stage (to_each instantiate_of (shapes (instances L.view slots.old))) nothing (instances L.view slots.old) (instances L.view slots.new) result }
+    ensures stage { Stage (to_each instantiate_of (shapes (instances L.view slots.old))) nothing
+        (instances L.view slots.old) (instances L.view slots.new) result }
 {
     each(slots, Ask::Instantiate)?;
     Ok(())

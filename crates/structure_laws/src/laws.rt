@@ -11,7 +11,9 @@ use doc_grammar::document_laws;
 /// Laws: the full name of each component that a system structure description without violation names is no longer than
 /// the document, in bytes.
 pub fn read_structures()
-    ensures names { (bytes : List ℕ) (document : List Node) (tree : SystemTree) → Denotes bytes document → IsSound document → Describes document tree → All (λ (c : ComponentPart). length c.name ≤ length bytes) tree.components }
+    ensures names { (bytes : List ℕ) (document : List Node) (tree : SystemTree) →
+        Denotes bytes document → IsSound document → Describes document tree →
+        All (λ (c : ComponentPart). length c.name ≤ length bytes) tree.components }
 {
     document_laws();
 }
@@ -19,7 +21,8 @@ pub fn read_structures()
 /// A law: what a system structure description without violation says is a tree in which each System stands behind the
 /// one that it stands in, and the full name of each component begins with the names of the Systems around it.
 pub fn named_trees()
-    ensures { (bytes : List ℕ) (document : List Node) (tree : SystemTree) → Denotes bytes document → IsSound document → Describes document tree → IsNamedTree tree }
+    ensures { (bytes : List ℕ) (document : List Node) (tree : SystemTree) → Denotes bytes document →
+        IsSound document → Describes document tree → IsNamedTree tree }
 {
     document_laws();
 }

@@ -27,8 +27,10 @@ pub(crate) fn load_bindings<F: Folder>(
     folder: &mut F,
 ) -> Result<Vec<GivenBinding>, LoadEnd>
     requires { HasDocument outline.now }
-    ensures ok { IfOk result (λ given. TakesBindings directory.now outline.now outline.now.systems.bindings given.items (F.view folder.old) (F.view folder.new)) }
-    ensures err { IfErr result (λ end. EndsBindings subject directory.now outline.now end (F.view folder.old) (F.view folder.new)) }
+    ensures ok { IfOk result (λ given. TakesBindings directory.now outline.now
+        outline.now.systems.bindings given.items (F.view folder.old) (F.view folder.new)) }
+    ensures err { IfErr result (λ end. EndsBindings subject directory.now outline.now end
+        (F.view folder.old) (F.view folder.new)) }
 {
     let bindings = outline.systems.bindings.as_slice();
     let Ok(room) = Vec::with_capacity(alloc, bindings.len()) else {
@@ -55,8 +57,10 @@ fn load_binding<F: Folder>(
     folder: &mut F,
 ) -> Result<GivenBinding, LoadEnd>
     requires { IsSome outline.now.document }
-    ensures ok { IfOk result (λ given. TakesBinding directory.now outline.now binding.now given (F.view folder.old) (F.view folder.new)) }
-    ensures err { IfErr result (λ end. EndsBinding subject directory.now outline.now binding.now end (F.view folder.old) (F.view folder.new)) }
+    ensures ok { IfOk result (λ given. TakesBinding directory.now outline.now binding.now given
+        (F.view folder.old) (F.view folder.new)) }
+    ensures err { IfErr result (λ end. EndsBinding subject directory.now outline.now binding.now end
+        (F.view folder.old) (F.view folder.new)) }
 {
     match load_values(
         alloc,
@@ -103,10 +107,13 @@ fn load_values<F: Folder>(
     folder: &mut F,
 ) -> Result<GivenSet, LoadEnd>
     requires { IsSome outline.now.document }
-    ensures ok { IfOk result (IsValuesAlone directory.now (F.view folder.old) outline.now owner origin.now) }
+    ensures ok { IfOk result (IsValuesAlone directory.now (F.view folder.old) outline.now owner
+        origin.now) }
     ensures range { IfOk result (λ given. AreInRange given.set) }
-    ensures told { IfOk result (λ given. F.view folder.new ≡ with_all_asked (F.view folder.old) (part_files directory.now outline.now owner origin.now)) }
-    ensures err { IfErr result (λ end. EndsPart FailsValues FailsValuesWithin subject directory.now outline.now owner origin.now end (F.view folder.old) (F.view folder.new)) }
+    ensures told { IfOk result (λ given. F.view folder.new ≡ with_all_asked (F.view folder.old)
+        (part_files directory.now outline.now owner origin.now)) }
+    ensures err { IfErr result (λ end. EndsPart FailsValues FailsValuesWithin subject directory.now
+        outline.now owner origin.now end (F.view folder.old) (F.view folder.new)) }
 {
     match origin {
         Origin::File { base, path } => match name_part(
@@ -138,9 +145,12 @@ fn load_mapping<F: Folder>(
     folder: &mut F,
 ) -> Result<GivenMapping, LoadEnd>
     requires { IsSome outline.now.document }
-    ensures ok { IfOk result (IsPart SaysMapping SaysMappingWithin directory.now (F.view folder.old) outline.now owner origin.now) }
-    ensures told { IfOk result (λ given. F.view folder.new ≡ with_all_asked (F.view folder.old) (part_files directory.now outline.now owner origin.now)) }
-    ensures err { IfErr result (λ end. EndsPart FailsMapping FailsMappingWithin subject directory.now outline.now owner origin.now end (F.view folder.old) (F.view folder.new)) }
+    ensures ok { IfOk result (IsPart SaysMapping SaysMappingWithin directory.now
+        (F.view folder.old) outline.now owner origin.now) }
+    ensures told { IfOk result (λ given. F.view folder.new ≡ with_all_asked (F.view folder.old)
+        (part_files directory.now outline.now owner origin.now)) }
+    ensures err { IfErr result (λ end. EndsPart FailsMapping FailsMappingWithin subject
+        directory.now outline.now owner origin.now end (F.view folder.old) (F.view folder.new)) }
 {
     match origin {
         Origin::File { base, path } => match name_part(
@@ -170,7 +180,8 @@ fn name_part(
     base: SourceBase,
     source: &str,
 ) -> Result<NamedFile, NoMemory>
-    ensures { IfOk result (λ file. file.path ≡ part_path directory.now outline.now owner base source.now) }
+    ensures { IfOk result (λ file. file.path ≡ part_path directory.now outline.now owner base
+        source.now) }
 {
     NamedFile::new(
         alloc,
@@ -201,7 +212,8 @@ pub(crate) fn name_part_told(
     owner: Owner,
     origin: &Origin,
 ) -> Result<NamedFile, NoMemory>
-    ensures { IfOk result (λ file. file.path ≡ part_told subject directory.now outline.now owner origin.now) }
+    ensures { IfOk result (λ file. file.path ≡ part_told subject directory.now outline.now owner
+        origin.now) }
 {
     match origin {
         Origin::File { base, path } => name_part(

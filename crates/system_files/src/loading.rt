@@ -50,13 +50,17 @@ pub fn load<F: Folder>(
 ) -> Result<Loaded, LoadEnd>
     requires above { 1 ≤ resolution }
     requires within { resolution ≤ 2 ^ 62 }
-    ensures ok { IfOk result (λ loaded. Loads (search_of subject directory.now resolution) (Found loaded) (F.view folder.old) (F.view folder.new)) }
+    ensures ok { IfOk result (λ loaded. Loads (search_of subject directory.now resolution)
+        (Found loaded) (F.view folder.old) (F.view folder.new)) }
     ensures sound { IfOk result (λ loaded. IsSound loaded.system) }
     ensures built { IfOk result (λ loaded. IsBuilt loaded.system) }
     ensures named { IfOk result (λ loaded. All IsNamed loaded.system.components) }
-    ensures counts { IfOk result (λ loaded. All (λ (c : Component). c.shape.resolution ≡ resolution) loaded.system.components) }
+    ensures counts { IfOk result
+        (λ loaded. All (λ (c : Component). c.shape.resolution ≡ resolution)
+        loaded.system.components) }
     ensures bound { IfOk result (λ loaded. BindsParameters loaded.system loaded.bound) }
-    ensures err { IfErr result (λ end. EndsLoading (search_of subject directory.now resolution) end (F.view folder.old) (F.view folder.new)) }
+    ensures err { IfErr result (λ end. EndsLoading (search_of subject directory.now resolution) end
+        (F.view folder.old) (F.view folder.new)) }
 {
     loading_laws();
     match load_outline(alloc, subject, directory, folder) {
@@ -73,8 +77,10 @@ fn load_outline<F: Folder>(
     folder: &mut F,
 ) -> Result<Outline, LoadEnd>
     ensures ok { IfOk result (OutlinesAlone subject directory.now (F.view folder.old)) }
-    ensures told { IfOk result (λ outline. F.view folder.new ≡ with_all_asked (F.view folder.old) (files_before subject directory.now)) }
-    ensures err { IfErr result (λ end. EndsOutline subject directory.now end (F.view folder.old) (F.view folder.new)) }
+    ensures told { IfOk result (λ outline. F.view folder.new ≡ with_all_asked (F.view folder.old)
+        (files_before subject directory.now)) }
+    ensures err { IfErr result (λ end. EndsOutline subject directory.now end (F.view folder.old)
+        (F.view folder.new)) }
 {
     match subject {
         Subject::Fmu => match lone_outline(alloc) {
@@ -102,14 +108,19 @@ fn load_models<F: Folder>(
     requires whole { IsWhole outline.now.systems }
     requires tree { IsNamedTree outline.now.systems }
     requires document { HasDocument outline.now }
-    requires short { All (λ (c : ComponentPart). length c.name ≤ 2 ^ 24) outline.now.systems.components }
-    ensures ok { IfOk result (λ loaded. TakesModels (search_of subject directory.now resolution) outline.now loaded (F.view folder.old) (F.view folder.new)) }
+    requires short { All (λ (c : ComponentPart). length c.name ≤ 2 ^ 24)
+        outline.now.systems.components }
+    ensures ok { IfOk result (λ loaded. TakesModels (search_of subject directory.now resolution)
+        outline.now loaded (F.view folder.old) (F.view folder.new)) }
     ensures sound { IfOk result (λ loaded. IsSound loaded.system) }
     ensures built { IfOk result (λ loaded. IsBuilt loaded.system) }
     ensures named { IfOk result (λ loaded. All IsNamed loaded.system.components) }
-    ensures counts { IfOk result (λ loaded. All (λ (c : Component). c.shape.resolution ≡ resolution) loaded.system.components) }
+    ensures counts { IfOk result
+        (λ loaded. All (λ (c : Component). c.shape.resolution ≡ resolution)
+        loaded.system.components) }
     ensures bound { IfOk result (λ loaded. BindsParameters loaded.system loaded.bound) }
-    ensures err { IfErr result (λ end. EndsModels (search_of subject directory.now resolution) outline.now end (F.view folder.old) (F.view folder.new)) }
+    ensures err { IfErr result (λ end. EndsModels (search_of subject directory.now resolution)
+        outline.now end (F.view folder.old) (F.view folder.new)) }
 {
     loading_laws();
     let components = outline.systems.components.as_slice();
@@ -139,7 +150,9 @@ fn put_together(
     ensures sound { IfOk result (λ loaded. IsSound loaded.system) }
     ensures built { IfOk result (λ loaded. IsBuilt loaded.system) }
     ensures bound { IfOk result (λ loaded. BindsParameters loaded.system loaded.bound) }
-    ensures err { IfErr result (λ end. (per_second : ℕ) → EndsTogether (search_of subject directory.now per_second) outline.now shapes.now given.items end) }
+    ensures err { IfErr result (λ end. (per_second : ℕ) →
+        EndsTogether (search_of subject directory.now per_second) outline.now shapes.now given.items
+        end) }
 {
     match bind_parameters(alloc, outline, shapes, given) {
         Ok(bound) => match assemble(alloc, outline, shapes) {

@@ -50,7 +50,8 @@ pub(crate) fn part_path(
     base: SourceBase,
     source: &str,
 ) -> Result<Text, AllocError>
-    ensures { IfOk result (λ path. path ≡ part_path directory.now outline.now owner base source.now) }
+    ensures { IfOk result (λ path. path ≡ part_path directory.now outline.now owner base
+        source.now) }
 {
     let folder = base_folder(alloc, directory, outline, owner, base)?;
     let mut path = String::from_str(alloc, folder.as_str())?;
@@ -82,7 +83,8 @@ fn owner_folder(
     outline: &Outline,
     owner: Owner,
 ) -> Result<Text, AllocError>
-    ensures { IfOk result (λ folder. folder ≡ base_folder directory.now outline.now owner SourceBase.Component) }
+    ensures { IfOk result (λ folder. folder ≡ base_folder directory.now outline.now owner
+        SourceBase.Component) }
 {
     match owner {
         Owner::System(_) => Text::from_str(alloc, directory),

@@ -18,9 +18,12 @@ use value_types::Shape;
 
 /// Reads the bytes of the file at a path, of which there are at most 16 MiB, whatever they say.
 pub fn read_file<F: Folder>(alloc: Global, path: &str, folder: &mut F) -> Result<Vec<u8>, LoadEnd>
-    ensures ok { IfOk result (λ bytes. HasFile (λ read given. read ≡ given) (F.view folder.old) path.now bytes.items) }
-    ensures told { IfOk result (λ bytes. F.view folder.new ≡ with_asked (F.view folder.old) path.now) }
-    ensures err { IfErr result (λ end. EndsUnread path.now end (F.view folder.old) (F.view folder.new)) }
+    ensures ok { IfOk result (λ bytes. HasFile (λ read given. read ≡ given)
+        (F.view folder.old) path.now bytes.items) }
+    ensures told { IfOk result (λ bytes. F.view folder.new ≡ with_asked
+        (F.view folder.old) path.now) }
+    ensures err { IfErr result (λ end. EndsUnread path.now end (F.view folder.old)
+        (F.view folder.new)) }
 {
     let Ok(file) = name_file(alloc, path) else {
         return Err(LoadEnd::Memory);
@@ -45,8 +48,10 @@ pub(crate) fn read_structure<F: Folder>(
     folder: &mut F,
 ) -> Result<Outline, LoadEnd>
     ensures ok { IfOk result (HasFile SaysStructure (F.view folder.old) file.path) }
-    ensures told { IfOk result (λ outline. F.view folder.new ≡ with_asked (F.view folder.old) file.path) }
-    ensures err { IfErr result (λ end. EndsAt FailsStructure file.path end (F.view folder.old) (F.view folder.new)) }
+    ensures told { IfOk result (λ outline. F.view folder.new ≡ with_asked
+        (F.view folder.old) file.path) }
+    ensures err { IfErr result (λ end. EndsAt FailsStructure file.path end (F.view folder.old)
+        (F.view folder.new)) }
 {
     match folder.read(alloc, file.path.as_str(), MOST_FILE_BYTES) {
         Ok(bytes) => match read_outline(alloc, &bytes) {
@@ -65,8 +70,10 @@ pub(crate) fn read_model<F: Folder>(
     folder: &mut F,
 ) -> Result<Shape, LoadEnd>
     ensures ok { IfOk result (HasFile (SaysModel resolution) (F.view folder.old) file.path) }
-    ensures told { IfOk result (λ shape. F.view folder.new ≡ with_asked (F.view folder.old) file.path) }
-    ensures err { IfErr result (λ end. EndsAt (FailsModel resolution) file.path end (F.view folder.old) (F.view folder.new)) }
+    ensures told { IfOk result (λ shape. F.view folder.new ≡ with_asked
+        (F.view folder.old) file.path) }
+    ensures err { IfErr result (λ end. EndsAt (FailsModel resolution) file.path end
+        (F.view folder.old) (F.view folder.new)) }
 {
     match folder.read(alloc, file.path.as_str(), MOST_FILE_BYTES) {
         Ok(bytes) => match read_shape(alloc, &bytes, resolution) {
@@ -85,8 +92,10 @@ pub(crate) fn read_set<F: Folder>(
 ) -> Result<GivenSet, LoadEnd>
     ensures ok { IfOk result (HasFile SaysValues (F.view folder.old) file.path) }
     ensures range { IfOk result (λ given. AreInRange given.set) }
-    ensures told { IfOk result (λ given. F.view folder.new ≡ with_asked (F.view folder.old) file.path) }
-    ensures err { IfErr result (λ end. EndsAt FailsValues file.path end (F.view folder.old) (F.view folder.new)) }
+    ensures told { IfOk result (λ given. F.view folder.new ≡ with_asked
+        (F.view folder.old) file.path) }
+    ensures err { IfErr result (λ end. EndsAt FailsValues file.path end (F.view folder.old)
+        (F.view folder.new)) }
 {
     match folder.read(alloc, file.path.as_str(), MOST_FILE_BYTES) {
         Ok(bytes) => match read_values(alloc, &bytes) {
@@ -104,8 +113,10 @@ pub(crate) fn read_names<F: Folder>(
     folder: &mut F,
 ) -> Result<GivenMapping, LoadEnd>
     ensures ok { IfOk result (HasFile SaysMapping (F.view folder.old) file.path) }
-    ensures told { IfOk result (λ given. F.view folder.new ≡ with_asked (F.view folder.old) file.path) }
-    ensures err { IfErr result (λ end. EndsAt FailsMapping file.path end (F.view folder.old) (F.view folder.new)) }
+    ensures told { IfOk result (λ given. F.view folder.new ≡ with_asked
+        (F.view folder.old) file.path) }
+    ensures err { IfErr result (λ end. EndsAt FailsMapping file.path end (F.view folder.old)
+        (F.view folder.new)) }
 {
     match folder.read(alloc, file.path.as_str(), MOST_FILE_BYTES) {
         Ok(bytes) => match read_mapping(alloc, &bytes) {

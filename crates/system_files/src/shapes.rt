@@ -26,8 +26,10 @@ pub(crate) fn load_shapes<F: Folder>(
     resolution: u64,
     folder: &mut F,
 ) -> Result<Vec<Shape>, LoadEnd>
-    ensures ok { IfOk result (λ shapes. TakesShapes resolution directory.now components.now shapes.items (F.view folder.old) (F.view folder.new)) }
-    ensures err { IfErr result (λ end. EndsShapes resolution directory.now components.now end (F.view folder.old) (F.view folder.new)) }
+    ensures ok { IfOk result (λ shapes. TakesShapes resolution directory.now components.now
+        shapes.items (F.view folder.old) (F.view folder.new)) }
+    ensures err { IfErr result (λ end. EndsShapes resolution directory.now components.now end
+        (F.view folder.old) (F.view folder.new)) }
 {
     let Ok(room) = Vec::with_capacity(alloc, components.len()) else {
         return Err(LoadEnd::Memory);
@@ -98,9 +100,12 @@ fn load_shape<F: Folder>(
     resolution: u64,
     folder: &mut F,
 ) -> Result<Shape, LoadEnd>
-    ensures ok { IfOk result (HasShapeAlone resolution directory.now (F.view folder.old) component.now) }
-    ensures told { IfOk result (λ shape. F.view folder.new ≡ with_asked (F.view folder.old) (model_path directory.now component.now)) }
-    ensures err { IfErr result (λ end. EndsAt (FailsModel resolution) (model_path directory.now component.now) end (F.view folder.old) (F.view folder.new)) }
+    ensures ok { IfOk result (HasShapeAlone resolution directory.now
+        (F.view folder.old) component.now) }
+    ensures told { IfOk result (λ shape. F.view folder.new ≡ with_asked (F.view folder.old)
+        (model_path directory.now component.now)) }
+    ensures err { IfErr result (λ end. EndsAt (FailsModel resolution)
+        (model_path directory.now component.now) end (F.view folder.old) (F.view folder.new)) }
 {
     match name_model(alloc, directory, component) {
         Ok(file) => read_model(alloc, file, resolution, folder),

@@ -57,7 +57,8 @@ fn name_told(
     component: Option<usize>,
 ) -> Result<NamedFile, NoMemory>
     requires { IfSome component (λ n. n < length outline.now.systems.components) }
-    ensures { IfOk result (λ file. (per_second : ℕ) → IsToldIn (search_of subject directory.now per_second) outline.now component file.path) }
+    ensures { IfOk result (λ file. (per_second : ℕ) →
+        IsToldIn (search_of subject directory.now per_second) outline.now component file.path) }
 {
     match component {
         Some(component) => name_model(
@@ -111,8 +112,11 @@ fn name_binding(
     binding: usize,
     in_mapping: bool,
 ) -> Result<NamedFile, NoMemory>
-    requires { IsSomeAnd (slice_get outline.now.systems.bindings binding) (λ (b : Binding). IsSome (origin_of in_mapping b)) }
-    ensures { IfOk result (λ file. (per_second : ℕ) → IsBindingToldIn (search_of subject directory.now per_second) outline.now binding in_mapping file.path) }
+    requires { IsSomeAnd (slice_get outline.now.systems.bindings binding)
+        (λ (b : Binding). IsSome (origin_of in_mapping b)) }
+    ensures { IfOk result (λ file. (per_second : ℕ) →
+        IsBindingToldIn (search_of subject directory.now per_second) outline.now binding in_mapping
+        file.path) }
 {
     let binding = &outline.systems.bindings.as_slice()[binding];
     let origin = if in_mapping {

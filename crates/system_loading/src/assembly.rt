@@ -60,7 +60,8 @@ pub fn assemble(alloc: Global, outline: &Outline, shapes: &[Shape]) -> Result<Sy
 
 // The first part that isn't built yet.
 fn unbuilt(alloc: Global, shapes: &[Shape]) -> Option<AssemblyFault>
-    ensures { MatchOption result (AreBuilt shapes.now) (λ fault. (outline : Outline) → TellsUnbuilt outline shapes.now fault) }
+    ensures { MatchOption result (AreBuilt shapes.now)
+        (λ fault. (outline : Outline) → TellsUnbuilt outline shapes.now fault) }
 {
     match first_unbuilt(shapes) {
         Some(component) => Some(told_in(alloc, component)),

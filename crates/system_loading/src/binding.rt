@@ -69,7 +69,8 @@ pub fn bind_parameters(
 
 fn part(alloc: Global, given: Vec<GivenBinding>) -> Result<Parted, AllocError>
     ensures sets { IfOk result (λ parted. parted.sets.items ≡ sets_of given.items) }
-    ensures documents { IfOk result (λ parted. parted.documents.items ≡ map documents_of given.items) }
+    ensures documents { IfOk result (λ parted. parted.documents.items ≡
+        map documents_of given.items) }
 {
     let mut sets = Vec::with_capacity(alloc, given.len())?;
     let mut documents = Vec::with_capacity(alloc, given.len())?;
@@ -112,7 +113,9 @@ fn told_at(
     node: usize,
     rule: Rule,
 ) -> BindingFault
-    ensures { (binding : ℕ) (in_mapping : Bool) → file ≡ number_of binding in_mapping → SaysBinding binding in_mapping rule (place_in_part outline.now documents.now binding in_mapping node) result }
+    ensures { (binding : ℕ) (in_mapping : Bool) → file ≡ number_of binding in_mapping →
+        SaysBinding binding in_mapping rule
+        (place_in_part outline.now documents.now binding in_mapping node) result }
 {
     let binding = file / 2;
     let in_mapping = file % 2 == 1;
@@ -136,7 +139,8 @@ fn place_in_part(
     in_mapping: bool,
     node: usize,
 ) -> Result<Place, AllocError>
-    ensures { IfOk result (λ place. place ≡ place_in_part outline.now documents.now binding in_mapping node) }
+    ensures { IfOk result (λ place. place ≡ place_in_part outline.now documents.now binding
+        in_mapping node) }
 {
     match own_document(documents, binding, in_mapping) {
         Some(document) => Ok(Place::Element {

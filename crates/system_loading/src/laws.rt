@@ -18,14 +18,20 @@ use structure_laws::{named_trees, read_structures};
 /// the file; the tree that a structure description says may be flattened and names its parts, as that of an FMU alone, and
 /// its components' full names are no longer than the file.
 pub fn loading_laws()
-    ensures shape { (per_second : ℕ) (bytes : List ℕ) (shape : Shape) → IsModel per_second bytes shape → IsSoundShape shape }
-    ensures resolution { (per_second : ℕ) (bytes : List ℕ) (shape : Shape) → IsModel per_second bytes shape → shape.resolution ≡ per_second }
-    ensures token { (per_second : ℕ) (bytes : List ℕ) (shape : Shape) → IsModel per_second bytes shape → length shape.token ≤ length bytes }
-    ensures whole { (bytes : List ℕ) (outline : Outline) → IsStructure bytes outline → IsWhole outline.systems }
+    ensures shape { (per_second : ℕ) (bytes : List ℕ) (shape : Shape) →
+        IsModel per_second bytes shape → IsSoundShape shape }
+    ensures resolution { (per_second : ℕ) (bytes : List ℕ) (shape : Shape) →
+        IsModel per_second bytes shape → shape.resolution ≡ per_second }
+    ensures token { (per_second : ℕ) (bytes : List ℕ) (shape : Shape) →
+        IsModel per_second bytes shape → length shape.token ≤ length bytes }
+    ensures whole { (bytes : List ℕ) (outline : Outline) → IsStructure bytes outline →
+        IsWhole outline.systems }
     ensures lone { IsWhole lone_tree }
-    ensures named { (bytes : List ℕ) (outline : Outline) → IsStructure bytes outline → IsNamedTree outline.systems }
+    ensures named { (bytes : List ℕ) (outline : Outline) → IsStructure bytes outline →
+        IsNamedTree outline.systems }
     ensures lone_named { IsNamedTree lone_tree }
-    ensures names { (bytes : List ℕ) (outline : Outline) → IsStructure bytes outline → All (λ (c : ComponentPart). length c.name ≤ length bytes) outline.systems.components }
+    ensures names { (bytes : List ℕ) (outline : Outline) → IsStructure bytes outline →
+        All (λ (c : ComponentPart). length c.name ≤ length bytes) outline.systems.components }
 {
     document_laws();
     read_shapes();

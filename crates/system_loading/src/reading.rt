@@ -18,8 +18,10 @@ use value_types::Shape;
 /// The shape of the FMU whose model description the bytes are, or the first rule that they break and its place. A second
 /// has `resolution` counts (FMI 3.0, 2.4).
 pub fn read_shape(alloc: Global, bytes: &[u8], resolution: u64) -> Result<Shape, Fault>
-    ensures ok { IfOk result (SaysAlone (IsModel resolution bytes.now) (BreaksModel resolution bytes.now)) }
-    ensures err { IfErr result (TellsFirst (IsModel resolution bytes.now) (BreaksModel resolution bytes.now)) }
+    ensures ok { IfOk result (SaysAlone (IsModel resolution bytes.now)
+        (BreaksModel resolution bytes.now)) }
+    ensures err { IfErr result (TellsFirst (IsModel resolution bytes.now)
+        (BreaksModel resolution bytes.now)) }
 {
     let tree = match read_tree(alloc, bytes) {
         Ok(tree) => tree,
@@ -95,9 +97,11 @@ pub fn read_mapping(alloc: Global, bytes: &[u8]) -> Result<GivenMapping, Fault>
 /// place.
 pub fn values_within(alloc: Global, outline: &Outline, holder: usize) -> Result<GivenSet, Fault>
     requires { IsSome outline.now.document }
-    ensures ok { IfOk result (SaysAlone (IsValuesWithin outline.now holder) (BreaksValuesWithin outline.now holder)) }
+    ensures ok { IfOk result (SaysAlone (IsValuesWithin outline.now holder)
+        (BreaksValuesWithin outline.now holder)) }
     ensures range { IfOk result (λ given. AreInRange given.set) }
-    ensures err { IfErr result (TellsFirst (IsValuesWithin outline.now holder) (BreaksValuesWithin outline.now holder)) }
+    ensures err { IfErr result (TellsFirst (IsValuesWithin outline.now holder)
+        (BreaksValuesWithin outline.now holder)) }
 {
     let document = outline.document.as_ref().unwrap();
     match read_values_in(alloc, document, holder) {
@@ -117,8 +121,10 @@ pub fn mapping_within(
     holder: usize,
 ) -> Result<GivenMapping, Fault>
     requires { IsSome outline.now.document }
-    ensures ok { IfOk result (SaysAlone (IsMappingWithin outline.now holder) (BreaksMappingWithin outline.now holder)) }
-    ensures err { IfErr result (TellsFirst (IsMappingWithin outline.now holder) (BreaksMappingWithin outline.now holder)) }
+    ensures ok { IfOk result (SaysAlone (IsMappingWithin outline.now holder)
+        (BreaksMappingWithin outline.now holder)) }
+    ensures err { IfErr result (TellsFirst (IsMappingWithin outline.now holder)
+        (BreaksMappingWithin outline.now holder)) }
 {
     let document = outline.document.as_ref().unwrap();
     match read_mapping_in(alloc, document, holder) {

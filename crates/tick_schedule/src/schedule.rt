@@ -102,7 +102,8 @@ impl Schedule {
         requires none_up_to { (clock point : ℕ) → TicksAt self.now clock point → t < point }
         ensures due { IfSome result (λ point. (clock : ℕ) × TicksAt self.now clock point) }
         ensures after { IfSome result (λ point. t < point) }
-        ensures least { IfSome result (λ point. (clock other : ℕ) → TicksAt self.now clock other → point ≤ other) }
+        ensures least { IfSome result (λ point. (clock other : ℕ) → TicksAt self.now clock other →
+            point ≤ other) }
         ensures none { IfNone result ((clock point : ℕ) → TicksAt self.now clock point → ⊥) }
         ensures cost { steps.new ≤ steps.old + min 1 (length self.now.clocks) }
     {

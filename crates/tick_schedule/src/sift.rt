@@ -55,14 +55,16 @@ fn least_below<L: Ledger>(
     steps: &mut Steps<L>,
 ) -> (usize, Entry)
     requires len { length order.now ≡ length points.now }
-    requires clocks { (i : ℕ) → i < length points.now → slice_index order.now i < length points.now }
+    requires clocks { (i : ℕ) → i < length points.now →
+        slice_index order.now i < length points.now }
     requires some { 2 * hole + 1 < length points.now }
     requires few { length points.now < 2 ^ 63 }
     ensures below { IsBelow hole result.0 }
     ensures within { result.0 < length points.now }
     ensures clock { result.1.clock ≡ slice_index order.now result.0 }
     ensures point { result.1.point ≡ key_at points.now order.now result.0 }
-    ensures least { (j : ℕ) → j < length points.now → IsBelow hole j → result.1.point ≤ key_at points.now order.now j }
+    ensures least { (j : ℕ) → j < length points.now → IsBelow hole j →
+        result.1.point ≤ key_at points.now order.now j }
     ensures cost { steps.new ≤ steps.old + 2 }
 {
     let left = 2 * hole + 1;

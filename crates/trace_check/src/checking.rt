@@ -23,7 +23,8 @@ pub fn check(alloc: Global, system: &System, trace: &Trace) -> Result<Verdict, A
     requires form { IsTrace trace.now }
     requires lines { length trace.now.ports + length trace.now.lines + 2 < 2 ^ 64 }
     ensures yes { result ≡ Ok Yes → KeepsRules system.now trace.now }
-    ensures no { (line rule : ℕ) → result ≡ Ok (No line rule) → IsFirst system.now trace.now line rule }
+    ensures no { (line rule : ℕ) → result ≡ Ok (No line rule) →
+        IsFirst system.now trace.now line rule }
 {
     if let Some(k) = first_strange_port(system, trace.ports.as_slice()) {
         return Ok(Verdict::No {
@@ -47,7 +48,8 @@ fn check_instants(
     requires form { IsTrace trace.now }
     requires lines { length trace.now.ports + length trace.now.lines + 2 < 2 ^ 64 }
     ensures yes { result ≡ Ok Yes → KeepsRules system.now trace.now }
-    ensures no { (line rule : ℕ) → result ≡ Ok (No line rule) → IsFirst system.now trace.now line rule }
+    ensures no { (line rule : ℕ) → result ≡ Ok (No line rule) →
+        IsFirst system.now trace.now line rule }
 {
     let mut values = Vec::new(alloc);
     let mut last = None;
@@ -86,8 +88,10 @@ fn line_number(trace: &Trace, rest: &[TraceLine]) -> u64
 
 // Whether a run to the stop ends there, behind an instant there.
 fn is_end_right(trace: &Trace, is_reached: bool) -> bool
-    ensures right { IsTrue result → trace.now.kind ≡ Stop → (trace.now.point ≡ trace.now.stop) × IsTrue is_reached }
-    ensures wrong { result ≡ false → (trace.now.kind ≡ Stop) × (trace.now.point ≡ trace.now.stop → IsTrue is_reached → ⊥) }
+    ensures right { IsTrue result → trace.now.kind ≡ Stop → (trace.now.point ≡ trace.now.stop) ×
+        IsTrue is_reached }
+    ensures wrong { result ≡ false → (trace.now.kind ≡ Stop) ×
+        (trace.now.point ≡ trace.now.stop → IsTrue is_reached → ⊥) }
 {
     trace.kind != EndKind::Stop || (trace.point == trace.stop && is_reached)
 }

@@ -24,8 +24,10 @@ pub(crate) fn first_break(
     requires start { trace.now.start ≤ 2 ^ 62 }
     requires last { IfSome last (λ before. before.0 ≤ 2 ^ 62) }
     requires point { t ≤ 2 ^ 62 }
-    ensures found { IfSome result (λ b. IsFirstIn system.now trace.now last (instant_at t n values.now) b.0 b.1) }
-    ensures none { IfNone result ((offset rule : ℕ) → BreaksIn system.now trace.now last (instant_at t n values.now) offset rule → ⊥) }
+    ensures found { IfSome result (λ b. IsFirstIn system.now trace.now last
+        (instant_at t n values.now) b.0 b.1) }
+    ensures none { IfNone result ((offset rule : ℕ) →
+        BreaksIn system.now trace.now last (instant_at t n values.now) offset rule → ⊥) }
 {
     if !is_in_order(trace.start, trace.stop, last, t, n) {
         return Some((0, ORDER_RULE));

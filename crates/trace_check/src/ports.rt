@@ -9,10 +9,13 @@ use trace_reading::TracePort;
 
 /// The number of the first port line that doesn't tell the system's port, or that is one too many or missing.
 pub(crate) fn first_strange_port(system: &System, told: &[TracePort]) -> Option<usize>
-    ensures strange { IfSome result (λ k. slice_get told.now k ≢ slice_get (ports_told system.now) k) }
-    ensures first { IfSome result (λ k. (j : ℕ) → j < k → slice_get told.now j ≡ slice_get (ports_told system.now) j) }
+    ensures strange { IfSome result (λ k. slice_get told.now k ≢ slice_get
+        (ports_told system.now) k) }
+    ensures first { IfSome result (λ k. (j : ℕ) → j < k →
+        slice_get told.now j ≡ slice_get (ports_told system.now) j) }
     ensures within { IfSome result (λ k. k ≤ length told.now) }
-    ensures none { IfNone result ((k : ℕ) → slice_get told.now k ≡ slice_get (ports_told system.now) k) }
+    ensures none { IfNone result ((k : ℕ) → slice_get told.now k ≡
+        slice_get (ports_told system.now) k) }
 {
     let ports = system.ports.as_slice();
     for (k, port) in ports.iter().enumerate() {
@@ -29,7 +32,8 @@ pub(crate) fn first_strange_port(system: &System, told: &[TracePort]) -> Option<
 
 // Whether this is what a trace tells of a port.
 fn is_told(components: &[Component], port: &Port, told: Option<&TracePort>) -> bool
-    ensures { IsTrue result ↔ (option_copied told.entry ≡ Some (port_told components.now port.now)) }
+    ensures { IsTrue result ↔ (option_copied told.entry ≡ Some
+        (port_told components.now port.now)) }
 {
     match told {
         Some(told) => is_port(components, port, told),

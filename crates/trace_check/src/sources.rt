@@ -89,8 +89,10 @@ fn differs(system: &System, values: &[Option<i128>], p: usize) -> bool
 
 /// An input that is present and has no value, where its source has one.
 pub(crate) fn first_without_value(system: &System, values: &[Option<i128>]) -> Option<usize>
-    ensures found { IfSome result (λ p. DiffersFromSource system.now values.now p × (value values.now p ≡ None)) }
-    ensures none { IfNone result ((p : ℕ) → DiffersFromSource system.now values.now p → value values.now p ≡ None → ⊥) }
+    ensures found { IfSome result (λ p. DiffersFromSource system.now values.now p ×
+        (value values.now p ≡ None)) }
+    ensures none { IfNone result ((p : ℕ) → DiffersFromSource system.now values.now p →
+        value values.now p ≡ None → ⊥) }
 {
     for p in 0..system.ports.len() {
         if value(values, p).is_none() && differs(system, values, p) {
@@ -104,8 +106,10 @@ pub(crate) fn first_without_value(system: &System, values: &[Option<i128>]) -> O
 /// behind the `at` line.
 pub(crate) fn first_other_value(system: &System, values: &[Option<i128>]) -> Option<u64>
     ensures found { IfSome result (IsOtherValue system.now values.now) }
-    ensures first { IfSome result (λ lines. (p : ℕ) → DiffersFromSource system.now values.now p → 0 < lines_to values.now p → lines ≤ lines_to values.now p) }
-    ensures none { IfNone result ((p : ℕ) → DiffersFromSource system.now values.now p → lines_to values.now p ≡ 0) }
+    ensures first { IfSome result (λ lines. (p : ℕ) → DiffersFromSource system.now values.now p →
+        0 < lines_to values.now p → lines ≤ lines_to values.now p) }
+    ensures none { IfNone result ((p : ℕ) → DiffersFromSource system.now values.now p →
+        lines_to values.now p ≡ 0) }
 {
     let mut lines = 0;
     for (p, value) in values.iter().enumerate() {

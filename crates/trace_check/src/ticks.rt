@@ -38,7 +38,8 @@ fn constant_clock(system: &System, p: usize, port: &Port) -> Option<ConstantCloc
     requires { slice_get system.now.ports p ≡ Some port.now }
     ensures found { IfSome result (λ c. IsConstantClock system.now c.port c.interval c.shift) }
     ensures place { IfSome result (λ c. c.port ≡ p) }
-    ensures none { IfNone result ((interval shift : ℕ) → IsConstantClock system.now p interval shift → ⊥) }
+    ensures none { IfNone result ((interval shift : ℕ) →
+        IsConstantClock system.now p interval shift → ⊥) }
 {
     match port.role {
         Role::TimeClock {

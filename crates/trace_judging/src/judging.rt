@@ -19,8 +19,12 @@ pub fn judge<F: Folder>(
     file: &str,
     folder: &mut F,
 ) -> Result<Verdict, LoadEnd>
-    ensures ok { IfOk result (λ verdict. Judged (record { directory = directory.now; file = file.now }) (Gives verdict) (F.view folder.old) (F.view folder.new)) }
-    ensures err { IfErr result (λ end. LacksVerdict (record { directory = directory.now; file = file.now }) end (F.view folder.old) (F.view folder.new)) }
+    ensures ok { IfOk result
+        (λ verdict. Judged (record { directory = directory.now; file = file.now }) (Gives verdict)
+        (F.view folder.old) (F.view folder.new)) }
+    ensures err { IfErr result
+        (λ end. LacksVerdict (record { directory = directory.now; file = file.now }) end
+        (F.view folder.old) (F.view folder.new)) }
 {
     texts_of_traces();
     match read_file(alloc, file, folder) {
@@ -42,8 +46,12 @@ fn judge_trace<F: Folder>(
 ) -> Result<Verdict, LoadEnd>
     requires form { IsTrace trace.now }
     requires lines { length trace.now.ports + length trace.now.lines + 2 < 2 ^ 64 }
-    ensures ok { IfOk result (λ verdict. JudgesTrace (search_of Subject.System directory.now trace.now.resolution) trace.now verdict (F.view folder.old) (F.view folder.new)) }
-    ensures err { IfErr result (λ end. LacksTraceVerdict (search_of Subject.System directory.now trace.now.resolution) end (F.view folder.old) (F.view folder.new)) }
+    ensures ok { IfOk result
+        (λ verdict. JudgesTrace (search_of Subject.System directory.now trace.now.resolution)
+        trace.now verdict (F.view folder.old) (F.view folder.new)) }
+    ensures err { IfErr result
+        (λ end. LacksTraceVerdict (search_of Subject.System directory.now trace.now.resolution) end
+        (F.view folder.old) (F.view folder.new)) }
 {
     match load(alloc, Subject::System, directory, trace.resolution, folder) {
         Ok(loaded) => {

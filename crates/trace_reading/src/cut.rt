@@ -6,7 +6,8 @@ pub(crate) fn cut(bytes: &[u8], at: u8) -> Option<(&[u8], &[u8])>
     ensures parts { IfSome result (λ p. bytes.now ≡ p.0.now ++ (at ∷ p.1.now)) }
     ensures first { IfSome result (λ p. Lacks at p.0.now) }
     ensures none { IfNone result (Lacks at bytes.now) }
-    ensures exact { (front rest : List ℕ) → Lacks at front → bytes.now ≡ front ++ (at ∷ rest) → IsSomeAnd result (λ p. (p.0.now ≡ front) × (p.1.now ≡ rest)) }
+    ensures exact { (front rest : List ℕ) → Lacks at front → bytes.now ≡ front ++ (at ∷ rest) →
+        IsSomeAnd result (λ p. (p.0.now ≡ front) × (p.1.now ≡ rest)) }
 {
     cut_somewhere(bytes, at)
 }
@@ -24,7 +25,8 @@ fn cut_somewhere(bytes: &[u8], at: u8) -> Option<(&[u8], &[u8])>
 /// What stands behind a front.
 pub(crate) fn behind<'a>(bytes: &'a [u8], front: &[u8]) -> Option<&'a [u8]>
     ensures parts { IfSome result (λ rest. bytes.now ≡ front.now ++ rest.now) }
-    ensures exact { (rest : List ℕ) → bytes.now ≡ front.now ++ rest → IsSomeAnd result (λ found. found.now ≡ rest) }
+    ensures exact { (rest : List ℕ) → bytes.now ≡ front.now ++ rest →
+        IsSomeAnd result (λ found. found.now ≡ rest) }
 {
     if bytes.len() < front.len() {
         return None;

@@ -12,8 +12,10 @@ ghost use Rattle.trace_reading.specs.Written.{trace_told, IsWritable};
 /// the text of a run of a sound system, with values that fit, is that of the trace that it tells.
 pub fn texts_of_traces()
     ensures one { (bytes : List ℕ) (t u : Trace) → IsTextOf bytes t → IsTextOf bytes u → t ≡ u }
-    ensures none { (bytes : List ℕ) (n : ℕ) (t : Trace) → IsFirstFault bytes n → IsTextOf bytes t → ⊥ }
-    ensures first { (bytes : List ℕ) (n m : ℕ) → IsFirstFault bytes n → IsFirstFault bytes m → n ≡ m }
+    ensures none { (bytes : List ℕ) (n : ℕ) (t : Trace) → IsFirstFault bytes n → IsTextOf bytes t →
+        ⊥ }
+    ensures first { (bytes : List ℕ) (n m : ℕ) → IsFirstFault bytes n → IsFirstFault bytes m →
+        n ≡ m }
     ensures written { (system : System) (plan : Plan) (instants : List Instant) (kind : EndKind) (point : ℕ) →
         IsWritable system plan instants point →
         IsTextOf (trace_text system plan instants kind point) (trace_told system plan instants kind point) }

@@ -16,7 +16,8 @@ use value_types::PortType;
 // A number, the space behind it, and the rest.
 fn number_before(bytes: &[u8]) -> Option<(u64, &[u8])>
     ensures found { IfSome result (λ p. bytes.now ≡ decimal p.0 ++ (32 ∷ p.1.now)) }
-    ensures exact { (n : ℕ) (rest : List ℕ) → n < 2 ^ 64 → bytes.now ≡ decimal n ++ (32 ∷ rest) → IsSomeAnd result (λ p. (p.0 ≡ n) × (p.1.now ≡ rest)) }
+    ensures exact { (n : ℕ) (rest : List ℕ) → n < 2 ^ 64 → bytes.now ≡ decimal n ++ (32 ∷ rest) →
+        IsSomeAnd result (λ p. (p.0 ≡ n) × (p.1.now ≡ rest)) }
 {
     let (word, rest) = cut(bytes, b' ')?;
     Some((number(word)?, rest))
@@ -36,7 +37,10 @@ pub(crate) fn read_header(line: &[u8]) -> Option<(u64, u64, u64)>
 /// The line of a port: its number, its type, and the two words of its names.
 pub(crate) fn read_port_fields(line: &[u8]) -> Option<(u64, PortType, &[u8], &[u8])>
     ensures found { IfSome result (λ p. line.now ≡ port_fields p.0 p.1 p.2.now p.3.now) }
-    ensures exact { (k : ℕ) (kind : PortType) (component variable : List ℕ) → k < 2 ^ 64 → Lacks 32 component → line.now ≡ port_fields k kind component variable → IsSomeAnd result (λ p. (p.0 ≡ k) × (p.1 ≡ kind) × (p.2.now ≡ component) × (p.3.now ≡ variable)) }
+    ensures exact { (k : ℕ) (kind : PortType) (component variable : List ℕ) → k < 2 ^ 64 →
+        Lacks 32 component → line.now ≡ port_fields k kind component variable →
+        IsSomeAnd result (λ p. (p.0 ≡ k) × (p.1 ≡ kind) × (p.2.now ≡ component) ×
+        (p.3.now ≡ variable)) }
 {
     let rest = behind(line, b"port ")?;
     let (k, rest) = number_before(rest)?;
@@ -48,7 +52,8 @@ pub(crate) fn read_port_fields(line: &[u8]) -> Option<(u64, PortType, &[u8], &[u
 // The name of a type, the space behind it, and the rest.
 fn type_before(bytes: &[u8]) -> Option<(PortType, &[u8])>
     ensures found { IfSome result (λ p. bytes.now ≡ type_name p.0 ++ (32 ∷ p.1.now)) }
-    ensures exact { (kind : PortType) (rest : List ℕ) → bytes.now ≡ type_name kind ++ (32 ∷ rest) → IsSomeAnd result (λ p. (p.0 ≡ kind) × (p.1.now ≡ rest)) }
+    ensures exact { (kind : PortType) (rest : List ℕ) → bytes.now ≡ type_name kind ++ (32 ∷ rest) →
+        IsSomeAnd result (λ p. (p.0 ≡ kind) × (p.1.now ≡ rest)) }
 {
     let (word, rest) = cut(bytes, b' ')?;
     Some((type_of(word)?, rest))
@@ -120,7 +125,8 @@ fn kind_of(word: &[u8]) -> Option<EndKind>
 /// A line behind the ports.
 pub(crate) fn read_item(line: &[u8]) -> Option<Item>
     ensures found { IfSome result (λ item. line.now ≡ item_line item) }
-    ensures exact { (item : Item) → IsShortItem item → line.now ≡ item_line item → result ≡ Some item }
+    ensures exact { (item : Item) → IsShortItem item → line.now ≡ item_line item →
+        result ≡ Some item }
 {
     if let Some((t, n)) = read_at(line) {
         return Some(Item::Row(TraceLine::At { t, n }));

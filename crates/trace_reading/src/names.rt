@@ -8,7 +8,8 @@ use std::alloc::{AllocError, Global};
 // The first byte of a name as its text has it, and the text behind it.
 fn byte_before(word: &[u8]) -> Option<(u8, &[u8])>
     ensures found { IfSome result (λ p. word.now ≡ escaped_byte p.0 ++ p.1.now) }
-    ensures exact { (byte : ℕ) (rest : List ℕ) → byte < 256 → word.now ≡ escaped_byte byte ++ rest → IsSomeAnd result (λ p. (p.0 ≡ byte) × (p.1.now ≡ rest)) }
+    ensures exact { (byte : ℕ) (rest : List ℕ) → byte < 256 → word.now ≡ escaped_byte byte ++ rest →
+        IsSomeAnd result (λ p. (p.0 ≡ byte) × (p.1.now ≡ rest)) }
 {
     let byte = guessed(word);
     let escaped = escaped_byte(byte);
@@ -17,7 +18,8 @@ fn byte_before(word: &[u8]) -> Option<(u8, &[u8])>
 }
 
 fn guessed(word: &[u8]) -> u8
-    ensures { (byte : ℕ) (rest : List ℕ) → byte < 256 → word.now ≡ escaped_byte byte ++ rest → result ≡ byte }
+    ensures { (byte : ℕ) (rest : List ℕ) → byte < 256 → word.now ≡ escaped_byte byte ++ rest →
+        result ≡ byte }
 {
     match word {
         [b'%', high, low, ..] => number(*high) * 16 + number(*low),
@@ -39,7 +41,8 @@ fn number(digit: u8) -> u8
 
 /// The name that a word writes with its bytes escaped, where it is the word of one. A name isn't empty.
 pub(crate) fn name(alloc: Global, word: &[u8]) -> Result<Option<Vec<u8>>, AllocError>
-    ensures found { IfOk result (λ o. IfSome o (λ v. (v.items ≢ []) × (word.now ≡ escaped v.items))) }
+    ensures found { IfOk result
+        (λ o. IfSome o (λ v. (v.items ≢ []) × (word.now ≡ escaped v.items))) }
     ensures none { (whole : List ℕ) → whole ≢ [] → word.now ≡ escaped whole → result ≡ Ok None → ⊥ }
 {
     let mut bytes = Vec::new(alloc);

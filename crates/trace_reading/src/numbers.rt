@@ -51,7 +51,8 @@ pub(crate) fn value(bytes: &[u8]) -> Option<i128>
 
 fn negative(digits: &[u8]) -> Option<i128>
     ensures found { IfSome result (λ v. 45 ∷ digits.now ≡ signed_decimal v) }
-    ensures exact { (n : ℕ) → n + 1 < 2 ^ 64 → digits.now ≡ decimal (n + 1) → result ≡ Some (negsuc n) }
+    ensures exact { (n : ℕ) → n + 1 < 2 ^ 64 → digits.now ≡ decimal (n + 1) →
+        result ≡ Some (negsuc n) }
 {
     let n = number(digits)?;
     if n == 0 { None } else { Some(-i128::from(n)) }

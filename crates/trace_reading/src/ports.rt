@@ -32,8 +32,10 @@ fn port_before(
     number: u64,
     text: &[u8],
 ) -> Result<Option<(TracePort, &[u8])>, AllocError>
-    ensures found { IfOk result (λ o. IfSome o (λ p. IsNamed p.0 × (text.now ≡ port_line number p.0 ++ (10 ∷ p.1.now)))) }
-    ensures none { (port : TracePort) (rest : List ℕ) → IsNamed port → text.now ≡ port_line number port ++ (10 ∷ rest) → result ≡ Ok None → ⊥ }
+    ensures found { IfOk result
+        (λ o. IfSome o (λ p. IsNamed p.0 × (text.now ≡ port_line number p.0 ++ (10 ∷ p.1.now)))) }
+    ensures none { (port : TracePort) (rest : List ℕ) → IsNamed port →
+        text.now ≡ port_line number port ++ (10 ∷ rest) → result ≡ Ok None → ⊥ }
 {
     let Some((line, behind)) = cut(text, b'\n') else {
         return Ok(None);
@@ -45,8 +47,10 @@ fn port_before(
 }
 
 fn read_port(alloc: Global, number: u64, line: &[u8]) -> Result<Option<TracePort>, AllocError>
-    ensures found { IfOk result (λ o. IfSome o (λ port. IsNamed port × (line.now ≡ port_line number port))) }
-    ensures none { (port : TracePort) → IsNamed port → line.now ≡ port_line number port → result ≡ Ok None → ⊥ }
+    ensures found { IfOk result
+        (λ o. IfSome o (λ port. IsNamed port × (line.now ≡ port_line number port))) }
+    ensures none { (port : TracePort) → IsNamed port → line.now ≡ port_line number port →
+        result ≡ Ok None → ⊥ }
 {
     let Some((k, kind, component, variable)) = read_port_fields(line) else {
         return Ok(None);

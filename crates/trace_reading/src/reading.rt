@@ -17,7 +17,8 @@ use std::alloc::Global;
 /// lines up to it, it has no line feed, or it is missing. The room that this takes is below twenty times the text's.
 pub fn read_trace(alloc: Global, bytes: &[u8]) -> Result<Trace, TraceFault>
     ensures found { IfOk result (IsTextOf bytes.now) }
-    ensures exact { (t : Trace) → IsTextOf bytes.now t → (result ≡ Ok t) ⊎ (result ≡ Err TraceFault.Memory) }
+    ensures exact { (t : Trace) → IsTextOf bytes.now t → (result ≡ Ok t) ⊎
+        (result ≡ Err TraceFault.Memory) }
     ensures lines { IfOk result (λ t. length t.ports + length t.lines + 2 ≤ length bytes.now) }
     ensures fault { (n : ℕ) → result ≡ Err (TraceFault.Line n) → IsFirstFault bytes.now n }
 {
@@ -57,9 +58,11 @@ struct Header {
 
 // The header whose line stands at the front of a text, and what is left behind it.
 fn header_before(text: &[u8]) -> Option<(Header, &[u8])>
-    ensures found { IfSome result (λ p. text.now ≡ header_line p.0.resolution p.0.start p.0.stop ++ (10 ∷ p.1.now)) }
+    ensures found { IfSome result (λ p. text.now ≡ header_line p.0.resolution p.0.start p.0.stop ++
+        (10 ∷ p.1.now)) }
     ensures range { IfSome result (λ p. IsRange p.0.resolution p.0.start p.0.stop) }
-    ensures none { (resolution start stop : ℕ) (rest : List ℕ) → IsRange resolution start stop → text.now ≡ header_line resolution start stop ++ (10 ∷ rest) → IfNone result ⊥ }
+    ensures none { (resolution start stop : ℕ) (rest : List ℕ) → IsRange resolution start stop →
+        text.now ≡ header_line resolution start stop ++ (10 ∷ rest) → IfNone result ⊥ }
 {
     let (line, rest) = cut(text, b'\n')?;
     let (resolution, start, stop) = read_header(line)?;

@@ -31,8 +31,10 @@ pub(crate) fn read_rows(
     text: &[u8],
 ) -> Result<Rows, TraceFault>
     requires { IsClockTable (kinds_of ports.now) clocks.now }
-    ensures found { IfOk result (λ rows. IsRows (kinds_of ports.now) text.now rows.lines.items rows.kind rows.point) }
-    ensures fault { (n : ℕ) → result ≡ Err (Line n) → IsFirstFaultOf (kinds_of ports.now) text.now n }
+    ensures found { IfOk result
+        (λ rows. IsRows (kinds_of ports.now) text.now rows.lines.items rows.kind rows.point) }
+    ensures fault { (n : ℕ) → result ≡ Err (Line n) →
+        IsFirstFaultOf (kinds_of ports.now) text.now n }
 {
     let mut lines = Vec::with_capacity(alloc, count_lines(text))?;
     let mut place = Place::Between;
@@ -57,7 +59,8 @@ pub(crate) fn read_rows(
 // The end line, where it stands last.
 fn ending(place: Place, rest: &[u8]) -> Option<(EndKind, u64)>
     ensures found { IfSome result (λ e. (place ≡ Place.Ended e.0 e.1) × (rest.now ≡ [])) }
-    ensures none { (kind : EndKind) (t : ℕ) → place ≡ Place.Ended kind t → rest.now ≡ [] → result ≡ None → ⊥ }
+    ensures none { (kind : EndKind) (t : ℕ) → place ≡ Place.Ended kind t → rest.now ≡ [] →
+        result ≡ None → ⊥ }
 {
     match place {
         Place::Ended { kind, t } => {
@@ -177,7 +180,8 @@ fn has_no_clock(ports: &[TracePort], clocks: &[usize], from: usize, to: usize) -
     requires table { IsClockTable (kinds_of ports.now) clocks.now }
     requires order { from ≤ to }
     requires within { to ≤ length ports.now }
-    ensures { result ≡ (clocks_before (kinds_of ports.now) from == clocks_before (kinds_of ports.now) to) }
+    ensures { result ≡ (clocks_before (kinds_of ports.now) from == clocks_before
+        (kinds_of ports.now) to) }
 {
     let _ports = ports;
     clocks[from] == clocks[to]

@@ -45,7 +45,8 @@ fn append_port_line(
 ) -> usize
     requires { at + length (port_line components.now number port.now) ≤ length out.old }
     ensures end { result ≡ at + length (port_line components.now number port.now) }
-    ensures text { take result out.new ≡ take at out.old ++ port_line components.now number port.now }
+    ensures text { take result out.new ≡ take at out.old ++ port_line components.now number
+        port.now }
 {
     let at = append(b"port ", out, at);
     let at = append_number(number as u64, out, at);

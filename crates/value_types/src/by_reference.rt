@@ -125,7 +125,8 @@ fn index_of<T: Referenced>(alloc: Global, items: &[T]) -> Result<Vec<(u32, usize
 
 // The first place of a reference.
 fn place_in(index: &[(u32, usize)], reference: u32) -> Option<usize>
-    ensures { (references : _) → IsIndex references index.now → result ≡ position (λ r. r == reference) references }
+    ensures { (references : _) → IsIndex references index.now →
+        result ≡ position (λ r. r == reference) references }
 {
     match entry_at(index, first_entry(index, reference)) {
         Some((found, place)) => if found == reference {
@@ -139,7 +140,8 @@ fn place_in(index: &[(u32, usize)], reference: u32) -> Option<usize>
 
 // Where the entries of a reference begin, or would.
 fn first_entry(index: &[(u32, usize)], reference: u32) -> usize
-    ensures { IsSorted entry_cmp index.now → IsPartitionPoint (λ e. nat_lt e.0 reference ≡ true) (λ e. nat_lt e.0 reference ≡ false) index.now result }
+    ensures { IsSorted entry_cmp index.now → IsPartitionPoint (λ e. nat_lt e.0 reference ≡ true)
+        (λ e. nat_lt e.0 reference ≡ false) index.now result }
 {
     index.partition_point(|entry| entry.0 < reference)
 }

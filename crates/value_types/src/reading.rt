@@ -40,7 +40,8 @@ fn read_number(kind: PortType, text: &str) -> Option<i128>
 // The number that a text writes, where 128 bits hold it.
 fn read_whole(text: &str) -> Option<i128>
     ensures value { IfSome result (Writes text.now) }
-    ensures exact { (value : ℤ) → Writes text.now value → FitsSigned w128 value → result ≡ Some value }
+    ensures exact { (value : ℤ) → Writes text.now value → FitsSigned w128 value →
+        result ≡ Some value }
 {
     text.parse().ok()
 }

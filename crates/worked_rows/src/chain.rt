@@ -9,7 +9,8 @@ use system_model::{Component, Feed, Port, Role, System};
 use value_types::{ByReference, Causality, Dependency, Knowns, PortType, Shape};
 
 fn make_dependencies(alloc: Global, inputs: &[u32]) -> Result<ByReference<Dependency>, AllocError>
-    ensures { IfOk result (λ list. list ≡ record { output = 3; on = Knowns.Listed inputs.now } ∷ []) }
+    ensures { IfOk result (λ list. list ≡ record { output = 3; on = Knowns.Listed inputs.now } ∷
+        []) }
 {
     let on = Knowns::Listed(Items::from_vec(inputs.to_vec(alloc)?));
     ByReference::new(alloc, vec![in alloc; Dependency { output: 3, on }]?)

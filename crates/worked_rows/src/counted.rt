@@ -172,7 +172,8 @@ pub(crate) fn answer(
 // The state with a value written under a reference.
 fn write(counted: &mut Counted, _counts: Counts, reference: u32, value: i128)
     ensures numbers { told counted.new ≡ told counted.old }
-    ensures values { values_in _counts counted.new ≡ written (references_of _counts) (values_in _counts counted.old) reference value }
+    ensures values { values_in _counts counted.new ≡ written (references_of _counts)
+        (values_in _counts counted.old) reference value }
 {
     match reference {
         CLOCK => counted.clock = value,
@@ -184,7 +185,8 @@ fn write(counted: &mut Counted, _counts: Counts, reference: u32, value: i128)
 
 /// Goes on to the state behind a call.
 pub(crate) fn go_on(counts: Counts, counted: &mut Counted, saved: &mut Option<Counted>, call: &Call)
-    ensures { state_in counts counted.new saved.new ≡ after (ticker counts) (state_in counts counted.old saved.old) call.now }
+    ensures { state_in counts counted.new saved.new ≡ after (ticker counts)
+        (state_in counts counted.old saved.old) call.now }
 {
     match *call {
         Call::EnterInitialization { .. } => counted.is_initializing = true,

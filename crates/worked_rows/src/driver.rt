@@ -11,7 +11,8 @@ use fmu_peer::{
 use std::process::Abort;
 
 fn is_permitted<L: Peer>(peer: &L, call: &Call) -> bool
-    ensures { IsTrue result ↔ Permitted (L.view peer.now).fixed.shape (L.view peer.now).phase call.now }
+    ensures { IsTrue result ↔ Permitted (L.view peer.now).fixed.shape
+        (L.view peer.now).phase call.now }
 {
     permitted(peer.shape(), peer.phase(), call)
 }
