@@ -7,6 +7,7 @@ use crate::tests::{
 use bench_fmus::Scripts;
 use clock_fraction::Fraction;
 use fmi_calls::{BadStatus, Call, Content, Interval, Reply};
+use fmu_peer::PeerFault;
 use sim_base::{Items, MemFolder};
 use std::alloc::{AllocError, Global};
 use std::process::Abort;
@@ -43,6 +44,11 @@ const SHIFTED: Answer = done!(Content::GetShift {
         resolution: 1000,
     },
 });
+
+const THIRD: Fraction = Fraction {
+    counter: 1,
+    resolution: 3,
+};
 
 const NOT_YET: Answer = done!(Content::GetInterval {
     interval: Interval::NotYetKnown,
@@ -124,6 +130,56 @@ static STATUSES: [(BadStatus, &str); 3] = [
     (BadStatus::Fatal, "Fatal"),
 ];
 
+// The place of an answer that is no valid reply to its call, the answer, the instants before, and the line that it gives: an
+// interval that isn't known of a fixed Clock, one of no count, counts that aren't whole, a reply of another kind, and a Clock
+// that is neither active nor inactive.
+static WRONG: [(usize, Answer, &[&str], &str); 7] = [
+    (
+        2,
+        NOT_YET,
+        &[],
+        "misreply fmu GetInterval 0c0000000000000000000000000000000000000000000000\n",
+    ),
+    (
+        2,
+        told!(0),
+        &[],
+        "misreply fmu GetInterval 0c00000000000002000000000000000000000000000003e8\n",
+    ),
+    (
+        3,
+        done!(Content::GetShift { shift: THIRD, }),
+        &[],
+        "misreply fmu GetShift 0d0000000000000000000000000000010000000000000003\n",
+    ),
+    (
+        5,
+        ACTIVE,
+        &[],
+        "misreply fmu SetClock 0a0000000000000000000000000000010000000000000000\n",
+    ),
+    (
+        6,
+        done!(Content::GetClock { word: 2 }),
+        &[],
+        "misreply fmu GetClock 0a0000000000000000000000000000020000000000000000\n",
+    ),
+    (
+        7,
+        done!(Content::GetInterval {
+            interval: Interval::Changed(THIRD),
+        }),
+        &[],
+        "misreply fmu GetInterval 0c0000000000000200000000000000010000000000000003\n",
+    ),
+    (
+        9,
+        UPDATED,
+        &[FIRST],
+        "misreply fmu SetClock 070000000000000000000000000000000000000000000000\n",
+    ),
+];
+
 // How an instance is closed behind a bad answer at a place.
 fn closing_behind(place: usize, status: BadStatus) -> &'static [Call] {
     match status {
@@ -196,11 +252,7 @@ fn a_bad_answer_about_a_clock_ends_the_run(rt: HostRuntime) -> Result<(), Fail> 
     let alloc = rt.alloc();
     for (place, name, instants) in &BAD {
         for (status, status_name) in &STATUSES {
-            let mut out = String::from_str(alloc, HEAD)?;
-            for instant in *instants {
-                out.push_str(instant)?;
-            }
-            out.push_str("end fault 0\n")?;
+            let out = broken_text(alloc, instants)?;
             let err = format!(in alloc; "fmu fmu {name} {status_name}\n")?;
             let kind = RUN
                 .get(*place)
@@ -220,6 +272,53 @@ fn a_bad_answer_about_a_clock_ends_the_run(rt: HostRuntime) -> Result<(), Fail> 
             let closing = closing_behind(*place, *status);
             assert_cut(&rt, alloc, *place, answer, closing, &wanted)?;
         }
+    }
+    Ok(())
+}
+
+// The text of a run that a bad answer ends.
+fn broken_text(alloc: Global, instants: &[&str]) -> Result<String, AllocError> {
+    let mut out = String::from_str(alloc, HEAD)?;
+    for instant in instants {
+        out.push_str(instant)?;
+    }
+    out.push_str("end fault 0\n")?;
+    Ok(out)
+}
+
+#[test]
+fn a_wrong_answer_about_a_clock_ends_the_run(rt: HostRuntime) -> Result<(), Fail> {
+    let alloc = rt.alloc();
+    for (place, answer, instants, err) in &WRONG {
+        let out = broken_text(alloc, instants)?;
+        let wanted = Wanted {
+            words: WORDS,
+            outs: &[],
+            errs: &[],
+            status: 7,
+            out: out.as_str(),
+            err,
+        };
+        assert_cut(&rt, alloc, *place, *answer, &FREEING, &wanted)?;
+    }
+    Ok(())
+}
+
+#[test]
+fn a_link_that_fails_about_a_clock_ends_the_run(rt: HostRuntime) -> Result<(), Fail> {
+    let alloc = rt.alloc();
+    for (place, name, instants) in &BAD {
+        let out = broken_text(alloc, instants)?;
+        let err = format!(in alloc; "link fmu {name}\n")?;
+        let wanted = Wanted {
+            words: WORDS,
+            outs: &[],
+            errs: &[],
+            status: 5,
+            out: out.as_str(),
+            err: err.as_str(),
+        };
+        assert_cut(&rt, alloc, *place, Err(PeerFault::Failed), &[], &wanted)?;
     }
     Ok(())
 }

@@ -42,7 +42,7 @@ const FOLDERS: &[(&str, &str)] = &[
     // two Clocks, which a variable has both
     (
         "both",
-        r#"<fmiModelDescription fmiVersion="3.0" modelName="both" instantiationToken="{both}"><CoSimulation modelIdentifier="sampler" hasEventMode="true" canGetAndSetFMUState="true" canHandleVariableCommunicationStepSize="true"/><ModelVariables><Clock name="c" valueReference="1" causality="input" variability="discrete" intervalVariability="constant" intervalDecimal="0.01"/><Int32 name="u" valueReference="2" causality="input" variability="discrete" clocks="1 9" start="0"/><Int32 name="y" valueReference="3" causality="output" variability="discrete" clocks="1 9"/><Clock name="d" valueReference="9" causality="input" variability="discrete" intervalVariability="constant" intervalDecimal="0.01" shiftDecimal="0.005"/></ModelVariables><ModelStructure><Output valueReference="3" dependencies="2"/></ModelStructure></fmiModelDescription>"#,
+        r#"<fmiModelDescription fmiVersion="3.0" modelName="both" instantiationToken="{both}"><CoSimulation modelIdentifier="sampler" hasEventMode="true" canGetAndSetFMUState="true" canHandleVariableCommunicationStepSize="true"/><ModelVariables><Clock name="c" valueReference="1" causality="input" variability="discrete" intervalVariability="constant" intervalDecimal="0.01"/><Int32 name="u" valueReference="2" causality="input" variability="discrete" clocks="1 9" start="0"/><Int32 name="y" valueReference="3" causality="output" variability="discrete" clocks="1 9"/><Clock name="d" valueReference="9" causality="input" variability="discrete" intervalVariability="constant" intervalDecimal="0.005" shiftDecimal="0.01"/></ModelVariables><ModelStructure><Output valueReference="3" dependencies="2"/></ModelStructure></fmiModelDescription>"#,
     ),
     (
         "triggered",
@@ -65,7 +65,7 @@ const FOLDERS: &[(&str, &str)] = &[
         "never",
         r#"<fmiModelDescription fmiVersion="3.0" modelName="never" instantiationToken="{never}"><CoSimulation modelIdentifier="timer" hasEventMode="true" canGetAndSetFMUState="true" canHandleVariableCommunicationStepSize="true"/><ModelVariables><Int32 name="when" valueReference="1" causality="parameter" variability="fixed" start="10"/><Clock name="c" valueReference="2" causality="input" variability="discrete" intervalVariability="countdown"/><Int32 name="y" valueReference="3" causality="output" variability="discrete"/><Int32 name="wait" valueReference="4" causality="parameter" variability="fixed" start="15"/></ModelVariables><ModelStructure><Output valueReference="3" dependencies=""/></ModelStructure></fmiModelDescription>"#,
     ),
-    // a fixed Clock whose FMU answers whole counts, with a shift, or counts that are not whole
+    // a fixed Clock whose FMU answers whole counts, with a shift, with one past the stop, or counts that are not whole
     (
         "whole",
         r#"<fmiModelDescription fmiVersion="3.0" modelName="whole" instantiationToken="{whole}"><CoSimulation modelIdentifier="sampler" hasEventMode="true" canGetAndSetFMUState="true" canHandleVariableCommunicationStepSize="true"/><ModelVariables><Clock name="c" valueReference="1" causality="input" variability="discrete" intervalVariability="fixed" supportsFraction="true"/><Int32 name="u" valueReference="2" causality="input" variability="discrete" clocks="1" start="0"/><Int32 name="y" valueReference="3" causality="output" variability="discrete" clocks="1"/><Int32 name="ic" valueReference="4" causality="parameter" variability="fixed" start="1"/><Int32 name="ir" valueReference="5" causality="parameter" variability="fixed" start="100"/><Int32 name="sc" valueReference="6" causality="parameter" variability="fixed" start="0"/></ModelVariables><ModelStructure><Output valueReference="3" dependencies="2"/></ModelStructure></fmiModelDescription>"#,
@@ -75,10 +75,17 @@ const FOLDERS: &[(&str, &str)] = &[
         r#"<fmiModelDescription fmiVersion="3.0" modelName="shifted" instantiationToken="{shifted}"><CoSimulation modelIdentifier="sampler" hasEventMode="true" canGetAndSetFMUState="true" canHandleVariableCommunicationStepSize="true"/><ModelVariables><Clock name="c" valueReference="1" causality="input" variability="discrete" intervalVariability="fixed" supportsFraction="true"/><Int32 name="u" valueReference="2" causality="input" variability="discrete" clocks="1" start="0"/><Int32 name="y" valueReference="3" causality="output" variability="discrete" clocks="1"/><Int32 name="ic" valueReference="4" causality="parameter" variability="fixed" start="1"/><Int32 name="ir" valueReference="5" causality="parameter" variability="fixed" start="100"/><Int32 name="sc" valueReference="6" causality="parameter" variability="fixed" start="1"/></ModelVariables><ModelStructure><Output valueReference="3" dependencies="2"/></ModelStructure></fmiModelDescription>"#,
     ),
     (
+        "past",
+        r#"<fmiModelDescription fmiVersion="3.0" modelName="past" instantiationToken="{past}"><CoSimulation modelIdentifier="sampler" hasEventMode="true" canGetAndSetFMUState="true" canHandleVariableCommunicationStepSize="true"/><ModelVariables><Clock name="c" valueReference="1" causality="input" variability="discrete" intervalVariability="fixed" supportsFraction="true"/><Int32 name="u" valueReference="2" causality="input" variability="discrete" clocks="1" start="0"/><Int32 name="y" valueReference="3" causality="output" variability="discrete" clocks="1"/><Int32 name="ic" valueReference="4" causality="parameter" variability="fixed" start="1"/><Int32 name="ir" valueReference="5" causality="parameter" variability="fixed" start="100"/><Int32 name="sc" valueReference="6" causality="parameter" variability="fixed" start="3"/></ModelVariables><ModelStructure><Output valueReference="3" dependencies="2"/></ModelStructure></fmiModelDescription>"#,
+    ),
+    (
         "broken",
         r#"<fmiModelDescription fmiVersion="3.0" modelName="broken" instantiationToken="{broken}"><CoSimulation modelIdentifier="sampler" hasEventMode="true" canGetAndSetFMUState="true" canHandleVariableCommunicationStepSize="true"/><ModelVariables><Clock name="c" valueReference="1" causality="input" variability="discrete" intervalVariability="fixed" supportsFraction="true"/><Int32 name="u" valueReference="2" causality="input" variability="discrete" clocks="1" start="0"/><Int32 name="y" valueReference="3" causality="output" variability="discrete" clocks="1"/><Int32 name="ic" valueReference="4" causality="parameter" variability="fixed" start="1"/><Int32 name="ir" valueReference="5" causality="parameter" variability="fixed" start="3"/><Int32 name="sc" valueReference="6" causality="parameter" variability="fixed" start="0"/></ModelVariables><ModelStructure><Output valueReference="3" dependencies="2"/></ModelStructure></fmiModelDescription>"#,
     ),
 ];
+
+// A run in one step of the grid.
+const FAR: &str = "run|d|--resolution|1000|--step|20|--stop|20";
 
 // A run of a system, and what it gives.
 struct Row {
@@ -89,7 +96,7 @@ struct Row {
     err: &'static str,
 }
 
-// Constant Clocks: exact thirds, a decimal and an exponent, a shift, one behind the stop, and two Clocks of one variable.
+// Constant Clocks: exact thirds, a decimal and an exponent, a shift, one behind the stop, and two Clocks of one variable that meet.
 static PERIODIC: [Row; 6] = [
     // The ticks are at 0, 333 and 666 of 999 counts; at 998 there is none, and what is absent keeps its value.
     Row {
@@ -101,8 +108,9 @@ static PERIODIC: [Row; 6] = [
         out: "trace 1 999 0 998\nport 0 Int32 c y\nport 1 Clock s c\nport 2 Int32 s u\nport 3 Int32 s y\nat 0 0\n0 0\n1 1\n2 0\n3 0\nat 333 0\n0 2\n1 1\n2 2\n3 2\nat 666 0\n0 4\n1 1\n2 4\n3 4\nat 998 0\n0 6\n1 0\n2 4\n3 4\nend stop 998\n",
         err: "",
     },
+    // The tick at 10 makes a point between those of the grid.
     Row {
-        words: RUN,
+        words: FAR,
         system: Structure::Of(
             r#"<Elements><Component name="c" source="counter"><Connectors><Connector name="y" kind="output"/></Connectors></Component><Component name="s" source="hundredth"><Connectors><Connector name="u" kind="input"/></Connectors></Component></Elements><Connections><Connection startElement="c" startConnector="y" endElement="s" endConnector="u"/></Connections>"#,
         ),
@@ -111,7 +119,7 @@ static PERIODIC: [Row; 6] = [
         err: "",
     },
     Row {
-        words: RUN,
+        words: FAR,
         system: Structure::Of(
             r#"<Elements><Component name="c" source="counter"><Connectors><Connector name="y" kind="output"/></Connectors></Component><Component name="s" source="exponent"><Connectors><Connector name="u" kind="input"/></Connectors></Component></Elements><Connections><Connection startElement="c" startConnector="y" endElement="s" endConnector="u"/></Connections>"#,
         ),
@@ -138,14 +146,14 @@ static PERIODIC: [Row; 6] = [
         out: "trace 1 1000 0 20\nport 0 Int32 c y\nport 1 Clock s c\nport 2 Int32 s u\nport 3 Int32 s y\nat 0 0\n0 0\n1 0\nat 10 0\n0 2\n1 0\nat 20 0\n0 4\n1 0\nend stop 20\n",
         err: "",
     },
-    // Each Clock has points of its own, and the variable is present at all of them.
+    // The first Clock ticks alone at 0, the second at 15, and both at 10 and 20. The variable is present at all of these.
     Row {
         words: RUN,
         system: Structure::Of(
             r#"<Elements><Component name="c" source="counter"><Connectors><Connector name="y" kind="output"/></Connectors></Component><Component name="s" source="both"><Connectors><Connector name="u" kind="input"/></Connectors></Component></Elements><Connections><Connection startElement="c" startConnector="y" endElement="s" endConnector="u"/></Connections>"#,
         ),
         status: 0,
-        out: "trace 1 1000 0 20\nport 0 Int32 c y\nport 1 Clock s c\nport 2 Int32 s u\nport 3 Int32 s y\nport 4 Clock s d\nat 0 0\n0 0\n1 1\n2 0\n3 0\n4 0\nat 5 0\n0 2\n1 0\n2 2\n3 2\n4 1\nat 10 0\n0 4\n1 1\n2 4\n3 4\n4 0\nat 15 0\n0 6\n1 0\n2 6\n3 6\n4 1\nat 20 0\n0 8\n1 1\n2 8\n3 8\n4 0\nend stop 20\n",
+        out: "trace 1 1000 0 20\nport 0 Int32 c y\nport 1 Clock s c\nport 2 Int32 s u\nport 3 Int32 s y\nport 4 Clock s d\nat 0 0\n0 0\n1 1\n2 0\n3 0\n4 0\nat 10 0\n0 2\n1 1\n2 2\n3 2\n4 1\nat 15 0\n0 4\n1 0\n2 4\n3 4\n4 1\nat 20 0\n0 6\n1 1\n2 6\n3 6\n4 1\nend stop 20\n",
         err: "",
     },
 ];
@@ -213,8 +221,8 @@ static COUNTDOWN: [Row; 4] = [
     },
 ];
 
-// Fixed Clocks whose FMU is asked: whole counts, with a shift, and counts that are not whole.
-static FIXED: [Row; 3] = [
+// Fixed Clocks whose FMU is asked: whole counts, with a shift, with one past the stop, and counts that are not whole.
+static FIXED: [Row; 4] = [
     Row {
         words: RUN,
         system: Structure::Of(
@@ -231,6 +239,15 @@ static FIXED: [Row; 3] = [
         ),
         status: 0,
         out: "trace 1 1000 0 20\nport 0 Int32 c y\nport 1 Clock s c\nport 2 Int32 s u\nport 3 Int32 s y\nat 0 0\n0 0\n1 0\nat 10 0\n0 2\n1 1\n2 2\n3 2\nat 20 0\n0 4\n1 1\n2 4\n3 4\nend stop 20\n",
+        err: "",
+    },
+    Row {
+        words: RUN,
+        system: Structure::Of(
+            r#"<Elements><Component name="c" source="counter"><Connectors><Connector name="y" kind="output"/></Connectors></Component><Component name="s" source="past"><Connectors><Connector name="u" kind="input"/></Connectors></Component></Elements><Connections><Connection startElement="c" startConnector="y" endElement="s" endConnector="u"/></Connections>"#,
+        ),
+        status: 0,
+        out: "trace 1 1000 0 20\nport 0 Int32 c y\nport 1 Clock s c\nport 2 Int32 s u\nport 3 Int32 s y\nat 0 0\n0 0\n1 0\nat 10 0\n0 2\n1 0\nat 20 0\n0 4\n1 0\nend stop 20\n",
         err: "",
     },
     Row {
