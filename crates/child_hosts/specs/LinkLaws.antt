@@ -11,19 +11,19 @@ use Rattle.child_hosts.specs.declared.link.HostLink.TheVariants.{BuiltIn, Child}
 use Rattle.child_hosts.specs.Links.{link_view}
 
 pub is_machine : (p : HostLink) → IfSome (link_view p).fixed.machine (IsMachineOf (link_view p).fixed.shape)
-is_machine (BuiltIn b) = laws.is_machine b.model b.book.shape
+is_machine (BuiltIn b) = laws.is_machine b.value.model b.value.book.shape
 is_machine (Child c) = tt
 
 pub is_in_phase : (p : HostLink) → TellsItsPhase (link_view p)
-is_in_phase (BuiltIn b) = b.in_phase
+is_in_phase (BuiltIn b) = b.value.in_phase
 is_in_phase (Child c) = tt
 
 pub ignores_slot : (p : HostLink) → IfSome (link_view p).fixed.machine IgnoresSlot
-ignores_slot (BuiltIn b) = laws.answers_alike b.model b.book.shape
+ignores_slot (BuiltIn b) = laws.answers_alike b.value.model b.value.book.shape
 ignores_slot (Child c) = tt
 
 pub is_lawful : (p : HostLink) → IfSome (link_view p).fixed.machine (IsLawful (link_view p).fixed.shape)
-is_lawful (BuiltIn b) = laws.is_lawful b.model b.book.shape
+is_lawful (BuiltIn b) = laws.is_lawful b.value.model b.value.book.shape
 is_lawful (Child c) = tt
 
 -- no more are told as taken back than were started

@@ -26,8 +26,8 @@ abbrev pub child_view : ChildFmu → View
 child_view c = piped_view pipes_view c.peer
 
 abbrev pub link_view : HostLink → View
-link_view (BuiltIn peer) = built_in_view peer
-link_view (Child c) = child_view c
+link_view (BuiltIn peer) = built_in_view peer.value
+link_view (Child child) = child_view child.value
 
 -- the name of the host of the built-in machines
 abbrev pub built_in_host : List ℕ
@@ -39,8 +39,8 @@ is_known host identifier = if bytes_eq host built_in_host then is_model identifi
 
 -- by the host `builtin` it is the machine that the shape names, and by another a child
 abbrev pub IsOfHost : List ℕ → Shape → HostLink → Type 0
-IsOfHost host shape (BuiltIn peer) = (host ≡ built_in_host) × (model_named shape.identifier ≡ Some peer.model)
-IsOfHost host shape (Child c) = host ≢ built_in_host
+IsOfHost host shape (BuiltIn peer) = (host ≡ built_in_host) × (model_named shape.identifier ≡ Some peer.value.model)
+IsOfHost host shape (Child child) = host ≢ built_in_host
 
 abbrev pub hosts_view : {R : Type 0} → Hosts R → SpawnerView
 hosts_view h = record {

@@ -7,7 +7,7 @@ ghost use Rattle.fmu_peer.specs.Start.{AnswersUnknown, IsStarted};
 use crate::{ChildFmu, HostLink};
 use bench_fmus::{BuiltIn, Model, Origin, Retired};
 use fmu_peer::{Spawner, StartFault};
-use std::alloc::{AllocError, Global};
+use std::alloc::{AllocError, AllocFailed, Global};
 use std::process::{Processes, SystemProcess};
 use std::snapshot::Snapshot;
 use value_types::Shape;
@@ -131,9 +131,13 @@ fn start_link<R: Processes<Started = SystemProcess>>(
     if host == BUILT_IN_HOST {
         return start_built_in(alloc, host, name, directory, shape);
     }
-    match ChildFmu::start(rt, alloc, host, name, directory, shape) {
+    let child = ChildFmu::start(rt, alloc, host, name, directory, shape)?;
+    match Box::new(alloc, child) {
         Ok(child) => Ok(HostLink::Child(child)),
-        Err(fault) => Err(fault),
+        Err(AllocFailed { value, .. }) => {
+            value.end();
+            Err(StartFault::Memory)
+        }
     }
 }
 
@@ -154,10 +158,19 @@ fn start_built_in(
     let Some(model) = Model::named(shape.identifier.as_str()) else {
         return Err(StartFault::Unknown);
     };
-    match make_built_in(alloc, model, host, name, directory, shape) {
+    let Ok(peer) = make_built_in(alloc, model, host, name, directory, shape) else {
+        return Err(StartFault::Memory);
+    };
+    match into_box(alloc, peer) {
         Ok(peer) => Ok(HostLink::BuiltIn(peer)),
         Err(_) => Err(StartFault::Memory),
     }
+}
+
+fn into_box(alloc: Global, peer: BuiltIn) -> Result<Box<BuiltIn, Global>, AllocError>
+    ensures { IfOk result (λ b. b.value ≡ peer) }
+{
+    Ok(Box::new(alloc, peer)?)
 }
 
 fn make_built_in(

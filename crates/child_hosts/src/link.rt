@@ -2,13 +2,15 @@ use crate::ChildFmu;
 use bench_fmus::BuiltIn;
 use fmi_calls::{Call, Phase, Reply};
 use fmu_peer::{Peer, PeerFault};
+use std::alloc::Global;
 use value_types::Shape;
 
-/// An FMU that the program runs itself, or one in a child process.
+/// An FMU that the program runs itself, or one in a child process. It stands in a box, since each call of the typed states
+/// of an FMU moves it.
 #[derive(Drop)]
 pub enum HostLink {
-    BuiltIn(BuiltIn),
-    Child(ChildFmu),
+    BuiltIn(Box<BuiltIn, Global>),
+    Child(Box<ChildFmu, Global>),
 }
 
 impl HostLink {
@@ -16,7 +18,7 @@ impl HostLink {
     pub fn end(self) {
         match self {
             HostLink::BuiltIn(peer) => drop(peer),
-            HostLink::Child(child) => child.end(),
+            HostLink::Child(child) => Box::into_inner(child).end(),
         }
     }
 }
