@@ -1,5 +1,5 @@
 -- The slots of a run: in which typed state each FMU is held (FMI 3.0, 4.2.1), and what one call makes of it.
-use Rattle.std.specs.Prelude.{◌≡◌, Bool, true, false, List, [], ◌∷◌, map, Option, Some, None, Ok, Err, Result, OnOk}
+use Rattle.std.specs.Prelude.{◌≡◌, Bool, true, false, List, [], ◌∷◌, map, Option, Some, None, Ok, Err, Result, OnOk, ⊤}
 use Rattle.value_types.specs.declared.shape.Shape.{Shape}
 use Rattle.fmi_calls.specs.declared.call.Call.{Call}
 use Rattle.fmi_calls.specs.declared.call.Call.TheVariants as C
@@ -65,6 +65,11 @@ is_asked A.ExitInitialization = everyone
 is_asked A.EnterEvent = has_events
 is_asked A.EnterStep = has_events
 is_asked (A.DoStep at size) = everyone
+
+-- the FMU leaves its state by the call, if the answer is good: each does but a step
+abbrev pub IsTransition : Ask → Type 0
+IsTransition (A.DoStep at size) = ⊥
+IsTransition ask = ⊤
 
 -- the call reads or sets a variable or a Clock
 abbrev pub reads_or_sets : Call → Bool

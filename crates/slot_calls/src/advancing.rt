@@ -9,7 +9,7 @@ ghost use Rattle.fmu_peer.specs.Running.{peer_of, running_mode};
 ghost use Rattle.run_model.specs.Stepping.{is_terminating};
 ghost use Rattle.slot_calls.specs.Carried.{asks_to_end};
 ghost use Rattle.slot_calls.specs.Log.{One};
-ghost use Rattle.slot_calls.specs.Slots.{IsLive, MayBeAsked, Moves, call_of, is_fatal_result, is_fatal_why, state_of};
+ghost use Rattle.slot_calls.specs.Slots.{IsLive, IsTransition, MayBeAsked, Moves, call_of, is_fatal_result, is_fatal_why, state_of};
 
 use crate::Ask;
 use core::mem::replace_with;
@@ -26,15 +26,7 @@ pub fn advance<L: Peer>(slot: &mut Slot<L>, ask: Ask) -> Result<bool, Why>
     ensures one { One (call_of ask (L.view (peer_in slot.old.held)).fixed.shape) asks_to_end
         (instance_in L.view slot.old) (instance_in L.view slot.new) result }
 {
-    let answer = replace_with(
-        &mut slot.held,
-        ask,
-        |held, ask| -> (Held<L>, Result<bool, Why>)
-            requires { IsLive L.view held × MayBeAsked ask (L.view (peer_in held)) }
-            ensures { Moves L.view held (call_of ask (L.view (peer_in held)).fixed.shape)
-                asks_to_end result.0 result.1 }
-        { advance_held(held, ask) },
-    );
+    let answer = ask_held(&mut slot.held, ask);
     slot.is_fatal = slot.is_fatal || is_fatal(&answer);
     answer
 }
@@ -61,9 +53,43 @@ fn is_fatal_why(why: &Why) -> bool
     }
 }
 
+// A step is made where the FMU stands, and a transition takes it out of its typed state.
+fn ask_held<L: Peer>(held: &mut Held<L>, ask: Ask) -> Result<bool, Why>
+    requires live { IsLive L.view held.old }
+    requires permitted { MayBeAsked ask (L.view (peer_in held.old)) }
+    ensures { Moves L.view held.old (call_of ask (L.view (peer_in held.old)).fixed.shape)
+        asks_to_end held.new result }
+{
+    match ask {
+        Ask::DoStep { at, size } => step_held(held, at, size),
+        _ => replace_with(
+            held,
+            ask,
+            |held, ask| -> (Held<L>, Result<bool, Why>)
+                requires { IsLive L.view held × MayBeAsked ask (L.view (peer_in held)) × IsTransition ask }
+                ensures { Moves L.view held (call_of ask (L.view (peer_in held)).fixed.shape)
+                    asks_to_end result.0 result.1 }
+            { advance_held(held, ask) },
+        ),
+    }
+}
+
+fn step_held<L: Peer>(held: &mut Held<L>, at: u64, size: u64) -> Result<bool, Why>
+    requires live { IsLive L.view held.old }
+    requires permitted { Permitted (L.view (peer_in held.old)).fixed.shape
+        (L.view (peer_in held.old)).phase (C.DoStep at size) }
+    ensures { Moves L.view held.old (C.DoStep at size) asks_to_end held.new result }
+{
+    match held {
+        Held::Stepping(fmu) => do_step(fmu, at, size),
+        _ => unreachable!(),
+    }
+}
+
 fn advance_held<L: Peer>(held: Held<L>, ask: Ask) -> (Held<L>, Result<bool, Why>)
     requires live { IsLive L.view held }
     requires permitted { MayBeAsked ask (L.view (peer_in held)) }
+    requires transition { IsTransition ask }
     ensures { Moves L.view held (call_of ask (L.view (peer_in held)).fixed.shape) asks_to_end
         result.0 result.1 }
 {
@@ -88,10 +114,7 @@ fn advance_held<L: Peer>(held: Held<L>, ask: Ask) -> (Held<L>, Result<bool, Why>
             Held::Eventing(fmu) => enter_step(fmu),
             _ => unreachable!(),
         },
-        Ask::DoStep { at, size } => match held {
-            Held::Stepping(fmu) => do_step(fmu, at, size),
-            _ => unreachable!(),
-        },
+        Ask::DoStep { .. } => unreachable!(),
     }
 }
 
@@ -181,17 +204,16 @@ fn enter_step<L: Peer>(fmu: Fmu<L, Eventing>) -> (Held<L>, Result<bool, Why>)
     }
 }
 
-fn do_step<L: Peer>(fmu: Fmu<L, Stepping>, at: u64, size: u64) -> (Held<L>, Result<bool, Why>)
-    requires permitted { Permitted (L.view fmu.peer).fixed.shape (L.view fmu.peer).phase
+fn do_step<L: Peer>(fmu: &mut Fmu<L, Stepping>, at: u64, size: u64) -> Result<bool, Why>
+    requires permitted { Permitted (L.view fmu.old.peer).fixed.shape (L.view fmu.old.peer).phase
         (C.DoStep at size) }
-    ensures { Moves L.view (Held.Stepping fmu) (C.DoStep at size) asks_to_end result.0 result.1 }
+    ensures { Moves L.view (Held.Stepping fmu.old) (C.DoStep at size) asks_to_end
+        (Held.Stepping fmu.new) result }
 {
-    let mut fmu = fmu;
-    let answer = match fmu.do_step(at, size) {
+    match fmu.do_step(at, size) {
         Ok(reply) => Ok(is_terminating(&reply)),
         Err(why) => Err(why),
-    };
-    (Held::Stepping(fmu), answer)
+    }
 }
 
 fn is_terminating(reply: &Reply) -> bool
