@@ -17,7 +17,7 @@ use Rattle.value_types.specs.Shape.{is_at, is_clock, is_clock_type, variable_at}
 use Rattle.doc_grammar.specs.Nodes.{Node}
 use Rattle.doc_tree.specs.Elements.{children_of}
 use Rattle.doc_tree.specs.declared.rule.DescriptionRule.TheVariants as r
-use Rattle.doc_tables.specs.Elements.{name_of, attribute, filled, text_of}
+use Rattle.doc_tables.specs.Elements.{name_of, attribute, unless_empty, text_of}
 use Rattle.fmu_description.specs.Texts.{port_type}
 use Rattle.fmu_description.specs.Elements.{is_variable, is_clock as is_clock_element, is_alias, reference_of, clock_key}
 use Rattle.fmu_description.specs.Clocks.{IsForeign, ByClock, clocks_of}
@@ -32,7 +32,7 @@ use Rattle.description_laws.proofs.Zips.{beside_passing}
 
 -- ---- names and start values
 
-has_name : (text : Option (List ℕ)) → (filled text ≡ None → ⊥) → 0 < length (unwrap_or text [])
+has_name : (text : Option (List ℕ)) → (unless_empty text ≡ None → ⊥) → 0 < length (unwrap_or text [])
 has_name None h = absurd (h refl)
 has_name (Some []) h = absurd (h refl)
 has_name (Some (b ∷ bs)) h = omega arith

@@ -1,4 +1,4 @@
 pub mod Names
 pub mod Steps
-pub mod SharedBytes
+pub mod CommonPrefix
 pub mod Told

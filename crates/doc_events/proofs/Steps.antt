@@ -24,7 +24,7 @@ use Rattle.doc_events.specs.declared.state.State.TheVariants as s
 use Rattle.std.specs.declared.vec.Vec.{Vec}
 use Rattle.std.specs.declared.alloc.Global.{Global}
 use Rattle.std.proofs.Common.{map}
-use Rattle.doc_events.specs.View.{state_of, events_of, Goes, Took, Moves, worded_from, said_from, bracketed_from, name_of, names_of}
+use Rattle.doc_events.specs.View.{state_of, events_of, Goes, Took, Moves, setting_name_from, setting_value_from, cdata_start_from, name_of, names_of}
 
 -- a step that emits nothing leaves what was emitted
 pub goes_moves : (w : m.Step) (r : Result State Stop) (es : List Event) → Goes w r → Moves w r es es
@@ -32,53 +32,53 @@ goes_moves w (Ok t) es h = subst (λ z. Took z t (events_of es) (events_of es)) 
 goes_moves w (Err e) es h = h
 
 -- a step in a value of the declaration
-pub said_step : (part : g.Part) (q : g.Quote) (t : ℕ) (todo : List ℕ) (k : Class) (b : ℕ) → m.step strict (said_from part q (t ∷ todo)) k b ≡ m.exactly (g.folded part t) (g.folded part b) (said_from part q todo)
-said_step part q t [] k b = refl
-said_step part q t (u ∷ todo) k b = refl
+pub setting_value_step : (part : g.Part) (q : g.Quote) (t : ℕ) (todo : List ℕ) (k : Class) (b : ℕ) → m.step strict (setting_value_from part q (t ∷ todo)) k b ≡ m.exactly (g.fold_for part t) (g.fold_for part b) (setting_value_from part q todo)
+setting_value_step part q t [] k b = refl
+setting_value_step part q t (u ∷ todo) k b = refl
 
-pub said_goes : (part : g.Part) (q : g.Quote) (text rest : List ℕ) (t : ℕ) (k : Class) (b fe fb : ℕ) (u : m.State) (r : Result State Stop) → text ≡ t ∷ rest → fe ≡ g.folded part t → fb ≡ g.folded part b → u ≡ said_from part q rest
-    → Goes (m.exactly fe fb u) r → Goes (m.step strict (said_from part q text) k b) r
-said_goes part q text rest t k b fe fb u r e f h i j =
-    subst (λ z. Goes (m.step strict (said_from part q z) k b) r) (sym e) (subst (λ z. Goes z r) (sym (said_step part q t rest k b))
-    (subst (λ z. Goes (m.exactly z (g.folded part b) (said_from part q rest)) r) f (subst (λ z. Goes (m.exactly fe z (said_from part q rest)) r) h (subst (λ z. Goes (m.exactly fe fb z) r) i j))))
+pub setting_value_goes : (part : g.Part) (q : g.Quote) (text rest : List ℕ) (t : ℕ) (k : Class) (b fe fb : ℕ) (u : m.State) (r : Result State Stop) → text ≡ t ∷ rest → fe ≡ g.fold_for part t → fb ≡ g.fold_for part b → u ≡ setting_value_from part q rest
+    → Goes (m.exactly fe fb u) r → Goes (m.step strict (setting_value_from part q text) k b) r
+setting_value_goes part q text rest t k b fe fb u r e f h i j =
+    subst (λ z. Goes (m.step strict (setting_value_from part q z) k b) r) (sym e) (subst (λ z. Goes z r) (sym (setting_value_step part q t rest k b))
+    (subst (λ z. Goes (m.exactly z (g.fold_for part b) (setting_value_from part q rest)) r) f (subst (λ z. Goes (m.exactly fe z (setting_value_from part q rest)) r) h (subst (λ z. Goes (m.exactly fe fb z) r) i j))))
 
-not_worded : (part : g.Part) (todo : List ℕ) → m.Final (worded_from part todo) → ⊥
-not_worded part [] h = h
-not_worded part (t ∷ todo) h = h
+not_setting_name : (part : g.Part) (todo : List ℕ) → m.Final (setting_name_from part todo) → ⊥
+not_setting_name part [] h = h
+not_setting_name part (t ∷ todo) h = h
 
-not_said : (part : g.Part) (q : g.Quote) (todo : List ℕ) → m.Final (said_from part q todo) → ⊥
-not_said part q [] h = h
-not_said part q (t ∷ todo) h = h
+not_setting_value : (part : g.Part) (q : g.Quote) (todo : List ℕ) → m.Final (setting_value_from part q todo) → ⊥
+not_setting_value part q [] h = h
+not_setting_value part q (t ∷ todo) h = h
 
-not_bracketed : (n : List ℕ) (ns : List (List ℕ)) (todo : List ℕ) → m.Final (bracketed_from n ns todo) → ⊥
-not_bracketed n ns [] h = h
-not_bracketed n ns (t ∷ todo) h = h
+not_cdata_start : (n : List ℕ) (ns : List (List ℕ)) (todo : List ℕ) → m.Final (cdata_start_from n ns todo) → ⊥
+not_cdata_start n ns [] h = h
+not_cdata_start n ns (t ∷ todo) h = h
 
-not_finishing : (ns : List (List ℕ)) (todo : List ℕ) → m.Final (m.finishing ns todo) → ⊥
-not_finishing ns todo h = h
+not_end_tag_name : (ns : List (List ℕ)) (todo : List ℕ) → m.Final (m.end_tag_name ns todo) → ⊥
+not_end_tag_name ns todo h = h
 
-none_within : (vs : List (Vec ℕ Global)) → m.Final (m.at (m.within (names_of vs))) → length vs ≡ 0
+none_within : (vs : List (Vec ℕ Global)) → m.Final (m.content (m.within (names_of vs))) → length vs ≡ 0
 none_within [] h = refl
 none_within (v ∷ vs) h = absurd (some (names_of (v ∷ vs)) h (not_none vs v))
   where
     not_none : (vs : List (Vec ℕ Global)) (v : Vec ℕ Global) → names_of (v ∷ vs) ≡ [] → ⊥
     not_none vs v e = let q = ap length e in absurd (omega (arith, q, length-reverse (map name_of (v ∷ vs)), length-map (v ∷ vs) name_of))
 
-    some : (ns : List (List ℕ)) → m.Final (m.at (m.within ns)) → (ns ≡ [] → ⊥) → ⊥
+    some : (ns : List (List ℕ)) → m.Final (m.content (m.within ns)) → (ns ≡ [] → ⊥) → ⊥
     some [] h k = k refl
     some (n ∷ ns) h k = h
 
 -- the state in which a document may end: behind the root
 abbrev pub IsEnd : State → Type 0
-IsEnd (s.At (Within v)) = length v.items ≡ 0
+IsEnd (s.Content (Within v)) = length v.items ≡ 0
 IsEnd t = ⊥
 
 pub final_is : (t : State) → m.Final (state_of t) → IsEnd t
-final_is (s.At (Within v)) h = none_within v.items h
-final_is (s.At Before) h = absurd h
-final_is (s.Worded part k) h = absurd (not_worded _ _ h)
-final_is (s.Said w q k) h = absurd (not_said _ _ _ h)
-final_is (s.Bracketed n ns k) h = absurd (not_bracketed _ _ _ h)
+final_is (s.Content (Within v)) h = none_within v.items h
+final_is (s.Content Before) h = absurd h
+final_is (s.SettingName part k) h = absurd (not_setting_name _ _ h)
+final_is (s.SettingValue w q k) h = absurd (not_setting_value _ _ _ h)
+final_is (s.CdataStart n ns k) h = absurd (not_cdata_start _ _ _ h)
 final_is t h = absurd h
 
 took_along : (w : m.Step) (t : State) (old new : List g.Event) → Took w t old new → (o : List g.Event) × m.along (λ u o. (u ≡ state_of t) × (o ≡ [])) w o × (new ≡ old ++ o)

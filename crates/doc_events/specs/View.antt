@@ -47,17 +47,17 @@ part_of Version = g.version
 part_of Encoding = g.encoding
 part_of Standalone = g.standalone
 
-abbrev pub said_part : Saying → g.Part
-said_part OnePointZero = g.version
-said_part Utf8 = g.encoding
-said_part Yes = g.standalone
-said_part No = g.standalone
+abbrev pub saying_part : Saying → g.Part
+saying_part OnePointZero = g.version
+saying_part Utf8 = g.encoding
+saying_part Yes = g.standalone
+saying_part No = g.standalone
 
-abbrev pub said_text : Saying → List ℕ
-said_text OnePointZero = 49 ∷ 46 ∷ 48 ∷ []
-said_text Utf8 = 117 ∷ 116 ∷ 102 ∷ 45 ∷ 56 ∷ []
-said_text Yes = 121 ∷ 101 ∷ 115 ∷ []
-said_text No = 110 ∷ 111 ∷ []
+abbrev pub saying_text : Saying → List ℕ
+saying_text OnePointZero = 49 ∷ 46 ∷ 48 ∷ []
+saying_text Utf8 = 117 ∷ 116 ∷ 102 ∷ 45 ∷ 56 ∷ []
+saying_text Yes = 121 ∷ 101 ∷ 115 ∷ []
+saying_text No = 110 ∷ 111 ∷ []
 
 abbrev pub base_of : Base → g.Base
 base_of Ten = g.ten
@@ -75,19 +75,19 @@ tail_of Ot = 111 ∷ 116 ∷ 59 ∷ []
 tail_of S = 115 ∷ 59 ∷ []
 
 -- in a word of the declaration, where these characters are to come
-abbrev pub worded_from : g.Part → List ℕ → m.State
-worded_from part [] = m.equal part
-worded_from part (t ∷ todo) = m.worded part t todo
+abbrev pub setting_name_from : g.Part → List ℕ → m.State
+setting_name_from part [] = m.after_setting_name part
+setting_name_from part (t ∷ todo) = m.setting_name part t todo
 
 -- in a value of the declaration
-abbrev pub said_from : g.Part → g.Quote → List ℕ → m.State
-said_from part q [] = m.said_all part q
-said_from part q (t ∷ todo) = m.said part q t todo
+abbrev pub setting_value_from : g.Part → g.Quote → List ℕ → m.State
+setting_value_from part q [] = m.setting_value_end part q
+setting_value_from part q (t ∷ todo) = m.setting_value part q t todo
 
 -- in the beginning of a CDATA section
-abbrev pub bracketed_from : List ℕ → List (List ℕ) → List ℕ → m.State
-bracketed_from n ns [] = m.section n ns
-bracketed_from n ns (t ∷ todo) = m.bracketed n ns t todo
+abbrev pub cdata_start_from : List ℕ → List (List ℕ) → List ℕ → m.State
+cdata_start_from n ns [] = m.cdata_section n ns
+cdata_start_from n ns (t ∷ todo) = m.cdata_start n ns t todo
 
 -- `CDATA[`
 abbrev pub cdata : List ℕ
@@ -95,51 +95,51 @@ cdata = 67 ∷ 68 ∷ 65 ∷ 84 ∷ 65 ∷ 91 ∷ []
 
 abbrev pub state_of : State → m.State
 state_of s.Start = m.start
-state_of s.Fresh = m.fresh
-state_of s.FreshOpened = m.fresh_opened
-state_of s.FreshAsked = m.fresh_asked
-state_of (s.FreshTarget n) = m.fresh_target n.items
-state_of s.Untold = m.untold
-state_of (s.Told part) = m.told (part_of part)
-state_of (s.Gap part) = m.gap (part_of part)
-state_of (s.Worded part k) = worded_from (part_of part) (drop k (g.word (part_of part)))
-state_of (s.Equal part) = m.equal (part_of part)
-state_of (s.Quoted part) = m.quoted (part_of part)
-state_of (s.Answer q) = m.answer (quote_of q)
-state_of (s.Said w q k) = said_from (said_part w) (quote_of q) (drop k (said_text w))
-state_of s.Declared = m.declared
-state_of (s.At p) = m.at (place_of p)
-state_of (s.Opened p) = m.opened (place_of p)
-state_of (s.Banged p) = m.banged (place_of p)
-state_of (s.Dashed p) = m.dashed (place_of p)
+state_of s.AfterByteOrderMark = m.after_byte_order_mark
+state_of s.DocumentTagOpen = m.document_tag_open
+state_of s.DocumentProcessingInstruction = m.document_processing_instruction
+state_of (s.DocumentInstructionTarget n) = m.document_instruction_target n.items
+state_of s.BeforeVersion = m.before_version
+state_of (s.AfterSetting part) = m.after_setting (part_of part)
+state_of (s.BetweenSettings part) = m.between_settings (part_of part)
+state_of (s.SettingName part k) = setting_name_from (part_of part) (drop k (g.word (part_of part)))
+state_of (s.AfterSettingName part) = m.after_setting_name (part_of part)
+state_of (s.BeforeSettingValue part) = m.before_setting_value (part_of part)
+state_of (s.StandaloneValue q) = m.standalone_value (quote_of q)
+state_of (s.SettingValue w q k) = setting_value_from (saying_part w) (quote_of q) (drop k (saying_text w))
+state_of s.DeclarationEnd = m.declaration_end
+state_of (s.Content p) = m.content (place_of p)
+state_of (s.TagOpen p) = m.tag_open (place_of p)
+state_of (s.MarkupDeclaration p) = m.markup_declaration (place_of p)
+state_of (s.CommentStart p) = m.comment_start (place_of p)
 state_of (s.Comment p) = m.comment (place_of p)
 state_of (s.CommentDash p) = m.comment_dash (place_of p)
 state_of (s.CommentEnd p) = m.comment_end (place_of p)
-state_of (s.Asked p) = m.asked (place_of p)
-state_of (s.Target p n) = m.target (place_of p) n.items
-state_of (s.TargetEnd p) = m.target_end (place_of p)
-state_of (s.Instruction p) = m.instruction (place_of p)
+state_of (s.ProcessingInstruction p) = m.processing_instruction (place_of p)
+state_of (s.InstructionTarget p n) = m.instruction_target (place_of p) n.items
+state_of (s.InstructionTargetEnd p) = m.instruction_target_end (place_of p)
+state_of (s.InstructionText p) = m.instruction_text (place_of p)
 state_of (s.InstructionEnd p) = m.instruction_end (place_of p)
-state_of (s.Bracketed n ns k) = bracketed_from n.items (names_of ns.items) (drop k cdata)
-state_of (s.Section n ns) = m.section n.items (names_of ns.items)
-state_of (s.SectionOne n ns) = m.section_one n.items (names_of ns.items)
-state_of (s.SectionTwo n ns) = m.section_two n.items (names_of ns.items)
-state_of (s.Naming p n) = m.naming (place_of p) n.items
-state_of (s.Tagged p t) = m.tagged (place_of p) t.name.items t.attrs
-state_of (s.Attr p t x) = m.attr (place_of p) t.name.items t.attrs x.items
-state_of (s.Equals p t x) = m.equals (place_of p) t.name.items t.attrs x.items
-state_of (s.Valued p t x) = m.valued (place_of p) t.name.items t.attrs x.items
-state_of (s.Value p t x q v r) = m.value (place_of p) t.name.items t.attrs x.items (quote_of q) v.items r
-state_of (s.Closed p t) = m.closed (place_of p) t.name.items t.attrs
-state_of (s.Slashed p t) = m.slashed (place_of p) t.name.items t.attrs
-state_of (s.Finishing ns n k) = m.finishing (names_of ns.items) (drop k n.items)
-state_of (s.Finished ns) = m.finished (names_of ns.items)
-state_of (s.Amped h) = m.amped (hole_of h)
-state_of (s.AmpedA h) = m.amped_a (hole_of h)
-state_of (s.Forced h code t tail) = m.forced (hole_of h) code t (tail_of tail)
-state_of (s.Hashed h) = m.hashed (hole_of h)
-state_of (s.Hexed h) = m.hexed (hole_of h)
-state_of (s.Number h base n) = m.number (hole_of h) (base_of base) n
+state_of (s.CdataStart n ns k) = cdata_start_from n.items (names_of ns.items) (drop k cdata)
+state_of (s.CdataSection n ns) = m.cdata_section n.items (names_of ns.items)
+state_of (s.CdataSectionBracket n ns) = m.cdata_section_bracket n.items (names_of ns.items)
+state_of (s.CdataSectionEnd n ns) = m.cdata_section_end n.items (names_of ns.items)
+state_of (s.TagName p n) = m.tag_name (place_of p) n.items
+state_of (s.BeforeAttributeName p t) = m.before_attribute_name (place_of p) t.name.items t.attrs
+state_of (s.AttributeName p t x) = m.attribute_name (place_of p) t.name.items t.attrs x.items
+state_of (s.AfterAttributeName p t x) = m.after_attribute_name (place_of p) t.name.items t.attrs x.items
+state_of (s.BeforeAttributeValue p t x) = m.before_attribute_value (place_of p) t.name.items t.attrs x.items
+state_of (s.AttributeValue p t x q v r) = m.attribute_value (place_of p) t.name.items t.attrs x.items (quote_of q) v.items r
+state_of (s.AfterAttributeValue p t) = m.after_attribute_value (place_of p) t.name.items t.attrs
+state_of (s.SelfClosingStartTag p t) = m.self_closing_start_tag (place_of p) t.name.items t.attrs
+state_of (s.EndTagName ns n k) = m.end_tag_name (names_of ns.items) (drop k n.items)
+state_of (s.AfterEndTagName ns) = m.after_end_tag_name (names_of ns.items)
+state_of (s.Reference h) = m.reference (hole_of h)
+state_of (s.ReferenceA h) = m.reference_a (hole_of h)
+state_of (s.NamedReference h code t tail) = m.named_reference (hole_of h) code t (tail_of tail)
+state_of (s.NumericReference h) = m.numeric_reference (hole_of h)
+state_of (s.HexadecimalReference h) = m.hexadecimal_reference (hole_of h)
+state_of (s.ReferenceDigits h base n) = m.reference_digits (hole_of h) (base_of base) n
 
 abbrev pub event_of : Event → g.Event
 event_of (Begin t) = begin t.name.items t.attrs

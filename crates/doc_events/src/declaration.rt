@@ -4,11 +4,11 @@ ghost use Rattle.doc_grammar.specs.Characters.{class};
 ghost use Rattle.doc_grammar.specs.Grammar.{strict, fold_case};
 ghost use Rattle.doc_grammar.specs.Grammar as g;
 ghost use Rattle.doc_grammar.specs.Machine as m;
-ghost use Rattle.doc_events.specs.View.{state_of, part_of, quote_of, said_part, said_text, worded_from, said_from, Goes};
+ghost use Rattle.doc_events.specs.View.{state_of, part_of, quote_of, saying_part, saying_text, setting_name_from, setting_value_from, Goes};
 
 use crate::markup::{bad, exactly, next_of, one, unless_xml};
 use crate::state::{Part, Place, Quote, Saying, State, Stop};
-use crate::tags::{opened, partly};
+use crate::tags::{partly, tag_open};
 use doc_grammar::{Class, Why, class_of};
 use std::alloc::Global;
 
@@ -37,7 +37,7 @@ fn word(part: Part) -> &'static [char]
 }
 
 fn text(saying: Saying) -> &'static [char]
-    ensures { result.now ≡ said_text saying }
+    ensures { result.now ≡ saying_text saying }
 {
     match saying {
         Saying::OnePointZero => &ONE_POINT_ZERO,
@@ -48,7 +48,7 @@ fn text(saying: Saying) -> &'static [char]
 }
 
 fn part(saying: Saying) -> Part
-    ensures { part_of result ≡ said_part saying }
+    ensures { part_of result ≡ saying_part saying }
 {
     match saying {
         Saying::OnePointZero => Part::Version,
@@ -58,12 +58,12 @@ fn part(saying: Saying) -> Part
 }
 
 /// Where nothing but a byte order mark was read.
-pub(crate) fn fresh(b: char, why: Why) -> Result<State, Stop>
-    ensures { Goes (m.step_fresh why (class b)) result }
+pub(crate) fn after_byte_order_mark(b: char, why: Why) -> Result<State, Stop>
+    ensures { Goes (m.step_after_byte_order_mark why (class b)) result }
 {
     match class_of(b) {
-        Class::Less => Ok(State::FreshOpened),
-        Class::Blank => Ok(State::At(Place::Before)),
+        Class::Less => Ok(State::DocumentTagOpen),
+        Class::Blank => Ok(State::Content(Place::Before)),
         _ => Err(Stop::Dead(why)),
     }
 }
@@ -73,28 +73,28 @@ pub(crate) fn start(alloc: Global, b: char) -> Result<State, Stop>
     ensures { Goes (m.step_start (class b) b) result }
 {
     if b == '\u{feff}' {
-        Ok(State::Fresh)
+        Ok(State::AfterByteOrderMark)
     } else {
-        fresh(b, partly(alloc, '\u{feff}', b)?)
+        after_byte_order_mark(b, partly(alloc, '\u{feff}', b)?)
     }
 }
 
 /// Behind `<` at the front of a document.
-pub(crate) fn fresh_opened(alloc: Global, b: char) -> Result<State, Stop>
-    ensures { Goes (m.step_fresh_opened strict (class b) b) result }
+pub(crate) fn document_tag_open(alloc: Global, b: char) -> Result<State, Stop>
+    ensures { Goes (m.step_document_tag_open strict (class b) b) result }
 {
     match class_of(b) {
-        Class::Question => Ok(State::FreshAsked),
-        _ => opened(alloc, Place::Before, b),
+        Class::Question => Ok(State::DocumentProcessingInstruction),
+        _ => tag_open(alloc, Place::Before, b),
     }
 }
 
 /// Behind `<?` at the front of a document.
-pub(crate) fn fresh_asked(alloc: Global, b: char) -> Result<State, Stop>
-    ensures { Goes (m.step_fresh_asked (class b) b) result }
+pub(crate) fn document_processing_instruction(alloc: Global, b: char) -> Result<State, Stop>
+    ensures { Goes (m.step_document_processing_instruction (class b) b) result }
 {
     match class_of(b) {
-        Class::Letter => Ok(State::FreshTarget(one(alloc, b)?)),
+        Class::Letter => Ok(State::DocumentInstructionTarget(one(alloc, b)?)),
         Class::Bad => Err(Stop::Dead(bad(b))),
         _ => Err(Stop::Dead(Why::Plain)),
     }
@@ -107,55 +107,55 @@ fn is_small_xml(name: &[char]) -> bool
 }
 
 /// In the target of a processing instruction, or `xml`, at the front of a document.
-pub(crate) fn fresh_target(mut name: Vec<char>, b: char) -> Result<State, Stop>
-    ensures { Goes (m.step_fresh_target name.items (class b) b) result }
+pub(crate) fn document_instruction_target(mut name: Vec<char>, b: char) -> Result<State, Stop>
+    ensures { Goes (m.step_document_instruction_target name.items (class b) b) result }
 {
     match class_of(b) {
         Class::Letter | Class::Digit | Class::Dash => {
             name.push(b)?;
-            Ok(State::FreshTarget(name))
+            Ok(State::DocumentInstructionTarget(name))
         }
         Class::Blank => {
             if is_small_xml(name.as_slice()) {
-                Ok(State::Untold)
+                Ok(State::BeforeVersion)
             } else {
-                unless_xml(name.as_slice(), State::Instruction(Place::Before))
+                unless_xml(name.as_slice(), State::InstructionText(Place::Before))
             }
         }
-        Class::Question => unless_xml(name.as_slice(), State::TargetEnd(Place::Before)),
+        Class::Question => unless_xml(name.as_slice(), State::InstructionTargetEnd(Place::Before)),
         Class::Bad => Err(Stop::Dead(bad(b))),
         _ => Err(Stop::Dead(Why::Plain)),
     }
 }
 
 /// Behind `<?xml`.
-pub(crate) fn untold(b: char) -> Result<State, Stop>
-    ensures { Goes (m.step_untold (class b) b) result }
+pub(crate) fn before_version(b: char) -> Result<State, Stop>
+    ensures { Goes (m.step_before_version (class b) b) result }
 {
     match class_of(b) {
-        Class::Blank => Ok(State::Untold),
-        _ => exactly('v', b, State::Worded(Part::Version, 1)),
+        Class::Blank => Ok(State::BeforeVersion),
+        _ => exactly('v', b, State::SettingName(Part::Version, 1)),
     }
 }
 
 /// Behind a part of the declaration.
-pub(crate) fn told(part: Part, b: char) -> Result<State, Stop>
-    ensures { Goes (m.step_told (part_of part) (class b)) result }
+pub(crate) fn after_setting(part: Part, b: char) -> Result<State, Stop>
+    ensures { Goes (m.step_after_setting (part_of part) (class b)) result }
 {
     match class_of(b) {
-        Class::Blank => Ok(State::Gap(part)),
-        Class::Question => Ok(State::Declared),
+        Class::Blank => Ok(State::BetweenSettings(part)),
+        Class::Question => Ok(State::DeclarationEnd),
         _ => Err(Stop::Dead(Why::Plain)),
     }
 }
 
 /// Behind white space behind a part of the declaration.
-pub(crate) fn gap(part: Part, b: char) -> Result<State, Stop>
-    ensures { Goes (m.step_gap (part_of part) (class b) b) result }
+pub(crate) fn between_settings(part: Part, b: char) -> Result<State, Stop>
+    ensures { Goes (m.step_between_settings (part_of part) (class b) b) result }
 {
     match class_of(b) {
-        Class::Blank => Ok(State::Gap(part)),
-        Class::Question => Ok(State::Declared),
+        Class::Blank => Ok(State::BetweenSettings(part)),
+        Class::Question => Ok(State::DeclarationEnd),
         _ => next_part(part, b),
     }
 }
@@ -166,82 +166,86 @@ fn next_part(part: Part, b: char) -> Result<State, Stop>
     match part {
         Part::Version => {
             if b == 'e' {
-                Ok(State::Worded(Part::Encoding, 1))
+                Ok(State::SettingName(Part::Encoding, 1))
             } else {
-                exactly('s', b, State::Worded(Part::Standalone, 1))
+                exactly('s', b, State::SettingName(Part::Standalone, 1))
             }
         }
-        Part::Encoding => exactly('s', b, State::Worded(Part::Standalone, 1)),
+        Part::Encoding => exactly('s', b, State::SettingName(Part::Standalone, 1)),
         Part::Standalone => Err(Stop::Dead(Why::Plain)),
     }
 }
 
 /// In the word of a part, of which `done` characters were read.
-pub(crate) fn worded(part: Part, done: usize, b: char) -> Result<State, Stop>
-    ensures { Goes (m.step strict (worded_from (part_of part) (drop done (g.word (part_of part))))
+pub(crate) fn setting_name(part: Part, done: usize, b: char) -> Result<State, Stop>
+    ensures { Goes (m.step strict (setting_name_from (part_of part) (drop done (g.word (part_of part))))
         (class b) b) result }
 {
     match next_of(word(part), done) {
-        None => equal(part, b),
-        Some(expected) => exactly(expected, b, State::Worded(part, done.saturating_add(1))),
+        None => after_setting_name(part, b),
+        Some(expected) => exactly(
+            expected,
+            b,
+            State::SettingName(part, done.saturating_add(1)),
+        ),
     }
 }
 
 /// Behind the word of a part.
-pub(crate) fn equal(part: Part, b: char) -> Result<State, Stop>
-    ensures { Goes (m.step_equal (part_of part) (class b)) result }
+pub(crate) fn after_setting_name(part: Part, b: char) -> Result<State, Stop>
+    ensures { Goes (m.step_after_setting_name (part_of part) (class b)) result }
 {
     match class_of(b) {
-        Class::Blank => Ok(State::Equal(part)),
-        Class::Equal => Ok(State::Quoted(part)),
+        Class::Blank => Ok(State::AfterSettingName(part)),
+        Class::Equal => Ok(State::BeforeSettingValue(part)),
         _ => Err(Stop::Dead(Why::Plain)),
     }
 }
 
-fn open_said(part: Part, quote: Quote) -> State
-    ensures { state_of result ≡ m.open_said (part_of part) (quote_of quote) }
+fn setting_value_start(part: Part, quote: Quote) -> State
+    ensures { state_of result ≡ m.setting_value_start (part_of part) (quote_of quote) }
 {
     match part {
-        Part::Version => State::Said(Saying::OnePointZero, quote, 0),
-        Part::Encoding => State::Said(Saying::Utf8, quote, 0),
-        Part::Standalone => State::Answer(quote),
+        Part::Version => State::SettingValue(Saying::OnePointZero, quote, 0),
+        Part::Encoding => State::SettingValue(Saying::Utf8, quote, 0),
+        Part::Standalone => State::StandaloneValue(quote),
     }
 }
 
 /// Behind the `=` of a part.
-pub(crate) fn quoted(part: Part, b: char) -> Result<State, Stop>
-    ensures { Goes (m.step_quoted (part_of part) (class b)) result }
+pub(crate) fn before_setting_value(part: Part, b: char) -> Result<State, Stop>
+    ensures { Goes (m.step_before_setting_value (part_of part) (class b)) result }
 {
     match class_of(b) {
-        Class::Blank => Ok(State::Quoted(part)),
-        Class::DoubleQuote => Ok(open_said(part, Quote::Double)),
-        Class::SingleQuote => Ok(open_said(part, Quote::Single)),
+        Class::Blank => Ok(State::BeforeSettingValue(part)),
+        Class::DoubleQuote => Ok(setting_value_start(part, Quote::Double)),
+        Class::SingleQuote => Ok(setting_value_start(part, Quote::Single)),
         _ => Err(Stop::Dead(Why::Plain)),
     }
 }
 
 /// Before `yes` or `no`.
-pub(crate) fn answer(quote: Quote, b: char) -> Result<State, Stop>
-    ensures { Goes (m.step_answer (quote_of quote) b) result }
+pub(crate) fn standalone_value(quote: Quote, b: char) -> Result<State, Stop>
+    ensures { Goes (m.step_standalone_value (quote_of quote) b) result }
 {
     if b == 'y' {
-        Ok(State::Said(Saying::Yes, quote, 1))
+        Ok(State::SettingValue(Saying::Yes, quote, 1))
     } else {
-        exactly('n', b, State::Said(Saying::No, quote, 1))
+        exactly('n', b, State::SettingValue(Saying::No, quote, 1))
     }
 }
 
-fn small(c: char) -> char
+fn fold_case(c: char) -> char
     ensures { result ≡ fold_case c }
 {
     c.to_ascii_lowercase()
 }
 
-fn folded(saying: Saying, c: char) -> char
-    ensures { result ≡ g.folded (said_part saying) c }
+fn fold_for(saying: Saying, c: char) -> char
+    ensures { result ≡ g.fold_for (saying_part saying) c }
 {
     match saying {
-        Saying::Utf8 => small(c),
+        Saying::Utf8 => fold_case(c),
         _ => c,
     }
 }
@@ -256,17 +260,22 @@ pub(crate) fn quote_char(quote: Quote) -> char
 }
 
 /// In what a part says, of which `done` characters were read.
-#[tactic(auto, using(crate::proofs::Steps::said_step))]
-pub(crate) fn said(saying: Saying, quote: Quote, done: usize, b: char) -> Result<State, Stop>
-    ensures { Goes (m.step strict (said_from (said_part saying) (quote_of quote)
-        (drop done (said_text saying))) (class b) b) result }
+#[tactic(auto, using(crate::proofs::Steps::setting_value_step))]
+pub(crate) fn setting_value(
+    saying: Saying,
+    quote: Quote,
+    done: usize,
+    b: char,
+) -> Result<State, Stop>
+    ensures { Goes (m.step strict (setting_value_from (saying_part saying) (quote_of quote)
+        (drop done (saying_text saying))) (class b) b) result }
 {
     match next_of(text(saying), done) {
-        None => exactly(quote_char(quote), b, State::Told(part(saying))),
+        None => exactly(quote_char(quote), b, State::AfterSetting(part(saying))),
         Some(expected) => exactly(
-            folded(saying, expected),
-            folded(saying, b),
-            State::Said(saying, quote, done.saturating_add(1)),
+            fold_for(saying, expected),
+            fold_for(saying, b),
+            State::SettingValue(saying, quote, done.saturating_add(1)),
         ),
     }
 }

@@ -3,7 +3,7 @@ ghost use Rattle.std.specs.Prelude.{◌≡◌, ◌+◌, ◌∷◌, [], ◌++◌,
 ghost use Rattle.doc_grammar.specs.Characters.{class};
 ghost use Rattle.doc_grammar.specs.Grammar.{strict, is_xml};
 ghost use Rattle.doc_grammar.specs.Machine as m;
-ghost use Rattle.doc_events.specs.View.{state_of, place_of, names_of, Goes, bracketed_from, cdata};
+ghost use Rattle.doc_events.specs.View.{state_of, place_of, names_of, Goes, cdata_start_from, cdata};
 ghost use Rattle.doc_grammar.specs.declared.reasons.Why.TheVariants.{Plain};
 
 use crate::state::{Hole, Place, State, Stop};
@@ -50,16 +50,16 @@ pub(crate) fn one(alloc: Global, b: char) -> Result<Vec<char>, AllocError>
 }
 
 /// Between the tokens.
-pub(crate) fn at(place: Place, b: char) -> Result<State, Stop>
-    ensures { Goes (m.step_at (place_of place) (class b) b) result }
+pub(crate) fn content(place: Place, b: char) -> Result<State, Stop>
+    ensures { Goes (m.step_content (place_of place) (class b) b) result }
 {
     match (place, class_of(b)) {
-        (place, Class::Less) => Ok(State::Opened(place)),
-        (place, Class::Blank) => Ok(State::At(place)),
+        (place, Class::Less) => Ok(State::TagOpen(place)),
+        (place, Class::Blank) => Ok(State::Content(place)),
         (Place::Before, _) => Err(Stop::Dead(Why::Plain)),
         (Place::Within(mut names), Class::Ampersand) => match names.pop() {
             None => Err(Stop::Dead(Why::Plain)),
-            Some(name) => Ok(State::Amped(Hole::InText(name, names))),
+            Some(name) => Ok(State::Reference(Hole::InText(name, names))),
         },
         (Place::Within(names), Class::Bad) => {
             if names.is_empty() {
@@ -72,28 +72,28 @@ pub(crate) fn at(place: Place, b: char) -> Result<State, Stop>
             if names.is_empty() {
                 Err(Stop::Dead(Why::Plain))
             } else {
-                Ok(State::At(Place::Within(names)))
+                Ok(State::Content(Place::Within(names)))
             }
         }
     }
 }
 
 /// Behind `<!`.
-pub(crate) fn banged(place: Place, b: char) -> Result<State, Stop>
-    ensures { Goes (m.step_banged (place_of place) (class b)) result }
+pub(crate) fn markup_declaration(place: Place, b: char) -> Result<State, Stop>
+    ensures { Goes (m.step_markup_declaration (place_of place) (class b)) result }
 {
     match (place, class_of(b)) {
-        (place, Class::Dash) => Ok(State::Dashed(place)),
+        (place, Class::Dash) => Ok(State::CommentStart(place)),
         (Place::Within(mut names), Class::OpenBracket) => match names.pop() {
             None => Err(Stop::Dead(Why::Bang)),
-            Some(name) => Ok(State::Bracketed(name, names, 0)),
+            Some(name) => Ok(State::CdataStart(name, names, 0)),
         },
         _ => Err(Stop::Dead(Why::Bang)),
     }
 }
 
 /// Behind `<!-`.
-pub(crate) fn dashed(place: Place, b: char) -> Result<State, Stop>
+pub(crate) fn comment_start(place: Place, b: char) -> Result<State, Stop>
     ensures { Goes (m.step_dash (class b) (m.comment (place_of place))) result }
 {
     match class_of(b) {
@@ -135,11 +135,11 @@ pub(crate) fn greater(then: State, b: char) -> Result<State, Stop>
 }
 
 /// Behind `<?`.
-pub(crate) fn asked(alloc: Global, place: Place, b: char) -> Result<State, Stop>
-    ensures { Goes (m.step_asked (place_of place) (class b) b) result }
+pub(crate) fn processing_instruction(alloc: Global, place: Place, b: char) -> Result<State, Stop>
+    ensures { Goes (m.step_processing_instruction (place_of place) (class b) b) result }
 {
     match class_of(b) {
-        Class::Letter => Ok(State::Target(place, one(alloc, b)?)),
+        Class::Letter => Ok(State::InstructionTarget(place, one(alloc, b)?)),
         Class::Bad => Err(Stop::Dead(bad(b))),
         _ => Err(Stop::Dead(Why::Plain)),
     }
@@ -156,16 +156,16 @@ pub(crate) fn is_any_xml(name: &[char]) -> bool
 }
 
 /// In the target of a processing instruction.
-pub(crate) fn target(place: Place, mut name: Vec<char>, b: char) -> Result<State, Stop>
-    ensures { Goes (m.step_target (place_of place) name.items (class b) b) result }
+pub(crate) fn instruction_target(place: Place, mut name: Vec<char>, b: char) -> Result<State, Stop>
+    ensures { Goes (m.step_instruction_target (place_of place) name.items (class b) b) result }
 {
     match class_of(b) {
         Class::Letter | Class::Digit | Class::Dash => {
             name.push(b)?;
-            Ok(State::Target(place, name))
+            Ok(State::InstructionTarget(place, name))
         }
-        Class::Blank => unless_xml(name.as_slice(), State::Instruction(place)),
-        Class::Question => unless_xml(name.as_slice(), State::TargetEnd(place)),
+        Class::Blank => unless_xml(name.as_slice(), State::InstructionText(place)),
+        Class::Question => unless_xml(name.as_slice(), State::InstructionTargetEnd(place)),
         Class::Bad => Err(Stop::Dead(bad(b))),
         _ => Err(Stop::Dead(Why::Plain)),
     }
@@ -183,13 +183,13 @@ pub(crate) fn unless_xml(name: &[char], then: State) -> Result<State, Stop>
 }
 
 /// Behind the target of a processing instruction.
-pub(crate) fn instruction(place: Place, b: char) -> Result<State, Stop>
-    ensures { Goes (m.step_instruction (place_of place) (class b) b) result }
+pub(crate) fn instruction_text(place: Place, b: char) -> Result<State, Stop>
+    ensures { Goes (m.step_instruction_text (place_of place) (class b) b) result }
 {
     match class_of(b) {
         Class::Question => Ok(State::InstructionEnd(place)),
         Class::Bad => Err(Stop::Dead(bad(b))),
-        _ => Ok(State::Instruction(place)),
+        _ => Ok(State::InstructionText(place)),
     }
 }
 
@@ -198,72 +198,76 @@ pub(crate) fn instruction_end(place: Place, b: char) -> Result<State, Stop>
     ensures { Goes (m.step_instruction_end (place_of place) (class b) b) result }
 {
     match class_of(b) {
-        Class::Greater => Ok(State::At(place)),
+        Class::Greater => Ok(State::Content(place)),
         Class::Question => Ok(State::InstructionEnd(place)),
         Class::Bad => Err(Stop::Dead(bad(b))),
-        _ => Ok(State::Instruction(place)),
+        _ => Ok(State::InstructionText(place)),
     }
 }
 
 static CDATA: [char; 6] = ['C', 'D', 'A', 'T', 'A', '['];
 
 /// In `CDATA[`, of which `done` characters were read.
-pub(crate) fn bracketed(
+pub(crate) fn cdata_start(
     name: Vec<char>,
     names: Vec<Vec<char>>,
     done: usize,
     b: char,
 ) -> Result<State, Stop>
-    ensures { Goes (m.step strict (bracketed_from name.items (names_of names.items)
+    ensures { Goes (m.step strict (cdata_start_from name.items (names_of names.items)
         (drop done cdata)) (class b) b) result }
 {
     match next_of(&CDATA, done) {
-        None => section(name, names, b),
+        None => cdata_section(name, names, b),
         Some(expected) => exactly(
             expected,
             b,
-            State::Bracketed(name, names, done.saturating_add(1)),
+            State::CdataStart(name, names, done.saturating_add(1)),
         ),
     }
 }
 
 /// In a CDATA section.
-pub(crate) fn section(name: Vec<char>, names: Vec<Vec<char>>, b: char) -> Result<State, Stop>
-    ensures { Goes (m.step_section name.items (names_of names.items) (class b) b) result }
+pub(crate) fn cdata_section(name: Vec<char>, names: Vec<Vec<char>>, b: char) -> Result<State, Stop>
+    ensures { Goes (m.step_cdata_section name.items (names_of names.items) (class b) b) result }
 {
     match class_of(b) {
-        Class::CloseBracket => Ok(State::SectionOne(name, names)),
+        Class::CloseBracket => Ok(State::CdataSectionBracket(name, names)),
         Class::Bad => Err(Stop::Dead(bad(b))),
-        _ => Ok(State::Section(name, names)),
+        _ => Ok(State::CdataSection(name, names)),
     }
 }
 
 /// Behind `]` in a CDATA section.
-pub(crate) fn section_one(name: Vec<char>, names: Vec<Vec<char>>, b: char) -> Result<State, Stop>
-    ensures { Goes (m.step_section_one name.items (names_of names.items) (class b) b) result }
+pub(crate) fn cdata_section_bracket(
+    name: Vec<char>,
+    names: Vec<Vec<char>>,
+    b: char,
+) -> Result<State, Stop>
+    ensures { Goes (m.step_cdata_section_bracket name.items (names_of names.items) (class b) b) result }
 {
     match class_of(b) {
-        Class::CloseBracket => Ok(State::SectionTwo(name, names)),
+        Class::CloseBracket => Ok(State::CdataSectionEnd(name, names)),
         Class::Bad => Err(Stop::Dead(bad(b))),
-        _ => Ok(State::Section(name, names)),
+        _ => Ok(State::CdataSection(name, names)),
     }
 }
 
 /// Behind `]]` in a CDATA section.
-pub(crate) fn section_two(
+pub(crate) fn cdata_section_end(
     name: Vec<char>,
     mut names: Vec<Vec<char>>,
     b: char,
 ) -> Result<State, Stop>
-    ensures { Goes (m.step_section_two name.items (names_of names.items) (class b) b) result }
+    ensures { Goes (m.step_cdata_section_end name.items (names_of names.items) (class b) b) result }
 {
     match class_of(b) {
-        Class::CloseBracket => Ok(State::SectionTwo(name, names)),
+        Class::CloseBracket => Ok(State::CdataSectionEnd(name, names)),
         Class::Greater => {
             names.push(name)?;
-            Ok(State::At(Place::Within(names)))
+            Ok(State::Content(Place::Within(names)))
         }
         Class::Bad => Err(Stop::Dead(bad(b))),
-        _ => Ok(State::Section(name, names)),
+        _ => Ok(State::CdataSection(name, names)),
     }
 }

@@ -10,18 +10,24 @@ ghost use Rattle.doc_events.specs.View.{state_of, events_of, Moves};
 ghost use Rattle.doc_events.specs.Answers.{refused, PlaceFits, Faults, Gives, Refuses};
 
 use crate::declaration::{
-    answer, equal, fresh, fresh_asked, fresh_opened, fresh_target, gap, quoted, said, start, told,
-    untold, worded,
+    after_byte_order_mark, after_setting, after_setting_name, before_setting_value, before_version,
+    between_settings, document_instruction_target, document_processing_instruction,
+    document_tag_open, setting_name, setting_value, standalone_value, start,
 };
 use crate::error::DocError;
 use crate::markup::{
-    asked, at, banged, bracketed, comment, comment_dash, dashed, greater, instruction,
-    instruction_end, section, section_one, section_two, target,
+    cdata_section, cdata_section_bracket, cdata_section_end, cdata_start, comment, comment_dash,
+    comment_start, content, greater, instruction_end, instruction_target, instruction_text,
+    markup_declaration, processing_instruction,
 };
-use crate::references::{amped, amped_a, digit, forced, hashed, number};
+use crate::references::{
+    digit, named_reference, numeric_reference, reference, reference_a, reference_digits,
+};
 use crate::state::{Base, Event, Place, State, Stop};
 use crate::tags::{
-    attr, equals, finished, finishing, in_tag, naming, opened, slashed, tagged, value, valued,
+    after_attribute_name, after_end_tag_name, attribute_name, attribute_value,
+    before_attribute_name, before_attribute_value, end_tag_name, in_tag, self_closing_start_tag,
+    tag_name, tag_open,
 };
 use doc_grammar::{Rule, Why};
 use std::alloc::Global;
@@ -35,53 +41,55 @@ fn next(alloc: Global, state: State, b: char, out: &mut Vec<Event>) -> Result<St
 {
     match state {
         State::Start => start(alloc, b),
-        State::Fresh => fresh(b, Why::Plain),
-        State::FreshOpened => fresh_opened(alloc, b),
-        State::FreshAsked => fresh_asked(alloc, b),
-        State::FreshTarget(name) => fresh_target(name, b),
-        State::Untold => untold(b),
-        State::Told(part) => told(part, b),
-        State::Gap(part) => gap(part, b),
-        State::Worded(part, done) => worded(part, done, b),
-        State::Equal(part) => equal(part, b),
-        State::Quoted(part) => quoted(part, b),
-        State::Answer(quote) => answer(quote, b),
-        State::Said(saying, quote, done) => said(saying, quote, done, b),
-        State::Declared => greater(State::At(Place::Before), b),
-        State::At(place) => at(place, b),
-        State::Opened(place) => opened(alloc, place, b),
-        State::Banged(place) => banged(place, b),
-        State::Dashed(place) => dashed(place, b),
+        State::AfterByteOrderMark => after_byte_order_mark(b, Why::Plain),
+        State::DocumentTagOpen => document_tag_open(alloc, b),
+        State::DocumentProcessingInstruction => document_processing_instruction(alloc, b),
+        State::DocumentInstructionTarget(name) => document_instruction_target(name, b),
+        State::BeforeVersion => before_version(b),
+        State::AfterSetting(part) => after_setting(part, b),
+        State::BetweenSettings(part) => between_settings(part, b),
+        State::SettingName(part, done) => setting_name(part, done, b),
+        State::AfterSettingName(part) => after_setting_name(part, b),
+        State::BeforeSettingValue(part) => before_setting_value(part, b),
+        State::StandaloneValue(quote) => standalone_value(quote, b),
+        State::SettingValue(saying, quote, done) => setting_value(saying, quote, done, b),
+        State::DeclarationEnd => greater(State::Content(Place::Before), b),
+        State::Content(place) => content(place, b),
+        State::TagOpen(place) => tag_open(alloc, place, b),
+        State::MarkupDeclaration(place) => markup_declaration(place, b),
+        State::CommentStart(place) => comment_start(place, b),
         State::Comment(place) => comment(place, b),
         State::CommentDash(place) => comment_dash(place, b),
-        State::CommentEnd(place) => greater(State::At(place), b),
-        State::Asked(place) => asked(alloc, place, b),
-        State::Target(place, name) => target(place, name, b),
-        State::TargetEnd(place) => greater(State::At(place), b),
-        State::Instruction(place) => instruction(place, b),
+        State::CommentEnd(place) => greater(State::Content(place), b),
+        State::ProcessingInstruction(place) => processing_instruction(alloc, place, b),
+        State::InstructionTarget(place, name) => instruction_target(place, name, b),
+        State::InstructionTargetEnd(place) => greater(State::Content(place), b),
+        State::InstructionText(place) => instruction_text(place, b),
         State::InstructionEnd(place) => instruction_end(place, b),
-        State::Bracketed(name, names, done) => bracketed(name, names, done, b),
-        State::Section(name, names) => section(name, names, b),
-        State::SectionOne(name, names) => section_one(name, names, b),
-        State::SectionTwo(name, names) => section_two(name, names, b),
-        State::Naming(place, name) => naming(alloc, place, name, b, out),
-        State::Tagged(place, tag) => tagged(alloc, place, tag, b, out),
-        State::Attr(place, tag, name) => attr(alloc, place, tag, name, b),
-        State::Equals(place, tag, name) => equals(place, tag, name, b),
-        State::Valued(place, tag, name) => valued(alloc, place, tag, name, b),
-        State::Value(place, tag, name, quote, text, behind_return) => {
-            value(alloc, place, tag, name, quote, text, behind_return, b)
+        State::CdataStart(name, names, done) => cdata_start(name, names, done, b),
+        State::CdataSection(name, names) => cdata_section(name, names, b),
+        State::CdataSectionBracket(name, names) => cdata_section_bracket(name, names, b),
+        State::CdataSectionEnd(name, names) => cdata_section_end(name, names, b),
+        State::TagName(place, name) => tag_name(alloc, place, name, b, out),
+        State::BeforeAttributeName(place, tag) => before_attribute_name(alloc, place, tag, b, out),
+        State::AttributeName(place, tag, name) => attribute_name(alloc, place, tag, name, b),
+        State::AfterAttributeName(place, tag, name) => after_attribute_name(place, tag, name, b),
+        State::BeforeAttributeValue(place, tag, name) => before_attribute_value(
+            alloc, place, tag, name, b,
+        ),
+        State::AttributeValue(place, tag, name, quote, text, behind_return) => {
+            attribute_value(alloc, place, tag, name, quote, text, behind_return, b)
         }
-        State::Closed(place, tag) => in_tag(alloc, place, tag, b, out),
-        State::Slashed(place, tag) => slashed(alloc, place, tag, b, out),
-        State::Finishing(names, name, done) => finishing(alloc, names, name, done, b, out),
-        State::Finished(names) => finished(names, b, out),
-        State::Amped(hole) => amped(hole, b),
-        State::AmpedA(hole) => amped_a(hole, b),
-        State::Forced(hole, code, next, tail) => forced(hole, code, next, tail, b),
-        State::Hashed(hole) => hashed(hole, b),
-        State::Hexed(hole) => digit(hole, Base::Sixteen, 0, b),
-        State::Number(hole, base, code) => number(hole, base, code, b),
+        State::AfterAttributeValue(place, tag) => in_tag(alloc, place, tag, b, out),
+        State::SelfClosingStartTag(place, tag) => self_closing_start_tag(alloc, place, tag, b, out),
+        State::EndTagName(names, name, done) => end_tag_name(alloc, names, name, done, b, out),
+        State::AfterEndTagName(names) => after_end_tag_name(names, b, out),
+        State::Reference(hole) => reference(hole, b),
+        State::ReferenceA(hole) => reference_a(hole, b),
+        State::NamedReference(hole, code, next, tail) => named_reference(hole, code, next, tail, b),
+        State::NumericReference(hole) => numeric_reference(hole, b),
+        State::HexadecimalReference(hole) => digit(hole, Base::Sixteen, 0, b),
+        State::ReferenceDigits(hole, base, code) => reference_digits(hole, base, code, b),
     }
 }
 
@@ -126,7 +134,7 @@ fn is_final(state: &State) -> bool
     ensures no { IsFalse result → m.Final (state_of state.now) → ⊥ }
 {
     match state {
-        State::At(Place::Within(names)) => names.is_empty(),
+        State::Content(Place::Within(names)) => names.is_empty(),
         _ => false,
     }
 }

@@ -12,58 +12,64 @@ use doc_grammar::Why;
 use std::alloc::AllocError;
 
 /// What goes on behind a reference.
-fn filled(hole: Hole, code: char) -> Result<State, AllocError>
-    ensures { IfOk result (λ s. state_of s ≡ m.filled (hole_of hole) code) }
+fn after_reference(hole: Hole, code: char) -> Result<State, AllocError>
+    ensures { IfOk result (λ s. state_of s ≡ m.after_reference (hole_of hole) code) }
 {
     match hole {
         Hole::InText(name, mut names) => {
             names.push(name)?;
-            Ok(State::At(Place::Within(names)))
+            Ok(State::Content(Place::Within(names)))
         }
         Hole::InValue(place, tag, name, quote, mut text) => {
             text.push(code)?;
-            Ok(State::Value(place, tag, name, quote, text, false))
+            Ok(State::AttributeValue(place, tag, name, quote, text, false))
         }
     }
 }
 
 /// In a reference that only these characters can end.
-pub(crate) fn forced(hole: Hole, code: char, next: char, tail: Tail, b: char) -> Result<State, Stop>
-    ensures { Goes (m.step_forced (hole_of hole) code next (tail_of tail) b) result }
+pub(crate) fn named_reference(
+    hole: Hole,
+    code: char,
+    next: char,
+    tail: Tail,
+    b: char,
+) -> Result<State, Stop>
+    ensures { Goes (m.step_named_reference (hole_of hole) code next (tail_of tail) b) result }
 {
     if b != next {
         return Err(Stop::Dead(Why::Plain));
     }
     match tail {
-        Tail::Nothing => Ok(filled(hole, code)?),
-        Tail::Semicolon => Ok(State::Forced(hole, code, ';', Tail::Nothing)),
-        Tail::T => Ok(State::Forced(hole, code, 't', Tail::Semicolon)),
-        Tail::Ot => Ok(State::Forced(hole, code, 'o', Tail::T)),
-        Tail::S => Ok(State::Forced(hole, code, 's', Tail::Semicolon)),
+        Tail::Nothing => Ok(after_reference(hole, code)?),
+        Tail::Semicolon => Ok(State::NamedReference(hole, code, ';', Tail::Nothing)),
+        Tail::T => Ok(State::NamedReference(hole, code, 't', Tail::Semicolon)),
+        Tail::Ot => Ok(State::NamedReference(hole, code, 'o', Tail::T)),
+        Tail::S => Ok(State::NamedReference(hole, code, 's', Tail::Semicolon)),
     }
 }
 
 /// Behind `&`.
-pub(crate) fn amped(hole: Hole, b: char) -> Result<State, Stop>
-    ensures { Goes (m.step_amped (hole_of hole) b) result }
+pub(crate) fn reference(hole: Hole, b: char) -> Result<State, Stop>
+    ensures { Goes (m.step_reference (hole_of hole) b) result }
 {
     match b {
-        'l' => Ok(State::Forced(hole, '<', 't', Tail::Semicolon)),
-        'g' => Ok(State::Forced(hole, '>', 't', Tail::Semicolon)),
-        'q' => Ok(State::Forced(hole, '"', 'u', Tail::Ot)),
-        '#' => Ok(State::Hashed(hole)),
-        'a' => Ok(State::AmpedA(hole)),
+        'l' => Ok(State::NamedReference(hole, '<', 't', Tail::Semicolon)),
+        'g' => Ok(State::NamedReference(hole, '>', 't', Tail::Semicolon)),
+        'q' => Ok(State::NamedReference(hole, '"', 'u', Tail::Ot)),
+        '#' => Ok(State::NumericReference(hole)),
+        'a' => Ok(State::ReferenceA(hole)),
         _ => Err(Stop::Dead(Why::Plain)),
     }
 }
 
 /// Behind `&a`.
-pub(crate) fn amped_a(hole: Hole, b: char) -> Result<State, Stop>
-    ensures { Goes (m.step_amped_a (hole_of hole) b) result }
+pub(crate) fn reference_a(hole: Hole, b: char) -> Result<State, Stop>
+    ensures { Goes (m.step_reference_a (hole_of hole) b) result }
 {
     match b {
-        'm' => Ok(State::Forced(hole, '&', 'p', Tail::Semicolon)),
-        'p' => Ok(State::Forced(hole, '\'', 'o', Tail::S)),
+        'm' => Ok(State::NamedReference(hole, '&', 'p', Tail::Semicolon)),
+        'p' => Ok(State::NamedReference(hole, '\'', 'o', Tail::S)),
         _ => Err(Stop::Dead(Why::Plain)),
     }
 }
@@ -107,18 +113,18 @@ pub(crate) fn digit(hole: Hole, base: Base, number: u32, b: char) -> Result<Stat
     }
     let more = with_digit(base, number, b);
     if more <= GREATEST {
-        Ok(State::Number(hole, base, more as u32))
+        Ok(State::ReferenceDigits(hole, base, more as u32))
     } else {
         Err(Stop::Dead(Why::Plain))
     }
 }
 
 /// Behind `&#`.
-pub(crate) fn hashed(hole: Hole, b: char) -> Result<State, Stop>
-    ensures { Goes (m.step_hashed (hole_of hole) b) result }
+pub(crate) fn numeric_reference(hole: Hole, b: char) -> Result<State, Stop>
+    ensures { Goes (m.step_numeric_reference (hole_of hole) b) result }
 {
     if b == 'x' {
-        Ok(State::Hexed(hole))
+        Ok(State::HexadecimalReference(hole))
     } else {
         digit(hole, Base::Ten, 0, b)
     }
@@ -131,8 +137,8 @@ fn is_legal(number: u32) -> bool
 }
 
 /// In the digits of a reference.
-pub(crate) fn number(hole: Hole, base: Base, number: u32, b: char) -> Result<State, Stop>
-    ensures { Goes (m.step_number (hole_of hole) (base_of base) number b) result }
+pub(crate) fn reference_digits(hole: Hole, base: Base, number: u32, b: char) -> Result<State, Stop>
+    ensures { Goes (m.step_reference_digits (hole_of hole) (base_of base) number b) result }
 {
     if b != ';' {
         return digit(hole, base, number, b);
@@ -141,7 +147,7 @@ pub(crate) fn number(hole: Hole, base: Base, number: u32, b: char) -> Result<Sta
         return Err(Stop::Dead(Why::Plain));
     }
     match char::from_u32(number) {
-        Some(code) => Ok(filled(hole, code)?),
+        Some(code) => Ok(after_reference(hole, code)?),
         None => Err(Stop::Dead(Why::Plain)),
     }
 }

@@ -15,9 +15,9 @@ use doc_grammar::{Class, Why, class_of};
 use std::alloc::{AllocError, Global};
 
 /// How many bytes two texts begin with alike.
-#[tactic(auto, using(crate::proofs::SharedBytes::shared_short, crate::proofs::SharedBytes::shared_whole, crate::proofs::SharedBytes::shared_apart, crate::proofs::SharedBytes::shared_more))]
-fn shared(a: &[u8], b: &[u8]) -> usize
-    ensures { result ≡ m.shared a.now b.now }
+#[tactic(auto, using(crate::proofs::CommonPrefix::common_prefix_short, crate::proofs::CommonPrefix::common_prefix_whole, crate::proofs::CommonPrefix::common_prefix_apart, crate::proofs::CommonPrefix::common_prefix_more))]
+fn common_prefix_length(a: &[u8], b: &[u8]) -> usize
+    ensures { result ≡ m.common_prefix_length a.now b.now }
 {
     for i in 0..a.len() {
         if i >= b.len() {
@@ -36,7 +36,7 @@ pub(crate) fn partly(alloc: Global, expected: char, b: char) -> Result<Why, Allo
 {
     let expected = text_of(alloc, &[expected])?;
     let found = text_of(alloc, &[b])?;
-    Ok(Why::Partly(shared(expected.as_bytes(), found.as_bytes())))
+    Ok(Why::Partly(common_prefix_length(expected.as_bytes(), found.as_bytes())))
 }
 
 /// How deep an element may stand.
@@ -63,8 +63,8 @@ fn why_open(place: &Place) -> Why
 }
 
 /// Why a character that may stand nowhere ends all documents behind `<`.
-fn bad_opened(place: &Place, b: char) -> Why
-    ensures { result ≡ m.bad_opened strict (place_of place.now) b }
+fn bad_tag_open(place: &Place, b: char) -> Why
+    ensures { result ≡ m.bad_tag_open strict (place_of place.now) b }
 {
     if b < '\u{80}' {
         Why::Plain
@@ -76,23 +76,23 @@ fn bad_opened(place: &Place, b: char) -> Why
 }
 
 /// Behind `<`.
-pub(crate) fn opened(alloc: Global, place: Place, b: char) -> Result<State, Stop>
-    ensures { Goes (m.step_opened strict (place_of place) (class b) b) result }
+pub(crate) fn tag_open(alloc: Global, place: Place, b: char) -> Result<State, Stop>
+    ensures { Goes (m.step_tag_open strict (place_of place) (class b) b) result }
 {
     match (place, class_of(b)) {
-        (place, Class::Bang) => Ok(State::Banged(place)),
-        (place, Class::Question) => Ok(State::Asked(place)),
+        (place, Class::Bang) => Ok(State::MarkupDeclaration(place)),
+        (place, Class::Question) => Ok(State::ProcessingInstruction(place)),
         (place, Class::Letter) => {
             if may_open(&place) {
-                Ok(State::Naming(place, one(alloc, b)?))
+                Ok(State::TagName(place, one(alloc, b)?))
             } else {
                 Err(Stop::Dead(why_open(&place)))
             }
         }
-        (place, Class::Bad) => Err(Stop::Dead(bad_opened(&place, b))),
+        (place, Class::Bad) => Err(Stop::Dead(bad_tag_open(&place, b))),
         (Place::Within(mut names), Class::Slash) => match names.pop() {
             None => Err(Stop::Dead(Why::Plain)),
-            Some(name) => Ok(State::Finishing(names, name, 0)),
+            Some(name) => Ok(State::EndTagName(names, name, 0)),
         },
         _ => Err(Stop::Dead(Why::Plain)),
     }
@@ -127,33 +127,33 @@ pub(crate) fn in_tag(
         out.old.items out.new.items }
 {
     match class_of(b) {
-        Class::Blank => Ok(State::Tagged(place, tag)),
-        Class::Slash => Ok(State::Slashed(place, tag)),
+        Class::Blank => Ok(State::BeforeAttributeName(place, tag)),
+        Class::Slash => Ok(State::SelfClosingStartTag(place, tag)),
         Class::Greater => {
             let mut names = stack(alloc, place);
             names.push(copy(alloc, tag.name.as_slice())?)?;
             out.push(Event::Begin(tag))?;
-            Ok(State::At(Place::Within(names)))
+            Ok(State::Content(Place::Within(names)))
         }
         _ => Err(Stop::Dead(Why::Plain)),
     }
 }
 
 /// In the name of an element.
-pub(crate) fn naming(
+pub(crate) fn tag_name(
     alloc: Global,
     place: Place,
     mut name: Vec<char>,
     b: char,
     out: &mut Vec<Event>,
 ) -> Result<State, Stop>
-    ensures { Moves (m.step_naming (place_of place) name.items (class b) b) result out.old.items
+    ensures { Moves (m.step_tag_name (place_of place) name.items (class b) b) result out.old.items
         out.new.items }
 {
     match class_of(b) {
         Class::Letter | Class::Digit | Class::Dash => {
             name.push(b)?;
-            Ok(State::Naming(place, name))
+            Ok(State::TagName(place, name))
         }
         Class::Bad => Err(Stop::Dead(bad(b))),
         _ => in_tag(
@@ -170,51 +170,51 @@ pub(crate) fn naming(
 }
 
 /// Behind white space in a tag.
-pub(crate) fn tagged(
+pub(crate) fn before_attribute_name(
     alloc: Global,
     place: Place,
     tag: Tag,
     b: char,
     out: &mut Vec<Event>,
 ) -> Result<State, Stop>
-    ensures { Moves (m.step_tagged (place_of place) tag.name.items tag.attrs (class b) b) result
+    ensures { Moves (m.step_before_attribute_name (place_of place) tag.name.items tag.attrs (class b) b) result
         out.old.items out.new.items }
 {
     match class_of(b) {
-        Class::Letter => Ok(State::Attr(place, tag, one(alloc, b)?)),
+        Class::Letter => Ok(State::AttributeName(place, tag, one(alloc, b)?)),
         Class::Bad => Err(Stop::Dead(bad(b))),
         _ => in_tag(alloc, place, tag, b, out),
     }
 }
 
 /// In the name of an attribute.
-pub(crate) fn attr(
+pub(crate) fn attribute_name(
     alloc: Global,
     place: Place,
     tag: Tag,
     mut name: Vec<char>,
     b: char,
 ) -> Result<State, Stop>
-    ensures { Goes (m.step_attr strict (place_of place) tag.name.items tag.attrs name.items
+    ensures { Goes (m.step_attribute_name strict (place_of place) tag.name.items tag.attrs name.items
         (class b) b) result }
 {
     match class_of(b) {
         Class::Letter | Class::Digit | Class::Dash => {
             name.push(b)?;
-            Ok(State::Attr(place, tag, name))
+            Ok(State::AttributeName(place, tag, name))
         }
         Class::Blank => {
             if tag.attrs.has(alloc, name.as_slice())? {
                 Err(Stop::Dead(Why::Twice(text_of(alloc, name.as_slice())?.len())))
             } else {
-                Ok(State::Equals(place, tag, name))
+                Ok(State::AfterAttributeName(place, tag, name))
             }
         }
         Class::Equal => {
             if tag.attrs.has(alloc, name.as_slice())? {
                 Err(Stop::Dead(Why::Twice(text_of(alloc, name.as_slice())?.len())))
             } else {
-                Ok(State::Valued(place, tag, name))
+                Ok(State::BeforeAttributeValue(place, tag, name))
             }
         }
         Class::Bad => Err(Stop::Dead(bad(b))),
@@ -223,31 +223,36 @@ pub(crate) fn attr(
 }
 
 /// Behind an attribute's name.
-pub(crate) fn equals(place: Place, tag: Tag, name: Vec<char>, b: char) -> Result<State, Stop>
-    ensures { Goes (m.step_equals (place_of place) tag.name.items tag.attrs name.items (class b))
+pub(crate) fn after_attribute_name(
+    place: Place,
+    tag: Tag,
+    name: Vec<char>,
+    b: char,
+) -> Result<State, Stop>
+    ensures { Goes (m.step_after_attribute_name (place_of place) tag.name.items tag.attrs name.items (class b))
         result }
 {
     match class_of(b) {
-        Class::Blank => Ok(State::Equals(place, tag, name)),
-        Class::Equal => Ok(State::Valued(place, tag, name)),
+        Class::Blank => Ok(State::AfterAttributeName(place, tag, name)),
+        Class::Equal => Ok(State::BeforeAttributeValue(place, tag, name)),
         _ => Err(Stop::Dead(Why::Plain)),
     }
 }
 
 /// Behind an attribute's `=`.
-pub(crate) fn valued(
+pub(crate) fn before_attribute_value(
     alloc: Global,
     place: Place,
     tag: Tag,
     name: Vec<char>,
     b: char,
 ) -> Result<State, Stop>
-    ensures { Goes (m.step_valued (place_of place) tag.name.items tag.attrs name.items (class b))
+    ensures { Goes (m.step_before_attribute_value (place_of place) tag.name.items tag.attrs name.items (class b))
         result }
 {
     match class_of(b) {
-        Class::Blank => Ok(State::Valued(place, tag, name)),
-        Class::DoubleQuote => Ok(State::Value(
+        Class::Blank => Ok(State::BeforeAttributeValue(place, tag, name)),
+        Class::DoubleQuote => Ok(State::AttributeValue(
             place,
             tag,
             name,
@@ -255,7 +260,7 @@ pub(crate) fn valued(
             Vec::new(alloc),
             false,
         )),
-        Class::SingleQuote => Ok(State::Value(
+        Class::SingleQuote => Ok(State::AttributeValue(
             place,
             tag,
             name,
@@ -299,7 +304,7 @@ fn push_raw(text: &mut Vec<char>, behind_return: bool, b: char) -> Result<(), St
 }
 
 /// In an attribute's value.
-pub(crate) fn value(
+pub(crate) fn attribute_value(
     alloc: Global,
     place: Place,
     tag: Tag,
@@ -309,64 +314,68 @@ pub(crate) fn value(
     behind_return: bool,
     b: char,
 ) -> Result<State, Stop>
-    ensures { Goes (m.step_value (place_of place) tag.name.items tag.attrs name.items
+    ensures { Goes (m.step_attribute_value (place_of place) tag.name.items tag.attrs name.items
         (quote_of quote) text.items behind_return (class b) b) result }
 {
     match (quote, class_of(b)) {
         (Quote::Double, Class::DoubleQuote) => {
-            Ok(State::Closed(place, add(alloc, tag, name, text)?))
+            Ok(State::AfterAttributeValue(place, add(alloc, tag, name, text)?))
         }
         (Quote::Single, Class::SingleQuote) => {
-            Ok(State::Closed(place, add(alloc, tag, name, text)?))
+            Ok(State::AfterAttributeValue(place, add(alloc, tag, name, text)?))
         }
         (_, Class::Less) => Err(Stop::Dead(Why::Plain)),
         (_, Class::Bad) => Err(Stop::Dead(bad(b))),
-        (_, Class::Ampersand) => Ok(State::Amped(Hole::InValue(place, tag, name, quote, text))),
+        (_, Class::Ampersand) => Ok(State::Reference(Hole::InValue(place, tag, name, quote, text))),
         _ => {
             push_raw(&mut text, behind_return, b)?;
-            Ok(State::Value(place, tag, name, quote, text, b == '\r'))
+            Ok(State::AttributeValue(place, tag, name, quote, text, b == '\r'))
         }
     }
 }
 
 /// Behind `/` in a tag.
-pub(crate) fn slashed(
+pub(crate) fn self_closing_start_tag(
     alloc: Global,
     place: Place,
     tag: Tag,
     b: char,
     out: &mut Vec<Event>,
 ) -> Result<State, Stop>
-    ensures { Moves (m.step strict (m.slashed (place_of place) tag.name.items tag.attrs)
+    ensures { Moves (m.step strict (m.self_closing_start_tag (place_of place) tag.name.items tag.attrs)
         (class b) b) result out.old.items out.new.items }
 {
     match class_of(b) {
         Class::Greater => {
             out.push(Event::Begin(tag))?;
             out.push(Event::Close)?;
-            Ok(State::At(Place::Within(stack(alloc, place))))
+            Ok(State::Content(Place::Within(stack(alloc, place))))
         }
         _ => Err(Stop::Dead(Why::Plain)),
     }
 }
 
 /// Behind an end tag's name.
-pub(crate) fn finished(names: Vec<Vec<char>>, b: char, out: &mut Vec<Event>) -> Result<State, Stop>
-    ensures { Moves (m.step_finished (names_of names.items) (class b)) result out.old.items
+pub(crate) fn after_end_tag_name(
+    names: Vec<Vec<char>>,
+    b: char,
+    out: &mut Vec<Event>,
+) -> Result<State, Stop>
+    ensures { Moves (m.step_after_end_tag_name (names_of names.items) (class b)) result out.old.items
         out.new.items }
 {
     match class_of(b) {
-        Class::Blank => Ok(State::Finished(names)),
+        Class::Blank => Ok(State::AfterEndTagName(names)),
         Class::Greater => {
             out.push(Event::Close)?;
-            Ok(State::At(Place::Within(names)))
+            Ok(State::Content(Place::Within(names)))
         }
         _ => Err(Stop::Dead(Why::Plain)),
     }
 }
 
 /// In an end tag's name, of which `done` characters were read.
-pub(crate) fn finishing(
+pub(crate) fn end_tag_name(
     alloc: Global,
     names: Vec<Vec<char>>,
     name: Vec<char>,
@@ -374,14 +383,14 @@ pub(crate) fn finishing(
     b: char,
     out: &mut Vec<Event>,
 ) -> Result<State, Stop>
-    ensures { Moves (m.step_finishing (names_of names.items) (drop done name.items) (class b) b)
+    ensures { Moves (m.step_end_tag_name (names_of names.items) (drop done name.items) (class b) b)
         result out.old.items out.new.items }
 {
     match name.get(done) {
-        None => finished(names, b, out),
+        None => after_end_tag_name(names, b, out),
         Some(expected) => {
             if *expected == b {
-                Ok(State::Finishing(names, name, done + 1))
+                Ok(State::EndTagName(names, name, done + 1))
             } else {
                 Err(Stop::Dead(partly(alloc, *expected, b)?))
             }

@@ -6,15 +6,15 @@ use Rattle.std.proofs.lemmas.List.{append-nil}
 use Rattle.std.proofs.lemmas.Bool.Decides.{nat_tests}
 use Rattle.std.proofs.lemmas.Slice.Eq.{bytes_eq-Decides}
 use Rattle.doc_grammar.specs.Characters.{class, names, blanks, legal, is_text, IsName, is_char}
-use Rattle.doc_grammar.specs.Grammar.{Limits, clashes, may_stand, is_valued, Quote, with_double, with_single, quote_char, Part, version, encoding, standalone, folded, word, IsSaid, Setting, IsSetting, print_setting, print_maybe, IsMaybe, Declaration, Base, ten, sixteen, is_numeral, with_digit, with_digits, Reference, named, numbered, print_reference, IsReference, code_of, Attr, IsAttr, print_named, attr_of, Pair, has, Tag, is_xml, IsFree, IsTarget, IsInstruction, Content, print, IsContent, Event, begin, close, raw_value, Entity, lt, gt, amp, apos, quot, entity_text, entity_code, Body, Unmarked, Document}
+use Rattle.doc_grammar.specs.Grammar.{Limits, clashes, may_stand, is_valued, Quote, with_double, with_single, quote_char, Part, version, encoding, standalone, fold_for, word, IsSettingValue, Setting, IsSetting, print_setting, print_maybe, IsMaybe, Declaration, Base, ten, sixteen, is_numeral, with_digit, with_digits, Reference, named, numbered, print_reference, IsReference, code_of, Attr, IsAttr, print_named, attr_of, Pair, has, Tag, is_xml, IsFree, IsTarget, IsInstruction, Content, print, IsContent, Event, begin, close, raw_value, Entity, lt, gt, amp, apos, quot, entity_text, entity_code, Body, Unmarked, Document}
 use Rattle.doc_grammar.specs.declared.characters.Class.{Class}
 use Rattle.doc_grammar.specs.declared.reasons.Why.{Why}
 use Rattle.doc_grammar.specs.declared.reasons.Why.TheVariants as w
 use Rattle.doc_grammar.specs.declared.characters.Class.TheVariants.{Less, Greater, Slash, Bang, Question, Dash, Ampersand, Equal, DoubleQuote, SingleQuote, OpenBracket, CloseBracket, Blank, Letter, Digit, Bad}
 use Rattle.doc_grammar.specs.Grammar as g
-use Rattle.doc_grammar.specs.Machine.{Place, before, within, State, Step, dead, go, emit, along, guard, exactly, stack, may_open, why_open, Hole, in_text, in_value, naming, comment, attr, equals, valued, finishing, forced, amped_a, filled, step_at, step_opened, step_banged, step_dash, step_comment, step_comment_dash, step_greater, step_asked, step_target, step_instruction, step_instruction_end, step_bracketed, step_section, step_section_one, step_section_two, step_fresh, step_start, step_fresh_opened, step_fresh_asked, is_small_xml, step_fresh_target, step_untold, step_told, step_part, step_gap, step_worded, step_equal, open_said, step_quoted, step_answer, step_said, step_tag, step_naming, step_tagged, step_attr, step_equals, step_valued, step_value, step_finished, step_finishing, step_amped, step_amped_a, step_forced, step_digit, step_hashed, step_number, step, Run, Final}
+use Rattle.doc_grammar.specs.Machine.{Place, before, within, State, Step, dead, go, emit, along, guard, exactly, stack, may_open, why_open, Hole, in_text, in_value, tag_name, comment, attribute_name, after_attribute_name, before_attribute_value, end_tag_name, named_reference, reference_a, after_reference, step_content, step_tag_open, step_markup_declaration, step_dash, step_comment, step_comment_dash, step_greater, step_processing_instruction, step_instruction_target, step_instruction_text, step_instruction_end, step_cdata_start, step_cdata_section, step_cdata_section_bracket, step_cdata_section_end, step_after_byte_order_mark, step_start, step_document_tag_open, step_document_processing_instruction, is_small_xml, step_document_instruction_target, step_before_version, step_after_setting, step_part, step_between_settings, step_setting_name, step_after_setting_name, setting_value_start, step_before_setting_value, step_standalone_value, step_setting_value, step_tag, step_tag_name, step_before_attribute_name, step_attribute_name, step_after_attribute_name, step_before_attribute_value, step_attribute_value, step_after_end_tag_name, step_end_tag_name, step_reference, step_reference_a, step_named_reference, step_digit, step_numeric_reference, step_reference_digits, step, Run, Final}
 use Rattle.doc_grammar.specs.Machine as m
-use Rattle.doc_grammar.proofs.Rest.{After, RestAt, Ends, RestTag, InTag, InValue, Valued, Equals, InAttr, InName, Finishing, InComment, InInstruction, Targeted, InTarget, InSection, RestHole, RestFilled, InNumber, Declared, WithStandalone, Told, Saying, Said, Quoted, Equalled, Worded, Next, Gap, Rest}
+use Rattle.doc_grammar.proofs.Rest.{After, RestContent, Ends, RestTag, InTag, InValue, BeforeAttributeValue, AfterAttributeName, InAttributeName, InName, InEndTagName, InComment, InInstruction, AfterTarget, InTarget, InSection, RestHole, AfterReference, InReferenceDigits, BeforeDeclarationEnd, WithStandalone, AfterSetting, InSettingValue, AtSettingValue, BeforeSettingValue, AfterSettingName, InSettingName, Next, BetweenSettings, Rest}
 use Rattle.doc_grammar.proofs.Classes.{less_is, greater_is, slash_is, bang_is, question_is, dash_is, ampersand_is, equal_is, double_is, single_is, open_bracket_is, close_bracket_is, class_dash, class_greater, class_question, class_close_bracket, class_of_space}
 
 module _ (l : Limits) where
@@ -60,20 +60,20 @@ module _ (l : Limits) where
   value_hole p n xs x q v r t out (f, j, good, e, (ps, k, gps, d, rt)) =
       (g.ref f ∷ ps, k, (good, gps), e ∙ ap (λ y. 38 ∷ print_reference f y) d, subst (λ y. RestTag l p n (xs ++ (x, y) ∷ []) k out) (append_assoc v (code_of f ∷ []) (g.value_of false ps)) rt)
 
-  sound_at : (p : Place) (k : Class) (b : ℕ) → class b ≡ k → (bytes : List ℕ) (out : List Event) → along (λ t. Rest l t bytes) (step_at p k b) out → RestAt l p (b ∷ bytes) out
-  sound_at before Less b e bytes out h = subst (λ x. RestAt l before (x ∷ bytes) out) (sym (less_is b e)) h
-  sound_at before Blank b e bytes out h = blank_back b bytes out (ap blanks e) h
-  sound_at before k b e bytes out h = absurd h
-  sound_at (within []) Less b e bytes out h = subst (λ x. After l [] (x ∷ bytes) out) (sym (less_is b e)) h
-  sound_at (within []) Blank b e bytes out h = misc_back b bytes out (ap blanks e) h
-  sound_at (within []) k b e bytes out h = absurd h
-  sound_at (within (n ∷ ns)) Less b e bytes out h = subst (λ x. After l (n ∷ ns) (x ∷ bytes) out) (sym (less_is b e)) h
-  sound_at (within (n ∷ ns)) Bad b e bytes out h = absurd h
-  sound_at (within (n ∷ ns)) Ampersand b e bytes out h = subst (λ x. After l (n ∷ ns) (x ∷ bytes) out) (sym (ampersand_is b e)) (text_hole n ns (38 ∷ bytes) out h)
-  sound_at (within (n ∷ ns)) k b e bytes out h = text_back n ns b bytes out (ap is_text e) h
+  sound_content : (p : Place) (k : Class) (b : ℕ) → class b ≡ k → (bytes : List ℕ) (out : List Event) → along (λ t. Rest l t bytes) (step_content p k b) out → RestContent l p (b ∷ bytes) out
+  sound_content before Less b e bytes out h = subst (λ x. RestContent l before (x ∷ bytes) out) (sym (less_is b e)) h
+  sound_content before Blank b e bytes out h = blank_back b bytes out (ap blanks e) h
+  sound_content before k b e bytes out h = absurd h
+  sound_content (within []) Less b e bytes out h = subst (λ x. After l [] (x ∷ bytes) out) (sym (less_is b e)) h
+  sound_content (within []) Blank b e bytes out h = misc_back b bytes out (ap blanks e) h
+  sound_content (within []) k b e bytes out h = absurd h
+  sound_content (within (n ∷ ns)) Less b e bytes out h = subst (λ x. After l (n ∷ ns) (x ∷ bytes) out) (sym (less_is b e)) h
+  sound_content (within (n ∷ ns)) Bad b e bytes out h = absurd h
+  sound_content (within (n ∷ ns)) Ampersand b e bytes out h = subst (λ x. After l (n ∷ ns) (x ∷ bytes) out) (sym (ampersand_is b e)) (text_hole n ns (38 ∷ bytes) out h)
+  sound_content (within (n ∷ ns)) k b e bytes out h = text_back n ns b bytes out (ap is_text e) h
 
   -- comments
-  comment_back : (p : Place) (bytes : List ℕ) (out : List Event) → InComment l p bytes out → RestAt l p (60 ∷ 33 ∷ 45 ∷ 45 ∷ bytes) out
+  comment_back : (p : Place) (bytes : List ℕ) (out : List Event) → InComment l p bytes out → RestContent l p (60 ∷ 33 ∷ 45 ∷ 45 ∷ bytes) out
   comment_back before bytes out (t, k, good, e, (c, whole, d, f)) =
       (g.comment t c, (good, whole), ap (λ x. 60 ∷ 33 ∷ 45 ∷ 45 ∷ x) (e ∙ ap (λ x. t ++ 45 ∷ 45 ∷ 62 ∷ x) d), f)
   comment_back (within []) bytes out (t, k, good, e, (c, whole, d, f)) =
@@ -85,19 +85,19 @@ module _ (l : Limits) where
   section_back n ns bytes out (t, k, good, e, (c, gap, rest, more, fine, sp, d, f, r)) =
       (g.section t c, gap, rest, more, (good, fine), sp, ap (λ x. 60 ∷ 33 ∷ 91 ∷ 67 ∷ 68 ∷ 65 ∷ 84 ∷ 65 ∷ 91 ∷ x) (e ∙ ap (λ x. t ++ 93 ∷ 93 ∷ 62 ∷ x) d), f, r)
 
-  bracket_back : (n : List ℕ) (ns : List (List ℕ)) (bytes : List ℕ) (out : List Event) → Rest l (m.bracketed n ns 67 (68 ∷ 65 ∷ 84 ∷ 65 ∷ 91 ∷ [])) bytes out → After l (n ∷ ns) (60 ∷ 33 ∷ 91 ∷ bytes) out
+  bracket_back : (n : List ℕ) (ns : List (List ℕ)) (bytes : List ℕ) (out : List Event) → Rest l (m.cdata_start n ns 67 (68 ∷ 65 ∷ 84 ∷ 65 ∷ 91 ∷ [])) bytes out → After l (n ∷ ns) (60 ∷ 33 ∷ 91 ∷ bytes) out
   bracket_back n ns bytes out (k, e, h) = subst (λ x. After l (n ∷ ns) (60 ∷ 33 ∷ 91 ∷ x) out) (sym e) (section_back n ns k out h)
 
-  sound_banged : (p : Place) (k : Class) (b : ℕ) → class b ≡ k → (bytes : List ℕ) (out : List Event) → along (λ t. Rest l t bytes) (step_banged p k) out → RestAt l p (60 ∷ 33 ∷ b ∷ bytes) out
-  sound_banged p Dash b e bytes out h = subst (λ x. RestAt l p (60 ∷ 33 ∷ x ∷ bytes) out) (sym (dash_is b e)) h
-  sound_banged (within (n ∷ ns)) OpenBracket b e bytes out h = subst (λ x. After l (n ∷ ns) (60 ∷ 33 ∷ x ∷ bytes) out) (sym (open_bracket_is b e)) (bracket_back n ns bytes out h)
-  sound_banged before k b e bytes out h = absurd h
-  sound_banged (within []) k b e bytes out h = absurd h
-  sound_banged (within (n ∷ ns)) k b e bytes out h = absurd h
+  sound_markup_declaration : (p : Place) (k : Class) (b : ℕ) → class b ≡ k → (bytes : List ℕ) (out : List Event) → along (λ t. Rest l t bytes) (step_markup_declaration p k) out → RestContent l p (60 ∷ 33 ∷ b ∷ bytes) out
+  sound_markup_declaration p Dash b e bytes out h = subst (λ x. RestContent l p (60 ∷ 33 ∷ x ∷ bytes) out) (sym (dash_is b e)) h
+  sound_markup_declaration (within (n ∷ ns)) OpenBracket b e bytes out h = subst (λ x. After l (n ∷ ns) (60 ∷ 33 ∷ x ∷ bytes) out) (sym (open_bracket_is b e)) (bracket_back n ns bytes out h)
+  sound_markup_declaration before k b e bytes out h = absurd h
+  sound_markup_declaration (within []) k b e bytes out h = absurd h
+  sound_markup_declaration (within (n ∷ ns)) k b e bytes out h = absurd h
 
-  sound_dashed : (p : Place) (k : Class) (b : ℕ) → class b ≡ k → (bytes : List ℕ) (out : List Event) → along (λ t. Rest l t bytes) (step_dash k (comment p)) out → RestAt l p (60 ∷ 33 ∷ 45 ∷ b ∷ bytes) out
-  sound_dashed p Dash b e bytes out h = subst (λ x. RestAt l p (60 ∷ 33 ∷ 45 ∷ x ∷ bytes) out) (sym (dash_is b e)) (comment_back p bytes out h)
-  sound_dashed p k b e bytes out h = absurd h
+  sound_comment_start : (p : Place) (k : Class) (b : ℕ) → class b ≡ k → (bytes : List ℕ) (out : List Event) → along (λ t. Rest l t bytes) (step_dash k (comment p)) out → RestContent l p (60 ∷ 33 ∷ 45 ∷ b ∷ bytes) out
+  sound_comment_start p Dash b e bytes out h = subst (λ x. RestContent l p (60 ∷ 33 ∷ 45 ∷ x ∷ bytes) out) (sym (dash_is b e)) (comment_back p bytes out h)
+  sound_comment_start p k b e bytes out h = absurd h
 
   not_dash : (k : Class) (b : ℕ) → class b ≡ k → (Dash ≡ k → ⊥) → b ≡ 45 → ⊥
   not_dash k b e d h = d (sym class_dash ∙ ap class (sym h) ∙ e)
@@ -128,56 +128,56 @@ module _ (l : Limits) where
   sound_comment_dash p Bad b e bytes out h = absurd h
   sound_comment_dash p k b e bytes out h = after_dash p _ b e refl (λ x. cc) bytes out h
 
-  sound_comment_end : (p : Place) (k : Class) (b : ℕ) → class b ≡ k → (bytes : List ℕ) (out : List Event) → along (λ t. Rest l t bytes) (step_greater k (go (m.at p))) out → InComment l p (45 ∷ 45 ∷ b ∷ bytes) out
+  sound_comment_end : (p : Place) (k : Class) (b : ℕ) → class b ≡ k → (bytes : List ℕ) (out : List Event) → along (λ t. Rest l t bytes) (step_greater k (go (m.content p))) out → InComment l p (45 ∷ 45 ∷ b ∷ bytes) out
   sound_comment_end p Greater b e bytes out h = subst (λ x. InComment l p (45 ∷ 45 ∷ x ∷ bytes) out) (sym (greater_is b e)) ([], bytes, tt, refl, h)
   sound_comment_end p k b e bytes out h = absurd h
 
   -- processing instructions
-  instruction_back : (p : Place) (n t k : List ℕ) (out : List Event) → IsTarget n → IsInstruction t → RestAt l p k out → RestAt l p (60 ∷ 63 ∷ (n ++ (t ++ 63 ∷ 62 ∷ k))) out
+  instruction_back : (p : Place) (n t k : List ℕ) (out : List Event) → IsTarget n → IsInstruction t → RestContent l p k out → RestContent l p (60 ∷ 63 ∷ (n ++ (t ++ 63 ∷ 62 ∷ k))) out
   instruction_back before n t k out y z (c, whole, d, f) = (g.instruction n t c, (y, z, whole), ap (λ x. 60 ∷ 63 ∷ (n ++ (t ++ 63 ∷ 62 ∷ x))) d, f)
   instruction_back (within []) n t k out y z (c, whole, d, f) = (g.instruction n t c, (y, z, whole), ap (λ x. 60 ∷ 63 ∷ (n ++ (t ++ 63 ∷ 62 ∷ x))) d, f)
   instruction_back (within (w ∷ ws)) n t k out y z (c, gap, rest, more, fine, sp, d, f, r) =
       (g.instruction n t c, gap, rest, more, (y, z, fine), sp, ap (λ x. 60 ∷ 63 ∷ (n ++ (t ++ 63 ∷ 62 ∷ x))) d, f, r)
 
-  asked_back : (p : Place) (b : ℕ) → class b ≡ Letter → (bytes : List ℕ) (out : List Event) → InTarget l p (b ∷ []) bytes out → RestAt l p (60 ∷ 63 ∷ b ∷ bytes) out
-  asked_back p b e bytes out (rest, k, good, f, other, inl (j, d, r)) =
-      subst (λ y. RestAt l p (60 ∷ 63 ∷ b ∷ y) out) (sym (f ∙ ap (λ y. rest ++ y) d)) (instruction_back p (b ∷ rest) [] j out (record { name = (e, good); other = other }) tt r)
-  asked_back p b e bytes out (rest, k, good, f, other, inr (c, j, bl, d, (t, i, free, h, r))) =
-      subst (λ y. RestAt l p (60 ∷ 63 ∷ b ∷ y) out) (sym (f ∙ ap (λ y. rest ++ y) (d ∙ ap (λ y. c ∷ y) h))) (instruction_back p (b ∷ rest) (c ∷ t) i out (record { name = (e, good); other = other }) (ap blanks bl, free) r)
+  processing_instruction_back : (p : Place) (b : ℕ) → class b ≡ Letter → (bytes : List ℕ) (out : List Event) → InTarget l p (b ∷ []) bytes out → RestContent l p (60 ∷ 63 ∷ b ∷ bytes) out
+  processing_instruction_back p b e bytes out (rest, k, good, f, other, inl (j, d, r)) =
+      subst (λ y. RestContent l p (60 ∷ 63 ∷ b ∷ y) out) (sym (f ∙ ap (λ y. rest ++ y) d)) (instruction_back p (b ∷ rest) [] j out (record { name = (e, good); other = other }) tt r)
+  processing_instruction_back p b e bytes out (rest, k, good, f, other, inr (c, j, bl, d, (t, i, free, h, r))) =
+      subst (λ y. RestContent l p (60 ∷ 63 ∷ b ∷ y) out) (sym (f ∙ ap (λ y. rest ++ y) (d ∙ ap (λ y. c ∷ y) h))) (instruction_back p (b ∷ rest) (c ∷ t) i out (record { name = (e, good); other = other }) (ap blanks bl, free) r)
 
-  sound_asked : (p : Place) (k : Class) (b : ℕ) → class b ≡ k → (bytes : List ℕ) (out : List Event) → along (λ t. Rest l t bytes) (step_asked p k b) out → RestAt l p (60 ∷ 63 ∷ b ∷ bytes) out
-  sound_asked p Letter b e bytes out h = asked_back p b e bytes out h
-  sound_asked p Bad b e bytes out h = absurd h
-  sound_asked p k b e bytes out h = absurd h
+  sound_processing_instruction : (p : Place) (k : Class) (b : ℕ) → class b ≡ k → (bytes : List ℕ) (out : List Event) → along (λ t. Rest l t bytes) (step_processing_instruction p k b) out → RestContent l p (60 ∷ 63 ∷ b ∷ bytes) out
+  sound_processing_instruction p Letter b e bytes out h = processing_instruction_back p b e bytes out h
+  sound_processing_instruction p Bad b e bytes out h = absurd h
+  sound_processing_instruction p k b e bytes out h = absurd h
 
   target_more : (p : Place) (n : List ℕ) (b : ℕ) (bytes : List ℕ) (out : List Event) → names (class b) ≡ true → InTarget l p (n ++ b ∷ []) bytes out → InTarget l p n (b ∷ bytes) out
   target_more p n b bytes out t (rest, k, good, e, other, r) =
       (b ∷ rest, k, (t, good), ap (λ x. b ∷ x) e, subst (λ x. is_xml x ≡ false) (append_assoc n (b ∷ []) rest) other, r)
 
-  target_done : (p : Place) (n : List ℕ) (bytes : List ℕ) (out : List Event) → not (is_xml n) ≡ true → Targeted l p bytes out → InTarget l p n bytes out
+  target_done : (p : Place) (n : List ℕ) (bytes : List ℕ) (out : List Event) → not (is_xml n) ≡ true → AfterTarget l p bytes out → InTarget l p n bytes out
   target_done p n bytes out t r = ([], bytes, tt, refl, subst (λ x. is_xml x ≡ false) (sym (append-nil n)) (was_not (is_xml n) t), r)
 
-  target_space : (p : Place) (n : List ℕ) (b : ℕ) → class b ≡ Blank → (bytes : List ℕ) (out : List Event) → along (λ t. Rest l t bytes) (guard w.Plain (not (is_xml n)) (m.instruction p)) out → InTarget l p n (b ∷ bytes) out
+  target_space : (p : Place) (n : List ℕ) (b : ℕ) → class b ≡ Blank → (bytes : List ℕ) (out : List Event) → along (λ t. Rest l t bytes) (guard w.Plain (not (is_xml n)) (m.instruction_text p)) out → InTarget l p n (b ∷ bytes) out
   target_space p n b e bytes out h =
-      let d = guarded (λ t. Rest l t bytes) out w.Plain (not (is_xml n)) (m.instruction p) h in
+      let d = guarded (λ t. Rest l t bytes) out w.Plain (not (is_xml n)) (m.instruction_text p) h in
       target_done p n (b ∷ bytes) out d.0 (inr (b, bytes, e, refl, d.1))
 
-  target_ask : (p : Place) (n : List ℕ) (b : ℕ) → class b ≡ Question → (bytes : List ℕ) (out : List Event) → along (λ t. Rest l t bytes) (guard w.Plain (not (is_xml n)) (m.target_end p)) out → InTarget l p n (b ∷ bytes) out
+  target_ask : (p : Place) (n : List ℕ) (b : ℕ) → class b ≡ Question → (bytes : List ℕ) (out : List Event) → along (λ t. Rest l t bytes) (guard w.Plain (not (is_xml n)) (m.instruction_target_end p)) out → InTarget l p n (b ∷ bytes) out
   target_ask p n b e bytes out h =
-      let d = guarded (λ t. Rest l t bytes) out w.Plain (not (is_xml n)) (m.target_end p) h in
+      let d = guarded (λ t. Rest l t bytes) out w.Plain (not (is_xml n)) (m.instruction_target_end p) h in
       target_done p n (b ∷ bytes) out d.0 (inl (d.1.0, ap (λ y. y ∷ bytes) (question_is b e) ∙ ap (λ y. 63 ∷ y) d.1.1, d.1.2))
 
-  sound_target : (p : Place) (n : List ℕ) (k : Class) (b : ℕ) → class b ≡ k → (bytes : List ℕ) (out : List Event) → along (λ t. Rest l t bytes) (step_target p n k b) out → InTarget l p n (b ∷ bytes) out
-  sound_target p n Letter b e bytes out h = target_more p n b bytes out (ap names e) h
-  sound_target p n Digit b e bytes out h = target_more p n b bytes out (ap names e) h
-  sound_target p n Dash b e bytes out h = target_more p n b bytes out (ap names e) h
-  sound_target p n Blank b e bytes out h = target_space p n b e bytes out h
-  sound_target p n Question b e bytes out h = target_ask p n b e bytes out h
-  sound_target p n k b e bytes out h = absurd h
+  sound_instruction_target : (p : Place) (n : List ℕ) (k : Class) (b : ℕ) → class b ≡ k → (bytes : List ℕ) (out : List Event) → along (λ t. Rest l t bytes) (step_instruction_target p n k b) out → InTarget l p n (b ∷ bytes) out
+  sound_instruction_target p n Letter b e bytes out h = target_more p n b bytes out (ap names e) h
+  sound_instruction_target p n Digit b e bytes out h = target_more p n b bytes out (ap names e) h
+  sound_instruction_target p n Dash b e bytes out h = target_more p n b bytes out (ap names e) h
+  sound_instruction_target p n Blank b e bytes out h = target_space p n b e bytes out h
+  sound_instruction_target p n Question b e bytes out h = target_ask p n b e bytes out h
+  sound_instruction_target p n k b e bytes out h = absurd h
 
-  sound_target_end : (p : Place) (k : Class) (b : ℕ) → class b ≡ k → (bytes : List ℕ) (out : List Event) → along (λ t. Rest l t bytes) (step_greater k (go (m.at p))) out → Rest l (m.target_end p) (b ∷ bytes) out
-  sound_target_end p Greater b e bytes out h = (bytes, ap (λ y. y ∷ bytes) (greater_is b e), h)
-  sound_target_end p k b e bytes out h = absurd h
+  sound_instruction_target_end : (p : Place) (k : Class) (b : ℕ) → class b ≡ k → (bytes : List ℕ) (out : List Event) → along (λ t. Rest l t bytes) (step_greater k (go (m.content p))) out → Rest l (m.instruction_target_end p) (b ∷ bytes) out
+  sound_instruction_target_end p Greater b e bytes out h = (bytes, ap (λ y. y ∷ bytes) (greater_is b e), h)
+  sound_instruction_target_end p k b e bytes out h = absurd h
 
   not_class : (c : ℕ) (k j : Class) (b : ℕ) → class c ≡ j → class b ≡ k → (j ≡ k → ⊥) → b ≡ c → ⊥
   not_class c k j b f e d h = d (sym f ∙ ap class (sym h) ∙ e)
@@ -207,10 +207,10 @@ module _ (l : Limits) where
   ask_again : (p : Place) (bytes : List ℕ) (out : List Event) → InInstruction l p (63 ∷ bytes) out → InInstruction l p (63 ∷ 63 ∷ bytes) out
   ask_again p bytes out (t, j, free, f, r) = (63 ∷ t, j, (question_legal, no_greater t j bytes f, free), ap (λ x. 63 ∷ x) f, r)
 
-  sound_instruction : (p : Place) (k : Class) (b : ℕ) → class b ≡ k → (bytes : List ℕ) (out : List Event) → along (λ t. Rest l t bytes) (step_instruction p k b) out → InInstruction l p (b ∷ bytes) out
-  sound_instruction p Question b e bytes out h = subst (λ x. InInstruction l p (x ∷ bytes) out) (sym (question_is b e)) h
-  sound_instruction p Bad b e bytes out h = absurd h
-  sound_instruction p k b e bytes out h = ask_more p b bytes out (ap legal e) (not_class 63 _ Question b class_question e (λ x. cc)) h
+  sound_instruction_text : (p : Place) (k : Class) (b : ℕ) → class b ≡ k → (bytes : List ℕ) (out : List Event) → along (λ t. Rest l t bytes) (step_instruction_text p k b) out → InInstruction l p (b ∷ bytes) out
+  sound_instruction_text p Question b e bytes out h = subst (λ x. InInstruction l p (x ∷ bytes) out) (sym (question_is b e)) h
+  sound_instruction_text p Bad b e bytes out h = absurd h
+  sound_instruction_text p k b e bytes out h = ask_more p b bytes out (ap legal e) (not_class 63 _ Question b class_question e (λ x. cc)) h
 
   sound_instruction_end : (p : Place) (k : Class) (b : ℕ) → class b ≡ k → (bytes : List ℕ) (out : List Event) → along (λ t. Rest l t bytes) (step_instruction_end p k b) out → InInstruction l p (63 ∷ b ∷ bytes) out
   sound_instruction_end p Greater b e bytes out h = subst (λ x. InInstruction l p (63 ∷ x ∷ bytes) out) (sym (greater_is b e)) ([], bytes, tt, refl, h)
@@ -226,13 +226,13 @@ module _ (l : Limits) where
   section_more : (n : List ℕ) (ns : List (List ℕ)) (b : ℕ) (bytes : List ℕ) (out : List Event) → legal (class b) ≡ true → (b ≡ 93 → ⊥) → InSection l n ns bytes out → InSection l n ns (b ∷ bytes) out
   section_more n ns b bytes out y d (t, j, free, f, r) = (b ∷ t, j, (y, and_off (eqb b 93) _ (differs b 93 d), free), ap (λ x. b ∷ x) f, r)
 
-  section_one_more : (n : List ℕ) (ns : List (List ℕ)) (b : ℕ) (bytes : List ℕ) (out : List Event) → legal (class b) ≡ true → (b ≡ 93 → ⊥) → InSection l n ns bytes out → InSection l n ns (93 ∷ b ∷ bytes) out
-  section_one_more n ns b bytes out y d (t, j, free, f, r) =
+  cdata_section_bracket_more : (n : List ℕ) (ns : List (List ℕ)) (b : ℕ) (bytes : List ℕ) (out : List Event) → legal (class b) ≡ true → (b ≡ 93 → ⊥) → InSection l n ns bytes out → InSection l n ns (93 ∷ b ∷ bytes) out
+  cdata_section_bracket_more n ns b bytes out y d (t, j, free, f, r) =
       let q = differs b 93 d in
       (93 ∷ b ∷ t, j, (bracket_legal, and_off (eqb b 93) _ q, (y, and_off (eqb b 93) _ q, free)), ap (λ x. 93 ∷ b ∷ x) f, r)
 
-  section_two_more : (n : List ℕ) (ns : List (List ℕ)) (b : ℕ) (bytes : List ℕ) (out : List Event) → legal (class b) ≡ true → (b ≡ 93 → ⊥) → (b ≡ 62 → ⊥) → InSection l n ns bytes out → InSection l n ns (93 ∷ 93 ∷ b ∷ bytes) out
-  section_two_more n ns b bytes out y d c (t, j, free, f, r) =
+  cdata_section_end_more : (n : List ℕ) (ns : List (List ℕ)) (b : ℕ) (bytes : List ℕ) (out : List Event) → legal (class b) ≡ true → (b ≡ 93 → ⊥) → (b ≡ 62 → ⊥) → InSection l n ns bytes out → InSection l n ns (93 ∷ 93 ∷ b ∷ bytes) out
+  cdata_section_end_more n ns b bytes out y d c (t, j, free, f, r) =
       let q = differs b 93 d in
       (93 ∷ 93 ∷ b ∷ t, j, (bracket_legal, and_off (eqb b 62) true (differs b 62 c), (bracket_legal, and_off (eqb b 93) _ q, (y, and_off (eqb b 93) _ q, free))), ap (λ x. 93 ∷ 93 ∷ b ∷ x) f, r)
 
@@ -244,27 +244,27 @@ module _ (l : Limits) where
   section_again : (n : List ℕ) (ns : List (List ℕ)) (bytes : List ℕ) (out : List Event) → InSection l n ns (93 ∷ 93 ∷ bytes) out → InSection l n ns (93 ∷ 93 ∷ 93 ∷ bytes) out
   section_again n ns bytes out (t, j, free, f, r) = (93 ∷ t, j, (bracket_legal, no_end t j bytes f, free), ap (λ x. 93 ∷ x) f, r)
 
-  sound_section : (n : List ℕ) (ns : List (List ℕ)) (k : Class) (b : ℕ) → class b ≡ k → (bytes : List ℕ) (out : List Event) → along (λ t. Rest l t bytes) (step_section n ns k b) out → InSection l n ns (b ∷ bytes) out
-  sound_section n ns CloseBracket b e bytes out h = subst (λ x. InSection l n ns (x ∷ bytes) out) (sym (close_bracket_is b e)) h
-  sound_section n ns Bad b e bytes out h = absurd h
-  sound_section n ns k b e bytes out h = section_more n ns b bytes out (ap legal e) (not_class 93 _ CloseBracket b class_close_bracket e (λ x. cc)) h
+  sound_cdata_section : (n : List ℕ) (ns : List (List ℕ)) (k : Class) (b : ℕ) → class b ≡ k → (bytes : List ℕ) (out : List Event) → along (λ t. Rest l t bytes) (step_cdata_section n ns k b) out → InSection l n ns (b ∷ bytes) out
+  sound_cdata_section n ns CloseBracket b e bytes out h = subst (λ x. InSection l n ns (x ∷ bytes) out) (sym (close_bracket_is b e)) h
+  sound_cdata_section n ns Bad b e bytes out h = absurd h
+  sound_cdata_section n ns k b e bytes out h = section_more n ns b bytes out (ap legal e) (not_class 93 _ CloseBracket b class_close_bracket e (λ x. cc)) h
 
-  sound_section_one : (n : List ℕ) (ns : List (List ℕ)) (k : Class) (b : ℕ) → class b ≡ k → (bytes : List ℕ) (out : List Event) → along (λ t. Rest l t bytes) (step_section_one n ns k b) out → InSection l n ns (93 ∷ b ∷ bytes) out
-  sound_section_one n ns CloseBracket b e bytes out h = subst (λ x. InSection l n ns (93 ∷ x ∷ bytes) out) (sym (close_bracket_is b e)) h
-  sound_section_one n ns Bad b e bytes out h = absurd h
-  sound_section_one n ns k b e bytes out h = section_one_more n ns b bytes out (ap legal e) (not_class 93 _ CloseBracket b class_close_bracket e (λ x. cc)) h
+  sound_cdata_section_bracket : (n : List ℕ) (ns : List (List ℕ)) (k : Class) (b : ℕ) → class b ≡ k → (bytes : List ℕ) (out : List Event) → along (λ t. Rest l t bytes) (step_cdata_section_bracket n ns k b) out → InSection l n ns (93 ∷ b ∷ bytes) out
+  sound_cdata_section_bracket n ns CloseBracket b e bytes out h = subst (λ x. InSection l n ns (93 ∷ x ∷ bytes) out) (sym (close_bracket_is b e)) h
+  sound_cdata_section_bracket n ns Bad b e bytes out h = absurd h
+  sound_cdata_section_bracket n ns k b e bytes out h = cdata_section_bracket_more n ns b bytes out (ap legal e) (not_class 93 _ CloseBracket b class_close_bracket e (λ x. cc)) h
 
-  sound_section_two : (n : List ℕ) (ns : List (List ℕ)) (k : Class) (b : ℕ) → class b ≡ k → (bytes : List ℕ) (out : List Event) → along (λ t. Rest l t bytes) (step_section_two n ns k b) out → InSection l n ns (93 ∷ 93 ∷ b ∷ bytes) out
-  sound_section_two n ns CloseBracket b e bytes out h = subst (λ x. InSection l n ns (93 ∷ 93 ∷ x ∷ bytes) out) (sym (close_bracket_is b e)) (section_again n ns bytes out h)
-  sound_section_two n ns Greater b e bytes out h = subst (λ x. InSection l n ns (93 ∷ 93 ∷ x ∷ bytes) out) (sym (greater_is b e)) ([], bytes, tt, refl, h)
-  sound_section_two n ns Bad b e bytes out h = absurd h
-  sound_section_two n ns k b e bytes out h =
-      section_two_more n ns b bytes out (ap legal e) (not_class 93 _ CloseBracket b class_close_bracket e (λ x. cc)) (not_class 62 _ Greater b class_greater e (λ x. cc)) h
+  sound_cdata_section_end : (n : List ℕ) (ns : List (List ℕ)) (k : Class) (b : ℕ) → class b ≡ k → (bytes : List ℕ) (out : List Event) → along (λ t. Rest l t bytes) (step_cdata_section_end n ns k b) out → InSection l n ns (93 ∷ 93 ∷ b ∷ bytes) out
+  sound_cdata_section_end n ns CloseBracket b e bytes out h = subst (λ x. InSection l n ns (93 ∷ 93 ∷ x ∷ bytes) out) (sym (close_bracket_is b e)) (section_again n ns bytes out h)
+  sound_cdata_section_end n ns Greater b e bytes out h = subst (λ x. InSection l n ns (93 ∷ 93 ∷ x ∷ bytes) out) (sym (greater_is b e)) ([], bytes, tt, refl, h)
+  sound_cdata_section_end n ns Bad b e bytes out h = absurd h
+  sound_cdata_section_end n ns k b e bytes out h =
+      cdata_section_end_more n ns b bytes out (ap legal e) (not_class 93 _ CloseBracket b class_close_bracket e (λ x. cc)) (not_class 62 _ Greater b class_greater e (λ x. cc)) h
 
-  sound_bracketed : (n : List ℕ) (ns : List (List ℕ)) (t : ℕ) (todo : List ℕ) (b : ℕ) (bytes : List ℕ) (out : List Event) → along (λ t. Rest l t bytes) (step_bracketed n ns t todo b) out → Rest l (m.bracketed n ns t todo) (b ∷ bytes) out
-  sound_bracketed n ns t [] b bytes out r = let d = only (λ t. Rest l t bytes) out t b (m.section n ns) r in (bytes, ap (λ y. y ∷ bytes) d.0, d.1)
-  sound_bracketed n ns t (u ∷ todo) b bytes out r =
-      let d = only (λ t. Rest l t bytes) out t b (m.bracketed n ns u todo) r in
+  sound_cdata_start : (n : List ℕ) (ns : List (List ℕ)) (t : ℕ) (todo : List ℕ) (b : ℕ) (bytes : List ℕ) (out : List Event) → along (λ t. Rest l t bytes) (step_cdata_start n ns t todo b) out → Rest l (m.cdata_start n ns t todo) (b ∷ bytes) out
+  sound_cdata_start n ns t [] b bytes out r = let d = only (λ t. Rest l t bytes) out t b (m.cdata_section n ns) r in (bytes, ap (λ y. y ∷ bytes) d.0, d.1)
+  sound_cdata_start n ns t (u ∷ todo) b bytes out r =
+      let d = only (λ t. Rest l t bytes) out t b (m.cdata_start n ns u todo) r in
       (d.1.0, ap (λ y. b ∷ y) d.1.1 ∙ ap (λ y. y ∷ u ∷ (todo ++ d.1.0)) d.0, d.1.2)
 
   -- tags
@@ -303,30 +303,30 @@ module _ (l : Limits) where
   named_back : (p : Place) (n : List ℕ) (bytes : List ℕ) (out : List Event) → RestTag l p n [] bytes out → InName l p n bytes out
   named_back p n bytes out r = ([], bytes, tt, refl, subst (λ x. RestTag l p x [] bytes out) (sym (append-nil n)) r)
 
-  sound_naming : (p : Place) (n : List ℕ) (k : Class) (b : ℕ) → class b ≡ k → (bytes : List ℕ) (out : List Event) → along (λ t. Rest l t bytes) (step_naming p n k b) out → InName l p n (b ∷ bytes) out
-  sound_naming p n Letter b e bytes out h = name_back p n b bytes out (ap names e) h
-  sound_naming p n Digit b e bytes out h = name_back p n b bytes out (ap names e) h
-  sound_naming p n Dash b e bytes out h = name_back p n b bytes out (ap names e) h
-  sound_naming p n Bad b e bytes out h = absurd h
-  sound_naming p n k b e bytes out h = named_back p n (b ∷ bytes) out (tag_back p n [] _ b e bytes out h)
+  sound_tag_name : (p : Place) (n : List ℕ) (k : Class) (b : ℕ) → class b ≡ k → (bytes : List ℕ) (out : List Event) → along (λ t. Rest l t bytes) (step_tag_name p n k b) out → InName l p n (b ∷ bytes) out
+  sound_tag_name p n Letter b e bytes out h = name_back p n b bytes out (ap names e) h
+  sound_tag_name p n Digit b e bytes out h = name_back p n b bytes out (ap names e) h
+  sound_tag_name p n Dash b e bytes out h = name_back p n b bytes out (ap names e) h
+  sound_tag_name p n Bad b e bytes out h = absurd h
+  sound_tag_name p n k b e bytes out h = named_back p n (b ∷ bytes) out (tag_back p n [] _ b e bytes out h)
 
   -- an attribute, from the back
-  attr_back : (p : Place) (n : List ℕ) (xs : List Pair) (x : List ℕ) (b : ℕ) (bytes : List ℕ) (out : List Event) → names (class b) ≡ true → InAttr l p n xs (x ++ b ∷ []) bytes out → InAttr l p n xs x (b ∷ bytes) out
-  attr_back p n xs x b bytes out t (rest, k, good, e, once, r) =
-      (b ∷ rest, k, (t, good), ap (λ y. b ∷ y) e, subst (λ y. clashes l xs y ≡ false) (append_assoc x (b ∷ []) rest) once, subst (λ y. Equals l p n xs y k out) (append_assoc x (b ∷ []) rest) r)
+  attribute_name_back : (p : Place) (n : List ℕ) (xs : List Pair) (x : List ℕ) (b : ℕ) (bytes : List ℕ) (out : List Event) → names (class b) ≡ true → InAttributeName l p n xs (x ++ b ∷ []) bytes out → InAttributeName l p n xs x (b ∷ bytes) out
+  attribute_name_back p n xs x b bytes out t (rest, k, good, e, once, r) =
+      (b ∷ rest, k, (t, good), ap (λ y. b ∷ y) e, subst (λ y. clashes l xs y ≡ false) (append_assoc x (b ∷ []) rest) once, subst (λ y. AfterAttributeName l p n xs y k out) (append_assoc x (b ∷ []) rest) r)
 
-  equals_back : (p : Place) (n : List ℕ) (xs : List Pair) (x : List ℕ) (bytes : List ℕ) (out : List Event) → clashes l xs x ≡ false → Equals l p n xs x bytes out → InAttr l p n xs x bytes out
-  equals_back p n xs x bytes out once r =
-      ([], bytes, tt, refl, subst (λ y. clashes l xs y ≡ false) (sym (append-nil x)) once, subst (λ y. Equals l p n xs y bytes out) (sym (append-nil x)) r)
+  after_attribute_name_back : (p : Place) (n : List ℕ) (xs : List Pair) (x : List ℕ) (bytes : List ℕ) (out : List Event) → clashes l xs x ≡ false → AfterAttributeName l p n xs x bytes out → InAttributeName l p n xs x bytes out
+  after_attribute_name_back p n xs x bytes out once r =
+      ([], bytes, tt, refl, subst (λ y. clashes l xs y ≡ false) (sym (append-nil x)) once, subst (λ y. AfterAttributeName l p n xs y bytes out) (sym (append-nil x)) r)
 
-  left_back : (p : Place) (n : List ℕ) (xs : List Pair) (x : List ℕ) (b : ℕ) (bytes : List ℕ) (out : List Event) → blanks (class b) ≡ true → Equals l p n xs x bytes out → Equals l p n xs x (b ∷ bytes) out
+  left_back : (p : Place) (n : List ℕ) (xs : List Pair) (x : List ℕ) (b : ℕ) (bytes : List ℕ) (out : List Event) → blanks (class b) ≡ true → AfterAttributeName l p n xs x bytes out → AfterAttributeName l p n xs x (b ∷ bytes) out
   left_back p n xs x b bytes out t (left, k, good, e, r) = (b ∷ left, k, (t, good), ap (λ y. b ∷ y) e, r)
 
-  sign_back : (p : Place) (n : List ℕ) (xs : List Pair) (x : List ℕ) (b : ℕ) (bytes : List ℕ) (out : List Event) → b ≡ 61 → Valued l p n xs x bytes out → Equals l p n xs x (b ∷ bytes) out
+  sign_back : (p : Place) (n : List ℕ) (xs : List Pair) (x : List ℕ) (b : ℕ) (bytes : List ℕ) (out : List Event) → b ≡ 61 → BeforeAttributeValue l p n xs x bytes out → AfterAttributeName l p n xs x (b ∷ bytes) out
   sign_back p n xs x b bytes out e r = ([], bytes, tt, ap (λ y. y ∷ bytes) e, r)
 
   -- the first letter of an attribute's name stands there
-  first_back : (p : Place) (n : List ℕ) (xs : List Pair) (b : ℕ) (bytes : List ℕ) (out : List Event) → class b ≡ Letter → InAttr l p n xs (b ∷ []) bytes out → InTag l p n xs (b ∷ bytes) out
+  first_back : (p : Place) (n : List ℕ) (xs : List Pair) (b : ℕ) (bytes : List ℕ) (out : List Event) → class b ≡ Letter → InAttributeName l p n xs (b ∷ []) bytes out → InTag l p n xs (b ∷ bytes) out
   first_back p n xs b bytes out e (rest, k, good, f, once, (left, j, gleft, fl, (right, q, i, gright, fr, (ps, l, gv, fv, r)))) = (
     [],
     b ∷ bytes,
@@ -341,33 +341,33 @@ module _ (l : Limits) where
     ),
   )
 
-  sound_tagged : (p : Place) (n : List ℕ) (xs : List Pair) (k : Class) (b : ℕ) → class b ≡ k → (bytes : List ℕ) (out : List Event) → along (λ t. Rest l t bytes) (step_tagged p n xs k b) out → InTag l p n xs (b ∷ bytes) out
-  sound_tagged p n xs Letter b e bytes out h = first_back p n xs b bytes out e h
-  sound_tagged p n xs Bad b e bytes out h = absurd h
-  sound_tagged p n xs k b e bytes out h = intag_back p n xs _ b e bytes out h
+  sound_before_attribute_name : (p : Place) (n : List ℕ) (xs : List Pair) (k : Class) (b : ℕ) → class b ≡ k → (bytes : List ℕ) (out : List Event) → along (λ t. Rest l t bytes) (step_before_attribute_name p n xs k b) out → InTag l p n xs (b ∷ bytes) out
+  sound_before_attribute_name p n xs Letter b e bytes out h = first_back p n xs b bytes out e h
+  sound_before_attribute_name p n xs Bad b e bytes out h = absurd h
+  sound_before_attribute_name p n xs k b e bytes out h = intag_back p n xs _ b e bytes out h
 
-  sound_attr : (p : Place) (n : List ℕ) (xs : List Pair) (x : List ℕ) (k : Class) (b : ℕ) → class b ≡ k → (bytes : List ℕ) (out : List Event) → along (λ t. Rest l t bytes) (step_attr l p n xs x k b) out → InAttr l p n xs x (b ∷ bytes) out
-  sound_attr p n xs x Letter b e bytes out h = attr_back p n xs x b bytes out (ap names e) h
-  sound_attr p n xs x Digit b e bytes out h = attr_back p n xs x b bytes out (ap names e) h
-  sound_attr p n xs x Dash b e bytes out h = attr_back p n xs x b bytes out (ap names e) h
-  sound_attr p n xs x Blank b e bytes out h =
-      let d = unguarded (λ t. Rest l t bytes) out (w.Twice (length (encode_utf8_all x))) (clashes l xs x) (equals p n xs x) h in
-      equals_back p n xs x (b ∷ bytes) out d.0 (left_back p n xs x b bytes out (ap blanks e) d.1)
-  sound_attr p n xs x Equal b e bytes out h =
-      let d = unguarded (λ t. Rest l t bytes) out (w.Twice (length (encode_utf8_all x))) (clashes l xs x) (valued p n xs x) h in
-      equals_back p n xs x (b ∷ bytes) out d.0 (sign_back p n xs x b bytes out (equal_is b e) d.1)
-  sound_attr p n xs x k b e bytes out h = absurd h
+  sound_attribute_name : (p : Place) (n : List ℕ) (xs : List Pair) (x : List ℕ) (k : Class) (b : ℕ) → class b ≡ k → (bytes : List ℕ) (out : List Event) → along (λ t. Rest l t bytes) (step_attribute_name l p n xs x k b) out → InAttributeName l p n xs x (b ∷ bytes) out
+  sound_attribute_name p n xs x Letter b e bytes out h = attribute_name_back p n xs x b bytes out (ap names e) h
+  sound_attribute_name p n xs x Digit b e bytes out h = attribute_name_back p n xs x b bytes out (ap names e) h
+  sound_attribute_name p n xs x Dash b e bytes out h = attribute_name_back p n xs x b bytes out (ap names e) h
+  sound_attribute_name p n xs x Blank b e bytes out h =
+      let d = unguarded (λ t. Rest l t bytes) out (w.Twice (length (encode_utf8_all x))) (clashes l xs x) (after_attribute_name p n xs x) h in
+      after_attribute_name_back p n xs x (b ∷ bytes) out d.0 (left_back p n xs x b bytes out (ap blanks e) d.1)
+  sound_attribute_name p n xs x Equal b e bytes out h =
+      let d = unguarded (λ t. Rest l t bytes) out (w.Twice (length (encode_utf8_all x))) (clashes l xs x) (before_attribute_value p n xs x) h in
+      after_attribute_name_back p n xs x (b ∷ bytes) out d.0 (sign_back p n xs x b bytes out (equal_is b e) d.1)
+  sound_attribute_name p n xs x k b e bytes out h = absurd h
 
-  sound_equals : (p : Place) (n : List ℕ) (xs : List Pair) (x : List ℕ) (k : Class) (b : ℕ) → class b ≡ k → (bytes : List ℕ) (out : List Event) → along (λ t. Rest l t bytes) (step_equals p n xs x k) out → Equals l p n xs x (b ∷ bytes) out
-  sound_equals p n xs x Blank b e bytes out h = left_back p n xs x b bytes out (ap blanks e) h
-  sound_equals p n xs x Equal b e bytes out h = sign_back p n xs x b bytes out (equal_is b e) h
-  sound_equals p n xs x k b e bytes out h = absurd h
+  sound_after_attribute_name : (p : Place) (n : List ℕ) (xs : List Pair) (x : List ℕ) (k : Class) (b : ℕ) → class b ≡ k → (bytes : List ℕ) (out : List Event) → along (λ t. Rest l t bytes) (step_after_attribute_name p n xs x k) out → AfterAttributeName l p n xs x (b ∷ bytes) out
+  sound_after_attribute_name p n xs x Blank b e bytes out h = left_back p n xs x b bytes out (ap blanks e) h
+  sound_after_attribute_name p n xs x Equal b e bytes out h = sign_back p n xs x b bytes out (equal_is b e) h
+  sound_after_attribute_name p n xs x k b e bytes out h = absurd h
 
-  sound_valued : (p : Place) (n : List ℕ) (xs : List Pair) (x : List ℕ) (k : Class) (b : ℕ) → class b ≡ k → (bytes : List ℕ) (out : List Event) → along (λ t. Rest l t bytes) (step_valued p n xs x k) out → Valued l p n xs x (b ∷ bytes) out
-  sound_valued p n xs x Blank b e bytes out (right, q, k, good, f, r) = (b ∷ right, q, k, (ap blanks e, good), ap (λ y. b ∷ y) f, r)
-  sound_valued p n xs x DoubleQuote b e bytes out h = ([], with_double, bytes, tt, ap (λ y. y ∷ bytes) (double_is b e), h)
-  sound_valued p n xs x SingleQuote b e bytes out h = ([], with_single, bytes, tt, ap (λ y. y ∷ bytes) (single_is b e), h)
-  sound_valued p n xs x k b e bytes out h = absurd h
+  sound_before_attribute_value : (p : Place) (n : List ℕ) (xs : List Pair) (x : List ℕ) (k : Class) (b : ℕ) → class b ≡ k → (bytes : List ℕ) (out : List Event) → along (λ t. Rest l t bytes) (step_before_attribute_value p n xs x k) out → BeforeAttributeValue l p n xs x (b ∷ bytes) out
+  sound_before_attribute_value p n xs x Blank b e bytes out (right, q, k, good, f, r) = (b ∷ right, q, k, (ap blanks e, good), ap (λ y. b ∷ y) f, r)
+  sound_before_attribute_value p n xs x DoubleQuote b e bytes out h = ([], with_double, bytes, tt, ap (λ y. y ∷ bytes) (double_is b e), h)
+  sound_before_attribute_value p n xs x SingleQuote b e bytes out h = ([], with_single, bytes, tt, ap (λ y. y ∷ bytes) (single_is b e), h)
+  sound_before_attribute_value p n xs x k b e bytes out h = absurd h
 
   raw_back : (p : Place) (n : List ℕ) (xs : List Pair) (x : List ℕ) (q : Quote) (v : List ℕ) (r : Bool) (b : ℕ) (bytes : List ℕ) (out : List Event) → is_valued q (class b) ≡ true → InValue l p n xs x q (v ++ raw_value r b) (eqb b 13) bytes out → InValue l p n xs x q v r (b ∷ bytes) out
   raw_back p n xs x q v r b bytes out t (ps, k, good, e, h) =
@@ -379,24 +379,24 @@ module _ (l : Limits) where
   amp_back : (p : Place) (n : List ℕ) (xs : List Pair) (x : List ℕ) (q : Quote) (v : List ℕ) (r : Bool) (b : ℕ) → class b ≡ Ampersand → (bytes : List ℕ) (out : List Event) → RestHole l (in_value p n xs x q v) (38 ∷ bytes) out → InValue l p n xs x q v r (b ∷ bytes) out
   amp_back p n xs x q v r b e bytes out h = subst (λ y. InValue l p n xs x q v r (y ∷ bytes) out) (sym (ampersand_is b e)) (value_hole p n xs x q v r (38 ∷ bytes) out h)
 
-  sound_value : (p : Place) (n : List ℕ) (xs : List Pair) (x : List ℕ) (q : Quote) (v : List ℕ) (r : Bool) (k : Class) (b : ℕ) → class b ≡ k → (bytes : List ℕ) (out : List Event) → along (λ t. Rest l t bytes) (step_value p n xs x q v r k b) out → InValue l p n xs x q v r (b ∷ bytes) out
-  sound_value p n xs x with_double v r DoubleQuote b e bytes out h = quote_back p n xs x with_double v r b bytes out (double_is b e) h
-  sound_value p n xs x with_single v r SingleQuote b e bytes out h = quote_back p n xs x with_single v r b bytes out (single_is b e) h
-  sound_value p n xs x with_double v r Less b e bytes out h = absurd h
-  sound_value p n xs x with_single v r Less b e bytes out h = absurd h
-  sound_value p n xs x with_double v r Bad b e bytes out h = absurd h
-  sound_value p n xs x with_single v r Bad b e bytes out h = absurd h
-  sound_value p n xs x with_double v r Ampersand b e bytes out h = amp_back p n xs x with_double v r b e bytes out h
-  sound_value p n xs x with_single v r Ampersand b e bytes out h = amp_back p n xs x with_single v r b e bytes out h
-  sound_value p n xs x with_double v r k b e bytes out h = raw_back p n xs x with_double v r b bytes out (ap (is_valued with_double) e) h
-  sound_value p n xs x with_single v r k b e bytes out h = raw_back p n xs x with_single v r b bytes out (ap (is_valued with_single) e) h
+  sound_attribute_value : (p : Place) (n : List ℕ) (xs : List Pair) (x : List ℕ) (q : Quote) (v : List ℕ) (r : Bool) (k : Class) (b : ℕ) → class b ≡ k → (bytes : List ℕ) (out : List Event) → along (λ t. Rest l t bytes) (step_attribute_value p n xs x q v r k b) out → InValue l p n xs x q v r (b ∷ bytes) out
+  sound_attribute_value p n xs x with_double v r DoubleQuote b e bytes out h = quote_back p n xs x with_double v r b bytes out (double_is b e) h
+  sound_attribute_value p n xs x with_single v r SingleQuote b e bytes out h = quote_back p n xs x with_single v r b bytes out (single_is b e) h
+  sound_attribute_value p n xs x with_double v r Less b e bytes out h = absurd h
+  sound_attribute_value p n xs x with_single v r Less b e bytes out h = absurd h
+  sound_attribute_value p n xs x with_double v r Bad b e bytes out h = absurd h
+  sound_attribute_value p n xs x with_single v r Bad b e bytes out h = absurd h
+  sound_attribute_value p n xs x with_double v r Ampersand b e bytes out h = amp_back p n xs x with_double v r b e bytes out h
+  sound_attribute_value p n xs x with_single v r Ampersand b e bytes out h = amp_back p n xs x with_single v r b e bytes out h
+  sound_attribute_value p n xs x with_double v r k b e bytes out h = raw_back p n xs x with_double v r b bytes out (ap (is_valued with_double) e) h
+  sound_attribute_value p n xs x with_single v r k b e bytes out h = raw_back p n xs x with_single v r b bytes out (ap (is_valued with_single) e) h
 
-  sound_slashed : (p : Place) (n : List ℕ) (xs : List Pair) (k : Class) (b : ℕ) → class b ≡ k → (bytes : List ℕ) (out : List Event) → along (λ t. Rest l t bytes) (step_greater k (emit (m.at (within (stack p))) (begin n xs ∷ close ∷ []))) out → Ends l p n xs (47 ∷ b ∷ bytes) out
-  sound_slashed p n xs Greater b e bytes out (more, f, r) = inr (bytes, more, ap (λ y. 47 ∷ y ∷ bytes) (greater_is b e), f, r)
-  sound_slashed p n xs k b e bytes out h = absurd h
+  sound_self_closing_start_tag : (p : Place) (n : List ℕ) (xs : List Pair) (k : Class) (b : ℕ) → class b ≡ k → (bytes : List ℕ) (out : List Event) → along (λ t. Rest l t bytes) (step_greater k (emit (m.content (within (stack p))) (begin n xs ∷ close ∷ []))) out → Ends l p n xs (47 ∷ b ∷ bytes) out
+  sound_self_closing_start_tag p n xs Greater b e bytes out (more, f, r) = inr (bytes, more, ap (λ y. 47 ∷ y ∷ bytes) (greater_is b e), f, r)
+  sound_self_closing_start_tag p n xs k b e bytes out h = absurd h
 
   -- an element, from behind its name
-  open_back : (p : Place) (n : List ℕ) (bytes : List ℕ) (out : List Event) → may_open l p ≡ true → IsName n → RestTag l p n [] bytes out → RestAt l p (60 ∷ (n ++ bytes)) out
+  open_back : (p : Place) (n : List ℕ) (bytes : List ℕ) (out : List Event) → may_open l p ≡ true → IsName n → RestTag l p n [] bytes out → RestContent l p (60 ∷ (n ++ bytes)) out
   open_back before n bytes out m t (ys, gap, k, good, sp, e, inl (rest, more, f, o, (c, gap2, rest2, more2, fine, sp2, e2, o2, (d, misc, e3, o3)))) =
       let tag : Tag = record { name = n; attrs = ys; gap = gap } in (
         g.element tag c gap2 d,
@@ -437,81 +437,81 @@ module _ (l : Limits) where
         r,
       )
 
-  letter_back : (p : Place) (b : ℕ) → class b ≡ Letter → (bytes : List ℕ) (out : List Event) → along (λ t. Rest l t bytes) (guard (why_open p) (may_open l p) (naming p (b ∷ []))) out → RestAt l p (60 ∷ b ∷ bytes) out
+  letter_back : (p : Place) (b : ℕ) → class b ≡ Letter → (bytes : List ℕ) (out : List Event) → along (λ t. Rest l t bytes) (guard (why_open p) (may_open l p) (tag_name p (b ∷ []))) out → RestContent l p (60 ∷ b ∷ bytes) out
   letter_back p b e bytes out h =
-      let d = guarded (λ t. Rest l t bytes) out (why_open p) (may_open l p) (naming p (b ∷ [])) h in
+      let d = guarded (λ t. Rest l t bytes) out (why_open p) (may_open l p) (tag_name p (b ∷ [])) h in
       let r = d.1 in
-      subst (λ y. RestAt l p (60 ∷ b ∷ y) out) (sym r.3) (open_back p (b ∷ r.0) r.1 out d.0 (e, r.2) r.4)
+      subst (λ y. RestContent l p (60 ∷ b ∷ y) out) (sym r.3) (open_back p (b ∷ r.0) r.1 out d.0 (e, r.2) r.4)
 
-  sound_opened : (p : Place) (k : Class) (b : ℕ) → class b ≡ k → (bytes : List ℕ) (out : List Event) → along (λ t. Rest l t bytes) (step_opened l p k b) out → RestAt l p (60 ∷ b ∷ bytes) out
-  sound_opened before Bang b e bytes out h = subst (λ x. RestAt l before (60 ∷ x ∷ bytes) out) (sym (bang_is b e)) h
-  sound_opened before Question b e bytes out h = subst (λ x. RestAt l before (60 ∷ x ∷ bytes) out) (sym (question_is b e)) h
-  sound_opened before Letter b e bytes out h = letter_back before b e bytes out h
-  sound_opened before k b e bytes out h = absurd h
-  sound_opened (within []) Bang b e bytes out h = subst (λ x. After l [] (60 ∷ x ∷ bytes) out) (sym (bang_is b e)) h
-  sound_opened (within []) Question b e bytes out h = subst (λ x. After l [] (60 ∷ x ∷ bytes) out) (sym (question_is b e)) h
-  sound_opened (within []) Letter b e bytes out h = letter_back (within []) b e bytes out h
-  sound_opened (within []) k b e bytes out h = absurd h
-  sound_opened (within (n ∷ ns)) Bang b e bytes out h = subst (λ x. After l (n ∷ ns) (60 ∷ x ∷ bytes) out) (sym (bang_is b e)) h
-  sound_opened (within (n ∷ ns)) Question b e bytes out h = subst (λ x. After l (n ∷ ns) (60 ∷ x ∷ bytes) out) (sym (question_is b e)) h
-  sound_opened (within (n ∷ ns)) Letter b e bytes out h = letter_back (within (n ∷ ns)) b e bytes out h
-  sound_opened (within (n ∷ ns)) Slash b e bytes out (gap, rest, more, sp, f, o, r) =
+  sound_tag_open : (p : Place) (k : Class) (b : ℕ) → class b ≡ k → (bytes : List ℕ) (out : List Event) → along (λ t. Rest l t bytes) (step_tag_open l p k b) out → RestContent l p (60 ∷ b ∷ bytes) out
+  sound_tag_open before Bang b e bytes out h = subst (λ x. RestContent l before (60 ∷ x ∷ bytes) out) (sym (bang_is b e)) h
+  sound_tag_open before Question b e bytes out h = subst (λ x. RestContent l before (60 ∷ x ∷ bytes) out) (sym (question_is b e)) h
+  sound_tag_open before Letter b e bytes out h = letter_back before b e bytes out h
+  sound_tag_open before k b e bytes out h = absurd h
+  sound_tag_open (within []) Bang b e bytes out h = subst (λ x. After l [] (60 ∷ x ∷ bytes) out) (sym (bang_is b e)) h
+  sound_tag_open (within []) Question b e bytes out h = subst (λ x. After l [] (60 ∷ x ∷ bytes) out) (sym (question_is b e)) h
+  sound_tag_open (within []) Letter b e bytes out h = letter_back (within []) b e bytes out h
+  sound_tag_open (within []) k b e bytes out h = absurd h
+  sound_tag_open (within (n ∷ ns)) Bang b e bytes out h = subst (λ x. After l (n ∷ ns) (60 ∷ x ∷ bytes) out) (sym (bang_is b e)) h
+  sound_tag_open (within (n ∷ ns)) Question b e bytes out h = subst (λ x. After l (n ∷ ns) (60 ∷ x ∷ bytes) out) (sym (question_is b e)) h
+  sound_tag_open (within (n ∷ ns)) Letter b e bytes out h = letter_back (within (n ∷ ns)) b e bytes out h
+  sound_tag_open (within (n ∷ ns)) Slash b e bytes out (gap, rest, more, sp, f, o, r) =
       subst (λ x. After l (n ∷ ns) (60 ∷ x ∷ bytes) out) (sym (slash_is b e)) (g.done, gap, rest, more, tt, sp, ap (λ y. 60 ∷ 47 ∷ y) f, o, r)
-  sound_opened (within (n ∷ ns)) k b e bytes out h = absurd h
+  sound_tag_open (within (n ∷ ns)) k b e bytes out h = absurd h
 
   -- the end of an element
-  sound_finished : (ns : List (List ℕ)) (k : Class) (b : ℕ) → class b ≡ k → (bytes : List ℕ) (out : List Event) → along (λ t. Rest l t bytes) (step_finished ns k) out → Finishing l ns [] (b ∷ bytes) out
-  sound_finished ns Blank b e bytes out (gap, rest, more, sp, f, o, r) = (b ∷ gap, rest, more, (ap blanks e, sp), ap (λ y. b ∷ y) f, o, r)
-  sound_finished ns Greater b e bytes out (more, o, r) = ([], bytes, more, tt, ap (λ y. y ∷ bytes) (greater_is b e), o, r)
-  sound_finished ns k b e bytes out h = absurd h
+  sound_after_end_tag_name : (ns : List (List ℕ)) (k : Class) (b : ℕ) → class b ≡ k → (bytes : List ℕ) (out : List Event) → along (λ t. Rest l t bytes) (step_after_end_tag_name ns k) out → InEndTagName l ns [] (b ∷ bytes) out
+  sound_after_end_tag_name ns Blank b e bytes out (gap, rest, more, sp, f, o, r) = (b ∷ gap, rest, more, (ap blanks e, sp), ap (λ y. b ∷ y) f, o, r)
+  sound_after_end_tag_name ns Greater b e bytes out (more, o, r) = ([], bytes, more, tt, ap (λ y. y ∷ bytes) (greater_is b e), o, r)
+  sound_after_end_tag_name ns k b e bytes out h = absurd h
 
-  sound_finishing : (ns : List (List ℕ)) (todo : List ℕ) (k : Class) (b : ℕ) → class b ≡ k → (bytes : List ℕ) (out : List Event) → along (λ t. Rest l t bytes) (step_finishing ns todo k b) out → Finishing l ns todo (b ∷ bytes) out
-  sound_finishing ns [] k b e bytes out h = sound_finished ns k b e bytes out h
-  sound_finishing ns (t ∷ todo) k b e bytes out h =
-      let d = guarded (λ t. Rest l t bytes) out (m.partly t b) (eqb b t) (finishing ns todo) h in
+  sound_end_tag_name : (ns : List (List ℕ)) (todo : List ℕ) (k : Class) (b : ℕ) → class b ≡ k → (bytes : List ℕ) (out : List Event) → along (λ t. Rest l t bytes) (step_end_tag_name ns todo k b) out → InEndTagName l ns todo (b ∷ bytes) out
+  sound_end_tag_name ns [] k b e bytes out h = sound_after_end_tag_name ns k b e bytes out h
+  sound_end_tag_name ns (t ∷ todo) k b e bytes out h =
+      let d = guarded (λ t. Rest l t bytes) out (m.partly t b) (eqb b t) (end_tag_name ns todo) h in
       let r = d.1 in
       (r.0, r.1, r.2, r.3, ap (λ y. b ∷ y) r.4 ∙ ap (λ y. y ∷ (todo ++ (r.0 ++ 62 ∷ r.1))) (eqb-true b t d.0), r.5, r.6)
 
   -- references
-  hole_back : (h : Hole) (r : Reference) (k : List ℕ) (out : List Event) → IsReference r → RestFilled l h (code_of r) k out → RestHole l h (38 ∷ print_reference r k) out
+  hole_back : (h : Hole) (r : Reference) (k : List ℕ) (out : List Event) → IsReference r → AfterReference l h (code_of r) k out → RestHole l h (38 ∷ print_reference r k) out
   hole_back h r k out y f = (r, k, y, refl, f)
 
-  filled_is : (h : Hole) (code : ℕ) (k : List ℕ) (out : List Event) → Rest l (filled h code) k out → RestFilled l h code k out
-  filled_is (in_text n ns) code k out r = r
-  filled_is (in_value p n xs x q v) code k out r = r
+  after_reference_is : (h : Hole) (code : ℕ) (k : List ℕ) (out : List Event) → Rest l (after_reference h code) k out → AfterReference l h code k out
+  after_reference_is (in_text n ns) code k out r = r
+  after_reference_is (in_value p n xs x q v) code k out r = r
 
-  sound_forced : (h : Hole) (code t : ℕ) (todo : List ℕ) (b : ℕ) (bytes : List ℕ) (out : List Event) → along (λ t. Rest l t bytes) (step_forced h code t todo b) out → Rest l (forced h code t todo) (b ∷ bytes) out
-  sound_forced h code t [] b bytes out r =
-      let d = only (λ t. Rest l t bytes) out t b (filled h code) r in
-      (bytes, ap (λ y. y ∷ bytes) d.0, filled_is h code bytes out d.1)
-  sound_forced h code t (u ∷ todo) b bytes out r =
-      let d = only (λ t. Rest l t bytes) out t b (forced h code u todo) r in
+  sound_named_reference : (h : Hole) (code t : ℕ) (todo : List ℕ) (b : ℕ) (bytes : List ℕ) (out : List Event) → along (λ t. Rest l t bytes) (step_named_reference h code t todo b) out → Rest l (named_reference h code t todo) (b ∷ bytes) out
+  sound_named_reference h code t [] b bytes out r =
+      let d = only (λ t. Rest l t bytes) out t b (after_reference h code) r in
+      (bytes, ap (λ y. y ∷ bytes) d.0, after_reference_is h code bytes out d.1)
+  sound_named_reference h code t (u ∷ todo) b bytes out r =
+      let d = only (λ t. Rest l t bytes) out t b (named_reference h code u todo) r in
       (d.1.0, ap (λ y. b ∷ y) d.1.1 ∙ ap (λ y. y ∷ u ∷ (todo ++ d.1.0)) d.0, d.1.2)
 
   -- the reference that is forced after its first letters
-  entity_back : (h : Hole) (e : Entity) (bytes : List ℕ) (t : ℕ) (todo : List ℕ) (start : List ℕ) (out : List Event) → start ++ t ∷ todo ≡ 38 ∷ entity_text e → Rest l (forced h (entity_code e) t todo) bytes out → RestHole l h (start ++ bytes) out
+  entity_back : (h : Hole) (e : Entity) (bytes : List ℕ) (t : ℕ) (todo : List ℕ) (start : List ℕ) (out : List Event) → start ++ t ∷ todo ≡ 38 ∷ entity_text e → Rest l (named_reference h (entity_code e) t todo) bytes out → RestHole l h (start ++ bytes) out
   entity_back h e bytes t todo start out s (k, f, r) =
       subst (λ y. RestHole l h y out) (sym (ap (λ y. start ++ y) f ∙ sym (append_assoc start (t ∷ todo) k) ∙ ap (λ y. y ++ k) s)) (hole_back h (named e) k out tt r)
 
-  sound_amped_a : (h : Hole) (b : ℕ) (bytes : List ℕ) (out : List Event) → along (λ t. Rest l t bytes) (step_amped_a h b) out → RestHole l h (38 ∷ 97 ∷ b ∷ bytes) out
-  sound_amped_a h b bytes out r =
-      elim (choice (λ t. Rest l t bytes) out (eqb b 109) (forced h 38 112 (59 ∷ [])) _ r) [
+  sound_reference_a : (h : Hole) (b : ℕ) (bytes : List ℕ) (out : List Event) → along (λ t. Rest l t bytes) (step_reference_a h b) out → RestHole l h (38 ∷ 97 ∷ b ∷ bytes) out
+  sound_reference_a h b bytes out r =
+      elim (choice (λ t. Rest l t bytes) out (eqb b 109) (named_reference h 38 112 (59 ∷ [])) _ r) [
         | inl d ↦ subst (λ y. RestHole l h (38 ∷ 97 ∷ y ∷ bytes) out) (sym (eqb-true b 109 d.0)) (entity_back h amp bytes 112 (59 ∷ []) (38 ∷ 97 ∷ 109 ∷ []) out refl d.1)
-        | inr s ↦ let d = only (λ t. Rest l t bytes) out 112 b (forced h 39 111 (115 ∷ 59 ∷ [])) s in
+        | inr s ↦ let d = only (λ t. Rest l t bytes) out 112 b (named_reference h 39 111 (115 ∷ 59 ∷ [])) s in
             subst (λ y. RestHole l h (38 ∷ 97 ∷ y ∷ bytes) out) (sym d.0) (entity_back h apos bytes 111 (115 ∷ 59 ∷ []) (38 ∷ 97 ∷ 112 ∷ []) out refl d.1)
       ]
 
-  sound_amped : (h : Hole) (b : ℕ) (bytes : List ℕ) (out : List Event) → along (λ t. Rest l t bytes) (step_amped h b) out → RestHole l h (38 ∷ b ∷ bytes) out
-  sound_amped h b bytes out r =
-      elim (choice (λ t. Rest l t bytes) out (eqb b 108) (forced h 60 116 (59 ∷ [])) _ r) [
+  sound_reference : (h : Hole) (b : ℕ) (bytes : List ℕ) (out : List Event) → along (λ t. Rest l t bytes) (step_reference h b) out → RestHole l h (38 ∷ b ∷ bytes) out
+  sound_reference h b bytes out r =
+      elim (choice (λ t. Rest l t bytes) out (eqb b 108) (named_reference h 60 116 (59 ∷ [])) _ r) [
         | inl d ↦ subst (λ y. RestHole l h (38 ∷ y ∷ bytes) out) (sym (eqb-true b 108 d.0)) (entity_back h lt bytes 116 (59 ∷ []) (38 ∷ 108 ∷ []) out refl d.1)
-        | inr s ↦ elim (choice (λ t. Rest l t bytes) out (eqb b 103) (forced h 62 116 (59 ∷ [])) _ s) [
+        | inr s ↦ elim (choice (λ t. Rest l t bytes) out (eqb b 103) (named_reference h 62 116 (59 ∷ [])) _ s) [
           | inl d ↦ subst (λ y. RestHole l h (38 ∷ y ∷ bytes) out) (sym (eqb-true b 103 d.0)) (entity_back h gt bytes 116 (59 ∷ []) (38 ∷ 103 ∷ []) out refl d.1)
-          | inr v ↦ elim (choice (λ t. Rest l t bytes) out (eqb b 113) (forced h 34 117 (111 ∷ 116 ∷ 59 ∷ [])) _ v) [
+          | inr v ↦ elim (choice (λ t. Rest l t bytes) out (eqb b 113) (named_reference h 34 117 (111 ∷ 116 ∷ 59 ∷ [])) _ v) [
             | inl d ↦ subst (λ y. RestHole l h (38 ∷ y ∷ bytes) out) (sym (eqb-true b 113 d.0)) (entity_back h quot bytes 117 (111 ∷ 116 ∷ 59 ∷ []) (38 ∷ 113 ∷ []) out refl d.1)
-            | inr u ↦ elim (choice (λ t. Rest l t bytes) out (eqb b 35) (m.hashed h) _ u) [
+            | inr u ↦ elim (choice (λ t. Rest l t bytes) out (eqb b 35) (m.numeric_reference h) _ u) [
               | inl d ↦ subst (λ y. RestHole l h (38 ∷ y ∷ bytes) out) (sym (eqb-true b 35 d.0)) d.1
-              | inr z ↦ let d = only (λ t. Rest l t bytes) out 97 b (amped_a h) z in
+              | inr z ↦ let d = only (λ t. Rest l t bytes) out 97 b (reference_a h) z in
                   subst (λ y. RestHole l h (38 ∷ y ∷ bytes) out) (sym d.0) d.1
             ]
           ]
@@ -519,25 +519,25 @@ module _ (l : Limits) where
       ]
 
   -- numbers
-  digit_back : (h : Hole) (base : Base) (n b : ℕ) (bytes : List ℕ) (out : List Event) → along (λ t. Rest l t bytes) (step_digit h base n b) out → (is_numeral base b ≡ true) × InNumber l h base (with_digit base n b) bytes out
+  digit_back : (h : Hole) (base : Base) (n b : ℕ) (bytes : List ℕ) (out : List Event) → along (λ t. Rest l t bytes) (step_digit h base n b) out → (is_numeral base b ≡ true) × InReferenceDigits l h base (with_digit base n b) bytes out
   digit_back h base n b bytes out r =
       let d = ruled (λ t. Rest l t bytes) out (is_numeral base b) _ r in
-      let f = guarded (λ t. Rest l t bytes) out w.Plain (leb (with_digit base n b) 1114111) (m.number h base (with_digit base n b)) d.1 in
+      let f = guarded (λ t. Rest l t bytes) out w.Plain (leb (with_digit base n b) 1114111) (m.reference_digits h base (with_digit base n b)) d.1 in
       (d.0, f.1)
 
-  sound_number : (h : Hole) (base : Base) (n b : ℕ) (bytes : List ℕ) (out : List Event) → along (λ t. Rest l t bytes) (step_number h base n b) out → InNumber l h base n (b ∷ bytes) out
-  sound_number h base n b bytes out r =
+  sound_reference_digits : (h : Hole) (base : Base) (n b : ℕ) (bytes : List ℕ) (out : List Event) → along (λ t. Rest l t bytes) (step_reference_digits h base n b) out → InReferenceDigits l h base n (b ∷ bytes) out
+  sound_reference_digits h base n b bytes out r =
       elim (split r) [
-        | inl d ↦ ([], bytes, tt, d.1.0, ap (λ y. y ∷ bytes) (eqb-true b 59 d.0), filled_is h n bytes out d.1.1)
+        | inl d ↦ ([], bytes, tt, d.1.0, ap (λ y. y ∷ bytes) (eqb-true b 59 d.0), after_reference_is h n bytes out d.1.1)
         | inr s ↦ let d = digit_back h base n b bytes out s in (b ∷ d.1.0, d.1.1, (d.0, d.1.2), d.1.3, ap (λ y. b ∷ y) d.1.4, d.1.5)
       ]
     where
-      cut : (t : Bool) → along (λ t. Rest l t bytes) (cond t (guard w.Plain (is_char n) (filled h n)) (step_digit h base n b)) out
-          → ((t ≡ true) × ((is_char n ≡ true) × Rest l (filled h n) bytes out)) ⊎ along (λ t. Rest l t bytes) (step_digit h base n b) out
-      cut true r = inl (refl, guarded (λ t. Rest l t bytes) out w.Plain (is_char n) (filled h n) r)
+      cut : (t : Bool) → along (λ t. Rest l t bytes) (cond t (guard w.Plain (is_char n) (after_reference h n)) (step_digit h base n b)) out
+          → ((t ≡ true) × ((is_char n ≡ true) × Rest l (after_reference h n) bytes out)) ⊎ along (λ t. Rest l t bytes) (step_digit h base n b) out
+      cut true r = inl (refl, guarded (λ t. Rest l t bytes) out w.Plain (is_char n) (after_reference h n) r)
       cut false r = inr r
 
-      split : along (λ t. Rest l t bytes) (step_number h base n b) out → ((eqb b 59 ≡ true) × ((is_char n ≡ true) × Rest l (filled h n) bytes out)) ⊎ along (λ t. Rest l t bytes) (step_digit h base n b) out
+      split : along (λ t. Rest l t bytes) (step_reference_digits h base n b) out → ((eqb b 59 ≡ true) × ((is_char n ≡ true) × Rest l (after_reference h n) bytes out)) ⊎ along (λ t. Rest l t bytes) (step_digit h base n b) out
       split r = cut (eqb b 59) r
 
   first_digit : (h : Hole) (base : Base) (b : ℕ) (bytes : List ℕ) (out : List Event) → along (λ t. Rest l t bytes) (step_digit h base 0 b) out → RestHole l h (38 ∷ 35 ∷ (g.base_mark base ++ b ∷ bytes)) out
@@ -545,19 +545,19 @@ module _ (l : Limits) where
       let d = digit_back h base 0 b bytes out r in
       (numbered base b d.1.0, d.1.1, ((d.0, d.1.2), d.1.3), ap (λ y. 38 ∷ 35 ∷ (g.base_mark base ++ b ∷ y)) d.1.4, d.1.5)
 
-  sound_hashed : (h : Hole) (b : ℕ) (bytes : List ℕ) (out : List Event) → along (λ t. Rest l t bytes) (step_hashed h b) out → RestHole l h (38 ∷ 35 ∷ b ∷ bytes) out
-  sound_hashed h b bytes out r =
-      elim (choice (λ t. Rest l t bytes) out (eqb b 120) (m.hexed h) _ r) [
+  sound_numeric_reference : (h : Hole) (b : ℕ) (bytes : List ℕ) (out : List Event) → along (λ t. Rest l t bytes) (step_numeric_reference h b) out → RestHole l h (38 ∷ 35 ∷ b ∷ bytes) out
+  sound_numeric_reference h b bytes out r =
+      elim (choice (λ t. Rest l t bytes) out (eqb b 120) (m.hexadecimal_reference h) _ r) [
         | inl d ↦ subst (λ y. RestHole l h (38 ∷ 35 ∷ y ∷ bytes) out) (sym (eqb-true b 120 d.0)) d.1
         | inr s ↦ first_digit h ten b bytes out s
       ]
 
   -- the declaration, from the back
-  standalone_back : (bytes : List ℕ) (out : List Event) → Declared l bytes out → WithStandalone l bytes out
+  standalone_back : (bytes : List ℕ) (out : List Event) → BeforeDeclarationEnd l bytes out → WithStandalone l bytes out
   standalone_back bytes out h = (None, bytes, tt, refl, h)
 
   -- a part whose white space is open at its front
-  setting_back : (part : Part) (b : ℕ) (bytes : List ℕ) (out : List Event) → class b ≡ Blank → Next l part bytes out → (s : Setting) × (k : List ℕ) × IsSetting part s × (b ∷ bytes ≡ print_setting part s k) × Told l part k out
+  setting_back : (part : Part) (b : ℕ) (bytes : List ℕ) (out : List Event) → class b ≡ Blank → Next l part bytes out → (s : Setting) × (k : List ℕ) × IsSetting part s × (b ∷ bytes ≡ print_setting part s k) × AfterSetting l part k out
   setting_back part b bytes out e (sp, k1, g1, e1, (k2, e2, (left, k3, g3, e3, (right, q, k4, g4, e4, (v, k5, g5, e5, r))))) = (
     record { first = b; before = sp; left = left; right = right; quote = q; value = v },
     k5,
@@ -566,49 +566,49 @@ module _ (l : Limits) where
     r,
   )
 
-  maybe_standalone : (b : ℕ) (bytes : List ℕ) (out : List Event) → class b ≡ Blank → Next l standalone bytes out ⊎ Declared l bytes out → WithStandalone l (b ∷ bytes) out
+  maybe_standalone : (b : ℕ) (bytes : List ℕ) (out : List Event) → class b ≡ Blank → Next l standalone bytes out ⊎ BeforeDeclarationEnd l bytes out → WithStandalone l (b ∷ bytes) out
   maybe_standalone b bytes out e (inl h) = let d = setting_back standalone b bytes out e h in (Some d.0, d.1, d.2, d.3, d.4)
   maybe_standalone b bytes out e (inr (gap, k, sp, f, r)) = standalone_back (b ∷ bytes) out (b ∷ gap, k, (ap blanks e, sp), ap (λ y. b ∷ y) f, r)
 
-  told_back : (part : Part) (b : ℕ) (bytes : List ℕ) (out : List Event) → class b ≡ Blank → Gap l part bytes out → Told l part (b ∷ bytes) out
-  told_back version b bytes out e (inl h) = let d = setting_back encoding b bytes out e h in (Some d.0, d.1, d.2, d.3, d.4)
-  told_back version b bytes out e (inr h) = (None, b ∷ bytes, tt, refl, maybe_standalone b bytes out e h)
-  told_back encoding b bytes out e h = maybe_standalone b bytes out e h
-  told_back standalone b bytes out e (gap, k, sp, f, r) = (b ∷ gap, k, (ap blanks e, sp), ap (λ y. b ∷ y) f, r)
+  after_setting_back : (part : Part) (b : ℕ) (bytes : List ℕ) (out : List Event) → class b ≡ Blank → BetweenSettings l part bytes out → AfterSetting l part (b ∷ bytes) out
+  after_setting_back version b bytes out e (inl h) = let d = setting_back encoding b bytes out e h in (Some d.0, d.1, d.2, d.3, d.4)
+  after_setting_back version b bytes out e (inr h) = (None, b ∷ bytes, tt, refl, maybe_standalone b bytes out e h)
+  after_setting_back encoding b bytes out e h = maybe_standalone b bytes out e h
+  after_setting_back standalone b bytes out e (gap, k, sp, f, r) = (b ∷ gap, k, (ap blanks e, sp), ap (λ y. b ∷ y) f, r)
 
-  declared_back : (bytes : List ℕ) (out : List Event) → Rest l m.declared bytes out → Declared l (63 ∷ bytes) out
-  declared_back bytes out (k, e, r) = ([], k, tt, ap (λ y. 63 ∷ y) e, r)
+  declaration_end_back : (bytes : List ℕ) (out : List Event) → Rest l m.declaration_end bytes out → BeforeDeclarationEnd l (63 ∷ bytes) out
+  declaration_end_back bytes out (k, e, r) = ([], k, tt, ap (λ y. 63 ∷ y) e, r)
 
-  ask_told : (part : Part) (bytes : List ℕ) (out : List Event) → Declared l bytes out → Told l part bytes out
-  ask_told version bytes out h = (None, bytes, tt, refl, standalone_back bytes out h)
-  ask_told encoding bytes out h = standalone_back bytes out h
-  ask_told standalone bytes out h = h
+  ask_after_setting : (part : Part) (bytes : List ℕ) (out : List Event) → BeforeDeclarationEnd l bytes out → AfterSetting l part bytes out
+  ask_after_setting version bytes out h = (None, bytes, tt, refl, standalone_back bytes out h)
+  ask_after_setting encoding bytes out h = standalone_back bytes out h
+  ask_after_setting standalone bytes out h = h
 
-  ask_gap : (part : Part) (bytes : List ℕ) (out : List Event) → Declared l bytes out → Gap l part bytes out
-  ask_gap version bytes out h = inr (inr h)
-  ask_gap encoding bytes out h = inr h
-  ask_gap standalone bytes out h = h
+  ask_between_settings : (part : Part) (bytes : List ℕ) (out : List Event) → BeforeDeclarationEnd l bytes out → BetweenSettings l part bytes out
+  ask_between_settings version bytes out h = inr (inr h)
+  ask_between_settings encoding bytes out h = inr h
+  ask_between_settings standalone bytes out h = h
 
-  sound_told : (part : Part) (k : Class) (b : ℕ) → class b ≡ k → (bytes : List ℕ) (out : List Event) → along (λ t. Rest l t bytes) (step_told part k) out → Told l part (b ∷ bytes) out
-  sound_told part Blank b e bytes out h = told_back part b bytes out e h
-  sound_told part Question b e bytes out h = subst (λ y. Told l part (y ∷ bytes) out) (sym (question_is b e)) (ask_told part (63 ∷ bytes) out (declared_back bytes out h))
-  sound_told part k b e bytes out h = absurd h
+  sound_after_setting : (part : Part) (k : Class) (b : ℕ) → class b ≡ k → (bytes : List ℕ) (out : List Event) → along (λ t. Rest l t bytes) (step_after_setting part k) out → AfterSetting l part (b ∷ bytes) out
+  sound_after_setting part Blank b e bytes out h = after_setting_back part b bytes out e h
+  sound_after_setting part Question b e bytes out h = subst (λ y. AfterSetting l part (y ∷ bytes) out) (sym (question_is b e)) (ask_after_setting part (63 ∷ bytes) out (declaration_end_back bytes out h))
+  sound_after_setting part k b e bytes out h = absurd h
 
   next_space : (part : Part) (b : ℕ) (bytes : List ℕ) (out : List Event) → class b ≡ Blank → Next l part bytes out → Next l part (b ∷ bytes) out
   next_space part b bytes out e (sp, k, good, f, r) = (b ∷ sp, k, (ap blanks e, good), ap (λ y. b ∷ y) f, r)
 
-  declared_space : (b : ℕ) (bytes : List ℕ) (out : List Event) → class b ≡ Blank → Declared l bytes out → Declared l (b ∷ bytes) out
-  declared_space b bytes out e (sp, k, good, f, r) = (b ∷ sp, k, (ap blanks e, good), ap (λ y. b ∷ y) f, r)
+  declaration_space : (b : ℕ) (bytes : List ℕ) (out : List Event) → class b ≡ Blank → BeforeDeclarationEnd l bytes out → BeforeDeclarationEnd l (b ∷ bytes) out
+  declaration_space b bytes out e (sp, k, good, f, r) = (b ∷ sp, k, (ap blanks e, good), ap (λ y. b ∷ y) f, r)
 
-  gap_space : (part : Part) (b : ℕ) (bytes : List ℕ) (out : List Event) → class b ≡ Blank → Gap l part bytes out → Gap l part (b ∷ bytes) out
-  gap_space version b bytes out e (inl h) = inl (next_space encoding b bytes out e h)
-  gap_space version b bytes out e (inr (inl h)) = inr (inl (next_space standalone b bytes out e h))
-  gap_space version b bytes out e (inr (inr h)) = inr (inr (declared_space b bytes out e h))
-  gap_space encoding b bytes out e (inl h) = inl (next_space standalone b bytes out e h)
-  gap_space encoding b bytes out e (inr h) = inr (declared_space b bytes out e h)
-  gap_space standalone b bytes out e h = declared_space b bytes out e h
+  between_settings_space : (part : Part) (b : ℕ) (bytes : List ℕ) (out : List Event) → class b ≡ Blank → BetweenSettings l part bytes out → BetweenSettings l part (b ∷ bytes) out
+  between_settings_space version b bytes out e (inl h) = inl (next_space encoding b bytes out e h)
+  between_settings_space version b bytes out e (inr (inl h)) = inr (inl (next_space standalone b bytes out e h))
+  between_settings_space version b bytes out e (inr (inr h)) = inr (inr (declaration_space b bytes out e h))
+  between_settings_space encoding b bytes out e (inl h) = inl (next_space standalone b bytes out e h)
+  between_settings_space encoding b bytes out e (inr h) = inr (declaration_space b bytes out e h)
+  between_settings_space standalone b bytes out e h = declaration_space b bytes out e h
 
-  next_word : (part : Part) (c t : ℕ) (todo : List ℕ) (bytes : List ℕ) (out : List Event) → word part ≡ c ∷ t ∷ todo → Rest l (m.worded part t todo) bytes out → Next l part (c ∷ bytes) out
+  next_word : (part : Part) (c t : ℕ) (todo : List ℕ) (bytes : List ℕ) (out : List Event) → word part ≡ c ∷ t ∷ todo → Rest l (m.setting_name part t todo) bytes out → Next l part (c ∷ bytes) out
   next_word part c t todo bytes out e (k, f, r) = ([], c ∷ bytes, tt, refl, (k, ap (λ y. c ∷ y) f ∙ ap (λ y. y ++ k) (sym e), r))
 
   standalone_next : (b : ℕ) (bytes : List ℕ) (out : List Event) → along (λ t. Rest l t bytes) (exactly 115 b m.standalone_word) out → Next l standalone (b ∷ bytes) out
@@ -616,92 +616,92 @@ module _ (l : Limits) where
       let d = only (λ t. Rest l t bytes) out 115 b m.standalone_word h in
       subst (λ y. Next l standalone (y ∷ bytes) out) (sym d.0) (next_word standalone 115 116 _ bytes out refl d.1)
 
-  sound_part : (part : Part) (b : ℕ) (bytes : List ℕ) (out : List Event) → along (λ t. Rest l t bytes) (step_part part b) out → Gap l part (b ∷ bytes) out
+  sound_part : (part : Part) (b : ℕ) (bytes : List ℕ) (out : List Event) → along (λ t. Rest l t bytes) (step_part part b) out → BetweenSettings l part (b ∷ bytes) out
   sound_part version b bytes out h =
-      elim (choice (λ t. Rest l t bytes) out (eqb b 101) (m.worded encoding 110 (99 ∷ 111 ∷ 100 ∷ 105 ∷ 110 ∷ 103 ∷ [])) _ h) [
+      elim (choice (λ t. Rest l t bytes) out (eqb b 101) (m.setting_name encoding 110 (99 ∷ 111 ∷ 100 ∷ 105 ∷ 110 ∷ 103 ∷ [])) _ h) [
         | inl d ↦ inl (subst (λ y. Next l encoding (y ∷ bytes) out) (sym (eqb-true b 101 d.0)) (next_word encoding 101 110 _ bytes out refl d.1))
         | inr s ↦ inr (inl (standalone_next b bytes out s))
       ]
   sound_part encoding b bytes out h = inl (standalone_next b bytes out h)
   sound_part standalone b bytes out h = absurd h
 
-  sound_gap : (part : Part) (k : Class) (b : ℕ) → class b ≡ k → (bytes : List ℕ) (out : List Event) → along (λ t. Rest l t bytes) (step_gap part k b) out → Gap l part (b ∷ bytes) out
-  sound_gap part Blank b e bytes out h = gap_space part b bytes out e h
-  sound_gap part Question b e bytes out h = subst (λ y. Gap l part (y ∷ bytes) out) (sym (question_is b e)) (ask_gap part (63 ∷ bytes) out (declared_back bytes out h))
-  sound_gap part k b e bytes out h = sound_part part b bytes out h
+  sound_between_settings : (part : Part) (k : Class) (b : ℕ) → class b ≡ k → (bytes : List ℕ) (out : List Event) → along (λ t. Rest l t bytes) (step_between_settings part k b) out → BetweenSettings l part (b ∷ bytes) out
+  sound_between_settings part Blank b e bytes out h = between_settings_space part b bytes out e h
+  sound_between_settings part Question b e bytes out h = subst (λ y. BetweenSettings l part (y ∷ bytes) out) (sym (question_is b e)) (ask_between_settings part (63 ∷ bytes) out (declaration_end_back bytes out h))
+  sound_between_settings part k b e bytes out h = sound_part part b bytes out h
 
-  sound_untold : (k : Class) (b : ℕ) → class b ≡ k → (bytes : List ℕ) (out : List Event) → along (λ t. Rest l t bytes) (step_untold k b) out → Next l version (b ∷ bytes) out
-  sound_untold Blank b e bytes out h = next_space version b bytes out e h
-  sound_untold k b e bytes out h =
-      let d = only (λ t. Rest l t bytes) out 118 b (m.worded version 101 (114 ∷ 115 ∷ 105 ∷ 111 ∷ 110 ∷ [])) h in
+  sound_before_version : (k : Class) (b : ℕ) → class b ≡ k → (bytes : List ℕ) (out : List Event) → along (λ t. Rest l t bytes) (step_before_version k b) out → Next l version (b ∷ bytes) out
+  sound_before_version Blank b e bytes out h = next_space version b bytes out e h
+  sound_before_version k b e bytes out h =
+      let d = only (λ t. Rest l t bytes) out 118 b (m.setting_name version 101 (114 ∷ 115 ∷ 105 ∷ 111 ∷ 110 ∷ [])) h in
       subst (λ y. Next l version (y ∷ bytes) out) (sym d.0) (next_word version 118 101 _ bytes out refl d.1)
 
-  sound_worded : (part : Part) (t : ℕ) (todo : List ℕ) (b : ℕ) (bytes : List ℕ) (out : List Event) → along (λ t. Rest l t bytes) (step_worded part t todo b) out → Worded l part (t ∷ todo) (b ∷ bytes) out
-  sound_worded part t [] b bytes out h = let d = only (λ t. Rest l t bytes) out t b (m.equal part) h in (bytes, ap (λ y. y ∷ bytes) d.0, d.1)
-  sound_worded part t (u ∷ todo) b bytes out h =
-      let d = only (λ t. Rest l t bytes) out t b (m.worded part u todo) h in
+  sound_setting_name : (part : Part) (t : ℕ) (todo : List ℕ) (b : ℕ) (bytes : List ℕ) (out : List Event) → along (λ t. Rest l t bytes) (step_setting_name part t todo b) out → InSettingName l part (t ∷ todo) (b ∷ bytes) out
+  sound_setting_name part t [] b bytes out h = let d = only (λ t. Rest l t bytes) out t b (m.after_setting_name part) h in (bytes, ap (λ y. y ∷ bytes) d.0, d.1)
+  sound_setting_name part t (u ∷ todo) b bytes out h =
+      let d = only (λ t. Rest l t bytes) out t b (m.setting_name part u todo) h in
       (d.1.0, ap (λ y. b ∷ y) d.1.1 ∙ ap (λ y. y ∷ u ∷ (todo ++ d.1.0)) d.0, d.1.2)
 
-  sound_equal : (part : Part) (k : Class) (b : ℕ) → class b ≡ k → (bytes : List ℕ) (out : List Event) → along (λ t. Rest l t bytes) (step_equal part k) out → Equalled l part (b ∷ bytes) out
-  sound_equal part Blank b e bytes out (sp, k, good, f, r) = (b ∷ sp, k, (ap blanks e, good), ap (λ y. b ∷ y) f, r)
-  sound_equal part Equal b e bytes out h = ([], bytes, tt, ap (λ y. y ∷ bytes) (equal_is b e), h)
-  sound_equal part k b e bytes out h = absurd h
+  sound_after_setting_name : (part : Part) (k : Class) (b : ℕ) → class b ≡ k → (bytes : List ℕ) (out : List Event) → along (λ t. Rest l t bytes) (step_after_setting_name part k) out → AfterSettingName l part (b ∷ bytes) out
+  sound_after_setting_name part Blank b e bytes out (sp, k, good, f, r) = (b ∷ sp, k, (ap blanks e, good), ap (λ y. b ∷ y) f, r)
+  sound_after_setting_name part Equal b e bytes out h = ([], bytes, tt, ap (λ y. y ∷ bytes) (equal_is b e), h)
+  sound_after_setting_name part k b e bytes out h = absurd h
 
-  opened_said : (part : Part) (q : Quote) (bytes : List ℕ) (out : List Event) → Rest l (open_said part q) bytes out → Said l part q bytes out
-  opened_said version q bytes out h = h
-  opened_said encoding q bytes out h = h
-  opened_said standalone q bytes out h = h
+  setting_value_start_back : (part : Part) (q : Quote) (bytes : List ℕ) (out : List Event) → Rest l (setting_value_start part q) bytes out → AtSettingValue l part q bytes out
+  setting_value_start_back version q bytes out h = h
+  setting_value_start_back encoding q bytes out h = h
+  setting_value_start_back standalone q bytes out h = h
 
-  sound_quoted : (part : Part) (k : Class) (b : ℕ) → class b ≡ k → (bytes : List ℕ) (out : List Event) → along (λ t. Rest l t bytes) (step_quoted part k) out → Quoted l part (b ∷ bytes) out
-  sound_quoted part Blank b e bytes out (right, q, k, good, f, r) = (b ∷ right, q, k, (ap blanks e, good), ap (λ y. b ∷ y) f, r)
-  sound_quoted part DoubleQuote b e bytes out h = ([], with_double, bytes, tt, ap (λ y. y ∷ bytes) (double_is b e), opened_said part with_double bytes out h)
-  sound_quoted part SingleQuote b e bytes out h = ([], with_single, bytes, tt, ap (λ y. y ∷ bytes) (single_is b e), opened_said part with_single bytes out h)
-  sound_quoted part k b e bytes out h = absurd h
+  sound_before_setting_value : (part : Part) (k : Class) (b : ℕ) → class b ≡ k → (bytes : List ℕ) (out : List Event) → along (λ t. Rest l t bytes) (step_before_setting_value part k) out → BeforeSettingValue l part (b ∷ bytes) out
+  sound_before_setting_value part Blank b e bytes out (right, q, k, good, f, r) = (b ∷ right, q, k, (ap blanks e, good), ap (λ y. b ∷ y) f, r)
+  sound_before_setting_value part DoubleQuote b e bytes out h = ([], with_double, bytes, tt, ap (λ y. y ∷ bytes) (double_is b e), setting_value_start_back part with_double bytes out h)
+  sound_before_setting_value part SingleQuote b e bytes out h = ([], with_single, bytes, tt, ap (λ y. y ∷ bytes) (single_is b e), setting_value_start_back part with_single bytes out h)
+  sound_before_setting_value part k b e bytes out h = absurd h
 
-  answer_said : (q : Quote) (b : ℕ) (todo : List ℕ) (bytes : List ℕ) (out : List Event) → IsSaid standalone (b ∷ map (folded standalone) todo) → Saying l standalone q todo bytes out → Said l standalone q (b ∷ bytes) out
-  answer_said q b todo bytes out y (v, k, e, f, r) = (b ∷ v, k, subst (IsSaid standalone) (ap (λ z. b ∷ z) (sym e)) y, ap (λ z. b ∷ z) f, r)
+  standalone_value_back : (q : Quote) (b : ℕ) (todo : List ℕ) (bytes : List ℕ) (out : List Event) → IsSettingValue standalone (b ∷ map (fold_for standalone) todo) → InSettingValue l standalone q todo bytes out → AtSettingValue l standalone q (b ∷ bytes) out
+  standalone_value_back q b todo bytes out y (v, k, e, f, r) = (b ∷ v, k, subst (IsSettingValue standalone) (ap (λ z. b ∷ z) (sym e)) y, ap (λ z. b ∷ z) f, r)
 
-  sound_answer : (q : Quote) (b : ℕ) (bytes : List ℕ) (out : List Event) → along (λ t. Rest l t bytes) (step_answer q b) out → Said l standalone q (b ∷ bytes) out
-  sound_answer q b bytes out h =
-      elim (choice (λ t. Rest l t bytes) out (eqb b 121) (m.said standalone q 101 (115 ∷ [])) _ h) [
-        | inl d ↦ answer_said q b (101 ∷ 115 ∷ []) bytes out (inl (ap (λ z. z ∷ 101 ∷ 115 ∷ []) (eqb-true b 121 d.0))) d.1
-        | inr s ↦ let d = only (λ t. Rest l t bytes) out 110 b (m.said standalone q 111 []) s in
-            answer_said q b (111 ∷ []) bytes out (inr (ap (λ z. z ∷ 111 ∷ []) d.0)) d.1
+  sound_standalone_value : (q : Quote) (b : ℕ) (bytes : List ℕ) (out : List Event) → along (λ t. Rest l t bytes) (step_standalone_value q b) out → AtSettingValue l standalone q (b ∷ bytes) out
+  sound_standalone_value q b bytes out h =
+      elim (choice (λ t. Rest l t bytes) out (eqb b 121) (m.setting_value standalone q 101 (115 ∷ [])) _ h) [
+        | inl d ↦ standalone_value_back q b (101 ∷ 115 ∷ []) bytes out (inl (ap (λ z. z ∷ 101 ∷ 115 ∷ []) (eqb-true b 121 d.0))) d.1
+        | inr s ↦ let d = only (λ t. Rest l t bytes) out 110 b (m.setting_value standalone q 111 []) s in
+            standalone_value_back q b (111 ∷ []) bytes out (inr (ap (λ z. z ∷ 111 ∷ []) d.0)) d.1
       ]
 
-  saying_more : (part : Part) (q : Quote) (t : ℕ) (todo : List ℕ) (b : ℕ) (bytes : List ℕ) (out : List Event) → folded part b ≡ folded part t → Saying l part q todo bytes out → Saying l part q (t ∷ todo) (b ∷ bytes) out
-  saying_more part q t todo b bytes out e (v, k, f, d, r) = (b ∷ v, k, ap (λ z. z ∷ map (folded part) v) e ∙ ap (λ z. folded part t ∷ z) f, ap (λ z. b ∷ z) d, r)
+  setting_value_more : (part : Part) (q : Quote) (t : ℕ) (todo : List ℕ) (b : ℕ) (bytes : List ℕ) (out : List Event) → fold_for part b ≡ fold_for part t → InSettingValue l part q todo bytes out → InSettingValue l part q (t ∷ todo) (b ∷ bytes) out
+  setting_value_more part q t todo b bytes out e (v, k, f, d, r) = (b ∷ v, k, ap (λ z. z ∷ map (fold_for part) v) e ∙ ap (λ z. fold_for part t ∷ z) f, ap (λ z. b ∷ z) d, r)
 
-  sound_said : (part : Part) (q : Quote) (t : ℕ) (todo : List ℕ) (b : ℕ) (bytes : List ℕ) (out : List Event) → along (λ t. Rest l t bytes) (step_said part q t todo b) out → Saying l part q (t ∷ todo) (b ∷ bytes) out
-  sound_said part q t [] b bytes out h =
-      let d = only (λ t. Rest l t bytes) out (folded part t) (folded part b) (m.said_all part q) h in saying_more part q t [] b bytes out d.0 d.1
-  sound_said part q t (u ∷ todo) b bytes out h =
-      let d = only (λ t. Rest l t bytes) out (folded part t) (folded part b) (m.said part q u todo) h in saying_more part q t (u ∷ todo) b bytes out d.0 d.1
+  sound_setting_value : (part : Part) (q : Quote) (t : ℕ) (todo : List ℕ) (b : ℕ) (bytes : List ℕ) (out : List Event) → along (λ t. Rest l t bytes) (step_setting_value part q t todo b) out → InSettingValue l part q (t ∷ todo) (b ∷ bytes) out
+  sound_setting_value part q t [] b bytes out h =
+      let d = only (λ t. Rest l t bytes) out (fold_for part t) (fold_for part b) (m.setting_value_end part q) h in setting_value_more part q t [] b bytes out d.0 d.1
+  sound_setting_value part q t (u ∷ todo) b bytes out h =
+      let d = only (λ t. Rest l t bytes) out (fold_for part t) (fold_for part b) (m.setting_value part q u todo) h in setting_value_more part q t (u ∷ todo) b bytes out d.0 d.1
 
-  sound_said_all : (part : Part) (q : Quote) (b : ℕ) (bytes : List ℕ) (out : List Event) → along (λ t. Rest l t bytes) (exactly (quote_char q) b (m.told part)) out → Saying l part q [] (b ∷ bytes) out
-  sound_said_all part q b bytes out h =
-      let d = only (λ t. Rest l t bytes) out (quote_char q) b (m.told part) h in ([], bytes, refl, ap (λ z. z ∷ bytes) d.0, d.1)
+  sound_setting_value_end : (part : Part) (q : Quote) (b : ℕ) (bytes : List ℕ) (out : List Event) → along (λ t. Rest l t bytes) (exactly (quote_char q) b (m.after_setting part)) out → InSettingValue l part q [] (b ∷ bytes) out
+  sound_setting_value_end part q b bytes out h =
+      let d = only (λ t. Rest l t bytes) out (quote_char q) b (m.after_setting part) h in ([], bytes, refl, ap (λ z. z ∷ bytes) d.0, d.1)
 
-  sound_declared : (k : Class) (b : ℕ) → class b ≡ k → (bytes : List ℕ) (out : List Event) → along (λ t. Rest l t bytes) (step_greater k (go (m.at before))) out → Rest l m.declared (b ∷ bytes) out
-  sound_declared Greater b e bytes out h = (bytes, ap (λ y. y ∷ bytes) (greater_is b e), h)
-  sound_declared k b e bytes out h = absurd h
+  sound_declaration_end : (k : Class) (b : ℕ) → class b ≡ k → (bytes : List ℕ) (out : List Event) → along (λ t. Rest l t bytes) (step_greater k (go (m.content before))) out → Rest l m.declaration_end (b ∷ bytes) out
+  sound_declaration_end Greater b e bytes out h = (bytes, ap (λ y. y ∷ bytes) (greater_is b e), h)
+  sound_declaration_end k b e bytes out h = absurd h
 
   -- where a document begins
-  sound_fresh : (y : Why) (k : Class) (b : ℕ) → class b ≡ k → (bytes : List ℕ) (out : List Event) → along (λ t. Rest l t bytes) (step_fresh y k) out → Unmarked l (b ∷ bytes) out
-  sound_fresh y Less b e bytes out h = subst (λ x. Unmarked l (x ∷ bytes) out) (sym (less_is b e)) h
-  sound_fresh y Blank b e bytes out h = inl (blank_back b bytes out (ap blanks e) h)
-  sound_fresh y k b e bytes out h = absurd h
+  sound_after_mark : (y : Why) (k : Class) (b : ℕ) → class b ≡ k → (bytes : List ℕ) (out : List Event) → along (λ t. Rest l t bytes) (step_after_byte_order_mark y k) out → Unmarked l (b ∷ bytes) out
+  sound_after_mark y Less b e bytes out h = subst (λ x. Unmarked l (x ∷ bytes) out) (sym (less_is b e)) h
+  sound_after_mark y Blank b e bytes out h = inl (blank_back b bytes out (ap blanks e) h)
+  sound_after_mark y k b e bytes out h = absurd h
 
   sound_start : (b : ℕ) (bytes : List ℕ) (out : List Event) → along (λ t. Rest l t bytes) (step_start (class b) b) out → Document l (b ∷ bytes) out
   sound_start b bytes out h =
-      elim (choice (λ t. Rest l t bytes) out (eqb b 65279) m.fresh _ h) [
+      elim (choice (λ t. Rest l t bytes) out (eqb b 65279) m.after_byte_order_mark _ h) [
         | inl d ↦ inr (bytes, ap (λ y. y ∷ bytes) (eqb-true b 65279 d.0), d.1)
-        | inr s ↦ inl (sound_fresh (m.partly 65279 b) (class b) b refl bytes out s)
+        | inr s ↦ inl (sound_after_mark (m.partly 65279 b) (class b) b refl bytes out s)
       ]
 
-  sound_fresh_opened : (k : Class) (b : ℕ) → class b ≡ k → (bytes : List ℕ) (out : List Event) → along (λ t. Rest l t bytes) (step_fresh_opened l k b) out → Unmarked l (60 ∷ b ∷ bytes) out
-  sound_fresh_opened Question b e bytes out h = subst (λ x. Unmarked l (60 ∷ x ∷ bytes) out) (sym (question_is b e)) h
-  sound_fresh_opened k b e bytes out h = inl (sound_opened before _ b e bytes out h)
+  sound_document_tag_open : (k : Class) (b : ℕ) → class b ≡ k → (bytes : List ℕ) (out : List Event) → along (λ t. Rest l t bytes) (step_document_tag_open l k b) out → Unmarked l (60 ∷ b ∷ bytes) out
+  sound_document_tag_open Question b e bytes out h = subst (λ x. Unmarked l (60 ∷ x ∷ bytes) out) (sym (question_is b e)) h
+  sound_document_tag_open k b e bytes out h = inl (sound_tag_open before _ b e bytes out h)
 
   xml_back : (b : ℕ) (rest : List ℕ) (c : ℕ) (k : List ℕ) (out : List Event) → b ∷ rest ≡ 120 ∷ 109 ∷ 108 ∷ [] → class c ≡ Blank → Next l version k out → Unmarked l (60 ∷ 63 ∷ b ∷ (rest ++ c ∷ k)) out
   xml_back b rest c k out e bl h =
@@ -717,79 +717,79 @@ module _ (l : Limits) where
         u.4,
       )
 
-  sound_fresh_asked : (k : Class) (b : ℕ) → class b ≡ k → (bytes : List ℕ) (out : List Event) → along (λ t. Rest l t bytes) (step_fresh_asked k b) out → Unmarked l (60 ∷ 63 ∷ b ∷ bytes) out
-  sound_fresh_asked Letter b e bytes out (inl h) = inl (asked_back before b e bytes out h)
-  sound_fresh_asked Letter b e bytes out (inr (rest, c, k, y, f, bl, h)) = subst (λ x. Unmarked l (60 ∷ 63 ∷ b ∷ x) out) (sym f) (xml_back b rest c k out y bl h)
-  sound_fresh_asked k b e bytes out h = absurd h
+  sound_document_instruction : (k : Class) (b : ℕ) → class b ≡ k → (bytes : List ℕ) (out : List Event) → along (λ t. Rest l t bytes) (step_document_processing_instruction k b) out → Unmarked l (60 ∷ 63 ∷ b ∷ bytes) out
+  sound_document_instruction Letter b e bytes out (inl h) = inl (processing_instruction_back before b e bytes out h)
+  sound_document_instruction Letter b e bytes out (inr (rest, c, k, y, f, bl, h)) = subst (λ x. Unmarked l (60 ∷ 63 ∷ b ∷ x) out) (sym f) (xml_back b rest c k out y bl h)
+  sound_document_instruction k b e bytes out h = absurd h
 
-  fresh_more : (n : List ℕ) (b : ℕ) (bytes : List ℕ) (out : List Event) → names (class b) ≡ true → Rest l (m.fresh_target (n ++ b ∷ [])) bytes out → Rest l (m.fresh_target n) (b ∷ bytes) out
-  fresh_more n b bytes out t (inl h) = inl (target_more before n b bytes out t h)
-  fresh_more n b bytes out t (inr (rest, c, k, y, f, bl, h)) = inr (b ∷ rest, c, k, sym (append_assoc n (b ∷ []) rest) ∙ y, ap (λ x. b ∷ x) f, bl, h)
+  document_target_more : (n : List ℕ) (b : ℕ) (bytes : List ℕ) (out : List Event) → names (class b) ≡ true → Rest l (m.document_instruction_target (n ++ b ∷ [])) bytes out → Rest l (m.document_instruction_target n) (b ∷ bytes) out
+  document_target_more n b bytes out t (inl h) = inl (target_more before n b bytes out t h)
+  document_target_more n b bytes out t (inr (rest, c, k, y, f, bl, h)) = inr (b ∷ rest, c, k, sym (append_assoc n (b ∷ []) rest) ∙ y, ap (λ x. b ∷ x) f, bl, h)
 
   xml_is : (n : List ℕ) → is_small_xml n ≡ true → n ≡ 120 ∷ 109 ∷ 108 ∷ []
   xml_is n h = (bytes_eq-Decides n (120 ∷ 109 ∷ 108 ∷ [])).0 h
 
-  sound_fresh_target : (n : List ℕ) (k : Class) (b : ℕ) → class b ≡ k → (bytes : List ℕ) (out : List Event) → along (λ t. Rest l t bytes) (step_fresh_target n k b) out → Rest l (m.fresh_target n) (b ∷ bytes) out
-  sound_fresh_target n Letter b e bytes out h = fresh_more n b bytes out (ap names e) h
-  sound_fresh_target n Digit b e bytes out h = fresh_more n b bytes out (ap names e) h
-  sound_fresh_target n Dash b e bytes out h = fresh_more n b bytes out (ap names e) h
-  sound_fresh_target n Blank b e bytes out h =
-      elim (choice (λ t. Rest l t bytes) out (is_small_xml n) m.untold _ h) [
+  sound_document_target : (n : List ℕ) (k : Class) (b : ℕ) → class b ≡ k → (bytes : List ℕ) (out : List Event) → along (λ t. Rest l t bytes) (step_document_instruction_target n k b) out → Rest l (m.document_instruction_target n) (b ∷ bytes) out
+  sound_document_target n Letter b e bytes out h = document_target_more n b bytes out (ap names e) h
+  sound_document_target n Digit b e bytes out h = document_target_more n b bytes out (ap names e) h
+  sound_document_target n Dash b e bytes out h = document_target_more n b bytes out (ap names e) h
+  sound_document_target n Blank b e bytes out h =
+      elim (choice (λ t. Rest l t bytes) out (is_small_xml n) m.before_version _ h) [
         | inl d ↦ inr ([], b, bytes, append-nil n ∙ xml_is n d.0, refl, e, d.1)
         | inr s ↦ inl (target_space before n b e bytes out s)
       ]
-  sound_fresh_target n Question b e bytes out h = inl (target_ask before n b e bytes out h)
-  sound_fresh_target n k b e bytes out h = absurd h
+  sound_document_target n Question b e bytes out h = inl (target_ask before n b e bytes out h)
+  sound_document_target n k b e bytes out h = absurd h
 
   -- a step back, in each state
   sound_step : (s : State) (k : Class) (b : ℕ) → class b ≡ k → (bytes : List ℕ) (out : List Event) → along (λ t. Rest l t bytes) (step l s k b) out → Rest l s (b ∷ bytes) out
   sound_step m.start k b e bytes out h = sound_start b bytes out (subst (λ c. along (λ t. Rest l t bytes) (step_start c b) out) (sym e) h)
-  sound_step m.fresh k b e bytes out h = sound_fresh w.Plain k b e bytes out h
-  sound_step m.fresh_opened k b e bytes out h = sound_fresh_opened k b e bytes out h
-  sound_step m.fresh_asked k b e bytes out h = sound_fresh_asked k b e bytes out h
-  sound_step (m.fresh_target n) k b e bytes out h = sound_fresh_target n k b e bytes out h
-  sound_step m.untold k b e bytes out h = sound_untold k b e bytes out h
-  sound_step (m.told part) k b e bytes out h = sound_told part k b e bytes out h
-  sound_step (m.gap part) k b e bytes out h = sound_gap part k b e bytes out h
-  sound_step (m.worded part t todo) k b e bytes out h = sound_worded part t todo b bytes out h
-  sound_step (m.equal part) k b e bytes out h = sound_equal part k b e bytes out h
-  sound_step (m.quoted part) k b e bytes out h = sound_quoted part k b e bytes out h
-  sound_step (m.answer q) k b e bytes out h = sound_answer q b bytes out h
-  sound_step (m.said part q t todo) k b e bytes out h = sound_said part q t todo b bytes out h
-  sound_step (m.said_all part q) k b e bytes out h = sound_said_all part q b bytes out h
-  sound_step m.declared k b e bytes out h = sound_declared k b e bytes out h
-  sound_step (m.asked p) k b e bytes out h = sound_asked p k b e bytes out h
-  sound_step (m.target p n) k b e bytes out h = sound_target p n k b e bytes out h
-  sound_step (m.target_end p) k b e bytes out h = sound_target_end p k b e bytes out h
-  sound_step (m.instruction p) k b e bytes out h = sound_instruction p k b e bytes out h
+  sound_step m.after_byte_order_mark k b e bytes out h = sound_after_mark w.Plain k b e bytes out h
+  sound_step m.document_tag_open k b e bytes out h = sound_document_tag_open k b e bytes out h
+  sound_step m.document_processing_instruction k b e bytes out h = sound_document_instruction k b e bytes out h
+  sound_step (m.document_instruction_target n) k b e bytes out h = sound_document_target n k b e bytes out h
+  sound_step m.before_version k b e bytes out h = sound_before_version k b e bytes out h
+  sound_step (m.after_setting part) k b e bytes out h = sound_after_setting part k b e bytes out h
+  sound_step (m.between_settings part) k b e bytes out h = sound_between_settings part k b e bytes out h
+  sound_step (m.setting_name part t todo) k b e bytes out h = sound_setting_name part t todo b bytes out h
+  sound_step (m.after_setting_name part) k b e bytes out h = sound_after_setting_name part k b e bytes out h
+  sound_step (m.before_setting_value part) k b e bytes out h = sound_before_setting_value part k b e bytes out h
+  sound_step (m.standalone_value q) k b e bytes out h = sound_standalone_value q b bytes out h
+  sound_step (m.setting_value part q t todo) k b e bytes out h = sound_setting_value part q t todo b bytes out h
+  sound_step (m.setting_value_end part q) k b e bytes out h = sound_setting_value_end part q b bytes out h
+  sound_step m.declaration_end k b e bytes out h = sound_declaration_end k b e bytes out h
+  sound_step (m.processing_instruction p) k b e bytes out h = sound_processing_instruction p k b e bytes out h
+  sound_step (m.instruction_target p n) k b e bytes out h = sound_instruction_target p n k b e bytes out h
+  sound_step (m.instruction_target_end p) k b e bytes out h = sound_instruction_target_end p k b e bytes out h
+  sound_step (m.instruction_text p) k b e bytes out h = sound_instruction_text p k b e bytes out h
   sound_step (m.instruction_end p) k b e bytes out h = sound_instruction_end p k b e bytes out h
-  sound_step (m.bracketed n ns t todo) k b e bytes out h = sound_bracketed n ns t todo b bytes out h
-  sound_step (m.section n ns) k b e bytes out h = sound_section n ns k b e bytes out h
-  sound_step (m.section_one n ns) k b e bytes out h = sound_section_one n ns k b e bytes out h
-  sound_step (m.section_two n ns) k b e bytes out h = sound_section_two n ns k b e bytes out h
-  sound_step (m.hashed h) k b e bytes out r = sound_hashed h b bytes out r
-  sound_step (m.hexed h) k b e bytes out r = first_digit h sixteen b bytes out r
-  sound_step (m.number h base n) k b e bytes out r = sound_number h base n b bytes out r
-  sound_step (m.at p) k b e bytes out h = sound_at p k b e bytes out h
-  sound_step (m.opened p) k b e bytes out h = sound_opened p k b e bytes out h
-  sound_step (m.banged p) k b e bytes out h = sound_banged p k b e bytes out h
-  sound_step (m.dashed p) k b e bytes out h = sound_dashed p k b e bytes out h
+  sound_step (m.cdata_start n ns t todo) k b e bytes out h = sound_cdata_start n ns t todo b bytes out h
+  sound_step (m.cdata_section n ns) k b e bytes out h = sound_cdata_section n ns k b e bytes out h
+  sound_step (m.cdata_section_bracket n ns) k b e bytes out h = sound_cdata_section_bracket n ns k b e bytes out h
+  sound_step (m.cdata_section_end n ns) k b e bytes out h = sound_cdata_section_end n ns k b e bytes out h
+  sound_step (m.numeric_reference h) k b e bytes out r = sound_numeric_reference h b bytes out r
+  sound_step (m.hexadecimal_reference h) k b e bytes out r = first_digit h sixteen b bytes out r
+  sound_step (m.reference_digits h base n) k b e bytes out r = sound_reference_digits h base n b bytes out r
+  sound_step (m.content p) k b e bytes out h = sound_content p k b e bytes out h
+  sound_step (m.tag_open p) k b e bytes out h = sound_tag_open p k b e bytes out h
+  sound_step (m.markup_declaration p) k b e bytes out h = sound_markup_declaration p k b e bytes out h
+  sound_step (m.comment_start p) k b e bytes out h = sound_comment_start p k b e bytes out h
   sound_step (m.comment p) k b e bytes out h = sound_comment p k b e bytes out h
   sound_step (m.comment_dash p) k b e bytes out h = sound_comment_dash p k b e bytes out h
   sound_step (m.comment_end p) k b e bytes out h = sound_comment_end p k b e bytes out h
-  sound_step (m.naming p n) k b e bytes out h = sound_naming p n k b e bytes out h
-  sound_step (m.tagged p n xs) k b e bytes out h = sound_tagged p n xs k b e bytes out h
-  sound_step (m.attr p n xs x) k b e bytes out h = sound_attr p n xs x k b e bytes out h
-  sound_step (m.equals p n xs x) k b e bytes out h = sound_equals p n xs x k b e bytes out h
-  sound_step (m.valued p n xs x) k b e bytes out h = sound_valued p n xs x k b e bytes out h
-  sound_step (m.value p n xs x q v r) k b e bytes out h = sound_value p n xs x q v r k b e bytes out h
-  sound_step (m.closed p n xs) k b e bytes out h = tag_back p n xs k b e bytes out h
-  sound_step (m.slashed p n xs) k b e bytes out h = sound_slashed p n xs k b e bytes out h
-  sound_step (m.finishing ns todo) k b e bytes out h = sound_finishing ns todo k b e bytes out h
-  sound_step (m.finished ns) k b e bytes out h = sound_finished ns k b e bytes out h
-  sound_step (m.amped h) k b e bytes out r = sound_amped h b bytes out r
-  sound_step (m.amped_a h) k b e bytes out r = sound_amped_a h b bytes out r
-  sound_step (m.forced h code t todo) k b e bytes out r = sound_forced h code t todo b bytes out r
+  sound_step (m.tag_name p n) k b e bytes out h = sound_tag_name p n k b e bytes out h
+  sound_step (m.before_attribute_name p n xs) k b e bytes out h = sound_before_attribute_name p n xs k b e bytes out h
+  sound_step (m.attribute_name p n xs x) k b e bytes out h = sound_attribute_name p n xs x k b e bytes out h
+  sound_step (m.after_attribute_name p n xs x) k b e bytes out h = sound_after_attribute_name p n xs x k b e bytes out h
+  sound_step (m.before_attribute_value p n xs x) k b e bytes out h = sound_before_attribute_value p n xs x k b e bytes out h
+  sound_step (m.attribute_value p n xs x q v r) k b e bytes out h = sound_attribute_value p n xs x q v r k b e bytes out h
+  sound_step (m.after_attribute_value p n xs) k b e bytes out h = tag_back p n xs k b e bytes out h
+  sound_step (m.self_closing_start_tag p n xs) k b e bytes out h = sound_self_closing_start_tag p n xs k b e bytes out h
+  sound_step (m.end_tag_name ns todo) k b e bytes out h = sound_end_tag_name ns todo k b e bytes out h
+  sound_step (m.after_end_tag_name ns) k b e bytes out h = sound_after_end_tag_name ns k b e bytes out h
+  sound_step (m.reference h) k b e bytes out r = sound_reference h b bytes out r
+  sound_step (m.reference_a h) k b e bytes out r = sound_reference_a h b bytes out r
+  sound_step (m.named_reference h code t todo) k b e bytes out r = sound_named_reference h code t todo b bytes out r
 
   along-map : (P Q : State → List Event → Type 0) → ((s : State) (out : List Event) → P s out → Q s out) → (w : Step) (out : List Event) → along P w out → along Q w out
   along-map P Q f (dead y) out h = h
@@ -797,7 +797,7 @@ module _ (l : Limits) where
   along-map P Q f (emit s es) out (more, e, h) = (more, e, f s more h)
 
   final_rest : (s : State) → Final s → Rest l s [] []
-  final_rest (m.at (within [])) h = (g.done, tt, refl, refl)
+  final_rest (m.content (within [])) h = (g.done, tt, refl, refl)
   final_rest s h = absurd h
 
   pub run_sound : (bytes : List ℕ) (s : State) (out : List Event) → Run l s bytes out → Rest l s bytes out

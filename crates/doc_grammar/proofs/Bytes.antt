@@ -6,7 +6,7 @@ use Rattle.std.proofs.lemmas.Str.{encode_ascii, inside_one, length-encode, len_u
 use Rattle.std.specs.Str.{encode_utf8_all}
 use Rattle.std.specs.Char.{encode_utf8}
 use Rattle.doc_grammar.specs.Characters.{class, names, AllOf, IsName}
-use Rattle.doc_grammar.specs.Machine.{shared}
+use Rattle.doc_grammar.specs.Machine.{common_prefix_length}
 use Rattle.doc_grammar.specs.declared.characters.Class.{Class}
 
 at_middle : (u v : List ℕ) (b : ℕ) → get_or (u ++ b ∷ v) (length u) 0 ≡ b
@@ -103,12 +103,12 @@ common [] ys = []
 common (a ∷ xs) [] = []
 common (a ∷ xs) (b ∷ ys) = cond (eqb a b) (a ∷ common xs ys) []
 
-pub length-common : (xs ys : List ℕ) → length (common xs ys) ≡ shared xs ys
+pub length-common : (xs ys : List ℕ) → length (common xs ys) ≡ common_prefix_length xs ys
 length-common [] ys = refl
 length-common (a ∷ xs) [] = refl
 length-common (a ∷ xs) (b ∷ ys) = pick (eqb a b) (length-common xs ys)
   where
-    pick : (t : Bool) → length (common xs ys) ≡ shared xs ys → length (cond t (a ∷ common xs ys) []) ≡ cond t (suc (shared xs ys)) 0
+    pick : (t : Bool) → length (common xs ys) ≡ common_prefix_length xs ys → length (cond t (a ∷ common xs ys) []) ≡ cond t (suc (common_prefix_length xs ys)) 0
     pick true h = ap suc h
     pick false h = refl
 
@@ -142,7 +142,7 @@ pub record Apart (t c n : ℕ) : Type 0 where
   pub along : encode_utf8 t ≡ front ++ other
   pub parted : (z : List ℕ) → encode_utf8 t ≡ front ++ next ∷ z → ⊥
 
-pub apart : (t c : ℕ) → eqb c t ≡ false → Apart t c (shared (encode_utf8 t) (encode_utf8 c))
+pub apart : (t c : ℕ) → eqb c t ≡ false → Apart t c (common_prefix_length (encode_utf8 t) (encode_utf8 c))
 apart t c e =
     elim (parts (encode_utf8 t) (encode_utf8 c)) [
       | inl p ↦ record {

@@ -10,7 +10,7 @@ use Rattle.doc_grammar.specs.Grammar.{Limits, strict, Event, Document, Begins}
 use Rattle.doc_grammar.specs.declared.characters.Class.TheVariants.{Letter, Bad}
 use Rattle.doc_grammar.specs.declared.reasons.Why.{Why}
 use Rattle.doc_grammar.specs.declared.reasons.Why.TheVariants as w
-use Rattle.doc_grammar.specs.Machine.{Place, before, within, Hole, in_text, in_value, State, Step, dead, go, emit, along, guard, exactly, step, Run, Leads, Final, stack, may_open, why_open, filled, open_said, partly, bad, bad_opened, shared, is_small_xml, step_opened, step_fresh, step_tag, step_digit, step_part, step_number}
+use Rattle.doc_grammar.specs.Machine.{Place, before, within, Hole, in_text, in_value, State, Step, dead, go, emit, along, guard, exactly, step, Run, Leads, Final, stack, may_open, why_open, after_reference, setting_value_start, partly, bad, bad_tag_open, common_prefix_length, is_small_xml, step_tag_open, step_after_byte_order_mark, step_tag, step_digit, step_part, step_reference_digits}
 use Rattle.doc_grammar.specs.Machine as m
 use Rattle.std.proofs.lemmas.Str.{encodes-append, encode_same, encode_ascii}
 use Rattle.doc_grammar.specs.Faults.{IsDocument, BeginsOne, IsLongestOf}
@@ -72,17 +72,17 @@ guard_false : (y : Why) (t : Bool) (s : State) → t ≡ false → is_dead (guar
 guard_false y true s e = cc
 guard_false y false s e = refl
 
-name_cut : (pc : List ℕ) (o : List Event) (c : ℕ) (ns : List (List ℕ)) (t : ℕ) (todo : List ℕ) (y : Why) → eqb c t ≡ false → Leads strict m.start pc (m.finishing ns (t ∷ todo)) o → Cut pc (m.finishing ns (t ∷ todo)) c y
+name_cut : (pc : List ℕ) (o : List Event) (c : ℕ) (ns : List (List ℕ)) (t : ℕ) (todo : List ℕ) (y : Why) → eqb c t ≡ false → Leads strict m.start pc (m.end_tag_name ns (t ∷ todo)) o → Cut pc (m.end_tag_name ns (t ∷ todo)) c y
 name_cut pc o c ns t todo y e h =
     let d = apart t c e in
-    let s = m.finishing ns (t ∷ todo) in
+    let s = m.end_tag_name ns (t ∷ todo) in
     record {
       front = d.front;
       next = d.next;
       behind = d.behind;
       is = d.is;
-      begins = along_begins strict pc t d.front d.other d.along (on_step strict pc t s (m.finishing ns todo) o h (ap (λ z. guard (partly t t) z (m.finishing ns todo)) (eq-eqb t t refl)));
-      others = λ l f a v q. guard_false (partly t a) (eqb a t) (m.finishing ns todo) (differs a t d.front v d.next d.parted q);
+      begins = along_begins strict pc t d.front d.other d.along (on_step strict pc t s (m.end_tag_name ns todo) o h (ap (λ z. guard (partly t t) z (m.end_tag_name ns todo)) (eq-eqb t t refl)));
+      others = λ l f a v q. guard_false (partly t a) (eqb a t) (m.end_tag_name ns todo) (differs a t d.front v d.next d.parted q);
     }
 
 low_char : (a : ℕ) (front v : List ℕ) (b : ℕ) → a < 128 → encode_utf8 a ≡ front ++ b ∷ v → b ≡ a
@@ -96,10 +96,10 @@ low_char a (x ∷ front) v b h e = let z = encode_ascii a h in absurd (none fron
 start_dead : (l : Limits) (a : ℕ) → 128 ≤ a → eqb a 65279 ≡ false → Dead l m.start (class a) a
 start_dead l a h e = pick (eqb a 65279) e (high_class a h)
   where
-    pick : (t : Bool) → t ≡ false → (class a ≡ Letter) ⊎ (class a ≡ Bad) → is_dead (cond t (go m.fresh) (step_fresh (partly 65279 a) (class a))) ≡ true
+    pick : (t : Bool) → t ≡ false → (class a ≡ Letter) ⊎ (class a ≡ Bad) → is_dead (cond t (go m.after_byte_order_mark) (step_after_byte_order_mark (partly 65279 a) (class a))) ≡ true
     pick true f k = cc
-    pick false f (inl k) = ap (λ z. is_dead (step_fresh (partly 65279 a) z)) k
-    pick false f (inr k) = ap (λ z. is_dead (step_fresh (partly 65279 a) z)) k
+    pick false f (inl k) = ap (λ z. is_dead (step_after_byte_order_mark (partly 65279 a) z)) k
+    pick false f (inr k) = ap (λ z. is_dead (step_after_byte_order_mark (partly 65279 a) z)) k
 
 start_others : (l : Limits) (c a : ℕ) (front behind v : List ℕ) (b : ℕ) (y : Why) → encode_utf8 c ≡ front ++ b ∷ behind → encode_utf8 a ≡ front ++ b ∷ v → ((z : List ℕ) → encode_utf8 65279 ≡ front ++ b ∷ z → ⊥) → step l m.start (class c) c ≡ dead y → Dead l m.start (class a) a
 start_others l c a front behind v b y e q p f =
@@ -119,7 +119,7 @@ start_cut pc o c y e h =
       next = d.next;
       behind = d.behind;
       is = d.is;
-      begins = along_begins strict pc 65279 d.front d.other d.along (on_step strict pc 65279 m.start m.fresh o h refl);
+      begins = along_begins strict pc 65279 d.front d.other d.along (on_step strict pc 65279 m.start m.after_byte_order_mark o h refl);
       others = λ l f a v q. start_others l c a d.front d.behind v d.next y d.is q d.parted f;
     }
 

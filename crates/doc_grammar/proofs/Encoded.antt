@@ -5,7 +5,7 @@ use Rattle.std.proofs.lemmas.Str.{IsUtf8-append, IsUtf8-encode, IsUtf8-nil}
 use Rattle.std.specs.Str.{encode_utf8_all, IsUtf8}
 use Rattle.std.specs.Char.{IsScalar}
 use Rattle.doc_grammar.specs.Characters.{class, is_char, names, blanks, legal, is_text, AllOf, IsSpace, IsName}
-use Rattle.doc_grammar.specs.Grammar.{Limits, Quote, with_double, with_single, quote_char, is_valued, Part, version, encoding, standalone, word, folded, IsSaid, Setting, print_setting, IsSetting, print_maybe, IsMaybe, Declaration, print_declaration, IsDeclaration, Entity, lt, gt, amp, apos, quot, entity_text, Base, ten, sixteen, is_numeral, AllNumerals, Reference, named, numbered, base_mark, print_reference, IsReference, Piece, raw, ref, print_value, IsValue, Attr, print_attrs, IsAttrs, Tag, print_tag, IsTag, IsComment, IsFree, IsInstruction, IsTarget, Content, done, char, reference, comment, instruction, section, empty, element, print, IsContent, IsMisc, IsWhole, Event, Body, Unmarked, Document, Pair, attr_of}
+use Rattle.doc_grammar.specs.Grammar.{Limits, Quote, with_double, with_single, quote_char, is_valued, Part, version, encoding, standalone, word, fold_for, IsSettingValue, Setting, print_setting, IsSetting, print_maybe, IsMaybe, Declaration, print_declaration, IsDeclaration, Entity, lt, gt, amp, apos, quot, entity_text, Base, ten, sixteen, is_numeral, AllNumerals, Reference, named, numbered, base_mark, print_reference, IsReference, Piece, raw, ref, print_value, IsValue, Attr, print_attrs, IsAttrs, Tag, print_tag, IsTag, IsComment, IsFree, IsInstruction, IsTarget, Content, done, char, reference, comment, instruction, section, empty, element, print, IsContent, IsMisc, IsWhole, Event, Body, Unmarked, Document, Pair, attr_of}
 use Rattle.doc_grammar.specs.Faults.{IsDocument}
 use Rattle.doc_grammar.specs.declared.characters.Class.{Class}
 use Rattle.doc_grammar.specs.declared.characters.Class.TheVariants.{Bad}
@@ -153,28 +153,28 @@ word_chars version = (refl, (refl, (refl, (refl, (refl, (refl, (refl, tt)))))))
 word_chars encoding = (refl, (refl, (refl, (refl, (refl, (refl, (refl, (refl, tt))))))))
 word_chars standalone = (refl, (refl, (refl, (refl, (refl, (refl, (refl, (refl, (refl, (refl, tt))))))))))
 
-folded_char : (part : Part) (c : ℕ) → is_char (folded part c) ≡ true → folded part c < 128 → is_char c ≡ true
-folded_char version c h k = h
-folded_char encoding c h k = grind (arith, nat_tests)
-folded_char standalone c h k = h
+fold_for_char : (part : Part) (c : ℕ) → is_char (fold_for part c) ≡ true → fold_for part c < 128 → is_char c ≡ true
+fold_for_char version c h k = h
+fold_for_char encoding c h k = grind (arith, nat_tests)
+fold_for_char standalone c h k = h
 
 -- characters of ASCII
 abbrev AllSmall : List ℕ → Type 0
 AllSmall [] = Unit {0}
 AllSmall (c ∷ t) = ((is_char c ≡ true) × (c < 128)) × AllSmall t
 
-unfolded : (part : Part) (v t : List ℕ) → map (folded part) v ≡ t → AllSmall t → AllChars v
+unfolded : (part : Part) (v t : List ℕ) → map (fold_for part) v ≡ t → AllSmall t → AllChars v
 unfolded part [] t e h = tt
 unfolded part (c ∷ v) [] e h = cc
 unfolded part (c ∷ v) (d ∷ t) e h =
-    let z : d ≡ folded part c = cc in
-    (folded_char part c (subst (λ y. is_char y ≡ true) z h.0.0) (subst (λ y. y < 128) z h.0.1), unfolded part v t (cc e) h.1)
+    let z : d ≡ fold_for part c = cc in
+    (fold_for_char part c (subst (λ y. is_char y ≡ true) z h.0.0) (subst (λ y. y < 128) z h.0.1), unfolded part v t (cc e) h.1)
 
-said_chars : (part : Part) (v : List ℕ) → IsSaid part (map (folded part) v) → AllChars v
-said_chars version v h = unfolded version v _ h ((refl, omega arith), ((refl, omega arith), ((refl, omega arith), tt)))
-said_chars encoding v h = unfolded encoding v _ h ((refl, omega arith), ((refl, omega arith), ((refl, omega arith), ((refl, omega arith), ((refl, omega arith), tt)))))
-said_chars standalone v (inl h) = unfolded standalone v _ h ((refl, omega arith), ((refl, omega arith), ((refl, omega arith), tt)))
-said_chars standalone v (inr h) = unfolded standalone v _ h ((refl, omega arith), ((refl, omega arith), tt))
+setting_value_chars : (part : Part) (v : List ℕ) → IsSettingValue part (map (fold_for part) v) → AllChars v
+setting_value_chars version v h = unfolded version v _ h ((refl, omega arith), ((refl, omega arith), ((refl, omega arith), tt)))
+setting_value_chars encoding v h = unfolded encoding v _ h ((refl, omega arith), ((refl, omega arith), ((refl, omega arith), ((refl, omega arith), ((refl, omega arith), tt)))))
+setting_value_chars standalone v (inl h) = unfolded standalone v _ h ((refl, omega arith), ((refl, omega arith), ((refl, omega arith), tt)))
+setting_value_chars standalone v (inr h) = unfolded standalone v _ h ((refl, omega arith), ((refl, omega arith), tt))
 
 setting_chars : (part : Part) (s : Setting) (k : List ℕ) → IsSetting part s → AllChars k → AllChars (print_setting part s k)
 setting_chars part s k h g =
@@ -182,7 +182,7 @@ setting_chars part s k h g =
     let k2 = quote_char s.quote ∷ (s.value ++ k1) in
     let k3 = 61 ∷ (s.right ++ k2) in
     let c1 : AllChars k1 = (quote_is_char s.quote, g) in
-    let c2 : AllChars k2 = (quote_is_char s.quote, both s.value k1 (said_chars part s.value h.value) c1) in
+    let c2 : AllChars k2 = (quote_is_char s.quote, both s.value k1 (setting_value_chars part s.value h.value) c1) in
     let c3 : AllChars k3 = (refl, both s.right k2 (spaces s.right h.right) c2) in
     (class_char blanks refl s.first h.first, both s.before (word part ++ (s.left ++ k3)) (spaces s.before h.before) (both (word part) (s.left ++ k3) (word_chars part) (both s.left k3 (spaces s.left h.left) c3)))
 

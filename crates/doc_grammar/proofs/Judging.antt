@@ -14,7 +14,7 @@ use Rattle.doc_grammar.specs.declared.characters.Class.{Class}
 use Rattle.doc_grammar.specs.declared.characters.Class.TheVariants.{Equal, Blank, Letter, Bad}
 use Rattle.doc_grammar.specs.declared.reasons.Why.{Why}
 use Rattle.doc_grammar.specs.declared.reasons.Why.TheVariants as w
-use Rattle.doc_grammar.specs.Machine.{Place, before, within, Hole, in_text, in_value, State, Step, dead, go, emit, along, guard, exactly, step, Run, Leads, Final, stack, may_open, why_open, filled, open_said, partly, bad, bad_opened, shared, is_small_xml, step_opened, step_fresh, step_tag, step_digit, step_part, step_number}
+use Rattle.doc_grammar.specs.Machine.{Place, before, within, Hole, in_text, in_value, State, Step, dead, go, emit, along, guard, exactly, step, Run, Leads, Final, stack, may_open, why_open, after_reference, setting_value_start, partly, bad, bad_tag_open, common_prefix_length, is_small_xml, step_tag_open, step_after_byte_order_mark, step_tag, step_digit, step_part, step_reference_digits}
 use Rattle.doc_grammar.specs.Machine as m
 use Rattle.doc_grammar.specs.declared.reasons.Rule.{Rule}
 use Rattle.doc_grammar.specs.declared.reasons.Rule.TheVariants.{Malformed, Doctype, TooDeep, AttributeTwice}
@@ -209,7 +209,7 @@ fault_deep pc c rest s o i u h e =
     let g : encode_utf8_all pc ≡ encode_utf8_all f.0 ++ 60 ∷ [] = ap encode_utf8_all f.1 ∙ one_more f.0 60 ∙ ap (λ z. encode_utf8_all f.0 ++ z) (encode_ascii 60 (omega arith)) in
     let d = deep_letter c k.next k.behind i k.is t.2 in
     let up = lift_leads deeper deeper_step pc m.start s o h in
-    let y = on_step deeper pc d.0 s (m.naming t.0 (d.0 ∷ [])) o up (ap (λ z. step deeper s z d.0) d.2 ∙ t.3 d.0) in
+    let y = on_step deeper pc d.0 s (m.tag_name t.0 (d.0 ∷ [])) o up (ap (λ z. step deeper s z d.0) d.2 ∙ t.3 d.0) in
     shown pc c rest s o w.Deep k TooDeep (length (encode_utf8_all pc) - 1) u h e
     record {
       before = (encode_utf8_all f.0, no_more pc ∙ g, front_length (encode_utf8_all pc) (encode_utf8_all f.0) (60 ∷ []) g);

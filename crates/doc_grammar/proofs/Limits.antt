@@ -3,12 +3,12 @@ use Rattle.std.proofs.Common.{◌≡◌, ℕ, Bool, true, false, cond, List, [],
 use Rattle.std.proofs.lemmas.Bool.{eqb-true}
 use Rattle.std.specs.Str.{encode_utf8_all}
 use Rattle.doc_grammar.specs.Characters.{class, names}
-use Rattle.doc_grammar.specs.Grammar.{with_double, with_single, Part, version, encoding, standalone, folded, ten, sixteen, has, Limits, strict, deeper, repeated, may_stand, Event}
+use Rattle.doc_grammar.specs.Grammar.{with_double, with_single, Part, version, encoding, standalone, fold_for, ten, sixteen, has, Limits, strict, deeper, repeated, may_stand, Event}
 use Rattle.doc_grammar.specs.declared.characters.Class.{Class}
 use Rattle.doc_grammar.specs.declared.characters.Class.TheVariants.{Less, Bang, Equal, Blank, Letter, Bad}
 use Rattle.doc_grammar.specs.declared.reasons.Why.{Why}
 use Rattle.doc_grammar.specs.declared.reasons.Why.TheVariants as w
-use Rattle.doc_grammar.specs.Machine.{Place, before, within, Hole, in_text, in_value, State, Step, dead, go, emit, along, guard, exactly, step, Run, Leads, Final, stack, may_open, why_open, filled, open_said, partly, bad, bad_opened, shared, is_small_xml, step_opened, step_fresh, step_tag, step_digit, step_part, step_number}
+use Rattle.doc_grammar.specs.Machine.{Place, before, within, Hole, in_text, in_value, State, Step, dead, go, emit, along, guard, exactly, step, Run, Leads, Final, stack, may_open, why_open, after_reference, setting_value_start, partly, bad, bad_tag_open, common_prefix_length, is_small_xml, step_tag_open, step_after_byte_order_mark, step_tag, step_digit, step_part, step_reference_digits}
 use Rattle.doc_grammar.specs.Machine as m
 use Rattle.doc_grammar.proofs.Classes.{class_less, class_bang, class_of_D}
 use Rattle.doc_grammar.proofs.Keeps.{Keeps, keeps, low}
@@ -47,16 +47,16 @@ bad_deep true false = tt
 bad_deep false z = refl
 
 pub deeper_step : (s : State) (k : Class) (b : ℕ) → Lifted (step strict s k b) (step deeper s k b)
-deeper_step (m.opened before) k b = self (step strict (m.opened before) k b)
-deeper_step (m.opened (within [])) k b = self (step strict (m.opened (within [])) k b)
-deeper_step (m.opened (within (n ∷ ns))) Letter b = guard_deep (may_stand strict (length (n ∷ ns))) (m.naming (within (n ∷ ns)) (b ∷ []))
-deeper_step (m.opened (within (n ∷ ns))) Bad b = bad_deep (leb 128 b) (may_stand strict (length (n ∷ ns)))
-deeper_step (m.opened (within (n ∷ ns))) k b = self (step strict (m.opened (within (n ∷ ns))) k b)
+deeper_step (m.tag_open before) k b = self (step strict (m.tag_open before) k b)
+deeper_step (m.tag_open (within [])) k b = self (step strict (m.tag_open (within [])) k b)
+deeper_step (m.tag_open (within (n ∷ ns))) Letter b = guard_deep (may_stand strict (length (n ∷ ns))) (m.tag_name (within (n ∷ ns)) (b ∷ []))
+deeper_step (m.tag_open (within (n ∷ ns))) Bad b = bad_deep (leb 128 b) (may_stand strict (length (n ∷ ns)))
+deeper_step (m.tag_open (within (n ∷ ns))) k b = self (step strict (m.tag_open (within (n ∷ ns))) k b)
 deeper_step s k b = self (step strict s k b)
 
 pub repeated_step : (s : State) (k : Class) (b : ℕ) → Lifted (step strict s k b) (step repeated s k b)
-repeated_step (m.attr p n xs y) Blank b = cond_twice (has xs y) (length (encode_utf8_all y)) (m.equals p n xs y)
-repeated_step (m.attr p n xs y) Equal b = cond_twice (has xs y) (length (encode_utf8_all y)) (m.valued p n xs y)
+repeated_step (m.attribute_name p n xs y) Blank b = cond_twice (has xs y) (length (encode_utf8_all y)) (m.after_attribute_name p n xs y)
+repeated_step (m.attribute_name p n xs y) Equal b = cond_twice (has xs y) (length (encode_utf8_all y)) (m.before_attribute_value p n xs y)
 repeated_step s k b = self (step strict s k b)
 
 along_lifted : (P : State → List Event → Type 0) (u v : Step) (o : List Event) → Lifted u v → along P u o → along P v o
@@ -125,7 +125,7 @@ not_true false h = refl
 name_not_less : (t : ℕ) → names (class t) ≡ true → eqb 60 t ≡ false
 name_not_less t h = not_true (eqb 60 t) (λ e. let f = sym (ap (λ z. names (class z)) (eqb-true 60 t e)) ∙ ap names class_less in cc)
 
-fold_less : (part : Part) → folded part 60 ≡ 60
+fold_less : (part : Part) → fold_for part 60 ≡ 60
 fold_less version = refl
 fold_less encoding = refl
 fold_less standalone = refl
@@ -134,36 +134,36 @@ abbrev pub AfterBang : State → Type 0
 AfterBang s = Then (λ u. NotQuiet (step strict u Letter 68)) (step strict s Bang 33)
 
 after_less : (s : State) (f : List ℕ) → Keeps s f → Then AfterBang (step strict s Less 60)
-after_less (m.at before) f h = tt
-after_less (m.at (within [])) f h = tt
-after_less (m.at (within (n ∷ ns))) f h = tt
-after_less (m.opened before) f h = tt
-after_less (m.opened (within [])) f h = tt
-after_less (m.opened (within (n ∷ ns))) f h = tt
-after_less (m.banged before) f h = tt
-after_less (m.banged (within [])) f h = tt
-after_less (m.banged (within (n ∷ ns))) f h = tt
-after_less (m.gap version) f h = tt
-after_less (m.gap encoding) f h = tt
-after_less (m.gap standalone) f h = tt
-after_less (m.worded part t []) f h = then_false AfterBang w.Plain (eqb 60 t) (m.equal part) (low t [] h).other
-after_less (m.worded part t (u ∷ todo)) f h = then_false AfterBang w.Plain (eqb 60 t) (m.worded part u todo) (low t (u ∷ todo) h).other
-after_less (m.said part q t []) f h =
-    then_false AfterBang w.Plain (eqb (folded part 60) (folded part t)) (m.said_all part q) (ap (λ z. eqb z (folded part t)) (fold_less part) ∙ (low (folded part t) [] h).other)
-after_less (m.said part q t (u ∷ todo)) f h =
-    then_false AfterBang w.Plain (eqb (folded part 60) (folded part t)) (m.said part q u todo) (ap (λ z. eqb z (folded part t)) (fold_less part) ∙ (low (folded part t) (map (folded part) (u ∷ todo)) h).other)
-after_less (m.said_all part with_double) f h = tt
-after_less (m.said_all part with_single) f h = tt
-after_less (m.bracketed n ns t []) f h = then_false AfterBang w.Plain (eqb 60 t) (m.section n ns) (low t [] h.1).other
-after_less (m.bracketed n ns t (u ∷ todo)) f h = then_false AfterBang w.Plain (eqb 60 t) (m.bracketed n ns u todo) (low t (u ∷ todo) h.1).other
-after_less (m.value p n xs y with_double v r) f h = tt
-after_less (m.value p n xs y with_single v r) f h = tt
-after_less (m.finishing ns []) f h = tt
-after_less (m.finishing ns (t ∷ todo)) f h = then_false AfterBang (partly t 60) (eqb 60 t) (m.finishing ns todo) (name_not_less t h.1.0)
-after_less (m.forced i code t []) f g = then_false AfterBang w.Plain (eqb 60 t) (filled i code) (low t [] g.1).other
-after_less (m.forced i code t (u ∷ todo)) f g = then_false AfterBang w.Plain (eqb 60 t) (m.forced i code u todo) (low t (u ∷ todo) g.1).other
-after_less (m.number i ten n) f g = tt
-after_less (m.number i sixteen n) f g = tt
+after_less (m.content before) f h = tt
+after_less (m.content (within [])) f h = tt
+after_less (m.content (within (n ∷ ns))) f h = tt
+after_less (m.tag_open before) f h = tt
+after_less (m.tag_open (within [])) f h = tt
+after_less (m.tag_open (within (n ∷ ns))) f h = tt
+after_less (m.markup_declaration before) f h = tt
+after_less (m.markup_declaration (within [])) f h = tt
+after_less (m.markup_declaration (within (n ∷ ns))) f h = tt
+after_less (m.between_settings version) f h = tt
+after_less (m.between_settings encoding) f h = tt
+after_less (m.between_settings standalone) f h = tt
+after_less (m.setting_name part t []) f h = then_false AfterBang w.Plain (eqb 60 t) (m.after_setting_name part) (low t [] h).other
+after_less (m.setting_name part t (u ∷ todo)) f h = then_false AfterBang w.Plain (eqb 60 t) (m.setting_name part u todo) (low t (u ∷ todo) h).other
+after_less (m.setting_value part q t []) f h =
+    then_false AfterBang w.Plain (eqb (fold_for part 60) (fold_for part t)) (m.setting_value_end part q) (ap (λ z. eqb z (fold_for part t)) (fold_less part) ∙ (low (fold_for part t) [] h).other)
+after_less (m.setting_value part q t (u ∷ todo)) f h =
+    then_false AfterBang w.Plain (eqb (fold_for part 60) (fold_for part t)) (m.setting_value part q u todo) (ap (λ z. eqb z (fold_for part t)) (fold_less part) ∙ (low (fold_for part t) (map (fold_for part) (u ∷ todo)) h).other)
+after_less (m.setting_value_end part with_double) f h = tt
+after_less (m.setting_value_end part with_single) f h = tt
+after_less (m.cdata_start n ns t []) f h = then_false AfterBang w.Plain (eqb 60 t) (m.cdata_section n ns) (low t [] h.1).other
+after_less (m.cdata_start n ns t (u ∷ todo)) f h = then_false AfterBang w.Plain (eqb 60 t) (m.cdata_start n ns u todo) (low t (u ∷ todo) h.1).other
+after_less (m.attribute_value p n xs y with_double v r) f h = tt
+after_less (m.attribute_value p n xs y with_single v r) f h = tt
+after_less (m.end_tag_name ns []) f h = tt
+after_less (m.end_tag_name ns (t ∷ todo)) f h = then_false AfterBang (partly t 60) (eqb 60 t) (m.end_tag_name ns todo) (name_not_less t h.1.0)
+after_less (m.named_reference i code t []) f g = then_false AfterBang w.Plain (eqb 60 t) (after_reference i code) (low t [] g.1).other
+after_less (m.named_reference i code t (u ∷ todo)) f g = then_false AfterBang w.Plain (eqb 60 t) (m.named_reference i code u todo) (low t (u ∷ todo) g.1).other
+after_less (m.reference_digits i ten n) f g = tt
+after_less (m.reference_digits i sixteen n) f g = tt
 after_less s f h = tt
 
 split_along : (P : State → List Event → Type 0) (v : Step) (o : List Event) → along P v o → (s : State) × (o2 : List Event) × P s o2 × ((Q : State → List Event → Type 0) (o3 : List Event) → Q s o3 → (o4 : List Event) × along Q v o4)

@@ -46,16 +46,16 @@ word encoding = 101 ∷ 110 ∷ 99 ∷ 111 ∷ 100 ∷ 105 ∷ 110 ∷ 103 ∷ [
 word standalone = 115 ∷ 116 ∷ 97 ∷ 110 ∷ 100 ∷ 97 ∷ 108 ∷ 111 ∷ 110 ∷ 101 ∷ []
 
 -- the case of an encoding does not count
-abbrev pub folded : Part → ℕ → ℕ
-folded version c = c
-folded encoding c = fold_case c
-folded standalone c = c
+abbrev pub fold_for : Part → ℕ → ℕ
+fold_for version c = c
+fold_for encoding c = fold_case c
+fold_for standalone c = c
 
 -- what a part may say: `1.0` (26), `utf-8` (81), `yes` or `no` (32)
-abbrev pub IsSaid : Part → List ℕ → Type 0
-IsSaid version text = text ≡ 49 ∷ 46 ∷ 48 ∷ []
-IsSaid encoding text = text ≡ 117 ∷ 116 ∷ 102 ∷ 45 ∷ 56 ∷ []
-IsSaid standalone text = (text ≡ 121 ∷ 101 ∷ 115 ∷ []) ⊎ (text ≡ 110 ∷ 111 ∷ [])
+abbrev pub IsSettingValue : Part → List ℕ → Type 0
+IsSettingValue version text = text ≡ 49 ∷ 46 ∷ 48 ∷ []
+IsSettingValue encoding text = text ≡ 117 ∷ 116 ∷ 102 ∷ 45 ∷ 56 ∷ []
+IsSettingValue standalone text = (text ≡ 121 ∷ 101 ∷ 115 ∷ []) ⊎ (text ≡ 110 ∷ 111 ∷ [])
 
 -- a part: white space, of which there is some, its word, `=` with white space around (25), and its value
 pub record Setting : Type 0 where
@@ -67,18 +67,18 @@ pub record Setting : Type 0 where
   pub value : List ℕ
 
 -- from behind its word on, and then the rest
-abbrev pub print_said : Setting → List ℕ → List ℕ
-print_said s rest = s.left ++ 61 ∷ (s.right ++ quote_char s.quote ∷ (s.value ++ quote_char s.quote ∷ rest))
+abbrev pub print_setting_rest : Setting → List ℕ → List ℕ
+print_setting_rest s rest = s.left ++ 61 ∷ (s.right ++ quote_char s.quote ∷ (s.value ++ quote_char s.quote ∷ rest))
 
 abbrev pub print_setting : Part → Setting → List ℕ → List ℕ
-print_setting part s rest = s.first ∷ (s.before ++ (word part ++ print_said s rest))
+print_setting part s rest = s.first ∷ (s.before ++ (word part ++ print_setting_rest s rest))
 
 pub record IsSetting (part : Part) (s : Setting) : Type 0 where
   pub first : blanks (class s.first) ≡ true
   pub before : IsSpace s.before
   pub left : IsSpace s.left
   pub right : IsSpace s.right
-  pub value : IsSaid part (map (folded part) s.value)
+  pub value : IsSettingValue part (map (fold_for part) s.value)
 
 abbrev pub print_maybe : Part → Option Setting → List ℕ → List ℕ
 print_maybe part None rest = rest

@@ -3,7 +3,7 @@ use Rattle.std.specs.Prelude.{◌≡◌, ℕ, suc, Bool, true, false, if◌then�
 use Rattle.std.specs.Str.{bytes_eq, encode_utf8_all}
 use Rattle.std.specs.Char.{encode_utf8}
 use Rattle.doc_grammar.specs.Characters.{class, is_char}
-use Rattle.doc_grammar.specs.Grammar.{Quote, with_double, with_single, quote_char, is_xml, Part, version, encoding, standalone, folded, Base, ten, sixteen, is_numeral, with_digit, raw_value, Pair, Limits, may_stand, clashes, Event, begin, close}
+use Rattle.doc_grammar.specs.Grammar.{Quote, with_double, with_single, quote_char, is_xml, Part, version, encoding, standalone, fold_for, Base, ten, sixteen, is_numeral, with_digit, raw_value, Pair, Limits, may_stand, clashes, Event, begin, close}
 use Rattle.doc_grammar.specs.declared.characters.Class.{Class}
 use Rattle.doc_grammar.specs.declared.characters.Class.TheVariants.{Less, Greater, Slash, Bang, Question, Dash, Ampersand, Equal, DoubleQuote, SingleQuote, OpenBracket, CloseBracket, Blank, Letter, Digit, Bad}
 use Rattle.doc_grammar.specs.declared.reasons.Why.{Why}
@@ -23,56 +23,56 @@ pub data Hole : Type 0 where
 pub data State : Type 0 where
   -- nothing was read, or a byte order mark; then a declaration may begin
   start : State
-  fresh : State
-  fresh_opened : State
-  fresh_asked : State
-  fresh_target : List ℕ → State
+  after_byte_order_mark : State
+  document_tag_open : State
+  document_processing_instruction : State
+  document_instruction_target : List ℕ → State
   -- in the declaration: before its first part, behind a part and white space there, in a part
-  untold : State
-  told : Part → State
-  gap : Part → State
-  worded : Part → ℕ → List ℕ → State
-  equal : Part → State
-  quoted : Part → State
-  answer : Quote → State
-  said : Part → Quote → ℕ → List ℕ → State
-  said_all : Part → Quote → State
-  declared : State
+  before_version : State
+  after_setting : Part → State
+  between_settings : Part → State
+  setting_name : Part → ℕ → List ℕ → State
+  after_setting_name : Part → State
+  before_setting_value : Part → State
+  standalone_value : Quote → State
+  setting_value : Part → Quote → ℕ → List ℕ → State
+  setting_value_end : Part → Quote → State
+  declaration_end : State
   -- between the tokens, and in comments, instructions and sections
-  at : Place → State
-  opened : Place → State
-  banged : Place → State
-  dashed : Place → State
+  content : Place → State
+  tag_open : Place → State
+  markup_declaration : Place → State
+  comment_start : Place → State
   comment : Place → State
   comment_dash : Place → State
   comment_end : Place → State
-  asked : Place → State
-  target : Place → List ℕ → State
-  target_end : Place → State
-  instruction : Place → State
+  processing_instruction : Place → State
+  instruction_target : Place → List ℕ → State
+  instruction_target_end : Place → State
+  instruction_text : Place → State
   instruction_end : Place → State
-  bracketed : List ℕ → List (List ℕ) → ℕ → List ℕ → State
-  section : List ℕ → List (List ℕ) → State
-  section_one : List ℕ → List (List ℕ) → State
-  section_two : List ℕ → List (List ℕ) → State
+  cdata_start : List ℕ → List (List ℕ) → ℕ → List ℕ → State
+  cdata_section : List ℕ → List (List ℕ) → State
+  cdata_section_bracket : List ℕ → List (List ℕ) → State
+  cdata_section_end : List ℕ → List (List ℕ) → State
   -- in tags
-  naming : Place → List ℕ → State
-  tagged : Place → List ℕ → List Pair → State
-  attr : Place → List ℕ → List Pair → List ℕ → State
-  equals : Place → List ℕ → List Pair → List ℕ → State
-  valued : Place → List ℕ → List Pair → List ℕ → State
-  value : Place → List ℕ → List Pair → List ℕ → Quote → List ℕ → Bool → State
-  closed : Place → List ℕ → List Pair → State
-  slashed : Place → List ℕ → List Pair → State
-  finishing : List (List ℕ) → List ℕ → State
-  finished : List (List ℕ) → State
+  tag_name : Place → List ℕ → State
+  before_attribute_name : Place → List ℕ → List Pair → State
+  attribute_name : Place → List ℕ → List Pair → List ℕ → State
+  after_attribute_name : Place → List ℕ → List Pair → List ℕ → State
+  before_attribute_value : Place → List ℕ → List Pair → List ℕ → State
+  attribute_value : Place → List ℕ → List Pair → List ℕ → Quote → List ℕ → Bool → State
+  after_attribute_value : Place → List ℕ → List Pair → State
+  self_closing_start_tag : Place → List ℕ → List Pair → State
+  end_tag_name : List (List ℕ) → List ℕ → State
+  after_end_tag_name : List (List ℕ) → State
   -- in references
-  amped : Hole → State
-  amped_a : Hole → State
-  forced : Hole → ℕ → ℕ → List ℕ → State
-  hashed : Hole → State
-  hexed : Hole → State
-  number : Hole → Base → ℕ → State
+  reference : Hole → State
+  reference_a : Hole → State
+  named_reference : Hole → ℕ → ℕ → List ℕ → State
+  numeric_reference : Hole → State
+  hexadecimal_reference : Hole → State
+  reference_digits : Hole → Base → ℕ → State
 
 pub data Step : Type 0 where
   dead : Why → Step
@@ -98,27 +98,27 @@ why_open before = Plain
 why_open (within []) = Plain
 why_open (within (n ∷ ns)) = Deep
 
-abbrev pub filled : Hole → ℕ → State
-filled (in_text n ns) code = at (within (n ∷ ns))
-filled (in_value p name xs x q v) code = value p name xs x q (v ++ code ∷ []) false
+abbrev pub after_reference : Hole → ℕ → State
+after_reference (in_text n ns) code = content (within (n ∷ ns))
+after_reference (in_value p name xs x q v) code = attribute_value p name xs x q (v ++ code ∷ []) false
 
 -- how many bytes two lists begin with alike
-abbrev pub shared : List ℕ → List ℕ → ℕ
-shared [] ys = 0
-shared (x ∷ xs) [] = 0
-shared (x ∷ xs) (y ∷ ys) = if x == y then suc (shared xs ys) else 0
+abbrev pub common_prefix_length : List ℕ → List ℕ → ℕ
+common_prefix_length [] ys = 0
+common_prefix_length (x ∷ xs) [] = 0
+common_prefix_length (x ∷ xs) (y ∷ ys) = if x == y then suc (common_prefix_length xs ys) else 0
 
 -- another character than the one that goes on
 abbrev pub partly : ℕ → ℕ → Why
-partly c b = Partly (shared (encode_utf8 c) (encode_utf8 b))
+partly c b = Partly (common_prefix_length (encode_utf8 c) (encode_utf8 b))
 
 -- a character that may stand nowhere, where any past ASCII may stand: U+FFFE and U+FFFF differ in their third byte
 abbrev pub bad : ℕ → Why
 bad b = if nat_le 128 b then Partly 2 else Plain
 
 -- the same where an element may begin
-abbrev pub bad_opened : Limits → Place → ℕ → Why
-bad_opened l p b = if nat_le 128 b then (if may_open l p then Partly 2 else why_open p) else Plain
+abbrev pub bad_tag_open : Limits → Place → ℕ → Why
+bad_tag_open l p b = if nat_le 128 b then (if may_open l p then Partly 2 else why_open p) else Plain
 
 -- what only this character leads on
 abbrev pub exactly : ℕ → ℕ → State → Step
@@ -126,27 +126,27 @@ exactly c b s = guard Plain (b == c) s
 
 -- ---- between the tokens
 
-abbrev pub step_at : Place → Class → ℕ → Step
-step_at p Less b = go (opened p)
-step_at (within (n ∷ ns)) Bad b = dead (bad b)
-step_at (within (n ∷ ns)) Ampersand b = go (amped (in_text n ns))
-step_at (within (n ∷ ns)) k b = go (at (within (n ∷ ns)))
-step_at (within []) Blank b = go (at (within []))
-step_at before Blank b = go (at before)
-step_at p k b = dead Plain
+abbrev pub step_content : Place → Class → ℕ → Step
+step_content p Less b = go (tag_open p)
+step_content (within (n ∷ ns)) Bad b = dead (bad b)
+step_content (within (n ∷ ns)) Ampersand b = go (reference (in_text n ns))
+step_content (within (n ∷ ns)) k b = go (content (within (n ∷ ns)))
+step_content (within []) Blank b = go (content (within []))
+step_content before Blank b = go (content before)
+step_content p k b = dead Plain
 
-abbrev pub step_opened : Limits → Place → Class → ℕ → Step
-step_opened l p Bang b = go (banged p)
-step_opened l p Question b = go (asked p)
-step_opened l p Letter b = guard (why_open p) (may_open l p) (naming p (b ∷ []))
-step_opened l p Bad b = dead (bad_opened l p b)
-step_opened l (within (n ∷ ns)) Slash b = go (finishing ns n)
-step_opened l p k b = dead Plain
+abbrev pub step_tag_open : Limits → Place → Class → ℕ → Step
+step_tag_open l p Bang b = go (markup_declaration p)
+step_tag_open l p Question b = go (processing_instruction p)
+step_tag_open l p Letter b = guard (why_open p) (may_open l p) (tag_name p (b ∷ []))
+step_tag_open l p Bad b = dead (bad_tag_open l p b)
+step_tag_open l (within (n ∷ ns)) Slash b = go (end_tag_name ns n)
+step_tag_open l p k b = dead Plain
 
-abbrev pub step_banged : Place → Class → Step
-step_banged p Dash = go (dashed p)
-step_banged (within (n ∷ ns)) OpenBracket = go (bracketed n ns 67 (68 ∷ 65 ∷ 84 ∷ 65 ∷ 91 ∷ []))
-step_banged p k = dead why.Bang
+abbrev pub step_markup_declaration : Place → Class → Step
+step_markup_declaration p Dash = go (comment_start p)
+step_markup_declaration (within (n ∷ ns)) OpenBracket = go (cdata_start n ns 67 (68 ∷ 65 ∷ 84 ∷ 65 ∷ 91 ∷ []))
+step_markup_declaration p k = dead why.Bang
 
 abbrev pub step_dash : Class → State → Step
 step_dash Dash s = go s
@@ -166,267 +166,267 @@ abbrev pub step_greater : Class → Step → Step
 step_greater Greater s = s
 step_greater k s = dead Plain
 
-abbrev pub step_asked : Place → Class → ℕ → Step
-step_asked p Letter b = go (target p (b ∷ []))
-step_asked p Bad b = dead (bad b)
-step_asked p k b = dead Plain
+abbrev pub step_processing_instruction : Place → Class → ℕ → Step
+step_processing_instruction p Letter b = go (instruction_target p (b ∷ []))
+step_processing_instruction p Bad b = dead (bad b)
+step_processing_instruction p k b = dead Plain
 
-abbrev pub step_target : Place → List ℕ → Class → ℕ → Step
-step_target p n Letter b = go (target p (n ++ b ∷ []))
-step_target p n Digit b = go (target p (n ++ b ∷ []))
-step_target p n Dash b = go (target p (n ++ b ∷ []))
-step_target p n Blank b = guard Plain (not (is_xml n)) (instruction p)
-step_target p n Question b = guard Plain (not (is_xml n)) (target_end p)
-step_target p n Bad b = dead (bad b)
-step_target p n k b = dead Plain
+abbrev pub step_instruction_target : Place → List ℕ → Class → ℕ → Step
+step_instruction_target p n Letter b = go (instruction_target p (n ++ b ∷ []))
+step_instruction_target p n Digit b = go (instruction_target p (n ++ b ∷ []))
+step_instruction_target p n Dash b = go (instruction_target p (n ++ b ∷ []))
+step_instruction_target p n Blank b = guard Plain (not (is_xml n)) (instruction_text p)
+step_instruction_target p n Question b = guard Plain (not (is_xml n)) (instruction_target_end p)
+step_instruction_target p n Bad b = dead (bad b)
+step_instruction_target p n k b = dead Plain
 
-abbrev pub step_instruction : Place → Class → ℕ → Step
-step_instruction p Question b = go (instruction_end p)
-step_instruction p Bad b = dead (bad b)
-step_instruction p k b = go (instruction p)
+abbrev pub step_instruction_text : Place → Class → ℕ → Step
+step_instruction_text p Question b = go (instruction_end p)
+step_instruction_text p Bad b = dead (bad b)
+step_instruction_text p k b = go (instruction_text p)
 
 abbrev pub step_instruction_end : Place → Class → ℕ → Step
-step_instruction_end p Greater b = go (at p)
+step_instruction_end p Greater b = go (content p)
 step_instruction_end p Question b = go (instruction_end p)
 step_instruction_end p Bad b = dead (bad b)
-step_instruction_end p k b = go (instruction p)
+step_instruction_end p k b = go (instruction_text p)
 
-abbrev pub step_bracketed : List ℕ → List (List ℕ) → ℕ → List ℕ → ℕ → Step
-step_bracketed n ns t [] b = exactly t b (section n ns)
-step_bracketed n ns t (u ∷ todo) b = exactly t b (bracketed n ns u todo)
+abbrev pub step_cdata_start : List ℕ → List (List ℕ) → ℕ → List ℕ → ℕ → Step
+step_cdata_start n ns t [] b = exactly t b (cdata_section n ns)
+step_cdata_start n ns t (u ∷ todo) b = exactly t b (cdata_start n ns u todo)
 
-abbrev pub step_section : List ℕ → List (List ℕ) → Class → ℕ → Step
-step_section n ns CloseBracket b = go (section_one n ns)
-step_section n ns Bad b = dead (bad b)
-step_section n ns k b = go (section n ns)
+abbrev pub step_cdata_section : List ℕ → List (List ℕ) → Class → ℕ → Step
+step_cdata_section n ns CloseBracket b = go (cdata_section_bracket n ns)
+step_cdata_section n ns Bad b = dead (bad b)
+step_cdata_section n ns k b = go (cdata_section n ns)
 
-abbrev pub step_section_one : List ℕ → List (List ℕ) → Class → ℕ → Step
-step_section_one n ns CloseBracket b = go (section_two n ns)
-step_section_one n ns Bad b = dead (bad b)
-step_section_one n ns k b = go (section n ns)
+abbrev pub step_cdata_section_bracket : List ℕ → List (List ℕ) → Class → ℕ → Step
+step_cdata_section_bracket n ns CloseBracket b = go (cdata_section_end n ns)
+step_cdata_section_bracket n ns Bad b = dead (bad b)
+step_cdata_section_bracket n ns k b = go (cdata_section n ns)
 
-abbrev pub step_section_two : List ℕ → List (List ℕ) → Class → ℕ → Step
-step_section_two n ns CloseBracket b = go (section_two n ns)
-step_section_two n ns Greater b = go (at (within (n ∷ ns)))
-step_section_two n ns Bad b = dead (bad b)
-step_section_two n ns k b = go (section n ns)
+abbrev pub step_cdata_section_end : List ℕ → List (List ℕ) → Class → ℕ → Step
+step_cdata_section_end n ns CloseBracket b = go (cdata_section_end n ns)
+step_cdata_section_end n ns Greater b = go (content (within (n ∷ ns)))
+step_cdata_section_end n ns Bad b = dead (bad b)
+step_cdata_section_end n ns k b = go (cdata_section n ns)
 
 -- ---- where a document begins
 
-abbrev pub step_fresh : Why → Class → Step
-step_fresh w Less = go fresh_opened
-step_fresh w Blank = go (at before)
-step_fresh w k = dead w
+abbrev pub step_after_byte_order_mark : Why → Class → Step
+step_after_byte_order_mark w Less = go document_tag_open
+step_after_byte_order_mark w Blank = go (content before)
+step_after_byte_order_mark w k = dead w
 
 abbrev pub step_start : Class → ℕ → Step
-step_start k b = if b == 65279 then go fresh else step_fresh (partly 65279 b) k
+step_start k b = if b == 65279 then go after_byte_order_mark else step_after_byte_order_mark (partly 65279 b) k
 
-abbrev pub step_fresh_opened : Limits → Class → ℕ → Step
-step_fresh_opened l Question b = go fresh_asked
-step_fresh_opened l k b = step_opened l before k b
+abbrev pub step_document_tag_open : Limits → Class → ℕ → Step
+step_document_tag_open l Question b = go document_processing_instruction
+step_document_tag_open l k b = step_tag_open l before k b
 
-abbrev pub step_fresh_asked : Class → ℕ → Step
-step_fresh_asked Letter b = go (fresh_target (b ∷ []))
-step_fresh_asked Bad b = dead (bad b)
-step_fresh_asked k b = dead Plain
+abbrev pub step_document_processing_instruction : Class → ℕ → Step
+step_document_processing_instruction Letter b = go (document_instruction_target (b ∷ []))
+step_document_processing_instruction Bad b = dead (bad b)
+step_document_processing_instruction k b = dead Plain
 
 abbrev pub is_small_xml : List ℕ → Bool
 is_small_xml n = bytes_eq n (120 ∷ 109 ∷ 108 ∷ [])
 
-abbrev pub step_fresh_target : List ℕ → Class → ℕ → Step
-step_fresh_target n Letter b = go (fresh_target (n ++ b ∷ []))
-step_fresh_target n Digit b = go (fresh_target (n ++ b ∷ []))
-step_fresh_target n Dash b = go (fresh_target (n ++ b ∷ []))
-step_fresh_target n Blank b = if is_small_xml n then go untold else guard Plain (not (is_xml n)) (instruction before)
-step_fresh_target n Question b = guard Plain (not (is_xml n)) (target_end before)
-step_fresh_target n Bad b = dead (bad b)
-step_fresh_target n k b = dead Plain
+abbrev pub step_document_instruction_target : List ℕ → Class → ℕ → Step
+step_document_instruction_target n Letter b = go (document_instruction_target (n ++ b ∷ []))
+step_document_instruction_target n Digit b = go (document_instruction_target (n ++ b ∷ []))
+step_document_instruction_target n Dash b = go (document_instruction_target (n ++ b ∷ []))
+step_document_instruction_target n Blank b = if is_small_xml n then go before_version else guard Plain (not (is_xml n)) (instruction_text before)
+step_document_instruction_target n Question b = guard Plain (not (is_xml n)) (instruction_target_end before)
+step_document_instruction_target n Bad b = dead (bad b)
+step_document_instruction_target n k b = dead Plain
 
-abbrev pub step_untold : Class → ℕ → Step
-step_untold Blank b = go untold
-step_untold k b = exactly 118 b (worded version 101 (114 ∷ 115 ∷ 105 ∷ 111 ∷ 110 ∷ []))
+abbrev pub step_before_version : Class → ℕ → Step
+step_before_version Blank b = go before_version
+step_before_version k b = exactly 118 b (setting_name version 101 (114 ∷ 115 ∷ 105 ∷ 111 ∷ 110 ∷ []))
 
-abbrev pub step_told : Part → Class → Step
-step_told part Blank = go (gap part)
-step_told part Question = go declared
-step_told part k = dead Plain
+abbrev pub step_after_setting : Part → Class → Step
+step_after_setting part Blank = go (between_settings part)
+step_after_setting part Question = go declaration_end
+step_after_setting part k = dead Plain
 
 abbrev pub standalone_word : State
-standalone_word = worded standalone 116 (97 ∷ 110 ∷ 100 ∷ 97 ∷ 108 ∷ 111 ∷ 110 ∷ 101 ∷ [])
+standalone_word = setting_name standalone 116 (97 ∷ 110 ∷ 100 ∷ 97 ∷ 108 ∷ 111 ∷ 110 ∷ 101 ∷ [])
 
 abbrev pub step_part : Part → ℕ → Step
-step_part version b = if b == 101 then go (worded encoding 110 (99 ∷ 111 ∷ 100 ∷ 105 ∷ 110 ∷ 103 ∷ [])) else exactly 115 b standalone_word
+step_part version b = if b == 101 then go (setting_name encoding 110 (99 ∷ 111 ∷ 100 ∷ 105 ∷ 110 ∷ 103 ∷ [])) else exactly 115 b standalone_word
 step_part encoding b = exactly 115 b standalone_word
 step_part standalone b = dead Plain
 
-abbrev pub step_gap : Part → Class → ℕ → Step
-step_gap part Blank b = go (gap part)
-step_gap part Question b = go declared
-step_gap part k b = step_part part b
+abbrev pub step_between_settings : Part → Class → ℕ → Step
+step_between_settings part Blank b = go (between_settings part)
+step_between_settings part Question b = go declaration_end
+step_between_settings part k b = step_part part b
 
-abbrev pub step_worded : Part → ℕ → List ℕ → ℕ → Step
-step_worded part t [] b = exactly t b (equal part)
-step_worded part t (u ∷ todo) b = exactly t b (worded part u todo)
+abbrev pub step_setting_name : Part → ℕ → List ℕ → ℕ → Step
+step_setting_name part t [] b = exactly t b (after_setting_name part)
+step_setting_name part t (u ∷ todo) b = exactly t b (setting_name part u todo)
 
-abbrev pub step_equal : Part → Class → Step
-step_equal part Blank = go (equal part)
-step_equal part Equal = go (quoted part)
-step_equal part k = dead Plain
+abbrev pub step_after_setting_name : Part → Class → Step
+step_after_setting_name part Blank = go (after_setting_name part)
+step_after_setting_name part Equal = go (before_setting_value part)
+step_after_setting_name part k = dead Plain
 
-abbrev pub open_said : Part → Quote → State
-open_said version q = said version q 49 (46 ∷ 48 ∷ [])
-open_said encoding q = said encoding q 117 (116 ∷ 102 ∷ 45 ∷ 56 ∷ [])
-open_said standalone q = answer q
+abbrev pub setting_value_start : Part → Quote → State
+setting_value_start version q = setting_value version q 49 (46 ∷ 48 ∷ [])
+setting_value_start encoding q = setting_value encoding q 117 (116 ∷ 102 ∷ 45 ∷ 56 ∷ [])
+setting_value_start standalone q = standalone_value q
 
-abbrev pub step_quoted : Part → Class → Step
-step_quoted part Blank = go (quoted part)
-step_quoted part DoubleQuote = go (open_said part with_double)
-step_quoted part SingleQuote = go (open_said part with_single)
-step_quoted part k = dead Plain
+abbrev pub step_before_setting_value : Part → Class → Step
+step_before_setting_value part Blank = go (before_setting_value part)
+step_before_setting_value part DoubleQuote = go (setting_value_start part with_double)
+step_before_setting_value part SingleQuote = go (setting_value_start part with_single)
+step_before_setting_value part k = dead Plain
 
-abbrev pub step_answer : Quote → ℕ → Step
-step_answer q b = if b == 121 then go (said standalone q 101 (115 ∷ [])) else exactly 110 b (said standalone q 111 [])
+abbrev pub step_standalone_value : Quote → ℕ → Step
+step_standalone_value q b = if b == 121 then go (setting_value standalone q 101 (115 ∷ [])) else exactly 110 b (setting_value standalone q 111 [])
 
-abbrev pub step_said : Part → Quote → ℕ → List ℕ → ℕ → Step
-step_said part q t [] b = exactly (folded part t) (folded part b) (said_all part q)
-step_said part q t (u ∷ todo) b = exactly (folded part t) (folded part b) (said part q u todo)
+abbrev pub step_setting_value : Part → Quote → ℕ → List ℕ → ℕ → Step
+step_setting_value part q t [] b = exactly (fold_for part t) (fold_for part b) (setting_value_end part q)
+step_setting_value part q t (u ∷ todo) b = exactly (fold_for part t) (fold_for part b) (setting_value part q u todo)
 
 -- ---- tags
 
 -- behind a name or a value in a tag
 abbrev pub step_tag : Place → List ℕ → List Pair → Class → Step
-step_tag p n xs Blank = go (tagged p n xs)
-step_tag p n xs Slash = go (slashed p n xs)
-step_tag p n xs Greater = emit (at (within (n ∷ stack p))) (begin n xs ∷ [])
+step_tag p n xs Blank = go (before_attribute_name p n xs)
+step_tag p n xs Slash = go (self_closing_start_tag p n xs)
+step_tag p n xs Greater = emit (content (within (n ∷ stack p))) (begin n xs ∷ [])
 step_tag p n xs k = dead Plain
 
-abbrev pub step_naming : Place → List ℕ → Class → ℕ → Step
-step_naming p n Letter b = go (naming p (n ++ b ∷ []))
-step_naming p n Digit b = go (naming p (n ++ b ∷ []))
-step_naming p n Dash b = go (naming p (n ++ b ∷ []))
-step_naming p n Bad b = dead (bad b)
-step_naming p n k b = step_tag p n [] k
+abbrev pub step_tag_name : Place → List ℕ → Class → ℕ → Step
+step_tag_name p n Letter b = go (tag_name p (n ++ b ∷ []))
+step_tag_name p n Digit b = go (tag_name p (n ++ b ∷ []))
+step_tag_name p n Dash b = go (tag_name p (n ++ b ∷ []))
+step_tag_name p n Bad b = dead (bad b)
+step_tag_name p n k b = step_tag p n [] k
 
-abbrev pub step_tagged : Place → List ℕ → List Pair → Class → ℕ → Step
-step_tagged p n xs Letter b = go (attr p n xs (b ∷ []))
-step_tagged p n xs Bad b = dead (bad b)
-step_tagged p n xs k b = step_tag p n xs k
+abbrev pub step_before_attribute_name : Place → List ℕ → List Pair → Class → ℕ → Step
+step_before_attribute_name p n xs Letter b = go (attribute_name p n xs (b ∷ []))
+step_before_attribute_name p n xs Bad b = dead (bad b)
+step_before_attribute_name p n xs k b = step_tag p n xs k
 
-abbrev pub step_attr : Limits → Place → List ℕ → List Pair → List ℕ → Class → ℕ → Step
-step_attr l p n xs x Letter b = go (attr p n xs (x ++ b ∷ []))
-step_attr l p n xs x Digit b = go (attr p n xs (x ++ b ∷ []))
-step_attr l p n xs x Dash b = go (attr p n xs (x ++ b ∷ []))
-step_attr l p n xs x Blank b = if clashes l xs x then dead (Twice (length (encode_utf8_all x))) else go (equals p n xs x)
-step_attr l p n xs x Equal b = if clashes l xs x then dead (Twice (length (encode_utf8_all x))) else go (valued p n xs x)
-step_attr l p n xs x Bad b = dead (bad b)
-step_attr l p n xs x k b = dead Plain
+abbrev pub step_attribute_name : Limits → Place → List ℕ → List Pair → List ℕ → Class → ℕ → Step
+step_attribute_name l p n xs x Letter b = go (attribute_name p n xs (x ++ b ∷ []))
+step_attribute_name l p n xs x Digit b = go (attribute_name p n xs (x ++ b ∷ []))
+step_attribute_name l p n xs x Dash b = go (attribute_name p n xs (x ++ b ∷ []))
+step_attribute_name l p n xs x Blank b = if clashes l xs x then dead (Twice (length (encode_utf8_all x))) else go (after_attribute_name p n xs x)
+step_attribute_name l p n xs x Equal b = if clashes l xs x then dead (Twice (length (encode_utf8_all x))) else go (before_attribute_value p n xs x)
+step_attribute_name l p n xs x Bad b = dead (bad b)
+step_attribute_name l p n xs x k b = dead Plain
 
-abbrev pub step_equals : Place → List ℕ → List Pair → List ℕ → Class → Step
-step_equals p n xs x Blank = go (equals p n xs x)
-step_equals p n xs x Equal = go (valued p n xs x)
-step_equals p n xs x k = dead Plain
+abbrev pub step_after_attribute_name : Place → List ℕ → List Pair → List ℕ → Class → Step
+step_after_attribute_name p n xs x Blank = go (after_attribute_name p n xs x)
+step_after_attribute_name p n xs x Equal = go (before_attribute_value p n xs x)
+step_after_attribute_name p n xs x k = dead Plain
 
-abbrev pub step_valued : Place → List ℕ → List Pair → List ℕ → Class → Step
-step_valued p n xs x Blank = go (valued p n xs x)
-step_valued p n xs x DoubleQuote = go (value p n xs x with_double [] false)
-step_valued p n xs x SingleQuote = go (value p n xs x with_single [] false)
-step_valued p n xs x k = dead Plain
+abbrev pub step_before_attribute_value : Place → List ℕ → List Pair → List ℕ → Class → Step
+step_before_attribute_value p n xs x Blank = go (before_attribute_value p n xs x)
+step_before_attribute_value p n xs x DoubleQuote = go (attribute_value p n xs x with_double [] false)
+step_before_attribute_value p n xs x SingleQuote = go (attribute_value p n xs x with_single [] false)
+step_before_attribute_value p n xs x k = dead Plain
 
-abbrev pub step_value : Place → List ℕ → List Pair → List ℕ → Quote → List ℕ → Bool → Class → ℕ → Step
-step_value p n xs x with_double v r DoubleQuote b = go (closed p n (xs ++ (x, v) ∷ []))
-step_value p n xs x with_single v r SingleQuote b = go (closed p n (xs ++ (x, v) ∷ []))
-step_value p n xs x q v r Less b = dead Plain
-step_value p n xs x q v r Bad b = dead (bad b)
-step_value p n xs x q v r Ampersand b = go (amped (in_value p n xs x q v))
-step_value p n xs x q v r k b = go (value p n xs x q (v ++ raw_value r b) (b == 13))
+abbrev pub step_attribute_value : Place → List ℕ → List Pair → List ℕ → Quote → List ℕ → Bool → Class → ℕ → Step
+step_attribute_value p n xs x with_double v r DoubleQuote b = go (after_attribute_value p n (xs ++ (x, v) ∷ []))
+step_attribute_value p n xs x with_single v r SingleQuote b = go (after_attribute_value p n (xs ++ (x, v) ∷ []))
+step_attribute_value p n xs x q v r Less b = dead Plain
+step_attribute_value p n xs x q v r Bad b = dead (bad b)
+step_attribute_value p n xs x q v r Ampersand b = go (reference (in_value p n xs x q v))
+step_attribute_value p n xs x q v r k b = go (attribute_value p n xs x q (v ++ raw_value r b) (b == 13))
 
-abbrev pub step_finished : List (List ℕ) → Class → Step
-step_finished ns Blank = go (finished ns)
-step_finished ns Greater = emit (at (within ns)) (close ∷ [])
-step_finished ns k = dead Plain
+abbrev pub step_after_end_tag_name : List (List ℕ) → Class → Step
+step_after_end_tag_name ns Blank = go (after_end_tag_name ns)
+step_after_end_tag_name ns Greater = emit (content (within ns)) (close ∷ [])
+step_after_end_tag_name ns k = dead Plain
 
-abbrev pub step_finishing : List (List ℕ) → List ℕ → Class → ℕ → Step
-step_finishing ns [] k b = step_finished ns k
-step_finishing ns (t ∷ todo) k b = guard (partly t b) (b == t) (finishing ns todo)
+abbrev pub step_end_tag_name : List (List ℕ) → List ℕ → Class → ℕ → Step
+step_end_tag_name ns [] k b = step_after_end_tag_name ns k
+step_end_tag_name ns (t ∷ todo) k b = guard (partly t b) (b == t) (end_tag_name ns todo)
 
 -- ---- references
 
-abbrev pub step_forced : Hole → ℕ → ℕ → List ℕ → ℕ → Step
-step_forced h code t [] b = exactly t b (filled h code)
-step_forced h code t (u ∷ todo) b = exactly t b (forced h code u todo)
+abbrev pub step_named_reference : Hole → ℕ → ℕ → List ℕ → ℕ → Step
+step_named_reference h code t [] b = exactly t b (after_reference h code)
+step_named_reference h code t (u ∷ todo) b = exactly t b (named_reference h code u todo)
 
-abbrev pub step_amped : Hole → ℕ → Step
-step_amped h b =
-    if b == 108 then go (forced h 60 116 (59 ∷ [])) else if b == 103 then go (forced h 62 116 (59 ∷ []))
-    else if b == 113 then go (forced h 34 117 (111 ∷ 116 ∷ 59 ∷ [])) else if b == 35 then go (hashed h)
-    else exactly 97 b (amped_a h)
+abbrev pub step_reference : Hole → ℕ → Step
+step_reference h b =
+    if b == 108 then go (named_reference h 60 116 (59 ∷ [])) else if b == 103 then go (named_reference h 62 116 (59 ∷ []))
+    else if b == 113 then go (named_reference h 34 117 (111 ∷ 116 ∷ 59 ∷ [])) else if b == 35 then go (numeric_reference h)
+    else exactly 97 b (reference_a h)
 
-abbrev pub step_amped_a : Hole → ℕ → Step
-step_amped_a h b =
-    if b == 109 then go (forced h 38 112 (59 ∷ [])) else exactly 112 b (forced h 39 111 (115 ∷ 59 ∷ []))
+abbrev pub step_reference_a : Hole → ℕ → Step
+step_reference_a h b =
+    if b == 109 then go (named_reference h 38 112 (59 ∷ [])) else exactly 112 b (named_reference h 39 111 (115 ∷ 59 ∷ []))
 
 -- one digit more, where some further digits can make a character
 abbrev pub step_digit : Hole → Base → ℕ → ℕ → Step
 step_digit h base n b =
-    if is_numeral base b then guard Plain (nat_le (with_digit base n b) 1114111) (number h base (with_digit base n b))
+    if is_numeral base b then guard Plain (nat_le (with_digit base n b) 1114111) (reference_digits h base (with_digit base n b))
     else dead Plain
 
-abbrev pub step_hashed : Hole → ℕ → Step
-step_hashed h b = if b == 120 then go (hexed h) else step_digit h ten 0 b
+abbrev pub step_numeric_reference : Hole → ℕ → Step
+step_numeric_reference h b = if b == 120 then go (hexadecimal_reference h) else step_digit h ten 0 b
 
-abbrev pub step_number : Hole → Base → ℕ → ℕ → Step
-step_number h base n b = if b == 59 then guard Plain (is_char n) (filled h n) else step_digit h base n b
+abbrev pub step_reference_digits : Hole → Base → ℕ → ℕ → Step
+step_reference_digits h base n b = if b == 59 then guard Plain (is_char n) (after_reference h n) else step_digit h base n b
 
 -- ---- every state
 
 abbrev pub step : Limits → State → Class → ℕ → Step
 step l start k b = step_start k b
-step l fresh k b = step_fresh Plain k
-step l fresh_opened k b = step_fresh_opened l k b
-step l fresh_asked k b = step_fresh_asked k b
-step l (fresh_target n) k b = step_fresh_target n k b
-step l untold k b = step_untold k b
-step l (told part) k b = step_told part k
-step l (gap part) k b = step_gap part k b
-step l (worded part t todo) k b = step_worded part t todo b
-step l (equal part) k b = step_equal part k
-step l (quoted part) k b = step_quoted part k
-step l (answer q) k b = step_answer q b
-step l (said part q t todo) k b = step_said part q t todo b
-step l (said_all part q) k b = exactly (quote_char q) b (told part)
-step l declared k b = step_greater k (go (at before))
-step l (at p) k b = step_at p k b
-step l (opened p) k b = step_opened l p k b
-step l (banged p) k b = step_banged p k
-step l (dashed p) k b = step_dash k (comment p)
+step l after_byte_order_mark k b = step_after_byte_order_mark Plain k
+step l document_tag_open k b = step_document_tag_open l k b
+step l document_processing_instruction k b = step_document_processing_instruction k b
+step l (document_instruction_target n) k b = step_document_instruction_target n k b
+step l before_version k b = step_before_version k b
+step l (after_setting part) k b = step_after_setting part k
+step l (between_settings part) k b = step_between_settings part k b
+step l (setting_name part t todo) k b = step_setting_name part t todo b
+step l (after_setting_name part) k b = step_after_setting_name part k
+step l (before_setting_value part) k b = step_before_setting_value part k
+step l (standalone_value q) k b = step_standalone_value q b
+step l (setting_value part q t todo) k b = step_setting_value part q t todo b
+step l (setting_value_end part q) k b = exactly (quote_char q) b (after_setting part)
+step l declaration_end k b = step_greater k (go (content before))
+step l (content p) k b = step_content p k b
+step l (tag_open p) k b = step_tag_open l p k b
+step l (markup_declaration p) k b = step_markup_declaration p k
+step l (comment_start p) k b = step_dash k (comment p)
 step l (comment p) k b = step_comment p k b
 step l (comment_dash p) k b = step_comment_dash p k b
-step l (comment_end p) k b = step_greater k (go (at p))
-step l (asked p) k b = step_asked p k b
-step l (target p n) k b = step_target p n k b
-step l (target_end p) k b = step_greater k (go (at p))
-step l (instruction p) k b = step_instruction p k b
+step l (comment_end p) k b = step_greater k (go (content p))
+step l (processing_instruction p) k b = step_processing_instruction p k b
+step l (instruction_target p n) k b = step_instruction_target p n k b
+step l (instruction_target_end p) k b = step_greater k (go (content p))
+step l (instruction_text p) k b = step_instruction_text p k b
 step l (instruction_end p) k b = step_instruction_end p k b
-step l (bracketed n ns t todo) k b = step_bracketed n ns t todo b
-step l (section n ns) k b = step_section n ns k b
-step l (section_one n ns) k b = step_section_one n ns k b
-step l (section_two n ns) k b = step_section_two n ns k b
-step l (naming p n) k b = step_naming p n k b
-step l (tagged p n xs) k b = step_tagged p n xs k b
-step l (attr p n xs x) k b = step_attr l p n xs x k b
-step l (equals p n xs x) k b = step_equals p n xs x k
-step l (valued p n xs x) k b = step_valued p n xs x k
-step l (value p n xs x q v r) k b = step_value p n xs x q v r k b
-step l (closed p n xs) k b = step_tag p n xs k
-step l (slashed p n xs) k b = step_greater k (emit (at (within (stack p))) (begin n xs ∷ close ∷ []))
-step l (finishing ns todo) k b = step_finishing ns todo k b
-step l (finished ns) k b = step_finished ns k
-step l (amped h) k b = step_amped h b
-step l (amped_a h) k b = step_amped_a h b
-step l (forced h code t todo) k b = step_forced h code t todo b
-step l (hashed h) k b = step_hashed h b
-step l (hexed h) k b = step_digit h sixteen 0 b
-step l (number h base n) k b = step_number h base n b
+step l (cdata_start n ns t todo) k b = step_cdata_start n ns t todo b
+step l (cdata_section n ns) k b = step_cdata_section n ns k b
+step l (cdata_section_bracket n ns) k b = step_cdata_section_bracket n ns k b
+step l (cdata_section_end n ns) k b = step_cdata_section_end n ns k b
+step l (tag_name p n) k b = step_tag_name p n k b
+step l (before_attribute_name p n xs) k b = step_before_attribute_name p n xs k b
+step l (attribute_name p n xs x) k b = step_attribute_name l p n xs x k b
+step l (after_attribute_name p n xs x) k b = step_after_attribute_name p n xs x k
+step l (before_attribute_value p n xs x) k b = step_before_attribute_value p n xs x k
+step l (attribute_value p n xs x q v r) k b = step_attribute_value p n xs x q v r k b
+step l (after_attribute_value p n xs) k b = step_tag p n xs k
+step l (self_closing_start_tag p n xs) k b = step_greater k (emit (content (within (stack p))) (begin n xs ∷ close ∷ []))
+step l (end_tag_name ns todo) k b = step_end_tag_name ns todo k b
+step l (after_end_tag_name ns) k b = step_after_end_tag_name ns k
+step l (reference h) k b = step_reference h b
+step l (reference_a h) k b = step_reference_a h b
+step l (named_reference h code t todo) k b = step_named_reference h code t todo b
+step l (numeric_reference h) k b = step_numeric_reference h b
+step l (hexadecimal_reference h) k b = step_digit h sixteen 0 b
+step l (reference_digits h base n) k b = step_reference_digits h base n b
 
 abbrev pub along : (State → List Event → Type 0) → Step → List Event → Type 0
 along P (dead w) out = ⊥
@@ -434,7 +434,7 @@ along P (go s) out = P s out
 along P (emit s es) out = (more : List Event) × (out ≡ es ++ more) × P s more
 
 abbrev pub Final : State → Type 0
-Final (at (within [])) = Unit {0}
+Final (content (within [])) = Unit {0}
 Final s = ⊥
 
 -- the machine reads all of the text, from a state, and ends well

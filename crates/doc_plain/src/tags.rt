@@ -84,7 +84,7 @@ fn are_attributes(text: &[u8]) -> bool {
 }
 
 /// The name of what stands between the brackets of a tag.
-fn named(inside: &[u8]) -> Option<&[u8]> {
+fn tag_name(inside: &[u8]) -> Option<&[u8]> {
     for end in 0..inside.len() {
         if is_name(&inside[..end + 1]) && are_attributes(&inside[end + 1..]) {
             return Some(&inside[..end + 1]);
@@ -95,13 +95,13 @@ fn named(inside: &[u8]) -> Option<&[u8]> {
 
 /// The name of a start tag (40).
 pub(crate) fn start_name(text: &[u8]) -> Option<&[u8]> {
-    named(between(text, b"<", b">")?)
+    tag_name(between(text, b"<", b">")?)
 }
 
 /// A tag of an empty element (44).
 pub(crate) fn is_empty_tag(text: &[u8]) -> bool {
     match between(text, b"<", b"/>") {
-        Some(inside) => named(inside).is_some(),
+        Some(inside) => tag_name(inside).is_some(),
         None => false,
     }
 }

@@ -49,7 +49,7 @@ fn text_of(
 }
 
 /// A text, where another stands in the place of a byte.
-fn edited(alloc: Global, text: &[u8], at: usize, other: &[u8]) -> Result<Vec<u8>, AllocError> {
+fn edit(alloc: Global, text: &[u8], at: usize, other: &[u8]) -> Result<Vec<u8>, AllocError> {
     let mut new = Vec::new(alloc);
     for (i, b) in text.iter().enumerate() {
         if i == at {
@@ -107,13 +107,13 @@ fn edited_texts_are_read_where_they_are_documents(rt: HostRuntime) -> Result<(),
     for (number, document) in LONGER.iter().enumerate() {
         assert!(rt; is_document(document), "text {number}");
         for at in 0..document.len() {
-            let text = edited(rt.alloc(), document, at, b"")?;
+            let text = edit(rt.alloc(), document, at, b"")?;
             assert!(rt;
                 agrees(rt.alloc(), text.as_slice()),
                 "text {number} without {at}"
             );
             for b in CHARACTERS {
-                let text = edited(rt.alloc(), document, at, &[*b])?;
+                let text = edit(rt.alloc(), document, at, &[*b])?;
                 assert!(rt;
                     agrees(rt.alloc(), text.as_slice()),
                     "text {number} with {b} at {at}"

@@ -44,9 +44,9 @@ key_if true x = x
 key_if false x = None
 
 -- a text that isn't empty
-abbrev pub filled : Option (List ℕ) → Option (List ℕ)
-filled None = None
-filled (Some text) = key_if (not (length text == 0)) (Some text)
+abbrev pub unless_empty : Option (List ℕ) → Option (List ℕ)
+unless_empty None = None
+unless_empty (Some text) = key_if (not (length text == 0)) (Some text)
 
 -- ---- what is absent, and what doesn't read
 
@@ -55,7 +55,7 @@ Lacks t k name = attribute t k name ≡ None
 
 -- an empty text counts as absent
 abbrev pub LacksText : List Node → ℕ → List ℕ → Type 0
-LacksText t k name = filled (attribute t k name) ≡ None
+LacksText t k name = unless_empty (attribute t k name) ≡ None
 
 -- the attribute is there, and the reading answers nothing
 abbrev pub Misreads : {A : Type 0} → (List ℕ → Option A) → List Node → ℕ → List ℕ → Type 0

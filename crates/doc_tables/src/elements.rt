@@ -1,6 +1,6 @@
 //! What elements are called, say and stand in, and what stands in them. Past the last element there is nothing of that.
 ghost use Rattle.std.specs.Prelude.{◌≡◌, ◌<◌, ◌↔◌, IfSome, IsTrue, option_copied};
-ghost use Rattle.doc_tables.specs.Elements.{Lacks, LacksText, attribute, children, filled, is_in, is_named, is_root, name_of, parent, text_of};
+ghost use Rattle.doc_tables.specs.Elements.{Lacks, LacksText, attribute, children, unless_empty, is_in, is_named, is_root, name_of, parent, text_of};
 
 use doc_tree::Tree;
 
@@ -74,8 +74,8 @@ pub fn is_in_root(tree: &Tree, node: usize) -> bool
 }
 
 /// A text that isn't empty.
-pub fn filled(text: Option<&str>) -> Option<&str>
-    ensures { option_copied result ≡ filled (option_copied text.entry) }
+pub fn unless_empty(text: Option<&str>) -> Option<&str>
+    ensures { option_copied result ≡ unless_empty (option_copied text.entry) }
 {
     match text {
         Some(text) if !text.is_empty() => Some(text),

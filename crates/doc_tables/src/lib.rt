@@ -9,7 +9,8 @@ mod scopes;
 mod tests;
 
 pub use elements::{
-    attribute, children, filled, is_in_root, is_named, lacks, lacks_text, name, parent, text_of,
+    attribute, children, is_in_root, is_named, lacks, lacks_text, name, parent, text_of,
+    unless_empty,
 };
 pub use names::NamePlaces;
 pub use refusals::refusal;

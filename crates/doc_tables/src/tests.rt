@@ -1,6 +1,6 @@
 use crate::{
-    NamePlaces, ScopedPlaces, attribute, children, filled, is_in_root, is_named, lacks, lacks_text,
-    name, parent, refusal, text_of,
+    NamePlaces, ScopedPlaces, attribute, children, is_in_root, is_named, lacks, lacks_text, name,
+    parent, refusal, text_of, unless_empty,
 };
 use doc_tree::{DescriptionRule, Refusal, Rule, read_tree};
 use std::test::Fail;
@@ -22,7 +22,7 @@ fn the_first_element_of_a_name_is_found(rt: HostRuntime) -> Result<(), Fail> {
     let mut names = NamePlaces::new(alloc);
     let mut scopes = ScopedPlaces::new(alloc);
     for node in 0..tree.len() {
-        let own = filled(attribute(&tree, node, "n"));
+        let own = unless_empty(attribute(&tree, node, "n"));
         names.put(own, node)?;
         scopes.put(parent(&tree, node).zip(own), node)?;
     }

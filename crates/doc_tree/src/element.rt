@@ -41,7 +41,7 @@ fn keeps(name: &[char]) -> bool
 }
 
 /// An attribute's texts.
-fn named(alloc: Global, attr: &Attribute) -> Result<Named, AllocError>
+fn attribute_texts(alloc: Global, attr: &Attribute) -> Result<Named, AllocError>
     ensures { IfOk result (λ n. e.pair_of n ≡ (encode_utf8_all attr.now.name.items, encode_utf8_all attr.now.value.items)) }
 {
     Ok(Named {
@@ -56,7 +56,7 @@ fn add(alloc: Global, attrs: &mut Vec<Named>, attr: &Attribute) -> Result<(), Al
         (is_kept attr.now.name.items) (pair_of attr.now) []) }
 {
     if keeps(attr.name.as_slice()) {
-        attrs.push(named(alloc, attr)?)?;
+        attrs.push(attribute_texts(alloc, attr)?)?;
     }
     Ok(())
 }

@@ -281,7 +281,7 @@ const FAULTS: [(&[u8], DocumentRule, usize); 132] = [
 ];
 
 /// Of each element its name and its children.
-fn shown(alloc: Global, tree: &Tree) -> Result<String, AllocError> {
+fn show(alloc: Global, tree: &Tree) -> Result<String, AllocError> {
     let mut text = String::new(alloc);
     for node in 0..tree.len() {
         text.push_str(tree.name(node))?;
@@ -294,7 +294,7 @@ fn shown(alloc: Global, tree: &Tree) -> Result<String, AllocError> {
 }
 
 /// A text so many times.
-fn repeated(alloc: Global, text: &str, times: usize) -> Result<String, AllocError> {
+fn repeat(alloc: Global, text: &str, times: usize) -> Result<String, AllocError> {
     let mut all = String::new(alloc);
     for _ in 0..times {
         all.push_str(text)?;
@@ -306,7 +306,7 @@ fn repeated(alloc: Global, text: &str, times: usize) -> Result<String, AllocErro
 fn documents_are_read(rt: HostRuntime) -> Result<(), Fail> {
     for (document, expected) in &DOCUMENTS {
         let tree = read_tree(rt.alloc(), document.as_bytes())?;
-        assert_eq!(rt; shown(rt.alloc(), &tree)?.as_str(), *expected, "{document}");
+        assert_eq!(rt; show(rt.alloc(), &tree)?.as_str(), *expected, "{document}");
         assert!(rt; 0 < tree.len() && tree.parent(0).is_none());
         for node in 0..tree.len() {
             for child in tree.children(node) {
@@ -360,8 +360,8 @@ fn each_front_is_cut_at_its_end(rt: HostRuntime) {
 
 #[test]
 fn elements_stand_64_deep(rt: HostRuntime) -> Result<(), Fail> {
-    let front = repeated(rt.alloc(), "<a>", 64)?;
-    let back = repeated(rt.alloc(), "</a>", 64)?;
+    let front = repeat(rt.alloc(), "<a>", 64)?;
+    let back = repeat(rt.alloc(), "</a>", 64)?;
     let whole = format!(in rt.alloc(); "{front}<!----><?p?>{back}")?;
     assert_eq!(rt; read_tree(rt.alloc(), whole.as_bytes())?.len(), 64);
     for (next, rule, byte) in [
@@ -381,7 +381,7 @@ fn elements_stand_64_deep(rt: HostRuntime) -> Result<(), Fail> {
 
 #[test]
 fn large_documents_are_read(rt: HostRuntime) -> Result<(), Fail> {
-    let rows = repeated(
+    let rows = repeat(
         rt.alloc(),
         "<Int32 name=\"inc\" valueReference=\"1\" start=\"2\"/>\n",
         350_000,
@@ -389,10 +389,10 @@ fn large_documents_are_read(rt: HostRuntime) -> Result<(), Fail> {
     let text = format!(in rt.alloc(); "<a>{rows}</a>")?;
     assert!(rt; 16_777_216 <= text.len());
     assert_eq!(rt; read_tree(rt.alloc(), text.as_bytes())?.len(), 350_001);
-    let front = repeated(rt.alloc(), "<a>", 63)?;
-    let back = repeated(rt.alloc(), "</a>", 63)?;
+    let front = repeat(rt.alloc(), "<a>", 63)?;
+    let back = repeat(rt.alloc(), "</a>", 63)?;
     let nest = format!(in rt.alloc(); "{front}{back}")?;
-    let nests = repeated(rt.alloc(), nest.as_str(), 39_000)?;
+    let nests = repeat(rt.alloc(), nest.as_str(), 39_000)?;
     let text = format!(in rt.alloc(); "<a>{nests}</a>")?;
     assert!(rt; 16_777_216 <= text.len());
     assert_eq!(rt;

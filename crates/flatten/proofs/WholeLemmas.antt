@@ -10,7 +10,7 @@ use Rattle.std.proofs.lemmas.Slice.Zip.{AllZip-long}
 use Rattle.doc_grammar.specs.Nodes.{Node}
 use Rattle.doc_tree.specs.Elements.{child_if, children_from, is_parent}
 use Rattle.doc_tree.specs.declared.rule.SystemRule.TheVariants as r
-use Rattle.doc_tables.specs.Elements.{children, filled, is_named, parent}
+use Rattle.doc_tables.specs.Elements.{children, unless_empty, is_named, parent}
 use Rattle.ssd_tree.specs.declared.tree.Owner.{Owner}
 use Rattle.ssd_tree.specs.declared.tree.Owner.TheVariants.{System, Component}
 use Rattle.ssd_tree.specs.declared.tree.Connector.{Connector}
@@ -92,13 +92,13 @@ zip_partner R (x ∷ xs) (z ∷ ys) (suc k) y zip at = zip_partner R xs ys k y z
 
 -- ---- names
 
-filled_long : (text : List ℕ) → (filled (Some text) ≡ None → ⊥) → 0 < length text
-filled_long [] some = absurd (some refl)
-filled_long (x ∷ xs) some = omega arith
+not_empty_long : (text : List ℕ) → (unless_empty (Some text) ≡ None → ⊥) → 0 < length text
+not_empty_long [] some = absurd (some refl)
+not_empty_long (x ∷ xs) some = omega arith
 
 full_name : (t : List Node) → IsSound t → (k : ℕ) (name : List ℕ) → IsComponent t k → IsFullName t k name → 0 < length name
 full_name t sound k name is (InOutermost _ outer _ holder root told) =
-    filled_long name (λ empty. sound r.Incomplete k (inl (inr (inr (is, inl (ap filled told ∙ empty))))))
+    not_empty_long name (λ empty. sound r.Incomplete k (inl (inr (inr (is, inl (ap unless_empty told ∙ empty))))))
 full_name t sound k name is (InInner _ system outer above own holder inner whole told) = omega (arith, length-append above (46 ∷ own))
 
 -- ---- the whole

@@ -2,7 +2,7 @@
 use Rattle.std.specs.Prelude.{◌≡◌, ◌⊎◌, ℕ, Bool, true, false, ◌&&◌, ◌||◌, List, Option, is_some, unwrap_or, option_and_then, codes}
 use Rattle.value_types.specs.declared.shape.Causality.{Causality}
 use Rattle.doc_grammar.specs.Nodes.{Node}
-use Rattle.doc_tables.specs.Elements.{name_of, is_named, attribute, is_root, is_in, key_if, filled}
+use Rattle.doc_tables.specs.Elements.{name_of, is_named, attribute, is_root, is_in, key_if, unless_empty}
 use Rattle.doc_tables.specs.Tables.{IsFirst, IsRepeated}
 use Rattle.fmu_description.specs.Texts.{flag_or, reference, references, port_type, is_foreign_type, causality}
 
@@ -74,7 +74,7 @@ abbrev pub initial_key : List Node → ℕ → Option ℕ
 initial_key t k = key_if (is_initial_unknown t k) (reference_of t k)
 
 abbrev pub name_key : List Node → ℕ → Option (List ℕ)
-name_key t k = key_if (is_variable t k || is_alias t k) (filled (attribute t k (codes "name")))
+name_key t k = key_if (is_variable t k || is_alias t k) (unless_empty (attribute t k (codes "name")))
 
 -- ---- the first of several
 

@@ -5,7 +5,7 @@ ghost use Rattle.fmu_description.specs.Elements.{causality_of, clock_key, flag_o
 ghost use Rattle.fmu_description.specs.Clocks.{counter_of, variability_of};
 
 use crate::texts;
-use doc_tables::{attribute, filled, is_in_root, is_named, name, parent};
+use doc_tables::{attribute, is_in_root, is_named, name, parent, unless_empty};
 use doc_tree::Tree;
 use std::alloc::{AllocError, Global};
 use value_types::{Causality, IntervalVariability};
@@ -222,7 +222,7 @@ pub(crate) fn name_key(tree: &Tree, node: usize) -> Option<&str>
     ensures { option_copied result ≡ name_key tree.now node }
 {
     if is_variable(tree, node) || is_alias(tree, node) {
-        filled(attribute(tree, node, "name"))
+        unless_empty(attribute(tree, node, "name"))
     } else {
         None
     }

@@ -6,7 +6,7 @@ use Rattle.std.proofs.lemmas.Bool.{both_ways, eqb-true, cases_order}
 use Rattle.std.proofs.lemmas.Option.{slice_get_within, same_Some, none-some}
 use Rattle.std.proofs.lemmas.Slice.Eq.{bytes_eq-Decides}
 use Rattle.doc_grammar.specs.Nodes.{Node}
-use Rattle.doc_tables.specs.Elements.{name_of, is_named, attribute, parent, is_in, is_root, key_if, filled}
+use Rattle.doc_tables.specs.Elements.{name_of, is_named, attribute, parent, is_in, is_root, key_if, unless_empty}
 use Rattle.doc_tables.specs.Tables.{IsFirstWith}
 use Rattle.doc_tables.proofs.TableLemmas.{IsWithin}
 use Rattle.ssd_tree.specs.Elements.{holder, both, element_key, connector_key, mapping_key, IsSystem, Outermost, Inner, IsComponent, IsPart, IsOfPart, IsOfSystem}
@@ -62,12 +62,12 @@ both_scope (Some s) (Some name) x h = (s, refl)
 
 pub element_key_within : (t : List Node) → IsWithin (element_key t) (length t)
 element_key_within t k x h =
-    let scope = both_scope (holder t k (codes "Elements")) (filled (attribute t k (codes "name"))) x (key_if_is (is_named t k (codes "System") || is_named t k (codes "Component")) _ x h) in
+    let scope = both_scope (holder t k (codes "Elements")) (unless_empty (attribute t k (codes "name"))) x (key_if_is (is_named t k (codes "System") || is_named t k (codes "Component")) _ x h) in
     holder_within t k scope.0 (codes "Elements") scope.1
 
 pub connector_key_within : (t : List Node) → IsWithin (connector_key t) (length t)
 connector_key_within t k x h =
-    let scope = both_scope (holder t k (codes "Connectors")) (filled (attribute t k (codes "name"))) x (key_if_is (is_named t k (codes "Connector")) _ x h) in
+    let scope = both_scope (holder t k (codes "Connectors")) (unless_empty (attribute t k (codes "name"))) x (key_if_is (is_named t k (codes "Connector")) _ x h) in
     holder_within t k scope.0 (codes "Connectors") scope.1
 
 pub mapping_key_within : (t : List Node) → IsWithin (mapping_key t) (length t)

@@ -9,7 +9,7 @@ use Rattle.std.proofs.lemmas.Slice.Zip.{all_zipped_more}
 use Rattle.std.proofs.lemmas.Option.{same_Some, none-some}
 use Rattle.doc_grammar.specs.Nodes.{Node}
 use Rattle.doc_tree.specs.declared.rule.SystemRule.TheVariants as r
-use Rattle.doc_tables.specs.Elements.{attribute, children, parent, is_named, text_of, filled, Lacks}
+use Rattle.doc_tables.specs.Elements.{attribute, children, parent, is_named, text_of, unless_empty, Lacks}
 use Rattle.doc_tables.specs.Tables.{Finds, IsFirstWith}
 use Rattle.doc_tables.proofs.TableLemmas.{or_cases, key_if_true}
 use Rattle.ssd_tree.specs.Elements.{first_child, has_child, holder, both, element_key, mapping_key, kind_of, IsSystem, Outermost, Inner, IsComponent, IsPart, IsOfPart, IsConnector, IsConnection, IsBinding, IsMappingOf}
@@ -23,9 +23,9 @@ use Rattle.ssd_tree.proofs.OneLemmas.{alone_in_root, mapping_keyed}
 
 -- ---- what is there
 
-some_filled : (o : Option (List ℕ)) → (filled o ≡ None → ⊥) → IsSome o
-some_filled None h = absurd (h refl)
-some_filled (Some x) h = refl
+some_not_empty : (o : Option (List ℕ)) → (unless_empty o ≡ None → ⊥) → IsSome o
+some_not_empty None h = absurd (h refl)
+some_not_empty (Some x) h = refl
 
 some_from : {A : Type 0} (o : Option A) → (o ≡ None → ⊥) → IsSome o
 some_from None h = absurd (h refl)
@@ -39,16 +39,16 @@ is_text None h = absurd (none_some h)
 is_text (Some x) h = refl
 
 pub system_named : (t : List Node) (k : ℕ) → IsSound t → IsSystem t k → IsSome (attribute t k (codes "name"))
-system_named t k sound is = some_filled (attribute t k (codes "name")) (λ e. sound r.Incomplete k (inl (inr (inl (is, e)))))
+system_named t k sound is = some_not_empty (attribute t k (codes "name")) (λ e. sound r.Incomplete k (inl (inr (inl (is, e)))))
 
 pub component_named : (t : List Node) (k : ℕ) → IsSound t → IsComponent t k → IsSome (attribute t k (codes "name"))
-component_named t k sound is = some_filled (attribute t k (codes "name")) (λ e. sound r.Incomplete k (inl (inr (inr (is, inl e)))))
+component_named t k sound is = some_not_empty (attribute t k (codes "name")) (λ e. sound r.Incomplete k (inl (inr (inr (is, inl e)))))
 
 pub component_sourced : (t : List Node) (k : ℕ) → IsSound t → IsComponent t k → IsSome (attribute t k (codes "source"))
 component_sourced t k sound is = some_from (attribute t k (codes "source")) (λ e. sound r.Incomplete k (inl (inr (inr (is, inr e)))))
 
 pub connector_named : (t : List Node) (k : ℕ) → IsSound t → IsConnector t k → IsSome (attribute t k (codes "name"))
-connector_named t k sound is = some_filled (attribute t k (codes "name")) (λ e. sound r.Incomplete k (inr (inl (is, inl e))))
+connector_named t k sound is = some_not_empty (attribute t k (codes "name")) (λ e. sound r.Incomplete k (inr (inl (is, inl e))))
 
 pub connector_kinded : (t : List Node) (k : ℕ) → IsSound t → IsConnector t k → IsSome (kind_of t k)
 connector_kinded t k sound is = some_from (kind_of t k) (λ e. sound r.Incomplete k (inr (inl (is, inr (inl e)))))
@@ -136,8 +136,8 @@ element_part t k s n system h =
   where
     up : holder t k (codes "Elements") ≡ Some s
     up =
-        both_scoped (holder t k (codes "Elements")) (filled (attribute t k (codes "name"))) s n
-        (key_if_is (is_named t k (codes "System") || is_named t k (codes "Component")) (both (holder t k (codes "Elements")) (filled (attribute t k (codes "name")))) (s, n) h)
+        both_scoped (holder t k (codes "Elements")) (unless_empty (attribute t k (codes "name"))) s n
+        (key_if_is (is_named t k (codes "System") || is_named t k (codes "Component")) (both (holder t k (codes "Elements")) (unless_empty (attribute t k (codes "name")))) (s, n) h)
 
     at : (is_named t k (codes "System") ≡ true) ⊎ (is_named t k (codes "Component") ≡ true) → IsPart t k
     at (inl named) = inl (Inner k s named up system)
@@ -153,7 +153,7 @@ end_connector t k j element connector is e =
       key_if_true _ _ (e.part, e.name) e.is.0,
       (
         e.part,
-        both_scoped (holder t j (codes "Connectors")) (filled (attribute t j (codes "name"))) e.part e.name (key_if_is _ _ (e.part, e.name) e.is.0),
+        both_scoped (holder t j (codes "Connectors")) (unless_empty (attribute t j (codes "name"))) e.part e.name (key_if_is _ _ (e.part, e.name) e.is.0),
         part_named t e.system e.part (attribute t k element) system e.is_part,
       ),
     )

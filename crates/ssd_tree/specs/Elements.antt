@@ -3,7 +3,7 @@
 use Rattle.std.specs.Prelude.{◌≡◌, ◌⊎◌, ℕ, Bool, true, ◌||◌, List, [], ◌∷◌, Option, Some, None, option_and_then, find, codes, bytes_eq, if◌then◌else◌}
 use Rattle.std.specs.List.{list_any}
 use Rattle.doc_grammar.specs.Nodes.{Node}
-use Rattle.doc_tables.specs.Elements.{name_of, is_named, attribute, children, parent, key_if, filled}
+use Rattle.doc_tables.specs.Elements.{name_of, is_named, attribute, children, parent, key_if, unless_empty}
 use Rattle.doc_tables.specs.Tables.{IsRepeated}
 use Rattle.ssd_tree.specs.declared.tree.ConnectorKind.{ConnectorKind}
 use Rattle.ssd_tree.specs.declared.tree.ConnectorKind.TheVariants as kind
@@ -68,12 +68,12 @@ both (Some scope) (Some name) = Some (scope, name)
 abbrev pub element_key : List Node → ℕ → Option (ℕ × List ℕ)
 element_key t k =
     key_if (is_named t k (codes "System") || is_named t k (codes "Component"))
-    (both (holder t k (codes "Elements")) (filled (attribute t k (codes "name"))))
+    (both (holder t k (codes "Elements")) (unless_empty (attribute t k (codes "name"))))
 
 -- the name of a connector, in its part
 abbrev pub connector_key : List Node → ℕ → Option (ℕ × List ℕ)
 connector_key t k =
-    key_if (is_named t k (codes "Connector")) (both (holder t k (codes "Connectors")) (filled (attribute t k (codes "name"))))
+    key_if (is_named t k (codes "Connector")) (both (holder t k (codes "Connectors")) (unless_empty (attribute t k (codes "name"))))
 
 -- a ParameterMapping, in the element that it stands in
 abbrev pub mapping_key : List Node → ℕ → Option (ℕ × List ℕ)

@@ -4,7 +4,7 @@ ghost use Rattle.doc_tables.specs.Places.{scoped};
 ghost use Rattle.ssd_tree.specs.Elements.{both, connector_key, connector_kind, element_key, first_child, has_child, holder, kind_of, mapping_key, type_child, type_of};
 
 use crate::tree::{ConnectorKind, TypeChild};
-use doc_tables::{attribute, children, filled, is_named, name, parent};
+use doc_tables::{attribute, children, is_named, name, parent, unless_empty};
 use doc_tree::Tree;
 
 /// Whether an element of this name stands directly in this one.
@@ -53,7 +53,7 @@ pub(crate) fn element_key(tree: &Tree, node: usize) -> Option<(usize, &str)>
     if is_named(tree, node, "System") || is_named(tree, node, "Component") {
         both(
             holder(tree, node, "Elements"),
-            filled(attribute(tree, node, "name")),
+            unless_empty(attribute(tree, node, "name")),
         )
     } else {
         None
@@ -67,7 +67,7 @@ pub(crate) fn connector_key(tree: &Tree, node: usize) -> Option<(usize, &str)>
     if is_named(tree, node, "Connector") {
         both(
             holder(tree, node, "Connectors"),
-            filled(attribute(tree, node, "name")),
+            unless_empty(attribute(tree, node, "name")),
         )
     } else {
         None
