@@ -1,5 +1,5 @@
 -- What the reader's states stand for.
-use Rattle.std.specs.Prelude.{◌≡◌, ℕ, List, [], ◌∷◌, ◌++◌, map, reverse, drop, Result, Ok, Err, ⊤}
+use Rattle.std.specs.Prelude.{◌≡◌, ℕ, List, [], ◌∷◌, ◌++◌, map, reverse, drop, Result, Ok, Err, ⊤, codes}
 use Rattle.std.specs.declared.vec.Vec.{Vec}
 use Rattle.std.specs.declared.alloc.Global.{Global}
 use Rattle.doc_grammar.specs.Grammar.{Pair, begin, close}
@@ -54,10 +54,10 @@ saying_part Yes = g.standalone
 saying_part No = g.standalone
 
 abbrev pub saying_text : Saying → List ℕ
-saying_text OnePointZero = 49 ∷ 46 ∷ 48 ∷ []
-saying_text Utf8 = 117 ∷ 116 ∷ 102 ∷ 45 ∷ 56 ∷ []
-saying_text Yes = 121 ∷ 101 ∷ 115 ∷ []
-saying_text No = 110 ∷ 111 ∷ []
+saying_text OnePointZero = codes "1.0"
+saying_text Utf8 = codes "utf-8"
+saying_text Yes = codes "yes"
+saying_text No = codes "no"
 
 abbrev pub base_of : Base → g.Base
 base_of Ten = g.ten
@@ -65,14 +65,15 @@ base_of Sixteen = g.sixteen
 
 abbrev pub hole_of : Hole → m.Hole
 hole_of (InText n ns) = m.in_text n.items (names_of ns.items)
-hole_of (InValue p t x q v) = m.in_value (place_of p) t.name.items t.attrs x.items (quote_of q) v.items
+hole_of (InValue p t x q v) =
+    m.in_value (place_of p) t.name.items t.attrs x.items (quote_of q) v.items
 
 abbrev pub tail_of : Tail → List ℕ
 tail_of Nothing = []
-tail_of Semicolon = 59 ∷ []
-tail_of T = 116 ∷ 59 ∷ []
-tail_of Ot = 111 ∷ 116 ∷ 59 ∷ []
-tail_of S = 115 ∷ 59 ∷ []
+tail_of Semicolon = codes ";"
+tail_of T = codes "t;"
+tail_of Ot = codes "ot;"
+tail_of S = codes "s;"
 
 -- in a word of the declaration, where these characters are to come
 abbrev pub setting_name_from : g.Part → List ℕ → m.State
@@ -89,9 +90,8 @@ abbrev pub cdata_start_from : List ℕ → List (List ℕ) → List ℕ → m.St
 cdata_start_from n ns [] = m.cdata_section n ns
 cdata_start_from n ns (t ∷ todo) = m.cdata_start n ns t todo
 
--- `CDATA[`
 abbrev pub cdata : List ℕ
-cdata = 67 ∷ 68 ∷ 65 ∷ 84 ∷ 65 ∷ 91 ∷ []
+cdata = codes "CDATA["
 
 abbrev pub state_of : State → m.State
 state_of s.Start = m.start
@@ -106,7 +106,8 @@ state_of (s.SettingName part k) = setting_name_from (part_of part) (drop k (g.wo
 state_of (s.AfterSettingName part) = m.after_setting_name (part_of part)
 state_of (s.BeforeSettingValue part) = m.before_setting_value (part_of part)
 state_of (s.StandaloneValue q) = m.standalone_value (quote_of q)
-state_of (s.SettingValue w q k) = setting_value_from (saying_part w) (quote_of q) (drop k (saying_text w))
+state_of (s.SettingValue w q k) =
+    setting_value_from (saying_part w) (quote_of q) (drop k (saying_text w))
 state_of s.DeclarationEnd = m.declaration_end
 state_of (s.Content p) = m.content (place_of p)
 state_of (s.TagOpen p) = m.tag_open (place_of p)
@@ -127,9 +128,12 @@ state_of (s.CdataSectionEnd n ns) = m.cdata_section_end n.items (names_of ns.ite
 state_of (s.TagName p n) = m.tag_name (place_of p) n.items
 state_of (s.BeforeAttributeName p t) = m.before_attribute_name (place_of p) t.name.items t.attrs
 state_of (s.AttributeName p t x) = m.attribute_name (place_of p) t.name.items t.attrs x.items
-state_of (s.AfterAttributeName p t x) = m.after_attribute_name (place_of p) t.name.items t.attrs x.items
-state_of (s.BeforeAttributeValue p t x) = m.before_attribute_value (place_of p) t.name.items t.attrs x.items
-state_of (s.AttributeValue p t x q v r) = m.attribute_value (place_of p) t.name.items t.attrs x.items (quote_of q) v.items r
+state_of (s.AfterAttributeName p t x) =
+    m.after_attribute_name (place_of p) t.name.items t.attrs x.items
+state_of (s.BeforeAttributeValue p t x) =
+    m.before_attribute_value (place_of p) t.name.items t.attrs x.items
+state_of (s.AttributeValue p t x q v r) =
+    m.attribute_value (place_of p) t.name.items t.attrs x.items (quote_of q) v.items r
 state_of (s.AfterAttributeValue p t) = m.after_attribute_value (place_of p) t.name.items t.attrs
 state_of (s.SelfClosingStartTag p t) = m.self_closing_start_tag (place_of p) t.name.items t.attrs
 state_of (s.EndTagName ns n k) = m.end_tag_name (names_of ns.items) (drop k n.items)

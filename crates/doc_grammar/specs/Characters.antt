@@ -1,38 +1,45 @@
--- Characters, sorted by what they are for. The numbers in parentheses are the productions of XML 1.0.
+-- Characters, sorted by what they are for.
+-- The numbers in parentheses are the productions of XML 1.0.
 use Rattle.std.specs.Prelude.{◌≡◌, ℕ, Bool, true, false, if◌then◌else◌, ◌==◌, ◌||◌, ◌&&◌, nat_le, List, [], ◌∷◌}
+use Prim.Native.Char.{code}
 use Rattle.doc_grammar.specs.declared.characters.Class.{Class}
 use Rattle.doc_grammar.specs.declared.characters.Class.TheVariants.{Less, Greater, Slash, Bang, Question, Dash, Ampersand, Equal, DoubleQuote, SingleQuote, OpenBracket, CloseBracket, Blank, Letter, Digit, Plain, Bad}
 
 -- a character of XML (2)
 abbrev pub is_char : ℕ → Bool
 is_char c =
-    (c == 9) || (c == 10) || (c == 13) || (nat_le 32 c && nat_le c 55295) || (nat_le 57344 c && nat_le c 65533)
-    || (nat_le 65536 c && nat_le c 1114111)
+    (c == 0x9) || (c == 0xa) || (c == 0xd) || (nat_le 0x20 c && nat_le c 0xd7ff)
+    || (nat_le 0xe000 c && nat_le c 0xfffd) || (nat_le 0x10000 c && nat_le c 0x10ffff)
 
 -- white space (3)
 abbrev pub is_blank : ℕ → Bool
-is_blank c = (c == 32) || (c == 9) || (c == 10) || (c == 13)
+is_blank c = (c == code " ") || (c == code "\t") || (c == code "\n") || (c == code "\r")
 
 -- an ASCII letter, `_` or `:` (4)
 abbrev pub is_letter : ℕ → Bool
-is_letter c = (nat_le 65 c && nat_le c 90) || (nat_le 97 c && nat_le c 122) || (c == 95) || (c == 58)
+is_letter c =
+    (nat_le (code "A") c && nat_le c (code "Z")) || (nat_le (code "a") c && nat_le c (code "z"))
+    || (c == code "_") || (c == code ":")
 
 -- what else may stand in a name, but for the dash (4a)
 abbrev pub is_digit : ℕ → Bool
-is_digit c = (nat_le 48 c && nat_le c 57) || (c == 46)
+is_digit c = (nat_le (code "0") c && nat_le c (code "9")) || (c == code ".")
 
 -- the class of a character that stands for nothing by itself
 unfoldable pub other_class : ℕ → Class
 other_class c =
     if is_blank c then Blank else if is_letter c then Letter else if is_digit c then Digit
-    else if is_char c then (if nat_le 128 c then Letter else Plain) else Bad
+    else if is_char c then (if nat_le 0x80 c then Letter else Plain) else Bad
 
 unfoldable pub class : ℕ → Class
 class c =
-    if c == 60 then Less else if c == 62 then Greater else if c == 47 then Slash else if c == 33 then Bang
-    else if c == 63 then Question else if c == 45 then Dash else if c == 38 then Ampersand else if c == 61 then Equal
-    else if c == 34 then DoubleQuote else if c == 39 then SingleQuote else if c == 91 then OpenBracket
-    else if c == 93 then CloseBracket else other_class c
+    if c == code "<" then Less else if c == code ">" then Greater
+    else if c == code "/" then Slash else if c == code "!" then Bang
+    else if c == code "?" then Question else if c == code "-" then Dash
+    else if c == code "&" then Ampersand else if c == code "=" then Equal
+    else if c == code "\"" then DoubleQuote else if c == code "'" then SingleQuote
+    else if c == code "[" then OpenBracket else if c == code "]" then CloseBracket
+    else other_class c
 
 -- what may stand in a name (4a): any character past ASCII, too
 abbrev pub names : Class → Bool

@@ -1,5 +1,5 @@
 -- The bytes that are a document, and where they are none the rule that is broken and its place.
-use Rattle.std.specs.Prelude.{◌≡◌, ℕ, ◌+◌, ◌-◌, ◌≤◌, nat_eq, if◌then◌else◌, List, [], ◌∷◌, ◌++◌, length, ◌⊎◌}
+use Rattle.std.specs.Prelude.{◌≡◌, ℕ, ◌+◌, ◌-◌, ◌≤◌, nat_eq, if◌then◌else◌, List, [], ◌∷◌, ◌++◌, length, ◌⊎◌, codes}
 use Rattle.std.specs.Str.{IsUtf8, IsValidUpTo, encode_utf8_all}
 use Rattle.std.specs.List.{starts_with}
 use Rattle.doc_grammar.specs.Characters.{class, IsName}
@@ -26,26 +26,32 @@ pub record IsLongestOf (l : Limits) (bytes p : List ℕ) : Type 0 where
 
 -- `DOCTYPE`
 abbrev pub doctype : List ℕ
-doctype = 68 ∷ 79 ∷ 67 ∷ 84 ∷ 89 ∷ 80 ∷ 69 ∷ []
+doctype = codes "DOCTYPE"
 
 -- p ends in `<!`, and `DOCTYPE` follows (28)
 pub record IsDoctype (p rest : List ℕ) (place : ℕ) : Type 0 where
-  pub before : (front : List ℕ) × (p ≡ front ++ 60 ∷ 33 ∷ []) × (place ≡ length front)
+  pub before : (front : List ℕ) × (p ≡ front ++ codes "<!") × (place ≡ length front)
   pub behind : (more : List ℕ) × (rest ≡ doctype ++ more)
 
 -- a byte that begins a character that may begin a name
 abbrev pub BeginsName : ℕ → Type 0
-BeginsName b = (class b ≡ Letter) ⊎ (128 ≤ b)
+BeginsName b = (class b ≡ Letter) ⊎ (0x80 ≤ b)
 
 -- p ends in `<`, and the next byte begins the name of an element that stands too deep
 pub record IsTooDeep (p rest : List ℕ) (place : ℕ) : Type 0 where
-  pub before : (front : List ℕ) × (p ≡ front ++ 60 ∷ []) × (place ≡ length front)
-  pub behind : (b : ℕ) × (more : List ℕ) × (rest ≡ b ∷ more) × BeginsName b × BeginsOne deeper (p ++ b ∷ [])
+  pub before : (front : List ℕ) × (p ≡ front ++ codes "<") × (place ≡ length front)
+  pub behind :
+      (b : ℕ) × (more : List ℕ) × (rest ≡ b ∷ more) × BeginsName b × BeginsOne deeper (p ++ b ∷ [])
 
--- p ends in the name of an attribute that its tag has already, and white space or `=` shows that it ends there
+-- p ends in the name of an attribute that its tag has already, and white space or `=` shows that it
+-- ends there
 pub record IsTwice (p rest : List ℕ) (place : ℕ) : Type 0 where
-  pub before : (front : List ℕ) × (c : ℕ) × (name : List ℕ) × (p ≡ front ++ c ∷ encode_utf8_all name) × (class c ≡ Blank) × IsName name × (place ≡ length front + 1)
-  pub behind : (b : ℕ) × (more : List ℕ) × (rest ≡ b ∷ more) × ((class b ≡ Blank) ⊎ (class b ≡ Equal)) × BeginsOne repeated (p ++ b ∷ [])
+  pub before :
+      (front : List ℕ) × (c : ℕ) × (name : List ℕ) × (p ≡ front ++ c ∷ encode_utf8_all name)
+      × (class c ≡ Blank) × IsName name × (place ≡ length front + 1)
+  pub behind :
+      (b : ℕ) × (more : List ℕ) × (rest ≡ b ∷ more) × ((class b ≡ Blank) ⊎ (class b ≡ Equal))
+      × BeginsOne repeated (p ++ b ∷ [])
 
 -- the rule that the end of the longest front shows, and its place
 abbrev pub IsRule : Rule → List ℕ → List ℕ → ℕ → Type 0
@@ -54,13 +60,16 @@ IsRule Doctype p rest place = IsDoctype p rest place
 IsRule TooDeep p rest place = IsTooDeep p rest place
 IsRule AttributeTwice p rest place = IsTwice p rest place
 IsRule Malformed p rest place =
-    (place ≡ length p) × ((n : ℕ) → IsDoctype p rest n → ⊥) × ((n : ℕ) → IsTooDeep p rest n → ⊥) × ((n : ℕ) → IsTwice p rest n → ⊥)
+    (place ≡ length p) × ((n : ℕ) → IsDoctype p rest n → ⊥) × ((n : ℕ) → IsTooDeep p rest n → ⊥)
+    × ((n : ℕ) → IsTwice p rest n → ⊥)
 
 -- bytes in UTF-8 that are no document
 pub record IsBroken (bytes : List ℕ) (rule : Rule) (place : ℕ) : Type 0 where
   pub text : IsUtf8 bytes
   pub none : (tree : List Event) → IsDocument strict bytes tree → ⊥
-  pub shown : (p : List ℕ) × (rest : List ℕ) × (bytes ≡ p ++ rest) × IsLongestOf strict bytes p × IsRule rule p rest place
+  pub shown :
+      (p : List ℕ) × (rest : List ℕ) × (bytes ≡ p ++ rest) × IsLongestOf strict bytes p
+      × IsRule rule p rest place
 
 -- bytes that are not in UTF-8, which is told by the first byte that is not
 pub record IsIll (bytes : List ℕ) (place : ℕ) : Type 0 where
@@ -78,7 +87,8 @@ IsFault bytes AttributeTwice place = IsBroken bytes AttributeTwice place
 -- the rule and the place that the machine's reason gives, where these bytes are left
 abbrev pub judged : Why → List ℕ → ℕ → Rule × ℕ
 judged w.Plain rest at = (Malformed, at)
-judged w.Bang rest at = if starts_with nat_eq rest doctype then (Doctype, at - 2) else (Malformed, at)
+judged w.Bang rest at =
+    if starts_with nat_eq rest doctype then (Doctype, at - 2) else (Malformed, at)
 judged w.Deep rest at = (TooDeep, at - 1)
 judged (w.Twice n) rest at = (AttributeTwice, at - n)
 judged (w.Partly n) rest at = (Malformed, at + n)

@@ -1,6 +1,8 @@
--- The documents: a tree that keeps every choice of spelling, its text, which trees are right, and what each means.
+-- The documents: a tree that keeps every choice of spelling, its text, which trees are right, and
+-- what each means.
 -- The numbers in parentheses are the productions of XML 1.0, those with a point its sections.
-use Rattle.std.specs.Prelude.{◌≡◌, ℕ, suc, ◌+◌, ◌-◌, ◌*◌, ◌≤◌, Bool, true, false, if◌then◌else◌, ◌==◌, ◌||◌, ◌&&◌, not, nat_le, nat_lt, List, [], ◌∷◌, ◌++◌, length, map, Option, Some, None, ◌⊎◌}
+use Rattle.std.specs.Prelude.{◌≡◌, ℕ, suc, ◌+◌, ◌-◌, ◌*◌, ◌≤◌, Bool, true, false, if◌then◌else◌, ◌==◌, ◌||◌, ◌&&◌, not, nat_le, nat_lt, List, [], ◌∷◌, ◌++◌, length, map, Option, Some, None, ◌⊎◌, codes}
+use Prim.Native.Char.{code}
 use Rattle.std.specs.Str.{bytes_eq}
 use Rattle.doc_grammar.specs.Characters.{class, is_char, is_blank, blanks, legal, is_text, IsSpace, IsName}
 use Rattle.doc_grammar.specs.declared.characters.Class.{Class}
@@ -12,16 +14,16 @@ pub data Quote : Type 0 where
   with_double with_single : Quote
 
 abbrev pub quote_char : Quote → ℕ
-quote_char with_double = 34
-quote_char with_single = 39
+quote_char with_double = code "\""
+quote_char with_single = code "'"
 
 -- a letter of ASCII in its small form
 abbrev pub fold_case : ℕ → ℕ
-fold_case c = if nat_le 65 c && nat_le c 90 then c + 32 else c
+fold_case c = if nat_le (code "A") c && nat_le c (code "Z") then c + 32 else c
 
 -- `xml`, in any case (17)
 abbrev pub is_xml : List ℕ → Bool
-is_xml name = bytes_eq (map fold_case name) (120 ∷ 109 ∷ 108 ∷ [])
+is_xml name = bytes_eq (map fold_case name) (codes "xml")
 
 abbrev pub starts : List ℕ → List ℕ → Bool
 starts text [] = true
@@ -41,9 +43,9 @@ pub data Part : Type 0 where
   version encoding standalone : Part
 
 abbrev pub word : Part → List ℕ
-word version = 118 ∷ 101 ∷ 114 ∷ 115 ∷ 105 ∷ 111 ∷ 110 ∷ []
-word encoding = 101 ∷ 110 ∷ 99 ∷ 111 ∷ 100 ∷ 105 ∷ 110 ∷ 103 ∷ []
-word standalone = 115 ∷ 116 ∷ 97 ∷ 110 ∷ 100 ∷ 97 ∷ 108 ∷ 111 ∷ 110 ∷ 101 ∷ []
+word version = codes "version"
+word encoding = codes "encoding"
+word standalone = codes "standalone"
 
 -- the case of an encoding does not count
 abbrev pub fold_for : Part → ℕ → ℕ
@@ -53,11 +55,12 @@ fold_for standalone c = c
 
 -- what a part may say: `1.0` (26), `utf-8` (81), `yes` or `no` (32)
 abbrev pub IsSettingValue : Part → List ℕ → Type 0
-IsSettingValue version text = text ≡ 49 ∷ 46 ∷ 48 ∷ []
-IsSettingValue encoding text = text ≡ 117 ∷ 116 ∷ 102 ∷ 45 ∷ 56 ∷ []
-IsSettingValue standalone text = (text ≡ 121 ∷ 101 ∷ 115 ∷ []) ⊎ (text ≡ 110 ∷ 111 ∷ [])
+IsSettingValue version text = text ≡ codes "1.0"
+IsSettingValue encoding text = text ≡ codes "utf-8"
+IsSettingValue standalone text = (text ≡ codes "yes") ⊎ (text ≡ codes "no")
 
--- a part: white space, of which there is some, its word, `=` with white space around (25), and its value
+-- a part: white space, of which there is some, its word, `=` with white space around (25),
+-- and its value
 pub record Setting : Type 0 where
   pub first : ℕ
   pub before : List ℕ
@@ -68,7 +71,8 @@ pub record Setting : Type 0 where
 
 -- from behind its word on, and then the rest
 abbrev pub print_setting_rest : Setting → List ℕ → List ℕ
-print_setting_rest s rest = s.left ++ 61 ∷ (s.right ++ quote_char s.quote ∷ (s.value ++ quote_char s.quote ∷ rest))
+print_setting_rest s rest =
+    s.left ++ code "=" ∷ (s.right ++ quote_char s.quote ∷ (s.value ++ quote_char s.quote ∷ rest))
 
 abbrev pub print_setting : Part → Setting → List ℕ → List ℕ
 print_setting part s rest = s.first ∷ (s.before ++ (word part ++ print_setting_rest s rest))
@@ -96,7 +100,8 @@ pub record Declaration : Type 0 where
 
 abbrev pub print_declaration : Declaration → List ℕ → List ℕ
 print_declaration d rest =
-    60 ∷ 63 ∷ 120 ∷ 109 ∷ 108 ∷ print_setting version d.version (print_maybe encoding d.encoding (print_maybe standalone d.standalone (d.gap ++ 63 ∷ 62 ∷ rest)))
+    codes "<?xml" ++ print_setting version d.version (print_maybe encoding d.encoding
+    (print_maybe standalone d.standalone (d.gap ++ (codes "?>" ++ rest))))
 
 pub record IsDeclaration (d : Declaration) : Type 0 where
   pub version : IsSetting version d.version
@@ -111,18 +116,18 @@ pub data Entity : Type 0 where
 
 -- behind the ampersand (68)
 abbrev pub entity_text : Entity → List ℕ
-entity_text lt = 108 ∷ 116 ∷ 59 ∷ []
-entity_text gt = 103 ∷ 116 ∷ 59 ∷ []
-entity_text amp = 97 ∷ 109 ∷ 112 ∷ 59 ∷ []
-entity_text apos = 97 ∷ 112 ∷ 111 ∷ 115 ∷ 59 ∷ []
-entity_text quot = 113 ∷ 117 ∷ 111 ∷ 116 ∷ 59 ∷ []
+entity_text lt = codes "lt;"
+entity_text gt = codes "gt;"
+entity_text amp = codes "amp;"
+entity_text apos = codes "apos;"
+entity_text quot = codes "quot;"
 
 abbrev pub entity_code : Entity → ℕ
-entity_code lt = 60
-entity_code gt = 62
-entity_code amp = 38
-entity_code apos = 39
-entity_code quot = 34
+entity_code lt = code "<"
+entity_code gt = code ">"
+entity_code amp = code "&"
+entity_code apos = code "'"
+entity_code quot = code "\""
 
 pub data Base : Type 0 where
   ten sixteen : Base
@@ -132,12 +137,16 @@ radix ten = 10
 radix sixteen = 16
 
 abbrev pub is_numeral : Base → ℕ → Bool
-is_numeral ten c = nat_le 48 c && nat_le c 57
-is_numeral sixteen c = (nat_le 48 c && nat_le c 57) || (nat_le 97 c && nat_le c 102) || (nat_le 65 c && nat_le c 70)
+is_numeral ten c = nat_le (code "0") c && nat_le c (code "9")
+is_numeral sixteen c =
+    (nat_le (code "0") c && nat_le c (code "9")) || (nat_le (code "a") c && nat_le c (code "f"))
+    || (nat_le (code "A") c && nat_le c (code "F"))
 
 -- the number of a digit
 abbrev pub digit : ℕ → ℕ
-digit c = if nat_le c 57 then c - 48 else if nat_le c 70 then c - 55 else c - 87
+digit c =
+    if nat_le c (code "9") then c - code "0" else if nat_le c (code "F") then c - (code "A" - 10)
+    else c - (code "a" - 10)
 
 -- a number with one digit more
 abbrev pub with_digit : Base → ℕ → ℕ → ℕ
@@ -158,12 +167,13 @@ pub data Reference : Type 0 where
 
 abbrev pub base_mark : Base → List ℕ
 base_mark ten = []
-base_mark sixteen = 120 ∷ []
+base_mark sixteen = codes "x"
 
 -- behind the ampersand, and then the rest
 abbrev pub print_reference : Reference → List ℕ → List ℕ
 print_reference (named e) rest = entity_text e ++ rest
-print_reference (numbered base c digits) rest = 35 ∷ (base_mark base ++ c ∷ (digits ++ 59 ∷ rest))
+print_reference (numbered base c digits) rest =
+    code "#" ∷ (base_mark base ++ c ∷ (digits ++ code ";" ∷ rest))
 
 -- the character that it names
 abbrev pub code_of : Reference → ℕ
@@ -194,24 +204,27 @@ pub data Piece : Type 0 where
 abbrev pub print_value : List Piece → List ℕ → List ℕ
 print_value [] rest = rest
 print_value (raw c ∷ ps) rest = c ∷ print_value ps rest
-print_value (ref r ∷ ps) rest = 38 ∷ print_reference r (print_value ps rest)
+print_value (ref r ∷ ps) rest = code "&" ∷ print_reference r (print_value ps rest)
 
 abbrev pub IsValue : Quote → List Piece → Type 0
 IsValue q [] = Unit {0}
 IsValue q (raw c ∷ ps) = (is_valued q (class c) ≡ true) × IsValue q ps
 IsValue q (ref r ∷ ps) = IsReference r × IsValue q ps
 
--- raw white space becomes a space (3.3.3); a line feed right behind a carriage return belongs to it (2.11)
+-- raw white space becomes a space (3.3.3);
+-- a line feed right behind a carriage return belongs to it (2.11)
 abbrev pub raw_value : Bool → ℕ → List ℕ
-raw_value behind_return c = if behind_return && (c == 10) then [] else (if is_blank c then 32 else c) ∷ []
+raw_value behind_return c =
+    if behind_return && (c == code "\n") then [] else (if is_blank c then code " " else c) ∷ []
 
 -- what the pieces mean, where the one before them is a raw carriage return or is none
 abbrev pub value_of : Bool → List Piece → List ℕ
 value_of behind_return [] = []
-value_of behind_return (raw c ∷ ps) = raw_value behind_return c ++ value_of (c == 13) ps
+value_of behind_return (raw c ∷ ps) = raw_value behind_return c ++ value_of (c == code "\r") ps
 value_of behind_return (ref r ∷ ps) = code_of r ∷ value_of false ps
 
--- an attribute, with the white space around its parts; at least one character of it stands before the name
+-- an attribute, with the white space around its parts; at least one character of it stands before
+-- the name
 pub record Attr : Type 0 where
   pub first : ℕ
   pub before : List ℕ
@@ -224,7 +237,8 @@ pub record Attr : Type 0 where
 -- the attribute from its name on, and then the rest
 abbrev pub print_named : Attr → List ℕ → List ℕ
 print_named a rest =
-    a.name ++ (a.left ++ 61 ∷ (a.right ++ quote_char a.quote ∷ print_value a.value (quote_char a.quote ∷ rest)))
+    a.name ++ (a.left ++ code "=" ∷
+    (a.right ++ quote_char a.quote ∷ print_value a.value (quote_char a.quote ∷ rest)))
 
 abbrev pub print_attr : Attr → List ℕ → List ℕ
 print_attr a rest = a.first ∷ (a.before ++ print_named a rest)
@@ -301,11 +315,12 @@ pub record IsTag (l : Limits) (t : Tag) : Type 0 where
 -- the text of a comment (15): behind a dash stands another character, before the end too
 abbrev pub no_dash_first : List ℕ → Bool
 no_dash_first [] = false
-no_dash_first (c ∷ text) = not (c == 45)
+no_dash_first (c ∷ text) = not (c == code "-")
 
 abbrev pub IsComment : List ℕ → Type 0
 IsComment [] = Unit {0}
-IsComment (c ∷ text) = (legal (class c) ≡ true) × (c ≡ 45 → no_dash_first text ≡ true) × IsComment text
+IsComment (c ∷ text) =
+    (legal (class c) ≡ true) × (c ≡ code "-" → no_dash_first text ≡ true) × IsComment text
 
 -- the target of a processing instruction (17)
 pub record IsTarget (target : List ℕ) : Type 0 where
@@ -315,11 +330,11 @@ pub record IsTarget (target : List ℕ) : Type 0 where
 -- what stands behind the target (16): nothing, or white space and any text up to the ending
 abbrev pub IsInstruction : List ℕ → Type 0
 IsInstruction [] = Unit {0}
-IsInstruction (c ∷ text) = (blanks (class c) ≡ true) × IsFree (63 ∷ 62 ∷ []) text
+IsInstruction (c ∷ text) = (blanks (class c) ≡ true) × IsFree (codes "?>") text
 
 -- the text of a CDATA section (20)
 abbrev pub IsSection : List ℕ → Type 0
-IsSection = IsFree (93 ∷ 93 ∷ 62 ∷ [])
+IsSection = IsFree (codes "]]>")
 
 -- What stands one after another (43): each form, and what follows it.
 pub data Content : Type 0 where
@@ -332,18 +347,19 @@ pub data Content : Type 0 where
   empty : Tag → Content → Content
   element : Tag → Content → List ℕ → Content → Content
 
--- comments (15), processing instructions (16), sections (18), empty elements (44), elements (39, 40, 42)
+-- comments (15), processing instructions (16), sections (18), empty elements (44),
+-- elements (39, 40, 42)
 abbrev pub print : Content → List ℕ → List ℕ
 print done rest = rest
 print (char b c) rest = b ∷ print c rest
-print (reference r c) rest = 38 ∷ print_reference r (print c rest)
-print (comment t c) rest = 60 ∷ 33 ∷ 45 ∷ 45 ∷ (t ++ 45 ∷ 45 ∷ 62 ∷ print c rest)
-print (instruction target t c) rest = 60 ∷ 63 ∷ (target ++ (t ++ 63 ∷ 62 ∷ print c rest))
-print (section t c) rest =
-    60 ∷ 33 ∷ 91 ∷ 67 ∷ 68 ∷ 65 ∷ 84 ∷ 65 ∷ 91 ∷ (t ++ 93 ∷ 93 ∷ 62 ∷ print c rest)
-print (empty t c) rest = 60 ∷ print_tag t (47 ∷ 62 ∷ print c rest)
+print (reference r c) rest = code "&" ∷ print_reference r (print c rest)
+print (comment t c) rest = codes "<!--" ++ (t ++ (codes "-->" ++ print c rest))
+print (instruction target t c) rest = codes "<?" ++ (target ++ (t ++ (codes "?>" ++ print c rest)))
+print (section t c) rest = codes "<![CDATA[" ++ (t ++ (codes "]]>" ++ print c rest))
+print (empty t c) rest = code "<" ∷ print_tag t (codes "/>" ++ print c rest)
 print (element t kids gap c) rest =
-    60 ∷ print_tag t (62 ∷ print kids (60 ∷ 47 ∷ (t.name ++ (gap ++ 62 ∷ print c rest))))
+    code "<" ∷ print_tag t (code ">" ∷ print kids
+    (codes "</" ++ (t.name ++ (gap ++ code ">" ∷ print c rest))))
 
 -- inside so many open elements
 abbrev pub IsContent : Limits → ℕ → Content → Type 0
@@ -355,7 +371,8 @@ IsContent l depth (instruction target t c) = IsTarget target × IsInstruction t 
 IsContent l depth (section t c) = IsSection t × IsContent l depth c
 IsContent l depth (empty t c) = (may_stand l depth ≡ true) × IsTag l t × IsContent l depth c
 IsContent l depth (element t kids gap c) =
-    (may_stand l depth ≡ true) × IsTag l t × IsContent l (suc depth) kids × IsSpace gap × IsContent l depth c
+    (may_stand l depth ≡ true) × IsTag l t × IsContent l (suc depth) kids × IsSpace gap
+    × IsContent l depth c
 
 -- behind the root (27)
 abbrev pub IsMisc : Content → Type 0
@@ -407,11 +424,18 @@ Body l text tree = (c : Content) × IsWhole l c × (text ≡ print c []) × (tre
 abbrev pub Unmarked : Limits → List ℕ → List Event → Type 0
 Unmarked l text tree =
     Body l text tree
-    ⊎ ((d : Declaration) × (rest : List ℕ) × IsDeclaration d × (text ≡ print_declaration d rest) × Body l rest tree)
+    ⊎ ((d : Declaration) × (rest : List ℕ) × IsDeclaration d × (text ≡ print_declaration d rest)
+    × Body l rest tree)
+
+-- a signature of the encoding, which is no part of the document (4.3.3)
+abbrev pub byte_order_mark : ℕ
+byte_order_mark = 0xfeff
 
 -- a document's text, perhaps behind a byte order mark, and what it says
 abbrev pub Document : Limits → List ℕ → List Event → Type 0
-Document l text tree = Unmarked l text tree ⊎ ((rest : List ℕ) × (text ≡ 65279 ∷ rest) × Unmarked l rest tree)
+Document l text tree =
+    Unmarked l text tree
+    ⊎ ((rest : List ℕ) × (text ≡ byte_order_mark ∷ rest) × Unmarked l rest tree)
 
 -- some document begins so
 abbrev pub Begins : Limits → List ℕ → Type 0

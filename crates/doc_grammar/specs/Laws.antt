@@ -13,11 +13,15 @@ use Rattle.doc_grammar.specs.declared.reasons.Rule.TheVariants.{Malformed}
 
 -- bytes are the document of one tree at most
 abbrev pub OneTree : Type 0
-OneTree = (bytes : List ℕ) (first second : List Event) → IsDocument strict bytes first → IsDocument strict bytes second → first ≡ second
+OneTree =
+    (bytes : List ℕ) (first second : List Event) → IsDocument strict bytes first
+    → IsDocument strict bytes second → first ≡ second
 
 -- bytes break one rule at most, at one place
 abbrev pub OneFault : Type 0
-OneFault = (bytes : List ℕ) (first second : Rule) (a b : ℕ) → IsFault bytes first a → IsFault bytes second b → (first ≡ second) × (a ≡ b)
+OneFault =
+    (bytes : List ℕ) (first second : Rule) (a b : ℕ) → IsFault bytes first a
+    → IsFault bytes second b → (first ≡ second) × (a ≡ b)
 
 -- a document's bytes are UTF-8
 abbrev pub Encoded : Type 0
@@ -29,21 +33,24 @@ Sound = (text : List ℕ) (tree : List Event) → Run strict start text tree →
 
 -- it reads each document
 abbrev pub Complete : Type 0
-Complete = (text : List ℕ) (tree : List Event) → Document strict text tree → Run strict start text tree
+Complete =
+    (text : List ℕ) (tree : List Event) → Document strict text tree → Run strict start text tree
 
 -- the reason of a character that ends its run is the rule that the bytes break
 abbrev pub Judged : Type 0
 Judged =
     (front : List ℕ) (c : ℕ) (rest : List ℕ) (s : State) (out : List Event) (why : Why) → IsScalar c
-    → IsUtf8 (encode_utf8_all (front ++ c ∷ rest)) → Leads strict start front s out → step strict s (class c) c ≡ dead why
+    → IsUtf8 (encode_utf8_all (front ++ c ∷ rest)) → Leads strict start front s out
+    → step strict s (class c) c ≡ dead why
     → let found = judged why (encode_utf8_all (c ∷ rest)) (length (encode_utf8_all front)) in
     IsBroken (encode_utf8_all (front ++ c ∷ rest)) found.0 found.1
 
 -- where the text ends in another state than a final one, it ends too early
 abbrev pub Cut : Type 0
 Cut =
-    (text : List ℕ) (s : State) (out : List Event) → IsUtf8 (encode_utf8_all text) → Leads strict start text s out
-    → (Final s → ⊥) → IsBroken (encode_utf8_all text) Malformed (length (encode_utf8_all text))
+    (text : List ℕ) (s : State) (out : List Event) → IsUtf8 (encode_utf8_all text)
+    → Leads strict start text s out → (Final s → ⊥)
+    → IsBroken (encode_utf8_all text) Malformed (length (encode_utf8_all text))
 
 -- nodes stand in document order, each below the element that it stands in
 abbrev pub Ordered : Type 0
@@ -59,4 +66,6 @@ NodeWithin most node = (length node.name ≤ most) × All (PairWithin most) node
 
 -- no name and no value of a document is longer than the document
 abbrev pub Bounded : Type 0
-Bounded = (bytes : List ℕ) (nodes : List Node) → Denotes bytes nodes → All (NodeWithin (length bytes)) nodes
+Bounded =
+    (bytes : List ℕ) (nodes : List Node) → Denotes bytes nodes
+    → All (NodeWithin (length bytes)) nodes

@@ -1,9 +1,10 @@
 -- The state after a prefix, and the next.
-use Rattle.std.specs.Prelude.{◌≡◌, ℕ, suc, Bool, true, false, if◌then◌else◌, ◌==◌, not, nat_le, List, [], ◌∷◌, ◌++◌, length}
+use Rattle.std.specs.Prelude.{◌≡◌, ℕ, suc, Bool, true, false, if◌then◌else◌, ◌==◌, not, nat_le, List, [], ◌∷◌, ◌++◌, length, codes}
+use Prim.Native.Char.{code}
 use Rattle.std.specs.Str.{bytes_eq, encode_utf8_all}
 use Rattle.std.specs.Char.{encode_utf8}
 use Rattle.doc_grammar.specs.Characters.{class, is_char}
-use Rattle.doc_grammar.specs.Grammar.{Quote, with_double, with_single, quote_char, is_xml, Part, version, encoding, standalone, fold_for, Base, ten, sixteen, is_numeral, with_digit, raw_value, Pair, Limits, may_stand, clashes, Event, begin, close}
+use Rattle.doc_grammar.specs.Grammar.{Quote, with_double, with_single, quote_char, is_xml, Part, version, encoding, standalone, fold_for, Base, ten, sixteen, is_numeral, with_digit, raw_value, Pair, Limits, may_stand, clashes, Event, begin, close, byte_order_mark}
 use Rattle.doc_grammar.specs.declared.characters.Class.{Class}
 use Rattle.doc_grammar.specs.declared.characters.Class.TheVariants.{Less, Greater, Slash, Bang, Question, Dash, Ampersand, Equal, DoubleQuote, SingleQuote, OpenBracket, CloseBracket, Blank, Letter, Digit, Bad}
 use Rattle.doc_grammar.specs.declared.reasons.Why.{Why}
@@ -100,7 +101,8 @@ why_open (within (n ∷ ns)) = Deep
 
 abbrev pub after_reference : Hole → ℕ → State
 after_reference (in_text n ns) code = content (within (n ∷ ns))
-after_reference (in_value p name xs x q v) code = attribute_value p name xs x q (v ++ code ∷ []) false
+after_reference (in_value p name xs x q v) code =
+    attribute_value p name xs x q (v ++ code ∷ []) false
 
 -- how many bytes two lists begin with alike
 abbrev pub common_prefix_length : List ℕ → List ℕ → ℕ
@@ -112,13 +114,15 @@ common_prefix_length (x ∷ xs) (y ∷ ys) = if x == y then suc (common_prefix_l
 abbrev pub partly : ℕ → ℕ → Why
 partly c b = Partly (common_prefix_length (encode_utf8 c) (encode_utf8 b))
 
--- a character that may stand nowhere, where any past ASCII may stand: U+FFFE and U+FFFF differ in their third byte
+-- a character that may stand nowhere, where any past ASCII may stand: U+FFFE and U+FFFF differ in
+-- their third byte
 abbrev pub bad : ℕ → Why
-bad b = if nat_le 128 b then Partly 2 else Plain
+bad b = if nat_le 0x80 b then Partly 2 else Plain
 
 -- the same where an element may begin
 abbrev pub bad_tag_open : Limits → Place → ℕ → Why
-bad_tag_open l p b = if nat_le 128 b then (if may_open l p then Partly 2 else why_open p) else Plain
+bad_tag_open l p b =
+    if nat_le 0x80 b then (if may_open l p then Partly 2 else why_open p) else Plain
 
 -- what only this character leads on
 abbrev pub exactly : ℕ → ℕ → State → Step
@@ -145,7 +149,8 @@ step_tag_open l p k b = dead Plain
 
 abbrev pub step_markup_declaration : Place → Class → Step
 step_markup_declaration p Dash = go (comment_start p)
-step_markup_declaration (within (n ∷ ns)) OpenBracket = go (cdata_start n ns 67 (68 ∷ 65 ∷ 84 ∷ 65 ∷ 91 ∷ []))
+step_markup_declaration (within (n ∷ ns)) OpenBracket =
+    go (cdata_start n ns (code "C") (codes "DATA["))
 step_markup_declaration p k = dead why.Bang
 
 abbrev pub step_dash : Class → State → Step
@@ -219,7 +224,9 @@ step_after_byte_order_mark w Blank = go (content before)
 step_after_byte_order_mark w k = dead w
 
 abbrev pub step_start : Class → ℕ → Step
-step_start k b = if b == 65279 then go after_byte_order_mark else step_after_byte_order_mark (partly 65279 b) k
+step_start k b =
+    if b == byte_order_mark then go after_byte_order_mark
+    else step_after_byte_order_mark (partly byte_order_mark b) k
 
 abbrev pub step_document_tag_open : Limits → Class → ℕ → Step
 step_document_tag_open l Question b = go document_processing_instruction
@@ -231,20 +238,23 @@ step_document_processing_instruction Bad b = dead (bad b)
 step_document_processing_instruction k b = dead Plain
 
 abbrev pub is_small_xml : List ℕ → Bool
-is_small_xml n = bytes_eq n (120 ∷ 109 ∷ 108 ∷ [])
+is_small_xml n = bytes_eq n (codes "xml")
 
 abbrev pub step_document_instruction_target : List ℕ → Class → ℕ → Step
 step_document_instruction_target n Letter b = go (document_instruction_target (n ++ b ∷ []))
 step_document_instruction_target n Digit b = go (document_instruction_target (n ++ b ∷ []))
 step_document_instruction_target n Dash b = go (document_instruction_target (n ++ b ∷ []))
-step_document_instruction_target n Blank b = if is_small_xml n then go before_version else guard Plain (not (is_xml n)) (instruction_text before)
-step_document_instruction_target n Question b = guard Plain (not (is_xml n)) (instruction_target_end before)
+step_document_instruction_target n Blank b =
+    if is_small_xml n then go before_version
+    else guard Plain (not (is_xml n)) (instruction_text before)
+step_document_instruction_target n Question b =
+    guard Plain (not (is_xml n)) (instruction_target_end before)
 step_document_instruction_target n Bad b = dead (bad b)
 step_document_instruction_target n k b = dead Plain
 
 abbrev pub step_before_version : Class → ℕ → Step
 step_before_version Blank b = go before_version
-step_before_version k b = exactly 118 b (setting_name version 101 (114 ∷ 115 ∷ 105 ∷ 111 ∷ 110 ∷ []))
+step_before_version k b = exactly (code "v") b (setting_name version (code "e") (codes "rsion"))
 
 abbrev pub step_after_setting : Part → Class → Step
 step_after_setting part Blank = go (between_settings part)
@@ -252,11 +262,13 @@ step_after_setting part Question = go declaration_end
 step_after_setting part k = dead Plain
 
 abbrev pub standalone_word : State
-standalone_word = setting_name standalone 116 (97 ∷ 110 ∷ 100 ∷ 97 ∷ 108 ∷ 111 ∷ 110 ∷ 101 ∷ [])
+standalone_word = setting_name standalone (code "t") (codes "andalone")
 
 abbrev pub step_part : Part → ℕ → Step
-step_part version b = if b == 101 then go (setting_name encoding 110 (99 ∷ 111 ∷ 100 ∷ 105 ∷ 110 ∷ 103 ∷ [])) else exactly 115 b standalone_word
-step_part encoding b = exactly 115 b standalone_word
+step_part version b =
+    if b == code "e" then go (setting_name encoding (code "n") (codes "coding"))
+    else exactly (code "s") b standalone_word
+step_part encoding b = exactly (code "s") b standalone_word
 step_part standalone b = dead Plain
 
 abbrev pub step_between_settings : Part → Class → ℕ → Step
@@ -274,8 +286,8 @@ step_after_setting_name part Equal = go (before_setting_value part)
 step_after_setting_name part k = dead Plain
 
 abbrev pub setting_value_start : Part → Quote → State
-setting_value_start version q = setting_value version q 49 (46 ∷ 48 ∷ [])
-setting_value_start encoding q = setting_value encoding q 117 (116 ∷ 102 ∷ 45 ∷ 56 ∷ [])
+setting_value_start version q = setting_value version q (code "1") (codes ".0")
+setting_value_start encoding q = setting_value encoding q (code "u") (codes "tf-8")
 setting_value_start standalone q = standalone_value q
 
 abbrev pub step_before_setting_value : Part → Class → Step
@@ -285,11 +297,15 @@ step_before_setting_value part SingleQuote = go (setting_value_start part with_s
 step_before_setting_value part k = dead Plain
 
 abbrev pub step_standalone_value : Quote → ℕ → Step
-step_standalone_value q b = if b == 121 then go (setting_value standalone q 101 (115 ∷ [])) else exactly 110 b (setting_value standalone q 111 [])
+step_standalone_value q b =
+    if b == code "y" then go (setting_value standalone q (code "e") (codes "s"))
+    else exactly (code "n") b (setting_value standalone q (code "o") [])
 
 abbrev pub step_setting_value : Part → Quote → ℕ → List ℕ → ℕ → Step
-step_setting_value part q t [] b = exactly (fold_for part t) (fold_for part b) (setting_value_end part q)
-step_setting_value part q t (u ∷ todo) b = exactly (fold_for part t) (fold_for part b) (setting_value part q u todo)
+step_setting_value part q t [] b =
+    exactly (fold_for part t) (fold_for part b) (setting_value_end part q)
+step_setting_value part q t (u ∷ todo) b =
+    exactly (fold_for part t) (fold_for part b) (setting_value part q u todo)
 
 -- ---- tags
 
@@ -316,8 +332,12 @@ abbrev pub step_attribute_name : Limits → Place → List ℕ → List Pair →
 step_attribute_name l p n xs x Letter b = go (attribute_name p n xs (x ++ b ∷ []))
 step_attribute_name l p n xs x Digit b = go (attribute_name p n xs (x ++ b ∷ []))
 step_attribute_name l p n xs x Dash b = go (attribute_name p n xs (x ++ b ∷ []))
-step_attribute_name l p n xs x Blank b = if clashes l xs x then dead (Twice (length (encode_utf8_all x))) else go (after_attribute_name p n xs x)
-step_attribute_name l p n xs x Equal b = if clashes l xs x then dead (Twice (length (encode_utf8_all x))) else go (before_attribute_value p n xs x)
+step_attribute_name l p n xs x Blank b =
+    if clashes l xs x then dead (Twice (length (encode_utf8_all x)))
+    else go (after_attribute_name p n xs x)
+step_attribute_name l p n xs x Equal b =
+    if clashes l xs x then dead (Twice (length (encode_utf8_all x)))
+    else go (before_attribute_value p n xs x)
 step_attribute_name l p n xs x Bad b = dead (bad b)
 step_attribute_name l p n xs x k b = dead Plain
 
@@ -328,17 +348,23 @@ step_after_attribute_name p n xs x k = dead Plain
 
 abbrev pub step_before_attribute_value : Place → List ℕ → List Pair → List ℕ → Class → Step
 step_before_attribute_value p n xs x Blank = go (before_attribute_value p n xs x)
-step_before_attribute_value p n xs x DoubleQuote = go (attribute_value p n xs x with_double [] false)
-step_before_attribute_value p n xs x SingleQuote = go (attribute_value p n xs x with_single [] false)
+step_before_attribute_value p n xs x DoubleQuote =
+    go (attribute_value p n xs x with_double [] false)
+step_before_attribute_value p n xs x SingleQuote =
+    go (attribute_value p n xs x with_single [] false)
 step_before_attribute_value p n xs x k = dead Plain
 
-abbrev pub step_attribute_value : Place → List ℕ → List Pair → List ℕ → Quote → List ℕ → Bool → Class → ℕ → Step
-step_attribute_value p n xs x with_double v r DoubleQuote b = go (after_attribute_value p n (xs ++ (x, v) ∷ []))
-step_attribute_value p n xs x with_single v r SingleQuote b = go (after_attribute_value p n (xs ++ (x, v) ∷ []))
+abbrev pub step_attribute_value :
+    Place → List ℕ → List Pair → List ℕ → Quote → List ℕ → Bool → Class → ℕ → Step
+step_attribute_value p n xs x with_double v r DoubleQuote b =
+    go (after_attribute_value p n (xs ++ (x, v) ∷ []))
+step_attribute_value p n xs x with_single v r SingleQuote b =
+    go (after_attribute_value p n (xs ++ (x, v) ∷ []))
 step_attribute_value p n xs x q v r Less b = dead Plain
 step_attribute_value p n xs x q v r Bad b = dead (bad b)
 step_attribute_value p n xs x q v r Ampersand b = go (reference (in_value p n xs x q v))
-step_attribute_value p n xs x q v r k b = go (attribute_value p n xs x q (v ++ raw_value r b) (b == 13))
+step_attribute_value p n xs x q v r k b =
+    go (attribute_value p n xs x q (v ++ raw_value r b) (b == code "\r"))
 
 abbrev pub step_after_end_tag_name : List (List ℕ) → Class → Step
 step_after_end_tag_name ns Blank = go (after_end_tag_name ns)
@@ -357,25 +383,32 @@ step_named_reference h code t (u ∷ todo) b = exactly t b (named_reference h co
 
 abbrev pub step_reference : Hole → ℕ → Step
 step_reference h b =
-    if b == 108 then go (named_reference h 60 116 (59 ∷ [])) else if b == 103 then go (named_reference h 62 116 (59 ∷ []))
-    else if b == 113 then go (named_reference h 34 117 (111 ∷ 116 ∷ 59 ∷ [])) else if b == 35 then go (numeric_reference h)
-    else exactly 97 b (reference_a h)
+    if b == code "l" then go (named_reference h (code "<") (code "t") (codes ";"))
+    else if b == code "g" then go (named_reference h (code ">") (code "t") (codes ";"))
+    else if b == code "q" then go (named_reference h (code "\"") (code "u") (codes "ot;"))
+    else if b == code "#" then go (numeric_reference h)
+    else exactly (code "a") b (reference_a h)
 
 abbrev pub step_reference_a : Hole → ℕ → Step
 step_reference_a h b =
-    if b == 109 then go (named_reference h 38 112 (59 ∷ [])) else exactly 112 b (named_reference h 39 111 (115 ∷ 59 ∷ []))
+    if b == code "m" then go (named_reference h (code "&") (code "p") (codes ";"))
+    else exactly (code "p") b (named_reference h (code "'") (code "o") (codes "s;"))
 
 -- one digit more, where some further digits can make a character
 abbrev pub step_digit : Hole → Base → ℕ → ℕ → Step
 step_digit h base n b =
-    if is_numeral base b then guard Plain (nat_le (with_digit base n b) 1114111) (reference_digits h base (with_digit base n b))
+    if is_numeral base b
+    then guard Plain (nat_le (with_digit base n b) 0x10ffff)
+    (reference_digits h base (with_digit base n b))
     else dead Plain
 
 abbrev pub step_numeric_reference : Hole → ℕ → Step
-step_numeric_reference h b = if b == 120 then go (hexadecimal_reference h) else step_digit h ten 0 b
+step_numeric_reference h b =
+    if b == code "x" then go (hexadecimal_reference h) else step_digit h ten 0 b
 
 abbrev pub step_reference_digits : Hole → Base → ℕ → ℕ → Step
-step_reference_digits h base n b = if b == 59 then guard Plain (is_char n) (after_reference h n) else step_digit h base n b
+step_reference_digits h base n b =
+    if b == code ";" then guard Plain (is_char n) (after_reference h n) else step_digit h base n b
 
 -- ---- every state
 
@@ -418,7 +451,8 @@ step l (after_attribute_name p n xs x) k b = step_after_attribute_name p n xs x 
 step l (before_attribute_value p n xs x) k b = step_before_attribute_value p n xs x k
 step l (attribute_value p n xs x q v r) k b = step_attribute_value p n xs x q v r k b
 step l (after_attribute_value p n xs) k b = step_tag p n xs k
-step l (self_closing_start_tag p n xs) k b = step_greater k (emit (content (within (stack p))) (begin n xs ∷ close ∷ []))
+step l (self_closing_start_tag p n xs) k b =
+    step_greater k (emit (content (within (stack p))) (begin n xs ∷ close ∷ []))
 step l (end_tag_name ns todo) k b = step_end_tag_name ns todo k b
 step l (after_end_tag_name ns) k b = step_after_end_tag_name ns k
 step l (reference h) k b = step_reference h b

@@ -1,5 +1,7 @@
--- The tree of a document: its elements in document order, each with what is kept of its tag and the number of its parent.
-use Rattle.std.specs.Prelude.{◌≡◌, ℕ, ◌+◌, Bool, true, false, if◌then◌else◌, ◌==◌, ◌||◌, not, List, [], ◌∷◌, ◌++◌, length, map, Option, Some, None}
+-- The tree of a document: its elements in document order, each with what is kept of its tag and the
+-- number of its parent.
+use Rattle.std.specs.Prelude.{◌≡◌, ℕ, ◌+◌, Bool, true, false, if◌then◌else◌, ◌==◌, ◌||◌, not, List, [], ◌∷◌, ◌++◌, length, map, Option, Some, None, codes}
+use Prim.Native.Char.{code}
 use Rattle.std.specs.Str.{bytes_eq, encode_utf8_all}
 use Rattle.doc_grammar.specs.Grammar.{Pair, attr_of, Tag, Content, done, char, reference, comment, instruction, section, empty, element, Event, begin, close, strict}
 use Rattle.doc_grammar.specs.Faults.{IsDocument}
@@ -7,7 +9,7 @@ use Rattle.doc_grammar.specs.Faults.{IsDocument}
 -- whether there is a colon
 abbrev pub is_prefixed : List ℕ → Bool
 is_prefixed [] = false
-is_prefixed (c ∷ name) = (c == 58) || is_prefixed name
+is_prefixed (c ∷ name) = (c == code ":") || is_prefixed name
 
 -- what follows the last colon
 abbrev pub local_name : List ℕ → List ℕ
@@ -16,7 +18,7 @@ local_name (c ∷ name) = if is_prefixed (c ∷ name) then local_name name else 
 
 -- `xmlns` and attributes with a colon are passed over
 abbrev pub is_kept : List ℕ → Bool
-is_kept name = not (is_prefixed name || bytes_eq name (120 ∷ 109 ∷ 108 ∷ 110 ∷ 115 ∷ []))
+is_kept name = not (is_prefixed name || bytes_eq name (codes "xmlns"))
 
 abbrev pub kept_if : Bool → Pair → List Pair → List Pair
 kept_if true p ps = (encode_utf8_all p.0, encode_utf8_all p.1) ∷ ps
@@ -34,7 +36,8 @@ pub record Node : Type 0 where
   pub parent : Option ℕ
 
 abbrev pub node : List ℕ → List Pair → Option ℕ → Node
-node name attrs parent = record { name = encode_utf8_all (local_name name); attrs = kept attrs; parent = parent }
+node name attrs parent =
+    record { name = encode_utf8_all (local_name name); attrs = kept attrs; parent = parent }
 
 abbrev pub innermost : List ℕ → Option ℕ
 innermost [] = None
@@ -44,7 +47,8 @@ abbrev pub outer : List ℕ → List ℕ
 outer [] = []
 outer (n ∷ ns) = ns
 
--- the nodes of what begins and ends, behind these, inside the elements with these numbers, the innermost first
+-- the nodes of what begins and ends, behind these, inside the elements with these numbers, the
+-- innermost first
 abbrev pub nodes_behind : List Event → List ℕ → List Node → List Node
 nodes_behind [] around nodes = nodes
 nodes_behind (begin name attrs ∷ events) around nodes =
@@ -85,4 +89,5 @@ nodes_under (instruction y t c) parent n = nodes_under c parent n
 nodes_under (section t c) parent n = nodes_under c parent n
 nodes_under (empty t c) parent n = tag_node t parent ∷ nodes_under c parent (n + 1)
 nodes_under (element t kids gap c) parent n =
-    tag_node t parent ∷ (nodes_under kids (Some n) (n + 1) ++ nodes_under c parent (n + 1 + count kids))
+    tag_node t parent
+    ∷ (nodes_under kids (Some n) (n + 1) ++ nodes_under c parent (n + 1 + count kids))
