@@ -205,7 +205,7 @@ fn with_variables(alloc: Global, variables: &str) -> Result<String, AllocError> 
     in_root(alloc, content.as_str())
 }
 
-fn whole(alloc: Global, text: &str) -> Result<String, AllocError> {
+fn whole_document(alloc: Global, text: &str) -> Result<String, AllocError> {
     if text.contains("odelDescription") {
         String::from_str(alloc, text)
     } else if text.contains("<CoSimulation") {
@@ -216,7 +216,7 @@ fn whole(alloc: Global, text: &str) -> Result<String, AllocError> {
 }
 
 // The rule and the element that an answer refuses, where it is of the first file and names no ports.
-fn refused(answer: Result<Shape, Refusal>) -> Option<(u32, usize)> {
+fn rule_and_node(answer: Result<Shape, Refusal>) -> Option<(u32, usize)> {
     match answer {
         Ok(_shape) => None,
         Err(Refusal::Memory) => None,
@@ -240,9 +240,9 @@ fn refused(answer: Result<Shape, Refusal>) -> Option<(u32, usize)> {
 #[test]
 fn the_first_violation_is_told(rt: HostRuntime) -> Result<(), Fail> {
     for (text, node, rule) in &REFUSED {
-        let document = whole(rt.alloc(), text)?;
+        let document = whole_document(rt.alloc(), text)?;
         let tree = read_tree(rt.alloc(), document.as_bytes())?;
-        let answer = refused(read_description(rt.alloc(), &tree, 1000));
+        let answer = rule_and_node(read_description(rt.alloc(), &tree, 1000));
         assert_eq!(rt; answer, Some((*rule, *node)), "{text}");
     }
     Ok(())

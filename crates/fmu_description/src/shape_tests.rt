@@ -103,7 +103,7 @@ fn put_dependencies(
     Ok(())
 }
 
-fn shown(alloc: Global, shape: &Shape) -> Result<String, AllocError> {
+fn shape_text(alloc: Global, shape: &Shape) -> Result<String, AllocError> {
     let mut text = String::new(alloc);
     for variable in shape.variables.as_slice() {
         put_variable(alloc, &mut text, variable)?;
@@ -135,7 +135,7 @@ fn the_counter_is_described(rt: HostRuntime) -> Result<(), Fail> {
     assert!(rt; shape.has_variable_steps && shape.can_save_state);
     assert!(rt; !shape.has_event_mode && !shape.might_return_early && !shape.can_serialize_state);
     assert_eq!(rt;
-        shown(rt.alloc(), &shape)?.as_str(),
+        shape_text(rt.alloc(), &shape)?.as_str(),
         "inc 1 Some(Int32) Parameter Some(2);y 2 Some(Int32) Output None;||2:;|2:;"
     );
     Ok(())
@@ -146,7 +146,11 @@ fn shapes_are_read(rt: HostRuntime) -> Result<(), Fail> {
     for (parts, expected) in &PARTS {
         let text = format!(in rt.alloc(); "{FRONT}{parts}{BACK}")?;
         let shape = shape_of(rt.alloc(), text.as_str())?;
-        assert_eq!(rt; shown(rt.alloc(), &shape)?.as_str(), *expected, "{parts}");
+        assert_eq!(rt;
+            shape_text(rt.alloc(), &shape)?.as_str(),
+            *expected,
+            "{parts}"
+        );
     }
     Ok(())
 }

@@ -209,7 +209,7 @@ const FACTORS: [(&str, Option<i64>); 20] = [
     ("1.0 ", None),
 ];
 
-fn told(refusal: Refusal) -> Option<(u32, usize)> {
+fn rule_and_node(refusal: Refusal) -> Option<(u32, usize)> {
     match refusal {
         Refusal::Memory => None,
         Refusal::At {
@@ -239,7 +239,7 @@ fn told_of_set(
     };
     match answer {
         Ok(_set) => Ok(None),
-        Err(refusal) => Ok(told(refusal)),
+        Err(refusal) => Ok(rule_and_node(refusal)),
     }
 }
 
@@ -255,7 +255,7 @@ fn told_of_mapping(
     };
     match answer {
         Ok(_mapping) => Ok(None),
-        Err(refusal) => Ok(told(refusal)),
+        Err(refusal) => Ok(rule_and_node(refusal)),
     }
 }
 

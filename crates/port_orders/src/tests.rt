@@ -124,13 +124,13 @@ fn port(
     })
 }
 
-fn fed(by: u32) -> Role {
+fn fed_input(by: u32) -> Role {
     Role::Input {
         feed: Some(Feed { from: PortId(by) }),
     }
 }
 
-fn ordered(
+fn order_placed(
     rt: &impl Abort,
     alloc: Global,
     components: &[Component],
@@ -153,9 +153,9 @@ fn a_ring_is_a_loop_where_each_output_needs_its_input(rt: HostRuntime) -> Result
     let alloc = rt.alloc();
     let int = PortType::Int32;
     let ports = vec![in alloc;
-        port(alloc, 0, 2, int, fed(3), &[])?,
+        port(alloc, 0, 2, int, fed_input(3), &[])?,
         port(alloc, 0, 3, int, Role::Output, &[])?,
-        port(alloc, 1, 2, int, fed(1), &[])?,
+        port(alloc, 1, 2, int, fed_input(1), &[])?,
         port(alloc, 1, 3, int, Role::Output, &[])?,
     ]?;
     for ring in &RINGS {
@@ -164,7 +164,7 @@ fn a_ring_is_a_loop_where_each_output_needs_its_input(rt: HostRuntime) -> Result
             gain(alloc, ring.has_event_mode, ring.second)?,
         ]?;
         match (
-            ordered(&rt, alloc, components.as_slice(), ports.as_slice()),
+            order_placed(&rt, alloc, components.as_slice(), ports.as_slice()),
             ring.wanted,
         ) {
             (Ok(orders), None) => {
@@ -203,7 +203,7 @@ fn a_port_stands_behind_its_clock_and_outside_initialization(rt: HostRuntime) ->
         port(alloc, 0, 2, int, Role::Input { feed: None }, &[PortId(2)])?,
         port(alloc, 0, 1, PortType::Clock, countdown, &[])?,
     ]?;
-    let orders = ordered(&rt, alloc, components.as_slice(), ports.as_slice())?;
+    let orders = order_placed(&rt, alloc, components.as_slice(), ports.as_slice())?;
     let in_instants = [PortId(2), PortId(1), PortId(0)];
     assert_eq!(rt; orders.instant_order.as_slice(), in_instants.as_slice());
     assert_eq!(rt; orders.initial_order.as_slice(), [PortId(0)].as_slice());

@@ -245,7 +245,7 @@ fn with_elements(alloc: Global, elements: &str) -> Result<String, AllocError> {
 }
 
 // The rule and the element that an answer refuses, where it is of the first file and names no ports.
-fn refused(answer: Result<SystemTree, Refusal>) -> Option<(u32, usize)> {
+fn rule_and_node(answer: Result<SystemTree, Refusal>) -> Option<(u32, usize)> {
     match answer {
         Ok(_tree) => None,
         Err(Refusal::Memory) => None,
@@ -270,13 +270,13 @@ fn refused(answer: Result<SystemTree, Refusal>) -> Option<(u32, usize)> {
 fn the_first_violation_is_told(rt: HostRuntime) -> Result<(), Fail> {
     for (text, node, rule) in &REFUSED {
         let tree = read_tree(rt.alloc(), text.as_bytes())?;
-        let answer = refused(read_ssd(rt.alloc(), &tree));
+        let answer = rule_and_node(read_ssd(rt.alloc(), &tree));
         assert_eq!(rt; answer, Some((*rule, *node)), "{text}");
     }
     for (text, node, rule) in &REFUSED_ELEMENTS {
         let document = with_elements(rt.alloc(), text)?;
         let tree = read_tree(rt.alloc(), document.as_bytes())?;
-        let answer = refused(read_ssd(rt.alloc(), &tree));
+        let answer = rule_and_node(read_ssd(rt.alloc(), &tree));
         assert_eq!(rt; answer, Some((*rule, *node)), "{text}");
     }
     Ok(())
@@ -298,7 +298,7 @@ fn the_257th_component_is_refused(rt: HostRuntime) -> Result<(), Fail> {
     )?;
     let document = with_elements(rt.alloc(), elements.as_str())?;
     let tree = read_tree(rt.alloc(), document.as_bytes())?;
-    assert_eq!(rt; refused(read_ssd(rt.alloc(), &tree)), Some((48, 261)));
+    assert_eq!(rt; rule_and_node(read_ssd(rt.alloc(), &tree)), Some((48, 261)));
     Ok(())
 }
 

@@ -23,7 +23,7 @@ fn text(alloc: Global, text: &str) -> Result<String, AllocError> {
     String::from_str(alloc, text)
 }
 
-fn repeated(alloc: Global, piece: &str, count: u32) -> Result<String, AllocError> {
+fn repeat(alloc: Global, piece: &str, count: u32) -> Result<String, AllocError> {
     let mut all = String::new(alloc);
     for _ in 0..count {
         all.push_str(piece)?;
@@ -56,9 +56,9 @@ fn stops(alloc: Global, variables: &str, out: String) -> Result<Row, AllocError>
 
 // A directory without a file.
 fn misses(alloc: Global, piece: &str, escaped: &str, count: u32) -> Result<Row, AllocError> {
-    let shown = repeated(alloc, escaped, count)?;
+    let shown = repeat(alloc, escaped, count)?;
     Ok(Row {
-        directory: repeated(alloc, piece, count)?,
+        directory: repeat(alloc, piece, count)?,
         words: WORDS,
         description: None,
         status: 3,
@@ -96,8 +96,8 @@ fn many_aliases(alloc: Global, count: u32) -> Result<Row, AllocError> {
 }
 
 fn long_name(alloc: Global, piece: &str, escaped: &str, count: u32) -> Result<Row, AllocError> {
-    let name = repeated(alloc, piece, count)?;
-    let shown = repeated(alloc, escaped, count)?;
+    let name = repeat(alloc, piece, count)?;
+    let shown = repeat(alloc, escaped, count)?;
     let variables = format!(in alloc;
         "<Int8 name=\"{name}\" valueReference=\"2\" causality=\"output\"/>"
     )?;
@@ -108,7 +108,7 @@ fn long_name(alloc: Global, piece: &str, escaped: &str, count: u32) -> Result<Ro
 
 // Zeros in front of a reference and of a start value.
 fn long_numbers(alloc: Global, count: u32) -> Result<Row, AllocError> {
-    let zeros = repeated(alloc, "0", count)?;
+    let zeros = repeat(alloc, "0", count)?;
     let variables = format!(in alloc;
         "<UInt64 name=\"z\" valueReference=\"{zeros}7\" causality=\"output\" start=\"+{zeros}18446744073709551615\"/>"
     )?;

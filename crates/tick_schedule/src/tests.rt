@@ -11,7 +11,7 @@ use value_types::IntervalVariability;
 
 const FAR: u64 = 1 << 62;
 
-fn periodic(interval: u128, shift: u128) -> TimeClock
+fn periodic_clock(interval: u128, shift: u128) -> TimeClock
     ensures { result ≡ record { variability = Constant; interval = Some interval; shift = Some shift } }
 {
     TimeClock {
@@ -33,7 +33,7 @@ fn thirds<R: Abort, L: Ledger>(rt: &R, alloc: Global, blank: Blank) -> Result<()
     };
     assert_eq!(rt; to_counts(third, 999), Some(333));
     let mut steps = Steps::<L>::new(blank);
-    let mut schedule = Schedule::new(alloc, &[periodic(333, 0)], 0, FAR)?;
+    let mut schedule = Schedule::new(alloc, &[periodic_clock(333, 0)], 0, FAR)?;
     for k in 0..1_000_000u64 {
         assert!(rt; schedule.due(0, 333 * k, &mut steps), "tick {k}");
         schedule.ticked(0, &mut steps);
