@@ -13,7 +13,7 @@ const AT: u32 = 1;
 /// The count of the steps that ended there, an output.
 const OUTPUT: u32 = 2;
 
-pub(crate) fn shown(shape: &Shape, state: &BuiltInState, reference: u32) -> i128
+pub(crate) fn shown_value(shape: &Shape, state: &BuiltInState, reference: u32) -> i128
     ensures { result ≡ alarm.shown shape.now (told state.now.numbers)
         (values_in shape.now.variables state.now) reference }
 {
@@ -41,7 +41,7 @@ fn rings(shape: &Shape, state: &BuiltInState, at: u64, size: u64) -> bool
 }
 
 /// The numbers after a call: a step that ends early counts.
-pub(crate) fn changed(shape: &Shape, state: &BuiltInState, call: &Call) -> Numbers
+pub(crate) fn changed_numbers(shape: &Shape, state: &BuiltInState, call: &Call) -> Numbers
     ensures { told result ≡ rung shape.now (told state.now.numbers)
         (values_in shape.now.variables state.now) call.now }
 {

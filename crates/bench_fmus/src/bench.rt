@@ -36,7 +36,7 @@ impl Bench {
     }
 
     /// The peers that were taken back, in order.
-    pub fn retired(&self) -> &[BuiltIn]
+    pub fn retired_peers(&self) -> &[BuiltIn]
         ensures { result.now ≡ self.now.retired.peers.items }
     {
         self.retired.peers.as_slice()
@@ -111,7 +111,7 @@ impl Spawner for Bench {
         ensures noted { NotesStart (bench_view self.old) (bench_view self.new) result }
     {
         self.plan.begin()?;
-        let Some(model) = Model::named(shape.identifier.as_str()) else {
+        let Some(model) = Model::from_identifier(shape.identifier.as_str()) else {
             return Err(StartFault::Unknown);
         };
         let Ok(peer) = self.make(alloc, model, host, name, directory, shape) else {

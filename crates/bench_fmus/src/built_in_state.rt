@@ -167,7 +167,7 @@ impl BuiltInState {
             Call::DoStep { at, size } => step_content(
                 shape.has_event_mode,
                 model.asks_to_end(&shape.variables, self, size),
-                bound(phase.stop, at, size),
+                step_end(phase.stop, at, size),
                 model.early_end(shape, self, at, size),
             ),
             Call::Update => Content::Update {
@@ -176,11 +176,11 @@ impl BuiltInState {
                 event_time: None,
             },
             Call::Get { kind, reference } => Content::Get {
-                word: wrapped_word(kind, model.shown(shape, self, reference)),
+                word: wrapped_word(kind, model.shown_value(shape, self, reference)),
             },
             Call::Set { .. } => Content::Set,
             Call::GetClock { reference } => Content::GetClock {
-                word: wrapped_word(PortType::Clock, model.shown(shape, self, reference)),
+                word: wrapped_word(PortType::Clock, model.shown_value(shape, self, reference)),
             },
             Call::SetClock { .. } => Content::SetClock,
             Call::GetInterval { reference } => Content::GetInterval {
@@ -206,7 +206,7 @@ impl BuiltInState {
         match *call {
             Call::EnterInitialization { start, .. } => start,
             Call::DoStep { at, size } => {
-                let bound = bound(phase.stop, at, size);
+                let bound = step_end(phase.stop, at, size);
                 model.early_end(shape, self, at, size).unwrap_or(bound)
             }
             _ => self.numbers.point,
@@ -221,7 +221,7 @@ impl BuiltInState {
         Numbers {
             is_initializing: is_initializing_after(self.numbers.is_initializing, call),
             point: self.next_point(model, shape, phase, call),
-            ..model.changed(shape, self, call)
+            ..model.changed_numbers(shape, self, call)
         }
     }
 
@@ -332,7 +332,7 @@ fn step_content(
 }
 
 // The stop shows that the sum fits.
-fn bound(_stop: u64, at: u64, size: u64) -> u64
+fn step_end(_stop: u64, at: u64, size: u64) -> u64
     requires { at + size ≤ _stop }
     ensures { result ≡ at + size }
 {

@@ -17,7 +17,7 @@ const OUTPUT: u32 = 2;
 /// The size from which a step asks to end the simulation, a parameter; none does where it isn't above 0.
 const LONG: u32 = 3;
 
-pub(crate) fn shown(shape: &Shape, state: &BuiltInState, reference: u32) -> i128
+pub(crate) fn shown_value(shape: &Shape, state: &BuiltInState, reference: u32) -> i128
     ensures { result ≡ counter.shown shape.now (told state.now.numbers)
         (values_in shape.now.variables state.now) reference }
 {
@@ -36,7 +36,7 @@ pub(crate) fn asks_to_end(
 }
 
 /// The numbers after a call: a step counts.
-pub(crate) fn changed(shape: &Shape, state: &BuiltInState, call: &Call) -> Numbers
+pub(crate) fn changed_numbers(shape: &Shape, state: &BuiltInState, call: &Call) -> Numbers
     ensures { told result ≡ counted shape.now (told state.now.numbers)
         (values_in shape.now.variables state.now) call.now }
 {

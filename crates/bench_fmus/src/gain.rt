@@ -19,7 +19,7 @@ const INPUT: u32 = 2;
 /// The product, an output.
 const OUTPUT: u32 = 3;
 
-pub(crate) fn shown(shape: &Shape, state: &BuiltInState, reference: u32) -> i128
+pub(crate) fn shown_value(shape: &Shape, state: &BuiltInState, reference: u32) -> i128
     ensures { result ≡ gain.shown shape.now (told state.now.numbers)
         (values_in shape.now.variables state.now) reference }
 {
@@ -58,7 +58,7 @@ fn is_input_at(variables: &ByReference<Variable>, reference: u32) -> bool
 }
 
 /// The numbers after a call: the input is held where time goes on.
-pub(crate) fn changed(shape: &Shape, state: &BuiltInState, call: &Call) -> Numbers
+pub(crate) fn changed_numbers(shape: &Shape, state: &BuiltInState, call: &Call) -> Numbers
     ensures { told result ≡ holding shape.now (told state.now.numbers)
         (values_in shape.now.variables state.now) call.now }
 {

@@ -23,7 +23,7 @@ impl Model {
     ghost use Rattle.bench_fmus.specs.Told.{told, values_in};
 
     /// The machine that a description names as its modelIdentifier.
-    pub fn named(identifier: &str) -> Option<Model>
+    pub fn from_identifier(identifier: &str) -> Option<Model>
         ensures { result ≡ model_named identifier.now }
     {
         match identifier {
@@ -39,18 +39,18 @@ impl Model {
     }
 
     /// What a reference shows, before it is wrapped into its type.
-    pub(crate) fn shown(self, shape: &Shape, state: &BuiltInState, reference: u32) -> i128
+    pub(crate) fn shown_value(self, shape: &Shape, state: &BuiltInState, reference: u32) -> i128
         ensures { result ≡ (behaviour_of self).shown shape.now (told state.now.numbers)
             (values_in shape.now.variables state.now) reference }
     {
         match self {
-            Model::Counter => counter::shown(shape, state, reference),
-            Model::Gain => gain::shown(shape, state, reference),
-            Model::Sampler => sampler::shown(shape, state, reference),
-            Model::Alarm => alarm::shown(shape, state, reference),
-            Model::Timer => timer::shown(shape, state, reference),
-            Model::Relay => relay::shown(shape, state, reference),
-            Model::Settle => settle::shown(shape, state, reference),
+            Model::Counter => counter::shown_value(shape, state, reference),
+            Model::Gain => gain::shown_value(shape, state, reference),
+            Model::Sampler => sampler::shown_value(shape, state, reference),
+            Model::Alarm => alarm::shown_value(shape, state, reference),
+            Model::Timer => timer::shown_value(shape, state, reference),
+            Model::Relay => relay::shown_value(shape, state, reference),
+            Model::Settle => settle::shown_value(shape, state, reference),
         }
     }
 
@@ -128,18 +128,18 @@ impl Model {
     }
 
     /// The numbers after a call, but for the mark of Initialization Mode and the point of time.
-    pub(crate) fn changed(self, shape: &Shape, state: &BuiltInState, call: &Call) -> Numbers
+    pub(crate) fn changed_numbers(self, shape: &Shape, state: &BuiltInState, call: &Call) -> Numbers
         ensures { told result ≡ (behaviour_of self).changed shape.now (told state.now.numbers)
             (values_in shape.now.variables state.now) call.now }
     {
         match self {
-            Model::Counter => counter::changed(shape, state, call),
-            Model::Gain => gain::changed(shape, state, call),
-            Model::Sampler => sampler::changed(shape, state, call),
-            Model::Alarm => alarm::changed(shape, state, call),
-            Model::Timer => timer::changed(shape, state, call),
-            Model::Relay => relay::changed(shape, state, call),
-            Model::Settle => settle::changed(shape, state, call),
+            Model::Counter => counter::changed_numbers(shape, state, call),
+            Model::Gain => gain::changed_numbers(shape, state, call),
+            Model::Sampler => sampler::changed_numbers(shape, state, call),
+            Model::Alarm => alarm::changed_numbers(shape, state, call),
+            Model::Timer => timer::changed_numbers(shape, state, call),
+            Model::Relay => relay::changed_numbers(shape, state, call),
+            Model::Settle => settle::changed_numbers(shape, state, call),
         }
     }
 }

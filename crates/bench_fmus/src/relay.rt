@@ -17,7 +17,7 @@ const CLOCK: u32 = 2;
 /// The input at the ticks, an output.
 const OUTPUT: u32 = 3;
 
-pub(crate) fn shown(shape: &Shape, state: &BuiltInState, reference: u32) -> i128
+pub(crate) fn shown_value(shape: &Shape, state: &BuiltInState, reference: u32) -> i128
     ensures { result ≡ relayed shape.now (told state.now.numbers)
         (values_in shape.now.variables state.now) reference }
 {
@@ -40,7 +40,7 @@ fn differ(a: i128, b: i128) -> bool
 }
 
 /// The numbers after a call: the input is held where an instant ends.
-pub(crate) fn changed(shape: &Shape, state: &BuiltInState, call: &Call) -> Numbers
+pub(crate) fn changed_numbers(shape: &Shape, state: &BuiltInState, call: &Call) -> Numbers
     ensures { told result ≡ passed_on shape.now (told state.now.numbers)
         (values_in shape.now.variables state.now) call.now }
 {

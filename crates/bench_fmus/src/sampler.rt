@@ -28,7 +28,7 @@ const RESOLUTION: u32 = 5;
 /// Over the resolution the shift in seconds, a parameter.
 const SHIFT: u32 = 6;
 
-pub(crate) fn shown(shape: &Shape, state: &BuiltInState, reference: u32) -> i128
+pub(crate) fn shown_value(shape: &Shape, state: &BuiltInState, reference: u32) -> i128
     ensures { result ≡ sampler.shown shape.now (told state.now.numbers)
         (values_in shape.now.variables state.now) reference }
 {
@@ -67,7 +67,7 @@ pub(crate) fn shift(
 }
 
 /// The numbers after a call: the input is held where an instant ends at which the Clock ticks.
-pub(crate) fn changed(shape: &Shape, state: &BuiltInState, call: &Call) -> Numbers
+pub(crate) fn changed_numbers(shape: &Shape, state: &BuiltInState, call: &Call) -> Numbers
     ensures { told result ≡ sampled shape.now (told state.now.numbers)
         (values_in shape.now.variables state.now) call.now }
 {

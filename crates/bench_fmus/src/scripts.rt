@@ -40,7 +40,7 @@ impl Scripts {
     }
 
     /// The peers that were taken back, in order.
-    pub fn retired(&self) -> &[Script]
+    pub fn retired_peers(&self) -> &[Script]
         ensures { result.now ≡ self.now.retired.peers.items }
     {
         self.retired.peers.as_slice()

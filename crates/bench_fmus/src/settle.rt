@@ -13,7 +13,7 @@ const LIMIT: u32 = 1;
 /// The count of the updates, an output.
 const OUTPUT: u32 = 2;
 
-pub(crate) fn shown(shape: &Shape, state: &BuiltInState, reference: u32) -> i128
+pub(crate) fn shown_value(shape: &Shape, state: &BuiltInState, reference: u32) -> i128
     ensures { result ≡ settle.shown shape.now (told state.now.numbers)
         (values_in shape.now.variables state.now) reference }
 {
@@ -28,7 +28,7 @@ pub(crate) fn asks_again(variables: &ByReference<Variable>, state: &BuiltInState
 }
 
 /// The numbers after a call: an update counts, from EnterEvent on.
-pub(crate) fn changed(_shape: &Shape, state: &BuiltInState, call: &Call) -> Numbers
+pub(crate) fn changed_numbers(_shape: &Shape, state: &BuiltInState, call: &Call) -> Numbers
     ensures { told result ≡ updated _shape.now (told state.now.numbers)
         (values_in _shape.now.variables state.now) call.now }
 {

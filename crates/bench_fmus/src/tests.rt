@@ -411,10 +411,10 @@ fn a_full_room_fails_and_starts_fail_by_their_list(rt: HostRuntime) -> Result<()
     fails(&rt, alloc, &mut bench, &other, StartFault::Unknown);
     assert_eq!(rt; ask(&rt, &mut counter, INSTANTIATE).is_ok(), true);
     assert_eq!(rt; ask(&rt, &mut counter, INITIALIZE), Err(PeerFault::Failed));
-    assert!(rt; bench.retired().len() < bench.retired.started);
+    assert!(rt; bench.retired_peers().len() < bench.retired.started);
     assert_eq!(rt; length_of(counter.talk()), 2);
     bench.retire(counter);
-    assert_eq!(rt; bench.retired().len(), 1);
+    assert_eq!(rt; bench.retired_peers().len(), 1);
     Ok(())
 }
 
@@ -434,10 +434,10 @@ fn a_script_gives_its_answers_and_then_fails(rt: HostRuntime) -> Result<(), Fail
     fails(&rt, alloc, &mut scripts, &shape, StartFault::Failed);
     assert_eq!(rt; ask(&rt, &mut script, INSTANTIATE), warned);
     assert_eq!(rt; ask(&rt, &mut script, INITIALIZE), Err(PeerFault::Failed));
-    assert!(rt; scripts.retired().len() < scripts.retired.started);
+    assert!(rt; scripts.retired_peers().len() < scripts.retired.started);
     assert_eq!(rt; length_of(script.talk()), 2);
     scripts.retire(script);
-    assert_eq!(rt; scripts.retired().len(), 1);
+    assert_eq!(rt; scripts.retired_peers().len(), 1);
     Ok(())
 }
 

@@ -22,7 +22,7 @@ const OUTPUT: u32 = 3;
 /// How many counts later the Clock ticks, a parameter.
 const WAIT: u32 = 4;
 
-pub(crate) fn shown(shape: &Shape, state: &BuiltInState, reference: u32) -> i128
+pub(crate) fn shown_value(shape: &Shape, state: &BuiltInState, reference: u32) -> i128
     ensures { result ≡ timer.shown shape.now (told state.now.numbers)
         (values_in shape.now.variables state.now) reference }
 {
@@ -65,7 +65,7 @@ fn is_due(shape: &Shape, state: &BuiltInState) -> bool
 }
 
 /// The numbers after a call: an instant ends, and with it a tick, or the point at which the Clock was armed.
-pub(crate) fn changed(shape: &Shape, state: &BuiltInState, call: &Call) -> Numbers
+pub(crate) fn changed_numbers(shape: &Shape, state: &BuiltInState, call: &Call) -> Numbers
     ensures { told result ≡ timed shape.now (told state.now.numbers)
         (values_in shape.now.variables state.now) call.now }
 {
@@ -73,17 +73,17 @@ pub(crate) fn changed(shape: &Shape, state: &BuiltInState, call: &Call) -> Numbe
         Call::Update => if is_due(shape, state) {
             Numbers {
                 has_fired: true,
-                ..ticked(shape, state)
+                ..after_tick(shape, state)
             }
         } else {
-            ticked(shape, state)
+            after_tick(shape, state)
         },
         _ => state.numbers,
     }
 }
 
 // A tick is counted.
-fn ticked(shape: &Shape, state: &BuiltInState) -> Numbers
+fn after_tick(shape: &Shape, state: &BuiltInState) -> Numbers
     ensures { told result ≡ ticked shape.now (told state.now.numbers)
         (values_in shape.now.variables state.now) }
 {

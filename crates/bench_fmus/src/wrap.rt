@@ -2,7 +2,7 @@ ghost use Rattle.std.specs.Prelude.{◌≡◌, ◌-◌, ◌^◌, pos, negsuc, �
 ghost use Rattle.value_types.specs.Values.{word_of};
 ghost use Rattle.bench_fmus.specs.Wrapping.{count_of, wrapped_between, wrapped, wrapped_int64};
 
-use value_types::{PortType, greatest, least, to_word};
+use value_types::{PortType, greatest_value, least_value, to_word};
 
 const LEAST_INT64: i128 = i64::MIN as i128;
 
@@ -28,7 +28,10 @@ fn wrap_between(least: i128, greatest: i128, value: i128) -> i128
 pub(crate) fn wrapped_word(kind: PortType, value: i128) -> u64
     ensures { result ≡ word_of (wrapped kind value) }
 {
-    to_word(kind, wrap_between(least(kind), greatest(kind), value))
+    to_word(
+        kind,
+        wrap_between(least_value(kind), greatest_value(kind), value),
+    )
 }
 
 /// A number wrapped into Int64.

@@ -155,7 +155,7 @@ fn start_built_in(
     ensures unknown { AnswersUnknown (is_model shape.now.identifier) result }
     ensures host { IfOk result (λ l. IsOfHost host.now shape.now l) }
 {
-    let Some(model) = Model::named(shape.identifier.as_str()) else {
+    let Some(model) = Model::from_identifier(shape.identifier.as_str()) else {
         return Err(StartFault::Unknown);
     };
     let Ok(peer) = make_built_in(alloc, model, host, name, directory, shape) else {

@@ -6,7 +6,7 @@ ghost use Rattle.clock_fraction.specs.Decimal.{Denotes, IsShortest, is_mark, is_
 
 use crate::Fraction;
 use crate::digits::{are_digits, read_digits, significant_len};
-use crate::shortest::shortest;
+use crate::shortest::shortest_fraction;
 
 /// The number of seconds that a decimal writes, over the least power of ten. A decimal is an optional `+`, digits with
 /// an optional point among, before or after them, and an optional `e` or `E` with an optional sign and digits. There is
@@ -66,9 +66,9 @@ fn fraction_of(whole: &[u8], places: &[u8], power: &[u8], has_minus: bool) -> Op
     let zeros = (places.len() - kept) as u128 + (whole.len() - front) as u128;
     let tens = read_digits(0, power);
     if has_minus {
-        shortest(number, zeros, places.len() as u128 + tens)
+        shortest_fraction(number, zeros, places.len() as u128 + tens)
     } else {
-        shortest(number, zeros + tens, places.len() as u128)
+        shortest_fraction(number, zeros + tens, places.len() as u128)
     }
 }
 

@@ -11,7 +11,7 @@ const MOST_COUNTER: u128 = 1_000_000_000_000_000_000;
 const MOST_PLACES: u128 = 18;
 
 /// The fraction `number * 10 ^ up / 10 ^ down` over the least power of ten, where it is within the limits.
-pub(crate) fn shortest(number: u128, up: u128, down: u128) -> Option<Fraction>
+pub(crate) fn shortest_fraction(number: u128, up: u128, down: u128) -> Option<Fraction>
     requires { number ≢ 0 → number % 10 ≢ 0 }
     ensures value { IfSome result (λ fraction. (k : ℕ) × IsShortest number up down k fraction) }
     ensures exact { (k : ℕ) (fraction : Fraction) → IsShortest number up down k fraction →

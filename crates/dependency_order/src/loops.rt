@@ -8,7 +8,7 @@ use crate::lists::Lists;
 use std::alloc::{AllocError, Global};
 
 // A node that this one needs and that isn't placed.
-fn missing(needs: &Lists, placed: &[bool], node: usize) -> usize
+fn missing_need(needs: &Lists, placed: &[bool], node: usize) -> usize
     requires closed { IsClosed needs.now }
     requires marks { length placed.now ≡ length needs.now }
     requires stuck { IsStuck needs.now placed.now }
@@ -56,7 +56,7 @@ pub(crate) fn find_loop(
         }
         places[node] = Some(path.len());
         path.push(node)?;
-        node = missing(needs, placed, node);
+        node = missing_need(needs, placed, node);
     }
 }
 

@@ -68,17 +68,17 @@ fn clock_of(role: Role) -> TimeClock
         },
         Role::TimeClock {
             timing: Timing::Answered,
-        } => unasked(IntervalVariability::Fixed),
+        } => unasked_clock(IntervalVariability::Fixed),
         Role::TimeClock {
             timing: Timing::Countdown,
-        } => unasked(IntervalVariability::Countdown),
+        } => unasked_clock(IntervalVariability::Countdown),
         Role::Input { .. } | Role::Output | Role::ClockInput { .. } | Role::ClockOutput => {
-            unasked(IntervalVariability::Triggered)
+            unasked_clock(IntervalVariability::Triggered)
         }
     }
 }
 
-fn unasked(variability: IntervalVariability) -> TimeClock
+fn unasked_clock(variability: IntervalVariability) -> TimeClock
     ensures { result ≡ unasked variability }
 {
     TimeClock {

@@ -88,7 +88,7 @@ fn value_of(
                 None
             }
         }
-        Role::Output => seen(port, reply),
+        Role::Output => reply_value(port, reply),
         Role::Input { feed: None }
         | Role::ClockInput { .. }
         | Role::ClockOutput
@@ -111,7 +111,7 @@ pub(crate) fn set_call(port: &Port, value: Option<i128>) -> Option<Call>
 }
 
 // The value that a reply carries, if there is one.
-pub(crate) fn seen(port: &Port, reply: &Option<Reply>) -> Option<i128>
+pub(crate) fn reply_value(port: &Port, reply: &Option<Reply>) -> Option<i128>
     ensures { result ≡ seen port.now reply.now }
 {
     match reply {

@@ -42,7 +42,7 @@ pub fn update<L: Peer>(slots: &mut [Slot<L>], system: &System) -> Result<Updated
             continue;
         }
         match send(&mut slots[place], Call::Update) {
-            Ok(reply) => updated = joined(updated, &reply),
+            Ok(reply) => updated = with_reply(updated, &reply),
             Err(why) => {
                 return Err(BadAnswer {
                     component: CompId(place as u32),
@@ -55,7 +55,7 @@ pub fn update<L: Peer>(slots: &mut [Slot<L>], system: &System) -> Result<Updated
 }
 
 // What is told once one more has answered.
-fn joined(updated: Updated, reply: &Reply) -> Updated
+fn with_reply(updated: Updated, reply: &Reply) -> Updated
     ensures again { result.again ≡ (updated.again || asks_again reply.now) }
     ensures asked { result.asked ≡ (updated.asked || asks_for_end reply.now) }
 {

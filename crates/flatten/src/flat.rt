@@ -58,7 +58,7 @@ fn loop_refusal(tree: &SystemTree, ports: Items<PortId>) -> Refusal
     }
 }
 
-fn ordered(alloc: Global, tree: &SystemTree, parts: Parts) -> Result<System, Refusal>
+fn order_parts(alloc: Global, tree: &SystemTree, parts: Parts) -> Result<System, Refusal>
     requires whole { IsWhole tree.now }
     requires placed { ArePlaced parts.components parts.ports }
     ensures parts { IfOk result (λ system. (system.components ≡ parts.components) ×
@@ -90,7 +90,7 @@ fn assemble(alloc: Global, flat: &FlatTree) -> Result<System, Refusal>
         GivesParts result system }
 {
     match make_parts(alloc, flat) {
-        Ok(parts) => ordered(alloc, flat.tree, parts),
+        Ok(parts) => order_parts(alloc, flat.tree, parts),
         Err(_) => Err(Refusal::Memory),
     }
 }

@@ -82,7 +82,7 @@ pub(crate) struct Marks {
     pub(crate) types: Vec<TypeMarks>,
 }
 
-fn marked(alloc: Global, marks: &[bool]) -> Result<Vec<usize>, AllocError>
+fn marked_connectors(alloc: Global, marks: &[bool]) -> Result<Vec<usize>, AllocError>
     ensures { IfOk result (λ all. (c : ℕ) → Contains all.items c ↔ IsMarked marks.now c) }
 {
     let mut all = Vec::new(alloc);
@@ -96,14 +96,14 @@ fn marked(alloc: Global, marks: &[bool]) -> Result<Vec<usize>, AllocError>
 
 impl<'a> FlatTree<'a> {
     // For each connector whether a path from one of the starts leads up to it: it is a start, or a System's and reached.
-    fn reached(&self, alloc: Global, starts: Vec<bool>) -> Result<Vec<bool>, AllocError>
+    fn reached_marks(&self, alloc: Global, starts: Vec<bool>) -> Result<Vec<bool>, AllocError>
         requires indexed { IsIndexed self.now }
         requires len { length starts.items ≡ length self.now.tree.now.connectors }
         requires shared { AreShared self.now.tree.now self.now.shapes.now starts.items }
         ensures { IfOk result (λ reached. AreLedTo self.now.tree.now self.now.shapes.now
             (IsMarked starts.items) reached.items) }
     {
-        let begins = marked(alloc, starts.as_slice())?;
+        let begins = marked_connectors(alloc, starts.as_slice())?;
         let found = sources_of(
             alloc,
             self.points.as_slice(),
@@ -206,7 +206,7 @@ impl<'a> FlatTree<'a> {
         }
         Ok(ClassMarks {
             class,
-            reached: self.reached(alloc, starts)?,
+            reached: self.reached_marks(alloc, starts)?,
         })
     }
 
@@ -235,7 +235,7 @@ impl<'a> FlatTree<'a> {
         }
         Ok(TypeMarks {
             kind,
-            reached: self.reached(alloc, starts)?,
+            reached: self.reached_marks(alloc, starts)?,
         })
     }
 
@@ -245,7 +245,7 @@ impl<'a> FlatTree<'a> {
         ensures { IfOk result (HasMarks self.now.tree.now self.now.shapes.now) }
     {
         let outputs = self.outputs(alloc)?;
-        let fed = self.reached(alloc, outputs)?;
+        let fed = self.reached_marks(alloc, outputs)?;
         let mut classes = Vec::new(alloc);
         for class in CLASSES {
             classes.push(self.class_marks(alloc, fed.as_slice(), class)?)?;

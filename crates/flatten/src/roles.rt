@@ -28,7 +28,7 @@ fn counts(told: Option<Fraction>, resolution: u64) -> u128
 }
 
 // The timing of a Clock whose interval the description gives.
-fn periodic(clock: &ClockTiming, resolution: u64) -> Timing
+fn periodic_timing(clock: &ClockTiming, resolution: u64) -> Timing
     requires above { 0 < resolution }
     requires within { resolution ≤ 2 ^ 62 }
     ensures { (shape : shapes.Shape) (v : variables.Variable) → IsSoundClock shape v clock.now →
@@ -54,12 +54,12 @@ fn timing(clock: &ClockTiming, resolution: u64) -> Timing
         IntervalVariability::Fixed => if clock.supports_fraction {
             Timing::Answered
         } else {
-            periodic(clock, resolution)
+            periodic_timing(clock, resolution)
         },
         IntervalVariability::Constant
         | IntervalVariability::Tunable
         | IntervalVariability::Changing
-        | IntervalVariability::Triggered => periodic(clock, resolution),
+        | IntervalVariability::Triggered => periodic_timing(clock, resolution),
     }
 }
 

@@ -78,7 +78,7 @@ fn depends_on(
     ensures { IfOk result (DependsOn tree.now variables.now reference) }
 {
     match outputs.find(reference) {
-        Some(node) => listed(alloc, tree, node, variables),
+        Some(node) => listed_knowns(alloc, tree, node, variables),
         None => Ok(Knowns::AllInputs),
     }
 }
@@ -100,7 +100,7 @@ fn depends_initially_on(
     ensures { IfOk result (DependsInitiallyOn tree.now variables.now reference) }
 {
     match unknowns.find(reference) {
-        Some(node) => listed(alloc, tree, node, variables),
+        Some(node) => listed_knowns(alloc, tree, node, variables),
         None if is_exact(tree, places, reference) => {
             Ok(Knowns::Listed(Items::from_vec(Vec::new(alloc))))
         }
@@ -130,7 +130,7 @@ fn is_exact_at(tree: &Tree, node: usize) -> bool
 }
 
 /// What a list of dependencies says: an absent one means all inputs.
-fn listed(
+fn listed_knowns(
     alloc: Global,
     tree: &Tree,
     node: usize,

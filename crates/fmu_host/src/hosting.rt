@@ -83,7 +83,7 @@ pub(crate) fn host_args<F: Folder, I: Source, O: Sink>(
             Ok(words) => host_words(alloc, &words, folder, input, output),
             Err(_) => HostEnd::Memory.status(),
         },
-        Err(error) => ungiven(&error).status(),
+        Err(error) => ungiven_end(&error).status(),
     }
 }
 
@@ -94,7 +94,7 @@ fn words_behind(alloc: Global, given: Args) -> Result<Vec<String>, AllocError>
     given.skip(1).collect(alloc)
 }
 
-fn ungiven(error: &io::Error) -> HostEnd
+fn ungiven_end(error: &io::Error) -> HostEnd
     ensures { result ≡ ungiven_end (error_kind error.now) }
 {
     match error.kind() {
@@ -186,7 +186,7 @@ fn host_model<I: Source, O: Sink>(
     ensures { ShapeFacts result shape.now (link (I.view input.old) (O.view output.old))
         (link (I.view input.new) (O.view output.new)) }
 {
-    let Some(model) = Model::named(shape.identifier.as_str()) else {
+    let Some(model) = Model::from_identifier(shape.identifier.as_str()) else {
         return HostEnd::Unknown;
     };
     match QuietMachine::new(alloc, model, shape) {

@@ -141,7 +141,7 @@ pub fn read_opened<S: OpenedFile>(
 {
     match opened {
         Ok(file) => read_within(file, alloc, limit),
-        Err(error) => Err(unopened(error)),
+        Err(error) => Err(open_fault(error)),
     }
 }
 
@@ -157,7 +157,7 @@ fn read_within<S: OpenedFile>(
     let mut bytes = Vec::new(alloc);
     match source.read_up_to(limit.saturating_add(1), &mut bytes) {
         Ok(_) => within(bytes, limit),
-        Err(error) => Err(unread(&error)),
+        Err(error) => Err(read_fault(&error)),
     }
 }
 
@@ -175,7 +175,7 @@ fn within(bytes: Vec<u8>, limit: u64) -> Result<Vec<u8>, ReadFault>
     }
 }
 
-fn unopened(error: &io::Error) -> ReadFault
+fn open_fault(error: &io::Error) -> ReadFault
     ensures { result ≡ unopened (error_kind error.now) }
 {
     match error.kind() {
@@ -186,7 +186,7 @@ fn unopened(error: &io::Error) -> ReadFault
 }
 
 // A file that was opened is there, whatever the error says.
-fn unread(error: &io::Error) -> ReadFault
+fn read_fault(error: &io::Error) -> ReadFault
     ensures { result ≡ unread (error_kind error.now) }
 {
     match error.kind() {

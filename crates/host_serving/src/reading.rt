@@ -44,7 +44,7 @@ pub(crate) fn next_call<I: Source>(alloc: Global, input: &mut I) -> NextCall
         return NextCall::AtEnd;
     }
     match take_call(front_of(&head, count)) {
-        Taken::Got { value, .. } => came(value),
+        Taken::Got { value, .. } => next_of_frame(value),
         Taken::Bad { at } => NextCall::Bad { at: at as u64 },
         Taken::NeedMore => {
             if count < HEAD {
@@ -57,7 +57,7 @@ pub(crate) fn next_call<I: Source>(alloc: Global, input: &mut I) -> NextCall
 }
 
 // A frame that came.
-fn came(frame: CallFrame) -> NextCall
+fn next_of_frame(frame: CallFrame) -> NextCall
     ensures { result ≡ NextCall.Came frame.call }
 {
     NextCall::Came(frame.call)
@@ -95,7 +95,7 @@ fn next_in<I: Source>(frame: &mut [u8], input: &mut I) -> NextCall
     };
     let length = HEAD + count;
     match take_call(front_of(frame, length)) {
-        Taken::Got { value, .. } => came(value),
+        Taken::Got { value, .. } => next_of_frame(value),
         Taken::Bad { at } => NextCall::Bad { at: at as u64 },
         Taken::NeedMore => NextCall::Bad { at: length as u64 },
     }

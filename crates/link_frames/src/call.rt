@@ -85,7 +85,7 @@ fn head_of_call(call: &Call, name_len: u64, token_len: u64) -> Head
     }
 }
 
-fn sent<'t>(call: &Call, text: &'t str) -> &'t str
+fn sent_text<'t>(call: &Call, text: &'t str) -> &'t str
     ensures { result.now ≡ sent call.now text.now }
 {
     match call {
@@ -211,7 +211,7 @@ pub fn frame_len(call: &Call, name: &str, token: &str) -> usize
     requires { CanBeSent call.now (length name.now) (length token.now) }
     ensures { result ≡ 24 + length (sent call.now name.now) + length (sent call.now token.now) }
 {
-    24 + sent(call, name).len() + sent(call, token).len()
+    24 + sent_text(call, name).len() + sent_text(call, token).len()
 }
 
 /// Puts the frame of a call, for Instantiate with its texts, the instance's name and its instantiation token; with other
@@ -226,8 +226,8 @@ pub fn put_call(call: &Call, name: &str, token: &str, out: &mut [u8]) -> usize
     ensures rest { drop result out.new ≡ drop result out.old }
 {
     let head = spell(head_of_call(call, name.len() as u64, token.len() as u64));
-    let name = sent(call, name).as_bytes();
-    let token = sent(call, token).as_bytes();
+    let name = sent_text(call, name).as_bytes();
+    let token = sent_text(call, token).as_bytes();
     let name_end = 24 + name.len();
     put_at(out, 0, &head);
     put_at(out, 24, name);

@@ -34,7 +34,7 @@ impl<'a> Fronts<'a> {
         ensures { IfOk result (λ fronts. fronts ≡ texts paths.entry.items) }
     {
         let sorted = sorted_entries(alloc, paths.as_slice())?;
-        let shorter = linked(alloc, sorted.as_slice())?;
+        let shorter = link_fronts(alloc, sorted.as_slice())?;
         Ok(Fronts {
             paths,
             sorted,
@@ -91,7 +91,7 @@ fn sorted_entries<'a>(
 }
 
 // Of each of these the last one before it that begins it.
-fn linked(alloc: Global, sorted: &[(&[u8], usize)]) -> Result<Vec<Option<usize>>, AllocError>
+fn link_fronts(alloc: Global, sorted: &[(&[u8], usize)]) -> Result<Vec<Option<usize>>, AllocError>
     requires { IsRising sorted.now }
     ensures len { IfOk result (λ shorter. length shorter.items ≡ length sorted.now) }
     ensures links { IfOk result (λ shorter. AreLinks sorted.now shorter.items) }

@@ -28,7 +28,7 @@ pub(crate) struct Gathered {
 }
 
 // One more where these are none.
-fn counted(unreached: Option<u64>, targets: &[Target]) -> Option<u64>
+fn count_unreached(unreached: Option<u64>, targets: &[Target]) -> Option<u64>
     ensures more { targets.now ≡ [] → IsOneMore unreached result }
     ensures same { (target : Target) → Contains targets.now target → result ≡ unreached }
 {
@@ -73,7 +73,7 @@ impl Gathered {
         self.fault = first_of(self.fault, visit.fault(shapes, targets));
         if self.fault.is_none() {
             visit.put_all(shapes, &mut self.winners, targets)?;
-            self.unreached = counted(self.unreached, targets);
+            self.unreached = count_unreached(self.unreached, targets);
         }
         Ok(())
     }

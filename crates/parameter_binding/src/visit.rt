@@ -86,7 +86,7 @@ impl Visit<'_> {
     }
 
     // The first rule that is broken by what the value and its change are for a type.
-    fn judged(&self, kind: PortType) -> Option<Fault>
+    fn fault_for_type(&self, kind: PortType) -> Option<Fault>
         requires { IsInRange self.now.parameter.now.value }
         ensures { (t : SystemTree) (shapes : List Shape) (sets : List BindingSets)
             (binding : Binding) (name : List ℕ) (change : Option Change) (target : Target)
@@ -116,7 +116,7 @@ impl Visit<'_> {
         let mut fault = None;
         for target in targets {
             let kind = variable_of(shapes, *target).kind.unwrap();
-            fault = first_of(fault, self.judged(kind));
+            fault = first_of(fault, self.fault_for_type(kind));
         }
         if names_two(targets) {
             fault = first_of(fault, Some(self.fault_in_set(ParameterRule::NamesTwo)));

@@ -129,7 +129,7 @@ impl<'a> Walk<'a> {
             AreGathered self.now.tree.now self.now.shapes.now self.now.sets.now
             (IsUpToTriple (triple_of visit.now)) gathered.new) }
     {
-        let targets = self.targets.seen(alloc, binding.owner, name)?;
+        let targets = self.targets.seen_targets(alloc, binding.owner, name)?;
         gathered.put(self.shapes, visit, targets.as_slice())?;
         Ok(())
     }

@@ -11,7 +11,7 @@ ghost use Rattle.parameter_sets.specs.Rules.{IsMisreadTransformation};
 ghost use Rattle.parameter_sets.specs.Sets.{IsBooleanPair, IsChange, IsIntegerPair};
 
 use crate::elements::children_named;
-use crate::numbers::{boolean, factor_or, whole};
+use crate::numbers::{boolean, factor_or, whole_number};
 use doc_tables::is_named;
 use doc_tree::Tree;
 use parameter_values::{BooleanPair, Change, IntegerPair};
@@ -22,8 +22,8 @@ fn integer_pair(tree: &Tree, node: usize) -> Option<IntegerPair>
     ensures { MatchOption result ((x : IntegerPair) → IsIntegerPair tree.now node x → ⊥)
         (IsIntegerPair tree.now node) }
 {
-    let source = whole(tree, node, "source")?;
-    let target = whole(tree, node, "target")?;
+    let source = whole_number(tree, node, "source")?;
+    let target = whole_number(tree, node, "target")?;
     Some(IntegerPair { source, target })
 }
 

@@ -22,7 +22,7 @@ fn read_whole(text: &str) -> Option<i128>
 }
 
 /// The whole number that an attribute is.
-pub(crate) fn whole(tree: &Tree, node: usize, name: &str) -> Option<i128>
+pub(crate) fn whole_number(tree: &Tree, node: usize, name: &str) -> Option<i128>
     ensures value { IfSome result (IsWhole tree.now node name.now) }
     ensures exact { (value : ℤ) → IsWhole tree.now node name.now value → result ≡ Some value }
 {

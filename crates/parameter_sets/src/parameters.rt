@@ -8,7 +8,7 @@ ghost use Rattle.parameter_sets.specs.Rules.{IsIncompleteParameter};
 ghost use Rattle.parameter_sets.specs.Sets.{IsParameter, IsValue};
 
 use crate::elements::first_value;
-use crate::numbers::{boolean, whole};
+use crate::numbers::{boolean, whole_number};
 use doc_tables::{attribute, is_named, lacks};
 use doc_tree::Tree;
 use parameter_values::{Parameter, ParameterValue};
@@ -21,7 +21,7 @@ fn value_in(tree: &Tree, node: usize) -> Option<ParameterValue>
         (IsValue tree.now (Some node)) }
 {
     if is_named(tree, node, "Integer") {
-        Some(ParameterValue::Integer(whole(tree, node, "value")?))
+        Some(ParameterValue::Integer(whole_number(tree, node, "value")?))
     } else if is_named(tree, node, "Boolean") {
         Some(ParameterValue::Boolean(boolean(tree, node, "value")?))
     } else {

@@ -110,7 +110,7 @@ impl<'a> Targets<'a> {
     }
 
     // The paths of a System that begin the name.
-    fn near(&self, alloc: Global, system: usize, name: &str) -> Result<Vec<usize>, AllocError>
+    fn near_paths(&self, alloc: Global, system: usize, name: &str) -> Result<Vec<usize>, AllocError>
         requires targets { AreTargets self.now }
         requires within { system < length self.now.tree.now.systems }
         ensures { IfOk result (λ ats. AreNear self.now.paths system name.now ats.items) }
@@ -137,7 +137,7 @@ impl<'a> Targets<'a> {
             Contains seen.items target ↔ IsSeenBelow self.now system name.now target) }
     {
         let mut seen = Vec::new(alloc);
-        let ats = self.near(alloc, system, name)?;
+        let ats = self.near_paths(alloc, system, name)?;
         for at in &ats {
             let path = &self.paths.all[*at];
             if let Some(own) = behind(name, path.text) {
@@ -148,7 +148,12 @@ impl<'a> Targets<'a> {
     }
 
     /// All parameters that the element sees under the name; one may stand there more than once.
-    pub fn seen(&self, alloc: Global, owner: Owner, name: &str) -> Result<Vec<Target>, AllocError>
+    pub fn seen_targets(
+        &self,
+        alloc: Global,
+        owner: Owner,
+        name: &str,
+    ) -> Result<Vec<Target>, AllocError>
         requires targets { AreTargets self.now }
         requires owner { IsOwner self.now.tree.now owner }
         ensures { IfOk result (λ seen. (target : Target) →

@@ -9,7 +9,7 @@ ghost use Rattle.parameter_values.specs.Ranges.{IsInRange};
 ghost use Rattle.parameter_values.specs.Ready.{FindsBoolean, FindsGiven, FindsInteger, IsReady, Judges};
 ghost use Rattle.parameter_values.specs.Values.{IsFor, IsOf};
 
-use crate::linear::scaled;
+use crate::linear::scale;
 use crate::{BooleanPair, Change, IntegerPair, Judgement, ParameterValue};
 use std::alloc::{AllocError, Global};
 use std::collections::BTreeMap;
@@ -109,7 +109,7 @@ impl ReadyChange {
             (ReadyChange::Same, ParameterValue::Integer(number)) => Some(number),
             (ReadyChange::Same, ParameterValue::Boolean(truth)) => Some(i128::from(truth)),
             (ReadyChange::Linear { factor, offset }, ParameterValue::Integer(number)) => {
-                Some(scaled(*factor, *offset, number))
+                Some(scale(*factor, *offset, number))
             }
             (ReadyChange::Integers { targets }, ParameterValue::Integer(number)) => {
                 targets.get(&number).copied()

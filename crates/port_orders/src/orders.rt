@@ -53,7 +53,7 @@ fn marks_of(alloc: Global, ports: &[Port], initializing: bool) -> Result<Vec<boo
 }
 
 // Those that are marked.
-fn marked(alloc: Global, nodes: &[usize], marks: &[bool]) -> Result<Vec<usize>, AllocError>
+fn marked_nodes(alloc: Global, nodes: &[usize], marks: &[bool]) -> Result<Vec<usize>, AllocError>
     ensures { IfOk result (λ kept. kept.items ≡ filter (λ p. slice_index_or marks.now p false)
         nodes.now) }
 {
@@ -76,7 +76,7 @@ fn is_marked(marks: &[bool], node: usize) -> bool
     }
 }
 
-fn numbered(alloc: Global, nodes: &[usize]) -> Result<Items<PortId>, AllocError>
+fn port_ids(alloc: Global, nodes: &[usize]) -> Result<Items<PortId>, AllocError>
     requires { All (λ p. p < 2 ^ 32) nodes.now }
     ensures { IfOk result (λ ports. numbers ports ≡ nodes.now) }
 {
@@ -103,12 +103,12 @@ fn order_in(
     let needs = gather(alloc, components, ports, taken.as_slice(), initializing)?;
     match order_grouped(alloc, needs)? {
         Found::Order(nodes) => {
-            let kept = marked(alloc, nodes.as_slice(), taken.as_slice())?;
-            let order = numbered(alloc, kept.as_slice())?;
+            let kept = marked_nodes(alloc, nodes.as_slice(), taken.as_slice())?;
+            let order = port_ids(alloc, kept.as_slice())?;
             Ok(order)
         }
         Found::Loop(nodes) => {
-            let found = numbered(alloc, nodes.as_slice())?;
+            let found = port_ids(alloc, nodes.as_slice())?;
             Err(OrderFault::Loop(found))
         }
     }

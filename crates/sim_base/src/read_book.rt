@@ -68,14 +68,14 @@ impl ReadBook {
     }
 
     /// The paths that were asked for, the newest last.
-    pub fn asked(&self) -> &[Text]
+    pub fn asked_paths(&self) -> &[Text]
         ensures { result.now ≡ self.now.asked }
     {
         self.asked.as_slice()
     }
 
     /// The paths whose read failed, the newest last.
-    pub fn failed(&self) -> &[Text]
+    pub fn failed_paths(&self) -> &[Text]
         ensures { result.now ≡ self.now.failed }
     {
         self.failed.as_slice()

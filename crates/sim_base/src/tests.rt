@@ -80,8 +80,8 @@ fn a_folder_answers_by_its_lists(rt: HostRuntime) -> Result<(), Fail> {
         Err(ReadFault::TooBig { length: 2 })
     );
     assert_eq!(rt; folder.read(alloc, "a", 2)?.as_slice(), b"12".as_slice());
-    assert_paths(&rt, folder.book.asked(), &["b", "a", "a", "a"]);
-    assert_paths(&rt, folder.book.failed(), &["a"]);
+    assert_paths(&rt, folder.book.asked_paths(), &["b", "a", "a", "a"]);
+    assert_paths(&rt, folder.book.failed_paths(), &["a"]);
     assert_eq!(rt; folder.book.faults(), 1);
     Ok(())
 }

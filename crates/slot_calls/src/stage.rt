@@ -63,13 +63,13 @@ pub fn round<L: Peer>(slots: &mut [Slot<L>], ask: Ask) -> Result<bool, BadAnswer
     let mut so_far = Ok(false);
     for place in 0..slots.len() {
         let answer = advance(&mut slots[place], ask);
-        so_far = joined(so_far, CompId(place as u32), answer);
+        so_far = with_answer(so_far, CompId(place as u32), answer);
     }
     so_far
 }
 
 // What a round gives once one more component has answered.
-fn joined(
+fn with_answer(
     so_far: Result<bool, BadAnswer>,
     component: CompId,
     answer: Result<bool, Why>,

@@ -151,7 +151,7 @@ impl IndexedTree<'_> {
     }
 
     // The place of the System that a System stands in; the outermost stands in none.
-    fn outer(&self, node: usize) -> Option<usize>
+    fn outer_system(&self, node: usize) -> Option<usize>
         requires indexed { IsIndexed self.now }
         requires sound { IsSound self.now.tree.now }
         requires is { IsSystem self.now.tree.now node }
@@ -198,7 +198,7 @@ impl IndexedTree<'_> {
     {
         Ok(SystemPart {
             node,
-            parent: self.outer(node),
+            parent: self.outer_system(node),
             name: text(alloc, self.tree, node, "name")?,
         })
     }

@@ -1654,8 +1654,8 @@ fn bindings_are_read_behind_descriptions(rt: HostRuntime) -> Result<(), Fail> {
         "d/m.ssm",
         "d/v.ssv",
     ];
-    assert_eq!(rt; folder.book.asked().len(), paths.len());
-    for (asked, path) in folder.book.asked().iter().zip(paths) {
+    assert_eq!(rt; folder.book.asked_paths().len(), paths.len());
+    for (asked, path) in folder.book.asked_paths().iter().zip(paths) {
         assert_eq!(rt; asked.as_str(), path);
     }
     Ok(())
@@ -1870,8 +1870,13 @@ fn a_bad_answer_to_a_parameter_ends_the_run(rt: HostRuntime) -> Result<(), Fail>
         let files = make_files(alloc, &SIBLINGS, FOLDERS)?;
         let mut folder = folder_of(alloc, files);
         assert_run(&rt, alloc, &wanted, &mut folder, &mut scripts)?;
-        assert_eq!(rt; scripts.retired().len(), row.calls.len(), "{}", row.err);
-        for (script, calls) in scripts.retired().iter().zip(row.calls) {
+        assert_eq!(rt;
+            scripts.retired_peers().len(),
+            row.calls.len(),
+            "{}",
+            row.err
+        );
+        for (script, calls) in scripts.retired_peers().iter().zip(row.calls) {
             let made = calls_of(alloc, script)?;
             assert_eq!(rt; made.as_slice(), *calls, "{}", row.err);
         }

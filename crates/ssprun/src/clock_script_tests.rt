@@ -223,11 +223,11 @@ fn assert_cut<R: Abort + Threads + Sync>(
     let file = make_file(alloc, "d/modelDescription.xml", CLOCKS)?;
     let mut folder = MemFolder::new(alloc, vec![in alloc; file]?, Vec::new(alloc));
     assert_run(rt, alloc, wanted, &mut folder, &mut scripts)?;
-    for script in scripts.retired() {
+    for script in scripts.retired_peers() {
         let made = calls_of(alloc, script)?;
         assert_eq!(rt; made.as_slice(), calls.as_slice(), "{}", wanted.err);
     }
-    assert_eq!(rt; scripts.retired().len(), 1);
+    assert_eq!(rt; scripts.retired_peers().len(), 1);
     Ok(())
 }
 

@@ -370,8 +370,8 @@ fn assert_cut<R: Abort + Threads + Sync>(
     let files = make_files(alloc, &MIXED, FOLDERS)?;
     let mut folder = MemFolder::new(alloc, files, Vec::new(alloc));
     assert_run(rt, alloc, &wanted, &mut folder, &mut scripts)?;
-    assert_eq!(rt; scripts.retired().len(), 3);
-    for (component, script) in scripts.retired().iter().enumerate() {
+    assert_eq!(rt; scripts.retired_peers().len(), 3);
+    for (component, script) in scripts.retired_peers().iter().enumerate() {
         let mut calls = Vec::new(alloc);
         for line in &lines_of(alloc, component, cut.place)? {
             calls.push(line.call)?;

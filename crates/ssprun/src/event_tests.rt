@@ -248,8 +248,8 @@ fn a_later_point_reaches_the_limit(rt: HostRuntime) -> Result<(), Fail> {
         err: "limit 10\n",
     };
     assert_run(&rt, alloc, &wanted, &mut folder, &mut scripts)?;
-    assert_eq!(rt; scripts.retired().len(), 1);
-    for script in scripts.retired() {
+    assert_eq!(rt; scripts.retired_peers().len(), 1);
+    for script in scripts.retired_peers() {
         let kinds = kinds_of(alloc, script)?;
         assert_eq!(rt;
             kinds.as_slice(),

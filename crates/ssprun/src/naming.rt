@@ -44,7 +44,7 @@ impl Naming {
     }
 
     /// The report of a component whose peer wasn't started.
-    pub fn not_started(self, component: CompId, fault: StartCause) -> Report
+    pub fn report_start_fault(self, component: CompId, fault: StartCause) -> Report
         requires { component.0 < length self.names.items }
         ensures { (name : _) × (slice_get self.names.items component.0 ≡ Some name) ×
             (result.outcome ≡ Start name fault) }
@@ -60,14 +60,14 @@ impl Naming {
     }
 
     /// The report of a run's end.
-    pub fn ended(self, end: RunEnd) -> Report
+    pub fn report_end(self, end: RunEnd) -> Report
         requires { NamesOne (length self.names.items) end }
         ensures { (e : _) × (result.outcome ≡ Ran e) × IsEndOf self.names.items end e }
     {
         match end {
-            RunEnd::Stop => self.ended_so(End::Stop),
-            RunEnd::Asked { .. } => self.ended_so(End::Asked),
-            RunEnd::EventLimit { point } => self.ended_so(End::EventLimit { point }),
+            RunEnd::Stop => self.report_bare_end(End::Stop),
+            RunEnd::Asked { .. } => self.report_bare_end(End::Asked),
+            RunEnd::EventLimit { point } => self.report_bare_end(End::EventLimit { point }),
             RunEnd::FixedStep { component, at, end } => {
                 let Named { name, text } = self.take(component);
                 Report {
@@ -93,12 +93,12 @@ impl Naming {
                     text,
                 }
             }
-            RunEnd::WriteFault => self.ended_so(End::WriteFault),
+            RunEnd::WriteFault => self.report_bare_end(End::WriteFault),
         }
     }
 
     // The report of an end that names no component.
-    fn ended_so(self, end: End) -> Report
+    fn report_bare_end(self, end: End) -> Report
         requires { end_room end ≡ 0 }
         ensures { result.outcome ≡ Ran end }
     {

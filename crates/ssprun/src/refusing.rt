@@ -29,14 +29,14 @@ fn refuse_file(alloc: Global, file: NamedFile, fault: FileFault) -> Report
     let NamedFile { path, text } = file;
     match fault {
         FileFault::Broken { rule, place, ports } => refuse_broken(alloc, path, rule, place, ports),
-        FileFault::Unread => lacking(path, FileFault::Unread, text),
-        FileFault::Missing => lacking(path, FileFault::Missing, text),
-        FileFault::TooBig => lacking(path, FileFault::TooBig, text),
+        FileFault::Unread => refuse_whole(path, FileFault::Unread, text),
+        FileFault::Missing => refuse_whole(path, FileFault::Missing, text),
+        FileFault::TooBig => refuse_whole(path, FileFault::TooBig, text),
     }
 }
 
 // The report of a file that says nothing.
-fn lacking(path: Text, fault: FileFault, text: Vec<u8>) -> Report
+fn refuse_whole(path: Text, fault: FileFault, text: Vec<u8>) -> Report
     requires room { room_for (length path) ≤ length text.items }
     requires bare { place_room fault ≡ 0 }
     ensures { result.outcome ≡ File path fault }

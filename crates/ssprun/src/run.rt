@@ -173,7 +173,7 @@ fn tell_size<O: Sink>(alloc: Global, system: &System, unreached: u64, out: &mut 
 {
     let mut text = [0u8; 128];
     let length = write_size(system, unreached, &mut text);
-    Report::checked(alloc, out.put(&text[..length]).is_ok())
+    Report::of_check(alloc, out.put(&text[..length]).is_ok())
 }
 
 // Runs a system: starts its peers, and takes them back at the end.
@@ -231,8 +231,8 @@ fn give_up<S: Spawner>(
     } = unstarted;
     retire_each(peers, spawner);
     match fault {
-        StartFault::Failed => naming.not_started(component, StartCause::Failed),
-        StartFault::Unknown => naming.not_started(component, StartCause::Unknown),
+        StartFault::Failed => naming.report_start_fault(component, StartCause::Failed),
+        StartFault::Unknown => naming.report_start_fault(component, StartCause::Unknown),
         StartFault::Memory => Report::memory(alloc),
     }
 }
@@ -270,13 +270,13 @@ fn run_peers<R: Threads + Sync, S: Spawner, O: Sink>(
             let mut master = master;
             let end = master.run(rt, out);
             retire_each(master.close(), spawner);
-            naming.ended(end)
+            naming.report_end(end)
         }
         Err(PrepareEnd { peers, fault }) => {
             retire_each(peers, spawner);
             match fault {
                 PrepareFault::Memory => Report::memory(alloc),
-                PrepareFault::Bad(bad) => naming.ended(RunEnd::Bad(bad)),
+                PrepareFault::Bad(bad) => naming.report_end(RunEnd::Bad(bad)),
             }
         }
     }

@@ -489,8 +489,8 @@ fn one_description_serves_two_components(rt: HostRuntime) -> Result<(), Fail> {
         "d/counter/modelDescription.xml",
         "d/gain/modelDescription.xml",
     ];
-    assert_eq!(rt; folder.book.asked().len(), paths.len());
-    for (asked, path) in folder.book.asked().iter().zip(paths) {
+    assert_eq!(rt; folder.book.asked_paths().len(), paths.len());
+    for (asked, path) in folder.book.asked_paths().iter().zip(paths) {
         assert_eq!(rt; asked.as_str(), path);
     }
     Ok(())
@@ -685,8 +685,13 @@ fn a_bad_answer_ends_a_system(rt: HostRuntime) -> Result<(), Fail> {
         let mut folder = make_folder(alloc, &case)?;
         let mut scripts = make_scripts(alloc, row.answers)?;
         assert_run(&rt, alloc, &wanted_of(&case), &mut folder, &mut scripts)?;
-        assert_eq!(rt; scripts.retired().len(), row.calls.len(), "{}", row.err);
-        for (script, calls) in scripts.retired().iter().zip(row.calls) {
+        assert_eq!(rt;
+            scripts.retired_peers().len(),
+            row.calls.len(),
+            "{}",
+            row.err
+        );
+        for (script, calls) in scripts.retired_peers().iter().zip(row.calls) {
             let kinds = kinds_of(alloc, script)?;
             assert_eq!(rt; kinds.as_slice(), *calls, "{}", row.err);
         }

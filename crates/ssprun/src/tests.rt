@@ -686,8 +686,8 @@ fn a_peer_is_started_by_the_host(rt: HostRuntime) -> Result<(), Fail> {
         let case = Case { words, ..WORKED };
         let mut bench = Bench::new(alloc, None, Vec::new(alloc));
         assert_case(&rt, alloc, &case, &mut bench)?;
-        assert_eq!(rt; bench.retired().len(), 1);
-        for peer in bench.retired() {
+        assert_eq!(rt; bench.retired_peers().len(), 1);
+        for peer in bench.retired_peers() {
             assert_eq!(rt; peer.origin.host.as_str(), *host);
             assert_eq!(rt; peer.origin.directory.as_str(), "d");
         }
@@ -764,8 +764,8 @@ fn a_bad_answer_gives_its_line(rt: HostRuntime) -> Result<(), Fail> {
             ..WORKED
         };
         assert_case(&rt, alloc, &case, &mut scripts)?;
-        assert_eq!(rt; scripts.retired().len(), 1);
-        for script in scripts.retired() {
+        assert_eq!(rt; scripts.retired_peers().len(), 1);
+        for script in scripts.retired_peers() {
             let kinds = kinds_of(alloc, script)?;
             assert_eq!(rt; kinds.as_slice(), row.calls, "{}", row.err);
         }

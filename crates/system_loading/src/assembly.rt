@@ -42,7 +42,7 @@ pub fn assemble(alloc: Global, outline: &Outline, shapes: &[Shape]) -> Result<Sy
     ensures built { IfOk result IsBuilt }
 {
     match flatten(alloc, &outline.systems, shapes) {
-        Ok(system) => match unbuilt(alloc, shapes) {
+        Ok(system) => match unbuilt_fault(alloc, shapes) {
             Some(fault) => Err(fault),
             None => Ok(system),
         },
@@ -59,7 +59,7 @@ pub fn assemble(alloc: Global, outline: &Outline, shapes: &[Shape]) -> Result<Sy
 }
 
 // The first part that isn't built yet.
-fn unbuilt(alloc: Global, shapes: &[Shape]) -> Option<AssemblyFault>
+fn unbuilt_fault(alloc: Global, shapes: &[Shape]) -> Option<AssemblyFault>
     ensures { MatchOption result (AreBuilt shapes.now)
         (λ fault. (outline : Outline) → TellsUnbuilt outline shapes.now fault) }
 {

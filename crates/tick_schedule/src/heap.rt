@@ -70,7 +70,7 @@ impl Heap {
     }
 
     /// The least point.
-    pub(crate) fn least<L: Ledger>(&self, steps: &mut Steps<L>) -> Option<u64>
+    pub(crate) fn least_point<L: Ledger>(&self, steps: &mut Steps<L>) -> Option<u64>
         ensures none { IfNone result (length self.now ≡ 0) }
         ensures found { IfSome result (λ p. SomeIndex self.now (λ c. slice_index self.now c ≡ p)) }
         ensures least { IfSome result (λ p. All (λ q. p ≤ q) self.now) }

@@ -107,7 +107,7 @@ impl Schedule {
         ensures none { IfNone result ((clock point : ℕ) → TicksAt self.now clock point → ⊥) }
         ensures cost { steps.new ≤ steps.old + min 1 (length self.now.clocks) }
     {
-        match self.points.least(steps) {
+        match self.points.least_point(steps) {
             Some(point) => if point <= self.stop {
                 Some(point)
             } else {

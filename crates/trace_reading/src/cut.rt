@@ -2,7 +2,7 @@ ghost use Rattle.std.specs.Prelude.{◌≡◌, ℕ, List, ◌∷◌, ◌++◌, I
 ghost use Rattle.trace_reading.specs.Lines.{Lacks};
 
 /// What stands before the first such byte, and what behind it.
-pub(crate) fn cut(bytes: &[u8], at: u8) -> Option<(&[u8], &[u8])>
+pub(crate) fn split_once(bytes: &[u8], at: u8) -> Option<(&[u8], &[u8])>
     ensures parts { IfSome result (λ p. bytes.now ≡ p.0.now ++ (at ∷ p.1.now)) }
     ensures first { IfSome result (λ p. Lacks at p.0.now) }
     ensures none { IfNone result (Lacks at bytes.now) }

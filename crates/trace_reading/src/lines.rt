@@ -6,7 +6,7 @@ ghost use Rattle.trace_reading.specs.declared.item.Item.{Item};
 ghost use Rattle.trace_reading.specs.Walk.{item_line, IsShortItem};
 ghost use Rattle.trace_reading.specs.Lines.{at_line, header_line, port_fields, value_line, end_line, IsShort, Lacks};
 
-use crate::cut::{behind, cut};
+use crate::cut::{behind, split_once};
 use crate::item::Item;
 use crate::numbers::{number, value};
 use crate::trace::TraceLine;
@@ -19,7 +19,7 @@ fn number_before(bytes: &[u8]) -> Option<(u64, &[u8])>
     ensures exact { (n : ℕ) (rest : List ℕ) → n < 2 ^ 64 → bytes.now ≡ decimal n ++ (32 ∷ rest) →
         IsSomeAnd result (λ p. (p.0 ≡ n) × (p.1.now ≡ rest)) }
 {
-    let (word, rest) = cut(bytes, b' ')?;
+    let (word, rest) = split_once(bytes, b' ')?;
     Some((number(word)?, rest))
 }
 
@@ -45,7 +45,7 @@ pub(crate) fn read_port_fields(line: &[u8]) -> Option<(u64, PortType, &[u8], &[u
     let rest = behind(line, b"port ")?;
     let (k, rest) = number_before(rest)?;
     let (kind, rest) = type_before(rest)?;
-    let (component, variable) = cut(rest, b' ')?;
+    let (component, variable) = split_once(rest, b' ')?;
     Some((k, kind, component, variable))
 }
 
@@ -55,7 +55,7 @@ fn type_before(bytes: &[u8]) -> Option<(PortType, &[u8])>
     ensures exact { (kind : PortType) (rest : List ℕ) → bytes.now ≡ type_name kind ++ (32 ∷ rest) →
         IsSomeAnd result (λ p. (p.0 ≡ kind) × (p.1.now ≡ rest)) }
 {
-    let (word, rest) = cut(bytes, b' ')?;
+    let (word, rest) = split_once(bytes, b' ')?;
     Some((type_of(word)?, rest))
 }
 
@@ -104,7 +104,7 @@ fn read_end(line: &[u8]) -> Option<(EndKind, u64)>
     ensures exact { (kind : EndKind) (t : ℕ) → t < 2 ^ 64 → line.now ≡ end_line kind t → result ≡ Some (kind, t) }
 {
     let rest = behind(line, b"end ")?;
-    let (word, rest) = cut(rest, b' ')?;
+    let (word, rest) = split_once(rest, b' ')?;
     Some((kind_of(word)?, number(rest)?))
 }
 

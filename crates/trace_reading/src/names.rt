@@ -11,13 +11,13 @@ fn byte_before(word: &[u8]) -> Option<(u8, &[u8])>
     ensures exact { (byte : ℕ) (rest : List ℕ) → byte < 256 → word.now ≡ escaped_byte byte ++ rest →
         IsSomeAnd result (λ p. (p.0 ≡ byte) × (p.1.now ≡ rest)) }
 {
-    let byte = guessed(word);
+    let byte = guess_byte(word);
     let escaped = escaped_byte(byte);
     let rest = behind(word, escaped.as_slice())?;
     Some((byte, rest))
 }
 
-fn guessed(word: &[u8]) -> u8
+fn guess_byte(word: &[u8]) -> u8
     ensures { (byte : ℕ) (rest : List ℕ) → byte < 256 → word.now ≡ escaped_byte byte ++ rest →
         result ≡ byte }
 {

@@ -11,7 +11,7 @@ pub(crate) fn number(bytes: &[u8]) -> Option<u64>
     ensures found { IfSome result (λ n. bytes.now ≡ decimal n) }
     ensures exact { (n : ℕ) → n < 2 ^ 64 → bytes.now ≡ decimal n → result ≡ Some n }
 {
-    let n = parsed(as_text(bytes)?)?;
+    let n = parse_number(as_text(bytes)?)?;
     if writes(bytes, n) { Some(n) } else { None }
 }
 
@@ -26,7 +26,7 @@ fn as_text(bytes: &[u8]) -> Option<&str>
 }
 
 // It takes a plus and leading zeros too.
-fn parsed(text: &str) -> Option<u64>
+fn parse_number(text: &str) -> Option<u64>
     ensures exact { (n : ℕ) → n < 2 ^ 64 → text.now ≡ decimal n → result ≡ Some n }
 {
     text.parse().ok()
@@ -44,12 +44,12 @@ pub(crate) fn value(bytes: &[u8]) -> Option<i128>
     ensures exact { (v : ℤ) → IsShort v → bytes.now ≡ signed_decimal v → result ≡ Some v }
 {
     match behind(bytes, b"-") {
-        Some(digits) => negative(digits),
-        None => natural(bytes),
+        Some(digits) => negative_number(digits),
+        None => natural_number(bytes),
     }
 }
 
-fn negative(digits: &[u8]) -> Option<i128>
+fn negative_number(digits: &[u8]) -> Option<i128>
     ensures found { IfSome result (λ v. 45 ∷ digits.now ≡ signed_decimal v) }
     ensures exact { (n : ℕ) → n + 1 < 2 ^ 64 → digits.now ≡ decimal (n + 1) →
         result ≡ Some (negsuc n) }
@@ -58,7 +58,7 @@ fn negative(digits: &[u8]) -> Option<i128>
     if n == 0 { None } else { Some(-i128::from(n)) }
 }
 
-fn natural(bytes: &[u8]) -> Option<i128>
+fn natural_number(bytes: &[u8]) -> Option<i128>
     ensures found { IfSome result (λ v. bytes.now ≡ signed_decimal v) }
     ensures exact { (n : ℕ) → n < 2 ^ 64 → bytes.now ≡ decimal n → result ≡ Some (pos n) }
 {

@@ -5,7 +5,7 @@ ghost use Rattle.trace_reading.specs.Lines.{port_line};
 ghost use Rattle.trace_reading.specs.Parts.{StandBefore};
 ghost use Rattle.trace_reading.specs.Walk.{is_clock, IsClockTable};
 
-use crate::cut::cut;
+use crate::cut::split_once;
 use crate::lines::read_port_fields;
 use crate::names::name;
 use crate::trace::TracePort;
@@ -37,7 +37,7 @@ fn port_before(
     ensures none { (port : TracePort) (rest : List ℕ) → IsNamed port →
         text.now ≡ port_line number port ++ (10 ∷ rest) → result ≡ Ok None → ⊥ }
 {
-    let Some((line, behind)) = cut(text, b'\n') else {
+    let Some((line, behind)) = split_once(text, b'\n') else {
         return Ok(None);
     };
     match read_port(alloc, number, line)? {

@@ -4,7 +4,7 @@ ghost use Rattle.trace_reading.specs.Faults.{IsFirstFault};
 ghost use Rattle.trace_reading.specs.Form.{IsRange, IsTextOf};
 ghost use Rattle.trace_reading.specs.Lines.{header_line};
 
-use crate::cut::cut;
+use crate::cut::split_once;
 use crate::fault::TraceFault;
 use crate::lines::read_header;
 use crate::ports::{clock_table, read_ports};
@@ -64,7 +64,7 @@ fn header_before(text: &[u8]) -> Option<(Header, &[u8])>
     ensures none { (resolution start stop : ℕ) (rest : List ℕ) → IsRange resolution start stop →
         text.now ≡ header_line resolution start stop ++ (10 ∷ rest) → IfNone result ⊥ }
 {
-    let (line, rest) = cut(text, b'\n')?;
+    let (line, rest) = split_once(text, b'\n')?;
     let (resolution, start, stop) = read_header(line)?;
     if is_range(resolution, start, stop) {
         Some((

@@ -5,7 +5,7 @@ ghost use Rattle.trace_reading.specs.Form.{kinds_of};
 ghost use Rattle.trace_reading.specs.Lines.{text_of};
 ghost use Rattle.trace_reading.specs.Walk.{clocks_before, fits_at, is_closed, is_next, is_start, items_in, place_behind, rows_with, IsClockTable, IsFirstFaultOf, IsRows};
 
-use crate::cut::cut;
+use crate::cut::split_once;
 use crate::fault::TraceFault;
 use crate::item::{Item, Place};
 use crate::lines::read_item;
@@ -39,7 +39,7 @@ pub(crate) fn read_rows(
     let mut lines = Vec::with_capacity(alloc, count_lines(text))?;
     let mut place = Place::Between;
     let mut rest = text;
-    while let Some((line, behind)) = cut(rest, b'\n') {
+    while let Some((line, behind)) = split_once(rest, b'\n') {
         let Some(item) = read_item(line) else {
             return Err(TraceFault::Line(next_number(&lines, place)));
         };

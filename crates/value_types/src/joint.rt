@@ -2,7 +2,7 @@ ghost use Rattle.std.specs.Prelude.{◌≡◌, ◌↔◌, IsTrue};
 ghost use Rattle.value_types.specs.Joint.{IsWithin, Joins, class_of};
 
 use crate::PortType;
-use crate::values::{greatest, least};
+use crate::values::{greatest_value, least_value};
 
 /// The kind of a type, which both ends of a connection share. The eight integer types are one class.
 #[derive(Clone, Copy, Debug, PartialEq, Eq)]
@@ -59,5 +59,5 @@ pub fn connectable(from: PortType, to: PortType) -> Joint
 fn is_within(from: PortType, to: PortType) -> bool
     ensures { IsTrue result ↔ IsWithin from to }
 {
-    least(to) <= least(from) && greatest(from) <= greatest(to)
+    least_value(to) <= least_value(from) && greatest_value(from) <= greatest_value(to)
 }

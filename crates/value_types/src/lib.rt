@@ -14,4 +14,4 @@ pub use clock_fraction::Fraction;
 pub use joint::{Class, Joint, class_of, connectable};
 pub use reading::read_value;
 pub use shape::{Causality, ClockTiming, Dependency, IntervalVariability, Knowns, Shape, Variable};
-pub use values::{PortType, fits, from_word, greatest, least, to_word};
+pub use values::{PortType, fits, from_word, greatest_value, least_value, to_word};

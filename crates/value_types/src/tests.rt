@@ -1,7 +1,7 @@
 use crate::{
     ByReference, Causality, Class, ClockTiming, Dependency, Fraction, IntervalVariability, Joint,
-    Knowns, PortType, Shape, Variable, class_of, connectable, fits, from_word, greatest, least,
-    read_value, to_word,
+    Knowns, PortType, Shape, Variable, class_of, connectable, fits, from_word, greatest_value,
+    least_value, read_value, to_word,
 };
 use sim_base::{Items, Text};
 use std::alloc::{AllocError, Global};
@@ -130,7 +130,10 @@ fn words_are_values(rt: HostRuntime) {
         }
     }
     assert_eq!(rt;
-        (least(PortType::Int16), greatest(PortType::Int16)),
+        (
+            least_value(PortType::Int16),
+            greatest_value(PortType::Int16)
+        ),
         (-32_768, 32_767)
     );
 }

@@ -22,7 +22,7 @@ pub enum PortType {
 }
 
 /// The least value of a type.
-pub fn least(kind: PortType) -> i128
+pub fn least_value(kind: PortType) -> i128
     ensures { result ≡ least_of kind }
 {
     match kind {
@@ -40,7 +40,7 @@ pub fn least(kind: PortType) -> i128
 }
 
 /// The greatest value of a type.
-pub fn greatest(kind: PortType) -> i128
+pub fn greatest_value(kind: PortType) -> i128
     ensures { result ≡ greatest_of kind }
 {
     match kind {
@@ -61,7 +61,7 @@ pub fn fits(kind: PortType, value: i128) -> bool
     ensures within { IsTrue result ↔ Fits kind value }
     ensures tested { result ≡ is_fitting kind value }
 {
-    least(kind) <= value && value <= greatest(kind)
+    least_value(kind) <= value && value <= greatest_value(kind)
 }
 
 /// The word of a value: its 64-bit two's complement.
@@ -89,7 +89,7 @@ pub fn from_word(kind: PortType, word: u64) -> Option<i128>
 fn is_signed(kind: PortType) -> bool
     ensures { result ≡ is_signed kind }
 {
-    least(kind) < 0
+    least_value(kind) < 0
 }
 
 fn number(kind: PortType, word: u64) -> i128

@@ -50,7 +50,7 @@ fn one_more(count: i64) -> i64
 
 impl Counts {
     // The count behind an Update.
-    fn updated(self, counted: &Counted) -> i64
+    fn updated_count(self, counted: &Counted) -> i64
         ensures { result ≡ updated self counted.now.count (values_in self counted.now) }
     {
         match self {
@@ -74,7 +74,7 @@ impl Counts {
     }
 
     // The count once Event Mode is entered.
-    fn entered(self, count: i64) -> i64
+    fn entered_count(self, count: i64) -> i64
         ensures { result ≡ entered self count }
     {
         match self {
@@ -85,7 +85,7 @@ impl Counts {
 }
 
 // What a Get answers.
-fn shown(counted: &Counted, reference: u32) -> Reply
+fn reply_to_get(counted: &Counted, reference: u32) -> Reply
     ensures { result ≡ shown (told counted.now) reference }
 {
     if reference == OUTPUT {
@@ -104,14 +104,14 @@ fn shown(counted: &Counted, reference: u32) -> Reply
 }
 
 // The stop shows that the sum fits.
-fn bound(_stop: u64, at: u64, size: u64) -> u64
+fn step_end(_stop: u64, at: u64, size: u64) -> u64
     requires { at + size ≤ _stop }
     ensures { result ≡ at + size }
 {
     at + size
 }
 
-fn done(content: Content) -> Reply
+fn done_reply(content: Content) -> Reply
     ensures { result ≡ Done false content }
 {
     Reply::Done {
@@ -132,40 +132,40 @@ pub(crate) fn answer(
     ensures { result ≡ answer counts (told counted.now) call.now }
 {
     match *call {
-        Call::Instantiate { .. } => done(Content::Instantiate),
-        Call::EnterInitialization { .. } => done(Content::EnterInitialization),
-        Call::ExitInitialization => done(Content::ExitInitialization),
-        Call::EnterEvent => done(Content::EnterEvent),
-        Call::EnterStep => done(Content::EnterStep),
-        Call::DoStep { at, size } => done(Content::DoStep {
+        Call::Instantiate { .. } => done_reply(Content::Instantiate),
+        Call::EnterInitialization { .. } => done_reply(Content::EnterInitialization),
+        Call::ExitInitialization => done_reply(Content::ExitInitialization),
+        Call::EnterEvent => done_reply(Content::EnterEvent),
+        Call::EnterStep => done_reply(Content::EnterStep),
+        Call::DoStep { at, size } => done_reply(Content::DoStep {
             event_needed: false,
             terminate: false,
             early: false,
-            end: bound(phase.stop, at, size),
+            end: step_end(phase.stop, at, size),
         }),
-        Call::Update => done(Content::Update {
+        Call::Update => done_reply(Content::Update {
             again: counts.asks_again(counted.count),
             terminate: false,
             event_time: None,
         }),
-        Call::Get { reference, .. } => shown(counted, reference),
-        Call::Set { .. } => done(Content::Set),
-        Call::GetClock { .. } => done(Content::GetClock { word: 0 }),
-        Call::SetClock { .. } => done(Content::SetClock),
-        Call::GetInterval { .. } => done(Content::GetInterval {
+        Call::Get { reference, .. } => reply_to_get(counted, reference),
+        Call::Set { .. } => done_reply(Content::Set),
+        Call::GetClock { .. } => done_reply(Content::GetClock { word: 0 }),
+        Call::SetClock { .. } => done_reply(Content::SetClock),
+        Call::GetInterval { .. } => done_reply(Content::GetInterval {
             interval: Interval::NotYetKnown,
         }),
-        Call::GetShift { .. } => done(Content::GetShift {
+        Call::GetShift { .. } => done_reply(Content::GetShift {
             shift: Fraction {
                 counter: 0,
                 resolution: 1,
             },
         }),
-        Call::Save => done(Content::Save),
-        Call::Restore => done(Content::Restore),
-        Call::Free => done(Content::Free),
-        Call::Terminate => done(Content::Terminate),
-        Call::FreeInstance => done(Content::FreeInstance),
+        Call::Save => done_reply(Content::Save),
+        Call::Restore => done_reply(Content::Restore),
+        Call::Free => done_reply(Content::Free),
+        Call::Terminate => done_reply(Content::Terminate),
+        Call::FreeInstance => done_reply(Content::FreeInstance),
     }
 }
 
@@ -191,10 +191,10 @@ pub(crate) fn go_on(counts: Counts, counted: &mut Counted, saved: &mut Option<Co
     match *call {
         Call::EnterInitialization { .. } => counted.is_initializing = true,
         Call::ExitInitialization => counted.is_initializing = false,
-        Call::EnterEvent => counted.count = counts.entered(counted.count),
+        Call::EnterEvent => counted.count = counts.entered_count(counted.count),
         // With the instant the tick is over.
         Call::Update => {
-            counted.count = counts.updated(counted);
+            counted.count = counts.updated_count(counted);
             counted.clock = 0;
         }
         Call::Set {

@@ -38,7 +38,7 @@ impl OwnCounter {
 }
 
 // What it answers to a Get.
-fn shown(numbers: &Numbers, reference: u32) -> Reply
+fn reply_to_get(numbers: &Numbers, reference: u32) -> Reply
     ensures { result ≡ shown (listed (told numbers.now)) reference }
 {
     if reference == OUTPUT {
@@ -61,7 +61,7 @@ fn own_answer(numbers: &Numbers, call: &Call) -> Option<Reply>
     ensures { result ≡ own_answer (listed (told numbers.now)) call.now }
 {
     match *call {
-        Call::Get { reference, .. } => Some(shown(numbers, reference)),
+        Call::Get { reference, .. } => Some(reply_to_get(numbers, reference)),
         _ => None,
     }
 }

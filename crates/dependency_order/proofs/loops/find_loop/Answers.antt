@@ -23,10 +23,10 @@ pub loop-place-preserved : goal.loop-place-preserved
 loop-place-preserved c =
     let i = c.loop-place.invariant in
     let g = c.args.needs.now in
-    let n = c.missing-node.ensures in
+    let n = c.missing_need-node.ensures in
     record {
-      walks = subst (λ z. Walks (Needs g) z c.missing-node.result) (sym c.in_ok-push.ensures.items) (walks_push (Needs g) c.loop-place.path.items c.loop-place.node c.missing-node.result i.walks n.needed);
-      node = c.requires.closed.below c.loop-place.node c.missing-node.result n.needed;
+      walks = subst (λ z. Walks (Needs g) z c.missing_need-node.result) (sym c.in_ok-push.ensures.items) (walks_push (Needs g) c.loop-place.path.items c.loop-place.node c.missing_need-node.result i.walks n.needed);
+      node = c.requires.closed.below c.loop-place.node c.missing_need-node.result n.needed;
       unplaced = n.unplaced;
       places = length-set c.loop-place.places.items c.loop-place.node (Some c.len-in-loop-place.result) ∙ i.places;
       told = told_push c.loop-place.places.items c.loop-place.path.items c.push.new.self.items c.loop-place.node c.len-in-loop-place.result i.told (let p = i.places in let l = i.node in omega (arith, p, l)) (omega arith) c.in_ok-push.ensures.items;

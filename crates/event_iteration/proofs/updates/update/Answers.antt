@@ -76,7 +76,7 @@ loop-place-preserved g c =
       log = i.log ++ one_log place one.exchange;
       told = each_told (λ s. instance_in g.L.Peer.view s) (λ (shape : Shape). C.Update) c.args.slots.now c.loop-place.slots i.log i.told place c.index-slots-place.result c.send.new.slot i.rest c.loop-place-test.true reply_in _ one;
       answered = each_sent (λ s. instance_in g.L.Peer.view s) (λ (shape : Shape). C.Update) c.args.slots.now c.loop-place.slots i.log i.told place c.index-slots-place.result c.send.new.slot i.rest c.loop-place-test.true has_events (events_in_slot (λ s. instance_in g.L.Peer.view s) system c.args.slots.now c.loop-place.slots i.log i.told c.requires.shapes place c.index-slots-place.result component c.loop-place-test.true of ∙ ap (λ (x : Component). x.shape.has_event_mode) c.index-components-place.is ∙ c.if-not-components-place.false) reply_in i.answered _ one;
-      updated = told_more c.loop-place.updated c.joined-updated.result i.log place one.exchange c.in-Ok.reply i.updated c.joined-updated.ensures.again c.joined-updated.ensures.asked one.worth.1;
+      updated = told_more c.loop-place.updated c.with_reply-updated.result i.log place one.exchange c.in-Ok.reply i.updated c.with_reply-updated.ensures.again c.with_reply-updated.ensures.asked one.worth.1;
     }
 
 pub returns-clause-stage : goal.returns-clause-stage

@@ -8,4 +8,4 @@ returns-in-Ok-clause-told g c =
 
 pub returns-in-Err-clause-told : goal.returns-in-Err-clause-told
 returns-in-Err-clause-told g c =
-    read_failed (g.S.OpenedFile.view c.args.source.now) (g.S.OpenedFile.view c.read_up_to.new.self) c.args.limit _ c.in-Err.ensures _ c.unread.ensures
+    read_failed (g.S.OpenedFile.view c.args.source.now) (g.S.OpenedFile.view c.read_up_to.new.self) c.args.limit _ c.in-Err.ensures _ c.read_fault.ensures

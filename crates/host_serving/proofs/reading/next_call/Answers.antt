@@ -10,5 +10,5 @@ returns-in-Got g c =
     let whole : length c.fill.new.into ≡ 24 = search rules in
     let size = ap length c.front_of.ensures in
     let cut = length-take c.in-Ok.count c.fill.new.into in
-    subst (ComesTo old new) (sym c.came.ensures)
+    subst (ComesTo old new) (sym c.next_of_frame.ensures)
     (head_came old new c.in-Got.value c.front_of.result.now _ (omega (arith, size, cut, whole)) (subst (Takes old new) (sym c.front_of.ensures) c.in-Ok.ensures.takes) c.in-Got.ensures.taken)

@@ -12,7 +12,7 @@ returns-in-Got g c = λ before takes.
     let room : length part ≡ length frame - 24 = search rules in
     let cut = length-take count part in
     let head = length-take 24 frame in
-    subst (ComesTo before (g.I.Source.view c.fill.new.input)) (sym c.came.ensures)
+    subst (ComesTo before (g.I.Source.view c.fill.new.input)) (sym c.next_of_frame.ensures)
     (texts_came _ _ _ (take 24 frame) (take count part) _ _ (length frame - 24) (omega (arith, head, c.requires.long)) c.requires.front c.requires.room (omega (arith, cut, room, c.in-Ok.ensures.bound))
     (c.front_of.ensures ∙ front_more frame part 24 count c.requires.long c.in-Ok.ensures.bound)
     (takes_more _ _ _ (take 24 frame) (take count part) takes c.in-Ok.ensures.takes) c.in-Got.ensures.taken)

@@ -14,8 +14,8 @@ order_grouped-requires c =
     let an = subst (λ z. AreNeeds c.args.components.now c.args.ports.now z c.args.initializing n) (c.as_slice.ensures.value ∙ c.in_ok-taken.ensures) c.in_ok-needs.ensures in
     record { grouped = is_grouped c.args.components.now c.args.ports.now c.requires.placed c.args.initializing n an }
 
-pub numbered-requires : goal.numbered-requires
-numbered-requires c =
+pub port_ids-requires : goal.port_ids-requires
+port_ids-requires c =
     let n = c.in_ok-needs.needs in
     let an = subst (λ z. AreNeeds c.args.components.now c.args.ports.now z c.args.initializing n) (c.as_slice.ensures.value ∙ c.in_ok-taken.ensures) c.in_ok-needs.ensures in
     let lent = c.as_slice-in-Order.result.now in
@@ -34,8 +34,8 @@ returns-in-Order-clause-order c =
     let found = subst (IsFound (λ p. p < length n.listed) (NeedsGrouped n)) c.in-Order.is c.in_ok-nodes.ensures in
     subst (IsOrderIn c.args.initializing (unordered c.args.components.now c.args.ports.now)) (sym (c.in_ok-order-in-Order.ensures ∙ kept)) (order_found c.args.initializing c.args.components.now c.args.ports.now n c.requires.placed an nodes found)
 
-pub numbered-requires-in-Loop : goal.numbered-requires-in-Loop
-numbered-requires-in-Loop c =
+pub port_ids-requires-in-Loop : goal.port_ids-requires-in-Loop
+port_ids-requires-in-Loop c =
     let n = c.in_ok-needs.needs in
     let an = subst (λ z. AreNeeds c.args.components.now c.args.ports.now z c.args.initializing n) (c.as_slice.ensures.value ∙ c.in_ok-taken.ensures) c.in_ok-needs.ensures in
     let found = subst (IsFound (λ p. p < length n.listed) (NeedsGrouped n)) c.in-Loop.is c.in_ok-nodes.ensures in

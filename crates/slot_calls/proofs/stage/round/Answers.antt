@@ -26,13 +26,13 @@ loop-place-preserved g c =
     let one = c.advance-answer.ensures.one in
     record {
       rest = same_more c.loop-place.place c.args.slots.now c.loop-place.slots c.advance-answer.new.slot i.rest;
-      live = good_more (LiveSlot g.L.Peer.view) c.loop-place.slots c.loop-place.place c.advance-answer.new.slot c.loop-place.so_far c.joined-so_far.result _ c.advance-answer.result c.joined-so_far.ensures
+      live = good_more (LiveSlot g.L.Peer.view) c.loop-place.slots c.loop-place.place c.advance-answer.new.slot c.loop-place.so_far c.with_answer-so_far.result _ c.advance-answer.result c.with_answer-so_far.ensures
           i.live c.advance-answer.ensures.live;
       log = i.log ++ one_log c.loop-place.place one.exchange;
       told = each_told (λ s. instance_in g.L.Peer.view s) (call_of c.args.ask) c.args.slots.now c.loop-place.slots i.log i.told c.loop-place.place c.index-slots-place.result c.advance-answer.new.slot
           i.rest c.loop-place-test.true asks_to_end _ one;
       says = round_more (λ s. instance_in g.L.Peer.view s) (call_of c.args.ask) c.args.slots.now c.loop-place.slots i.log i.told c.loop-place.place c.index-slots-place.result c.advance-answer.new.slot
-          i.rest c.loop-place-test.true c.loop-place.so_far c.joined-so_far.result _ c.advance-answer.result c.joined-so_far.ensures refl i.says one;
+          i.rest c.loop-place-test.true c.loop-place.so_far c.with_answer-so_far.result _ c.advance-answer.result c.with_answer-so_far.ensures refl i.says one;
     }
 
 pub returns-clause-round : goal.returns-clause-round

@@ -37,8 +37,8 @@ retire_each-requires-after_bounds g c κs within =
     let room = c.requires.fewer in
     omega (arith, same, room)
 
-pub ended-requires : goal.ended-requires
-ended-requires g c =
+pub report_end-requires : goal.report_end-requires
+report_end-requires g c =
     let view = g.S.Link.Peer.view in
     let olds = map view c.args.peers.items in
     let news = map view c.close.result.items in
@@ -59,8 +59,8 @@ retire_each-requires-in-Err-after_bounds g c κs within =
     let room = c.requires.fewer in
     omega (arith, same, room)
 
-pub ended-requires-in-Bad : goal.ended-requires-in-Bad
-ended-requires-in-Bad g c =
+pub report_end-requires-in-Bad : goal.report_end-requires-in-Bad
+report_end-requires-in-Bad g c =
     let view = g.S.Link.Peer.view in
     let olds = map view c.args.peers.items in
     let news = map view c.in-Err.field-0.peers.items in
@@ -86,7 +86,7 @@ returns-in-Ok g c before known told =
       are = c.requires.started;
       told = c.retire_each.ensures ∙ ap (λ (s : SpawnerView). with_all_retired s news) (told ∙ ap (with_all_started before) (sym (length-map c.args.peers.items view)));
     } in
-    let ended = c.ended.ensures in
+    let ended = c.report_end.ensures in
     subst (λ (o : Outcome). RunFacts o task c.args.system old new) (sym ended.1) (
       c.run-end.result,
       subst (λ (names : List (List ℕ)). IsEndOf names c.run-end.result ended.0) c.requires.names ended.2,
@@ -111,7 +111,7 @@ returns-in-Bad g c before known told =
       are = c.requires.started;
       told = c.retire_each-in-Err.ensures ∙ ap (λ (s : SpawnerView). with_all_retired s news) (told ∙ ap (with_all_started before) (sym (length-map c.args.peers.items view)));
     } in
-    let ended = c.ended-in-Bad.ensures in
+    let ended = c.report_end-in-Bad.ensures in
     subst (λ (o : Outcome). RunFacts o task c.args.system old new) (sym ended.1) (
       E.Bad c.in-Bad.bad,
       subst (λ (names : List (List ℕ)). IsEndOf names (E.Bad c.in-Bad.bad) ended.0) c.requires.names ended.2,

@@ -19,4 +19,4 @@ behind_minus digits result (negsuc n) exact short e =
 
 pub returns-in-Some-clause-exact : goal.returns-in-Some-clause-exact
 returns-in-Some-clause-exact c = λ v short e.
-    behind_minus c.in-Some.digits.now c.negative.result v c.negative.ensures.exact short (sym (c.in-Some.ensures.parts) ∙ e)
+    behind_minus c.in-Some.digits.now c.negative_number.result v c.negative_number.ensures.exact short (sym (c.in-Some.ensures.parts) ∙ e)

@@ -4,7 +4,7 @@ use Rattle.trace_reading.proofs.TextLemmas.{is_port_line}
 use Rattle.trace_reading.proofs.ports.port_before.Goals as goal
 
 pub returns-in_default-clause-none : goal.returns-in_default-clause-none
-returns-in_default-clause-none c = λ port rest named e is. let found = c.cut.ensures.exact (port_line c.args.number port) rest (is_port_line c.args.number port (omega arith)) e in search rules
+returns-in_default-clause-none c = λ port rest named e is. let found = c.split_once.ensures.exact (port_line c.args.number port) rest (is_port_line c.args.number port (omega arith)) e in search rules
 
 pub returns-in-None-clause-none : goal.returns-in-None-clause-none
 returns-in-None-clause-none c = λ port rest named e is.

@@ -11,7 +11,7 @@ same_range a b d r s e o first second range =
     subst P (unsome (r, s, e) (a, b, d) (sym second ∙ first)) range
 
 pub returns-in_err-line-clause-none : goal.returns-in_err-line-clause-none
-returns-in_err-line-clause-none c = λ r s e rest range is. let found = c.cut.ensures.exact (header_line r s e) rest (is_header_line r s e range) is in search rules
+returns-in_err-line-clause-none c = λ r s e rest range is. let found = c.split_once.ensures.exact (header_line r s e) rest (is_header_line r s e range) is in search rules
 
 pub returns-in_err-resolution-clause-none : goal.returns-in_err-resolution-clause-none
 returns-in_err-resolution-clause-none c = λ r s e rest range is.

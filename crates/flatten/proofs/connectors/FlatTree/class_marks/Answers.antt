@@ -7,8 +7,8 @@ pub loop-connector-preserved : goal.loop-connector-preserved
 loop-connector-preserved c =
     marked_more (IsOfClass c.args.self.now.tree.now c.args.self.now.shapes.now c.args.class) c.loop-connector.connector c.loop-connector.starts.items c.push.new.self.items c.is_of_class.result c.in_ok-push.ensures.items c.is_of_class.ensures c.loop-connector.invariant
 
-pub reached-requires-clause-shared : goal.reached-requires-clause-shared
-reached-requires-clause-shared c =
+pub reached_marks-requires-clause-shared : goal.reached_marks-requires-clause-shared
+reached_marks-requires-clause-shared c =
     let f = c.requires.indexed in
     let n = c.requires.fed.len in
     class_shared c.args.self.now.tree.now c.args.self.now.shapes.now c.args.self.now.points.items f.shapes f.points c.args.class c.loop-connector.starts.items
@@ -19,6 +19,6 @@ returns c =
     let f = c.requires.indexed in
     let n = c.requires.fed.len in (
       refl,
-      led_as c.args.self.now.tree.now c.args.self.now.shapes.now c.args.self.now.points.items f.shapes f.points (IsOfClass c.args.self.now.tree.now c.args.self.now.shapes.now c.args.class) c.loop-connector.starts.items c.in_ok-reached.field-0.items
-          (marked_whole c.args.self.now.tree.now (IsOfClass c.args.self.now.tree.now c.args.self.now.shapes.now c.args.class) c.loop-connector.connector c.loop-connector.starts.items (omega (arith, n)) c.loop-connector.invariant) c.in_ok-reached.ensures,
+      led_as c.args.self.now.tree.now c.args.self.now.shapes.now c.args.self.now.points.items f.shapes f.points (IsOfClass c.args.self.now.tree.now c.args.self.now.shapes.now c.args.class) c.loop-connector.starts.items c.in_ok-reached_marks.field-0.items
+          (marked_whole c.args.self.now.tree.now (IsOfClass c.args.self.now.tree.now c.args.self.now.shapes.now c.args.class) c.loop-connector.connector c.loop-connector.starts.items (omega (arith, n)) c.loop-connector.invariant) c.in_ok-reached_marks.ensures,
     )

@@ -6,8 +6,8 @@ use Rattle.flatten.specs.Marks.{AreClassMarks, AreLedTo, AreTypeMarks, IsOutputA
 use Rattle.flatten.proofs.MarkLemmas.{names_shared, led_as}
 use Rattle.flatten.proofs.connectors.FlatTree.marks.Goals as goal
 
-pub reached-requires-clause-shared : goal.reached-requires-clause-shared
-reached-requires-clause-shared c =
+pub reached_marks-requires-clause-shared : goal.reached_marks-requires-clause-shared
+reached_marks-requires-clause-shared c =
     let f = c.requires.indexed in
     names_shared c.args.self.now.tree.now c.args.self.now.shapes.now c.args.self.now.points.items f.shapes f.points (λ x. Unit {0}) c.in_ok-outputs.outputs.items c.in_ok-outputs.ensures
 

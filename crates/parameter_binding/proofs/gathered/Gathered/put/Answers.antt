@@ -5,7 +5,7 @@ use Rattle.parameter_binding.proofs.gathered.Gathered.put.Goals as goal
 pub returns-in_ok-put_all : goal.returns-in_ok-put_all
 returns-in_ok-put_all c = λ t sets binding name change visit seen was.
     gathered_next t c.args.shapes.now sets binding name change c.args.visit.now visit c.args.targets.now seen c.args.self.now _ c.fault.result (c.fault.ensures t sets binding name change visit seen) c.first_of-self.ensures.either c.first_of-self.ensures.covers
-    (λ none. c.in_ok-put_all.ensures t sets binding name change visit seen) (λ none. c.counted-self.ensures.more) (λ none. c.counted-self.ensures.same) was
+    (λ none. c.in_ok-put_all.ensures t sets binding name change visit seen) (λ none. c.count_unreached-self.ensures.more) (λ none. c.count_unreached-self.ensures.same) was
 
 pub returns-else-is_none : goal.returns-else-is_none
 returns-else-is_none c = λ t sets binding name change visit seen was.

@@ -15,8 +15,8 @@ loop-target-preserved c = λ t sets binding name change visit seen.
     let i = c.loop-target.target-index in
     let target = get_or targets i nothing in
     let sees = (seen target).0 (Contains-get_or targets i nothing c.loop-target-test.true) in
-    judged_more t shapes sets (triple_of c.args.self.now) targets i nothing c.loop-target.fault c.judged.result c.first_of-fault.result c.loop-target-test.true c.first_of-fault.ensures.either c.first_of-fault.ensures.covers
-    (c.judged.ensures t shapes sets binding name change target c.variable_of.result.now visit sees c.variable_of.ensures c.unwrap-kind.ensures) (c.loop-target.invariant t sets binding name change visit seen)
+    judged_more t shapes sets (triple_of c.args.self.now) targets i nothing c.loop-target.fault c.fault_for_type.result c.first_of-fault.result c.loop-target-test.true c.first_of-fault.ensures.either c.first_of-fault.ensures.covers
+    (c.fault_for_type.ensures t shapes sets binding name change target c.variable_of.result.now visit sees c.variable_of.ensures c.unwrap-kind.ensures) (c.loop-target.invariant t sets binding name change visit seen)
 
 pub returns-then-names_two : goal.returns-then-names_two
 returns-then-names_two c = λ t sets binding name change visit seen.

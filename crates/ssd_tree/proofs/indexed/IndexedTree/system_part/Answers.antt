@@ -6,4 +6,4 @@ pub text-requires : goal.text-requires
 text-requires c = system_named c.args.self.now.tree.now c.args.node c.requires.sound c.requires.is
 
 pub returns : goal.returns
-returns c = record { node = refl; outer = c.outer.ensures; name = c.in_ok-text.ensures }
+returns c = record { node = refl; outer = c.outer_system.ensures; name = c.in_ok-text.ensures }
