@@ -10,11 +10,13 @@ use Rattle.bench_fmus.specs.BuiltIn.{Behaviour, Numbers, count_at, no_fraction, 
 -- the point is inside the step, which may end early
 abbrev pub rings : Shape → List ℤ → ℕ → ℕ → Bool
 rings shape values at size =
-    shape.might_return_early && int_lt (pos at) (value_of shape.variables values 1) && int_lt (value_of shape.variables values 1) (pos (at + size))
+    shape.might_return_early && int_lt (pos at) (value_of shape.variables values 1) &&
+    int_lt (value_of shape.variables values 1) (pos (at + size))
 
 -- where the step ends early
 abbrev pub rung_at : Shape → List ℤ → ℕ → ℕ → Option ℕ
-rung_at shape values at size = if rings shape values at size then Some (nat_abs (value_of shape.variables values 1)) else None
+rung_at shape values at size =
+    if rings shape values at size then Some (nat_abs (value_of shape.variables values 1)) else None
 
 abbrev pub rung : Shape → Numbers → List ℤ → Call → Numbers
 rung shape n values (C.DoStep at size) = if rings shape values at size then one_more n else n

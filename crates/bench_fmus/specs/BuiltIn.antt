@@ -70,7 +70,10 @@ is_ticking variables values reference = int_eq (value_of variables values refere
 
 -- a fraction of a second, by the counts under two references
 abbrev pub fraction_at : List Variable → List ℤ → ℕ → ℕ → Fraction
-fraction_at variables values counter resolution = record { counter = count_of (value_of variables values counter); resolution = count_of (value_of variables values resolution) }
+fraction_at variables values counter resolution = record {
+  counter = count_of (value_of variables values counter);
+  resolution = count_of (value_of variables values resolution);
+}
 
 -- what is told of no fraction: all of it is 0
 abbrev pub no_fraction : Fraction
@@ -82,7 +85,11 @@ spread variables values = map (λ (v : Variable). value_of variables values v.re
 
 -- the first state
 abbrev pub first_state : List Variable → MachineState
-first_state variables = record { numbers = listed at_first; values = spread variables (map start_of variables); slot = None }
+first_state variables = record {
+  numbers = listed at_first;
+  values = spread variables (map start_of variables);
+  slot = None;
+}
 
 -- ---- a machine
 
@@ -98,15 +105,19 @@ pub record Behaviour : Type 0 where
 
 -- the count under a reference of its own, and the value under any other
 abbrev pub count_at : ℕ → Shape → Numbers → List ℤ → ℕ → ℤ
-count_at own shape n values reference = if reference == own then n.count else value_of shape.variables values reference
+count_at own shape n values reference =
+    if reference == own then n.count else value_of shape.variables values reference
 
 -- the output declares to depend on the variable under a reference, by the list of the mode
 abbrev pub is_declared_at : Shape → Numbers → ℕ → ℕ → Bool
-is_declared_at shape n output reference = is_at (is_declared shape (is_marked n) output) shape.variables reference
+is_declared_at shape n output reference =
+    is_at (is_declared shape (is_marked n) output) shape.variables reference
 
 -- what an output sees of the variable under a reference: its value where the output declares to depend on it, else the value that is held
 abbrev pub seen_by : Shape → Numbers → List ℤ → ℕ → ℕ → ℤ
-seen_by shape n values output reference = if is_declared_at shape n output reference then value_of shape.variables values reference else n.held
+seen_by shape n values output reference =
+    if is_declared_at shape n output reference
+    then value_of shape.variables values reference else n.held
 
 -- a step ends at its bound, or early, and then needs an event where the FMU has event mode
 abbrev pub step_content : Bool → Bool → ℕ → Option ℕ → Content
@@ -115,11 +126,17 @@ step_content has_event_mode terminate bound (Some end) = A.DoStep has_event_mode
 
 -- what a reply carries
 abbrev pub content_of : Behaviour → Shape → Numbers → List ℤ → Call → Content
-content_of b shape n values (C.DoStep at size) = step_content shape.has_event_mode (b.asks_to_end shape.variables values size) (at + size) (b.early_end shape values at size)
-content_of b shape n values (C.Get kind reference) = A.Get (word_of (wrapped kind (b.shown shape n values reference)))
-content_of b shape n values (C.GetClock reference) = A.GetClock (word_of (wrapped Clock (b.shown shape n values reference)))
-content_of b shape n values (C.GetInterval reference) = A.GetInterval (b.interval shape n values reference)
-content_of b shape n values (C.GetShift reference) = A.GetShift (b.shift shape.variables values reference)
+content_of b shape n values (C.DoStep at size) =
+    step_content shape.has_event_mode (b.asks_to_end shape.variables values size) (at + size)
+    (b.early_end shape values at size)
+content_of b shape n values (C.Get kind reference) =
+    A.Get (word_of (wrapped kind (b.shown shape n values reference)))
+content_of b shape n values (C.GetClock reference) =
+    A.GetClock (word_of (wrapped Clock (b.shown shape n values reference)))
+content_of b shape n values (C.GetInterval reference) =
+    A.GetInterval (b.interval shape n values reference)
+content_of b shape n values (C.GetShift reference) =
+    A.GetShift (b.shift shape.variables values reference)
 content_of b shape n values C.Update = A.Update (b.asks_again shape.variables n values) false None
 content_of b shape n values (C.Instantiate event_mode early_return) = A.Instantiate
 content_of b shape n values (C.EnterInitialization start stop) = A.EnterInitialization
@@ -143,12 +160,16 @@ mark_after mark _ = mark
 -- time begins with EnterInitialization, and goes on to the end of each step
 abbrev pub point_after : Behaviour → Shape → ℤ → List ℤ → Call → ℤ
 point_after b shape point values (C.EnterInitialization start stop) = pos start
-point_after b shape point values (C.DoStep at size) = pos (unwrap_or (b.early_end shape values at size) (at + size))
+point_after b shape point values (C.DoStep at size) =
+    pos (unwrap_or (b.early_end shape values at size) (at + size))
 point_after b shape point values _ = point
 
 -- the numbers after a call; what Set, Save, Restore and Free do is the same for every machine
 abbrev pub numbers_after : Behaviour → Shape → Numbers → List ℤ → Call → Numbers
-numbers_after b shape n values call = record (b.changed shape n values call) { mark = mark_after n.mark call; point = point_after b shape n.point values call }
+numbers_after b shape n values call = record (b.changed shape n values call) {
+  mark = mark_after n.mark call;
+  point = point_after b shape n.point values call;
+}
 
 abbrev pub machine_of : Behaviour → Shape → Machine
 machine_of b shape = record {

@@ -11,7 +11,11 @@ use Rattle.bench_fmus.specs.Told.{origin_in, state_in, talk_in}
 
 abbrev pub built_in_view : BuiltIn → View
 built_in_view b = record {
-  fixed = record { shape = b.book.shape; origin = Some (origin_in b.origin); machine = Some (machine_of (behaviour_of b.model) b.book.shape) };
+  fixed = record {
+    shape = b.book.shape;
+    origin = Some (origin_in b.origin);
+    machine = Some (machine_of (behaviour_of b.model) b.book.shape);
+  };
   phase = b.book.phase;
   talk = talk_in b.book.talk;
   state = Some (state_in b.book.shape.variables b.state);
@@ -20,7 +24,10 @@ built_in_view b = record {
 
 -- what the machine answers
 abbrev pub built_in_reply : BuiltIn → Call → Reply
-built_in_reply b call = (machine_of (behaviour_of b.model) b.book.shape).look (state_in b.book.shape.variables b.state) call
+built_in_reply b call =
+    (machine_of (behaviour_of b.model) b.book.shape).look
+    (state_in b.book.shape.variables b.state) call
 
-pub fewer_views : (peers : List BuiltIn) (n : ℕ) → length peers ≤ n → length (map built_in_view peers) ≤ n
+pub fewer_views : (peers : List BuiltIn) (n : ℕ) → length peers ≤ n →
+    length (map built_in_view peers) ≤ n
 fewer_views peers n fewer = rw length-map fewer

@@ -9,14 +9,17 @@ use Rattle.bench_fmus.specs.BuiltIn.{Behaviour, Numbers, count_at, no_fraction, 
 use Rattle.bench_fmus.specs.Wrapping.{wrapped_int64}
 
 abbrev pub counted : Shape → Numbers → List ℤ → Call → Numbers
-counted shape n values (C.DoStep at size) = record n { count = wrapped_int64 (n.count +ℤ value_of shape.variables values 1) }
+counted shape n values (C.DoStep at size) =
+    record n { count = wrapped_int64 (n.count +ℤ value_of shape.variables values 1) }
 counted shape n values _ = n
 
 abbrev pub counter : Behaviour
 counter = record {
   shown = count_at 2;
   early_end = λ shape values at size. None;
-  asks_to_end = λ variables values size. int_lt (pos 0) (value_of variables values 3) && int_le (value_of variables values 3) (pos size);
+  asks_to_end =
+      λ variables values size. int_lt (pos 0) (value_of variables values 3) &&
+      int_le (value_of variables values 3) (pos size);
   asks_again = λ variables n values. false;
   interval = λ shape n values reference. NotYetKnown;
   shift = λ variables values reference. no_fraction;

@@ -13,7 +13,8 @@ use Rattle.bench_fmus.specs.Wrapping.{wrapped_int64}
 -- the factor is a parameter, or an input as the other one is
 abbrev pub factor : Shape → Numbers → List ℤ → ℤ
 factor shape n values =
-    if is_at (λ (v : Variable). is_input v.causality) shape.variables 1 then seen_by shape n values 3 1 else value_of shape.variables values 1
+    if is_at (λ (v : Variable). is_input v.causality) shape.variables 1
+    then seen_by shape n values 3 1 else value_of shape.variables values 1
 
 -- the product, of which 64 bits are kept: a type has no more
 abbrev pub product : Shape → Numbers → List ℤ → ℤ
@@ -21,14 +22,19 @@ product shape n values = wrapped_int64 (factor shape n values *ℤ seen_by shape
 
 -- the input is held where Initialization Mode, an instant or a step ends
 abbrev pub holding : Shape → Numbers → List ℤ → Call → Numbers
-holding shape n values C.ExitInitialization = record n { held = wrapped_int64 (value_of shape.variables values 2) }
-holding shape n values C.Update = record n { held = wrapped_int64 (value_of shape.variables values 2) }
-holding shape n values (C.DoStep at size) = record n { held = wrapped_int64 (value_of shape.variables values 2) }
+holding shape n values C.ExitInitialization =
+    record n { held = wrapped_int64 (value_of shape.variables values 2) }
+holding shape n values C.Update =
+    record n { held = wrapped_int64 (value_of shape.variables values 2) }
+holding shape n values (C.DoStep at size) =
+    record n { held = wrapped_int64 (value_of shape.variables values 2) }
 holding shape n values _ = n
 
 abbrev pub gain : Behaviour
 gain = record {
-  shown = λ shape n values reference. if reference == 3 then product shape n values else value_of shape.variables values reference;
+  shown =
+      λ shape n values reference. if reference == 3 then product shape n values
+      else value_of shape.variables values reference;
   early_end = λ shape values at size. None;
   asks_to_end = λ variables values size. false;
   asks_again = λ variables n values. false;

@@ -38,8 +38,10 @@ and_false false = refl
 -- ---- every machine that a behaviour makes
 
 -- only EnterInitialization and ExitInitialization change the mark
-keeps_mark : (b : Behaviour) (shape : Shape) (s : MachineState) (call : Call) → changes_mode call ≡ false →
-    is_marked (numbers_after b shape (numbers_in s.numbers) s.values call) ≡ is_marked (numbers_in s.numbers)
+keeps_mark : (b : Behaviour) (shape : Shape) (s : MachineState) (call : Call) →
+    changes_mode call ≡ false →
+    is_marked (numbers_after b shape (numbers_in s.numbers) s.values call) ≡
+    is_marked (numbers_in s.numbers)
 keeps_mark b shape s (C.EnterInitialization start stop) other = absurd (cc)
 keeps_mark b shape s C.ExitInitialization other = absurd (cc)
 keeps_mark b shape s (C.DoStep at size) other = refl
@@ -72,11 +74,14 @@ machine_is b shape = record {
   undiscarded = λ s call changes. refl;
 }
 
-pub is_machine : (model : Model) (shape : Shape) → IsMachineOf shape (machine_of (behaviour_of model) shape)
+pub is_machine : (model : Model) (shape : Shape) →
+    IsMachineOf shape (machine_of (behaviour_of model) shape)
 is_machine model shape = machine_is (behaviour_of model) shape
 
-pub answers_alike : (model : Model) (shape : Shape) → IgnoresSlot (machine_of (behaviour_of model) shape)
-answers_alike model shape = record { looks = λ call s slot other. refl; changes = λ call s slot other. refl }
+pub answers_alike : (model : Model) (shape : Shape) →
+    IgnoresSlot (machine_of (behaviour_of model) shape)
+answers_alike model shape =
+    record { looks = λ call s slot other. refl; changes = λ call s slot other. refl }
 
 -- ---- what outputs show
 
@@ -86,64 +91,98 @@ none_within (x ∷ xs) zero within none = cc
 none_within (x ∷ xs) (suc k) within none = none_within xs k (omega arith) none
 
 module _ (shape : Shape) (initializing : Bool) (output : ℕ) where
-  at_place : (xs ys : List ℤ) → AgreeFor shape initializing output xs ys → (k : ℕ) (o : Option Variable) → slice_get shape.variables k ≡ o → k < length shape.variables →
-      option_map_or (is_undeclared shape initializing output) o false ≡ false → slice_get xs k ≡ slice_get ys k
+  at_place : (xs ys : List ℤ) → AgreeFor shape initializing output xs ys →
+      (k : ℕ) (o : Option Variable) → slice_get shape.variables k ≡ o → k < length shape.variables →
+      option_map_or (is_undeclared shape initializing output) o false ≡ false →
+      slice_get xs k ≡ slice_get ys k
   at_place xs ys agree k (Some v) there within known = agree.each k v there known
   at_place xs ys agree k None none within known = absurd (none_within shape.variables k within none)
 
   -- values that agree at an output are one under each reference that isn't an undeclared input's
   reference_same : (reference : ℕ) (xs ys : List ℤ) → AgreeFor shape initializing output xs ys →
-      is_at (is_undeclared shape initializing output) shape.variables reference ≡ false → value_of shape.variables xs reference ≡ value_of shape.variables ys reference
+      is_at (is_undeclared shape initializing output) shape.variables reference ≡ false →
+      value_of shape.variables xs reference ≡ value_of shape.variables ys reference
   reference_same reference xs ys agree known = at (place_of shape.variables reference) refl
     where
-      at : (o : Option ℕ) → place_of shape.variables reference ≡ o → value_of shape.variables xs reference ≡ value_of shape.variables ys reference
-      at None none = ap (λ (o : Option ℕ). unwrap_or (option_and_then (slice_get xs) o) (pos 0)) none ∙ sym (ap (λ (o : Option ℕ). unwrap_or (option_and_then (slice_get ys) o) (pos 0)) none)
+      at : (o : Option ℕ) → place_of shape.variables reference ≡ o →
+          value_of shape.variables xs reference ≡ value_of shape.variables ys reference
+      at None none =
+          ap (λ (o : Option ℕ). unwrap_or (option_and_then (slice_get xs) o) (pos 0)) none ∙
+          sym (ap (λ (o : Option ℕ). unwrap_or (option_and_then (slice_get ys) o) (pos 0)) none)
       at (Some k) there =
           ap (λ (o : Option ℕ). unwrap_or (option_and_then (slice_get xs) o) (pos 0)) there
-          ∙ ap (λ (o : Option ℤ). unwrap_or o (pos 0)) (at_place xs ys agree k (slice_get shape.variables k) refl (placed_within (λ (v : Variable). v.reference == reference) shape.variables k there)
-          (sym (ap (λ (o : Option Variable). option_map_or (is_undeclared shape initializing output) o false) (find_placed (λ (v : Variable). v.reference == reference) shape.variables k there)) ∙ known))
+          ∙ ap (λ (o : Option ℤ). unwrap_or o (pos 0))
+          (at_place xs ys agree k (slice_get shape.variables k) refl
+          (placed_within (λ (v : Variable). v.reference == reference) shape.variables k there)
+          (sym (ap (λ (o : Option Variable).
+          option_map_or (is_undeclared shape initializing output) o false)
+          (find_placed (λ (v : Variable). v.reference == reference) shape.variables k there)) ∙
+          known))
           ∙ sym (ap (λ (o : Option ℕ). unwrap_or (option_and_then (slice_get ys) o) (pos 0)) there)
 
   -- what isn't an input is none that the output doesn't declare
-  no_input : (o : Option Variable) → option_map_or (λ (v : Variable). is_input v.causality) o false ≡ false → option_map_or (is_undeclared shape initializing output) o false ≡ false
+  no_input : (o : Option Variable) →
+      option_map_or (λ (v : Variable). is_input v.causality) o false ≡ false →
+      option_map_or (is_undeclared shape initializing output) o false ≡ false
   no_input None e = refl
   no_input (Some v) e = ap (λ (q : Bool). q && not (is_declared shape initializing output v)) e
 
   -- nor is what the output declares
-  declared_known : (o : Option Variable) → option_map_or (is_declared shape initializing output) o false ≡ true → option_map_or (is_undeclared shape initializing output) o false ≡ false
+  declared_known : (o : Option Variable) →
+      option_map_or (is_declared shape initializing output) o false ≡ true →
+      option_map_or (is_undeclared shape initializing output) o false ≡ false
   declared_known None e = refl
-  declared_known (Some v) e = ap (λ (q : Bool). is_input v.causality && not q) e ∙ and_false (is_input v.causality)
+  declared_known (Some v) e =
+      ap (λ (q : Bool). is_input v.causality && not q) e ∙ and_false (is_input v.causality)
 
 -- an output isn't an input
-no_output_input : (o : Option Variable) → IsSomeAnd o (λ (v : Variable). v.causality ≡ Output) → option_map_or (λ (v : Variable). is_input v.causality) o false ≡ false
+no_output_input : (o : Option Variable) → IsSomeAnd o (λ (v : Variable). v.causality ≡ Output) →
+    option_map_or (λ (v : Variable). is_input v.causality) o false ≡ false
 no_output_input (Some v) is = ap is_input is
 no_output_input None is = refl
 
 -- values that agree at an output are one there
-value_same : (shape : Shape) (initializing : Bool) (output : ℕ) (xs ys : List ℤ) → AgreeFor shape initializing output xs ys →
-    IsSomeAnd (variable_at shape.variables output) (λ (v : Variable). v.causality ≡ Output) → value_of shape.variables xs output ≡ value_of shape.variables ys output
+value_same : (shape : Shape) (initializing : Bool) (output : ℕ) (xs ys : List ℤ) →
+    AgreeFor shape initializing output xs ys →
+    IsSomeAnd (variable_at shape.variables output) (λ (v : Variable). v.causality ≡ Output) →
+    value_of shape.variables xs output ≡ value_of shape.variables ys output
 value_same shape initializing output xs ys agree found =
-    reference_same shape initializing output output xs ys agree (no_input shape initializing output (variable_at shape.variables output) (no_output_input (variable_at shape.variables output) found))
+    reference_same shape initializing output output xs ys agree
+    (no_input shape initializing output (variable_at shape.variables output)
+    (no_output_input (variable_at shape.variables output) found))
 
 -- what a behaviour shows at an output doesn't depend on an input that the output doesn't declare
 abbrev pub ShowsDeclared : Behaviour → Type 0
 ShowsDeclared b = (shape : Shape) (n : Numbers) (output : ℕ) (xs ys : List ℤ) →
-    IsSomeAnd (variable_at shape.variables output) (λ (v : Variable). v.causality ≡ Output) → AgreeFor shape (is_marked n) output xs ys →
+    IsSomeAnd (variable_at shape.variables output) (λ (v : Variable). v.causality ≡ Output) →
+    AgreeFor shape (is_marked n) output xs ys →
     b.shown shape n xs output ≡ b.shown shape n ys output
 
-shown_same : (b : Behaviour) (shape : Shape) → ShowsDeclared b → (reference output : ℕ) (s : MachineState) (xs ys : List ℤ) → reference ≡ output →
-    IsSomeAnd (variable_at shape.variables output) (λ (v : Variable). v.causality ≡ Output) → AgreeFor shape ((machine_of b shape).initializing s.numbers) output xs ys →
-    b.shown shape (numbers_in s.numbers) xs reference ≡ b.shown shape (numbers_in s.numbers) ys reference
+shown_same : (b : Behaviour) (shape : Shape) → ShowsDeclared b →
+    (reference output : ℕ) (s : MachineState) (xs ys : List ℤ) → reference ≡ output →
+    IsSomeAnd (variable_at shape.variables output) (λ (v : Variable). v.causality ≡ Output) →
+    AgreeFor shape ((machine_of b shape).initializing s.numbers) output xs ys →
+    b.shown shape (numbers_in s.numbers) xs reference ≡
+    b.shown shape (numbers_in s.numbers) ys reference
 shown_same b shape declared reference output s xs ys is found agree =
-    ap (b.shown shape (numbers_in s.numbers) xs) is ∙ declared shape (numbers_in s.numbers) output xs ys found agree ∙ sym (ap (b.shown shape (numbers_in s.numbers) ys) is)
+    ap (b.shown shape (numbers_in s.numbers) xs) is ∙
+    declared shape (numbers_in s.numbers) output xs ys found agree ∙
+    sym (ap (b.shown shape (numbers_in s.numbers) ys) is)
 
-own_is_lawful : (b : Behaviour) (shape : Shape) → ShowsDeclared b → IsLawful shape (machine_of b shape)
+own_is_lawful : (b : Behaviour) (shape : Shape) → ShowsDeclared b →
+    IsLawful shape (machine_of b shape)
 own_is_lawful b shape own (C.Get kind reference) output s xs ys looked found mode agree =
-    ap (λ (x : ℤ). Done false (A.Get (word_of (wrapped kind x)))) (shown_same b shape own reference output s xs ys (same_Some reference output looked) found agree)
+    ap (λ (x : ℤ). Done false (A.Get (word_of (wrapped kind x))))
+    (shown_same b shape own reference output s xs ys
+    (same_Some reference output looked) found agree)
 own_is_lawful b shape own (C.GetClock reference) output s xs ys looked found mode agree =
-    ap (λ (x : ℤ). Done false (A.GetClock (word_of (wrapped Clock x)))) (shown_same b shape own reference output s xs ys (same_Some reference output looked) found agree)
-own_is_lawful b shape own (C.Instantiate event_mode early_return) output s xs ys looked found mode agree = refl
-own_is_lawful b shape own (C.EnterInitialization start stop) output s xs ys looked found mode agree = refl
+    ap (λ (x : ℤ). Done false (A.GetClock (word_of (wrapped Clock x))))
+    (shown_same b shape own reference output s xs ys
+    (same_Some reference output looked) found agree)
+own_is_lawful b shape own (C.Instantiate event_mode early_return) output s xs ys looked
+    found mode agree = refl
+own_is_lawful b shape own (C.EnterInitialization start stop) output s xs ys looked
+    found mode agree = refl
 own_is_lawful b shape own C.ExitInitialization output s xs ys looked found mode agree = refl
 own_is_lawful b shape own C.EnterEvent output s xs ys looked found mode agree = refl
 own_is_lawful b shape own C.EnterStep output s xs ys looked found mode agree = refl
@@ -151,8 +190,10 @@ own_is_lawful b shape own (C.DoStep at size) output s xs ys looked found mode ag
 own_is_lawful b shape own C.Update output s xs ys looked found mode agree = absurd (cc)
 own_is_lawful b shape own (C.Set kind reference value) output s xs ys looked found mode agree = refl
 own_is_lawful b shape own (C.SetClock reference) output s xs ys looked found mode agree = refl
-own_is_lawful b shape own (C.GetInterval reference) output s xs ys looked found mode agree = absurd (cc)
-own_is_lawful b shape own (C.GetShift reference) output s xs ys looked found mode agree = absurd (cc)
+own_is_lawful b shape own (C.GetInterval reference) output s xs ys looked found mode agree =
+    absurd (cc)
+own_is_lawful b shape own (C.GetShift reference) output s xs ys looked found mode agree =
+    absurd (cc)
 own_is_lawful b shape own C.Save output s xs ys looked found mode agree = refl
 own_is_lawful b shape own C.Restore output s xs ys looked found mode agree = refl
 own_is_lawful b shape own C.Free output s xs ys looked found mode agree = refl
@@ -162,59 +203,86 @@ own_is_lawful b shape own C.FreeInstance output s xs ys looked found mode agree 
 -- ---- each machine
 
 count_declared : (own : ℕ) (shape : Shape) (n : Numbers) (output : ℕ) (xs ys : List ℤ) →
-    IsSomeAnd (variable_at shape.variables output) (λ (v : Variable). v.causality ≡ Output) → AgreeFor shape (is_marked n) output xs ys →
+    IsSomeAnd (variable_at shape.variables output) (λ (v : Variable). v.causality ≡ Output) →
+    AgreeFor shape (is_marked n) output xs ys →
     count_at own shape n xs output ≡ count_at own shape n ys output
-count_declared own shape n output xs ys found agree = ap (λ (x : ℤ). if output == own then n.count else x) (value_same shape (is_marked n) output xs ys agree found)
+count_declared own shape n output xs ys found agree =
+    ap (λ (x : ℤ). if output == own then n.count else x)
+    (value_same shape (is_marked n) output xs ys agree found)
 
 -- what an output sees is one
-seen_same : (shape : Shape) (n : Numbers) (output : ℕ) (xs ys : List ℤ) → AgreeFor shape (is_marked n) output xs ys → (reference : ℕ) →
+seen_same : (shape : Shape) (n : Numbers) (output : ℕ) (xs ys : List ℤ) →
+    AgreeFor shape (is_marked n) output xs ys → (reference : ℕ) →
     seen_by shape n xs output reference ≡ seen_by shape n ys output reference
 seen_same shape n output xs ys agree reference = by (is_declared_at shape n output reference) refl
   where
     by : (q : Bool) → is_declared_at shape n output reference ≡ q →
-        (if q then value_of shape.variables xs reference else n.held) ≡ (if q then value_of shape.variables ys reference else n.held)
-    by true is = reference_same shape (is_marked n) output reference xs ys agree (declared_known shape (is_marked n) output (variable_at shape.variables reference) is)
+        (if q then value_of shape.variables xs reference else n.held) ≡
+        (if q then value_of shape.variables ys reference else n.held)
+    by true is =
+        reference_same shape (is_marked n) output reference xs ys agree
+        (declared_known shape (is_marked n) output (variable_at shape.variables reference) is)
     by false other = refl
 
-module _ (shape : Shape) (n : Numbers) (xs ys : List ℤ) (agree : AgreeFor shape (is_marked n) 3 xs ys) where
+module _ (shape : Shape) (n : Numbers) (xs ys : List ℤ)
+    (agree : AgreeFor shape (is_marked n) 3 xs ys) where
   factor_same : factor shape n xs ≡ factor shape n ys
   factor_same = by (is_at (λ (v : Variable). is_input v.causality) shape.variables 1) refl
     where
       by : (q : Bool) → is_at (λ (v : Variable). is_input v.causality) shape.variables 1 ≡ q →
-          (if q then seen_by shape n xs 3 1 else value_of shape.variables xs 1) ≡ (if q then seen_by shape n ys 3 1 else value_of shape.variables ys 1)
+          (if q then seen_by shape n xs 3 1 else value_of shape.variables xs 1) ≡
+          (if q then seen_by shape n ys 3 1 else value_of shape.variables ys 1)
       by true is = seen_same shape n 3 xs ys agree 1
-      by false other = reference_same shape (is_marked n) 3 1 xs ys agree (no_input shape (is_marked n) 3 (variable_at shape.variables 1) other)
+      by false other =
+          reference_same shape (is_marked n) 3 1 xs ys agree
+          (no_input shape (is_marked n) 3 (variable_at shape.variables 1) other)
 
   product_same : product shape n xs ≡ product shape n ys
-  product_same = ap₂ (λ (a b : ℤ). wrapped_int64 (a *ℤ b)) factor_same (seen_same shape n 3 xs ys agree 2)
+  product_same =
+      ap₂ (λ (a b : ℤ). wrapped_int64 (a *ℤ b)) factor_same (seen_same shape n 3 xs ys agree 2)
 
 gain_declared : ShowsDeclared gain
 gain_declared shape n output xs ys found agree = by (output == 3) refl
   where
-    by : (q : Bool) → (output == 3) ≡ q → (if q then product shape n xs else value_of shape.variables xs output) ≡ (if q then product shape n ys else value_of shape.variables ys output)
-    by true is = product_same shape n xs ys (subst (λ (o : ℕ). AgreeFor shape (is_marked n) o xs ys) (eqb-true output 3 is) agree)
+    by : (q : Bool) → (output == 3) ≡ q →
+        (if q then product shape n xs else value_of shape.variables xs output) ≡
+        (if q then product shape n ys else value_of shape.variables ys output)
+    by true is =
+        product_same shape n xs ys (subst (λ (o : ℕ). AgreeFor shape (is_marked n) o xs ys)
+        (eqb-true output 3 is) agree)
     by false other = value_same shape (is_marked n) output xs ys agree found
 
 sampler_declared : ShowsDeclared sampler
 sampler_declared shape n output xs ys found agree = by (output == 3) refl
   where
-    by : (q : Bool) → (output == 3) ≡ q → (if q then seen_by shape n xs 3 2 else value_of shape.variables xs output) ≡ (if q then seen_by shape n ys 3 2 else value_of shape.variables ys output)
-    by true is = seen_same shape n 3 xs ys (subst (λ (o : ℕ). AgreeFor shape (is_marked n) o xs ys) (eqb-true output 3 is) agree) 2
+    by : (q : Bool) → (output == 3) ≡ q →
+        (if q then seen_by shape n xs 3 2 else value_of shape.variables xs output) ≡
+        (if q then seen_by shape n ys 3 2 else value_of shape.variables ys output)
+    by true is =
+        seen_same shape n 3 xs ys (subst (λ (o : ℕ). AgreeFor shape (is_marked n) o xs ys)
+        (eqb-true output 3 is) agree) 2
     by false other = value_same shape (is_marked n) output xs ys agree found
 
 relay_declared : ShowsDeclared relay
 relay_declared shape n output xs ys found agree = by (output == 2) (output == 3) refl refl
   where
     at : List ℤ → Bool → Bool → ℤ
-    at zs p q = if p then (if differ (seen_by shape n zs 2 1) n.held then pos 1 else pos 0) else (if q then seen_by shape n zs 3 1 else value_of shape.variables zs output)
+    at zs p q =
+        if p then (if differ (seen_by shape n zs 2 1) n.held then pos 1 else pos 0)
+        else (if q then seen_by shape n zs 3 1 else value_of shape.variables zs output)
 
     by : (p q : Bool) → (output == 2) ≡ p → (output == 3) ≡ q → at xs p q ≡ at ys p q
     by true q is other =
-        ap (λ (x : ℤ). if differ x n.held then pos 1 else pos 0) (seen_same shape n 2 xs ys (subst (λ (o : ℕ). AgreeFor shape (is_marked n) o xs ys) (eqb-true output 2 is) agree) 1)
-    by false true other is = seen_same shape n 3 xs ys (subst (λ (o : ℕ). AgreeFor shape (is_marked n) o xs ys) (eqb-true output 3 is) agree) 1
+        ap (λ (x : ℤ). if differ x n.held then pos 1 else pos 0)
+        (seen_same shape n 2 xs ys (subst (λ (o : ℕ). AgreeFor shape (is_marked n) o xs ys)
+        (eqb-true output 2 is) agree) 1)
+    by false true other is =
+        seen_same shape n 3 xs ys (subst (λ (o : ℕ). AgreeFor shape (is_marked n) o xs ys)
+        (eqb-true output 3 is) agree) 1
     by false false other another = value_same shape (is_marked n) output xs ys agree found
 
-pub is_lawful : (model : Model) (shape : Shape) → IsLawful shape (machine_of (behaviour_of model) shape)
+pub is_lawful : (model : Model) (shape : Shape) →
+    IsLawful shape (machine_of (behaviour_of model) shape)
 is_lawful Counter shape = own_is_lawful counter shape (count_declared 2)
 is_lawful Gain shape = own_is_lawful gain shape gain_declared
 is_lawful Sampler shape = own_is_lawful sampler shape sampler_declared

@@ -18,11 +18,13 @@ differ a b = not (int_eq (wrapped_int64 a) (wrapped_int64 b))
 abbrev pub relayed : Shape → Numbers → List ℤ → ℕ → ℤ
 relayed shape n values reference =
     if reference == 2 then (if differ (seen_by shape n values 2 1) n.held then pos 1 else pos 0)
-    else (if reference == 3 then seen_by shape n values 3 1 else value_of shape.variables values reference)
+    else (if reference == 3 then seen_by shape n values 3 1
+    else value_of shape.variables values reference)
 
 -- the input is held where an instant ends
 abbrev pub passed_on : Shape → Numbers → List ℤ → Call → Numbers
-passed_on shape n values C.Update = record n { held = wrapped_int64 (value_of shape.variables values 1) }
+passed_on shape n values C.Update =
+    record n { held = wrapped_int64 (value_of shape.variables values 1) }
 passed_on shape n values _ = n
 
 abbrev pub relay : Behaviour

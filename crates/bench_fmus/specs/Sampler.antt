@@ -14,18 +14,24 @@ use Rattle.bench_fmus.specs.Wrapping.{wrapped_int64}
 
 -- the input is held where an instant ends at which the Clock ticks
 abbrev pub sampled : Shape → Numbers → List ℤ → Call → Numbers
-sampled shape n values C.Update = if is_ticking shape.variables values 1 then record n { held = wrapped_int64 (value_of shape.variables values 2) } else n
+sampled shape n values C.Update =
+    if is_ticking shape.variables values 1
+    then record n { held = wrapped_int64 (value_of shape.variables values 2) } else n
 sampled shape n values _ = n
 
 abbrev pub sampling_interval : Shape → Numbers → List ℤ → ℕ → Interval
-sampling_interval shape n values reference = if reference == 1 then Changed (fraction_at shape.variables values 4 5) else NotYetKnown
+sampling_interval shape n values reference =
+    if reference == 1 then Changed (fraction_at shape.variables values 4 5) else NotYetKnown
 
 abbrev pub sampling_shift : List Variable → List ℤ → ℕ → Fraction
-sampling_shift variables values reference = if reference == 1 then fraction_at variables values 6 5 else no_fraction
+sampling_shift variables values reference =
+    if reference == 1 then fraction_at variables values 6 5 else no_fraction
 
 abbrev pub sampler : Behaviour
 sampler = record {
-  shown = λ shape n values reference. if reference == 3 then seen_by shape n values 3 2 else value_of shape.variables values reference;
+  shown =
+      λ shape n values reference. if reference == 3 then seen_by shape n values 3 2
+      else value_of shape.variables values reference;
   early_end = λ shape values at size. None;
   asks_to_end = λ variables values size. false;
   asks_again = λ variables n values. false;

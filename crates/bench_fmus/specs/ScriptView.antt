@@ -14,5 +14,6 @@ script_view s = record {
   faults = s.book.faults;
 }
 
-pub fewer_scripts : (scripts : List Script) (n : ℕ) → length scripts ≤ n → length (map script_view scripts) ≤ n
+pub fewer_scripts : (scripts : List Script) (n : ℕ) → length scripts ≤ n →
+    length (map script_view scripts) ≤ n
 fewer_scripts scripts n fewer = rw length-map fewer

@@ -19,7 +19,11 @@ is_due shape n values = int_eq n.point (value_of shape.variables values 1)
 abbrev pub countdown : Shape → Numbers → List ℤ → Interval
 countdown shape n values =
     if has_fired n then Unchanged no_fraction
-    else (if is_due shape n values then Changed (record { counter = count_of (value_of shape.variables values 4); resolution = shape.resolution }) else NotYetKnown)
+    else (if is_due shape n values
+    then Changed (record {
+      counter = count_of (value_of shape.variables values 4);
+      resolution = shape.resolution;
+    }) else NotYetKnown)
 
 -- a tick is counted
 abbrev pub ticked : Shape → Numbers → List ℤ → Numbers
@@ -27,7 +31,9 @@ ticked shape n values = if is_ticking shape.variables values 2 then one_more n e
 
 -- at the end of an instant; at the point the interval was told
 abbrev pub timed : Shape → Numbers → List ℤ → Call → Numbers
-timed shape n values C.Update = if is_due shape n values then record (ticked shape n values) { fired = pos 1 } else ticked shape n values
+timed shape n values C.Update =
+    if is_due shape n values then record (ticked shape n values) { fired = pos 1 }
+    else ticked shape n values
 timed shape n values _ = n
 
 abbrev pub timer : Behaviour
@@ -36,7 +42,8 @@ timer = record {
   early_end = λ shape values at size. None;
   asks_to_end = λ variables values size. false;
   asks_again = λ variables n values. false;
-  interval = λ shape n values reference. if reference == 2 then countdown shape n values else NotYetKnown;
+  interval =
+      λ shape n values reference. if reference == 2 then countdown shape n values else NotYetKnown;
   shift = λ variables values reference. no_fraction;
   changed = timed;
 }

@@ -27,17 +27,31 @@ number_of_flag false = pos 0
 number_of_flag true = pos 1
 
 abbrev pub told : numbers.Numbers → Numbers
-told n = record { mark = number_of_flag n.is_initializing; held = n.held; count = n.count; point = pos n.point; fired = number_of_flag n.has_fired }
+told n = record {
+  mark = number_of_flag n.is_initializing;
+  held = n.held;
+  count = n.count;
+  point = pos n.point;
+  fired = number_of_flag n.has_fired;
+}
 
 -- what Save kept, where a state is saved
 abbrev pub slot_in : List Variable → SavedState → Option SavedMachine
-slot_in variables s = if s.is_full then Some (record { numbers = listed (told s.numbers); values = spread variables s.values.items }) else None
+slot_in variables s =
+    if s.is_full then Some (record {
+      numbers = listed (told s.numbers);
+      values = spread variables s.values.items;
+    }) else None
 
 abbrev pub values_in : List Variable → BuiltInState → List ℤ
 values_in variables s = spread variables s.values.items
 
 abbrev pub state_in : List Variable → BuiltInState → MachineState
-state_in variables s = record { numbers = listed (told s.numbers); values = values_in variables s; slot = slot_in variables s.saved }
+state_in variables s = record {
+  numbers = listed (told s.numbers);
+  values = values_in variables s;
+  slot = slot_in variables s.saved;
+}
 
 -- there is a value for each variable, and room to save the values
 pub record HasRoom (shape : Shape) (s : BuiltInState) : Type 0 where

@@ -32,4 +32,5 @@ pub record IsBuiltInOf (r : Run) (i : ℕ) (c : Component) (m : Machine) : Type 
 -- so it behaves well along each run of a sound system, whatever the other FMUs do
 abbrev pub BuiltInsBehaveWell : Type 0
 BuiltInsBehaveWell = (r : Run) → IsSound r.system → (i : ℕ) →
-    ((c : Component) (m : Machine) → slice_get r.system.components i ≡ Some c → slice_get r.machines i ≡ Some m → IsBuiltInOf r i c m) → BehavesWell r i
+    ((c : Component) (m : Machine) → slice_get r.system.components i ≡ Some c →
+    slice_get r.machines i ≡ Some m → IsBuiltInOf r i c m) → BehavesWell r i

@@ -20,15 +20,21 @@ use Rattle.run_model.specs.AlwaysWell.{IsAskedFixed}
 -- the value that the last of these bindings gives what has the reference, or else x
 abbrev pub last_bound : ℕ → List BoundValue → ℤ → ℤ
 last_bound reference [] x = x
-last_bound reference (b ∷ bs) x = last_bound reference bs (if b.reference == reference then b.value else x)
+last_bound reference (b ∷ bs) x =
+    last_bound reference bs (if b.reference == reference then b.value else x)
 
 -- the value of a variable that is no input, from Initialization Mode on: the one that it is bound to, or its start; 0 where no variable has the reference
 abbrev pub value_set : Shape → List BoundValue → ℕ → ℤ
-value_set shape bound reference = option_map_or (λ (v : Variable). last_bound reference bound (start_of v)) (variable_at shape.variables reference) (pos 0)
+value_set shape bound reference =
+    option_map_or (λ (v : Variable). last_bound reference bound (start_of v))
+    (variable_at shape.variables reference) (pos 0)
 
 -- a fraction of a second, by the counts under two references
 abbrev pub fraction_set : Shape → List BoundValue → ℕ → ℕ → Fraction
-fraction_set shape bound counter resolution = record { counter = count_of (value_set shape bound counter); resolution = count_of (value_set shape bound resolution) }
+fraction_set shape bound counter resolution = record {
+  counter = count_of (value_set shape bound counter);
+  resolution = count_of (value_set shape bound resolution);
+}
 
 -- the fraction of a second is a whole number of counts, and at least so many
 pub record HasCounts (least : ℕ) (fraction : Fraction) (per_second : ℕ) : Type 0 where
@@ -40,14 +46,16 @@ pub record HasCounts (least : ℕ) (fraction : Fraction) (per_second : ℕ) : Ty
 
 -- the Clock under the reference is a countdown one
 abbrev pub IsCountdown : Shape → ℕ → Type 0
-IsCountdown shape reference = IsSomeAnd (timing_at shape.clocks reference) (λ (t : ClockTiming). t.variability ≡ T.Countdown)
+IsCountdown shape reference =
+    IsSomeAnd (timing_at shape.clocks reference) (λ (t : ClockTiming). t.variability ≡ T.Countdown)
 
 -- it is a fixed one with supportsFraction
 abbrev pub IsFixedAsked : Shape → ℕ → Type 0
 IsFixedAsked shape reference = IsSomeAnd (timing_at shape.clocks reference) IsAskedFixed
 
 abbrev pub IsNoInput : Shape → ℕ → Type 0
-IsNoInput shape reference = is_at (λ (v : Variable). is_input v.causality) shape.variables reference ≡ false
+IsNoInput shape reference =
+    is_at (λ (v : Variable). is_input v.causality) shape.variables reference ≡ false
 
 -- no Clock is a fixed one with supportsFraction, so the FMU is asked for the timing of none
 abbrev pub HasNoFixedAsked : Shape → Type 0
@@ -83,4 +91,6 @@ TellsTimings Settle shape bound = HasNoFixedAsked shape
 
 -- of a description without Clocks each can
 abbrev pub TellsOfNoClocks : Type 0
-TellsOfNoClocks = (model : Model) (shape : Shape) (bound : List BoundValue) → shape.clocks ≡ [] → TellsTimings model shape bound
+TellsOfNoClocks =
+    (model : Model) (shape : Shape) (bound : List BoundValue) → shape.clocks ≡ [] →
+    TellsTimings model shape bound

@@ -44,7 +44,8 @@ abbrev pub binding : Bound → List Asking
 binding bound = binding_from 0 bound.components
 
 abbrev pub entering : System → Plan → List Asking
-entering system plan = to_each (λ (shape : Shape). C.EnterInitialization plan.start plan.stop) (shapes_of system)
+entering system plan =
+    to_each (λ (shape : Shape). C.EnterInitialization plan.start plan.stop) (shapes_of system)
 
 abbrev pub leaving : System → List Asking
 leaving system = to_each (λ (shape : Shape). C.ExitInitialization) (shapes_of system)
@@ -64,7 +65,9 @@ stepping system from to = to_each (λ (shape : Shape). C.DoStep from (to - from)
 
 -- the least component that takes no step of this size: without variable steps an FMU takes that of the plan alone
 abbrev pub first_unfit : System → Plan → ℕ → Option ℕ
-first_unfit system plan size = if size == plan.step then None else position (λ (c : Component). not c.shape.has_variable_steps) system.components
+first_unfit system plan size =
+    if size == plan.step then None
+    else position (λ (c : Component). not c.shape.has_variable_steps) system.components
 
 -- a step before the stop goes from one point to its bound, the next grid point, tick or the stop
 pub record IsBoundOf (plan : Plan) (timers : List Timer) (from to : ℕ) : Type 0 where
@@ -80,10 +83,12 @@ pub record IsStep (system : System) (plan : Plan) (timers : List Timer) (from to
 
 -- this log found these values of Initialization Mode, in the stored order
 abbrev pub Finds : System → List (Option ℤ) → List Sent → Type 0
-Finds system values log = Explains system (initially system) (no_values system) (numbers system.initial_order) values log
+Finds system values log =
+    Explains system (initially system) (no_values system) (numbers system.initial_order) values log
 
 -- the bound parameters were set, each entered Initialization Mode, its values were found, the fixed Clocks were asked for interval and shift, and then each left it
-pub record IsInitialized (system : System) (bound : Bound) (plan : Plan) (log : List Sent) : Type 0 where
+pub record IsInitialized (system : System) (bound : Bound) (plan : Plan)
+    (log : List Sent) : Type 0 where
   pub values : List (Option ℤ)
   pub set : List Sent
   pub entered : List Sent
@@ -98,8 +103,10 @@ pub record IsInitialized (system : System) (bound : Bound) (plan : Plan) (log : 
   pub log_is : log ≡ set ++ (entered ++ (found ++ (asked ++ left)))
 
 -- the timers of the Clocks before the first instant, by what the fixed ones answered
-abbrev pub timers_at_first : {system : System} {bound : Bound} {plan : Plan} {log : List Sent} → IsInitialized system bound plan log → List Timer
-timers_at_first {system} {bound} {plan} {log} initialized = first_told plan.resolution system initialized.asked
+abbrev pub timers_at_first : {system : System} {bound : Bound} {plan : Plan} {log : List Sent} →
+    IsInitialized system bound plan log → List Timer
+timers_at_first {system} {bound} {plan} {log} initialized =
+    first_told plan.resolution system initialized.asked
 
 -- ---- how far a run has come
 
@@ -107,12 +114,14 @@ abbrev pub instant_at : ℕ → ℕ → List (Option ℤ) → Instant
 instant_at t n values = record { t = t; n = n; values = values }
 
 -- by this log the n-th instant at a point went from the values of the instant before to these, in the stored order and with the ticks of its timers; then each countdown Clock was asked for its interval, which made the timers those behind it; and then each FMU with event mode was asked for what follows
-pub record Takes (system : System) (plan : Plan) (t n : ℕ) (timers next : List Timer) (before values : List (Option ℤ)) (found asked updates : List Sent) : Type 0 where
+pub record Takes (system : System) (plan : Plan) (t n : ℕ) (timers next : List Timer)
+    (before values : List (Option ℤ)) (found asked updates : List Sent) : Type 0 where
   pub known : length before ≡ length system.ports
   pub places : length values ≡ length system.ports
   pub ticks : ℕ → Bool
   pub are_ticks : AreTicks system plan.start timers t n ticks
-  pub explains : Explains system (in_instant ticks (n == 0)) before (numbers system.instant_order) values found
+  pub explains : Explains system (in_instant ticks (n == 0)) before
+      (numbers system.instant_order) values found
   pub rearms : Rearms system plan.resolution t values timers next asked
   pub answered : IsAnswered (shapes_of system) (updating (shapes_of system)) updates
 
@@ -135,27 +144,44 @@ abbrev pub Sets : System → List (Option ℤ) → List Sent → Type 0
 Sets system values log = Explains system (before_step values) values (port_order system) values log
 
 -- the calls of a step from one point to another, in their parts: those with event mode entered Step Mode, the inputs of the others were set, and each was stepped, whatever it answered
-pub record Steps (system : System) (values : List (Option ℤ)) (from to : ℕ) (leaves sets steps : List Sent) : Type 0 where
+pub record Steps (system : System) (values : List (Option ℤ)) (from to : ℕ)
+    (leaves sets steps : List Sent) : Type 0 where
   pub left : IsAnswered (shapes_of system) (entering_step system) leaves
   pub set : Sets system values sets
   pub stepped : IsAnswered (shapes_of system) (stepping system from to) steps
 
 -- by this log a run came to its n-th instant at the point, with the values of the instant before it and these timers, behind these instants
-pub data Came (system : System) (bound : Bound) (plan : Plan) : ℕ → ℕ → List (Option ℤ) → List Timer → List Sent → List Instant → Type 0 where
-  AtStart : (t n : ℕ) (values : List (Option ℤ)) (timers : List Timer) (log : List Sent) (is : List Instant) → (initialized : IsInitialized system bound plan log) →
-      t ≡ plan.start → n ≡ 0 → values ≡ no_values system → timers ≡ timers_at_first initialized → is ≡ [] → Came system bound plan t n values timers log is
+pub data Came (system : System) (bound : Bound) (plan : Plan) : ℕ → ℕ → List (Option ℤ) →
+    List Timer → List Sent → List Instant → Type 0 where
+  AtStart : (t n : ℕ) (values : List (Option ℤ)) (timers : List Timer) (log : List Sent)
+      (is : List Instant) → (initialized : IsInitialized system bound plan log) →
+      t ≡ plan.start → n ≡ 0 → values ≡ no_values system → timers ≡ timers_at_first initialized →
+      is ≡ [] → Came system bound plan t n values timers log is
   -- another instant at this point was asked for, of which there may be one more
-  ByUpdate : (t n : ℕ) (values : List (Option ℤ)) (timers : List Timer) (log : List Sent) (is : List Instant) (m : ℕ) (before : List (Option ℤ)) (olds : List Timer) (front found asked updates : List Sent) (js : List Instant) →
-      Came system bound plan t m before olds front js → Takes system plan t m olds timers before values found asked updates → IsAgain t timers updates → (suc m == plan.limit) ≡ false → n ≡ suc m →
-      log ≡ front ++ (found ++ (asked ++ updates)) → is ≡ js ++ instant_at t m values ∷ [] → Came system bound plan t n values timers log is
+  ByUpdate : (t n : ℕ) (values : List (Option ℤ)) (timers : List Timer) (log : List Sent)
+      (is : List Instant) (m : ℕ) (before : List (Option ℤ)) (olds : List Timer)
+      (front found asked updates : List Sent) (js : List Instant) →
+      Came system bound plan t m before olds front js →
+      Takes system plan t m olds timers before values found asked updates →
+      IsAgain t timers updates → (suc m == plan.limit) ≡ false → n ≡ suc m →
+      log ≡ front ++ (found ++ (asked ++ updates)) → is ≡ js ++ instant_at t m values ∷ [] →
+      Came system bound plan t n values timers log is
   -- the point before was done, and each was stepped from it to this one, where those with event mode entered Event Mode
-  ByStep : (t n : ℕ) (values : List (Option ℤ)) (timers : List Timer) (log : List Sent) (is : List Instant) (from m : ℕ) (before : List (Option ℤ)) (olds : List Timer) (front found asked updates leaves sets steps arrives : List Sent) (js : List Instant) →
-      Came system bound plan from m before olds front js → Takes system plan from m olds timers before values found asked updates → IsDone from timers updates → IsStep system plan timers from t → Steps system values from t leaves sets steps →
-      any_asks_to_end steps ≡ false → IsAnswered (shapes_of system) (entering_event system) arrives → n ≡ 0 →
-      log ≡ front ++ (found ++ (asked ++ (updates ++ (leaves ++ (sets ++ (steps ++ arrives)))))) → is ≡ js ++ instant_at from m values ∷ [] → Came system bound plan t n values timers log is
+  ByStep : (t n : ℕ) (values : List (Option ℤ)) (timers : List Timer) (log : List Sent)
+      (is : List Instant) (from m : ℕ) (before : List (Option ℤ)) (olds : List Timer)
+      (front found asked updates leaves sets steps arrives : List Sent) (js : List Instant) →
+      Came system bound plan from m before olds front js →
+      Takes system plan from m olds timers before values found asked updates →
+      IsDone from timers updates → IsStep system plan timers from t →
+      Steps system values from t leaves sets steps →
+      any_asks_to_end steps ≡ false →
+      IsAnswered (shapes_of system) (entering_event system) arrives → n ≡ 0 →
+      log ≡ front ++ (found ++ (asked ++ (updates ++ (leaves ++ (sets ++ (steps ++ arrives)))))) →
+      is ≡ js ++ instant_at from m values ∷ [] → Came system bound plan t n values timers log is
 
 -- the same, and that instant was taken, which is the last of these
-pub record Seen (system : System) (bound : Bound) (plan : Plan) (t : ℕ) (log : List Sent) (is : List Instant) : Type 0 where
+pub record Seen (system : System) (bound : Bound) (plan : Plan) (t : ℕ) (log : List Sent)
+    (is : List Instant) : Type 0 where
   pub n : ℕ
   pub before : List (Option ℤ)
   pub values : List (Option ℤ)
@@ -172,7 +198,8 @@ pub record Seen (system : System) (bound : Bound) (plan : Plan) (t : ℕ) (log :
   pub is_is : is ≡ earlier ++ instant_at t n values ∷ []
 
 -- the same, and the point is done, from which a step to another is to be made: those with event mode entered Step Mode
-pub record Leaves (system : System) (bound : Bound) (plan : Plan) (t to : ℕ) (log : List Sent) (is : List Instant) : Type 0 where
+pub record Leaves (system : System) (bound : Bound) (plan : Plan) (t to : ℕ) (log : List Sent)
+    (is : List Instant) : Type 0 where
   pub front : List Sent
   pub leaves : List Sent
   pub seen : Seen system bound plan t front is
@@ -182,7 +209,8 @@ pub record Leaves (system : System) (bound : Bound) (plan : Plan) (t to : ℕ) (
   pub log_is : log ≡ front ++ leaves
 
 -- the same, and the inputs of the others were set
-pub record Departs (system : System) (bound : Bound) (plan : Plan) (t to : ℕ) (log : List Sent) (is : List Instant) : Type 0 where
+pub record Departs (system : System) (bound : Bound) (plan : Plan) (t to : ℕ) (log : List Sent)
+    (is : List Instant) : Type 0 where
   pub front : List Sent
   pub sets : List Sent
   pub leaving : Leaves system bound plan t to front is
@@ -190,7 +218,8 @@ pub record Departs (system : System) (bound : Bound) (plan : Plan) (t to : ℕ) 
   pub log_is : log ≡ front ++ sets
 
 -- the same, and each was stepped
-pub record Arrives (system : System) (bound : Bound) (plan : Plan) (from to : ℕ) (log : List Sent) (is : List Instant) : Type 0 where
+pub record Arrives (system : System) (bound : Bound) (plan : Plan) (from to : ℕ) (log : List Sent)
+    (is : List Instant) : Type 0 where
   pub front : List Sent
   pub steps : List Sent
   pub departs : Departs system bound plan from to front is
@@ -200,53 +229,75 @@ pub record Arrives (system : System) (bound : Bound) (plan : Plan) (from to : �
 -- ---- how it ends, but for a put that failed
 
 -- the point of the stop is done
-pub record WhereStopped (system : System) (bound : Bound) (plan : Plan) (log : List Sent) (is : List Instant) : Type 0 where
+pub record WhereStopped (system : System) (bound : Bound) (plan : Plan) (log : List Sent)
+    (is : List Instant) : Type 0 where
   pub seen : Seen system bound plan plan.stop log is
   pub done : IsDone plan.stop seen.timers seen.updates
 
 -- an Update asked for the end
-pub record WhereEnded (system : System) (bound : Bound) (plan : Plan) (point : ℕ) (log : List Sent) (is : List Instant) : Type 0 where
+pub record WhereEnded (system : System) (bound : Bound) (plan : Plan) (point : ℕ) (log : List Sent)
+    (is : List Instant) : Type 0 where
   pub seen : Seen system bound plan point log is
   pub asks : (updated_by seen.updates).asked ≡ true
 
 -- another instant was asked for, and the instants at this point have reached their limit
-pub record WhereLimited (system : System) (bound : Bound) (plan : Plan) (point : ℕ) (log : List Sent) (is : List Instant) : Type 0 where
+pub record WhereLimited (system : System) (bound : Bound) (plan : Plan) (point : ℕ)
+    (log : List Sent) (is : List Instant) : Type 0 where
   pub seen : Seen system bound plan point log is
   pub again : IsAgain point seen.timers seen.updates
   pub limit : (suc seen.n == plan.limit) ≡ true
 
 -- all were stepped to the point, and one of the answers asked for the end
-pub record WhereAsked (system : System) (bound : Bound) (plan : Plan) (point : ℕ) (log : List Sent) (is : List Instant) : Type 0 where
+pub record WhereAsked (system : System) (bound : Bound) (plan : Plan) (point : ℕ) (log : List Sent)
+    (is : List Instant) : Type 0 where
   pub from : ℕ
   pub arrives : Arrives system bound plan from point log is
   pub asks : any_asks_to_end arrives.steps ≡ true
 
 -- no step was made from this point, since its size is one that the component doesn't take, the least of those; no call was sent for it
-pub record WhereFixed (system : System) (bound : Bound) (plan : Plan) (component at end : ℕ) (log : List Sent) (is : List Instant) : Type 0 where
+pub record WhereFixed (system : System) (bound : Bound) (plan : Plan) (component at end : ℕ)
+    (log : List Sent) (is : List Instant) : Type 0 where
   pub seen : Seen system bound plan at log is
   pub done : IsDone at seen.timers seen.updates
   pub end_is : IsBoundOf plan seen.timers at end
   pub unfit : first_unfit system plan (end - at) ≡ Some component
 
 -- a bad answer to the Set of a parameter, on the way into Initialization Mode, to a call that finds its values, to a question for a fixed Clock's timing, or on the way out
-pub data StopsInitializing (system : System) (bound : Bound) (plan : Plan) (bad : BadAnswer) (log : List Sent) : Type 0 where
-  Binding : StopsAt (shapes_of system) (binding bound) bad log → StopsInitializing system bound plan bad log
-  Entering : (set entered : List Sent) → IsAnswered (shapes_of system) (binding bound) set → StopsAt (shapes_of system) (entering system plan) bad entered →
+pub data StopsInitializing (system : System) (bound : Bound) (plan : Plan) (bad : BadAnswer)
+    (log : List Sent) : Type 0 where
+  Binding : StopsAt (shapes_of system) (binding bound) bad log →
+      StopsInitializing system bound plan bad log
+  Entering : (set entered : List Sent) → IsAnswered (shapes_of system) (binding bound) set →
+      StopsAt (shapes_of system) (entering system plan) bad entered →
       log ≡ set ++ entered → StopsInitializing system bound plan bad log
-  Finding : (set entered found : List Sent) (values : List (Option ℤ)) → IsAnswered (shapes_of system) (binding bound) set → IsAnswered (shapes_of system) (entering system plan) entered →
-      ExplainsUntil system (initially system) (no_values system) (numbers system.initial_order) bad values found → log ≡ set ++ (entered ++ found) → StopsInitializing system bound plan bad log
-  Timing : (set entered found asked : List Sent) (values : List (Option ℤ)) → IsAnswered (shapes_of system) (binding bound) set → IsAnswered (shapes_of system) (entering system plan) entered → Finds system values found →
-      StopsAt (shapes_of system) (timing_calls system) bad asked → log ≡ set ++ (entered ++ (found ++ asked)) → StopsInitializing system bound plan bad log
-  Leaving : (set entered found asked left : List Sent) (values : List (Option ℤ)) → IsAnswered (shapes_of system) (binding bound) set → IsAnswered (shapes_of system) (entering system plan) entered → Finds system values found →
-      IsAnswered (shapes_of system) (timing_calls system) asked → StopsAt (shapes_of system) (leaving system) bad left → log ≡ set ++ (entered ++ (found ++ (asked ++ left))) → StopsInitializing system bound plan bad log
+  Finding : (set entered found : List Sent) (values : List (Option ℤ)) →
+      IsAnswered (shapes_of system) (binding bound) set →
+      IsAnswered (shapes_of system) (entering system plan) entered →
+      ExplainsUntil system (initially system) (no_values system) (numbers system.initial_order) bad
+      values found → log ≡ set ++ (entered ++ found) →
+      StopsInitializing system bound plan bad log
+  Timing : (set entered found asked : List Sent) (values : List (Option ℤ)) →
+      IsAnswered (shapes_of system) (binding bound) set →
+      IsAnswered (shapes_of system) (entering system plan) entered → Finds system values found →
+      StopsAt (shapes_of system) (timing_calls system) bad asked →
+      log ≡ set ++ (entered ++ (found ++ asked)) → StopsInitializing system bound plan bad log
+  Leaving : (set entered found asked left : List Sent) (values : List (Option ℤ)) →
+      IsAnswered (shapes_of system) (binding bound) set →
+      IsAnswered (shapes_of system) (entering system plan) entered → Finds system values found →
+      IsAnswered (shapes_of system) (timing_calls system) asked →
+      StopsAt (shapes_of system) (leaving system) bad left →
+      log ≡ set ++ (entered ++ (found ++ (asked ++ left))) →
+      StopsInitializing system bound plan bad log
 
-pub record WhereInitializing (system : System) (bound : Bound) (plan : Plan) (bad : BadAnswer) (point : ℕ) (log : List Sent) (is : List Instant) : Type 0 where
+pub record WhereInitializing (system : System) (bound : Bound) (plan : Plan) (bad : BadAnswer)
+    (point : ℕ) (log : List Sent) (is : List Instant) : Type 0 where
   pub stops : StopsInitializing system bound plan bad log
   pub point_is : point ≡ plan.start
   pub is_is : is ≡ []
 
 -- a bad answer to a call that finds the values of an instant: it has no instant
-pub record WhereFinding (system : System) (bound : Bound) (plan : Plan) (bad : BadAnswer) (point : ℕ) (log : List Sent) (is : List Instant) : Type 0 where
+pub record WhereFinding (system : System) (bound : Bound) (plan : Plan) (bad : BadAnswer)
+    (point : ℕ) (log : List Sent) (is : List Instant) : Type 0 where
   pub n : ℕ
   pub before : List (Option ℤ)
   pub values : List (Option ℤ)
@@ -257,11 +308,13 @@ pub record WhereFinding (system : System) (bound : Bound) (plan : Plan) (bad : B
   pub known : length before ≡ length system.ports
   pub came : Came system bound plan point n before timers front is
   pub are_ticks : AreTicks system plan.start timers point n ticks
-  pub stops : ExplainsUntil system (in_instant ticks (n == 0)) before (numbers system.instant_order) bad values found
+  pub stops : ExplainsUntil system (in_instant ticks (n == 0)) before
+      (numbers system.instant_order) bad values found
   pub log_is : log ≡ front ++ found
 
 -- a bad answer to a question for an interval: nor has it
-pub record WhereRearming (system : System) (bound : Bound) (plan : Plan) (bad : BadAnswer) (point : ℕ) (log : List Sent) (is : List Instant) : Type 0 where
+pub record WhereRearming (system : System) (bound : Bound) (plan : Plan) (bad : BadAnswer)
+    (point : ℕ) (log : List Sent) (is : List Instant) : Type 0 where
   pub n : ℕ
   pub before : List (Option ℤ)
   pub values : List (Option ℤ)
@@ -274,12 +327,14 @@ pub record WhereRearming (system : System) (bound : Bound) (plan : Plan) (bad : 
   pub places : length values ≡ length system.ports
   pub came : Came system bound plan point n before timers front is
   pub are_ticks : AreTicks system plan.start timers point n ticks
-  pub explains : Explains system (in_instant ticks (n == 0)) before (numbers system.instant_order) values found
+  pub explains : Explains system (in_instant ticks (n == 0)) before
+      (numbers system.instant_order) values found
   pub stops : ExplainsUntil system intervals values (port_order system) bad values asked
   pub log_is : log ≡ front ++ (found ++ asked)
 
 -- a bad answer to an Update: nor has it
-pub record WhereUpdating (system : System) (bound : Bound) (plan : Plan) (bad : BadAnswer) (point : ℕ) (log : List Sent) (is : List Instant) : Type 0 where
+pub record WhereUpdating (system : System) (bound : Bound) (plan : Plan) (bad : BadAnswer)
+    (point : ℕ) (log : List Sent) (is : List Instant) : Type 0 where
   pub n : ℕ
   pub before : List (Option ℤ)
   pub values : List (Option ℤ)
@@ -294,13 +349,15 @@ pub record WhereUpdating (system : System) (bound : Bound) (plan : Plan) (bad : 
   pub places : length values ≡ length system.ports
   pub came : Came system bound plan point n before olds front is
   pub are_ticks : AreTicks system plan.start olds point n ticks
-  pub explains : Explains system (in_instant ticks (n == 0)) before (numbers system.instant_order) values found
+  pub explains : Explains system (in_instant ticks (n == 0)) before
+      (numbers system.instant_order) values found
   pub rearms : Rearms system plan.resolution point values olds timers asked
   pub stops : StopsAt (shapes_of system) (updating (shapes_of system)) bad updates
   pub log_is : log ≡ front ++ (found ++ (asked ++ updates))
 
 -- a bad answer on the way into Step Mode
-pub record WhereLeaving (system : System) (bound : Bound) (plan : Plan) (bad : BadAnswer) (point : ℕ) (log : List Sent) (is : List Instant) : Type 0 where
+pub record WhereLeaving (system : System) (bound : Bound) (plan : Plan) (bad : BadAnswer)
+    (point : ℕ) (log : List Sent) (is : List Instant) : Type 0 where
   pub to : ℕ
   pub front : List Sent
   pub leaves : List Sent
@@ -311,16 +368,19 @@ pub record WhereLeaving (system : System) (bound : Bound) (plan : Plan) (bad : B
   pub log_is : log ≡ front ++ leaves
 
 -- a bad answer to the Set of an input, behind the instant whose values are set
-pub record WhereSetting (system : System) (bound : Bound) (plan : Plan) (bad : BadAnswer) (point : ℕ) (log : List Sent) (is : List Instant) : Type 0 where
+pub record WhereSetting (system : System) (bound : Bound) (plan : Plan) (bad : BadAnswer)
+    (point : ℕ) (log : List Sent) (is : List Instant) : Type 0 where
   pub to : ℕ
   pub front : List Sent
   pub sets : List Sent
   pub leaving : Leaves system bound plan point to front is
-  pub stops : ExplainsUntil system (before_step leaving.seen.values) leaving.seen.values (port_order system) bad leaving.seen.values sets
+  pub stops : ExplainsUntil system (before_step leaving.seen.values) leaving.seen.values
+      (port_order system) bad leaving.seen.values sets
   pub log_is : log ≡ front ++ sets
 
 -- a bad answer to a step, in which all were asked
-pub record WhereStepping (system : System) (bound : Bound) (plan : Plan) (bad : BadAnswer) (point : ℕ) (log : List Sent) (is : List Instant) : Type 0 where
+pub record WhereStepping (system : System) (bound : Bound) (plan : Plan) (bad : BadAnswer)
+    (point : ℕ) (log : List Sent) (is : List Instant) : Type 0 where
   pub to : ℕ
   pub front : List Sent
   pub steps : List Sent
@@ -329,7 +389,8 @@ pub record WhereStepping (system : System) (bound : Bound) (plan : Plan) (bad : 
   pub log_is : log ≡ front ++ steps
 
 -- a bad answer on the way into Event Mode, at the point that the step reached
-pub record WhereEntering (system : System) (bound : Bound) (plan : Plan) (bad : BadAnswer) (point : ℕ) (log : List Sent) (is : List Instant) : Type 0 where
+pub record WhereEntering (system : System) (bound : Bound) (plan : Plan) (bad : BadAnswer)
+    (point : ℕ) (log : List Sent) (is : List Instant) : Type 0 where
   pub from : ℕ
   pub front : List Sent
   pub arrives : List Sent
@@ -339,22 +400,35 @@ pub record WhereEntering (system : System) (bound : Bound) (plan : Plan) (bad : 
   pub log_is : log ≡ front ++ arrives
 
 -- where the first answer that isn't good stands
-pub data WhereBad (system : System) (bound : Bound) (plan : Plan) (bad : BadAnswer) (point : ℕ) (log : List Sent) (is : List Instant) : Type 0 where
-  InInitialization : WhereInitializing system bound plan bad point log is → WhereBad system bound plan bad point log is
-  InInstant : WhereFinding system bound plan bad point log is → WhereBad system bound plan bad point log is
-  InIntervals : WhereRearming system bound plan bad point log is → WhereBad system bound plan bad point log is
-  InUpdate : WhereUpdating system bound plan bad point log is → WhereBad system bound plan bad point log is
-  BeforeStep : WhereLeaving system bound plan bad point log is → WhereBad system bound plan bad point log is
-  InSet : WhereSetting system bound plan bad point log is → WhereBad system bound plan bad point log is
-  InStep : WhereStepping system bound plan bad point log is → WhereBad system bound plan bad point log is
-  BehindStep : WhereEntering system bound plan bad point log is → WhereBad system bound plan bad point log is
+pub data WhereBad (system : System) (bound : Bound) (plan : Plan) (bad : BadAnswer) (point : ℕ)
+    (log : List Sent) (is : List Instant) : Type 0 where
+  InInitialization : WhereInitializing system bound plan bad point log is →
+      WhereBad system bound plan bad point log is
+  InInstant : WhereFinding system bound plan bad point log is →
+      WhereBad system bound plan bad point log is
+  InIntervals : WhereRearming system bound plan bad point log is →
+      WhereBad system bound plan bad point log is
+  InUpdate : WhereUpdating system bound plan bad point log is →
+      WhereBad system bound plan bad point log is
+  BeforeStep : WhereLeaving system bound plan bad point log is →
+      WhereBad system bound plan bad point log is
+  InSet : WhereSetting system bound plan bad point log is →
+      WhereBad system bound plan bad point log is
+  InStep : WhereStepping system bound plan bad point log is →
+      WhereBad system bound plan bad point log is
+  BehindStep : WhereEntering system bound plan bad point log is →
+      WhereBad system bound plan bad point log is
 
 -- with this log and behind these instants the run ends so, and its end line names the point
 abbrev pub Finishes : System → Bound → Plan → RunEnd → ℕ → List Sent → List Instant → Type 0
-Finishes system bound plan E.Stop point log is = (point ≡ plan.stop) × WhereStopped system bound plan log is
-Finishes system bound plan (E.Asked at) point log is = (point ≡ at) × (WhereEnded system bound plan at log is ⊎ WhereAsked system bound plan at log is)
-Finishes system bound plan (E.EventLimit at) point log is = (point ≡ at) × WhereLimited system bound plan at log is
-Finishes system bound plan (E.FixedStep component at end) point log is = (point ≡ at) × WhereFixed system bound plan component.0 at end log is
+Finishes system bound plan E.Stop point log is =
+    (point ≡ plan.stop) × WhereStopped system bound plan log is
+Finishes system bound plan (E.Asked at) point log is =
+    (point ≡ at) × (WhereEnded system bound plan at log is ⊎ WhereAsked system bound plan at log is)
+Finishes system bound plan (E.EventLimit at) point log is =
+    (point ≡ at) × WhereLimited system bound plan at log is
+Finishes system bound plan (E.FixedStep component at end) point log is =
+    (point ≡ at) × WhereFixed system bound plan component.0 at end log is
 Finishes system bound plan (E.Bad bad) point log is = WhereBad system bound plan bad point log is
 Finishes system bound plan E.WriteFault point log is = ⊥
 
@@ -395,14 +469,16 @@ trace_pieces system plan is kind point = pieces_of system plan is ++ end_text ki
 -- ---- where a put failed
 
 -- the header's: no call was made
-pub record AtHeader (system : System) (plan : Plan) (log : List Sent) (is : List Instant) (pieces : List (List ℕ)) (piece : List ℕ) : Type 0 where
+pub record AtHeader (system : System) (plan : Plan) (log : List Sent) (is : List Instant)
+    (pieces : List (List ℕ)) (piece : List ℕ) : Type 0 where
   pub log_is : log ≡ []
   pub is_is : is ≡ []
   pub pieces_are : pieces ≡ []
   pub piece_is : piece ≡ header_of system plan
 
 -- an instant's: its Updates are the last calls
-pub record AtInstant (system : System) (bound : Bound) (plan : Plan) (log : List Sent) (is : List Instant) (pieces : List (List ℕ)) (piece : List ℕ) : Type 0 where
+pub record AtInstant (system : System) (bound : Bound) (plan : Plan) (log : List Sent)
+    (is : List Instant) (pieces : List (List ℕ)) (piece : List ℕ) : Type 0 where
   pub t : ℕ
   pub i : Instant
   pub seen : Seen system bound plan t log (is ++ i ∷ [])
@@ -410,7 +486,8 @@ pub record AtInstant (system : System) (bound : Bound) (plan : Plan) (log : List
   pub piece_is : piece ≡ text_of i
 
 -- the end line's: the run had come to its end
-pub record AtEnd (system : System) (bound : Bound) (plan : Plan) (log : List Sent) (is : List Instant) (pieces : List (List ℕ)) (piece : List ℕ) : Type 0 where
+pub record AtEnd (system : System) (bound : Bound) (plan : Plan) (log : List Sent)
+    (is : List Instant) (pieces : List (List ℕ)) (piece : List ℕ) : Type 0 where
   pub end : RunEnd
   pub point : ℕ
   pub finishes : Finishes system bound plan end point log is
@@ -418,6 +495,8 @@ pub record AtEnd (system : System) (bound : Bound) (plan : Plan) (log : List Sen
   pub piece_is : piece ≡ end_text (kind_of_end end) point
 
 -- with this log and behind these instants the put of a piece failed, behind those of the others
-abbrev pub Interrupted : System → Bound → Plan → List Sent → List Instant → List (List ℕ) → List ℕ → Type 0
+abbrev pub Interrupted : System → Bound → Plan → List Sent → List Instant →
+    List (List ℕ) → List ℕ → Type 0
 Interrupted system bound plan log is pieces piece =
-    AtHeader system plan log is pieces piece ⊎ (AtInstant system bound plan log is pieces piece ⊎ AtEnd system bound plan log is pieces piece)
+    AtHeader system plan log is pieces piece ⊎
+    (AtInstant system bound plan log is pieces piece ⊎ AtEnd system bound plan log is pieces piece)

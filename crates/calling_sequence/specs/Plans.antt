@@ -15,4 +15,5 @@ pub record IsPlan (plan : Plan) : Type 0 where
 
 -- the FMUs count as the plan does: a second has as many counts to each
 abbrev pub CountsBy : System → Plan → Type 0
-CountsBy system plan = All (λ (c : Component). c.shape.resolution ≡ plan.resolution) system.components
+CountsBy system plan =
+    All (λ (c : Component). c.shape.resolution ≡ plan.resolution) system.components

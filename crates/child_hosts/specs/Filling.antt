@@ -12,7 +12,8 @@ pub record RunsOut (old new : Option (List ℕ)) (into : List ℕ) : Type 0 wher
   pub short : length last < length into
 
 -- the room has the front of what was to come; or that ended before; or a take failed behind some part
-abbrev pub Fills : {T : Type 0} → Option (List ℕ) → Option (List ℕ) → List ℕ → Result T WireFault → Type 0
+abbrev pub Fills : {T : Type 0} → Option (List ℕ) → Option (List ℕ) → List ℕ →
+    Result T WireFault → Type 0
 Fills old new into (Ok _) = Consumes old new into
 Fills old new into (Err Ended) = RunsOut old new into
 Fills old new into (Err Failed) = (n : ℕ) × Consumes old new (take n into)

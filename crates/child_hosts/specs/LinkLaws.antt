@@ -10,7 +10,8 @@ use Rattle.child_hosts.specs.declared.link.HostLink.{HostLink}
 use Rattle.child_hosts.specs.declared.link.HostLink.TheVariants.{BuiltIn, Child}
 use Rattle.child_hosts.specs.Links.{link_view}
 
-pub is_machine : (p : HostLink) → IfSome (link_view p).fixed.machine (IsMachineOf (link_view p).fixed.shape)
+pub is_machine : (p : HostLink) →
+    IfSome (link_view p).fixed.machine (IsMachineOf (link_view p).fixed.shape)
 is_machine (BuiltIn b) = laws.is_machine b.value.model b.value.book.shape
 is_machine (Child c) = tt
 
@@ -22,10 +23,14 @@ pub ignores_slot : (p : HostLink) → IfSome (link_view p).fixed.machine Ignores
 ignores_slot (BuiltIn b) = laws.answers_alike b.value.model b.value.book.shape
 ignores_slot (Child c) = tt
 
-pub is_lawful : (p : HostLink) → IfSome (link_view p).fixed.machine (IsLawful (link_view p).fixed.shape)
+pub is_lawful : (p : HostLink) →
+    IfSome (link_view p).fixed.machine (IsLawful (link_view p).fixed.shape)
 is_lawful (BuiltIn b) = laws.is_lawful b.value.model b.value.book.shape
 is_lawful (Child c) = tt
 
 -- no more are told as taken back than were started
-pub fewer_views : (links : List (Snapshot HostLink)) (started : ℕ) → length links ≤ started → length (map (λ (s : Snapshot HostLink). link_view s.value) links) ≤ started
-fewer_views links started few = subst (λ (n : ℕ). n ≤ started) (sym (length-map links (λ (s : Snapshot HostLink). link_view s.value))) few
+pub fewer_views : (links : List (Snapshot HostLink)) (started : ℕ) → length links ≤ started →
+    length (map (λ (s : Snapshot HostLink). link_view s.value) links) ≤ started
+fewer_views links started few =
+    subst (λ (n : ℕ). n ≤ started)
+    (sym (length-map links (λ (s : Snapshot HostLink). link_view s.value))) few

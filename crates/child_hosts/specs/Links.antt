@@ -39,7 +39,8 @@ is_known host identifier = if bytes_eq host built_in_host then is_model identifi
 
 -- by the host `builtin` it is the machine that the shape names, and by another a child
 abbrev pub IsOfHost : List ℕ → Shape → HostLink → Type 0
-IsOfHost host shape (BuiltIn peer) = (host ≡ built_in_host) × (model_named shape.identifier ≡ Some peer.value.model)
+IsOfHost host shape (BuiltIn peer) =
+    (host ≡ built_in_host) × (model_named shape.identifier ≡ Some peer.value.model)
 IsOfHost host shape (Child child) = host ≢ built_in_host
 
 abbrev pub hosts_view : {R : Type 0} → Hosts R → SpawnerView

@@ -19,7 +19,8 @@ with_option_rule a name = with_rule a (option_rule name)
 
 -- a subcommand with positionals and options of these names
 abbrev pub sub_app : Word → List Word → List Word → App
-sub_app name positionals options = fold with_option_rule (fold with_positional_rule (new_app name) positionals) options
+sub_app name positionals options =
+    fold with_option_rule (fold with_positional_rule (new_app name) positionals) options
 
 -- the whole, which is a subcommand and nothing else
 abbrev pub top_shape : Shape
@@ -51,5 +52,6 @@ AddsRule old r new = (app_of new ≡ with_rule (app_of old) r)
 
 -- new is old with one more subcommand
 abbrev pub AddsSub : Command → Word → List Word → List Word → Command → Type 0
-AddsSub old name positionals options new = (app_of new ≡ with_sub (app_of old) name positionals options)
+AddsSub old name positionals options new =
+    (app_of new ≡ with_sub (app_of old) name positionals options)
     × ((out-Command new).has_globals ≡ ((out-Command old).has_globals || false))

@@ -9,7 +9,8 @@ with_item i = option_map (λ is. i ∷ is)
 abbrev pub if_plain : Word → Option (List Item) → Option (List Item)
 if_plain v r = if is_plain v then r else None
 
-abbrev pub items_at : Word → Option (Word × Option Word) → Option (List Item) → (Word → Option (List Item)) → Option (List Item)
+abbrev pub items_at : Word → Option (Word × Option Word) → Option (List Item) →
+    (Word → Option (List Item)) → Option (List Item)
 items_at w None after waiting = if_plain w (with_item (positional w) after)
 items_at w (Some (n, None)) after waiting = waiting n
 items_at w (Some (n, Some v)) after waiting = if_plain v (with_item (option n v) after)
@@ -19,7 +20,8 @@ abbrev pub items_from : Option Word → List Word → Option (List Item)
 items_from None [] = Some []
 items_from (Some n) [] = None
 items_from (Some n) (v ∷ rest) = if_plain v (with_item (option n v) (items_from None rest))
-items_from None (w ∷ rest) = items_at w (long_of w) (items_from None rest) (λ n. items_from (Some n) rest)
+items_from None (w ∷ rest) =
+    items_at w (long_of w) (items_from None rest) (λ n. items_from (Some n) rest)
 
 abbrev pub are_items_at : Word → Option (Word × Option Word) → Bool → Bool → Bool
 are_items_at w None after waiting = is_plain w && after

@@ -42,7 +42,8 @@ pub record CommandRow : Type 0 where
   pub options : List OptionRow
 
 abbrev pub count_row : Word → ℕ → ℕ → Option ℕ → CountRow
-count_row name least most default = record { name = name; least = least; most = most; default = default }
+count_row name least most default =
+    record { name = name; least = least; most = most; default = default }
 
 abbrev pub resolution_row : CountRow
 resolution_row = count_row (codes "resolution") 1 (2 ^ 62) None
@@ -74,12 +75,14 @@ host_row = text_row (codes "host") built_in_host
 -- the options of a run
 abbrev pub run_options : List OptionRow
 run_options =
-    CountOption resolution_row ∷ CountOption step_row ∷ CountOption stop_row ∷ CountOption start_row ∷ CountOption limit_row
+    CountOption resolution_row ∷ CountOption step_row ∷ CountOption stop_row ∷
+    CountOption start_row ∷ CountOption limit_row
     ∷ TextOption host_row ∷ []
 
 -- a command with a directory and these options
 abbrev pub directory_row : Word → List OptionRow → CommandRow
-directory_row name options = record { name = name; positionals = codes "DIR" ∷ []; options = options }
+directory_row name options =
+    record { name = name; positionals = codes "DIR" ∷ []; options = options }
 
 -- the run of one FMU
 abbrev pub one_row : CommandRow
@@ -95,7 +98,11 @@ check_row = directory_row (codes "check") (CountOption resolution_row ∷ [])
 
 -- the check of a trace against a system
 abbrev pub trace_check_row : CommandRow
-trace_check_row = record { name = codes "trace-check"; positionals = codes "DIR" ∷ codes "FILE" ∷ []; options = [] }
+trace_check_row = record {
+  name = codes "trace-check";
+  positionals = codes "DIR" ∷ codes "FILE" ∷ [];
+  options = [];
+}
 
 abbrev pub commands : List CommandRow
 commands = one_row ∷ run_row ∷ check_row ∷ trace_check_row ∷ []
@@ -119,7 +126,8 @@ has_room (name ∷ names) (v ∷ vs) = has_room names vs
 abbrev pub positional_named : Word → List Word → List Word → Option Word
 positional_named name names [] = None
 positional_named name [] (v ∷ vs) = None
-positional_named name (n ∷ names) (v ∷ vs) = if bytes_eq n name then Some v else positional_named name names vs
+positional_named name (n ∷ names) (v ∷ vs) =
+    if bytes_eq n name then Some v else positional_named name names vs
 
 -- what a line gives for each name of its command
 abbrev pub Lookup : Type 0
@@ -131,7 +139,8 @@ given row items name = if is_among name (option_names row) then value_of name it
     else positional_named name row.positionals (positionals_of items)
 
 -- the words are a command's name and items: options of the command, each at most once, and no more positionals than it has
-pub record IsLineOf (rows : List CommandRow) (words : List Word) (name : Word) (get : Lookup) : Type 0 where
+pub record IsLineOf (rows : List CommandRow) (words : List Word) (name : Word)
+    (get : Lookup) : Type 0 where
   pub rest : List Word
   pub begins : words ≡ name ∷ rest
   pub row : CommandRow
@@ -199,15 +208,19 @@ pub record GivesPlan (get : Lookup) (plan : Plan) : Type 0 where
 -- a line of a run gives the directory, the host and the plan
 abbrev pub AsksRun : Lookup → RunLine → Type 0
 AsksRun get line =
-    (get (codes "DIR") ≡ Some line.directory) × Gives host_row (get host_row.name) line.host × GivesPlan get line.plan
+    (get (codes "DIR") ≡ Some line.directory) × Gives host_row (get host_row.name) line.host ×
+    GivesPlan get line.plan
 
 -- a line of a check gives the directory and the resolution
 abbrev pub AsksCheck : Lookup → CheckLine → Type 0
-AsksCheck get line = (get (codes "DIR") ≡ Some line.directory) × Counts resolution_row (get resolution_row.name) line.resolution
+AsksCheck get line =
+    (get (codes "DIR") ≡ Some line.directory) ×
+    Counts resolution_row (get resolution_row.name) line.resolution
 
 -- a line of the check of a trace gives the directory and the file
 abbrev pub AsksTrace : Lookup → TraceLine → Type 0
-AsksTrace get line = (get (codes "DIR") ≡ Some line.directory) × (get (codes "FILE") ≡ Some line.file)
+AsksTrace get line =
+    (get (codes "DIR") ≡ Some line.directory) × (get (codes "FILE") ≡ Some line.file)
 
 -- what a line of each command asks for
 abbrev pub Asks : Word → Lookup → Asked → Type 0
@@ -273,7 +286,8 @@ texts words = map (string_bytes {Z = Global}) words
 
 -- the line of a run that options tell
 abbrev pub run_of : Options → RunLine
-run_of options = record { directory = options.directory.now; host = options.host.now; plan = options.plan }
+run_of options =
+    record { directory = options.directory.now; host = options.host.now; plan = options.plan }
 
 -- the line of a check that options tell
 abbrev pub check_of : CheckOptions → CheckLine

@@ -25,12 +25,16 @@ is_string _ = false
 
 -- an argument that takes one value, of any text
 abbrev pub is_usual : Rule → Bool
-is_usual a = takes_values a && (most_values a == 1 && (is_set (action_of a) && ((unwrap_or_range a.range).start_inclusive == 1
-    && (is_string (parser_of_value a.parser) && (not (takes_several a) && not a.trailing_var_arg)))))
+is_usual a =
+    takes_values a && (most_values a == 1 &&
+    (is_set (action_of a) && ((unwrap_or_range a.range).start_inclusive == 1
+    && (is_string (parser_of_value a.parser) &&
+    (not (takes_several a) && not a.trailing_var_arg)))))
 
 -- an option has its id for its name, and a positional has another id than the options
 abbrev pub is_placed : List Rule → Rule → Bool
-is_placed c a = option_map_or (λ k. nat_lt k usize_max && not (is_some (arg_by_long c a.id))) a.index
+is_placed c a =
+    option_map_or (λ k. nat_lt k usize_max && not (is_some (arg_by_long c a.id))) a.index
     (is_empty a.aliases && option_map_or (λ s. bytes_eq s a.id) a.long false)
 
 -- no two rules have one id
@@ -69,7 +73,8 @@ pub record IsTop (b : App) : Type 0 where
 -- from p on the positionals have these ids, and there is no other
 abbrev pub HasPlaces : List Rule → ℕ → List Word → Type 0
 HasPlaces c p [] = arg_by_index c p ≡ None
-HasPlaces c p (q ∷ qs) = (a : Rule) × (arg_by_index c p ≡ Some a) × (a.id ≡ q) × HasPlaces c (p + 1) qs
+HasPlaces c p (q ∷ qs) =
+    (a : Rule) × (arg_by_index c p ≡ Some a) × (a.id ≡ q) × HasPlaces c (p + 1) qs
 
 -- clap's subcommand is that of a row: it has its name, positionals and options, asks for none, and gives none by itself
 pub record IsPart (s : Shape) (g : CommandRow) : Type 0 where

@@ -10,18 +10,23 @@ use Rattle.dependency_order.specs.Graph.{Needs}
 -- for each connector the first of its point
 pub record AreFirsts (points : List Point) (firsts : List ℕ) : Type 0 where
   pub same_length : length firsts ≡ length points
-  pub is : (c : ℕ) (p : Point) → slice_get points c ≡ Some p → slice_get points (slice_index_or firsts c 0) ≡ Some p
-  pub same : (c d : ℕ) (p : Point) → slice_get points c ≡ Some p → slice_get points d ≡ Some p → slice_index_or firsts c 0 ≡ slice_index_or firsts d 0
+  pub is : (c : ℕ) (p : Point) → slice_get points c ≡ Some p →
+      slice_get points (slice_index_or firsts c 0) ≡ Some p
+  pub same : (c d : ℕ) (p : Point) → slice_get points c ≡ Some p → slice_get points d ≡ Some p →
+      slice_index_or firsts c 0 ≡ slice_index_or firsts d 0
 
 abbrev pub at : BTreeMap ℕ ℕ → ℕ → Option ℕ
 at table v = get nat_cmp table v
 
 -- so far, with a table of the points of one kind that have come
-pub record IsTableOf (make : ℕ → Point) (points : List Point) (i : ℕ) (table : BTreeMap ℕ ℕ) (firsts : List ℕ) : Type 0 where
+pub record IsTableOf (make : ℕ → Point) (points : List Point) (i : ℕ) (table : BTreeMap ℕ ℕ)
+    (firsts : List ℕ) : Type 0 where
   pub stands : (v c : ℕ) → at table v ≡ Some c → slice_get points c ≡ Some (make v)
-  pub told : (c v : ℕ) → c < i → slice_get points c ≡ Some (make v) → at table v ≡ Some (slice_index_or firsts c 0)
+  pub told : (c v : ℕ) → c < i → slice_get points c ≡ Some (make v) →
+      at table v ≡ Some (slice_index_or firsts c 0)
 
-pub record ArePlaced (points : List Point) (i : ℕ) (variables systems : BTreeMap ℕ ℕ) (firsts : List ℕ) : Type 0 where
+pub record ArePlaced (points : List Point) (i : ℕ) (variables systems : BTreeMap ℕ ℕ)
+    (firsts : List ℕ) : Type 0 where
   pub len : length firsts ≡ i
   pub of_components : IsTableOf Variable points i variables firsts
   pub of_systems : IsTableOf OfSystem points i systems firsts

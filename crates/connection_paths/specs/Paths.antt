@@ -30,5 +30,8 @@ IsOneOf points connectors p = (c : ℕ) × Contains connectors c × (slice_get p
 
 -- what is found for a point: a connector of one of the starts that feed it, and nothing where none does
 abbrev pub FindsSource : List Point → List Connection → List ℕ → Point → Option ℕ → Type 0
-FindsSource points connections starts x None = (p : Point) → IsOneOf points starts p → Feeds points connections p x → ⊥
-FindsSource points connections starts x (Some c) = (p : Point) × (slice_get points c ≡ Some p) × IsOneOf points starts p × Feeds points connections p x
+FindsSource points connections starts x None =
+    (p : Point) → IsOneOf points starts p → Feeds points connections p x → ⊥
+FindsSource points connections starts x (Some c) =
+    (p : Point) × (slice_get points c ≡ Some p) × IsOneOf points starts p ×
+    Feeds points connections p x

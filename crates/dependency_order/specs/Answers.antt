@@ -5,7 +5,8 @@ use Rattle.dependency_order.specs.declared.sorting.Found.TheVariants.{Order, Loo
 use Rattle.dependency_order.specs.Graph.{IsOrder, IsLoop, BeginsLeast}
 
 -- each of these nodes needs the next, the last the first, and the least is told first; there is no order then
-pub record IsLeastLoop (IsAmong : ℕ → Type 0) (NeedsOf : ℕ → ℕ → Type 0) (nodes : List ℕ) : Type 0 where
+pub record IsLeastLoop (IsAmong : ℕ → Type 0) (NeedsOf : ℕ → ℕ → Type 0)
+    (nodes : List ℕ) : Type 0 where
   pub loop : IsLoop NeedsOf nodes
   pub least : BeginsLeast nodes
   pub no_order : (order : List ℕ) → IsOrder IsAmong NeedsOf order → ⊥

@@ -28,7 +28,8 @@ IsOnce order = (i : ℕ) → i < length order → Contains (take i order) (slice
 
 -- each node stands behind all that it needs
 abbrev pub IsBehind : (ℕ → ℕ → Type 0) → List ℕ → Type 0
-IsBehind NeedsOf order = (i q : ℕ) → i < length order → NeedsOf (slice_index_or order i 0) q → Contains (take i order) q
+IsBehind NeedsOf order =
+    (i q : ℕ) → i < length order → NeedsOf (slice_index_or order i 0) q → Contains (take i order) q
 
 -- an order of certain nodes: all of them and no others, each once and behind all that it needs
 pub record IsOrder (IsAmong : ℕ → Type 0) (NeedsOf : ℕ → ℕ → Type 0) (order : List ℕ) : Type 0 where

@@ -3,7 +3,8 @@ use Rattle.std.specs.Prelude.{◌≡◌, ℕ, Bool, true, false, List, slice_ind
 use Rattle.dependency_order.specs.Graph.{Needs, Leads}
 
 -- along links from a to b, between them through these nodes alone
-pub record Reaches {A : Type 0} (Link : A → A → Type 0) (Through : A → Type 0) (a b : A) : Type 0 where
+pub record Reaches {A : Type 0} (Link : A → A → Type 0) (Through : A → Type 0)
+    (a b : A) : Type 0 where
   pub between : List A
   pub through : All Through between
   pub leads : Leads Link a between b
@@ -19,7 +20,8 @@ abbrev pub at : List (Option ℕ) → ℕ → Option ℕ
 at found x = slice_index_or found x None
 
 -- what is found is a start from which the node is reached, and nothing where there is none
-pub record IsSpread (links : List (List ℕ)) (through : List Bool) (starts : List ℕ) (found : List (Option ℕ)) : Type 0 where
+pub record IsSpread (links : List (List ℕ)) (through : List Bool) (starts : List ℕ)
+    (found : List (Option ℕ)) : Type 0 where
   pub start : (x s : ℕ) → at found x ≡ Some s → Contains starts s × IsReached links through s x
   pub none : (x s : ℕ) → at found x ≡ None → Contains starts s → IsReached links through s x → ⊥
 

@@ -6,7 +6,8 @@ use Rattle.doc_tree.specs.declared.rule.Rule.{Rule}
 
 -- the refusal is this rule at this element of the first file, and names no ports
 abbrev pub IsRefusal : Refusal → Rule → ℕ → Type 0
-IsRefusal (At file node rule ports) broken k = (file ≡ 0) × (node ≡ k) × (rule ≡ broken) × (ports ≡ [])
+IsRefusal (At file node rule ports) broken k =
+    (file ≡ 0) × (node ≡ k) × (rule ≡ broken) × (ports ≡ [])
 IsRefusal Memory broken k = ⊥
 
 -- the refusal is the first violation, unless memory ran out

@@ -14,7 +14,8 @@ found_name places name = get_by (λ text. slice_cmp nat_cmp name text.now) place
 
 -- the place that a table has for a name in a scope
 abbrev pub found_in : ScopedPlaces → ℕ × List ℕ → Option ℕ
-found_in places key = get_by (λ k. ordering_then (nat_cmp key.0 k.0) (slice_cmp nat_cmp key.1 k.1.now)) places.first
+found_in places key =
+    get_by (λ k. ordering_then (nat_cmp key.0 k.0) (slice_cmp nat_cmp key.1 k.1.now)) places.first
 
 -- a name in a scope, as its text
 abbrev pub scoped : Option (ℕ × Bor (List ℕ)) → Option (ℕ × List ℕ)

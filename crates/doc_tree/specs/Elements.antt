@@ -35,7 +35,8 @@ abbrev pub pair_of : Named → Pair
 pair_of n = (string_bytes n.name, string_bytes n.value)
 
 abbrev pub node_of : Element → Node
-node_of e = record { name = string_bytes e.name; attrs = map pair_of e.attrs.items; parent = e.parent }
+node_of e =
+    record { name = string_bytes e.name; attrs = map pair_of e.attrs.items; parent = e.parent }
 
 abbrev pub items_of : Vec ℕ Global → List ℕ
 items_of v = v.items
@@ -46,7 +47,8 @@ with_child lists parent child = set lists parent (get_or lists parent [] ++ chil
 
 -- each list is the old one, and that of the parent has one child more
 abbrev pub Adopts : List (List ℕ) → List (List ℕ) → Option ℕ → ℕ → Type 0
-Adopts old new parent child = (k : ℕ) → get_or new k [] ≡ get_or old k [] ++ child_if (is_parent parent k) child []
+Adopts old new parent child =
+    (k : ℕ) → get_or new k [] ≡ get_or old k [] ++ child_if (is_parent parent k) child []
 
 -- a parent is among so many nodes
 abbrev pub IsBelow : ℕ → Option ℕ → Type 0

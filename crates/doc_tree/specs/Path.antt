@@ -1,4 +1,5 @@
--- The path to an element: `/NAME[i]` for each level from the root on, as XPath 1.0 (2) writes steps; i counts all elements that stand beside it, from 1.
+-- The path to an element: `/NAME[i]` for each level from the root on, as XPath 1.0 (2) writes
+-- steps; i counts all elements that stand beside it, from 1.
 use Rattle.std.specs.Prelude.{ℕ, suc, zero, ◌+◌, ◌==◌, Bool, true, false, List, [], ◌++◌, take, count_by, Option, Some, None, option_and_then, slice_get, codes, decimal}
 use Rattle.std.specs.Option.{option_map_or}
 use Rattle.doc_grammar.specs.Nodes.{Node}
@@ -26,7 +27,8 @@ step_text t k = codes "/" ++ name_at t k ++ codes "[" ++ decimal (place_at t k) 
 -- the last levels of the path, at most so many
 unfoldable pub path_within : ℕ → List Node → ℕ → List ℕ
 path_within zero t k = []
-path_within (suc levels) t k = option_map_or (path_within levels t) (parent_at t k) [] ++ step_text t k
+path_within (suc levels) t k =
+    option_map_or (path_within levels t) (parent_at t k) [] ++ step_text t k
 
 -- no element is deeper than 64
 abbrev pub path_to : List Node → ℕ → List ℕ

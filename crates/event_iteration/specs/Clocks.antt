@@ -48,7 +48,8 @@ abbrev pub unasked : IntervalVariability → ScheduledClock
 unasked variability = record { variability = variability; interval = None; shift = None }
 
 abbrev pub first_clock : Role → ScheduledClock
-first_clock (TimeClock (Periodic interval shift)) = record { variability = V.Constant; interval = Some interval; shift = Some shift }
+first_clock (TimeClock (Periodic interval shift)) =
+    record { variability = V.Constant; interval = Some interval; shift = Some shift }
 first_clock (TimeClock Answered) = unasked V.Fixed
 first_clock (TimeClock Countdown) = unasked V.Countdown
 first_clock (Input feed) = unasked V.Triggered
@@ -57,12 +58,18 @@ first_clock (ClockInput feed) = unasked V.Triggered
 first_clock ClockOutput = unasked V.Triggered
 
 abbrev pub first_table : System → (start stop : ℕ) → Timetable
-first_table system start stop = record { start = start; stop = stop; clocks = map (λ (port : Port). first_place port.role) system.ports }
+first_table system start stop = record {
+  start = start;
+  stop = stop;
+  clocks = map (λ (port : Port). first_place port.role) system.ports;
+}
 
 -- where it stands later: a constant or fixed Clock has an interval and a shift, and a countdown Clock is armed or not
 abbrev pub IsPlaceOf : Role → ClockState → Type 0
-IsPlaceOf (TimeClock (Periodic interval shift)) place = (ticks : ℕ) × (place ≡ S.Periodic interval shift ticks)
-IsPlaceOf (TimeClock Answered) place = (interval shift ticks : ℕ) × (place ≡ S.Periodic interval shift ticks) × (0 < interval)
+IsPlaceOf (TimeClock (Periodic interval shift)) place =
+    (ticks : ℕ) × (place ≡ S.Periodic interval shift ticks)
+IsPlaceOf (TimeClock Answered) place =
+    (interval shift ticks : ℕ) × (place ≡ S.Periodic interval shift ticks) × (0 < interval)
 IsPlaceOf (TimeClock Countdown) place = (armed : Option ℕ) × (place ≡ S.Countdown armed)
 IsPlaceOf (Input feed) place = place ≡ S.Unasked
 IsPlaceOf Output place = place ≡ S.Unasked
@@ -73,15 +80,18 @@ IsPlaceOf ClockOutput place = place ≡ S.Unasked
 abbrev pub IsNextFrom : (start t : ℕ) → (is_first : Bool) → ClockState → Type 0
 IsNextFrom start t is_first S.Unasked = ⊤
 IsNextFrom start t true (S.Periodic interval shift ticks) =
-    (t ≤ start + shift + ticks * interval) × ((k : ℕ) → k < ticks → start + shift + k * interval < t)
+    (t ≤ start + shift + ticks * interval) ×
+    ((k : ℕ) → k < ticks → start + shift + k * interval < t)
 IsNextFrom start t false (S.Periodic interval shift ticks) =
-    (t < start + shift + ticks * interval) × ((k : ℕ) → k < ticks → start + shift + k * interval ≤ t)
+    (t < start + shift + ticks * interval) ×
+    ((k : ℕ) → k < ticks → start + shift + k * interval ≤ t)
 IsNextFrom start t is_first (S.Countdown armed) = IfSome armed (λ point. t ≤ point)
 
 -- the schedule stands before an instant at the point, the first there or a later one
 pub record StandsAt (system : System) (t : ℕ) (is_first : Bool) (table : Timetable) : Type 0 where
   pub len : length table.clocks ≡ length system.ports
-  pub places : (p : ℕ) (port : Port) (place : ClockState) → slice_get system.ports p ≡ Some port → slice_get table.clocks p ≡ Some place → IsPlaceOf port.role place
+  pub places : (p : ℕ) (port : Port) (place : ClockState) → slice_get system.ports p ≡ Some port →
+      slice_get table.clocks p ≡ Some place → IsPlaceOf port.role place
   pub next : All (IsNextFrom table.start t is_first) table.clocks
   pub within : t ≤ table.stop
 
@@ -99,5 +109,7 @@ is_due_at table t p = option_map_or (is_due_in table.start t) (slice_get table.c
 
 -- these are the ticks of the n-th instant at a point: of the time-based Clocks exactly those whose timers are due there
 abbrev pub AreTicks : System → (start : ℕ) → List Timer → (t n : ℕ) → (ℕ → Bool) → Type 0
-AreTicks system start timers t n ticks = (p : ℕ) (port : Port) (timing : Timing) → slice_get system.ports p ≡ Some port → port.role ≡ TimeClock timing →
+AreTicks system start timers t n ticks =
+    (p : ℕ) (port : Port) (timing : Timing) → slice_get system.ports p ≡ Some port →
+    port.role ≡ TimeClock timing →
     (ticks p ≡ true) ↔ IsDue start (timer_of timers p) t n

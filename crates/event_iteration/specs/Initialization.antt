@@ -29,15 +29,18 @@ is_set_from_feed ports port feed = is_unclocked port && is_unclocked_at ports fe
 abbrev pub asks_initially : Role → List Port → Bool → Port → List (Option ℤ) → Option Call
 asks_initially (Input None) ports read port values = None
 asks_initially (Input (Some feed)) ports read port values =
-    if is_set_from_feed ports port feed then option_map (λ x. C.Set port.kind port.reference x) (fed feed values) else None
-asks_initially Output ports read port values = if read then Some (C.Get port.kind port.reference) else None
+    if is_set_from_feed ports port feed
+    then option_map (λ x. C.Set port.kind port.reference x) (fed feed values) else None
+asks_initially Output ports read port values =
+    if read then Some (C.Get port.kind port.reference) else None
 asks_initially (ClockInput feed) ports read port values = None
 asks_initially ClockOutput ports read port values = None
 asks_initially (TimeClock timing) ports read port values = None
 
 abbrev pub takes_initially : Role → List Port → Port → List (Option ℤ) → Option Reply → Option ℤ
 takes_initially (Input None) ports port values reply = None
-takes_initially (Input (Some feed)) ports port values reply = if is_set_from_feed ports port feed then fed feed values else None
+takes_initially (Input (Some feed)) ports port values reply =
+    if is_set_from_feed ports port feed then fed feed values else None
 takes_initially Output ports port values reply = seen port reply
 takes_initially (ClockInput feed) ports port values reply = None
 takes_initially ClockOutput ports port values reply = None
@@ -45,14 +48,16 @@ takes_initially (TimeClock timing) ports port values reply = None
 
 abbrev pub initially : System → Rules
 initially system = record {
-  asks = λ p port c values. asks_initially port.role system.ports (is_read system.ports p) port values;
+  asks =
+      λ p port c values. asks_initially port.role system.ports (is_read system.ports p) port values;
   takes = λ p port values last reply. takes_initially port.role system.ports port values reply;
 }
 
 -- for each port, whether it is an output that Initialization Mode reads
 pub record AreReads (system : System) (reads : List Bool) : Type 0 where
   pub places : length reads ≡ length system.ports
-  pub each : (p : ℕ) (d : Bool) → p < length reads → slice_index_or reads p d ≡ is_read system.ports p
+  pub each : (p : ℕ) (d : Bool) → p < length reads →
+      slice_index_or reads p d ≡ is_read system.ports p
 
 -- the source of a port is among n ports
 abbrev pub IsPlaced : ℕ → Port → Type 0
@@ -69,7 +74,8 @@ no_values system = map (λ (port : Port). None) system.ports
 -- the output that Initialization Mode reads for a port
 abbrev pub read_by : List Port → Role → Port → Option ℕ
 read_by ports (Input None) port = None
-read_by ports (Input (Some feed)) port = if is_set_from_feed ports port feed then Some feed.from.0 else None
+read_by ports (Input (Some feed)) port =
+    if is_set_from_feed ports port feed then Some feed.from.0 else None
 read_by ports Output port = None
 read_by ports (ClockInput feed) port = None
 read_by ports ClockOutput port = None

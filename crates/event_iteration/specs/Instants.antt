@@ -25,20 +25,25 @@ use Rattle.event_iteration.specs.Turns.{Rules}
 
 -- an output is read where it is present, and without event mode in the first instant at a point
 abbrev pub is_read_in_instant : Port → Bool → Bool → List (Option ℤ) → Bool
-is_read_in_instant port has_event_mode is_first values = if has_event_mode then is_present port values else is_first
+is_read_in_instant port has_event_mode is_first values =
+    if has_event_mode then is_present port values else is_first
 
 -- a connected input that is present is set to its source's value, where that has one, and an output is read; an input Clock is set where its source is active or it ticks, and an output Clock is asked
 abbrev pub asks_in_instant : Role → Port → Bool → Bool → Bool → List (Option ℤ) → Option Call
 asks_in_instant (Input None) port has_event_mode is_first ticks values = None
 asks_in_instant (Input (Some feed)) port has_event_mode is_first ticks values =
-    if has_event_mode && is_present port values then option_map (λ x. C.Set port.kind port.reference x) (fed feed values) else None
+    if has_event_mode && is_present port values
+    then option_map (λ x. C.Set port.kind port.reference x) (fed feed values) else None
 asks_in_instant Output port has_event_mode is_first ticks values =
-    if is_read_in_instant port has_event_mode is_first values then Some (C.Get port.kind port.reference) else None
+    if is_read_in_instant port has_event_mode is_first values
+    then Some (C.Get port.kind port.reference) else None
 asks_in_instant (ClockInput None) port has_event_mode is_first ticks values = None
 asks_in_instant (ClockInput (Some feed)) port has_event_mode is_first ticks values =
     if is_active (fed feed values) then Some (C.SetClock port.reference) else None
-asks_in_instant ClockOutput port has_event_mode is_first ticks values = Some (C.GetClock port.reference)
-asks_in_instant (TimeClock timing) port has_event_mode is_first ticks values = if ticks then Some (C.SetClock port.reference) else None
+asks_in_instant ClockOutput port has_event_mode is_first ticks values =
+    Some (C.GetClock port.reference)
+asks_in_instant (TimeClock timing) port has_event_mode is_first ticks values =
+    if ticks then Some (C.SetClock port.reference) else None
 
 -- the value that a reply carries, or the last where there is no reply
 abbrev pub seen_or : Port → Option ℤ → Option Reply → Option ℤ
@@ -49,9 +54,11 @@ seen_or port last (Some reply) = value_in port.kind reply
 abbrev pub tick_value : Bool → ℤ
 tick_value ticks = if ticks then pos 1 else pos 0
 
-abbrev pub takes_in_instant : Role → Port → Bool → List (Option ℤ) → Option ℤ → Option Reply → Option ℤ
+abbrev pub takes_in_instant : Role → Port → Bool → List (Option ℤ) → Option ℤ →
+    Option Reply → Option ℤ
 takes_in_instant (Input None) port ticks values last reply = None
-takes_in_instant (Input (Some feed)) port ticks values last reply = if is_present port values then fed feed values else last
+takes_in_instant (Input (Some feed)) port ticks values last reply =
+    if is_present port values then fed feed values else last
 takes_in_instant Output port ticks values last reply = seen_or port last reply
 takes_in_instant (ClockInput None) port ticks values last reply = Some (pos 0)
 takes_in_instant (ClockInput (Some feed)) port ticks values last reply = fed feed values
@@ -61,7 +68,9 @@ takes_in_instant (TimeClock timing) port ticks values last reply = Some (tick_va
 -- of an instant with these ticks, the first at a point or a later one
 abbrev pub in_instant : (ℕ → Bool) → Bool → Rules
 in_instant ticks is_first = record {
-  asks = λ p port c values. asks_in_instant port.role port c.shape.has_event_mode is_first (ticks p) values;
+  asks =
+      λ p port c values. asks_in_instant port.role port c.shape.has_event_mode
+      is_first (ticks p) values;
   takes = λ p port values last reply. takes_in_instant port.role port (ticks p) values last reply;
 }
 
@@ -76,9 +85,13 @@ pub record BeginsInstant (v : View) : Type 0 where
   pub room : length v.phase.active ≡ length v.fixed.shape.variables
 
 -- where the instances are machines in the states before an instant at the point, whose timers are those of the schedule, the values solve its equations, and they have those written
-abbrev pub SolvesInInstant : System → Timetable → ℕ → Bool → List (Option ℤ) → List (Option ℤ) → List Instance → List Instance → Type 0
-SolvesInInstant system table t is_first before values olds news = (r : Run) (s : Situation) → r.system ≡ system → r.plan.start ≡ table.start → AreMachines r → IsSituation r s →
-    s.t ≡ t → (s.n == 0) ≡ is_first → s.timers ≡ timers_in table → s.before ≡ before → AreAt r s.states olds →
+abbrev pub SolvesInInstant : System → Timetable → ℕ → Bool → List (Option ℤ) → List (Option ℤ) →
+    List Instance → List Instance → Type 0
+SolvesInInstant system table t is_first before values olds news =
+    (r : Run) (s : Situation) → r.system ≡ system → r.plan.start ≡ table.start →
+    AreMachines r → IsSituation r s →
+    s.t ≡ t → (s.n == 0) ≡ is_first → s.timers ≡ timers_in table → s.before ≡ before →
+    AreAt r s.states olds →
     Solves r s values × AreAt r (written r s values) news
 
 -- the Clocks of a port are among n ports

@@ -43,7 +43,8 @@ shift_by reply = option_map_or shift_in reply (record { counter = 0; resolution 
 -- interval and shift of a fixed Clock whose FMU is asked for them
 abbrev pub timing_calls_of : Role → Port → List Asking
 timing_calls_of (TimeClock Answered) port =
-    record { component = port.component.0; call = C.GetInterval port.reference } ∷ record { component = port.component.0; call = C.GetShift port.reference } ∷ []
+    record { component = port.component.0; call = C.GetInterval port.reference } ∷
+    record { component = port.component.0; call = C.GetShift port.reference } ∷ []
 timing_calls_of (TimeClock (Periodic interval shift)) port = []
 timing_calls_of (TimeClock Countdown) port = []
 timing_calls_of (Input feed) port = []
@@ -61,7 +62,8 @@ timing_calls system = timing_calls_in system.ports
 
 -- the timer that two answers tell, which stand first in the log
 abbrev pub told_timer : ℕ → List Sent → Timer
-told_timer per_second (interval ∷ shift ∷ log) = fixed per_second (interval_by (reply_in interval.exchange)) (shift_by (reply_in shift.exchange))
+told_timer per_second (interval ∷ shift ∷ log) =
+    fixed per_second (interval_by (reply_in interval.exchange)) (shift_by (reply_in shift.exchange))
 told_timer per_second (interval ∷ []) = Never
 told_timer per_second [] = Never
 
@@ -93,7 +95,9 @@ log_behind ClockOutput log = log
 
 abbrev pub first_told_in : ℕ → List Port → List Sent → List Timer
 first_told_in per_second [] log = []
-first_told_in per_second (port ∷ ports) log = first_told_by port.role per_second log ∷ first_told_in per_second ports (log_behind port.role log)
+first_told_in per_second (port ∷ ports) log =
+    first_told_by port.role per_second log ∷
+    first_told_in per_second ports (log_behind port.role log)
 
 -- the timers of all ports by the answers of the fixed Clocks
 abbrev pub first_told : ℕ → System → List Sent → List Timer
@@ -101,18 +105,25 @@ first_told per_second system log = first_told_in per_second system.ports log
 
 -- by this log each fixed Clock was asked, which tells these timers; or a bad answer stopped it
 abbrev pub FixesBy : System → ℕ → List Timer → List Sent → Result (Unit {0}) BadAnswer → Type 0
-FixesBy system per_second timers log (Ok x) = IsAnswered (shapes_of system) (timing_calls system) log × (timers ≡ first_told per_second system log)
-FixesBy system per_second timers log (Err bad) = StopsAt (shapes_of system) (timing_calls system) bad log
+FixesBy system per_second timers log (Ok x) =
+    IsAnswered (shapes_of system) (timing_calls system) log ×
+    (timers ≡ first_told per_second system log)
+FixesBy system per_second timers log (Err bad) =
+    StopsAt (shapes_of system) (timing_calls system) bad log
 
-pub record Fixes (system : System) (per_second : ℕ) (timers : List Timer) (olds news : List Instance) (result : Result (Unit {0}) BadAnswer) : Type 0 where
+pub record Fixes (system : System) (per_second : ℕ) (timers : List Timer)
+    (olds news : List Instance) (result : Result (Unit {0}) BadAnswer) : Type 0 where
   pub log : List Sent
   pub told : Told log olds news
   pub says : FixesBy system per_second timers log result
 
 -- where the instances are machines with the values of Initialization Mode, they stay, and these are the timers of the run
 abbrev pub FixesForMachines : System → ℕ → List Timer → List Instance → List Instance → Type 0
-FixesForMachines system per_second timers olds news = (r : Run) (values : List (Option ℤ)) → r.system ≡ system → r.plan.resolution ≡ per_second → AreMachines r →
-    AreAt r (initialized r values) olds → AreAt r (initialized r values) news × (timers ≡ first_timers r (initialized r values))
+FixesForMachines system per_second timers olds news =
+    (r : Run) (values : List (Option ℤ)) → r.system ≡ system →
+    r.plan.resolution ≡ per_second → AreMachines r →
+    AreAt r (initialized r values) olds → AreAt r (initialized r values) news ×
+    (timers ≡ first_timers r (initialized r values))
 
 -- ---- countdown Clocks, behind an instant
 
@@ -134,7 +145,8 @@ intervals = record {
 
 -- the timer of a port behind an instant: its tick takes the arming of a countdown Clock away, and then what its FMU answers arms it, leaves it or takes it away
 abbrev pub timer_behind : Role → (per_second t : ℕ) → Option ℤ → Option Reply → Timer → Timer
-timer_behind (TimeClock Countdown) per_second t v reply old = answered per_second t (interval_by reply) (if is_active v then Never else old)
+timer_behind (TimeClock Countdown) per_second t v reply old =
+    answered per_second t (interval_by reply) (if is_active v then Never else old)
 timer_behind (TimeClock (Periodic interval shift)) per_second t v reply old = old
 timer_behind (TimeClock Answered) per_second t v reply old = old
 timer_behind (Input feed) per_second t v reply old = old
@@ -142,17 +154,22 @@ timer_behind Output per_second t v reply old = old
 timer_behind (ClockInput feed) per_second t v reply old = old
 timer_behind ClockOutput per_second t v reply old = old
 
-abbrev pub timers_behind_from : (per_second t : ℕ) → List (Option ℤ) → (ℕ → Option Reply) → ℕ → List Port → List Timer → List Timer
+abbrev pub timers_behind_from : (per_second t : ℕ) → List (Option ℤ) → (ℕ → Option Reply) → ℕ →
+    List Port → List Timer → List Timer
 timers_behind_from per_second t values replies p (port ∷ ports) (old ∷ olds) =
-    timer_behind port.role per_second t (value values p) (replies p) old ∷ timers_behind_from per_second t values replies (suc p) ports olds
+    timer_behind port.role per_second t (value values p) (replies p) old ∷
+    timers_behind_from per_second t values replies (suc p) ports olds
 timers_behind_from per_second t values replies p [] olds = []
 timers_behind_from per_second t values replies p (port ∷ ports) [] = []
 
-abbrev pub timers_behind : (per_second t : ℕ) → System → List (Option ℤ) → (ℕ → Option Reply) → List Timer → List Timer
-timers_behind per_second t system values replies olds = timers_behind_from per_second t values replies 0 system.ports olds
+abbrev pub timers_behind : (per_second t : ℕ) → System → List (Option ℤ) → (ℕ → Option Reply) →
+    List Timer → List Timer
+timers_behind per_second t system values replies olds =
+    timers_behind_from per_second t values replies 0 system.ports olds
 
 -- by this log the countdown Clocks were asked behind an instant at the point, with its values, and the timers went from these to those
-pub record Rearms (system : System) (per_second t : ℕ) (values : List (Option ℤ)) (olds news : List Timer) (log : List Sent) : Type 0 where
+pub record Rearms (system : System) (per_second t : ℕ) (values : List (Option ℤ))
+    (olds news : List Timer) (log : List Sent) : Type 0 where
   pub explains : Explains system intervals values (port_order system) values log
   pub timers_are : news ≡ timers_behind per_second t system values explains.replies olds
 
@@ -161,11 +178,16 @@ abbrev pub is_some_armed : ℕ → List Timer → Bool
 is_some_armed t timers = list_any (is_armed_for t) timers
 
 -- it is told whether a Clock is armed for the point; or a bad answer stopped it
-abbrev pub RearmsBy : System → (per_second t : ℕ) → List (Option ℤ) → (before after : List Timer) → List Sent → Result Bool BadAnswer → Type 0
-RearmsBy system per_second t values before after log (Ok armed) = Rearms system per_second t values before after log × (armed ≡ is_some_armed t after)
-RearmsBy system per_second t values before after log (Err bad) = ExplainsUntil system intervals values (port_order system) bad values log
+abbrev pub RearmsBy : System → (per_second t : ℕ) → List (Option ℤ) → (before after : List Timer) →
+    List Sent → Result Bool BadAnswer → Type 0
+RearmsBy system per_second t values before after log (Ok armed) =
+    Rearms system per_second t values before after log × (armed ≡ is_some_armed t after)
+RearmsBy system per_second t values before after log (Err bad) =
+    ExplainsUntil system intervals values (port_order system) bad values log
 
-pub record AsksIntervals (system : System) (per_second t : ℕ) (values : List (Option ℤ)) (before after : List Timer) (olds news : List Instance) (result : Result Bool BadAnswer) : Type 0 where
+pub record AsksIntervals (system : System) (per_second t : ℕ) (values : List (Option ℤ))
+    (before after : List Timer) (olds news : List Instance)
+    (result : Result Bool BadAnswer) : Type 0 where
   pub log : List Sent
   pub told : Told log olds news
   pub says : RearmsBy system per_second t values before after log result
@@ -179,9 +201,15 @@ is_time_clock ClockOutput = false
 
 -- of the time-based Clocks those that are due at the point have ticked in the values
 abbrev pub TellsTicks : System → Timetable → ℕ → List (Option ℤ) → Type 0
-TellsTicks system table t values = (p : ℕ) (port : Port) → slice_get system.ports p ≡ Some port → is_time_clock port.role ≡ true → is_active (value values p) ≡ is_due_at table t p
+TellsTicks system table t values =
+    (p : ℕ) (port : Port) → slice_get system.ports p ≡ Some port → is_time_clock port.role ≡ true →
+    is_active (value values p) ≡ is_due_at table t p
 
 -- where the instances are machines in the states of an instant with its values written, they stay, and the timers go on as in the run
-abbrev pub RearmsForMachines : System → (per_second t : ℕ) → List (Option ℤ) → (before after : List Timer) → List Instance → List Instance → Type 0
-RearmsForMachines system per_second t values before after olds news = (r : Run) (s : Situation) → r.system ≡ system → r.plan.resolution ≡ per_second → AreMachines r → IsSituation r s → s.t ≡ t → s.timers ≡ before →
-    AreAt r (written r s values) olds → AreAt r (written r s values) news × (after ≡ next_timers r s values)
+abbrev pub RearmsForMachines : System → (per_second t : ℕ) → List (Option ℤ) →
+    (before after : List Timer) → List Instance → List Instance → Type 0
+RearmsForMachines system per_second t values before after olds news =
+    (r : Run) (s : Situation) → r.system ≡ system → r.plan.resolution ≡ per_second → AreMachines r →
+    IsSituation r s → s.t ≡ t → s.timers ≡ before →
+    AreAt r (written r s values) olds → AreAt r (written r s values) news ×
+    (after ≡ next_timers r s values)

@@ -47,7 +47,9 @@ may_tell _ state shape = false
 
 -- the i-th instance may be asked so
 abbrev pub MayTell : Call → ℕ → List Instance → Type 0
-MayTell call i is = (state : InstanceState) (shape : Shape) → slice_get (modes is) i ≡ Some state → slice_get (shapes is) i ≡ Some shape → may_tell call state shape ≡ true
+MayTell call i is =
+    (state : InstanceState) (shape : Shape) → slice_get (modes is) i ≡ Some state →
+    slice_get (shapes is) i ≡ Some shape → may_tell call state shape ≡ true
 
 -- the reply that stands first in a log
 abbrev pub first_reply : List Sent → Option Reply
@@ -86,18 +88,23 @@ pub record IsEntered (p : ℕ) (timer : Timer) (before after : Timetable) : Type
   pub timer_is : timer ≡ Every interval shift
 
 -- the Clock of a port stands where this log tells
-pub record IsFixed (role : Role) (per_second p : ℕ) (log : List Sent) (before after : Timetable) : Type 0 where
+pub record IsFixed (role : Role) (per_second p : ℕ) (log : List Sent)
+    (before after : Timetable) : Type 0 where
   pub place : ClockState
   pub is : after ≡ with_clock before p place
   pub timer : timer_in place ≡ first_told_by role per_second log
   pub first : IsFirstPlace before.start role place
 
-abbrev pub FixSays : Role → Port → (per_second p : ℕ) → List Shape → List Sent → Timetable → Timetable → Result (Unit {0}) BadAnswer → Type 0
-FixSays role port per_second p ss log before after (Ok x) = IsAnswered ss (timing_calls_of role port) log × IsFixed role per_second p log before after
-FixSays role port per_second p ss log before after (Err bad) = StopsAt ss (timing_calls_of role port) bad log
+abbrev pub FixSays : Role → Port → (per_second p : ℕ) → List Shape → List Sent → Timetable →
+    Timetable → Result (Unit {0}) BadAnswer → Type 0
+FixSays role port per_second p ss log before after (Ok x) =
+    IsAnswered ss (timing_calls_of role port) log × IsFixed role per_second p log before after
+FixSays role port per_second p ss log before after (Err bad) =
+    StopsAt ss (timing_calls_of role port) bad log
 
 -- a port's FMU was asked for interval and shift where it is a fixed Clock, or a bad answer stopped it
-pub record FixesPort (port : Port) (per_second p : ℕ) (before after : Timetable) (olds news : List Instance) (result : Result (Unit {0}) BadAnswer) : Type 0 where
+pub record FixesPort (port : Port) (per_second p : ℕ) (before after : Timetable)
+    (olds news : List Instance) (result : Result (Unit {0}) BadAnswer) : Type 0 where
   pub log : List Sent
   pub told : Told log olds news
   pub says : FixSays port.role port per_second p (shapes olds) log before after result
@@ -105,14 +112,19 @@ pub record FixesPort (port : Port) (per_second p : ℕ) (before after : Timetabl
 -- the Clocks of the first ports stand where their FMUs have answered, and the others as at first
 pub record IsFixedUpTo (system : System) (k : ℕ) (table : Timetable) : Type 0 where
   pub len : length table.clocks ≡ length system.ports
-  pub behind : (q : ℕ) (port : Port) (place : ClockState) → q < k → slice_get system.ports q ≡ Some port → slice_get table.clocks q ≡ Some place → IsFirstPlace table.start port.role place
-  pub ahead : (q : ℕ) (port : Port) → k ≤ q → slice_get system.ports q ≡ Some port → slice_get table.clocks q ≡ Some (first_place port.role)
+  pub behind : (q : ℕ) (port : Port) (place : ClockState) → q < k →
+      slice_get system.ports q ≡ Some port → slice_get table.clocks q ≡ Some place →
+      IsFirstPlace table.start port.role place
+  pub ahead : (q : ℕ) (port : Port) → k ≤ q → slice_get system.ports q ≡ Some port →
+      slice_get table.clocks q ≡ Some (first_place port.role)
 
 -- ---- countdown Clocks
 
 -- each component with event mode is in Event Mode
 abbrev pub AreRunning : System → List InstanceState → Type 0
-AreRunning system states = (i : ℕ) (c : Component) (state : InstanceState) → slice_get system.components i ≡ Some c → slice_get states i ≡ Some state → state ≡ running_state c.shape
+AreRunning system states =
+    (i : ℕ) (c : Component) (state : InstanceState) → slice_get system.components i ≡ Some c →
+    slice_get states i ≡ Some state → state ≡ running_state c.shape
 
 abbrev pub counts_down : Role → Bool
 counts_down (TimeClock Countdown) = true
@@ -125,10 +137,14 @@ counts_down ClockOutput = false
 
 -- a port was asked for its interval where it is a countdown Clock
 abbrev pub AskSays : System → ℕ → List Sent → Result (Option Reply) BadAnswer → Type 0
-AskSays system p log (Ok reply) = (values : List (Option ℤ)) → Turn system intervals p reply values values log
-AskSays system p log (Err bad) = (last : Sent) × (log ≡ last ∷ []) × ((values : List (Option ℤ)) → Stops system intervals p bad values last)
+AskSays system p log (Ok reply) =
+    (values : List (Option ℤ)) → Turn system intervals p reply values values log
+AskSays system p log (Err bad) =
+    (last : Sent) × (log ≡ last ∷ []) ×
+    ((values : List (Option ℤ)) → Stops system intervals p bad values last)
 
-pub record AsksPort (system : System) (p : ℕ) (olds news : List Instance) (result : Result (Option Reply) BadAnswer) : Type 0 where
+pub record AsksPort (system : System) (p : ℕ) (olds news : List Instance)
+    (result : Result (Option Reply) BadAnswer) : Type 0 where
   pub log : List Sent
   pub told : Told log olds news
   pub says : AskSays system p log result
@@ -137,7 +153,8 @@ pub record AsksPort (system : System) (p : ℕ) (olds news : List Instance) (res
 abbrev pub rearmed : (per_second t : ℕ) → Interval → ClockState → ClockState
 rearmed per_second t NotYetKnown place = S.Countdown None
 rearmed per_second t (Unchanged f) place = place
-rearmed per_second t (Changed f) place = S.Countdown (option_map (λ counts. t + counts) (counts_of f per_second))
+rearmed per_second t (Changed f) place =
+    S.Countdown (option_map (λ counts. t + counts) (counts_of f per_second))
 
 -- where a Clock stands that ticked or not
 abbrev pub ticked_if : Bool → ClockState → ClockState
@@ -145,8 +162,10 @@ ticked_if ticks place = if ticks then after_tick place else place
 
 -- where a port stands behind an instant at the point, in which it has this value
 abbrev pub place_behind : Role → (per_second t : ℕ) → Option ℤ → Interval → ClockState → ClockState
-place_behind (TimeClock Countdown) per_second t v told place = rearmed per_second t told (ticked_if (is_active v) place)
-place_behind (TimeClock (Periodic interval shift)) per_second t v told place = ticked_if (is_active v) place
+place_behind (TimeClock Countdown) per_second t v told place =
+    rearmed per_second t told (ticked_if (is_active v) place)
+place_behind (TimeClock (Periodic interval shift)) per_second t v told place =
+    ticked_if (is_active v) place
 place_behind (TimeClock Answered) per_second t v told place = ticked_if (is_active v) place
 place_behind (Input feed) per_second t v told place = place
 place_behind Output per_second t v told place = place
@@ -162,24 +181,33 @@ pub record GoesFrom (table : Timetable) (role : Role) (t p : ℕ) (v : Option �
   pub within : t ≤ table.stop
 
 -- it has gone on
-abbrev pub IsBehind : Role → (per_second t p : ℕ) → Option ℤ → Interval → Timetable → Timetable → Type 0
-IsBehind role per_second t p v told before after = (place : ClockState) → slice_get before.clocks p ≡ Some place → after ≡ with_clock before p (place_behind role per_second t v told place)
+abbrev pub IsBehind : Role → (per_second t p : ℕ) → Option ℤ → Interval →
+    Timetable → Timetable → Type 0
+IsBehind role per_second t p v told before after =
+    (place : ClockState) → slice_get before.clocks p ≡ Some place →
+    after ≡ with_clock before p (place_behind role per_second t v told place)
 
 -- it is told whether the Clock at the place is armed for the point
 abbrev pub IsArmed : (t p : ℕ) → Timetable → Bool → Type 0
-IsArmed t p table armed = (place : ClockState) → slice_get table.clocks p ≡ Some place → armed ≡ is_armed_for t (timer_in place)
+IsArmed t p table armed =
+    (place : ClockState) → slice_get table.clocks p ≡ Some place →
+    armed ≡ is_armed_for t (timer_in place)
 
 -- a new interval of no count
 abbrev pub arms_now : ℕ → Interval → Bool
 arms_now per_second NotYetKnown = false
 arms_now per_second (Unchanged f) = false
-arms_now per_second (Changed f) = option_map_or (λ counts. counts == 0) (counts_of f per_second) false
+arms_now per_second (Changed f) =
+    option_map_or (λ counts. counts == 0) (counts_of f per_second) false
 
 -- the first ports stand behind the instant, and the others as before
-pub record IsBehindUpTo (system : System) (per_second t : ℕ) (values : List (Option ℤ)) (replies : ℕ → Option Reply) (k : ℕ) (before after : Timetable) : Type 0 where
+pub record IsBehindUpTo (system : System) (per_second t : ℕ) (values : List (Option ℤ))
+    (replies : ℕ → Option Reply) (k : ℕ) (before after : Timetable) : Type 0 where
   pub start : after.start ≡ before.start
   pub stop : after.stop ≡ before.stop
   pub len : length after.clocks ≡ length before.clocks
-  pub behind : (q : ℕ) (port : Port) (place : ClockState) → q < k → slice_get system.ports q ≡ Some port → slice_get before.clocks q ≡ Some place →
-      slice_get after.clocks q ≡ Some (place_behind port.role per_second t (value values q) (interval_by (replies q)) place)
+  pub behind : (q : ℕ) (port : Port) (place : ClockState) → q < k →
+      slice_get system.ports q ≡ Some port → slice_get before.clocks q ≡ Some place →
+      slice_get after.clocks q ≡ Some
+      (place_behind port.role per_second t (value values q) (interval_by (replies q)) place)
   pub ahead : (q : ℕ) → k ≤ q → slice_get after.clocks q ≡ slice_get before.clocks q

@@ -30,7 +30,9 @@ sets_to (TimeClock timing) port v = None
 -- by the values of an instant; they stay
 abbrev pub before_step : List (Option ℤ) → Rules
 before_step now = record {
-  asks = λ p port c values. if c.shape.has_event_mode then None else sets_to port.role port (value now p);
+  asks =
+      λ p port c values. if c.shape.has_event_mode then None
+      else sets_to port.role port (value now p);
   takes = λ p port values last reply. last;
 }
 
@@ -45,8 +47,12 @@ port_order system = range_with_len 0 (length system.ports)
 
 -- those with event mode were sent EnterStep
 abbrev pub entered_step : Run → Situation → List MachineState
-entered_step r s = each r s.states (λ i c m state. if c.shape.has_event_mode then after m state C.EnterStep else state)
+entered_step r s =
+    each r s.states (λ i c m state. if c.shape.has_event_mode
+    then after m state C.EnterStep else state)
 
 -- where the instances are machines in the states of a situation behind these values, those with event mode behind EnterStep, they come to those of its step's beginning
 abbrev pub DepartsForMachines : System → List (Option ℤ) → List Instance → List Instance → Type 0
-DepartsForMachines system values olds news = (r : Run) (s : Situation) → r.system ≡ system → s.before ≡ values → AreAt r (entered_step r s) olds → AreAt r (departing r s) news
+DepartsForMachines system values olds news =
+    (r : Run) (s : Situation) → r.system ≡ system → s.before ≡ values →
+    AreAt r (entered_step r s) olds → AreAt r (departing r s) news

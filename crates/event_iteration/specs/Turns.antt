@@ -38,10 +38,12 @@ IsPaired shape (Some call) (Some reply) = grade_of shape call reply ≡ G.Good
 abbrev pub sent_of : ℕ → Option Call → Option Reply → List Sent
 sent_of i None reply = []
 sent_of i (Some call) None = []
-sent_of i (Some call) (Some reply) = record { component = i; exchange = record { call = call; result = Ok reply } } ∷ []
+sent_of i (Some call) (Some reply) =
+    record { component = i; exchange = record { call = call; result = Ok reply } } ∷ []
 
 -- a port's turn: its call was answered well, and it has its value
-pub record Turn (system : System) (rules : Rules) (p : ℕ) (reply : Option Reply) (values next : List (Option ℤ)) (sent : List Sent) : Type 0 where
+pub record Turn (system : System) (rules : Rules) (p : ℕ) (reply : Option Reply)
+    (values next : List (Option ℤ)) (sent : List Sent) : Type 0 where
   pub port : Port
   pub is : slice_get system.ports p ≡ Some port
   pub component : Component
@@ -51,7 +53,8 @@ pub record Turn (system : System) (rules : Rules) (p : ℕ) (reply : Option Repl
   pub next_is : next ≡ slice_set values p (rules.takes p port values (value values p) reply)
 
 -- a port's turn whose call got an answer that isn't good
-pub record Stops (system : System) (rules : Rules) (p : ℕ) (bad : BadAnswer) (values : List (Option ℤ)) (last : Sent) : Type 0 where
+pub record Stops (system : System) (rules : Rules) (p : ℕ) (bad : BadAnswer)
+    (values : List (Option ℤ)) (last : Sent) : Type 0 where
   pub port : Port
   pub is : slice_get system.ports p ≡ Some port
   pub component : Component
@@ -62,11 +65,15 @@ pub record Stops (system : System) (rules : Rules) (p : ℕ) (bad : BadAnswer) (
   pub why : IsWhy component.shape bad.why last.exchange
 
 -- a port's turn with its log, and the values behind it
-abbrev pub TurnSays : System → Rules → ℕ → List (Option ℤ) → List (Option ℤ) → List Sent → Result (Unit {0}) BadAnswer → Type 0
-TurnSays system rules p values next log (Ok x) = (reply : Option Reply) × Turn system rules p reply values next log
-TurnSays system rules p values next log (Err bad) = (last : Sent) × (log ≡ last ∷ []) × (next ≡ values) × Stops system rules p bad values last
+abbrev pub TurnSays : System → Rules → ℕ → List (Option ℤ) → List (Option ℤ) → List Sent →
+    Result (Unit {0}) BadAnswer → Type 0
+TurnSays system rules p values next log (Ok x) =
+    (reply : Option Reply) × Turn system rules p reply values next log
+TurnSays system rules p values next log (Err bad) =
+    (last : Sent) × (log ≡ last ∷ []) × (next ≡ values) × Stops system rules p bad values last
 
-pub record TakesTurn (system : System) (rules : Rules) (p : ℕ) (values next : List (Option ℤ)) (olds news : List Instance) (result : Result (Unit {0}) BadAnswer) : Type 0 where
+pub record TakesTurn (system : System) (rules : Rules) (p : ℕ) (values next : List (Option ℤ))
+    (olds news : List Instance) (result : Result (Unit {0}) BadAnswer) : Type 0 where
   pub log : List Sent
   pub told : Told log olds news
   pub says : TurnSays system rules p values next log result
@@ -78,7 +85,9 @@ MayAsk (Some call) v = Permitted v.fixed.shape v.phase call × IsTrue (reads_or_
 
 -- the call of a port's turn may be sent
 abbrev pub MayTurn : System → Rules → ℕ → List (Option ℤ) → List Instance → Type 0
-MayTurn system rules p values is = (port : Port) (c : Component) (x : Instance) → slice_get system.ports p ≡ Some port → slice_get system.components port.component.0 ≡ Some c → slice_get is port.component.0 ≡ Some x →
+MayTurn system rules p values is =
+    (port : Port) (c : Component) (x : Instance) → slice_get system.ports p ≡ Some port →
+    slice_get system.components port.component.0 ≡ Some c → slice_get is port.component.0 ≡ Some x →
     MayAsk (rules.asks p port c values) x.view
 
 -- an instance was asked this call alone, if there is one
@@ -90,7 +99,11 @@ AsksIf (Some call) old new result = One call reply_in old new result
 -- ---- the walk
 
 -- the ports were taken, one after the other, and these are the values and the log behind the last
-pub data Walked (system : System) (rules : Rules) (before : List (Option ℤ)) : List ℕ → List (Option ℤ) → List Sent → Type 0 where
-  Begun : (taken : List ℕ) (values : List (Option ℤ)) (log : List Sent) → taken ≡ [] → values ≡ before → log ≡ [] → Walked system rules before taken values log
-  Went : (taken pre : List ℕ) (p : ℕ) (reply : Option Reply) (values next : List (Option ℤ)) (log front sent : List Sent) → taken ≡ pre ++ p ∷ [] → log ≡ front ++ sent →
-      Walked system rules before pre values front → Turn system rules p reply values next sent → Walked system rules before taken next log
+pub data Walked (system : System) (rules : Rules) (before : List (Option ℤ)) : List ℕ →
+    List (Option ℤ) → List Sent → Type 0 where
+  Begun : (taken : List ℕ) (values : List (Option ℤ)) (log : List Sent) → taken ≡ [] →
+      values ≡ before → log ≡ [] → Walked system rules before taken values log
+  Went : (taken pre : List ℕ) (p : ℕ) (reply : Option Reply) (values next : List (Option ℤ))
+      (log front sent : List Sent) → taken ≡ pre ++ p ∷ [] → log ≡ front ++ sent →
+      Walked system rules before pre values front → Turn system rules p reply values next sent →
+      Walked system rules before taken next log

@@ -33,7 +33,11 @@ abbrev pub updated_by : List Sent → Updated
 updated_by log = record { again = any_answer asks_again log; asked = any_answer asks_for_end log }
 
 -- where the instances are machines in the states of an instant with its values written, they come to those behind it, and what is told is what their answers say
-abbrev pub LeadsForMachines : System → List Instance → List Instance → Result Updated BadAnswer → Type 0
+abbrev pub LeadsForMachines : System → List Instance → List Instance →
+    Result Updated BadAnswer → Type 0
 LeadsForMachines system olds news (Err bad) = Unit {0}
-LeadsForMachines system olds news (Ok u) = (r : Run) (s : Situation) (values : List (Option ℤ)) → r.system ≡ system → AreMachines r → IsSituation r s → AreAt r (written r s values) olds →
-    AreAt r (updated r s values).states news × (u.again ≡ any_update asks_again r s values) × (u.asked ≡ any_update asks_for_end r s values)
+LeadsForMachines system olds news (Ok u) =
+    (r : Run) (s : Situation) (values : List (Option ℤ)) → r.system ≡ system → AreMachines r →
+    IsSituation r s → AreAt r (written r s values) olds →
+    AreAt r (updated r s values).states news × (u.again ≡ any_update asks_again r s values) ×
+    (u.asked ≡ any_update asks_for_end r s values)

@@ -22,7 +22,8 @@ abbrev pub root_node : SystemTree → ℕ
 root_node t = option_map_or (λ (s : SystemPart). s.node) (slice_get t.systems 0) 0
 
 -- 46: no rule is broken, and these ports of the flattened system need each other in a loop; it is told at the outermost System
-pub record TellsLoop (t : SystemTree) (shapes : List Shape) (node : ℕ) (ports : List PortId) : Type 0 where
+pub record TellsLoop (t : SystemTree) (shapes : List Shape) (node : ℕ)
+    (ports : List PortId) : Type 0 where
   pub fitting : IsFitting t shapes
   pub system : System
   pub flat : IsFlat t shapes system
@@ -32,20 +33,25 @@ pub record TellsLoop (t : SystemTree) (shapes : List Shape) (node : ℕ) (ports 
 -- the refusal is the first violation or tells a loop, unless memory ran out
 abbrev pub Faults : SystemTree → List Shape → Refusal → Type 0
 Faults t shapes (At file node rule ports) =
-    (file ≡ 0) × (((ports ≡ []) × IsFirstViolation t shapes node rule) ⊎ ((rule ≡ Loop) × TellsLoop t shapes node ports))
+    (file ≡ 0) × (((ports ≡ []) × IsFirstViolation t shapes node rule) ⊎
+    ((rule ≡ Loop) × TellsLoop t shapes node ports))
 Faults t shapes Memory = ⊤
 
 -- the answer is a system of these components and ports, unless memory ran out
 abbrev pub GivesParts : Result System Refusal → System → Type 0
-GivesParts (Ok system) wanted = (system.components ≡ wanted.components) × (system.ports ≡ wanted.ports)
+GivesParts (Ok system) wanted =
+    (system.components ≡ wanted.components) × (system.ports ≡ wanted.ports)
 GivesParts (Err (At file node rule ports)) wanted = ⊥
 GivesParts (Err Memory) wanted = ⊤
 
 -- what a flattening of this tree and these shapes answers
-pub record IsAnswer (t : SystemTree) (shapes : List Shape) (result : Result System Refusal) : Type 0 where
+pub record IsAnswer (t : SystemTree) (shapes : List Shape)
+    (result : Result System Refusal) : Type 0 where
   pub fitting : IfOk result (λ system. IsFitting t shapes)
   pub found : IfOk result (Flattens t shapes)
   pub sound : IfOk result (λ system. SavesStates system → IsSound system)
   pub fault : IfErr result (Faults t shapes)
-  pub exact : (rule : Rule) (node : ℕ) → IsFirstViolation t shapes node rule → Refuses result rule node
-  pub only : (system : System) → IsFitting t shapes → Flattens t shapes system → GivesParts result system
+  pub exact : (rule : Rule) (node : ℕ) → IsFirstViolation t shapes node rule →
+      Refuses result rule node
+  pub only : (system : System) → IsFitting t shapes → Flattens t shapes system →
+      GivesParts result system

@@ -24,15 +24,18 @@ use Rattle.flatten.specs.Rules.{PathFault, IsConnectorAt, EndsPath, HasOtherCaus
 
 -- the connector breaks the rule by itself
 abbrev pub ConnectorBreaks : SystemTree → List Shape → FlatteningRule → ℕ → Connector → Type 0
-ConnectorBreaks t shapes NoSuchVariable c k = (is_of_system k.owner ≡ false) × (variable_of t shapes c ≡ None)
-ConnectorBreaks t shapes OtherCausality c k = IsSomeAnd (variable_of t shapes c) (HasOtherCausality k)
+ConnectorBreaks t shapes NoSuchVariable c k =
+    (is_of_system k.owner ≡ false) × (variable_of t shapes c ≡ None)
+ConnectorBreaks t shapes OtherCausality c k =
+    IsSomeAnd (variable_of t shapes c) (HasOtherCausality k)
 ConnectorBreaks t shapes OtherClass c k = IsSomeAnd (variable_of t shapes c) (HasOtherType k)
 ConnectorBreaks t shapes EndTwice c k = ⊥
 ConnectorBreaks t shapes TooWide c k = ⊥
 ConnectorBreaks t shapes FedClock c k = ⊥
 
 abbrev pub IsBrokenConnector : SystemTree → List Shape → FlatteningRule → ℕ → Type 0
-IsBrokenConnector t shapes rule node = (c : ℕ) × ((k : Connector) × IsConnectorAt t node c k × ConnectorBreaks t shapes rule c k)
+IsBrokenConnector t shapes rule node =
+    (c : ℕ) × ((k : Connector) × IsConnectorAt t node c k × ConnectorBreaks t shapes rule c k)
 
 -- what the ends of a path may break
 abbrev pub path_fault : SystemTree → List Shape → FlatteningRule → PathFault
@@ -50,10 +53,13 @@ IsBrokenConnection t shapes rule node = EndsPath (path_fault t shapes rule) t sh
 
 -- the input that a connector names
 abbrev pub input_of : SystemTree → List Shape → ℕ → Option Variable
-input_of t shapes c = option_and_then (λ (x : Variable). if is_input x.causality then Some x else None) (variable_of t shapes c)
+input_of t shapes c =
+    option_and_then (λ (x : Variable). if is_input x.causality then Some x else None)
+    (variable_of t shapes c)
 
 -- some output leads up to the start, and the path from there on to this input has the fault
-pub record IsReachedAt (Fault : PathFault) (t : SystemTree) (shapes : List Shape) (start end : ℕ) (input : Variable) : Type 0 where
+pub record IsReachedAt (Fault : PathFault) (t : SystemTree) (shapes : List Shape) (start end : ℕ)
+    (input : Variable) : Type 0 where
   pub output : Variable
   pub p : Point
   pub s : Point
@@ -65,7 +71,8 @@ pub record IsReachedAt (Fault : PathFault) (t : SystemTree) (shapes : List Shape
   pub broken : Fault p s q output input
 
 -- the same of a fault for which it doesn't matter where the path ends
-pub record IsReachedBy (Fault : PathFault) (t : SystemTree) (shapes : List Shape) (start : ℕ) (input : Variable) : Type 0 where
+pub record IsReachedBy (Fault : PathFault) (t : SystemTree) (shapes : List Shape) (start : ℕ)
+    (input : Variable) : Type 0 where
   pub output : Variable
   pub p : Point
   pub s : Point
@@ -82,7 +89,9 @@ TellsOther c wanted marks = (marks.class ≢ wanted) × IsMarked marks.reached.i
 
 -- outputs of a type that is too wide lead up to it
 abbrev pub TellsTooWide : ℕ → Option PortType → TypeMarks → Type 0
-TellsTooWide c to marks = IsMarked marks.reached.items c × IsSomeAnd to (λ (wanted : PortType). types.Joins marks.kind wanted WrongRange)
+TellsTooWide c to marks =
+    IsMarked marks.reached.items c ×
+    IsSomeAnd to (λ (wanted : PortType). types.Joins marks.kind wanted WrongRange)
 
 -- ---- violations
 
@@ -90,7 +99,8 @@ TellsTooWide c to marks = IsMarked marks.reached.items c × IsSomeAnd to (λ (wa
 abbrev pub earlier_violation : Option (ℕ × Rule) → Option ℕ → Rule → Option (ℕ × Rule)
 earlier_violation one None rule = one
 earlier_violation None (Some node) rule = Some (node, rule)
-earlier_violation (Some one) (Some node) rule = if nat_lt node one.0 then Some (node, rule) else Some one
+earlier_violation (Some one) (Some node) rule =
+    if nat_lt node one.0 then Some (node, rule) else Some one
 
 -- ---- ends
 

@@ -15,12 +15,17 @@ number_in (OfSystem c) = None
 
 -- the connector names an input, with this number
 abbrev pub IsInputWith : FlatTree → ℕ → ℕ → Type 0
-IsInputWith f c n = (slice_get f.points.items c ≡ Some (Numbered n)) × IsSomeAnd (variable_of f.tree.now f.shapes.now c) (λ (x : Variable). x.causality ≡ Input)
+IsInputWith f c n =
+    (slice_get f.points.items c ≡ Some (Numbered n)) ×
+    IsSomeAnd (variable_of f.tree.now f.shapes.now c) (λ (x : Variable). x.causality ≡ Input)
 
 -- the connector names a variable with this port
 abbrev pub HasPort : FlatTree → List (Option PortId) → ℕ → PortId → Type 0
-HasPort f numbers c port = (n : ℕ) × (slice_get f.points.items c ≡ Some (Numbered n)) × (slice_get numbers n ≡ Some (Some port))
+HasPort f numbers c port =
+    (n : ℕ) × (slice_get f.points.items c ≡ Some (Numbered n)) ×
+    (slice_get numbers n ≡ Some (Some port))
 
 -- from this port the input of this number is fed, where the source of the connector is the other one
 abbrev pub FeedsFrom : FlatTree → List (Option PortId) → ℕ → ℕ → ℕ → PortId → Type 0
-FeedsFrom f numbers connector source n from = IsInputWith f connector n × HasPort f numbers source from
+FeedsFrom f numbers connector source n from =
+    IsInputWith f connector n × HasPort f numbers source from

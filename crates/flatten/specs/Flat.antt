@@ -28,16 +28,19 @@ abbrev pub source_at : List ComponentPart → ℕ → Option (List ℕ)
 source_at parts i = option_map (λ (c : ComponentPart). c.source) (slice_get parts i)
 
 -- the i-th component: its full name, its shape, and as the number of its source that of the first component with this source
-pub record IsComponentOf (parts : List ComponentPart) (shapes : List Shape) (i : ℕ) (c : Component) : Type 0 where
+pub record IsComponentOf (parts : List ComponentPart) (shapes : List Shape) (i : ℕ)
+    (c : Component) : Type 0 where
   pub part : ComponentPart
   pub at : slice_get parts i ≡ Some part
   pub name : c.name ≡ part.name
   pub source : IsFirstWith (source_at parts) part.source c.source.0
   pub shape : slice_get shapes i ≡ Some c.shape
 
-pub record AreComponentsOf (parts : List ComponentPart) (shapes : List Shape) (components : List Component) : Type 0 where
+pub record AreComponentsOf (parts : List ComponentPart) (shapes : List Shape)
+    (components : List Component) : Type 0 where
   pub len : length components ≡ length parts
-  pub each : (i : ℕ) (c : Component) → slice_get components i ≡ Some c → IsComponentOf parts shapes i c
+  pub each : (i : ℕ) (c : Component) → slice_get components i ≡ Some c →
+      IsComponentOf parts shapes i c
 
 -- ---- feeds
 
@@ -48,7 +51,9 @@ point_of_port port = OfComponent port.component.0 port.reference
 -- the port q is the source of p exactly where its output feeds p
 abbrev pub HasFeeds : SystemTree → List Shape → List Port → Type 0
 HasFeeds t shapes ports = (p q : ℕ) (target : Port) → slice_get ports p ≡ Some target →
-    (source_of target.role ≡ Some q) ↔ IsSomeAnd (slice_get ports q) (λ (source : Port). Feeds t shapes (point_of_port source) (point_of_port target))
+    (source_of target.role ≡ Some q) ↔
+    IsSomeAnd (slice_get ports q) (λ (source : Port).
+    Feeds t shapes (point_of_port source) (point_of_port target))
 
 -- ---- the whole
 
@@ -65,7 +70,9 @@ pub record Flattens (t : SystemTree) (shapes : List Shape) (system : System) : T
 
 -- where a component might return early, each other saves its state
 abbrev pub SavesStates : System → Type 0
-SavesStates system = (i j : ℕ) (early other : Component) → slice_get system.components i ≡ Some early → slice_get system.components j ≡ Some other → i ≢ j →
+SavesStates system =
+    (i j : ℕ) (early other : Component) → slice_get system.components i ≡ Some early →
+    slice_get system.components j ≡ Some other → i ≢ j →
     early.shape.might_return_early ≡ true → other.shape.can_save_state ≡ true
 
 -- an input that is no time-based Clock has this source
@@ -74,4 +81,6 @@ IsSourceWith shape x feed (Input fed) = fed ≡ feed
 IsSourceWith shape x feed (ClockInput fed) = fed ≡ feed
 IsSourceWith shape x feed Output = Unit {0}
 IsSourceWith shape x feed ClockOutput = Unit {0}
-IsSourceWith shape x feed (TimeClock timing) = IsSomeAnd (timing_at shape.clocks x.reference) (λ (clock : ClockTiming). clock.variability ≢ Triggered)
+IsSourceWith shape x feed (TimeClock timing) =
+    IsSomeAnd (timing_at shape.clocks x.reference) (λ (clock : ClockTiming).
+    clock.variability ≢ Triggered)

@@ -20,7 +20,8 @@ pub record IsWhole (t : SystemTree) : Type 0 where
   pub few : length t.components ≤ 256
   pub named : All (λ (c : ComponentPart). 0 < length c.name) t.components
   pub owners : All (λ (k : Connector). IsOwner t k.owner) t.connectors
-  pub ends : All (λ (k : Connection). (k.start < length t.connectors) × (k.end < length t.connectors)) t.connections
+  pub ends : All (λ (k : Connection). (k.start < length t.connectors) ×
+      (k.end < length t.connectors)) t.connections
 
 -- a sound shape for each component, all at one resolution
 pub record AreShapesOf (t : SystemTree) (shapes : List Shape) : Type 0 where

@@ -41,19 +41,25 @@ pub record AreVariables (shapes : List Shape) (v : Variables) : Type 0 where
 -- the place in its description of the variable that a connector names
 abbrev pub place_for : List Shape → Owner → List ℕ → Option ℕ
 place_for shapes (System system) name = None
-place_for shapes (Component component) name = option_and_then (λ (s : Shape). position (has_name name) s.variables) (slice_get shapes component)
+place_for shapes (Component component) name =
+    option_and_then (λ (s : Shape). position (has_name name) s.variables)
+    (slice_get shapes component)
 
 -- the number of the variable at this place is below that of all variables
 abbrev pub IsPlaceIn : Variables → Owner → Option ℕ → Type 0
 IsPlaceIn v (System system) place = Unit {0}
 IsPlaceIn v (Component component) None = Unit {0}
-IsPlaceIn v (Component component) (Some place) = (component < length v.begins.items) × (slice_index_or v.begins.items component 0 + place < length v.all.items)
+IsPlaceIn v (Component component) (Some place) =
+    (component < length v.begins.items) ×
+    (slice_index_or v.begins.items component 0 + place < length v.all.items)
 
 -- ---- names
 
 -- where a component's name leads
 abbrev pub place_in : VariableNames → ℕ → List ℕ → Option ℕ
-place_in names component name = option_and_then (λ (entry : ℕ). slice_get names.places.items entry) (found_in names.first (component, name))
+place_in names component name =
+    option_and_then (λ (entry : ℕ). slice_get names.places.items entry)
+    (found_in names.first (component, name))
 
 -- the names put in so far, one after another, lead to these places
 pub record LeadTo (places : ℕ → List ℕ → Option ℕ) (names : VariableNames) : Type 0 where
@@ -64,7 +70,8 @@ pub record LeadTo (places : ℕ → List ℕ → Option ℕ) (names : VariableNa
 
 -- further places of a component's names, for those that led nowhere
 abbrev pub with_places : (ℕ → List ℕ → Option ℕ) → ℕ → (List ℕ → Option ℕ) → ℕ → List ℕ → Option ℕ
-with_places places component more other name = option_or (places other name) (if other == component then more name else None)
+with_places places component more other name =
+    option_or (places other name) (if other == component then more name else None)
 
 -- the place, for such a name alone
 abbrev pub place_if : Bool → ℕ → Option ℕ
@@ -72,19 +79,24 @@ place_if such place = if such then Some place else None
 
 -- each name leads to the first variable that has it
 abbrev pub AreNames : List Shape → VariableNames → Type 0
-AreNames shapes names = (component : ℕ) (name : List ℕ) → place_in names component name ≡ place_for shapes (Component component) name
+AreNames shapes names =
+    (component : ℕ) (name : List ℕ) →
+    place_in names component name ≡ place_for shapes (Component component) name
 
 -- ---- points
 
 -- the number of the variable that a connector of a component names; further numbers for those that name none
 abbrev pub number_for : List Shape → ℕ → Owner → Option ℕ → paths.Point
 number_for shapes c (System system) place = OfSystem c
-number_for shapes c (Component component) (Some place) = Numbered (begin_of shapes component + place)
+number_for shapes c (Component component) (Some place) =
+    Numbered (begin_of shapes component + place)
 number_for shapes c (Component component) None = Numbered (length (all_variables shapes) + c)
 
-pub record AreNumbered (t : SystemTree) (shapes : List Shape) (points : List paths.Point) : Type 0 where
+pub record AreNumbered (t : SystemTree) (shapes : List Shape)
+    (points : List paths.Point) : Type 0 where
   pub len : length points ≡ length t.connectors
-  pub each : (c : ℕ) (k : Connector) → slice_get t.connectors c ≡ Some k → slice_get points c ≡ Some (number_for shapes c k.owner (place_for shapes k.owner k.name))
+  pub each : (c : ℕ) (k : Connector) → slice_get t.connectors c ≡ Some k →
+      slice_get points c ≡ Some (number_for shapes c k.owner (place_for shapes k.owner k.name))
 
 abbrev pub ends_of : Connection → joints.Connection
 ends_of k = record { start = k.start; end = k.end }

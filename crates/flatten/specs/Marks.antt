@@ -21,7 +21,8 @@ use Rattle.flatten.specs.Rules.{class_at, child_class}
 -- ---- from marked connectors
 
 -- a marked connector stands for a point that leads up to the point of c
-pub record IsLedTo (t : SystemTree) (shapes : List Shape) (IsStart : ℕ → Type 0) (c : ℕ) : Type 0 where
+pub record IsLedTo (t : SystemTree) (shapes : List Shape) (IsStart : ℕ → Type 0)
+    (c : ℕ) : Type 0 where
   pub start : ℕ
   pub from : Point
   pub to : Point
@@ -31,7 +32,8 @@ pub record IsLedTo (t : SystemTree) (shapes : List Shape) (IsStart : ℕ → Typ
   pub leads : LeadsUpTo t shapes from to
 
 -- just the connectors that these lead up to are marked
-pub record AreLedTo (t : SystemTree) (shapes : List Shape) (IsStart : ℕ → Type 0) (reached : List Bool) : Type 0 where
+pub record AreLedTo (t : SystemTree) (shapes : List Shape) (IsStart : ℕ → Type 0)
+    (reached : List Bool) : Type 0 where
   pub len : length reached ≡ length t.connectors
   pub each : (c : ℕ) → c < length t.connectors → IsMarked reached c ↔ IsLedTo t shapes IsStart c
 
@@ -42,13 +44,16 @@ pub record AreMarked (t : SystemTree) (IsSo : ℕ → Type 0) (marks : List Bool
 
 -- marks that all connectors of one point share
 abbrev pub AreShared : SystemTree → List Shape → List Bool → Type 0
-AreShared t shapes marks = (c d : ℕ) (p : Point) → point_of t shapes c ≡ Some p → point_of t shapes d ≡ Some p → IsMarked marks c → IsMarked marks d
+AreShared t shapes marks =
+    (c d : ℕ) (p : Point) → point_of t shapes c ≡ Some p → point_of t shapes d ≡ Some p →
+    IsMarked marks c → IsMarked marks d
 
 -- ---- the starts
 
 -- the connector names an output, in this relation to it
 abbrev pub NamesOutput : (Variable → Type 0) → SystemTree → List Shape → ℕ → Type 0
-NamesOutput R t shapes c = IsSomeAnd (variable_of t shapes c) (λ (x : Variable). (x.causality ≡ Output) × R x)
+NamesOutput R t shapes c =
+    IsSomeAnd (variable_of t shapes c) (λ (x : Variable). (x.causality ≡ Output) × R x)
 
 abbrev pub IsOutputAt : SystemTree → List Shape → ℕ → Type 0
 IsOutputAt t shapes c = NamesOutput (λ x. Unit {0}) t shapes c
@@ -56,12 +61,14 @@ IsOutputAt t shapes c = NamesOutput (λ x. Unit {0}) t shapes c
 -- a connector of a System with a type of this class
 abbrev pub GivesClass : SystemTree → Option Class → ℕ → Type 0
 GivesClass t class c =
-    IsOfSystem t (Itself c) × IsSomeAnd (slice_get t.connectors c) (λ (k : Connector). IsSomeAnd k.child (λ (type : TypeChild). child_class type ≡ class))
+    IsOfSystem t (Itself c) × IsSomeAnd (slice_get t.connectors c) (λ (k : Connector).
+    IsSomeAnd k.child (λ (type : TypeChild). child_class type ≡ class))
 
 -- an output of the class, or a connector of a System with a type of it that some output leads to
 abbrev pub IsOfClass : SystemTree → List Shape → Option Class → ℕ → Type 0
 IsOfClass t shapes class c =
-    NamesOutput (λ x. class_at x ≡ class) t shapes c ⊎ (IsLedTo t shapes (IsOutputAt t shapes) c × GivesClass t class c)
+    NamesOutput (λ x. class_at x ≡ class) t shapes c ⊎
+    (IsLedTo t shapes (IsOutputAt t shapes) c × GivesClass t class c)
 
 abbrev pub IsOfType : SystemTree → List Shape → PortType → ℕ → Type 0
 IsOfType t shapes kind c = NamesOutput (λ x. x.kind ≡ Some kind) t shapes c
@@ -69,10 +76,12 @@ IsOfType t shapes kind c = NamesOutput (λ x. x.kind ≡ Some kind) t shapes c
 -- ---- all passes
 
 abbrev pub AreClassMarks : SystemTree → List Shape → Option Class → ClassMarks → Type 0
-AreClassMarks t shapes class marks = (marks.class ≡ class) × AreLedTo t shapes (IsOfClass t shapes class) marks.reached.items
+AreClassMarks t shapes class marks =
+    (marks.class ≡ class) × AreLedTo t shapes (IsOfClass t shapes class) marks.reached.items
 
 abbrev pub AreTypeMarks : SystemTree → List Shape → PortType → TypeMarks → Type 0
-AreTypeMarks t shapes kind marks = (marks.kind ≡ kind) × AreLedTo t shapes (IsOfType t shapes kind) marks.reached.items
+AreTypeMarks t shapes kind marks =
+    (marks.kind ≡ kind) × AreLedTo t shapes (IsOfType t shapes kind) marks.reached.items
 
 -- the marks of any output, of all classes, and of the types that have several ranges in one class
 pub record HasMarks (t : SystemTree) (shapes : List Shape) (marks : Marks) : Type 0 where

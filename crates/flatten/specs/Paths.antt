@@ -10,7 +10,8 @@ use Rattle.ssd_tree.specs.declared.tree.SystemTree.{SystemTree}
 use Rattle.flatten.specs.Points.{Point, Itself, point_of, IsOfSystem, IsVariable}
 
 -- this connection leads from the one point to the other
-pub record JoinsBy (t : SystemTree) (shapes : List Shape) (k : Connection) (p q : Point) : Type 0 where
+pub record JoinsBy (t : SystemTree) (shapes : List Shape) (k : Connection)
+    (p q : Point) : Type 0 where
   pub is : Contains t.connections k
   pub start : point_of t shapes k.start ≡ Some p
   pub end : point_of t shapes k.end ≡ Some q
@@ -37,7 +38,8 @@ abbrev pub LeadsUpTo : SystemTree → List Shape → Point → Point → Type 0
 LeadsUpTo t shapes p s = (p ≡ s) ⊎ (IsOfSystem t s × Leads t shapes p s)
 
 -- the connection is the last of a path from an output to an input; it begins at s
-pub record EndsBy (t : SystemTree) (shapes : List Shape) (k : Connection) (p s q : Point) (output input : Variable) : Type 0 where
+pub record EndsBy (t : SystemTree) (shapes : List Shape) (k : Connection) (p s q : Point)
+    (output input : Variable) : Type 0 where
   pub from : IsVariable shapes Output p output
   pub to : IsVariable shapes Input q input
   pub upto : LeadsUpTo t shapes p s
@@ -45,4 +47,5 @@ pub record EndsBy (t : SystemTree) (shapes : List Shape) (k : Connection) (p s q
 
 -- a connector stands on such a path: the output leads to it, and it leads to where the last connection begins
 abbrev pub IsOn : SystemTree → List Shape → Point → Point → ℕ → Type 0
-IsOn t shapes p s c = IsOfSystem t (Itself c) × Leads t shapes p (Itself c) × LeadsUpTo t shapes (Itself c) s
+IsOn t shapes p s c =
+    IsOfSystem t (Itself c) × Leads t shapes p (Itself c) × LeadsUpTo t shapes (Itself c) s

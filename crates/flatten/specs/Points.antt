@@ -19,7 +19,8 @@ has_name name v = bytes_eq v.name name || list_any (λ alias. bytes_eq alias nam
 
 -- the variable of a component that the name is for: of several the first
 abbrev pub variable_named : List Shape → ℕ → List ℕ → Option Variable
-variable_named shapes component name = option_and_then (λ (s : Shape). find (has_name name) s.variables) (slice_get shapes component)
+variable_named shapes component name =
+    option_and_then (λ (s : Shape). find (has_name name) s.variables) (slice_get shapes component)
 
 -- a connector of a System names no variable
 abbrev pub named_by : List Shape → Owner → List ℕ → Option Variable
@@ -28,7 +29,8 @@ named_by shapes (Component component) name = variable_named shapes component nam
 
 -- the variable that a connector names
 abbrev pub variable_of : SystemTree → List Shape → ℕ → Option Variable
-variable_of t shapes c = option_and_then (λ (k : Connector). named_by shapes k.owner k.name) (slice_get t.connectors c)
+variable_of t shapes c =
+    option_and_then (λ (k : Connector). named_by shapes k.owner k.name) (slice_get t.connectors c)
 
 -- ---- points
 
@@ -44,7 +46,9 @@ point_for c (System system) x = Itself c
 
 -- what a connector stands for: all connectors of a component that name one variable stand for it, and every other for itself
 abbrev pub point_of : SystemTree → List Shape → ℕ → Option Point
-point_of t shapes c = option_map (λ (k : Connector). point_for c k.owner (named_by shapes k.owner k.name)) (slice_get t.connectors c)
+point_of t shapes c =
+    option_map (λ (k : Connector). point_for c k.owner (named_by shapes k.owner k.name))
+    (slice_get t.connectors c)
 
 abbrev pub is_of_system : Owner → Bool
 is_of_system (System system) = true
@@ -53,11 +57,13 @@ is_of_system (Component component) = false
 -- a connector of a System
 abbrev pub IsOfSystem : SystemTree → Point → Type 0
 IsOfSystem t (OfComponent component reference) = ⊥
-IsOfSystem t (Itself c) = IsSomeAnd (slice_get t.connectors c) (λ (k : Connector). is_of_system k.owner ≡ true)
+IsOfSystem t (Itself c) =
+    IsSomeAnd (slice_get t.connectors c) (λ (k : Connector). is_of_system k.owner ≡ true)
 
 -- the variable that a point is
 abbrev pub variable_at_point : List Shape → Point → Option Variable
-variable_at_point shapes (OfComponent component reference) = option_and_then (λ (s : Shape). variable_at s.variables reference) (slice_get shapes component)
+variable_at_point shapes (OfComponent component reference) =
+    option_and_then (λ (s : Shape). variable_at s.variables reference) (slice_get shapes component)
 variable_at_point shapes (Itself c) = None
 
 -- the point is this variable, of this causality

@@ -19,11 +19,14 @@ use Rattle.flatten.specs.Indexed.{all_variables, begin_of}
 
 -- the number of a port is that of the ports before it
 abbrev pub port_number : List Shape → ℕ → Variable → Option PortId
-port_number shapes n x = if is_port x then Some (record { 0 = count_by is_port (take n (all_variables shapes)) }) else None
+port_number shapes n x =
+    if is_port x then Some (record { 0 = count_by is_port (take n (all_variables shapes)) })
+    else None
 
 pub record ArePortNumbers (shapes : List Shape) (numbers : List (Option PortId)) : Type 0 where
   pub len : length numbers ≡ length (all_variables shapes)
-  pub each : (n : ℕ) (x : Variable) → slice_get (all_variables shapes) n ≡ Some x → slice_get numbers n ≡ Some (port_number shapes n x)
+  pub each : (n : ℕ) (x : Variable) → slice_get (all_variables shapes) n ≡ Some x →
+      slice_get numbers n ≡ Some (port_number shapes n x)
 
 -- the variable with this number is this point
 pub record IsNumberOf (shapes : List Shape) (n : ℕ) (p : Point) : Type 0 where
@@ -37,11 +40,14 @@ pub record IsNumberOf (shapes : List Shape) (n : ℕ) (p : Point) : Type 0 where
   pub point : p ≡ OfComponent component variable.reference
 
 -- for each input just the port of the output that feeds it
-pub record AreFeeds (t : SystemTree) (shapes : List Shape) (numbers : List (Option PortId)) (feeds : List (Option Feed)) : Type 0 where
+pub record AreFeeds (t : SystemTree) (shapes : List Shape) (numbers : List (Option PortId))
+    (feeds : List (Option Feed)) : Type 0 where
   pub len : length feeds ≡ length (all_variables shapes)
-  pub each : (m n : ℕ) (p q : Point) (from : PortId) → IsNumberOf shapes m p → IsNumberOf shapes n q → slice_get numbers m ≡ Some (Some from) →
+  pub each : (m n : ℕ) (p q : Point) (from : PortId) → IsNumberOf shapes m p →
+      IsNumberOf shapes n q → slice_get numbers m ≡ Some (Some from) →
       (slice_get feeds n ≡ Some (Some (record { from = from }))) ↔ Feeds t shapes p q
-  pub none : (n : ℕ) (f : Feed) → slice_get feeds n ≡ Some (Some f) → (m : ℕ) × (slice_get numbers m ≡ Some (Some f.from))
+  pub none : (n : ℕ) (f : Feed) → slice_get feeds n ≡ Some (Some f) → (m : ℕ) ×
+      (slice_get numbers m ≡ Some (Some f.from))
 
 pub record IsPortTable (t : SystemTree) (shapes : List Shape) (table : PortTable) : Type 0 where
   pub numbers : ArePortNumbers shapes table.numbers.items
@@ -60,7 +66,8 @@ pub record IsPortUnder (shapes : List Shape) (component reference : ℕ) (p : Po
   pub is : port_number shapes (begin_of shapes component + place) variable ≡ Some p
 
 -- the port is the variable at this place of its component, with the role, the source and the Clocks that the variable has
-pub record IsPortOf (shapes : List Shape) (table : PortTable) (component place : ℕ) (port : Port) : Type 0 where
+pub record IsPortOf (shapes : List Shape) (table : PortTable) (component place : ℕ)
+    (port : Port) : Type 0 where
   pub shape : Shape
   pub variable : Variable
   pub feed : Option Feed
@@ -87,4 +94,6 @@ labels_in i (s ∷ ss) = filter_map (label_at i) s.variables ++ labels_in (suc i
 
 -- those of one component
 abbrev pub labels_at : List Shape → ℕ → List Label
-labels_at shapes component = option_map_or (λ (s : Shape). filter_map (label_at component) s.variables) (slice_get shapes component) []
+labels_at shapes component =
+    option_map_or (λ (s : Shape). filter_map (label_at component) s.variables)
+    (slice_get shapes component) []

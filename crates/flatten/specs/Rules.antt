@@ -57,12 +57,14 @@ IsConnectorAt t node c k = (slice_get t.connectors c ≡ Some k) × (k.node ≡ 
 -- a connector of a component that names none of its variables
 abbrev pub NamesNoVariable : SystemTree → List Shape → ℕ → Type 0
 NamesNoVariable t shapes node =
-    (c : ℕ) × ((k : Connector) × IsConnectorAt t node c k × (is_of_system k.owner ≡ false) × (variable_of t shapes c ≡ None))
+    (c : ℕ) × ((k : Connector) × IsConnectorAt t node c k × (is_of_system k.owner ≡ false) ×
+    (variable_of t shapes c ≡ None))
 
 -- a connector and the variable that it names, in this relation
 abbrev pub IsOfConnector : (Connector → Variable → Type 0) → SystemTree → List Shape → ℕ → Type 0
 IsOfConnector R t shapes node =
-    (c : ℕ) × ((k : Connector) × ((x : Variable) × IsConnectorAt t node c k × (variable_of t shapes c ≡ Some x) × R k x))
+    (c : ℕ) × ((k : Connector) × ((x : Variable) × IsConnectorAt t node c k ×
+    (variable_of t shapes c ≡ Some x) × R k x))
 
 abbrev pub IsForOther : ConnectorKind → Causality → Type 0
 IsForOther kind.Input x = x ≢ causality.Input
@@ -86,41 +88,51 @@ PathFault = Point → Point → Point → Variable → Variable → Type 0
 -- the connection is the last of a path from an output to an input that has this fault
 abbrev pub IsLastOf : PathFault → SystemTree → List Shape → Connection → Type 0
 IsLastOf Fault t shapes k =
-    (p : Point) × ((s : Point) × ((q : Point) × ((output : Variable) × ((input : Variable) × EndsBy t shapes k p s q output input × Fault p s q output input))))
+    (p : Point) × ((s : Point) × ((q : Point) ×
+    ((output : Variable) × ((input : Variable) × EndsBy t shapes k p s q output input ×
+    Fault p s q output input))))
 
 abbrev pub EndsPath : PathFault → SystemTree → List Shape → ℕ → Type 0
 EndsPath Fault t shapes node = (k : Connection) × (k.node ≡ node) × IsLastOf Fault t shapes k
 
 -- a connector of a System on the path gives a type of another class
 abbrev pub PassesOther : SystemTree → List Shape → Point → Point → Option Class → Type 0
-PassesOther t shapes p s wanted = (c : ℕ) × ((k : Connector) × IsOn t shapes p s c × (slice_get t.connectors c ≡ Some k) × GivesOther k.child wanted)
+PassesOther t shapes p s wanted =
+    (c : ℕ) × ((k : Connector) × IsOn t shapes p s c × (slice_get t.connectors c ≡ Some k) ×
+    GivesOther k.child wanted)
 
 -- the input is foreign, or the output or a connector between them is of another class
 abbrev pub IsOtherClass : SystemTree → List Shape → PathFault
 IsOtherClass t shapes p s q output input =
-    (input.kind ≡ None) ⊎ ((class_at output ≢ class_at input) ⊎ PassesOther t shapes p s (class_at input))
+    (input.kind ≡ None) ⊎ ((class_at output ≢ class_at input) ⊎
+    PassesOther t shapes p s (class_at input))
 
 -- both are of one class, and some value of the output is none of the input
 abbrev pub IsTooWide : PathFault
 IsTooWide p s q output input =
-    IsSomeAnd output.kind (λ (from : PortType). IsSomeAnd input.kind (λ (to : PortType). types.Joins from to WrongRange))
+    IsSomeAnd output.kind (λ (from : PortType).
+    IsSomeAnd input.kind (λ (to : PortType). types.Joins from to WrongRange))
 
 -- the input is a Clock of any variability but triggered
 abbrev pub IsTimeBased : List Shape → PathFault
 IsTimeBased shapes p s (OfComponent component reference) output input =
-    IsSomeAnd (slice_get shapes component) (λ (x : Shape). IsSomeAnd (timing_at x.clocks reference) (λ (clock : ClockTiming). clock.variability ≢ Triggered))
+    IsSomeAnd (slice_get shapes component) (λ (x : Shape).
+    IsSomeAnd (timing_at x.clocks reference) (λ (clock : ClockTiming).
+    clock.variability ≢ Triggered))
 IsTimeBased shapes p s (Itself c) output input = ⊥
 
 -- ---- ends
 
 -- where a connection ends
 abbrev pub end_at : SystemTree → List Shape → ℕ → Option Point
-end_at t shapes i = option_and_then (λ (k : Connection). point_of t shapes k.end) (slice_get t.connections i)
+end_at t shapes i =
+    option_and_then (λ (k : Connection). point_of t shapes k.end) (slice_get t.connections i)
 
 -- a connection before this one ends where it does; one end is that of the connections of one System
 abbrev pub RepeatsEnd : SystemTree → List Shape → ℕ → Type 0
 RepeatsEnd t shapes node =
-    (i : ℕ) × ((k : Connection) × (slice_get t.connections i ≡ Some k) × (k.node ≡ node) × IsRepeated (end_at t shapes) i)
+    (i : ℕ) × ((k : Connection) × (slice_get t.connections i ≡ Some k) × (k.node ≡ node) ×
+    IsRepeated (end_at t shapes) i)
 
 -- ---- ports
 
@@ -130,7 +142,8 @@ ports_in shape = count_by is_port shape.variables
 -- with this component the ports are more than 65,536
 abbrev pub HasTooManyPorts : SystemTree → List Shape → ℕ → Type 0
 HasTooManyPorts t shapes node =
-    (i : ℕ) × ((c : ComponentPart) × (slice_get t.components i ≡ Some c) × (c.node ≡ node) × (65536 < sum (map ports_in (take (i + 1) shapes))))
+    (i : ℕ) × ((c : ComponentPart) × (slice_get t.components i ≡ Some c) × (c.node ≡ node) ×
+    (65536 < sum (map ports_in (take (i + 1) shapes))))
 
 -- ---- the rules
 
@@ -140,7 +153,8 @@ Breaks t shapes f.NoSuchVariable node = NamesNoVariable t shapes node
 -- 41: a connector is an input or output, and its variable has another causality
 Breaks t shapes f.OtherCausality node = IsOfConnector HasOtherCausality t shapes node
 -- 42: a connector isn't of its variable's class; or the last connection of a path whose ends and connectors aren't of one class, or that has a foreign end
-Breaks t shapes f.OtherClass node = IsOfConnector HasOtherType t shapes node ⊎ EndsPath (IsOtherClass t shapes) t shapes node
+Breaks t shapes f.OtherClass node =
+    IsOfConnector HasOtherType t shapes node ⊎ EndsPath (IsOtherClass t shapes) t shapes node
 -- 43: the second of two connections with one end
 Breaks t shapes f.EndTwice node = RepeatsEnd t shapes node
 -- 44: the last connection of a path to an input that can't hold each value of the output

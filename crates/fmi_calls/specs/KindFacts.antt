@@ -15,7 +15,13 @@ pub record Facts : Type 0 where
   pub may_repeat : Bool
 
 abbrev facts : ℕ → List ℕ → Part → Bool → Bool → Facts
-facts number name part moves_on may_repeat = record { number = number; name = name; part = part; moves_on = moves_on; may_repeat = may_repeat }
+facts number name part moves_on may_repeat = record {
+  number = number;
+  name = name;
+  part = part;
+  moves_on = moves_on;
+  may_repeat = may_repeat;
+}
 
 -- the table
 abbrev pub facts_of : Kind → Facts

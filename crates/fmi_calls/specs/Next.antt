@@ -45,7 +45,8 @@ pub record HasMarks (shape : Shape) (phase : Phase) : Type 0 where
 
 -- the marks once a variable is marked
 abbrev pub marked : Shape → List Bool → ℕ → List Bool
-marked shape marks reference = option_map_or (λ place. set marks place true) (place_of shape.variables reference) marks
+marked shape marks reference =
+    option_map_or (λ place. set marks place true) (place_of shape.variables reference) marks
 
 -- the marks once a variable is set: only in Event Mode and in Step Mode is that kept in mind
 abbrev pub marks_after_set : InstanceState → Shape → List Bool → ℕ → List Bool
@@ -74,18 +75,23 @@ running_state shape = if shape.has_event_mode then Event else Step
 
 -- where a good reply leads: a Clock that is set or asked is marked, and active where it was set or answers so; an Update ends its instant, takes the marks away, as a step does, and leaves no Clock active; Save fills the slot with the point and the marks, Restore brings them back and keeps the slot, Free empties it; what only reads leaves it
 abbrev pub entered : Shape → Phase → Call → Reply → Phase
-entered shape phase (C.Instantiate event_mode early_return) reply = record phase { state = Instantiated }
-entered shape phase (C.EnterInitialization start stop) reply = record phase { state = Initialization; point = start; stop = stop }
-entered shape phase C.ExitInitialization reply = record phase { state = running_state shape; settled = false }
+entered shape phase (C.Instantiate event_mode early_return) reply =
+    record phase { state = Instantiated }
+entered shape phase (C.EnterInitialization start stop) reply =
+    record phase { state = Initialization; point = start; stop = stop }
+entered shape phase C.ExitInitialization reply =
+    record phase { state = running_state shape; settled = false }
 entered shape phase C.EnterEvent reply = record phase { state = Event; settled = false }
 entered shape phase C.EnterStep reply = record phase { state = Step }
-entered shape phase C.Update reply = record phase { settled = settles reply; marks = unmarked shape; active = unmarked shape }
+entered shape phase C.Update reply =
+    record phase { settled = settles reply; marks = unmarked shape; active = unmarked shape }
 entered shape phase (C.DoStep at size) reply = record phase {
   point = end_of reply phase.point;
   first_size = Some (unwrap_or phase.first_size size);
   marks = unmarked shape;
 }
-entered shape phase (C.Set kind reference value) reply = record phase { marks = marks_after_set phase.state shape phase.marks reference }
+entered shape phase (C.Set kind reference value) reply =
+    record phase { marks = marks_after_set phase.state shape phase.marks reference }
 entered shape phase (C.GetClock reference) reply = record phase {
   marks = marked shape phase.marks reference;
   active = if is_tick reply then marked shape phase.active reference else phase.active;
@@ -94,9 +100,17 @@ entered shape phase (C.SetClock reference) reply = record phase {
   marks = marked shape phase.marks reference;
   active = marked shape phase.active reference;
 }
-entered shape phase C.Save reply = record phase { slot = record { is_full = true; point = phase.point; marks = phase.marks } }
-entered shape phase C.Restore reply = record phase { point = phase.slot.point; marks = phase.slot.marks }
-entered shape phase C.Free reply = record phase { slot = record { is_full = false; point = phase.slot.point; marks = phase.slot.marks } }
+entered shape phase C.Save reply =
+    record phase { slot = record { is_full = true; point = phase.point; marks = phase.marks } }
+entered shape phase C.Restore reply =
+    record phase { point = phase.slot.point; marks = phase.slot.marks }
+entered shape phase C.Free reply = record phase {
+  slot = record {
+    is_full = false;
+    point = phase.slot.point;
+    marks = phase.slot.marks;
+  };
+}
 entered shape phase C.Terminate reply = record phase { state = Terminated }
 entered shape phase C.FreeInstance reply = record phase { state = Gone }
 entered shape phase _ reply = phase
@@ -130,15 +144,21 @@ restores_after restores _ = restores
 
 -- the call is counted
 abbrev pub counted : Phase → Call → Phase
-counted phase call = record phase { exchanges = one_more phase.exchanges; restores = restores_after phase.restores call }
+counted phase call = record phase {
+  exchanges = one_more phase.exchanges;
+  restores = restores_after phase.restores call;
+}
 
 -- the phase after a reply of this worth: a misreply is dealt with as Error is
 abbrev pub graded : Shape → Phase → Call → Reply → Grade → Phase
 graded shape phase call reply Good = entered shape phase call reply
-graded shape phase call reply Refused = record phase { state = state_after_bad phase.state call (bad_status_of reply) }
-graded shape phase call reply Misreply = record phase { state = state_after_bad phase.state call Error }
+graded shape phase call reply Refused =
+    record phase { state = state_after_bad phase.state call (bad_status_of reply) }
+graded shape phase call reply Misreply =
+    record phase { state = state_after_bad phase.state call Error }
 
 -- the phase after a call; none stands for a fault in the reply's place
 abbrev pub next_of : Shape → Phase → Call → Option Reply → Phase
 next_of shape phase call None = record (counted phase call) { state = Lost }
-next_of shape phase call (Some reply) = graded shape (counted phase call) call reply (grade_of shape call reply)
+next_of shape phase call (Some reply) =
+    graded shape (counted phase call) call reply (grade_of shape call reply)

@@ -32,13 +32,17 @@ IsReadable shape kind reference = IsTrue (is_value_type kind) × IsOutput shape 
 
 -- the reference is that of a variable of this type, which Set writes
 abbrev pub IsWritable : Shape → PortType → ℕ → Type 0
-IsWritable shape kind reference = IsTrue (is_value_type kind) × IsSomeAnd (variable_at shape.variables reference) (λ (v : Variable). v.kind ≡ Some kind)
+IsWritable shape kind reference =
+    IsTrue (is_value_type kind) ×
+    IsSomeAnd (variable_at shape.variables reference) (λ (v : Variable). v.kind ≡ Some kind)
 
 -- ---- marks: which inputs and input Clocks were set and which output Clocks were asked, in this instant or since the last step
 
 -- the variable is marked
 abbrev pub is_marked : Shape → List Bool → ℕ → Bool
-is_marked shape marks reference = option_map_or (λ place. slice_index_or marks place false) (place_of shape.variables reference) false
+is_marked shape marks reference =
+    option_map_or (λ place. slice_index_or marks place false)
+    (place_of shape.variables reference) false
 
 -- no variable is marked
 abbrev pub none_marked : List Bool → Bool
@@ -59,7 +63,8 @@ is_present shape active v = is_unclocked v || list_any (is_marked shape active) 
 
 -- the Clock may be set, or asked whether it is active: once in an instant
 abbrev pub can_be_ticked : (Variable → Bool) → InstanceState → Shape → List Bool → ℕ → Bool
-can_be_ticked sort Event shape marks reference = is_at sort shape.variables reference && not (is_marked shape marks reference)
+can_be_ticked sort Event shape marks reference =
+    is_at sort shape.variables reference && not (is_marked shape marks reference)
 can_be_ticked sort _ shape marks reference = false
 
 abbrev is_fixed : IntervalVariability → Bool
@@ -72,7 +77,9 @@ is_countdown _ = false
 
 -- an input Clock whose timing passes the test
 abbrev pub is_timed : (ClockTiming → Bool) → Shape → ℕ → Bool
-is_timed test shape reference = is_at is_input_clock shape.variables reference && option_map_or test (timing_at shape.clocks reference) false
+is_timed test shape reference =
+    is_at is_input_clock shape.variables reference &&
+    option_map_or test (timing_at shape.clocks reference) false
 
 -- a fixed Clock whose interval and shift are answered
 abbrev pub is_answered : ClockTiming → Bool
@@ -96,21 +103,30 @@ has_shift _ shape reference = false
 
 -- whether a variable's causality is of this sort
 abbrev pub has_causality : (Causality → Bool) → Shape → ℕ → Bool
-has_causality sort shape reference = is_at (λ (v : Variable). sort v.causality) shape.variables reference
+has_causality sort shape reference =
+    is_at (λ (v : Variable). sort v.causality) shape.variables reference
 
 -- in Initialization Mode outputs without Clocks may be read, in Event Mode those that are present; in Step Mode, where there is no event mode, every output until an input is set
 abbrev pub can_be_read : InstanceState → Shape → (marks active : List Bool) → ℕ → Bool
-can_be_read Initialization shape marks active reference = is_at is_unclocked shape.variables reference
-can_be_read Event shape marks active reference = is_at (is_present shape active) shape.variables reference
+can_be_read Initialization shape marks active reference =
+    is_at is_unclocked shape.variables reference
+can_be_read Event shape marks active reference =
+    is_at (is_present shape active) shape.variables reference
 can_be_read Step shape marks active reference = not shape.has_event_mode && none_marked marks
 can_be_read _ shape marks active reference = false
 
 -- parameters may be set before Initialization Mode, inputs without Clocks in it; in Event Mode each input that is present once in an instant; in Step Mode, where there is no event mode, each input once before the next step
 abbrev pub can_be_set : InstanceState → Shape → (marks active : List Bool) → ℕ → Bool
 can_be_set Instantiated shape marks active reference = has_causality is_parameter shape reference
-can_be_set Initialization shape marks active reference = has_causality is_input shape reference && is_at is_unclocked shape.variables reference
-can_be_set Event shape marks active reference = has_causality is_input shape reference && is_at (is_present shape active) shape.variables reference && not (is_marked shape marks reference)
-can_be_set Step shape marks active reference = has_causality is_input shape reference && not shape.has_event_mode && not (is_marked shape marks reference)
+can_be_set Initialization shape marks active reference =
+    has_causality is_input shape reference && is_at is_unclocked shape.variables reference
+can_be_set Event shape marks active reference =
+    has_causality is_input shape reference &&
+    is_at (is_present shape active) shape.variables reference &&
+    not (is_marked shape marks reference)
+can_be_set Step shape marks active reference =
+    has_causality is_input shape reference && not shape.has_event_mode &&
+    not (is_marked shape marks reference)
 can_be_set _ shape marks active reference = false
 
 -- the instance may be freed: with a saved state only where it is dead
@@ -133,7 +149,8 @@ is_running _ = false
 
 -- without variable steps each step has the size of the first
 abbrev pub IsSizeFor : Shape → Phase → ℕ → Type 0
-IsSizeFor shape phase size = IsTrue (shape.has_variable_steps || unwrap_or phase.first_size size == size)
+IsSizeFor shape phase size =
+    IsTrue (shape.has_variable_steps || unwrap_or phase.first_size size == size)
 
 -- a state that is saved is that of the point
 abbrev pub is_of_point : SavedPhase → ℕ → Bool
@@ -141,29 +158,38 @@ is_of_point slot point = not slot.is_full || slot.point == point
 
 -- states may be saved, and the slot is full or empty as this says
 abbrev pub KeepsState : Shape → Phase → Bool → Type 0
-KeepsState shape phase is_full = (phase.state ≡ Step) × (shape.can_save_state ≡ true) × (phase.slot.is_full ≡ is_full)
+KeepsState shape phase is_full =
+    (phase.state ≡ Step) × (shape.can_save_state ≡ true) × (phase.slot.is_full ≡ is_full)
 
 -- the call is permitted. Event Mode is left once an Update in it has asked for no other
 abbrev pub Permitted : Shape → Phase → Call → Type 0
 Permitted shape phase (C.Instantiate event_mode early_return) =
-    (phase.state ≡ Fresh) × (event_mode ≡ shape.has_event_mode) × (early_return ≡ shape.might_return_early)
-Permitted shape phase (C.EnterInitialization start stop) = (phase.state ≡ Instantiated) × (start ≤ stop)
+    (phase.state ≡ Fresh) × (event_mode ≡ shape.has_event_mode) ×
+    (early_return ≡ shape.might_return_early)
+Permitted shape phase (C.EnterInitialization start stop) =
+    (phase.state ≡ Instantiated) × (start ≤ stop)
 Permitted shape phase C.ExitInitialization = phase.state ≡ Initialization
-Permitted shape phase C.EnterEvent = (phase.state ≡ Step) × (shape.has_event_mode ≡ true) × (phase.slot.is_full ≡ false)
+Permitted shape phase C.EnterEvent =
+    (phase.state ≡ Step) × (shape.has_event_mode ≡ true) × (phase.slot.is_full ≡ false)
 Permitted shape phase C.EnterStep = (phase.state ≡ Event) × (phase.settled ≡ true)
 Permitted shape phase (C.DoStep at size) =
-    (phase.state ≡ Step) × (at ≡ phase.point) × (0 < size) × (at + size ≤ phase.stop) × IsSizeFor shape phase size × IsTrue (is_of_point phase.slot phase.point)
+    (phase.state ≡ Step) × (at ≡ phase.point) × (0 < size) × (at + size ≤ phase.stop) ×
+    IsSizeFor shape phase size × IsTrue (is_of_point phase.slot phase.point)
 Permitted shape phase C.Update = phase.state ≡ Event
 Permitted shape phase (C.Get kind reference) =
-    IsTrue (can_be_read phase.state shape phase.marks phase.active reference) × IsReadable shape kind reference
+    IsTrue (can_be_read phase.state shape phase.marks phase.active reference) ×
+    IsReadable shape kind reference
 Permitted shape phase (C.Set kind reference value) =
-    IsTrue (can_be_set phase.state shape phase.marks phase.active reference) × IsWritable shape kind reference × Fits kind value
+    IsTrue (can_be_set phase.state shape phase.marks phase.active reference) ×
+    IsWritable shape kind reference × Fits kind value
 Permitted shape phase C.Save = KeepsState shape phase false
 Permitted shape phase C.Restore = KeepsState shape phase true
 Permitted shape phase C.Free = KeepsState shape phase true
 Permitted shape phase C.Terminate = (is_running phase.state ≡ true) × (phase.slot.is_full ≡ false)
 Permitted shape phase C.FreeInstance = IsTrue (can_be_freed phase.state phase.slot.is_full)
-Permitted shape phase (C.GetClock reference) = IsTrue (can_be_ticked is_output_clock phase.state shape phase.marks reference)
-Permitted shape phase (C.SetClock reference) = IsTrue (can_be_ticked is_input_clock phase.state shape phase.marks reference)
+Permitted shape phase (C.GetClock reference) =
+    IsTrue (can_be_ticked is_output_clock phase.state shape phase.marks reference)
+Permitted shape phase (C.SetClock reference) =
+    IsTrue (can_be_ticked is_input_clock phase.state shape phase.marks reference)
 Permitted shape phase (C.GetInterval reference) = IsTrue (has_interval phase.state shape reference)
 Permitted shape phase (C.GetShift reference) = IsTrue (has_shift phase.state shape reference)

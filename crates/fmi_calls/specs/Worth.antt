@@ -29,11 +29,13 @@ both_or_neither false b = not b
 -- a step ends after its beginning and at its bound at most, has the early flag exactly where it ends before that, and may do so only where early return was allowed
 abbrev pub is_step_end : Shape → ℕ → ℕ → Bool → ℕ → Bool
 is_step_end shape at size early end =
-    nat_lt at end && nat_le end (at + size) && both_or_neither early (nat_lt end (at + size)) && (shape.might_return_early || not early)
+    nat_lt at end && nat_le end (at + size) && both_or_neither early (nat_lt end (at + size)) &&
+    (shape.might_return_early || not early)
 
 -- the fraction of a second is a whole number of counts, and at least so many
 abbrev pub has_counts : ℕ → Fraction → ℕ → Bool
-has_counts least fraction per_second = option_map_or (λ n. nat_le least n) (counts_of fraction per_second) false
+has_counts least fraction per_second =
+    option_map_or (λ n. nat_le least n) (counts_of fraction per_second) false
 
 -- a countdown Clock has no interval yet, the one that it had, or a new one, which has whole counts
 abbrev pub is_countdown_interval : Interval → ℕ → Bool
@@ -49,7 +51,8 @@ is_known_interval (Changed fraction) per_second = has_counts 1 fraction per_seco
 
 -- how the intervals of the Clock under a reference vary
 abbrev pub variability_at : Shape → ℕ → Option IntervalVariability
-variability_at shape reference = option_map (λ (c : ClockTiming). c.variability) (timing_at shape.clocks reference)
+variability_at shape reference =
+    option_map (λ (c : ClockTiming). c.variability) (timing_at shape.clocks reference)
 
 abbrev pub is_interval : Option IntervalVariability → Interval → ℕ → Bool
 is_interval (Some Countdown) interval per_second = is_countdown_interval interval per_second
@@ -57,7 +60,8 @@ is_interval _ interval per_second = is_known_interval interval per_second
 
 -- of a reply of the call's kind with OK or Warning: whether it is one that the call may get
 abbrev pub is_valid : Shape → Call → Content → Bool
-is_valid shape (C.DoStep at size) (A.DoStep event_needed terminate early end) = is_step_end shape at size early end
+is_valid shape (C.DoStep at size) (A.DoStep event_needed terminate early end) =
+    is_step_end shape at size early end
 is_valid shape (C.Get kind reference) (A.Get word) = is_some (word_value kind word)
 is_valid shape (C.Instantiate event_mode early_return) A.Instantiate = true
 is_valid shape (C.EnterInitialization start stop) A.EnterInitialization = true
@@ -68,7 +72,8 @@ is_valid shape C.Update (A.Update again terminate event_time) = true
 is_valid shape (C.Set kind reference value) A.Set = true
 is_valid shape (C.GetClock reference) (A.GetClock word) = nat_le word 1
 is_valid shape (C.SetClock reference) A.SetClock = true
-is_valid shape (C.GetInterval reference) (A.GetInterval interval) = is_interval (variability_at shape reference) interval shape.resolution
+is_valid shape (C.GetInterval reference) (A.GetInterval interval) =
+    is_interval (variability_at shape reference) interval shape.resolution
 is_valid shape (C.GetShift reference) (A.GetShift shift) = has_counts 0 shift shape.resolution
 is_valid shape C.Save A.Save = true
 is_valid shape C.Restore A.Restore = true
@@ -79,5 +84,7 @@ is_valid shape call content = false
 
 -- a reply of another kind is a misreply; else Discard, Error and Fatal are refusals; else a reply that isn't valid is a misreply
 abbrev pub grade_of : Shape → Call → Reply → Grade
-grade_of shape call (R.Done is_warning content) = if is_valid shape call content then Good else Misreply
-grade_of shape call (R.Refused kind status) = if same_kind kind (kind_of call) then Refused else Misreply
+grade_of shape call (R.Done is_warning content) =
+    if is_valid shape call content then Good else Misreply
+grade_of shape call (R.Refused kind status) =
+    if same_kind kind (kind_of call) then Refused else Misreply

@@ -9,4 +9,6 @@ use Rattle.fmu_description.specs.Rules.{IsFirstViolation}
 
 -- the refusal is the first violation, unless memory ran out
 abbrev pub Faults : List Node → ℕ → Refusal → Type 0
-Faults t per_second refusal = tables.Faults (λ (rule : DescriptionRule). Description rule) (IsFirstViolation t per_second) refusal
+Faults t per_second refusal =
+    tables.Faults (λ (rule : DescriptionRule). Description rule)
+    (IsFirstViolation t per_second) refusal

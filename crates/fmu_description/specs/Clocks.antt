@@ -26,7 +26,8 @@ clocks_of t k = references_of t k (codes "clocks")
 -- a variable is foreign of itself, or by a foreign Clock at whose ticks it has a value
 pub data IsForeign (t : List Node) : ℕ → Type 0 where
   OfItself : (k : ℕ) → is_variable t k ≡ true → IsForeignItself t k → IsForeign t k
-  ByClock : (k clock reference : ℕ) → is_variable t k ≡ true → Contains (clocks_of t k) reference → clock_key t clock ≡ Some reference → IsForeign t clock → IsForeign t k
+  ByClock : (k clock reference : ℕ) → is_variable t k ≡ true → Contains (clocks_of t k) reference →
+      clock_key t clock ≡ Some reference → IsForeign t clock → IsForeign t k
 
 -- ---- Clocks
 
@@ -43,19 +44,26 @@ counter_of t k name = option_and_then counter (attribute t k name)
 -- the counters count where fractions are supported and both are given
 abbrev pub is_by_counters : List Node → ℕ → Bool
 is_by_counters t k =
-    has_flag t k (codes "supportsFraction") && is_some (attribute t k (codes "intervalCounter")) && is_some (attribute t k (codes "resolution"))
+    has_flag t k (codes "supportsFraction") && is_some (attribute t k (codes "intervalCounter")) &&
+    is_some (attribute t k (codes "resolution"))
 
 -- the interval that is described, in seconds: counters over a resolution, else a decimal
 pub data IsInterval (t : List Node) (k : ℕ) : Fraction → Type 0 where
-  ByCounters : (f : Fraction) → is_by_counters t k ≡ true → counter_of t k (codes "intervalCounter") ≡ Some f.counter →
+  ByCounters : (f : Fraction) → is_by_counters t k ≡ true →
+      counter_of t k (codes "intervalCounter") ≡ Some f.counter →
       counter_of t k (codes "resolution") ≡ Some f.resolution → IsInterval t k f
-  ByDecimal : (f : Fraction) (text : List ℕ) → is_by_counters t k ≡ false → attribute t k (codes "intervalDecimal") ≡ Some text → Denotes text f → IsInterval t k f
+  ByDecimal : (f : Fraction) (text : List ℕ) → is_by_counters t k ≡ false →
+      attribute t k (codes "intervalDecimal") ≡ Some text → Denotes text f → IsInterval t k f
 
 -- the shift beside it, in seconds: 0 where it isn't given
 pub data IsShift (t : List Node) (k : ℕ) : Fraction → Type 0 where
-  Counters : (f : Fraction) → is_by_counters t k ≡ true → counter_of t k (codes "shiftCounter") ≡ Some f.counter →
+  Counters : (f : Fraction) → is_by_counters t k ≡ true →
+      counter_of t k (codes "shiftCounter") ≡ Some f.counter →
       counter_of t k (codes "resolution") ≡ Some f.resolution → IsShift t k f
-  NoCounter : (f : Fraction) → is_by_counters t k ≡ true → attribute t k (codes "shiftCounter") ≡ None → f.counter ≡ 0 →
+  NoCounter : (f : Fraction) → is_by_counters t k ≡ true →
+      attribute t k (codes "shiftCounter") ≡ None → f.counter ≡ 0 →
       counter_of t k (codes "resolution") ≡ Some f.resolution → IsShift t k f
-  Decimal : (f : Fraction) (text : List ℕ) → is_by_counters t k ≡ false → attribute t k (codes "shiftDecimal") ≡ Some text → Denotes text f → IsShift t k f
-  NoDecimal : (f : Fraction) → is_by_counters t k ≡ false → attribute t k (codes "shiftDecimal") ≡ None → f.counter ≡ 0 → f.resolution ≡ 1 → IsShift t k f
+  Decimal : (f : Fraction) (text : List ℕ) → is_by_counters t k ≡ false →
+      attribute t k (codes "shiftDecimal") ≡ Some text → Denotes text f → IsShift t k f
+  NoDecimal : (f : Fraction) → is_by_counters t k ≡ false →
+      attribute t k (codes "shiftDecimal") ≡ None → f.counter ≡ 0 → f.resolution ≡ 1 → IsShift t k f

@@ -42,13 +42,15 @@ IsStart (Some kind) (Some text) start = (value : ℤ) × (start ≡ Some value) 
 -- where a type and a text are given, the text reads
 abbrev pub ReadsStart : Option PortType → Option (List ℕ) → Type 0
 ReadsStart kind text =
-    (k : PortType) (bytes : List ℕ) → kind ≡ Some k → text ≡ Some bytes → ((value : ℤ) → Reads k bytes value → ⊥) → ⊥
+    (k : PortType) (bytes : List ℕ) → kind ≡ Some k → text ≡ Some bytes →
+    ((value : ℤ) → Reads k bytes value → ⊥) → ⊥
 
 -- a foreign variable has neither type nor start value
 abbrev pub IsKind : List Node → ℕ → Option PortType → Option ℤ → Type 0
 IsKind t k kind start =
     (IsForeign t k × (kind ≡ None) × (start ≡ None))
-    ⊎ ((IsForeign t k → ⊥) × (kind ≡ port_type (name_of t k)) × IsStart kind (attribute t k (codes "start")) start)
+    ⊎ ((IsForeign t k → ⊥) × (kind ≡ port_type (name_of t k)) ×
+    IsStart kind (attribute t k (codes "start")) start)
 
 -- a flag that is set unless the element says otherwise
 abbrev pub is_kept_on : List Node → ℕ → List ℕ → Bool
@@ -78,7 +80,8 @@ IsShiftTold t k (Some interval) shift = (f : Fraction) × (shift ≡ Some f) × 
 
 -- where there is an interval, there is a shift beside it
 abbrev pub HasShift : List Node → ℕ → Option Fraction → Type 0
-HasShift t k interval = (f : Fraction) → interval ≡ Some f → ((shift : Fraction) → IsShift t k shift → ⊥) → ⊥
+HasShift t k interval =
+    (f : Fraction) → interval ≡ Some f → ((shift : Fraction) → IsShift t k shift → ⊥) → ⊥
 
 pub record IsTiming (t : List Node) (k : ℕ) (x : ClockTiming) : Type 0 where
   pub reference : reference_of t k ≡ Some x.reference
@@ -115,19 +118,24 @@ listed xs (Some text) = Listed (filter (is_port_at xs) (unwrap_or (references te
 -- what an output depends on in Event Mode and Step Mode: what its Output lists, without one all inputs
 abbrev pub DependsOn : List Node → List Variable → ℕ → Knowns → Type 0
 DependsOn t xs reference on =
-    ((k : ℕ) × IsFirstWith (output_key t) reference k × (on ≡ listed xs (attribute t k (codes "dependencies"))))
+    ((k : ℕ) × IsFirstWith (output_key t) reference k ×
+    (on ≡ listed xs (attribute t k (codes "dependencies"))))
     ⊎ ((IsHeld (output_key t) reference → ⊥) × (on ≡ AllInputs))
 
 -- its start value is exact, and isn't computed from others
 abbrev pub IsExact : List Node → ℕ → Type 0
-IsExact t reference = (k : ℕ) × (variable_key t k ≡ Some reference) × (attribute t k (codes "initial") ≡ Some (codes "exact"))
+IsExact t reference =
+    (k : ℕ) × (variable_key t k ≡ Some reference) ×
+    (attribute t k (codes "initial") ≡ Some (codes "exact"))
 
 -- what it depends on in Initialization Mode: what its InitialUnknown lists; without one nothing where it is exact, else as in the other modes (the choice of this profile)
 abbrev pub DependsInitiallyOn : List Node → List Variable → ℕ → Knowns → Type 0
 DependsInitiallyOn t xs reference on =
-    ((k : ℕ) × IsFirstWith (initial_key t) reference k × (on ≡ listed xs (attribute t k (codes "dependencies"))))
+    ((k : ℕ) × IsFirstWith (initial_key t) reference k ×
+    (on ≡ listed xs (attribute t k (codes "dependencies"))))
     ⊎ ((IsHeld (initial_key t) reference → ⊥)
-    × ((IsExact t reference × (on ≡ Listed [])) ⊎ ((IsExact t reference → ⊥) × DependsOn t xs reference on)))
+    × ((IsExact t reference × (on ≡ Listed [])) ⊎
+    ((IsExact t reference → ⊥) × DependsOn t xs reference on)))
 
 abbrev pub IsDependency : List Node → List Variable → Variable → Dependency → Type 0
 IsDependency t xs x d = (d.output ≡ x.reference) × DependsOn t xs x.reference d.on
@@ -142,7 +150,8 @@ pub record SaysOf (t : List Node) (k : ℕ) (shape : Shape) : Type 0 where
   pub identifier : shape.identifier ≡ text_of t k (codes "modelIdentifier")
   pub event_mode : shape.has_event_mode ≡ has_flag t k (codes "hasEventMode")
   pub early : shape.might_return_early ≡ has_flag t k (codes "mightReturnEarlyFromDoStep")
-  pub variable : shape.has_variable_steps ≡ has_flag t k (codes "canHandleVariableCommunicationStepSize")
+  pub variable : shape.has_variable_steps ≡
+      has_flag t k (codes "canHandleVariableCommunicationStepSize")
   pub saves : shape.can_save_state ≡ has_flag t k (codes "canGetAndSetFMUState")
   pub serializes : shape.can_serialize_state ≡ has_flag t k (codes "canSerializeFMUState")
 
@@ -155,5 +164,7 @@ pub record Describes (t : List Node) (per_second : ℕ) (shape : Shape) : Type 0
   pub resolution : shape.resolution ≡ per_second
   pub variables : AllZip (IsVariable t) (variables_in t) shape.variables
   pub clocks : AllZip (IsTimingOf t) (clocks_among shape.variables) shape.clocks
-  pub dependencies : AllZip (IsDependency t shape.variables) (outputs_among shape.variables) shape.dependencies
-  pub initial : AllZip (IsInitialDependency t shape.variables) (outputs_among shape.variables) shape.initial_dependencies
+  pub dependencies : AllZip (IsDependency t shape.variables)
+      (outputs_among shape.variables) shape.dependencies
+  pub initial : AllZip (IsInitialDependency t shape.variables) (outputs_among shape.variables)
+      shape.initial_dependencies

@@ -74,7 +74,8 @@ abbrev pub initial_key : List Node → ℕ → Option ℕ
 initial_key t k = key_if (is_initial_unknown t k) (reference_of t k)
 
 abbrev pub name_key : List Node → ℕ → Option (List ℕ)
-name_key t k = key_if (is_variable t k || is_alias t k) (unless_empty (attribute t k (codes "name")))
+name_key t k =
+    key_if (is_variable t k || is_alias t k) (unless_empty (attribute t k (codes "name")))
 
 -- ---- the first of several
 

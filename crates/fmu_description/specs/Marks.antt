@@ -19,7 +19,8 @@ Follows t k reference = (is_variable t k ≡ true) × Contains (clocks_of t k) r
 
 -- the elements that a table has for a reference
 abbrev pub listed_at : BTreeMap ℕ (Vec ℕ Global) → ℕ → List ℕ
-listed_at table reference = option_map_or (λ (v : Vec ℕ Global). v.items) (get nat_cmp table reference) []
+listed_at table reference =
+    option_map_or (λ (v : Vec ℕ Global). v.items) (get nat_cmp table reference) []
 
 -- the table has the elements that name a reference in `clocks`
 abbrev pub ListsFollowers : List Node → (ℕ → List ℕ) → Type 0
@@ -27,22 +28,27 @@ ListsFollowers t listed = (k reference : ℕ) → Contains (listed reference) k 
 
 -- the same of the elements below n
 abbrev pub ListsBelow : List Node → ℕ → (ℕ → List ℕ) → Type 0
-ListsBelow t n listed = (k reference : ℕ) → Contains (listed reference) k ↔ ((k < n) × Follows t k reference)
+ListsBelow t n listed =
+    (k reference : ℕ) → Contains (listed reference) k ↔ ((k < n) × Follows t k reference)
 
 -- the element is put under each of the references
 abbrev pub PutsUnder : List ℕ → ℕ → (ℕ → List ℕ) → (ℕ → List ℕ) → Type 0
-PutsUnder references node old new = (k q : ℕ) → Contains (new q) k ↔ (Contains (old q) k ⊎ ((k ≡ node) × Contains references q))
+PutsUnder references node old new =
+    (k q : ℕ) → Contains (new q) k ↔ (Contains (old q) k ⊎ ((k ≡ node) × Contains references q))
 
 abbrev pub IsMarked : List Bool → ℕ → Type 0
 IsMarked marks k = slice_index_or marks k false ≡ true
 
 -- what it does to mark elements, where the references of the Clocks that are newly marked go to the work that is left
-pub record Marks (t : List Node) (elements : List ℕ) (old new : List Bool) (left more : List ℕ) : Type 0 where
+pub record Marks (t : List Node) (elements : List ℕ) (old new : List Bool)
+    (left more : List ℕ) : Type 0 where
   pub same_length : length new ≡ length old
   pub marked : (k : ℕ) → Contains elements k → k < length old → IsMarked new k
   pub kept : (k : ℕ) → IsMarked old k → IsMarked new k
   pub no_other : (k : ℕ) → IsMarked new k → IsMarked old k ⊎ Contains elements k
-  pub told : (k reference : ℕ) → IsMarked new k → clock_key t k ≡ Some reference → IsMarked old k ⊎ Contains more reference
+  pub told : (k reference : ℕ) → IsMarked new k → clock_key t k ≡ Some reference → IsMarked old k ⊎
+      Contains more reference
   pub left_kept : (reference : ℕ) → Contains left reference → Contains more reference
-  pub left_only : (reference : ℕ) → Contains more reference → Contains left reference ⊎ ((k : ℕ) × Contains elements k × (clock_key t k ≡ Some reference))
+  pub left_only : (reference : ℕ) → Contains more reference → Contains left reference ⊎
+      ((k : ℕ) × Contains elements k × (clock_key t k ≡ Some reference))
   pub less : 2 * count_by not new + length more ≤ 2 * count_by not old + length left

@@ -28,11 +28,14 @@ LacksName t k = LacksText t k (codes "name")
 
 abbrev pub LacksOfRoot : List Node → ℕ → Type 0
 LacksOfRoot t k =
-    (k ≡ 0) × (Lacks t k (codes "fmiVersion") ⊎ (Lacks t k (codes "modelName") ⊎ Lacks t k (codes "instantiationToken")))
+    (k ≡ 0) × (Lacks t k (codes "fmiVersion") ⊎
+    (Lacks t k (codes "modelName") ⊎ Lacks t k (codes "instantiationToken")))
 
 abbrev pub LacksOfVariable : List Node → ℕ → Type 0
 LacksOfVariable t k =
-    (is_variable t k ≡ true) × (LacksName t k ⊎ (Lacks t k (codes "valueReference") ⊎ (IsTimed t k × Lacks t k (codes "intervalVariability"))))
+    (is_variable t k ≡ true) × (LacksName t k ⊎
+    (Lacks t k (codes "valueReference") ⊎
+    (IsTimed t k × Lacks t k (codes "intervalVariability"))))
 
 abbrev pub LacksOfAlias : List Node → ℕ → Type 0
 LacksOfAlias t k = (is_alias t k ≡ true) × LacksName t k
@@ -49,7 +52,8 @@ abbrev pub MisreadsFlag : List Node → ℕ → List ℕ → Type 0
 MisreadsFlag t k name = flag_of t k name ≡ None
 
 abbrev pub MisreadsDecimal : List Node → ℕ → List ℕ → Type 0
-MisreadsDecimal t k name = (text : List ℕ) × (attribute t k name ≡ Some text) × ((f : Fraction) → Denotes text f → ⊥)
+MisreadsDecimal t k name =
+    (text : List ℕ) × (attribute t k name ≡ Some text) × ((f : Fraction) → Denotes text f → ⊥)
 
 -- the start value doesn't read as the type
 abbrev pub MisreadsValue : List Node → ℕ → Type 0
@@ -70,7 +74,8 @@ MisreadsOfCoSimulation t k =
     ⊎ MisreadsFlag t k (codes "canSerializeFMUState")))))
 
 abbrev pub MisreadsSetting : List Node → ℕ → Type 0
-MisreadsSetting t k = MisreadsFlag t k (codes "canHandleMultipleSetPerTimeInstant") ⊎ MisreadsStart t k
+MisreadsSetting t k =
+    MisreadsFlag t k (codes "canHandleMultipleSetPerTimeInstant") ⊎ MisreadsStart t k
 
 abbrev pub MisreadsOfVariable : List Node → ℕ → Type 0
 MisreadsOfVariable t k =
@@ -90,20 +95,25 @@ MisreadsCounters t k =
     ⊎ HasNoResolution t k))
 
 abbrev pub MisreadsDecimals : List Node → ℕ → Type 0
-MisreadsDecimals t k = MisreadsDecimal t k (codes "intervalDecimal") ⊎ MisreadsDecimal t k (codes "shiftDecimal")
+MisreadsDecimals t k =
+    MisreadsDecimal t k (codes "intervalDecimal") ⊎ MisreadsDecimal t k (codes "shiftDecimal")
 
 -- the interval or the shift of a clock
 abbrev pub MisreadsTime : List Node → ℕ → Type 0
 MisreadsTime t k = MisreadsCounters t k ⊎ MisreadsDecimals t k
 
 abbrev pub MisreadsTicks : List Node → ℕ → Type 0
-MisreadsTicks t k = MisreadsFlag t k (codes "supportsFraction") ⊎ (Misreads variability t k (codes "intervalVariability") ⊎ MisreadsTime t k)
+MisreadsTicks t k =
+    MisreadsFlag t k (codes "supportsFraction") ⊎
+    (Misreads variability t k (codes "intervalVariability") ⊎ MisreadsTime t k)
 
 abbrev pub MisreadsOfClock : List Node → ℕ → Type 0
 MisreadsOfClock t k = (is_clock t k ≡ true) × MisreadsTicks t k
 
 abbrev pub MisreadsOfUnknown : List Node → ℕ → Type 0
-MisreadsOfUnknown t k = IsUnknown t k × (Misreads reference t k (codes "valueReference") ⊎ Misreads references t k (codes "dependencies"))
+MisreadsOfUnknown t k =
+    IsUnknown t k × (Misreads reference t k (codes "valueReference") ⊎
+    Misreads references t k (codes "dependencies"))
 
 -- ---- clocks
 
@@ -112,10 +122,12 @@ IsOf t k x = variability_of t k ≡ Some x
 
 -- the interval has to be described: of a constant clock, and of a fixed one that isn't asked for it
 abbrev pub NeedsInterval : List Node → ℕ → Type 0
-NeedsInterval t k = IsOf t k v.Constant ⊎ (IsOf t k v.Fixed × (has_flag t k (codes "supportsFraction") ≡ false))
+NeedsInterval t k =
+    IsOf t k v.Constant ⊎ (IsOf t k v.Fixed × (has_flag t k (codes "supportsFraction") ≡ false))
 
 abbrev pub HasInterval : List Node → ℕ → Type 0
-HasInterval t k = (is_by_counters t k ≡ true) ⊎ (is_some (attribute t k (codes "intervalDecimal")) ≡ true)
+HasInterval t k =
+    (is_by_counters t k ≡ true) ⊎ (is_some (attribute t k (codes "intervalDecimal")) ≡ true)
 
 abbrev pub LacksInterval : List Node → ℕ → Type 0
 LacksInterval t k = IsTimed t k × NeedsInterval t k × (HasInterval t k → ⊥)
@@ -134,12 +146,14 @@ abbrev pub IsWhole : ℕ → Fraction → Type 0
 IsWhole per_second f = (counts : ℕ) × IsCounts f per_second counts
 
 abbrev pub HasUnevenShift : List Node → ℕ → ℕ → Type 0
-HasUnevenShift t per_second k = (shift : Fraction) × IsShift t k shift × (IsWhole per_second shift → ⊥)
+HasUnevenShift t per_second k =
+    (shift : Fraction) × IsShift t k shift × (IsWhole per_second shift → ⊥)
 
 -- the interval that is described is 0, or it or its shift isn't whole
 abbrev pub IsUneven : List Node → ℕ → ℕ → Type 0
 IsUneven t per_second k =
-    (f : Fraction) × IsInterval t k f × ((f.counter ≡ 0) ⊎ ((IsWhole per_second f → ⊥) ⊎ HasUnevenShift t per_second k))
+    (f : Fraction) × IsInterval t k f ×
+    ((f.counter ≡ 0) ⊎ ((IsWhole per_second f → ⊥) ⊎ HasUnevenShift t per_second k))
 
 -- tunable or changing
 abbrev pub IsLeftOut : List Node → ℕ → Type 0
@@ -182,7 +196,8 @@ abbrev pub HasOtherName : List Node → ℕ → Type 0
 HasOtherName t k = (k ≡ 0) × (is_named t k (codes "fmiModelDescription") ≡ false)
 
 abbrev pub NamesOtherVersion : List Node → ℕ → Type 0
-NamesOtherVersion t k = (text : List ℕ) × (attribute t k (codes "fmiVersion") ≡ Some text) × (IsVersion text → ⊥)
+NamesOtherVersion t k =
+    (text : List ℕ) × (attribute t k (codes "fmiVersion") ≡ Some text) × (IsVersion text → ⊥)
 
 abbrev pub HasOtherVersion : List Node → ℕ → Type 0
 HasOtherVersion t k = (k ≡ 0) × NamesOtherVersion t k
@@ -191,10 +206,14 @@ abbrev pub LacksCoSimulation : List Node → ℕ → Type 0
 LacksCoSimulation t k = (k ≡ 0) × HasNoCoSimulation t
 
 abbrev pub LacksSomething : List Node → ℕ → Type 0
-LacksSomething t k = LacksOfRoot t k ⊎ (LacksOfCoSimulation t k ⊎ (LacksOfVariable t k ⊎ (LacksOfAlias t k ⊎ LacksOfUnknown t k)))
+LacksSomething t k =
+    LacksOfRoot t k ⊎ (LacksOfCoSimulation t k ⊎
+    (LacksOfVariable t k ⊎ (LacksOfAlias t k ⊎ LacksOfUnknown t k)))
 
 abbrev pub MisreadsSomething : List Node → ℕ → Type 0
-MisreadsSomething t k = MisreadsOfCoSimulation t k ⊎ (MisreadsOfVariable t k ⊎ (MisreadsOfClock t k ⊎ MisreadsOfUnknown t k))
+MisreadsSomething t k =
+    MisreadsOfCoSimulation t k ⊎ (MisreadsOfVariable t k ⊎
+    (MisreadsOfClock t k ⊎ MisreadsOfUnknown t k))
 
 abbrev pub NamesNoClockAt : List Node → ℕ → Type 0
 NamesNoClockAt t k = (is_variable t k ≡ true) × NamesNoClock t k
@@ -204,7 +223,8 @@ NamesNoVariableAt t k = IsUnknown t k × NamesNoVariable t k
 
 abbrev pub SerializesUnsaved : List Node → ℕ → Type 0
 SerializesUnsaved t k =
-    IsCoSimulation t k × (has_flag t k (codes "canSerializeFMUState") ≡ true) × (has_flag t k (codes "canGetAndSetFMUState") ≡ false)
+    IsCoSimulation t k × (has_flag t k (codes "canSerializeFMUState") ≡ true) ×
+    (has_flag t k (codes "canGetAndSetFMUState") ≡ false)
 
 abbrev pub HasNoEvents : List Node → ℕ → Type 0
 HasNoEvents t k = IsTimed t k × HasNoEventMode t
@@ -251,7 +271,8 @@ IsLeast t per_second k rule = first.IsLeast description_number (Violates t per_s
 
 -- the first violation: at the first element that breaks a rule, the one of the least number
 abbrev pub IsFirstViolation : List Node → ℕ → ℕ → DescriptionRule → Type 0
-IsFirstViolation t per_second k rule = first.IsFirstViolation description_number (Violates t per_second) k rule
+IsFirstViolation t per_second k rule =
+    first.IsFirstViolation description_number (Violates t per_second) k rule
 
 -- no element breaks a rule
 abbrev pub IsSound : List Node → ℕ → Type 0

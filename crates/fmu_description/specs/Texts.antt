@@ -27,7 +27,9 @@ is_number text = not (length text == 0) && list_all is_ascii_digit text
 
 -- the number below the limit that digits write
 abbrev pub number_below : ℕ → List ℕ → Option ℕ
-number_below limit text = if is_number text && nat_lt (digits_value 10 text) limit then Some (digits_value 10 text) else None
+number_below limit text =
+    if is_number text && nat_lt (digits_value 10 text) limit
+    then Some (digits_value 10 text) else None
 
 -- a value reference: an unsigned number of 32 bits
 abbrev pub reference : List ℕ → Option ℕ
@@ -82,7 +84,8 @@ port_type name =
 -- the types whose values are no whole numbers
 abbrev pub is_foreign_type : List ℕ → Bool
 is_foreign_type name =
-    bytes_eq name (codes "Float32") || bytes_eq name (codes "Float64") || bytes_eq name (codes "String") || bytes_eq name (codes "Binary")
+    bytes_eq name (codes "Float32") || bytes_eq name (codes "Float64") ||
+    bytes_eq name (codes "String") || bytes_eq name (codes "Binary")
 
 -- what a variable is for; local where it isn't said (2.4.7.4)
 abbrev pub causality : Option (List ℕ) → Causality

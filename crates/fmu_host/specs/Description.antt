@@ -40,7 +40,8 @@ pub record Breaks (folder : FolderView) (line : Line) : Type 0 where
   pub rule : Rule
   pub place : Place
   pub has : HasBytes folder line bytes
-  pub breaks : BreaksAlone (IsModel line.resolution bytes) (BreaksModel line.resolution bytes) rule place
+  pub breaks : BreaksAlone (IsModel line.resolution bytes)
+      (BreaksModel line.resolution bytes) rule place
 
 -- it was asked for, once and nothing else, and the read didn't fail
 abbrev pub IsAsked : Line → FolderView → FolderView → Type 0

@@ -17,7 +17,11 @@ use Rattle.fmu_host.specs.declared.hosting.HostEnd.TheVariants.{NoWords, Unread,
 -- a built-in machine of this shape before its first call, which keeps no talk
 abbrev pub first_view : Model → Shape → View
 first_view model shape = record {
-  fixed = record { shape = shape; origin = Some (record { host = []; name = []; directory = [] }); machine = Some (machine_of (behaviour_of model) shape) };
+  fixed = record {
+    shape = shape;
+    origin = Some (record { host = []; name = []; directory = [] });
+    machine = Some (machine_of (behaviour_of model) shape);
+  };
   phase = fresh shape;
   talk = None;
   state = Some (first_state shape.variables);
@@ -30,7 +34,8 @@ pub record ServesShape (end : ServeEnd) (shape : Shape) (old new : Link) : Type 
   pub named : model_named shape.identifier ≡ Some model
   pub machine : View
   pub calm : machine.faults ≡ 0
-  pub serves : HasServed (scene old.input old.output (first_view model shape)) (scene new.input new.output machine) end
+  pub serves : HasServed (scene old.input old.output (first_view model shape))
+      (scene new.input new.output machine) end
 
 -- what holds once a shape is read
 abbrev pub ShapeFacts : HostEnd → Shape → Link → Link → Type 0
@@ -47,5 +52,8 @@ ShapeFacts Memory shape old new = new ≡ old
 pub data Facts (end : HostEnd) (words : List (List ℕ)) (old new : Stage) : Type 0 where
   Unbegun : end ≡ Memory → new ≡ old → Facts end words old new
   WithoutLine : end ≡ NoWords → IsNoLine words → new ≡ old → Facts end words old new
-  WithoutShape : (line : Line) → IsLine words line → LacksShape end line old.folder new.folder → new.link ≡ old.link → Facts end words old new
-  WithShape : (line : Line) (shape : Shape) → IsLine words line → IsRead line shape old.folder new.folder → ShapeFacts end shape old.link new.link → Facts end words old new
+  WithoutShape : (line : Line) → IsLine words line → LacksShape end line old.folder new.folder →
+      new.link ≡ old.link → Facts end words old new
+  WithShape : (line : Line) (shape : Shape) → IsLine words line →
+      IsRead line shape old.folder new.folder → ShapeFacts end shape old.link new.link →
+      Facts end words old new

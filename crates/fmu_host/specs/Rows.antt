@@ -52,15 +52,19 @@ pub record TellsShape (h : Happened) (line : Line) (shape : Shape) : Type 0 wher
 
 -- the count of the input rose, or that of the output
 abbrev pub LosesLink : Happened → Type 0
-LosesLink h = Rose h.old.link.input.faults h.new.link.input.faults ⊎ Rose h.old.link.output.faults h.new.link.output.faults
+LosesLink h =
+    Rose h.old.link.input.faults h.new.link.input.faults ⊎
+    Rose h.old.link.output.faults h.new.link.output.faults
 
 -- the shape names a machine, and the input tells its bytes: in the machine's first state they come to these replies, fewer than are counted, and to this end. No count rose
-pub record TellsCalls (h : Happened) (shape : Shape) (replies : List Reply) (end : ServeEnd) : Type 0 where
+pub record TellsCalls (h : Happened) (shape : Shape) (replies : List Reply)
+    (end : ServeEnd) : Type 0 where
   pub model : Model
   pub named : model_named shape.identifier ≡ Some model
   pub bytes : List ℕ
   pub told : h.old.link.input.left ≡ Some bytes
-  pub come : Comes shape (machine_of (behaviour_of model) shape) (fresh shape) (first_state shape.variables) bytes replies end
+  pub come : Comes shape (machine_of (behaviour_of model) shape) (fresh shape)
+      (first_state shape.variables) bytes replies end
   pub few : length replies < 2 ^ 64 - 1
   pub calm : LosesLink h → ⊥
 
@@ -108,26 +112,33 @@ pub record WordsRow (h : Happened) : Type 0 where
 
 -- 3: the read failed, or there is no description, or it is longer than 16 MiB
 pub data LacksFile (h : Happened) (line : Line) : Type 0 where
-  ByFault : IsUnread line h.old.folder h.new.folder → Rose h.old.folder.faults h.new.folder.faults → LacksFile h line
-  ByAbsence : Holds h.old.folder line None → IsAsked line h.old.folder h.new.folder → LacksFile h line
+  ByFault : IsUnread line h.old.folder h.new.folder →
+      Rose h.old.folder.faults h.new.folder.faults → LacksFile h line
+  ByAbsence : Holds h.old.folder line None →
+      IsAsked line h.old.folder h.new.folder → LacksFile h line
   ByLength : IsTooLong h.old.folder line → IsAsked line h.old.folder h.new.folder → LacksFile h line
 
 pub record FileRow (h : Happened) : Type 0 where
   pub when : h.status ≡ 3 → OnLine h (LacksFile h) × IsUnserved h
   pub missing : (line : Line) → Tells h line None → OrMemory h 3
-  pub big : (line : Line) (bytes : List ℕ) → Tells h line (Some bytes) → 2 ^ 24 < length bytes → OrMemory h 3
+  pub big : (line : Line) (bytes : List ℕ) → Tells h line (Some bytes) →
+      2 ^ 24 < length bytes → OrMemory h 3
 
 -- 4: exactly where the description breaks a rule
 pub record RuleRow (h : Happened) : Type 0 where
-  pub when : h.status ≡ 4 → OnLine h (λ line. Breaks h.old.folder line × IsAsked line h.old.folder h.new.folder) × IsUnserved h
-  pub exact : (line : Line) (bytes : List ℕ) (rule : Rule) (place : Place) → Tells h line (Some bytes) → length bytes ≤ 2 ^ 24 →
+  pub when : h.status ≡ 4 → OnLine h (λ line. Breaks h.old.folder line ×
+      IsAsked line h.old.folder h.new.folder) × IsUnserved h
+  pub exact : (line : Line) (bytes : List ℕ) (rule : Rule) (place : Place) →
+      Tells h line (Some bytes) → length bytes ≤ 2 ^ 24 →
       BreaksModel line.resolution bytes rule place → OrMemory h 4
 
 -- 5: exactly where the description names no built-in machine
 pub record UnknownRow (h : Happened) : Type 0 where
   pub when : h.status ≡ 5 →
-      OnLine h (λ line. (shape : Shape) × IsRead line shape h.old.folder h.new.folder × (model_named shape.identifier ≡ None)) × IsUnserved h
-  pub exact : (line : Line) (shape : Shape) → TellsShape h line shape → model_named shape.identifier ≡ None → OrMemory h 5
+      OnLine h (λ line. (shape : Shape) × IsRead line shape h.old.folder h.new.folder ×
+      (model_named shape.identifier ≡ None)) × IsUnserved h
+  pub exact : (line : Line) (shape : Shape) → TellsShape h line shape →
+      model_named shape.identifier ≡ None → OrMemory h 5
 
 -- 0, 1, 6, 9 and 10: the machine that the description names was served, and this is how that ended; at 10 a count rose. Where none rises, what the input tells decides: 0 exactly where the permitted calls end with it or with FreeInstance, 1 at bytes that are no frame, 6 at a call that isn't permitted; and the output gets the frames of the machine's replies, those and no others
 pub record ServedRow (h : Happened) : Type 0 where
@@ -136,9 +147,12 @@ pub record ServedRow (h : Happened) : Type 0 where
   pub unpermitted : h.status ≡ 6 → OnLine h (Ends h IsUnpermitted)
   pub many : h.status ≡ 9 → OnLine h (Ends h (λ end. end ≡ E.TooMany))
   pub failed : h.status ≡ 10 → OnLine h (Ends h (λ end. end ≡ E.Failed)) × LosesLink h
-  pub exact : (line : Line) (shape : Shape) (model : Model) → TellsShape h line shape → model_named shape.identifier ≡ Some model →
-      (h.status ≡ 11) ⊎ ((end : ServeEnd) × (h.status ≡ serve_status end) × ServesShape end shape h.old.link h.new.link)
-  pub told : (line : Line) (shape : Shape) (replies : List Reply) (end : ServeEnd) → TellsShape h line shape → TellsCalls h shape replies end →
+  pub exact : (line : Line) (shape : Shape) (model : Model) → TellsShape h line shape →
+      model_named shape.identifier ≡ Some model →
+      (h.status ≡ 11) ⊎ ((end : ServeEnd) × (h.status ≡ serve_status end) ×
+      ServesShape end shape h.old.link h.new.link)
+  pub told : (line : Line) (shape : Shape) (replies : List Reply) (end : ServeEnd) →
+      TellsShape h line shape → TellsCalls h shape replies end →
       Answers h replies end ⊎ (h.status ≡ 11)
 
 -- no other status comes

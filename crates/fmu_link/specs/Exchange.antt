@@ -30,7 +30,8 @@ pub record Arrives (old : WireView) (frame bytes : List ℕ) (new : WireView) : 
 abbrev pub Breaks : WireView → List ℕ → WireFault → WireView → Type 0
 Breaks old frame fault new =
     NotesSend {T = Unit {0}} old new frame (Err fault)
-    ⊎ ((room : List ℕ) × (length room ≡ 24) × NotesReceive {T = Unit {0}} (with_sent old frame) new room (Err fault))
+    ⊎ ((room : List ℕ) × (length room ≡ 24) ×
+    NotesReceive {T = Unit {0}} (with_sent old frame) new room (Err fault))
 
 -- what a wire tells, and how many replies were garbled or cut
 pub record LineView : Type 0 where
@@ -45,14 +46,18 @@ bad_after bad_replies Ended = one_more bad_replies
 -- what a call with this frame makes of it
 abbrev pub NotesCall : LineView → LineView → List ℕ → Result Reply PeerFault → Type 0
 NotesCall old new frame (Ok reply) =
-    (bytes : List ℕ) × Arrives old.wire frame bytes new.wire × IsReplyFrame reply bytes × (new.bad_replies ≡ old.bad_replies)
+    (bytes : List ℕ) × Arrives old.wire frame bytes new.wire × IsReplyFrame reply bytes ×
+    (new.bad_replies ≡ old.bad_replies)
 NotesCall old new frame (Err (P.Garbled bytes)) =
-    Arrives old.wire frame bytes new.wire × IsNoReply bytes × (new.bad_replies ≡ one_more old.bad_replies)
+    Arrives old.wire frame bytes new.wire × IsNoReply bytes ×
+    (new.bad_replies ≡ one_more old.bad_replies)
 NotesCall old new frame (Err P.Failed) =
-    (fault : WireFault) × Breaks old.wire frame fault new.wire × (new.bad_replies ≡ bad_after old.bad_replies fault)
+    (fault : WireFault) × Breaks old.wire frame fault new.wire ×
+    (new.bad_replies ≡ bad_after old.bad_replies fault)
 
 -- the frame of the call, with the texts of Instantiate, was sent alone, and its reply awaited
-pub record Exchanged (call : Call) (name token : List ℕ) (old new : LineView) (result : Result Reply PeerFault) : Type 0 where
+pub record Exchanged (call : Call) (name token : List ℕ) (old new : LineView)
+    (result : Result Reply PeerFault) : Type 0 where
   pub frame : List ℕ
   pub is_frame : IsFrameOf call name token frame
   pub noted : NotesCall old new frame result

@@ -8,7 +8,16 @@ use Rattle.fmu_link.specs.Exchange.{LineView}
 -- its count is the wire's, and that of the replies that were garbled or cut
 abbrev pub piped_view : {W : Type 0} → (W → WireView) → Piped W → View
 piped_view view p = record {
-  fixed = record { shape = p.instance.shape; origin = Some (record { host = p.instance.host; name = p.instance.name; directory = p.instance.directory }); machine = None };
+  fixed = record {
+    shape = p.instance.shape;
+    origin =
+        Some (record {
+          host = p.instance.host;
+          name = p.instance.name;
+          directory = p.instance.directory;
+        });
+    machine = None;
+  };
   phase = p.instance.phase;
   talk = None;
   state = None;

@@ -28,8 +28,10 @@ IsLink (Link call fault) = Unit {0}
 -- the exchange is why
 abbrev pub IsWhy : Shape → Why → Exchange → Type 0
 IsWhy shape (Refused call status) e =
-    (reply : Reply) × (e.call ≡ call) × (e.result ≡ Ok reply) × (status ≡ bad_status_of reply) × (grade_of shape call reply ≡ G.Refused)
-IsWhy shape (Misreply call reply) e = (e.call ≡ call) × (e.result ≡ Ok reply) × (grade_of shape call reply ≡ G.Misreply)
+    (reply : Reply) × (e.call ≡ call) × (e.result ≡ Ok reply) × (status ≡ bad_status_of reply) ×
+    (grade_of shape call reply ≡ G.Refused)
+IsWhy shape (Misreply call reply) e =
+    (e.call ≡ call) × (e.result ≡ Ok reply) × (grade_of shape call reply ≡ G.Misreply)
 IsWhy shape (Link call fault) e = (e.call ≡ call) × (e.result ≡ Err fault)
 
 -- why is the first exchange whose reply isn't good, and the talk ends with it
@@ -43,8 +45,10 @@ pub record IsFirstBad (shape : Shape) (why : Why) (talk : List Exchange) : Type 
 -- the call got this answer, which isn't good
 abbrev pub Fails : View → Call → Why → View → Type 0
 Fails old call (Refused c status) new =
-    (reply : Reply) × (c ≡ call) × (status ≡ bad_status_of reply) × (grade_of old.fixed.shape call reply ≡ G.Refused) × Asked old call (Ok reply) new
-Fails old call (Misreply c reply) new = (c ≡ call) × (grade_of old.fixed.shape call reply ≡ G.Misreply) × Asked old call (Ok reply) new
+    (reply : Reply) × (c ≡ call) × (status ≡ bad_status_of reply) ×
+    (grade_of old.fixed.shape call reply ≡ G.Refused) × Asked old call (Ok reply) new
+Fails old call (Misreply c reply) new =
+    (c ≡ call) × (grade_of old.fixed.shape call reply ≡ G.Misreply) × Asked old call (Ok reply) new
 Fails old call (Link c fault) new = (c ≡ call) × Asked old call (Err fault) new
 
 pub record Failed (old : View) (call : Call) (why : Why) (new : View) : Type 0 where

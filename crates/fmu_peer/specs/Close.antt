@@ -33,13 +33,16 @@ closing_calls false = C.Terminate ∷ C.FreeInstance ∷ []
 abbrev pub SendsInTurn : List Call → View → List Exchange → View → Type 0
 SendsInTurn [] old sent new = (sent ≡ []) × (new ≡ old)
 SendsInTurn (c ∷ cs) old sent new =
-    (Permitted old.fixed.shape old.phase c × ((result : Result Reply PeerFault) × (rest : List Exchange) × (mid : View)
-    × (sent ≡ record { call = c; result = result } ∷ rest) × Asked old c result mid × SendsInTurn cs mid rest new))
+    (Permitted old.fixed.shape old.phase c ×
+    ((result : Result Reply PeerFault) × (rest : List Exchange) × (mid : View)
+    × (sent ≡ record { call = c; result = result } ∷ rest) × Asked old c result mid ×
+    SendsInTurn cs mid rest new))
     ⊎ ((Permitted old.fixed.shape old.phase c → ⊥) × SendsInTurn cs old sent new)
 
 -- the instance is closed, or is sent nothing
 abbrev pub IsClosed : Bool → View → View → Type 0
-IsClosed silent old new = (sent : List Exchange) × SendsInTurn (if silent then [] else closing_calls false) old sent new
+IsClosed silent old new =
+    (sent : List Exchange) × SendsInTurn (if silent then [] else closing_calls false) old sent new
 
 -- ---- Fatal
 

@@ -53,7 +53,8 @@ instance_in view slot = record {
 
 -- one of the instances of this source had an answer that was a refusal with Fatal
 abbrev pub is_source_lost : ℕ → List Instance → Bool
-is_source_lost source instances = list_any (λ (i : Instance). i.is_fatal && i.source == source) instances
+is_source_lost source instances =
+    list_any (λ (i : Instance). i.is_fatal && i.source == source) instances
 
 -- an instance before and after its closing, and what it was sent in between
 pub record Closing : Type 0 where
@@ -65,7 +66,8 @@ pub record Closing : Type 0 where
 pub record Stands (i : Instance) (talk : List Exchange) : Type 0 where
   pub alive : (i.view.phase.state ≡ P.Lost) ⊎ (can_be_freed i.view.phase.state false ≡ true)
   pub kept : i.view.phase.slot.is_full ≡ true → (is_over i.view.phase.state ≡ true)
-      ⊎ (((i.has_saved ≡ true) × Permitted i.view.fixed.shape i.view.phase C.Free) ⊎ ((i.has_saved ≡ false) × EndsKeeping talk))
+      ⊎ (((i.has_saved ≡ true) × Permitted i.view.fixed.shape i.view.phase C.Free) ⊎
+      ((i.has_saved ≡ false) × EndsKeeping talk))
 
 -- how a run leaves an instance with this talk: it wasn't called, or wasn't made, or stands
 pub record IsLeft (i : Instance) (talk : List Exchange) : Type 0 where
@@ -74,16 +76,19 @@ pub record IsLeft (i : Instance) (talk : List Exchange) : Type 0 where
 
 -- the instance is sent what closes it, or nothing where it is spared; as a run leaves it, it is closed by that
 pub record ClosesOne (spared : Bool) (c : Closing) : Type 0 where
-  pub turn : SendsInTurn (if spared then [] else closing_calls c.old.has_saved) c.old.view c.sent c.new.view
+  pub turn : SendsInTurn (if spared then [] else closing_calls c.old.has_saved)
+      c.old.view c.sent c.new.view
   pub source : c.new.source ≡ c.old.source
   pub spent : c.new.has_saved ≡ false
   pub shut : c.new.is_closed ≡ true
   pub fatal : c.new.is_fatal ≡ (c.old.is_fatal || any_fatal c.old.view.fixed.shape c.sent)
-  pub closed : spared ≡ false → (talk : List Exchange) → IsLeft c.old talk → IsClosedTalk c.old.view.fixed.shape (talk ++ c.sent)
+  pub closed : spared ≡ false → (talk : List Exchange) → IsLeft c.old talk →
+      IsClosedTalk c.old.view.fixed.shape (talk ++ c.sent)
 
 -- the same, told by the instance before and after
 abbrev pub Closes : Bool → Instance → Instance → Type 0
-Closes spared old new = (sent : List Exchange) × ClosesOne spared (record { old = old; sent = sent; new = new })
+Closes spared old new =
+    (sent : List Exchange) × ClosesOne spared (record { old = old; sent = sent; new = new })
 
 -- the instance at this place alone is closed, or spared where one of its source answered by Fatal
 pub record ClosesAt (place : ℕ) (old new : List Instance) : Type 0 where
@@ -101,7 +106,9 @@ afters cs = map (λ (c : Closing). c.new) cs
 -- behind instances that are closed: each is closed in its turn, and spared where one of its source, as they all stand then, answered by Fatal
 abbrev pub InOrder : List Instance → List Closing → Type 0
 InOrder closed [] = Unit {0}
-InOrder closed (c ∷ cs) = ClosesOne (is_source_lost c.old.source (closed ++ c.old ∷ befores cs)) c × InOrder (closed ++ c.new ∷ []) cs
+InOrder closed (c ∷ cs) =
+    ClosesOne (is_source_lost c.old.source (closed ++ c.old ∷ befores cs)) c ×
+    InOrder (closed ++ c.new ∷ []) cs
 
 -- a Fatal in its told talk is known of the instance
 abbrev pub KnowsFatal : Instance → Type 0
@@ -109,7 +116,12 @@ KnowsFatal i = any_fatal i.view.fixed.shape (unwrap_or i.view.talk []) ≡ true 
 
 -- its exchanges before the closing, where they are told, and those of the closing
 abbrev pub member_of : Closing → Member
-member_of c = record { source = c.old.source; shape = c.old.view.fixed.shape; run = unwrap_or c.old.view.talk []; closing = c.sent }
+member_of c = record {
+  source = c.old.source;
+  shape = c.old.view.fixed.shape;
+  run = unwrap_or c.old.view.talk [];
+  closing = c.sent;
+}
 
 -- the instances were closed in their order; what the run did is that of the talks before
 pub record ClosesAll (old new : List Instance) : Type 0 where

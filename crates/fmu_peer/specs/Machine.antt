@@ -43,7 +43,8 @@ changed m s call = record s { numbers = m.change s call }
 
 -- the values once the one under a reference is written
 abbrev pub written : List ℕ → List ℤ → ℕ → ℤ → List ℤ
-written (r ∷ rs) (x ∷ xs) reference value = (if r == reference then value else x) ∷ written rs xs reference value
+written (r ∷ rs) (x ∷ xs) reference value =
+    (if r == reference then value else x) ∷ written rs xs reference value
 written [] xs reference value = xs
 written (r ∷ rs) [] reference value = []
 
@@ -76,8 +77,10 @@ after m s (C.Get kind reference) = s
 after m s (C.GetClock reference) = s
 after m s (C.GetInterval reference) = s
 after m s (C.GetShift reference) = s
-after m s (C.Set kind reference value) = record s { values = written m.references s.values reference value }
-after m s (C.SetClock reference) = record s { values = written m.references s.values reference (pos 1) }
+after m s (C.Set kind reference value) =
+    record s { values = written m.references s.values reference value }
+after m s (C.SetClock reference) =
+    record s { values = written m.references s.values reference (pos 1) }
 after m s C.Update = record (changed m s C.Update) { values = unticked m s.values }
 after m s C.Save = record s { slot = Some (kept s) }
 after m s C.Restore = put_back s.slot s
@@ -86,7 +89,8 @@ after m s call = changed m s call
 
 -- the value under a reference
 abbrev pub value_at : List Variable → List ℤ → ℕ → Option ℤ
-value_at variables values reference = option_and_then (slice_get values) (place_of variables reference)
+value_at variables values reference =
+    option_and_then (slice_get values) (place_of variables reference)
 
 -- ---- a machine is one of its shape
 
@@ -107,14 +111,18 @@ is_discard _ = false
 -- the machine is that of an FMU of this shape: it has a value for each variable, and no saved state at first; it is in Initialization Mode from EnterInitialization to ExitInitialization, and answers neither by Discard, which FMI 3.0 doesn't have for a change of mode
 pub record IsMachineOf (shape : Shape) (m : Machine) : Type 0 where
   pub references : m.references ≡ map (λ (v : Variable). v.reference) shape.variables
-  pub clocks : m.clocks ≡ map (λ (v : Variable). v.reference) (filter is_input_clock shape.variables)
+  pub clocks : m.clocks ≡ map (λ (v : Variable). v.reference)
+      (filter is_input_clock shape.variables)
   pub values : length m.first.values ≡ length shape.variables
   pub empty : m.first.slot ≡ None
   pub before : m.initializing m.first.numbers ≡ false
-  pub enters : (s : MachineState) (start stop : ℕ) → m.initializing (m.change s (C.EnterInitialization start stop)) ≡ true
+  pub enters : (s : MachineState) (start stop : ℕ) →
+      m.initializing (m.change s (C.EnterInitialization start stop)) ≡ true
   pub exits : (s : MachineState) → m.initializing (m.change s C.ExitInitialization) ≡ false
-  pub keeps : (s : MachineState) (call : Call) → changes_mode call ≡ false → m.initializing (m.change s call) ≡ m.initializing s.numbers
-  pub undiscarded : (s : MachineState) (call : Call) → changes_mode call ≡ true → is_discard (m.look s call) ≡ false
+  pub keeps : (s : MachineState) (call : Call) → changes_mode call ≡ false →
+      m.initializing (m.change s call) ≡ m.initializing s.numbers
+  pub undiscarded : (s : MachineState) (call : Call) → changes_mode call ≡ true →
+      is_discard (m.look s call) ≡ false
 
 abbrev pub is_initialization : InstanceState → Bool
 is_initialization P.Initialization = true
@@ -130,14 +138,17 @@ is_alive _ = true
 -- the machine's state is one of an instance in this phase: it is in Initialization Mode exactly where the instance is, and what it keeps saved isn't
 pub record IsInPhase (m : Machine) (phase : Phase) (s : MachineState) : Type 0 where
   pub mode : is_alive phase.state ≡ true → m.initializing s.numbers ≡ is_initialization phase.state
-  pub saved : is_alive phase.state ≡ true → (kept : SavedMachine) → s.slot ≡ Some kept → m.initializing kept.numbers ≡ false
+  pub saved : is_alive phase.state ≡ true → (kept : SavedMachine) → s.slot ≡ Some kept →
+      m.initializing kept.numbers ≡ false
 
 -- ---- what a machine's replies don't depend on
 
 -- but for the calls that save, restore and free a state, neither a reply nor a change depends on the state that is saved
 pub record IgnoresSlot (m : Machine) : Type 0 where
-  pub looks : (call : Call) (s : MachineState) (slot : Option SavedMachine) → keeps_state call ≡ false → m.look (record s { slot = slot }) call ≡ m.look s call
-  pub changes : (call : Call) (s : MachineState) (slot : Option SavedMachine) → keeps_state call ≡ false → m.change (record s { slot = slot }) call ≡ m.change s call
+  pub looks : (call : Call) (s : MachineState) (slot : Option SavedMachine) →
+      keeps_state call ≡ false → m.look (record s { slot = slot }) call ≡ m.look s call
+  pub changes : (call : Call) (s : MachineState) (slot : Option SavedMachine) →
+      keeps_state call ≡ false → m.change (record s { slot = slot }) call ≡ m.change s call
 
 -- the output that a call looks at
 abbrev pub output_of : Call → Option ℕ
@@ -147,7 +158,8 @@ output_of _ = None
 
 -- what an output shows doesn't depend on an input that it doesn't declare; without event mode this is asked in Initialization Mode alone
 abbrev pub IsLawful : Shape → Machine → Type 0
-IsLawful shape m = (call : Call) (output : ℕ) (s : MachineState) (xs ys : List ℤ) → output_of call ≡ Some output →
+IsLawful shape m =
+    (call : Call) (output : ℕ) (s : MachineState) (xs ys : List ℤ) → output_of call ≡ Some output →
     IsSomeAnd (variable_at shape.variables output) (λ (v : Variable). v.causality ≡ Output) →
     (shape.has_event_mode ≡ false → m.initializing s.numbers ≡ true) →
     AgreeFor shape (m.initializing s.numbers) output xs ys →

@@ -17,12 +17,14 @@ IsSpared source m = m.source ≡ source → m.closing ≡ []
 
 -- where an exchange of a run was refused with Fatal, no instance of that source has one of the closing
 abbrev pub SparesBehindRun : List Member → Type 0
-SparesBehindRun ms = All (λ (m : Member). any_fatal m.shape m.run ≡ true → All (IsSpared m.source) ms) ms
+SparesBehindRun ms =
+    All (λ (m : Member). any_fatal m.shape m.run ≡ true → All (IsSpared m.source) ms) ms
 
 -- where an exchange of the closing was refused with Fatal, no later instance of that source has one
 abbrev pub SparesLater : List Member → Type 0
 SparesLater [] = Unit {0}
-SparesLater (m ∷ ms) = (any_fatal m.shape m.closing ≡ true → All (IsSpared m.source) ms) × SparesLater ms
+SparesLater (m ∷ ms) =
+    (any_fatal m.shape m.closing ≡ true → All (IsSpared m.source) ms) × SparesLater ms
 
 -- the instances in the order in which they are closed
 pub record Siblings (ms : List Member) : Type 0 where

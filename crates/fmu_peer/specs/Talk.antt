@@ -29,7 +29,8 @@ phase_after shape talk = phase_from shape (fresh shape) talk
 -- each call is permitted in the phase after the exchanges before it
 abbrev pub LegalFrom : Shape → Phase → List Exchange → Type 0
 LegalFrom shape phase [] = Unit {0}
-LegalFrom shape phase (e ∷ es) = Permitted shape phase e.call × LegalFrom shape (next_by shape phase e) es
+LegalFrom shape phase (e ∷ es) =
+    Permitted shape phase e.call × LegalFrom shape (next_by shape phase e) es
 
 abbrev pub Legal : Shape → List Exchange → Type 0
 Legal shape talk = LegalFrom shape (fresh shape) talk
@@ -49,7 +50,8 @@ pub record EndsFreed (shape : Shape) (phase : Phase) (talk : List Exchange) : Ty
   pub is : talk ≡ front ++ last ∷ []
   pub frees : last.call ≡ C.FreeInstance
   pub terminated : is_running (phase_from shape phase front).state ≡ true →
-      (before : List Exchange) × (t : Exchange) × (front ≡ before ++ t ∷ []) × (t.call ≡ C.Terminate)
+      (before : List Exchange) × (t : Exchange) × (front ≡ before ++ t ∷ []) ×
+      (t.call ≡ C.Terminate)
 
 -- the talk ends with a Free that was answered by Discard: the state that was saved is given up with the instance
 pub record EndsKeeping (talk : List Exchange) : Type 0 where

@@ -48,20 +48,28 @@ no_stay = record { follows = false; arms = false }
 
 -- the mark of an exchange that is an Update
 abbrev pub marks_of : Stay → Call → Result Reply PeerFault → List UpdateMark
-marks_of stay C.Update result = record { again = asks_again result; ends = asks_for_end result; arms = stay.arms; follows = stay.follows } ∷ []
+marks_of stay C.Update result =
+    record {
+      again = asks_again result;
+      ends = asks_for_end result;
+      arms = stay.arms;
+      follows = stay.follows;
+    } ∷ []
 marks_of stay call result = []
 
 -- what stands before, behind an exchange
 abbrev pub stay_behind : Stay → Call → Result Reply PeerFault → Stay
 stay_behind stay C.Update result = record { follows = true; arms = false }
-stay_behind stay (C.GetInterval reference) result = record stay { arms = stay.arms || is_instant_interval result }
+stay_behind stay (C.GetInterval reference) result =
+    record stay { arms = stay.arms || is_instant_interval result }
 stay_behind stay C.ExitInitialization result = no_stay
 stay_behind stay C.EnterStep result = no_stay
 stay_behind stay call result = stay
 
 abbrev pub updates_from : Stay → List Exchange → List UpdateMark
 updates_from stay [] = []
-updates_from stay (e ∷ es) = marks_of stay e.call e.result ++ updates_from (stay_behind stay e.call e.result) es
+updates_from stay (e ∷ es) =
+    marks_of stay e.call e.result ++ updates_from (stay_behind stay e.call e.result) es
 
 -- the Updates of a talk, in their order
 abbrev pub updates_in : List Exchange → List UpdateMark
@@ -69,9 +77,14 @@ updates_in talk = updates_from no_stay talk
 
 -- the k-th Update of one of the talks passes the test
 abbrev pub any_mark : (UpdateMark → Bool) → ℕ → List (List Exchange) → Bool
-any_mark test k talks = list_any (λ (talk : List Exchange). option_map_or test (slice_get (updates_in talk) k) false) talks
+any_mark test k talks =
+    list_any (λ (talk : List Exchange).
+    option_map_or test (slice_get (updates_in talk) k) false) talks
 
 -- an Update follows another at one point only where, in that other's instant, one asked for another or a Clock was armed for the point, and none asked for the end
 abbrev pub AreUpdatesNeeded : List (List Exchange) → Type 0
-AreUpdatesNeeded talks = (k : ℕ) (talk : List Exchange) (mark : UpdateMark) → Contains talks talk → slice_get (updates_in talk) (suc k) ≡ Some mark → mark.follows ≡ true →
-    (any_mark (λ (m : UpdateMark). m.again || m.arms) k talks ≡ true) × (any_mark (λ (m : UpdateMark). m.ends) k talks ≡ false)
+AreUpdatesNeeded talks =
+    (k : ℕ) (talk : List Exchange) (mark : UpdateMark) → Contains talks talk →
+    slice_get (updates_in talk) (suc k) ≡ Some mark → mark.follows ≡ true →
+    (any_mark (λ (m : UpdateMark). m.again || m.arms) k talks ≡ true) ×
+    (any_mark (λ (m : UpdateMark). m.ends) k talks ≡ false)

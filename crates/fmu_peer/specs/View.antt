@@ -39,14 +39,17 @@ talked None call result = None
 talked (Some es) call result = Some (es ++ record { call = call; result = result } ∷ [])
 
 -- where a machine is told, the reply is its look and its state goes on; after a fault it tells some state
-abbrev pub AnswersAs : Option Machine → Option MachineState → Call → Result Reply PeerFault → Option MachineState → Type 0
-AnswersAs (Some m) (Some s) call (Ok reply) new = (reply ≡ m.look s call) × (new ≡ Some (after m s call))
+abbrev pub AnswersAs : Option Machine → Option MachineState → Call → Result Reply PeerFault →
+    Option MachineState → Type 0
+AnswersAs (Some m) (Some s) call (Ok reply) new =
+    (reply ≡ m.look s call) × (new ≡ Some (after m s call))
 AnswersAs (Some m) (Some s) call (Err fault) new = IsSome new
 AnswersAs (Some m) None call result new = new ≡ None
 AnswersAs None old call result new = new ≡ None
 
 -- the peer was asked this call alone, with this result
-pub record Asked (old : View) (call : Call) (result : Result Reply PeerFault) (new : View) : Type 0 where
+pub record Asked (old : View) (call : Call) (result : Result Reply PeerFault)
+    (new : View) : Type 0 where
   pub fixed : new.fixed ≡ old.fixed
   pub phase : new.phase ≡ next_of old.fixed.shape old.phase call (result_ok result)
   pub talk : new.talk ≡ talked old.talk call result

@@ -44,7 +44,9 @@ pub record Gives (old new : InStreamView) (into : List ℕ) (result : Result ℕ
 -- signals broke off so many reads, and then one gave bytes or went wrong; or they broke off all the reads that are tried
 abbrev pub EndsAfter : {T E : Type 0} → ReadCounts → ReadCounts → ℕ → Result T E → Type 0
 EndsAfter old new signals (Ok n) = new ≡ with_signals old signals
-EndsAfter old new signals (Err fault) = (new ≡ with_error (with_signals old signals)) ⊎ ((new ≡ with_signals old signals) × (2 ^ 64 - 1 ≤ signals))
+EndsAfter old new signals (Err fault) =
+    (new ≡ with_error (with_signals old signals)) ⊎
+    ((new ≡ with_signals old signals) × (2 ^ 64 - 1 ≤ signals))
 
 -- so it ends after some number of signals
 pub record Retries {T E : Type 0} (old new : ReadCounts) (result : Result T E) : Type 0 where
@@ -52,7 +54,8 @@ pub record Retries {T E : Type 0} (old new : ReadCounts) (result : Result T E) :
   pub so : EndsAfter old new signals result
 
 -- all the reads of a take: the bytes go from what was to come to the front of the room
-pub record GivesFront (old new : InStreamView) (into : List ℕ) (result : Result ℕ Error) : Type 0 where
+pub record GivesFront (old new : InStreamView) (into : List ℕ)
+    (result : Result ℕ Error) : Type 0 where
   pub within : IsWithinRoom result into
   pub taken : ReadConsumes old.left new.left result into
   pub retried : Retries old.counts new.counts result

@@ -21,8 +21,10 @@ abbrev pub after_error : FileView → ErrorKind → Option (List ErrorKind)
 after_error view kind = option_map (λ kinds. kinds ++ kind ∷ []) view.errors
 
 -- what is left was put behind the bytes, up to a limit; or there was an error
-abbrev pub ReadsUpTo : {T : Type 0} → FileView → FileView → ℕ → List ℕ → List ℕ → Result T Error → Type 0
-ReadsUpTo old new limit bytes all (Ok count) = IfSome old.left (λ left. all ≡ bytes ++ take limit left) × (new.errors ≡ old.errors)
+abbrev pub ReadsUpTo : {T : Type 0} → FileView → FileView → ℕ → List ℕ → List ℕ →
+    Result T Error → Type 0
+ReadsUpTo old new limit bytes all (Ok count) =
+    IfSome old.left (λ left. all ≡ bytes ++ take limit left) × (new.errors ≡ old.errors)
 ReadsUpTo old new limit bytes all (Err error) = new.errors ≡ after_error old (error_kind error)
 
 -- why a file wasn't opened
@@ -38,12 +40,16 @@ unread _ = Failed
 
 -- it was not read for an error, which is answered so
 abbrev pub IsUnread : FileView → FileView → ReadFault → Type 0
-IsUnread old new fault = (kind : ErrorKind) × (new.errors ≡ after_error old kind) × (fault ≡ unread kind)
+IsUnread old new fault =
+    (kind : ErrorKind) × (new.errors ≡ after_error old kind) × (fault ≡ unread kind)
 
 -- the answer is all that was left, or that this is more than the limit; or else there was an error
 abbrev pub ReadsWithin : FileView → FileView → ℕ → Result (Vec ℕ Global) ReadFault → Type 0
-ReadsWithin old new limit (Ok bytes) = IfSome old.left (λ left. (bytes.items ≡ left) × (length left ≤ limit)) × (new.errors ≡ old.errors)
-ReadsWithin old new limit (Err (TooBig n)) = IfSome old.left (λ left. (limit < length left) × (n ≡ limit + 1)) × (new.errors ≡ old.errors)
+ReadsWithin old new limit (Ok bytes) =
+    IfSome old.left (λ left. (bytes.items ≡ left) × (length left ≤ limit)) ×
+    (new.errors ≡ old.errors)
+ReadsWithin old new limit (Err (TooBig n)) =
+    IfSome old.left (λ left. (limit < length left) × (n ≡ limit + 1)) × (new.errors ≡ old.errors)
 ReadsWithin old new limit (Err Missing) = ⊥
 ReadsWithin old new limit (Err Failed) = IsUnread old new Failed
 ReadsWithin old new limit (Err Memory) = IsUnread old new Memory
@@ -52,4 +58,6 @@ ReadsWithin old new limit (Err Memory) = IsUnread old new Memory
 
 -- what a folder told as asked for is what it asked the host to open, each once
 abbrev pub Opens : Option (List (List ℕ)) → Option (List (List ℕ)) → ReadNotes → ReadNotes → Type 0
-Opens old new before after = (paths : List (List ℕ)) × (after.asked ≡ before.asked ++ paths) × (new ≡ option_map (λ opened. opened ++ paths) old)
+Opens old new before after =
+    (paths : List (List ℕ)) × (after.asked ≡ before.asked ++ paths) ×
+    (new ≡ option_map (λ opened. opened ++ paths) old)

@@ -30,7 +30,8 @@ after_error _ view = with_error view
 
 -- a write took a front of the bytes; one that took none went wrong
 abbrev pub Writes : StreamView → StreamView → List ℕ → Result ℕ Error → Type 0
-Writes old new bytes (Ok n) = (n ≤ length bytes) × (new ≡ (if n == 0 then with_error old else with_bytes old (take n bytes)))
+Writes old new bytes (Ok n) =
+    (n ≤ length bytes) × (new ≡ (if n == 0 then with_error old else with_bytes old (take n bytes)))
 Writes old new bytes (Err error) = new ≡ after_error (error_kind error) old
 
 -- a flush that was broken off went wrong too
@@ -40,7 +41,8 @@ Flushes old new (Err error) = new ≡ with_error old
 
 -- a write took some bytes of the front, or a signal broke it off; or it went wrong
 abbrev pub WritesSome : StreamView → StreamView → List ℕ → Result ℕ Error → Type 0
-WritesSome old new bytes (Ok n) = new ≡ (if n == 0 then with_signals old 1 else with_bytes old (take n bytes))
+WritesSome old new bytes (Ok n) =
+    new ≡ (if n == 0 then with_signals old 1 else with_bytes old (take n bytes))
 WritesSome old new bytes (Err error) = new ≡ with_error old
 
 -- these bytes were taken, by calls of which signals broke some off

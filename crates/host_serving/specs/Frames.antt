@@ -58,9 +58,13 @@ ComesTo old new Memory = Unit {0}
 -- the eight bytes from a place on
 abbrev pub eight_at : List ℕ → ℕ → List ℕ
 eight_at bytes place =
-    slice_index bytes place ∷ slice_index bytes (place + 1) ∷ slice_index bytes (place + 2) ∷ slice_index bytes (place + 3)
-    ∷ slice_index bytes (place + 4) ∷ slice_index bytes (place + 5) ∷ slice_index bytes (place + 6) ∷ slice_index bytes (place + 7) ∷ []
+    slice_index bytes place ∷ slice_index bytes (place + 1) ∷ slice_index bytes (place + 2) ∷
+    slice_index bytes (place + 3)
+    ∷ slice_index bytes (place + 4) ∷ slice_index bytes (place + 5) ∷
+    slice_index bytes (place + 6) ∷ slice_index bytes (place + 7) ∷ []
 
 -- so much follows the beginning in any frame that goes on behind it
 abbrev pub IsRoom : List ℕ → ℕ → Type 0
-IsRoom beginning room = (value : CallFrame) (more : List ℕ) → 0 < length more → IsCallFrame value (beginning ++ more) → room ≡ length more
+IsRoom beginning room =
+    (value : CallFrame) (more : List ℕ) → 0 < length more →
+    IsCallFrame value (beginning ++ more) → room ≡ length more

@@ -48,7 +48,8 @@ pub record GoesOn (old new : Scene) (served : Served) : Type 0 where
 -- one call after another was served, none of them FreeInstance
 pub data Serves (old : Scene) : List Served → Scene → Type 0 where
   Nothing : Serves old [] old
-  More : (done : List Served) (mid new : Scene) (last : Served) → Serves old done mid → GoesOn mid new last → Serves old (done ++ last ∷ []) new
+  More : (done : List Served) (mid new : Scene) (last : Served) → Serves old done mid →
+      GoesOn mid new last → Serves old (done ++ last ∷ []) new
 
 -- output and FMU are as they were
 pub record IsStill (old new : Scene) : Type 0 where
@@ -58,15 +59,21 @@ pub record IsStill (old new : Scene) : Type 0 where
 -- a count of faults rose: that of the input; or of the FMU, to a call that was read; or of the output, at the frame of a reply
 pub data LosesLink (old new : Scene) : Type 0 where
   OfInput : Rose old.input.faults new.input.faults → IsStill old new → LosesLink old new
-  OfMachine : (call : Call) → TakesCall old.input new.input call → Permitted old.machine.fixed.shape old.machine.phase call → Rose old.machine.faults new.machine.faults → new.output ≡ old.output → LosesLink old new
-  OfOutput : (served : Served) → IsAnswered old new served → Rose old.output.faults new.output.faults → LosesLink old new
+  OfMachine : (call : Call) → TakesCall old.input new.input call →
+      Permitted old.machine.fixed.shape old.machine.phase call →
+      Rose old.machine.faults new.machine.faults → new.output ≡ old.output → LosesLink old new
+  OfOutput : (served : Served) → IsAnswered old new served →
+      Rose old.output.faults new.output.faults → LosesLink old new
 
 -- what ends the serving, right behind the calls that were served
 abbrev pub EndsBy : Scene → Scene → ServeEnd → Type 0
-EndsBy old new E.Freed = (served : Served) × ServesOne old new served × (served.call ≡ C.FreeInstance)
+EndsBy old new E.Freed =
+    (served : Served) × ServesOne old new served × (served.call ≡ C.FreeInstance)
 EndsBy old new E.Ended = EndsBetween old.input new.input × IsStill old new
 EndsBy old new (E.BadFrame at) = IsNoFrame old.input new.input at × IsStill old new
-EndsBy old new (E.NotPermitted call) = TakesCall old.input new.input call × (Permitted old.machine.fixed.shape old.machine.phase call → ⊥) × IsStill old new
+EndsBy old new (E.NotPermitted call) =
+    TakesCall old.input new.input call ×
+    (Permitted old.machine.fixed.shape old.machine.phase call → ⊥) × IsStill old new
 EndsBy old new E.Failed = LosesLink old new
 EndsBy old new E.TooMany = new ≡ old
 EndsBy old new E.Memory = IsStill old new

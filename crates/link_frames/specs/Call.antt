@@ -56,11 +56,14 @@ last_of call token_len = 0
 
 -- the numbers of a call whose texts have these lengths
 abbrev pub head_of_call : Call → ℕ → ℕ → Head
-head_of_call call name_len token_len = head (facts_of (kind_of call)).number (detail_of call) 0 (reference_of call) (first_of call name_len) (last_of call token_len)
+head_of_call call name_len token_len =
+    head (facts_of (kind_of call)).number (detail_of call) 0 (reference_of call)
+    (first_of call name_len) (last_of call token_len)
 
 -- the texts of Instantiate have these lengths, in bytes; the types of Get and Set aren't Clock, and the value of Set is in the range of its type
 abbrev pub CanBeSent : Call → ℕ → ℕ → Type 0
-CanBeSent (C.Instantiate event_mode early_return) name_len token_len = (1 ≤ name_len) × (name_len ≤ text_max) × (token_len ≤ text_max)
+CanBeSent (C.Instantiate event_mode early_return) name_len token_len =
+    (1 ≤ name_len) × (name_len ≤ text_max) × (token_len ≤ text_max)
 CanBeSent (C.Get kind reference) name_len token_len = kind ≢ Clock
 CanBeSent (C.Set kind reference value) name_len token_len = (kind ≢ Clock) × Fits kind value
 CanBeSent call name_len token_len = Unit {0}
@@ -76,7 +79,8 @@ pub record IsFrameOf (call : Call) (name token : List ℕ) (bytes : List ℕ) : 
   pub name_text : IsUtf8 name
   pub token_text : IsUtf8 token
   pub in_range : InRange (head_of_call call (length name) (length token))
-  pub spelled : bytes ≡ spelling (head_of_call call (length name) (length token)) ++ (sent call name ++ sent call token)
+  pub spelled : bytes ≡ spelling (head_of_call call (length name) (length token)) ++
+      (sent call name ++ sent call token)
 
 -- the places from one to before another
 abbrev pub range : ℕ → ℕ → Range ℕ
@@ -90,12 +94,19 @@ bytes_at place bytes = slice_range bytes place.start place.end
 pub record IsCallFrame (frame : CallFrame) (bytes : List ℕ) : Type 0 where
   pub is_frame : IsFrameOf frame.call (bytes_at frame.name bytes) (bytes_at frame.token bytes) bytes
   pub name_at : frame.name ≡ range 24 (24 + length (bytes_at frame.name bytes))
-  pub token_at : frame.token ≡ range frame.name.end (frame.name.end + length (bytes_at frame.token bytes))
+  pub token_at : frame.token ≡ range frame.name.end (frame.name.end +
+      length (bytes_at frame.token bytes))
 
 -- a call with the places that its texts have in its frame
 abbrev pub frame_with : Call → List ℕ → List ℕ → CallFrame
 frame_with call name token =
-    record { call = call; name = range 24 (24 + length (sent call name)); token = range (24 + length (sent call name)) (24 + length (sent call name) + length (sent call token)) }
+    record {
+      call = call;
+      name = range 24 (24 + length (sent call name));
+      token =
+          range (24 + length (sent call name)) (24 + length (sent call name) +
+          length (sent call token));
+    }
 
 -- ---- from the numbers to the call
 
@@ -105,7 +116,8 @@ value_at kind word = unwrap_or (word_value kind word) (pos 0)
 
 -- the call of a kind with these numbers
 abbrev pub call_by : Kind → ℕ → ℕ → ℕ → ℕ → Call
-call_by K.Instantiate detail reference first last = C.Instantiate (reference % 2 == 1) (reference / 2 == 1)
+call_by K.Instantiate detail reference first last =
+    C.Instantiate (reference % 2 == 1) (reference / 2 == 1)
 call_by K.EnterInitialization detail reference first last = C.EnterInitialization first last
 call_by K.ExitInitialization detail reference first last = C.ExitInitialization
 call_by K.EnterEvent detail reference first last = C.EnterEvent
@@ -113,7 +125,8 @@ call_by K.EnterStep detail reference first last = C.EnterStep
 call_by K.DoStep detail reference first last = C.DoStep first last
 call_by K.Update detail reference first last = C.Update
 call_by K.Get detail reference first last = C.Get (type_at detail) reference
-call_by K.Set detail reference first last = C.Set (type_at detail) reference (value_at (type_at detail) first)
+call_by K.Set detail reference first last =
+    C.Set (type_at detail) reference (value_at (type_at detail) first)
 call_by K.GetClock detail reference first last = C.GetClock reference
 call_by K.SetClock detail reference first last = C.SetClock reference
 call_by K.GetInterval detail reference first last = C.GetInterval reference
@@ -126,7 +139,9 @@ call_by K.FreeInstance detail reference first last = C.FreeInstance
 
 -- the call of the seven numbers
 abbrev pub call_at : List ℕ → Call
-call_at numbers = call_by (kind_at (slice_index numbers 0)) (slice_index numbers 1) (slice_index numbers 4) (slice_index numbers 5) (slice_index numbers 6)
+call_at numbers =
+    call_by (kind_at (slice_index numbers 0)) (slice_index numbers 1) (slice_index numbers 4)
+    (slice_index numbers 5) (slice_index numbers 6)
 
 -- the length of a text, by the kind
 abbrev pub text_len : Kind → ℕ → ℕ
@@ -142,7 +157,11 @@ token_len numbers = text_len (kind_at (slice_index numbers 0)) (slice_index numb
 
 -- the call of the numbers, with the places of its texts
 abbrev pub frame_at : List ℕ → CallFrame
-frame_at numbers = record { call = call_at numbers; name = range 24 (24 + name_len numbers); token = range (24 + name_len numbers) (24 + name_len numbers + token_len numbers) }
+frame_at numbers = record {
+  call = call_at numbers;
+  name = range 24 (24 + name_len numbers);
+  token = range (24 + name_len numbers) (24 + name_len numbers + token_len numbers);
+}
 
 -- the numbers have room where the call needs it
 pub record IsCallNumbers (numbers : List ℕ) : Type 0 where

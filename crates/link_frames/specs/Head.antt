@@ -5,11 +5,20 @@ use Rattle.link_frames.specs.declared.head.Head.{Head}
 
 -- the numbers by their names
 abbrev pub head : ℕ → ℕ → ℕ → ℕ → ℕ → ℕ → Head
-head kind detail flags reference first last = record { kind = kind; detail = detail; flags = flags; reference = reference; first = first; last = last }
+head kind detail flags reference first last = record {
+  kind = kind;
+  detail = detail;
+  flags = flags;
+  reference = reference;
+  first = first;
+  last = last;
+}
 
 -- the bytes of the numbers
 unfoldable pub spelling : Head → List ℕ
-spelling h = (h.kind ∷ h.detail ∷ h.flags ∷ 0 ∷ []) ++ (to_be_bytes w32 h.reference ++ (to_be_bytes w64 h.first ++ to_be_bytes w64 h.last))
+spelling h =
+    (h.kind ∷ h.detail ∷ h.flags ∷ 0 ∷ []) ++
+    (to_be_bytes w32 h.reference ++ (to_be_bytes w64 h.first ++ to_be_bytes w64 h.last))
 
 -- the numbers have room in their bytes
 pub record InRange (h : Head) : Type 0 where

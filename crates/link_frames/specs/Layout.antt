@@ -15,7 +15,10 @@ use Rattle.link_frames.specs.declared.layout.Row.{Row}
 
 -- the kinds that have frames
 abbrev pub kinds : List Kind
-kinds = K.Instantiate ∷ K.EnterInitialization ∷ K.ExitInitialization ∷ K.EnterEvent ∷ K.EnterStep ∷ K.DoStep ∷ K.Update ∷ K.Get ∷ K.Set ∷ K.GetClock ∷ K.SetClock ∷ K.GetInterval ∷ K.GetShift ∷ K.Save ∷ K.Restore ∷ K.Free ∷ K.Terminate ∷ K.FreeInstance ∷ []
+kinds =
+    K.Instantiate ∷ K.EnterInitialization ∷ K.ExitInitialization ∷ K.EnterEvent ∷ K.EnterStep ∷
+    K.DoStep ∷ K.Update ∷ K.Get ∷ K.Set ∷ K.GetClock ∷ K.SetClock ∷ K.GetInterval ∷ K.GetShift ∷
+    K.Save ∷ K.Restore ∷ K.Free ∷ K.Terminate ∷ K.FreeInstance ∷ []
 
 -- the kind with a number from 1 to 18
 abbrev pub kind_at : ℕ → Kind
@@ -47,7 +50,8 @@ type_at number = unwrap_or (find (λ kind. type_number kind == number) types) Cl
 
 -- the numbers from one to another
 abbrev pub between : ℕ → ℕ → Spans
-between low high = record { one = record { low = low; high = high }; other = record { low = low; high = high } }
+between low high =
+    record { one = record { low = low; high = high }; other = record { low = low; high = high } }
 
 -- 0 alone
 abbrev pub zero_only : Spans
@@ -63,7 +67,10 @@ any_reference = between 0 (2 ^ 32 - 1)
 
 -- the words of the values of so many bits with a sign
 abbrev pub around_zero : ℕ → Spans
-around_zero half = record { one = record { low = 0; high = half - 1 }; other = record { low = 2 ^ 64 - half; high = 2 ^ 64 - 1 } }
+around_zero half = record {
+  one = record { low = 0; high = half - 1 };
+  other = record { low = 2 ^ 64 - half; high = 2 ^ 64 - 1 };
+}
 
 -- the words that are right for a type
 abbrev pub words : PortType → Spans
@@ -83,7 +90,8 @@ words Enumeration = any
 
 -- a row by the spans of its numbers
 abbrev pub row : Spans → Spans → Spans → Spans → Spans → Row
-row detail flags reference first last = record { detail = detail; flags = flags; reference = reference; first = first; last = last }
+row detail flags reference first last =
+    record { detail = detail; flags = flags; reference = reference; first = first; last = last }
 
 -- the greatest length of a text, in bytes
 abbrev pub text_max : ℕ
@@ -99,7 +107,8 @@ of_clock = row zero_only zero_only any_reference zero_only zero_only
 
 -- a call: type, 0, reference, and two numbers, the first of Set by the type. Of Instantiate the reference has bit 0 for event mode and bit 1 for early return, and the numbers are the lengths of the name and the token
 abbrev pub call_row : Kind → PortType → Row
-call_row K.Instantiate kind = row zero_only zero_only (between 0 3) (between 1 text_max) (between 0 text_max)
+call_row K.Instantiate kind =
+    row zero_only zero_only (between 0 3) (between 1 text_max) (between 0 text_max)
 call_row K.EnterInitialization kind = row zero_only zero_only zero_only any any
 call_row K.ExitInitialization kind = plain_call
 call_row K.EnterEvent kind = plain_call
@@ -129,7 +138,8 @@ plain_reply = row status_span zero_only zero_only zero_only zero_only
 -- an interval: with the qualifier 0 there is none
 abbrev pub interval_row : ℕ → Row
 interval_row qualifier =
-    if nat_lt 0 qualifier then row status_span zero_only (between 0 2) any any else row status_span zero_only (between 0 2) zero_only zero_only
+    if nat_lt 0 qualifier then row status_span zero_only (between 0 2) any any
+    else row status_span zero_only (between 0 2) zero_only zero_only
 
 -- a reply with OK or Warning: status, flags, qualifier, and two numbers, by the flags and the qualifier
 abbrev pub done_row : Kind → ℕ → ℕ → Row
@@ -139,7 +149,8 @@ done_row K.ExitInitialization flags qualifier = plain_reply
 done_row K.EnterEvent flags qualifier = plain_reply
 done_row K.EnterStep flags qualifier = plain_reply
 done_row K.DoStep flags qualifier = row status_span (between 0 7) zero_only any zero_only
-done_row K.Update flags qualifier = row status_span (between 0 7) zero_only (if nat_le 4 flags then any else zero_only) zero_only
+done_row K.Update flags qualifier =
+    row status_span (between 0 7) zero_only (if nat_le 4 flags then any else zero_only) zero_only
 done_row K.Get flags qualifier = row status_span zero_only zero_only any zero_only
 done_row K.Set flags qualifier = plain_reply
 done_row K.GetClock flags qualifier = row status_span zero_only zero_only any zero_only
@@ -154,7 +165,8 @@ done_row K.FreeInstance flags qualifier = plain_reply
 
 -- a reply: with another status than OK and Warning all behind it is 0
 abbrev pub reply_row : Kind → ℕ → ℕ → ℕ → Row
-reply_row kind status flags qualifier = if nat_le 2 status then plain_reply else done_row kind flags qualifier
+reply_row kind status flags qualifier =
+    if nat_le 2 status then plain_reply else done_row kind flags qualifier
 
 -- the row, by the numbers read so far
 abbrev pub row_by : Form → Kind → ℕ → ℕ → ℕ → Row
@@ -163,7 +175,9 @@ row_by OfReply kind detail flags reference = reply_row kind detail flags referen
 
 -- the row for these numbers, of which the first is the kind
 abbrev pub row_of : Form → List ℕ → Row
-row_of form before = row_by form (kind_at (slice_index before 0)) (slice_index before 1) (slice_index before 2) (slice_index before 4)
+row_of form before =
+    row_by form (kind_at (slice_index before 0)) (slice_index before 1) (slice_index before 2)
+    (slice_index before 4)
 
 -- ---- the seven numbers
 

@@ -8,4 +8,6 @@ use Rattle.link_frames.specs.Taking.{Behind}
 -- all the numbers, where so many stand behind those before, and the bytes of these
 abbrev pub Reads : Form → ℕ → List ℕ → List ℕ → List ℕ → Type 0
 Reads form zero before all bytes = (all ≡ before) × (bytes ≡ [])
-Reads form (suc left) before all bytes = Behind (Field (size_at (length before)) (spans_at form before)) (λ (n : ℕ). Reads form left (before ++ (n ∷ []))) all bytes
+Reads form (suc left) before all bytes =
+    Behind (Field (size_at (length before)) (spans_at form before)) (λ (n : ℕ).
+    Reads form left (before ++ (n ∷ []))) all bytes

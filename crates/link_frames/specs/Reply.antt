@@ -22,8 +22,10 @@ use Rattle.link_frames.specs.Layout.{kind_at}
 
 -- of DoStep: event handling needed 1, terminate 2, early 4; of Update: needs update 1, terminate 2, next event time defined 4
 abbrev pub flags_of : Content → ℕ
-flags_of (A.DoStep event_needed terminate early end) = flag event_needed 1 + flag terminate 2 + flag early 4
-flags_of (A.Update again terminate event_time) = flag again 1 + flag terminate 2 + flag (is_some event_time) 4
+flags_of (A.DoStep event_needed terminate early end) =
+    flag event_needed 1 + flag terminate 2 + flag early 4
+flags_of (A.Update again terminate event_time) =
+    flag again 1 + flag terminate 2 + flag (is_some event_time) 4
 flags_of content = 0
 
 -- of an interval: not yet known 0, unchanged 1, changed 2
@@ -59,12 +61,18 @@ bad_number B.Fatal = 4
 
 -- the numbers of a content with a status
 abbrev pub head_of_content : ℕ → Content → Head
-head_of_content status content = head (facts_of (kind_of_content content)).number status (flags_of content) (qualifier_of content) (first_of content) (last_of content)
+head_of_content status content =
+    head (facts_of (kind_of_content content)).number status (flags_of content)
+    (qualifier_of content) (first_of content) (last_of content)
 
 -- a head whose qualifier and numbers are those of an interval
 abbrev pub with_interval : Head → Interval → Head
 with_interval plain interval =
-    record plain { reference = qualifier_of (A.GetInterval interval); first = first_of (A.GetInterval interval); last = last_of (A.GetInterval interval) }
+    record plain {
+      reference = qualifier_of (A.GetInterval interval);
+      first = first_of (A.GetInterval interval);
+      last = last_of (A.GetInterval interval);
+    }
 
 -- the numbers of a reply
 abbrev pub head_of_reply : Reply → Head
@@ -80,7 +88,9 @@ pub record IsReplyFrame (reply : Reply) (bytes : List ℕ) : Type 0 where
 
 -- the interval of a qualifier
 abbrev pub interval_at : ℕ → Fraction → Interval
-interval_at qualifier fraction = if qualifier == 0 then NotYetKnown else if qualifier == 1 then Unchanged fraction else Changed fraction
+interval_at qualifier fraction =
+    if qualifier == 0 then NotYetKnown else if qualifier == 1 then Unchanged fraction
+    else Changed fraction
 
 -- a fraction of seconds by its numbers
 abbrev pub fraction_at : ℕ → ℕ → Fraction
@@ -93,13 +103,16 @@ content_at K.EnterInitialization flags qualifier first last = A.EnterInitializat
 content_at K.ExitInitialization flags qualifier first last = A.ExitInitialization
 content_at K.EnterEvent flags qualifier first last = A.EnterEvent
 content_at K.EnterStep flags qualifier first last = A.EnterStep
-content_at K.DoStep flags qualifier first last = A.DoStep (flags % 2 == 1) (flags / 2 % 2 == 1) (flags / 4 == 1) first
-content_at K.Update flags qualifier first last = A.Update (flags % 2 == 1) (flags / 2 % 2 == 1) (if flags / 4 == 1 then Some first else None)
+content_at K.DoStep flags qualifier first last =
+    A.DoStep (flags % 2 == 1) (flags / 2 % 2 == 1) (flags / 4 == 1) first
+content_at K.Update flags qualifier first last =
+    A.Update (flags % 2 == 1) (flags / 2 % 2 == 1) (if flags / 4 == 1 then Some first else None)
 content_at K.Get flags qualifier first last = A.Get first
 content_at K.Set flags qualifier first last = A.Set
 content_at K.GetClock flags qualifier first last = A.GetClock first
 content_at K.SetClock flags qualifier first last = A.SetClock
-content_at K.GetInterval flags qualifier first last = A.GetInterval (interval_at qualifier (fraction_at first last))
+content_at K.GetInterval flags qualifier first last =
+    A.GetInterval (interval_at qualifier (fraction_at first last))
 content_at K.GetShift flags qualifier first last = A.GetShift (fraction_at first last)
 content_at K.Save flags qualifier first last = A.Save
 content_at K.Restore flags qualifier first last = A.Restore
@@ -114,8 +127,11 @@ bad_status_at status = if status == 2 then B.Discard else if status == 3 then B.
 -- the reply of a kind with these numbers
 abbrev pub reply_by : Kind → ℕ → ℕ → ℕ → ℕ → ℕ → Reply
 reply_by kind status flags qualifier first last =
-    if nat_lt status 2 then Done (status == 1) (content_at kind flags qualifier first last) else Refused kind (bad_status_at status)
+    if nat_lt status 2 then Done (status == 1) (content_at kind flags qualifier first last)
+    else Refused kind (bad_status_at status)
 
 -- the reply of the seven numbers
 abbrev pub reply_at : List ℕ → Reply
-reply_at numbers = reply_by (kind_at (slice_index numbers 0)) (slice_index numbers 1) (slice_index numbers 2) (slice_index numbers 4) (slice_index numbers 5) (slice_index numbers 6)
+reply_at numbers =
+    reply_by (kind_at (slice_index numbers 0)) (slice_index numbers 1) (slice_index numbers 2)
+    (slice_index numbers 4) (slice_index numbers 5) (slice_index numbers 6)

@@ -17,12 +17,14 @@ pub record IsFront {V : Type 0} (frame : V → List ℕ → Type 0) (bytes : Lis
   pub goes_on : 0 < length more
 
 -- so many of the bytes are the frame of the value; others may follow
-pub record Gets {V : Type 0} (frame : V → List ℕ → Type 0) (bytes : List ℕ) (value : V) (size : ℕ) : Type 0 where
+pub record Gets {V : Type 0} (frame : V → List ℕ → Type 0) (bytes : List ℕ) (value : V)
+    (size : ℕ) : Type 0 where
   pub within : size ≤ length bytes
   pub spelled : frame value (take size bytes)
 
 -- the byte at this place is the first that continues no frame
-pub record Breaks {V : Type 0} (frame : V → List ℕ → Type 0) (bytes : List ℕ) (at : ℕ) : Type 0 where
+pub record Breaks {V : Type 0} (frame : V → List ℕ → Type 0) (bytes : List ℕ)
+    (at : ℕ) : Type 0 where
   pub within : at < length bytes
   pub front : IsFront frame (take at bytes)
   pub none : Begins frame (take (at + 1) bytes) → ⊥
@@ -35,12 +37,15 @@ Takes frame bytes (Bad at) = Breaks frame bytes at
 
 -- a frame is of one value, and no frame is a proper front of another
 abbrev pub AreSingle : {V : Type 0} → (V → List ℕ → Type 0) → Type 0
-AreSingle {V} frame = (value other : V) (bytes more : List ℕ) → frame value bytes → frame other (bytes ++ more) → (value ≡ other) × (length more ≡ 0)
+AreSingle {V} frame =
+    (value other : V) (bytes more : List ℕ) → frame value bytes → frame other (bytes ++ more) →
+    (value ≡ other) × (length more ≡ 0)
 
 -- ---- one part behind another
 
 -- some number, and behind it a value, which may depend on it
-pub record Behind {N V : Type 0} (first : N → List ℕ → Type 0) (next : N → V → List ℕ → Type 0) (value : V) (bytes : List ℕ) : Type 0 where
+pub record Behind {N V : Type 0} (first : N → List ℕ → Type 0) (next : N → V → List ℕ → Type 0)
+    (value : V) (bytes : List ℕ) : Type 0 where
   pub number : N
   pub front : List ℕ
   pub rest : List ℕ

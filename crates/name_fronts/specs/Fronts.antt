@@ -22,7 +22,8 @@ pub record IsFrontAt (paths : List (List ℕ)) (name : List ℕ) (place : ℕ) :
 pub record AreFronts (paths : List (List ℕ)) (name : List ℕ) (places : List ℕ) : Type 0 where
   pub each : (place : ℕ) → IsFrontAt paths name place → Contains places place
   pub only : (place : ℕ) → Contains places place → IsFrontAt paths name place
-  pub once : (i j place : ℕ) → slice_get places i ≡ Some place → slice_get places j ≡ Some place → i ≡ j
+  pub once : (i j place : ℕ) → slice_get places i ≡ Some place →
+      slice_get places j ≡ Some place → i ≡ j
 
 -- ---- in order
 
@@ -32,18 +33,22 @@ Entry = Bor (List ℕ) × ℕ
 
 -- no path stands behind a greater one
 abbrev pub IsRising : List Entry → Type 0
-IsRising sorted = (i j : ℕ) (a b : Entry) → i ≤ j → slice_get sorted i ≡ Some a → slice_get sorted j ≡ Some b →
+IsRising sorted =
+    (i j : ℕ) (a b : Entry) → i ≤ j → slice_get sorted i ≡ Some a → slice_get sorted j ≡ Some b →
     is_lt (slice_cmp nat_cmp b.0.now a.0.now) ≡ false
 
 -- no two entries have one place
 abbrev pub HasOnce : List Entry → Type 0
-HasOnce sorted = (i j : ℕ) (a b : Entry) → slice_get sorted i ≡ Some a → slice_get sorted j ≡ Some b → a.1 ≡ b.1 → i ≡ j
+HasOnce sorted =
+    (i j : ℕ) (a b : Entry) → slice_get sorted i ≡ Some a →
+    slice_get sorted j ≡ Some b → a.1 ≡ b.1 → i ≡ j
 
 -- each path with its place, once
 pub record IsSortedOf (paths : List (List ℕ)) (sorted : List Entry) : Type 0 where
   pub rising : IsRising sorted
   pub told : (i : ℕ) (e : Entry) → slice_get sorted i ≡ Some e → slice_get paths e.1 ≡ Some e.0.now
-  pub whole : (place : ℕ) (path : List ℕ) → slice_get paths place ≡ Some path → (i : ℕ) × ((e : Entry) × (slice_get sorted i ≡ Some e) × (e.1 ≡ place))
+  pub whole : (place : ℕ) (path : List ℕ) → slice_get paths place ≡ Some path → (i : ℕ) ×
+      ((e : Entry) × (slice_get sorted i ≡ Some e) × (e.1 ≡ place))
   pub once : HasOnce sorted
 
 -- the path of this entry begins the text
@@ -64,7 +69,8 @@ pub record IsFrontAmong (sorted : List Entry) (name : List ℕ) (place : ℕ) : 
 pub record AreFrontsAmong (sorted : List Entry) (name : List ℕ) (places : List ℕ) : Type 0 where
   pub each : (place : ℕ) → IsFrontAmong sorted name place → Contains places place
   pub only : (place : ℕ) → Contains places place → IsFrontAmong sorted name place
-  pub once : (i j place : ℕ) → slice_get places i ≡ Some place → slice_get places j ≡ Some place → i ≡ j
+  pub once : (i j place : ℕ) → slice_get places i ≡ Some place →
+      slice_get places j ≡ Some place → i ≡ j
 
 -- the last below n that is so
 abbrev pub FindsLastBelow : (ℕ → Type 0) → ℕ → Option ℕ → Type 0
@@ -79,11 +85,14 @@ pub record IsUpTo (sorted : List Entry) (text : List ℕ) (i : ℕ) : Type 0 whe
 
 -- the first entries have the last one before each that begins it
 abbrev pub AreLinks : List Entry → List (Option ℕ) → Type 0
-AreLinks sorted shorter = (i : ℕ) (e : Entry) (last : Option ℕ) → slice_get sorted i ≡ Some e → slice_get shorter i ≡ Some last →
+AreLinks sorted shorter =
+    (i : ℕ) (e : Entry) (last : Option ℕ) → slice_get sorted i ≡ Some e →
+    slice_get shorter i ≡ Some last →
     FindsLastBelow (BeginsAt sorted e.0.now) i last
 
 -- all entries have
-pub record AreRows (paths : List (List ℕ)) (sorted : List Entry) (shorter : List (Option ℕ)) : Type 0 where
+pub record AreRows (paths : List (List ℕ)) (sorted : List Entry)
+    (shorter : List (Option ℕ)) : Type 0 where
   pub is : IsSortedOf paths sorted
   pub len : length shorter ≡ length sorted
   pub links : AreLinks sorted shorter

@@ -18,21 +18,26 @@ file_in true sets = option_map_or (λ (m : MappingOf). Some m.file) sets.mapping
 
 -- the file in which the place is told
 abbrev pub IsToldIn : List BindingSets → Place → ℕ → Type 0
-IsToldIn sets p file = IsSomeAnd (slice_get sets p.binding) (λ given. file_in p.in_mapping given ≡ Some file)
+IsToldIn sets p file =
+    IsSomeAnd (slice_get sets p.binding) (λ given. file_in p.in_mapping given ≡ Some file)
 
 -- the refusal is the first violation, unless memory ran out
-pub record IsTold (t : SystemTree) (shapes : List Shape) (sets : List BindingSets) (file node : ℕ) (broken : ParameterRule) : Type 0 where
+pub record IsTold (t : SystemTree) (shapes : List Shape) (sets : List BindingSets) (file node : ℕ)
+    (broken : ParameterRule) : Type 0 where
   pub place : Place
   pub first : IsFirstViolation t shapes sets place broken
   pub node_is : place.node ≡ node
   pub file_is : IsToldIn sets place file
 
 abbrev pub Faults : SystemTree → List Shape → List BindingSets → Refusal → Type 0
-Faults t shapes sets (At file node rule ports) = (broken : ParameterRule) × IsTold t shapes sets file node broken × (rule ≡ Parameters broken) × (ports ≡ [])
+Faults t shapes sets (At file node rule ports) =
+    (broken : ParameterRule) × IsTold t shapes sets file node broken ×
+    (rule ≡ Parameters broken) × (ports ≡ [])
 Faults t shapes sets Memory = ⊤
 
 -- the answer is this rule at this element, unless memory ran out
 abbrev pub Refuses : {A : Type 0} → Result A Refusal → ℕ → ℕ → ParameterRule → Type 0
 Refuses (Ok bound) file node broken = ⊥
-Refuses (Err (At f k rule ports)) file node broken = (f ≡ file) × (k ≡ node) × (rule ≡ Parameters broken) × (ports ≡ [])
+Refuses (Err (At f k rule ports)) file node broken =
+    (f ≡ file) × (k ≡ node) × (rule ≡ Parameters broken) × (ports ≡ [])
 Refuses (Err Memory) file node broken = ⊤

@@ -42,10 +42,12 @@ prefixed binding parameter = binding.prefix ++ parameter.name
 abbrev pub IsMapped : Option Mapping → ℕ → List ℕ → List ℕ → Option Change → Type 0
 IsMapped None place source name change = (place ≡ 0) × (name ≡ source) × (change ≡ None)
 IsMapped (Some mapping) place source name change =
-    (e : MappingEntry) × (slice_get mapping.entries place ≡ Some e) × (e.source ≡ source) × (name ≡ e.target) × (change ≡ change_of e)
+    (e : MappingEntry) × (slice_get mapping.entries place ≡ Some e) × (e.source ≡ source) ×
+    (name ≡ e.target) × (change ≡ change_of e)
 
 -- the triple is one of these bindings, with this parameter, this name and this change of its value
-pub record IsCandidate (t : SystemTree) (sets : List BindingSets) (c : Triple) (binding : Binding) (parameter : Parameter) (name : List ℕ) (change : Option Change) : Type 0 where
+pub record IsCandidate (t : SystemTree) (sets : List BindingSets) (c : Triple) (binding : Binding)
+    (parameter : Parameter) (name : List ℕ) (change : Option Change) : Type 0 where
   pub is : slice_get t.bindings c.binding ≡ Some binding
   pub given : BindingSets
   pub has : slice_get sets c.binding ≡ Some given
@@ -53,7 +55,8 @@ pub record IsCandidate (t : SystemTree) (sets : List BindingSets) (c : Triple) (
   pub mapped : IsMapped (mapping_of given) c.entry (prefixed binding parameter) name change
 
 -- the triple reaches the target
-pub record Reaches (t : SystemTree) (shapes : List Shape) (sets : List BindingSets) (target : Target) (c : Triple) : Type 0 where
+pub record Reaches (t : SystemTree) (shapes : List Shape) (sets : List BindingSets)
+    (target : Target) (c : Triple) : Type 0 where
   pub binding : Binding
   pub parameter : Parameter
   pub name : List ℕ
@@ -62,7 +65,8 @@ pub record Reaches (t : SystemTree) (shapes : List Shape) (sets : List BindingSe
   pub sees : Sees t shapes binding.owner name target
 
 -- the triple names what no target is called
-pub record IsUnreached (t : SystemTree) (shapes : List Shape) (sets : List BindingSets) (c : Triple) : Type 0 where
+pub record IsUnreached (t : SystemTree) (shapes : List Shape) (sets : List BindingSets)
+    (c : Triple) : Type 0 where
   pub binding : Binding
   pub parameter : Parameter
   pub name : List ℕ
@@ -74,11 +78,14 @@ pub record IsUnreached (t : SystemTree) (shapes : List Shape) (sets : List Bindi
 
 -- a later binding, or a later entry of one binding, or a later parameter of one entry
 abbrev pub IsLater : Triple → Triple → Type 0
-IsLater c d = (d.binding < c.binding) ⊎ ((d.binding ≡ c.binding) × ((d.entry < c.entry) ⊎ ((d.entry ≡ c.entry) × (d.parameter < c.parameter))))
+IsLater c d =
+    (d.binding < c.binding) ⊎ ((d.binding ≡ c.binding) ×
+    ((d.entry < c.entry) ⊎ ((d.entry ≡ c.entry) × (d.parameter < c.parameter))))
 
 -- the level of the element that the binding stands at
 abbrev pub HasLevel : SystemTree → ℕ → ℕ → Type 0
-HasLevel t b n = (binding : Binding) × (slice_get t.bindings b ≡ Some binding) × IsLevel t binding.owner n
+HasLevel t b n =
+    (binding : Binding) × (slice_get t.bindings b ≡ Some binding) × IsLevel t binding.owner n
 
 -- a higher level, or on one level the later
 pub record Beats (t : SystemTree) (c d : Triple) : Type 0 where
@@ -89,13 +96,16 @@ pub record Beats (t : SystemTree) (c d : Triple) : Type 0 where
   pub higher : (own < other) ⊎ ((own ≡ other) × IsLater c d)
 
 -- the triple reaches the target and beats each other that does
-pub record Wins (t : SystemTree) (shapes : List Shape) (sets : List BindingSets) (target : Target) (c : Triple) : Type 0 where
+pub record Wins (t : SystemTree) (shapes : List Shape) (sets : List BindingSets) (target : Target)
+    (c : Triple) : Type 0 where
   pub reaches : Reaches t shapes sets target c
   pub beats : (d : Triple) → Reaches t shapes sets target d → (d ≡ c) ⊎ Beats t c d
 
 -- the target gets this value
 abbrev pub Binds : SystemTree → List Shape → List BindingSets → Target → ℤ → Type 0
-Binds t shapes sets target y = (c : Triple) × ((w : Wins t shapes sets target c) × Gives w.reaches.change w.reaches.parameter.value y)
+Binds t shapes sets target y =
+    (c : Triple) × ((w : Wins t shapes sets target c) ×
+    Gives w.reaches.change w.reaches.parameter.value y)
 
 -- ---- all values
 
@@ -103,7 +113,8 @@ abbrev pub target_at : ℕ → ℕ → Target
 target_at i v = record { component = i; variable = v }
 
 -- the value that the variable at a place of the i-th component gets
-pub record IsBoundAt (t : SystemTree) (shapes : List Shape) (sets : List BindingSets) (i v : ℕ) (b : BoundValue) : Type 0 where
+pub record IsBoundAt (t : SystemTree) (shapes : List Shape) (sets : List BindingSets) (i v : ℕ)
+    (b : BoundValue) : Type 0 where
   pub variable : Variable
   pub is : IsTarget shapes (target_at i v) variable
   pub kind : variable.kind ≡ Some b.kind
@@ -115,20 +126,24 @@ abbrev pub IsReached : SystemTree → List Shape → List BindingSets → ℕ �
 IsReached t shapes sets i v = (c : Triple) × Reaches t shapes sets (target_at i v) c
 
 -- the values of the i-th component: of each variable that is reached, in the order of its description
-pub record AreBoundOf (t : SystemTree) (shapes : List Shape) (sets : List BindingSets) (i : ℕ) (values : List BoundValue) : Type 0 where
+pub record AreBoundOf (t : SystemTree) (shapes : List Shape) (sets : List BindingSets) (i : ℕ)
+    (values : List BoundValue) : Type 0 where
   pub places : List ℕ
   pub listed : IsListing (IsReached t shapes sets i) places
   pub each : AllZip (IsBoundAt t shapes sets i) places values
 
 -- a list of all triples that reach nothing, each once
-pub record ListsUnreached (t : SystemTree) (shapes : List Shape) (sets : List BindingSets) (all : List Triple) : Type 0 where
+pub record ListsUnreached (t : SystemTree) (shapes : List Shape) (sets : List BindingSets)
+    (all : List Triple) : Type 0 where
   pub each : (c : Triple) → Contains all c ↔ IsUnreached t shapes sets c
   pub once : (j k : ℕ) (c : Triple) → slice_get all j ≡ Some c → slice_get all k ≡ Some c → j ≡ k
 
 -- what the bindings give: the values of each component, and the number of triples that reach nothing
-pub record AreBound (t : SystemTree) (shapes : List Shape) (sets : List BindingSets) (bound : Bound) : Type 0 where
+pub record AreBound (t : SystemTree) (shapes : List Shape) (sets : List BindingSets)
+    (bound : Bound) : Type 0 where
   pub len : length bound.components ≡ length shapes
-  pub values : (i : ℕ) (values : List BoundValue) → slice_get bound.components i ≡ Some values → AreBoundOf t shapes sets i values
+  pub values : (i : ℕ) (values : List BoundValue) → slice_get bound.components i ≡ Some values →
+      AreBoundOf t shapes sets i values
   pub all : List Triple
   pub lists : ListsUnreached t shapes sets all
   pub unreached : bound.unreached ≡ length all

@@ -31,18 +31,22 @@ IsSetBefore a b = ⊥
 
 abbrev pub IsBefore : Place → Place → Type 0
 IsBefore p q =
-    (p.binding < q.binding) ⊎ ((p.binding ≡ q.binding) × (IsSetBefore p.in_mapping q.in_mapping ⊎ ((p.in_mapping ≡ q.in_mapping) × (p.node < q.node))))
+    (p.binding < q.binding) ⊎ ((p.binding ≡ q.binding) ×
+    (IsSetBefore p.in_mapping q.in_mapping ⊎
+    ((p.in_mapping ≡ q.in_mapping) × (p.node < q.node))))
 
 -- ---- what is reached
 
 -- a triple reaches a target of this type
-pub record ReachesKind (t : SystemTree) (shapes : List Shape) (sets : List BindingSets) (c : Triple) (kind : PortType) : Type 0 where
+pub record ReachesKind (t : SystemTree) (shapes : List Shape) (sets : List BindingSets) (c : Triple)
+    (kind : PortType) : Type 0 where
   pub target : Target
   pub reaches : Reaches t shapes sets target c
   pub kind_is : reaches.sees.variable.kind ≡ Some kind
 
 -- the triple is of the Parameter at this place and reaches a target, and this holds of its change, its value and the target's type
-pub record Holds (R : Option Change → ParameterValue → PortType → Type 0) (t : SystemTree) (shapes : List Shape) (sets : List BindingSets) (p : Place) (triple : Triple) : Type 0 where
+pub record Holds (R : Option Change → ParameterValue → PortType → Type 0) (t : SystemTree)
+    (shapes : List Shape) (sets : List BindingSets) (p : Place) (triple : Triple) : Type 0 where
   pub kind : PortType
   pub of : ReachesKind t shapes sets triple kind
   pub binding : triple.binding ≡ p.binding
@@ -51,7 +55,8 @@ pub record Holds (R : Option Change → ParameterValue → PortType → Type 0) 
   pub is : R of.reaches.change of.reaches.parameter.value kind
 
 -- the transformation at this place is of the entry by which the triple reaches a target of another class
-pub record ReachesOther (t : SystemTree) (shapes : List Shape) (sets : List BindingSets) (p : Place) (triple : Triple) : Type 0 where
+pub record ReachesOther (t : SystemTree) (shapes : List Shape) (sets : List BindingSets) (p : Place)
+    (triple : Triple) : Type 0 where
   pub kind : PortType
   pub of : ReachesKind t shapes sets triple kind
   pub binding : triple.binding ≡ p.binding
@@ -66,7 +71,8 @@ pub record ReachesOther (t : SystemTree) (shapes : List Shape) (sets : List Bind
   pub other : values.HasOtherChange (Some transformation.change) kind
 
 -- the triple is of the Parameter at this place and names two targets
-pub record NamesTwo (t : SystemTree) (shapes : List Shape) (sets : List BindingSets) (p : Place) (triple : Triple) : Type 0 where
+pub record NamesTwo (t : SystemTree) (shapes : List Shape) (sets : List BindingSets) (p : Place)
+    (triple : Triple) : Type 0 where
   pub target : Target
   pub other : Target
   pub apart : target ≢ other
@@ -79,7 +85,8 @@ pub record NamesTwo (t : SystemTree) (shapes : List Shape) (sets : List BindingS
 -- ---- the rules
 
 -- by the triple the element at the place breaks the rule, whether its value wins or not; the rules of the reading of files aren't tested here
-abbrev pub Breaks : SystemTree → List Shape → List BindingSets → ParameterRule → Place → Triple → Type 0
+abbrev pub Breaks : SystemTree → List Shape → List BindingSets → ParameterRule →
+    Place → Triple → Type 0
 Breaks t shapes sets r.Structure p c = ⊥
 Breaks t shapes sets r.Incomplete p c = ⊥
 -- 52: a value reaches a parameter of another class
@@ -98,10 +105,13 @@ abbrev pub Violates : SystemTree → List Shape → List BindingSets → Paramet
 Violates t shapes sets rule p = (c : Triple) × Breaks t shapes sets rule p c
 
 -- the first violation: at the first place that breaks a rule, the one of the least number
-pub record IsFirstViolation (t : SystemTree) (shapes : List Shape) (sets : List BindingSets) (p : Place) (rule : ParameterRule) : Type 0 where
+pub record IsFirstViolation (t : SystemTree) (shapes : List Shape) (sets : List BindingSets)
+    (p : Place) (rule : ParameterRule) : Type 0 where
   pub broken : Violates t shapes sets rule p
-  pub least : (other : ParameterRule) → parameter_number other < parameter_number rule → Violates t shapes sets other p → ⊥
-  pub first : (q : Place) (other : ParameterRule) → IsBefore q p → Violates t shapes sets other q → ⊥
+  pub least : (other : ParameterRule) → parameter_number other < parameter_number rule →
+      Violates t shapes sets other p → ⊥
+  pub first : (q : Place) (other : ParameterRule) → IsBefore q p →
+      Violates t shapes sets other q → ⊥
 
 -- no place breaks a rule
 abbrev pub IsFitting : SystemTree → List Shape → List BindingSets → Type 0

@@ -8,7 +8,9 @@ use Rattle.doc_tables.specs.Answers as all
 use Rattle.parameter_sets.specs.Rules.{IsFirstInMapping, IsFirstInSet}
 
 abbrev pub SetFaults : List Node → Option ℕ → Refusal → Type 0
-SetFaults t at refusal = all.Faults (λ (rule : ParameterRule). Parameters rule) (IsFirstInSet t at) refusal
+SetFaults t at refusal =
+    all.Faults (λ (rule : ParameterRule). Parameters rule) (IsFirstInSet t at) refusal
 
 abbrev pub MappingFaults : List Node → Option ℕ → Refusal → Type 0
-MappingFaults t at refusal = all.Faults (λ (rule : ParameterRule). Parameters rule) (IsFirstInMapping t at) refusal
+MappingFaults t at refusal =
+    all.Faults (λ (rule : ParameterRule). Parameters rule) (IsFirstInMapping t at) refusal

@@ -45,8 +45,10 @@ entries t at = inside t (codes "MappingEntry") (mappings t at)
 
 abbrev pub is_transformation : List ℕ → Bool
 is_transformation name =
-    (bytes_eq name (codes "LinearTransformation") || bytes_eq name (codes "BooleanMappingTransformation"))
-    || (bytes_eq name (codes "IntegerMappingTransformation") || bytes_eq name (codes "EnumerationMappingTransformation"))
+    (bytes_eq name (codes "LinearTransformation") ||
+    bytes_eq name (codes "BooleanMappingTransformation"))
+    || (bytes_eq name (codes "IntegerMappingTransformation") ||
+    bytes_eq name (codes "EnumerationMappingTransformation"))
 
 abbrev pub transformations_of : List Node → ℕ → List ℕ
 transformations_of t k = filter (λ c. is_transformation (name_of t c)) (children t k)
@@ -63,7 +65,8 @@ first_transformation t k = find (λ c. is_transformation (name_of t c)) (childre
 
 abbrev pub is_value : List ℕ → Bool
 is_value name =
-    ((bytes_eq name (codes "Real") || bytes_eq name (codes "Integer")) || (bytes_eq name (codes "Boolean") || bytes_eq name (codes "String")))
+    ((bytes_eq name (codes "Real") || bytes_eq name (codes "Integer")) ||
+    (bytes_eq name (codes "Boolean") || bytes_eq name (codes "String")))
     || (bytes_eq name (codes "Enumeration") || bytes_eq name (codes "Binary"))
 
 -- of several values of a Parameter the first counts

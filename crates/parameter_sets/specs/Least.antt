@@ -24,4 +24,5 @@ Breach = ℕ × ParameterRule
 abbrev pub earlier : Option Breach → Option ℕ → ParameterRule → Option Breach
 earlier first None rule = first
 earlier None (Some node) rule = Some (node, rule)
-earlier (Some first) (Some node) rule = if nat_lt node first.0 then Some (node, rule) else Some first
+earlier (Some first) (Some node) rule =
+    if nat_lt node first.0 then Some (node, rule) else Some first

@@ -19,7 +19,8 @@ IsWhole t k name x = (text : List ℕ) × (attribute t k name ≡ Some text) × 
 
 -- the attribute is this Boolean: `true` or `1`, `false` or `0`
 abbrev pub IsBoolean : List Node → ℕ → List ℕ → Bool → Type 0
-IsBoolean t k name x = (text : List ℕ) × (attribute t k name ≡ Some text) × Reads Boolean text (bit x)
+IsBoolean t k name x =
+    (text : List ℕ) × (attribute t k name ≡ Some text) × Reads Boolean text (bit x)
 
 -- ---- factors and offsets
 

@@ -17,17 +17,20 @@ use Rattle.parameter_sets.specs.Sets.{IsChange, IsValue}
 -- ---- where it begins
 
 abbrev pub has_version : List Node → ℕ → Bool
-has_version t k = option_map_or (λ text. bytes_eq text (codes "1.0")) (attribute t k (codes "version")) false
+has_version t k =
+    option_map_or (λ text. bytes_eq text (codes "1.0")) (attribute t k (codes "version")) false
 
 -- there isn't just one, or the one isn't of version 1.0
 abbrev pub IsOtherStructure : List Node → List ℕ → Option ℕ → ℕ → Type 0
-IsOtherStructure t found at k = ((length found ≢ 1) × (k ≡ seat at)) ⊎ ((found ≡ k ∷ []) × (has_version t k ≡ false))
+IsOtherStructure t found at k =
+    ((length found ≢ 1) × (k ≡ seat at)) ⊎ ((found ≡ k ∷ []) × (has_version t k ≡ false))
 
 -- ---- parts
 
 -- it has no name, or its value doesn't read as its type
 abbrev pub IsIncompleteParameter : List Node → ℕ → Type 0
-IsIncompleteParameter t k = Lacks t k (codes "name") ⊎ ((x : ParameterValue) → IsValue t (first_value t k) x → ⊥)
+IsIncompleteParameter t k =
+    Lacks t k (codes "name") ⊎ ((x : ParameterValue) → IsValue t (first_value t k) x → ⊥)
 
 -- it has no source or no target
 abbrev pub IsIncompleteEntry : List Node → ℕ → Type 0
@@ -70,7 +73,8 @@ MappingViolates t at r.Incomplete k = IsBrokenAmong t part.Entry (entries t at) 
 MappingViolates t at r.OtherClass k = ⊥
 MappingViolates t at r.OutOfRange k = ⊥
 -- 54: a transformation, of an entry's not the first alone, doesn't read or is left out of this profile
-MappingViolates t at r.Transformation k = IsBrokenAmong t part.Transformation (transformations t at) k
+MappingViolates t at r.Transformation k =
+    IsBrokenAmong t part.Transformation (transformations t at) k
 MappingViolates t at r.NoMapEntry k = ⊥
 MappingViolates t at r.NamesTwo k = ⊥
 

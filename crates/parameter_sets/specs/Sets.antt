@@ -24,9 +24,12 @@ abbrev pub IsValue : List Node → Option ℕ → ParameterValue → Type 0
 IsValue t None (value.Integer x) = ⊥
 IsValue t None (value.Boolean x) = ⊥
 IsValue t None value.Other = Unit {0}
-IsValue t (Some c) (value.Integer x) = (is_named t c (codes "Integer") ≡ true) × IsWhole t c (codes "value") x
-IsValue t (Some c) (value.Boolean x) = (is_named t c (codes "Boolean") ≡ true) × IsBoolean t c (codes "value") x
-IsValue t (Some c) value.Other = (is_named t c (codes "Integer") ≡ false) × (is_named t c (codes "Boolean") ≡ false)
+IsValue t (Some c) (value.Integer x) =
+    (is_named t c (codes "Integer") ≡ true) × IsWhole t c (codes "value") x
+IsValue t (Some c) (value.Boolean x) =
+    (is_named t c (codes "Boolean") ≡ true) × IsBoolean t c (codes "value") x
+IsValue t (Some c) value.Other =
+    (is_named t c (codes "Integer") ≡ false) × (is_named t c (codes "Boolean") ≡ false)
 
 pub record IsParameter (t : List Node) (k : ℕ) (x : Parameter) : Type 0 where
   pub node : x.node ≡ k
@@ -39,7 +42,8 @@ abbrev pub IsIntegerPair : List Node → ℕ → IntegerPair → Type 0
 IsIntegerPair t k x = IsWhole t k (codes "source") x.source × IsWhole t k (codes "target") x.target
 
 abbrev pub IsBooleanPair : List Node → ℕ → BooleanPair → Type 0
-IsBooleanPair t k x = IsBoolean t k (codes "source") x.source × IsBoolean t k (codes "target") x.target
+IsBooleanPair t k x =
+    IsBoolean t k (codes "source") x.source × IsBoolean t k (codes "target") x.target
 
 -- the transformation changes values so; a mapping of enumerations is left out of this profile
 abbrev pub IsChange : List Node → ℕ → Change → Type 0
@@ -48,9 +52,11 @@ IsChange t k (change.Linear factor offset) =
     × WritesOr (pos 1) (attribute t k (codes "factor")) factor
     × WritesOr (pos 0) (attribute t k (codes "offset")) offset
 IsChange t k (change.Integers pairs) =
-    (is_named t k (codes "IntegerMappingTransformation") ≡ true) × AllZip (IsIntegerPair t) (children_named t (codes "MapEntry") k) pairs
+    (is_named t k (codes "IntegerMappingTransformation") ≡ true) ×
+    AllZip (IsIntegerPair t) (children_named t (codes "MapEntry") k) pairs
 IsChange t k (change.Booleans pairs) =
-    (is_named t k (codes "BooleanMappingTransformation") ≡ true) × AllZip (IsBooleanPair t) (children_named t (codes "MapEntry") k) pairs
+    (is_named t k (codes "BooleanMappingTransformation") ≡ true) ×
+    AllZip (IsBooleanPair t) (children_named t (codes "MapEntry") k) pairs
 
 abbrev pub IsTransformation : List Node → Option ℕ → Option Transformation → Type 0
 IsTransformation t None None = Unit {0}

@@ -20,13 +20,16 @@ text_at texts k = unwrap_or (slice_get texts k) []
 -- the first of the places from n to the end that has the name
 abbrev pub FindsFrom : List (List ℕ) → ℕ → List ℕ → Option ℕ → Type 0
 FindsFrom texts n x None = (k : ℕ) → n ≤ k → k < length texts → text_at texts k ≡ x → ⊥
-FindsFrom texts n x (Some k) = (n ≤ k) × (k < length texts) × (text_at texts k ≡ x) × ((j : ℕ) → n ≤ j → j < k → text_at texts j ≡ x → ⊥)
+FindsFrom texts n x (Some k) =
+    (n ≤ k) × (k < length texts) × (text_at texts k ≡ x) ×
+    ((j : ℕ) → n ≤ j → j < k → text_at texts j ≡ x → ⊥)
 
 -- from n on each name has its first place, and each place the next one with its name
 pub record IsChainedFrom (texts : List (List ℕ)) (n : ℕ) (chains : NameChains) : Type 0 where
   pub same_length : length chains.next.items ≡ length texts
   pub finds : (x : List ℕ) → FindsFrom texts n x (first_of chains x)
-  pub goes_on : (p : ℕ) → n ≤ p → p < length texts → FindsFrom texts (p + 1) (text_at texts p) (next_of chains p)
+  pub goes_on : (p : ℕ) → n ≤ p → p < length texts →
+      FindsFrom texts (p + 1) (text_at texts p) (next_of chains p)
 
 abbrev pub AreChains : List (List ℕ) → NameChains → Type 0
 AreChains texts chains = IsChainedFrom texts 0 chains

@@ -25,7 +25,8 @@ IsInScope t c = BeginsWithScope t c.system c.name
 
 -- each System stands behind the one that it stands in, full names are those of the tree, and each binding is that of a part
 pub record IsNamedTree (t : SystemTree) : Type 0 where
-  pub outer : (s above : ℕ) (part : SystemPart) → slice_get t.systems s ≡ Some part → part.parent ≡ Some above → above < s
+  pub outer : (s above : ℕ) (part : SystemPart) → slice_get t.systems s ≡ Some part →
+      part.parent ≡ Some above → above < s
   pub within : All (λ (c : ComponentPart). c.system < length t.systems) t.components
   pub scopes : All (IsInScope t) t.components
   pub owners : All (λ (b : Binding). IsOwner t b.owner) t.bindings

@@ -29,23 +29,30 @@ IsCalled variable name = (name ≡ variable.name) ⊎ Contains variable.aliases 
 -- the System is this one, or stands within it
 pub data IsWithin (t : SystemTree) (outer : ℕ) : ℕ → Type 0 where
   Same : (s : ℕ) → s ≡ outer → IsWithin t outer s
-  Deeper : (s above : ℕ) (part : SystemPart) → slice_get t.systems s ≡ Some part → part.parent ≡ Some above → IsWithin t outer above → IsWithin t outer s
+  Deeper : (s above : ℕ) (part : SystemPart) → slice_get t.systems s ≡ Some part →
+      part.parent ≡ Some above → IsWithin t outer above → IsWithin t outer s
 
 -- the names of the Systems below the outermost, down to this one, each with a dot behind it
 pub data IsScope (t : SystemTree) : ℕ → List ℕ → Type 0 where
-  Outermost : (s : ℕ) (part : SystemPart) (scope : List ℕ) → slice_get t.systems s ≡ Some part → part.parent ≡ None → scope ≡ [] → IsScope t s scope
-  Inner : (s outer : ℕ) (part : SystemPart) (above scope : List ℕ) → slice_get t.systems s ≡ Some part → part.parent ≡ Some outer → IsScope t outer above →
+  Outermost : (s : ℕ) (part : SystemPart) (scope : List ℕ) → slice_get t.systems s ≡ Some part →
+      part.parent ≡ None → scope ≡ [] → IsScope t s scope
+  Inner : (s outer : ℕ) (part : SystemPart) (above scope : List ℕ) →
+      slice_get t.systems s ≡ Some part → part.parent ≡ Some outer → IsScope t outer above →
       scope ≡ above ++ (part.name ++ 46 ∷ []) → IsScope t s scope
 
 -- so many Systems stand around this one
 pub data IsDepth (t : SystemTree) : ℕ → ℕ → Type 0 where
-  AtTop : (s n : ℕ) (part : SystemPart) → slice_get t.systems s ≡ Some part → part.parent ≡ None → n ≡ 0 → IsDepth t s n
-  Below : (s outer n m : ℕ) (part : SystemPart) → slice_get t.systems s ≡ Some part → part.parent ≡ Some outer → IsDepth t outer m → n ≡ m + 1 → IsDepth t s n
+  AtTop : (s n : ℕ) (part : SystemPart) → slice_get t.systems s ≡ Some part → part.parent ≡ None →
+      n ≡ 0 → IsDepth t s n
+  Below : (s outer n m : ℕ) (part : SystemPart) → slice_get t.systems s ≡ Some part →
+      part.parent ≡ Some outer → IsDepth t outer m → n ≡ m + 1 → IsDepth t s n
 
 -- the level of an element: so many Systems stand around it; the fewer, the higher it is
 abbrev pub IsLevel : SystemTree → Owner → ℕ → Type 0
 IsLevel t (System s) n = IsDepth t s n
-IsLevel t (Component i) n = (c : ComponentPart) × (slice_get t.components i ≡ Some c) × ((m : ℕ) × IsDepth t c.system m × (n ≡ m + 1))
+IsLevel t (Component i) n =
+    (c : ComponentPart) × (slice_get t.components i ≡ Some c) ×
+    ((m : ℕ) × IsDepth t c.system m × (n ≡ m + 1))
 
 -- ---- names
 
@@ -64,7 +71,8 @@ SeesName t (Component i) component own name = (component ≡ i) × (name ≡ own
 SeesName t (System s) component own name = SeesBelow t s component own name
 
 -- the element sees the target under this name
-pub record Sees (t : SystemTree) (shapes : List Shape) (owner : Owner) (name : List ℕ) (target : Target) : Type 0 where
+pub record Sees (t : SystemTree) (shapes : List Shape) (owner : Owner) (name : List ℕ)
+    (target : Target) : Type 0 where
   pub variable : Variable
   pub is : IsTarget shapes target variable
   pub own : List ℕ

@@ -25,7 +25,8 @@ pub record IsNamed (v : Variable) (name : List ℕ) : Type 0 where
 
 -- the parameter at the place has the name
 abbrev pub IsNamedAt : List Variable → List ℕ → ℕ → Type 0
-IsNamedAt variables name place = (v : Variable) × (slice_get variables place ≡ Some v) × IsNamed v name
+IsNamedAt variables name place =
+    (v : Variable) × (slice_get variables place ≡ Some v) × IsNamed v name
 
 -- a name and the place of its variable
 abbrev pub entry_of : Bor (List ℕ) × ℕ → List ℕ × ℕ
@@ -36,26 +37,32 @@ text_of e = e.0.now
 
 -- each name of a parameter stands among them with the place of the variable
 abbrev pub AreEntries : List Variable → List (Bor (List ℕ) × ℕ) → Type 0
-AreEntries variables entries = (name : List ℕ) (place : ℕ) → Contains (map entry_of entries) (name, place) ↔ IsNamedAt variables name place
+AreEntries variables entries =
+    (name : List ℕ) (place : ℕ) → Contains (map entry_of entries) (name, place) ↔
+    IsNamedAt variables name place
 
 pub record AreNames (variables : List Variable) (names : ParameterNames) : Type 0 where
   pub entries : AreEntries variables names.entries.items
   pub chains : AreChains (map text_of names.entries.items) names.chains
 
 -- the places of those that have the name, as far as the chain was walked
-pub record AreWalked (entries : List (Bor (List ℕ) × ℕ)) (name : List ℕ) (places : List ℕ) (next : Option ℕ) : Type 0 where
+pub record AreWalked (entries : List (Bor (List ℕ) × ℕ)) (name : List ℕ) (places : List ℕ)
+    (next : Option ℕ) : Type 0 where
   pub n : ℕ
   pub finds : FindsFrom (map text_of entries) n name next
-  pub each : (k : ℕ) (e : Bor (List ℕ) × ℕ) → k < n → slice_get entries k ≡ Some e → e.0.now ≡ name → Contains places e.1
+  pub each : (k : ℕ) (e : Bor (List ℕ) × ℕ) → k < n → slice_get entries k ≡ Some e →
+      e.0.now ≡ name → Contains places e.1
   pub only : (p : ℕ) → Contains places p → Contains (map entry_of entries) (name, p)
 
 -- for each component the names of its parameters
 pub record AreAllNames (shapes : List Shape) (names : List ParameterNames) : Type 0 where
   pub names_len : length names ≡ length shapes
-  pub each : (i : ℕ) (s : Shape) (n : ParameterNames) → slice_get shapes i ≡ Some s → slice_get names i ≡ Some n → AreNames s.variables n
+  pub each : (i : ℕ) (s : Shape) (n : ParameterNames) → slice_get shapes i ≡ Some s →
+      slice_get names i ≡ Some n → AreNames s.variables n
 
 -- the parameter at the place of the component's description has the name
-pub record IsNamedIn (shapes : List Shape) (component : ℕ) (name : List ℕ) (place : ℕ) : Type 0 where
+pub record IsNamedIn (shapes : List Shape) (component : ℕ) (name : List ℕ)
+    (place : ℕ) : Type 0 where
   pub shape : Shape
   pub is : slice_get shapes component ≡ Some shape
   pub named : IsNamedAt shape.variables name place
@@ -87,16 +94,19 @@ pub record TellsPath (paths : Paths) (s component : ℕ) (text : List ℕ) : Typ
 -- the rows have places of paths alone, one row for each System
 pub record AreRows (systems : ℕ) (paths : Paths) : Type 0 where
   pub rows_len : length paths.below ≡ systems
-  pub within : (s at : ℕ) → Contains (slice_index_or paths.below s []) at → at < length paths.all.items
+  pub within : (s at : ℕ) → Contains (slice_index_or paths.below s []) at →
+      at < length paths.all.items
 
 -- they are the paths of the first n components
 pub record ArePathsBelow (t : SystemTree) (n : ℕ) (paths : Paths) : Type 0 where
   pub rows : AreRows (length t.systems) paths
-  pub each : (s component : ℕ) (text : List ℕ) → TellsPath paths s component text ↔ ((component < n) × IsPath t s component text)
+  pub each : (s component : ℕ) (text : List ℕ) → TellsPath paths s component text ↔
+      ((component < n) × IsPath t s component text)
 
 pub record ArePaths (t : SystemTree) (paths : Paths) : Type 0 where
   pub rows : AreRows (length t.systems) paths
-  pub each : (s component : ℕ) (text : List ℕ) → TellsPath paths s component text ↔ IsPath t s component text
+  pub each : (s component : ℕ) (text : List ℕ) → TellsPath paths s component text ↔
+      IsPath t s component text
 
 -- ---- the paths that begin a name
 
@@ -106,17 +116,21 @@ path_text (Some p) = p.text.now
 
 -- the paths in the row of a System
 abbrev pub row_texts : Paths → ℕ → List (List ℕ)
-row_texts paths s = map (λ at. path_text (slice_get paths.all.items at)) (slice_index_or paths.below s [])
+row_texts paths s =
+    map (λ at. path_text (slice_get paths.all.items at)) (slice_index_or paths.below s [])
 
 -- those of the first n Systems
 pub record AreAllFronts (paths : Paths) (n : ℕ) (fronts : List (List (List ℕ))) : Type 0 where
   pub fronts_len : length fronts ≡ n
-  pub each : (s : ℕ) (front : List (List ℕ)) → slice_get fronts s ≡ Some front → front ≡ row_texts paths s
+  pub each : (s : ℕ) (front : List (List ℕ)) → slice_get fronts s ≡ Some front →
+      front ≡ row_texts paths s
 
 -- places of the row of a System, among them all whose paths begin the name
 pub record AreNear (paths : Paths) (s : ℕ) (name : List ℕ) (ats : List ℕ) : Type 0 where
   pub only : (at : ℕ) → Contains ats at → Contains (slice_index_or paths.below s []) at
-  pub each : (at : ℕ) (path : Path) (rest : List ℕ) → Contains (slice_index_or paths.below s []) at → slice_get paths.all.items at ≡ Some path → name ≡ path.text.now ++ rest → Contains ats at
+  pub each : (at : ℕ) (path : Path) (rest : List ℕ) →
+      Contains (slice_index_or paths.below s []) at → slice_get paths.all.items at ≡ Some path →
+      name ≡ path.text.now ++ rest → Contains ats at
 
 -- ---- the whole
 

@@ -19,19 +19,23 @@ use Rattle.parameter_values.specs.Values.{IsOf, Gives, HasNoPair, HasOtherChange
 
 -- nothing where no pair has the source, and else the target of the last that has it
 abbrev pub FindsInteger : List IntegerPair → ℤ → Option ℤ → Type 0
-FindsInteger pairs x None = (k : ℕ) (p : IntegerPair) → slice_get pairs k ≡ Some p → p.source ≡ x → ⊥
+FindsInteger pairs x None =
+    (k : ℕ) (p : IntegerPair) → slice_get pairs k ≡ Some p → p.source ≡ x → ⊥
 FindsInteger pairs x (Some y) = TakesInteger pairs x y
 
 abbrev pub FindsBoolean : List BooleanPair → Bool → Option Bool → Type 0
-FindsBoolean pairs x None = (k : ℕ) (p : BooleanPair) → slice_get pairs k ≡ Some p → p.source ≡ x → ⊥
+FindsBoolean pairs x None =
+    (k : ℕ) (p : BooleanPair) → slice_get pairs k ≡ Some p → p.source ≡ x → ⊥
 FindsBoolean pairs x (Some y) = TakesBoolean pairs x y
 
 -- the change with its tables
 abbrev pub IsReady : Option Change → ReadyChange → Type 0
 IsReady None ready.Same = Unit {0}
 IsReady (Some (change.Linear factor offset)) (ready.Linear f o) = (f ≡ factor) × (o ≡ offset)
-IsReady (Some (change.Integers pairs)) (ready.Integers targets) = (x : ℤ) → FindsInteger pairs x (get int_cmp targets x)
-IsReady (Some (change.Booleans pairs)) (ready.Booleans of_false of_true) = FindsBoolean pairs false of_false × FindsBoolean pairs true of_true
+IsReady (Some (change.Integers pairs)) (ready.Integers targets) =
+    (x : ℤ) → FindsInteger pairs x (get int_cmp targets x)
+IsReady (Some (change.Booleans pairs)) (ready.Booleans of_false of_true) =
+    FindsBoolean pairs false of_false × FindsBoolean pairs true of_true
 IsReady c r = ⊥
 
 -- ---- judgements

@@ -51,7 +51,8 @@ Gives None (value.Integer x) y = y ≡ x
 Gives None (value.Boolean x) y = y ≡ bit x
 Gives (Some (change.Linear factor offset)) (value.Integer x) y = y ≡ factor *ℤ x +ℤ offset
 Gives (Some (change.Integers pairs)) (value.Integer x) y = TakesInteger pairs x y
-Gives (Some (change.Booleans pairs)) (value.Boolean x) y = (z : Bool) × TakesBoolean pairs x z × (y ≡ bit z)
+Gives (Some (change.Booleans pairs)) (value.Boolean x) y =
+    (z : Bool) × TakesBoolean pairs x z × (y ≡ bit z)
 Gives c v y = ⊥
 
 -- ---- what a parameter of a type takes

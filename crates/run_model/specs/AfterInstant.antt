@@ -19,18 +19,23 @@ use Rattle.run_model.specs.Initial.{interval_in}
 
 -- the states with the values of the instant written, where there is event mode
 abbrev pub written : Run → Situation → List (Option ℤ) → List MachineState
-written r s values = each r s.states (λ i c m state. if c.shape.has_event_mode then state_with r.system.ports values i m state else state)
+written r s values =
+    each r s.states (λ i c m state. if c.shape.has_event_mode
+    then state_with r.system.ports values i m state else state)
 
 -- ---- the timers
 
 -- what a countdown Clock's FMU answers of it
 abbrev asked_interval : Run → Situation → List (Option ℤ) → Port → Interval
-asked_interval r s values port = unwrap_or (at_fmu r (written r s values) port.component.0 (λ c m state. Some (interval_in (m.look state (C.GetInterval port.reference))))) NotYetKnown
+asked_interval r s values port =
+    unwrap_or (at_fmu r (written r s values) port.component.0 (λ c m state.
+    Some (interval_in (m.look state (C.GetInterval port.reference))))) NotYetKnown
 
 -- a tick takes the arming away; then the FMU is asked
 abbrev pub next_timer : Role → Run → Situation → List (Option ℤ) → ℕ → Port → Timer → Timer
 next_timer (TimeClock Countdown) r s values p port old =
-    answered r.plan.resolution s.t (asked_interval r s values port) (if is_active (value values p) then Never else old)
+    answered r.plan.resolution s.t (asked_interval r s values port) (if is_active (value values p)
+    then Never else old)
 next_timer (TimeClock (Periodic interval shift)) r s values p port old = old
 next_timer (TimeClock Answered) r s values p port old = old
 next_timer (Input feed) r s values p port old = old
@@ -38,8 +43,10 @@ next_timer Output r s values p port old = old
 next_timer (ClockInput feed) r s values p port old = old
 next_timer ClockOutput r s values p port old = old
 
-abbrev pub next_timers_from : Run → Situation → List (Option ℤ) → ℕ → List Port → List Timer → List Timer
-next_timers_from r s values p (port ∷ ports) (old ∷ olds) = next_timer port.role r s values p port old ∷ next_timers_from r s values (suc p) ports olds
+abbrev pub next_timers_from : Run → Situation → List (Option ℤ) → ℕ → List Port →
+    List Timer → List Timer
+next_timers_from r s values p (port ∷ ports) (old ∷ olds) =
+    next_timer port.role r s values p port old ∷ next_timers_from r s values (suc p) ports olds
 next_timers_from r s values p [] olds = []
 next_timers_from r s values p (port ∷ ports) [] = []
 
@@ -60,12 +67,16 @@ asks_again (R.Refused k status) = false
 
 -- whether the answer of some FMU to its Update passes the test
 abbrev pub any_update : (Reply → Bool) → Run → Situation → List (Option ℤ) → Bool
-any_update test r s values = list_any (λ b. b) (each r (written r s values) (λ i c m state. c.shape.has_event_mode && test (m.look state C.Update)))
+any_update test r s values =
+    list_any (λ b. b) (each r (written r s values) (λ i c m state. c.shape.has_event_mode &&
+    test (m.look state C.Update)))
 
 -- where the run stands after the Updates, before the next instant at this point
 abbrev pub updated : Run → Situation → List (Option ℤ) → Situation
 updated r s values = record {
-  states = each r (written r s values) (λ i c m state. if c.shape.has_event_mode then after m state C.Update else state);
+  states =
+      each r (written r s values) (λ i c m state. if c.shape.has_event_mode
+      then after m state C.Update else state);
   timers = next_timers r s values;
   t = s.t;
   n = suc s.n;
@@ -83,9 +94,11 @@ pub data Following : Type 0 where
 
 -- an Update asks for another instant here, or a Clock is armed for this point
 abbrev pub goes_again : Run → Situation → List (Option ℤ) → Bool
-goes_again r s values = any_update asks_again r s values || list_any (is_armed_for s.t) (next_timers r s values)
+goes_again r s values =
+    any_update asks_again r s values || list_any (is_armed_for s.t) (next_timers r s values)
 
 abbrev pub following : Run → Situation → List (Option ℤ) → Following
 following r s values =
     if any_update asks_for_end r s values then Ended
-    else (if goes_again r s values then (if suc s.n == r.plan.limit then AtLimit else Again) else Done)
+    else (if goes_again r s values
+    then (if suc s.n == r.plan.limit then AtLimit else Again) else Done)

@@ -29,11 +29,13 @@ IsAskedFixed timing = (timing.variability ≡ T.Fixed) × (timing.supports_fract
 
 -- a Clock of the shape
 abbrev pub IsClockOf : Shape → ℕ → (Variable → Type 0) → Type 0
-IsClockOf shape reference Is = IsSomeAnd (variable_at shape.variables reference) (λ (v : Variable). (is_clock v ≡ true) × Is v)
+IsClockOf shape reference Is =
+    IsSomeAnd (variable_at shape.variables reference) (λ (v : Variable). (is_clock v ≡ true) × Is v)
 
 -- a run sends the call to an FMU of the shape, in some state, before the closing
 abbrev pub RunSends : Shape → Call → Type 0
-RunSends shape (C.Instantiate event_mode early_return) = (event_mode ≡ shape.has_event_mode) × (early_return ≡ shape.might_return_early)
+RunSends shape (C.Instantiate event_mode early_return) =
+    (event_mode ≡ shape.has_event_mode) × (early_return ≡ shape.might_return_early)
 RunSends shape (C.EnterInitialization start stop) = Unit {0}
 RunSends shape C.ExitInitialization = Unit {0}
 RunSends shape C.EnterEvent = shape.has_event_mode ≡ true
@@ -43,10 +45,15 @@ RunSends shape C.Update = shape.has_event_mode ≡ true
 RunSends shape (C.Get kind reference) = (is_value_type kind ≡ true) × IsOutput shape kind reference
 RunSends shape (C.Set kind reference value) =
     (is_value_type kind ≡ true) × Fits kind value
-    × IsSomeAnd (variable_at shape.variables reference) (λ (v : Variable). (v.kind ≡ Some kind) × ((v.causality ≡ V.Parameter) ⊎ (v.causality ≡ V.Input)))
-RunSends shape (C.GetClock reference) = IsClockOf shape reference (λ (v : Variable). v.causality ≡ V.Output)
-RunSends shape (C.SetClock reference) = IsClockOf shape reference (λ (v : Variable). v.causality ≡ V.Input)
-RunSends shape (C.GetInterval reference) = IsSomeAnd (timing_at shape.clocks reference) (λ (t : ClockTiming). (t.variability ≡ T.Countdown) ⊎ IsAskedFixed t)
+    × IsSomeAnd (variable_at shape.variables reference) (λ (v : Variable). (v.kind ≡ Some kind) ×
+    ((v.causality ≡ V.Parameter) ⊎ (v.causality ≡ V.Input)))
+RunSends shape (C.GetClock reference) =
+    IsClockOf shape reference (λ (v : Variable). v.causality ≡ V.Output)
+RunSends shape (C.SetClock reference) =
+    IsClockOf shape reference (λ (v : Variable). v.causality ≡ V.Input)
+RunSends shape (C.GetInterval reference) =
+    IsSomeAnd (timing_at shape.clocks reference) (λ (t : ClockTiming).
+    (t.variability ≡ T.Countdown) ⊎ IsAskedFixed t)
 RunSends shape (C.GetShift reference) = IsSomeAnd (timing_at shape.clocks reference) IsAskedFixed
 RunSends shape C.Save = shape.can_save_state ≡ true
 RunSends shape C.Restore = shape.can_save_state ≡ true
@@ -56,12 +63,15 @@ RunSends shape C.FreeInstance = ⊥
 
 -- the machine answers each such call well in each state that has a value for each variable
 abbrev pub AlwaysWell : Shape → Machine → Type 0
-AlwaysWell shape m = (s : MachineState) (call : Call) → length s.values ≡ length shape.variables → RunSends shape call → IsAnsweredWell shape m s call
+AlwaysWell shape m =
+    (s : MachineState) (call : Call) → length s.values ≡ length shape.variables →
+    RunSends shape call → IsAnsweredWell shape m s call
 
 -- such a machine behaves well as the i-th FMU of any run, whatever the others do
 abbrev pub AlwaysBehaves : Type 0
 AlwaysBehaves = (r : Run) → IsSound r.system → (i : ℕ) →
-    ((c : Component) (m : Machine) → slice_get r.system.components i ≡ Some c → slice_get r.machines i ≡ Some m → IsMachineOf c.shape m × AlwaysWell c.shape m) →
+    ((c : Component) (m : Machine) → slice_get r.system.components i ≡ Some c →
+    slice_get r.machines i ≡ Some m → IsMachineOf c.shape m × AlwaysWell c.shape m) →
     BehavesWell r i
 
 -- ---- but for the intervals and shifts of Clocks
@@ -74,17 +84,23 @@ asks_timing _ = false
 
 -- the machine answers each call of a run but these well in each state that has a value for each variable
 abbrev pub WellButTimings : Shape → Machine → Type 0
-WellButTimings shape m = (s : MachineState) (call : Call) → length s.values ≡ length shape.variables → RunSends shape call → asks_timing call ≡ false → IsAnsweredWell shape m s call
+WellButTimings shape m =
+    (s : MachineState) (call : Call) → length s.values ≡ length shape.variables →
+    RunSends shape call → asks_timing call ≡ false → IsAnsweredWell shape m s call
 
 -- these the i-th FMU answers well where the run sends them: of its fixed Clocks with the values of Initialization Mode, and of its countdown Clocks with the values of an instant
 pub record TimesWell (r : Run) (i : ℕ) : Type 0 where
-  pub initially : (values : List (Option ℤ)) → SolvesInitially r values → (p : ℕ) (port : Port) → slice_get r.system.ports p ≡ Some port → port.component.0 ≡ i →
+  pub initially : (values : List (Option ℤ)) → SolvesInitially r values → (p : ℕ) (port : Port) →
+      slice_get r.system.ports p ≡ Some port → port.component.0 ≡ i →
       AnswersInitially port.role r (initialized r values) port
-  pub in_instants : (s : Situation) (values : List (Option ℤ)) → Reached r s → Solves r s values → (p : ℕ) (port : Port) → slice_get r.system.ports p ≡ Some port → port.component.0 ≡ i →
-      port.role ≡ TimeClock Countdown → AnswersWell r (written r s values) port.component.0 (λ shape. C.GetInterval port.reference)
+  pub in_instants : (s : Situation) (values : List (Option ℤ)) → Reached r s → Solves r s values →
+      (p : ℕ) (port : Port) → slice_get r.system.ports p ≡ Some port → port.component.0 ≡ i →
+      port.role ≡ TimeClock Countdown →
+      AnswersWell r (written r s values) port.component.0 (λ shape. C.GetInterval port.reference)
 
 -- such a machine that does so behaves well
 abbrev pub TimedBehaves : Type 0
 TimedBehaves = (r : Run) → IsSound r.system → (i : ℕ) →
-    ((c : Component) (m : Machine) → slice_get r.system.components i ≡ Some c → slice_get r.machines i ≡ Some m → IsMachineOf c.shape m × WellButTimings c.shape m) →
+    ((c : Component) (m : Machine) → slice_get r.system.components i ≡ Some c →
+    slice_get r.machines i ≡ Some m → IsMachineOf c.shape m × WellButTimings c.shape m) →
     TimesWell r i → BehavesWell r i

@@ -41,10 +41,12 @@ abbrev pub fed : Feed → List (Option ℤ) → Option ℤ
 fed feed values = value values feed.from.0
 
 -- with event mode an output that is present is what the state shows with the values written; without event mode it is what the state shows in the first instant of a point; else it keeps its value
-abbrev pub output_value : Run → Situation → List (Option ℤ) → Option ℤ → Port → Component → Machine → MachineState → Option ℤ
+abbrev pub output_value : Run → Situation → List (Option ℤ) → Option ℤ → Port → Component →
+    Machine → MachineState → Option ℤ
 output_value r s values last port c m state =
     if c.shape.has_event_mode
-    then (if is_present port values then shown m (state_with r.system.ports values port.component.0 m state) port else last)
+    then (if is_present port values
+    then shown m (state_with r.system.ports values port.component.0 m state) port else last)
     else (if s.n == 0 then shown m state port else last)
 
 -- a Clock's value: 1 where it ticks, and 0 where it doesn't
@@ -55,15 +57,20 @@ abbrev pub timer_of : List Timer → ℕ → Timer
 timer_of timers p = slice_index_or timers p Never
 
 -- the value v of the port p solves its equation; last is its value in the instant before
-abbrev pub SolvesAt : Role → Run → Situation → List (Option ℤ) → ℕ → Port → Option ℤ → Option ℤ → Type 0
+abbrev pub SolvesAt : Role → Run → Situation → List (Option ℤ) → ℕ → Port →
+    Option ℤ → Option ℤ → Type 0
 SolvesAt (Input None) r s values p port last v = v ≡ None
-SolvesAt (Input (Some feed)) r s values p port last v = v ≡ (if is_present port values then fed feed values else last)
-SolvesAt Output r s values p port last v = v ≡ at_fmu r s.states port.component.0 (output_value r s values last port)
+SolvesAt (Input (Some feed)) r s values p port last v =
+    v ≡ (if is_present port values then fed feed values else last)
+SolvesAt Output r s values p port last v =
+    v ≡ at_fmu r s.states port.component.0 (output_value r s values last port)
 SolvesAt (ClockInput None) r s values p port last v = v ≡ Some (pos 0)
 SolvesAt (ClockInput (Some feed)) r s values p port last v = v ≡ fed feed values
 SolvesAt ClockOutput r s values p port last v =
-    v ≡ at_fmu r s.states port.component.0 (λ c m state. ticking m (state_with r.system.ports values port.component.0 m state) port)
-SolvesAt (TimeClock timing) r s values p port last v = IsTickValue (IsDue r.plan.start (timer_of s.timers p) s.t s.n) v
+    v ≡ at_fmu r s.states port.component.0 (λ c m state.
+    ticking m (state_with r.system.ports values port.component.0 m state) port)
+SolvesAt (TimeClock timing) r s values p port last v =
+    IsTickValue (IsDue r.plan.start (timer_of s.timers p) s.t s.n) v
 
 -- the values, one a port, solve the equations of the instant
 pub record Solves (r : Run) (s : Situation) (values : List (Option ℤ)) : Type 0 where

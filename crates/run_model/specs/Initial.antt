@@ -58,7 +58,8 @@ initializing r = each r (configured r) (λ i c m s. after m s (enter_initializat
 
 -- the port is an input that the output q feeds, and both are without Clocks
 abbrev pub is_set_from : List Port → Role → Port → ℕ → Bool
-is_set_from ports (Input (Some feed)) port q = is_unclocked port && is_unclocked_at ports feed.from.0 && (feed.from.0 == q)
+is_set_from ports (Input (Some feed)) port q =
+    is_unclocked port && is_unclocked_at ports feed.from.0 && (feed.from.0 == q)
 is_set_from ports (Input None) port q = false
 is_set_from ports Output port q = false
 is_set_from ports (ClockInput feed) port q = false
@@ -73,10 +74,12 @@ is_read ports q = list_any (λ (port : Port). is_set_from ports port.role port q
 abbrev pub initial_value : Role → Run → List (Option ℤ) → ℕ → Port → Option ℤ
 initial_value (Input None) r values p port = None
 initial_value (Input (Some feed)) r values p port =
-    if is_unclocked port && is_unclocked_at r.system.ports feed.from.0 then fed feed values else None
+    if is_unclocked port && is_unclocked_at r.system.ports feed.from.0
+    then fed feed values else None
 initial_value Output r values p port =
     if is_read r.system.ports p
-    then at_fmu r (initializing r) port.component.0 (λ c m s. shown m (state_with r.system.ports values port.component.0 m s) port)
+    then at_fmu r (initializing r) port.component.0 (λ c m s.
+    shown m (state_with r.system.ports values port.component.0 m s) port)
     else None
 initial_value (ClockInput feed) r values p port = None
 initial_value ClockOutput r values p port = None
@@ -106,12 +109,15 @@ shift_in (R.Refused k status) = record { counter = 0; resolution = 0 }
 
 -- what a fixed Clock's FMU answers of it
 abbrev pub asked_timer : Run → Port → Machine → MachineState → Timer
-asked_timer r port m s = fixed r.plan.resolution (interval_in (m.look s (C.GetInterval port.reference))) (shift_in (m.look s (C.GetShift port.reference)))
+asked_timer r port m s =
+    fixed r.plan.resolution (interval_in (m.look s (C.GetInterval port.reference)))
+    (shift_in (m.look s (C.GetShift port.reference)))
 
 -- no countdown Clock is armed at first
 abbrev pub first_timer : Role → Run → List MachineState → Port → Timer
 first_timer (TimeClock (Periodic interval shift)) r states port = Every interval shift
-first_timer (TimeClock Answered) r states port = unwrap_or (at_fmu r states port.component.0 (λ c m s. Some (asked_timer r port m s))) Never
+first_timer (TimeClock Answered) r states port =
+    unwrap_or (at_fmu r states port.component.0 (λ c m s. Some (asked_timer r port m s))) Never
 first_timer (TimeClock Countdown) r states port = Never
 first_timer (Input feed) r states port = Never
 first_timer Output r states port = Never

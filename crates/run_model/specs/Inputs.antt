@@ -17,7 +17,9 @@ is_active v = option_map_or (λ x. int_eq x (pos 1)) v false
 
 -- a Clock is always present, and so is a port that has no Clocks; another is where one of them is active
 abbrev pub is_present : Port → List (Option ℤ) → Bool
-is_present port values = is_clock_role port.role || length port.clocks == 0 || list_any (λ (c : PortId). is_active (value values c.0)) port.clocks
+is_present port values =
+    is_clock_role port.role || length port.clocks == 0 ||
+    list_any (λ (c : PortId). is_active (value values c.0)) port.clocks
 
 -- what is written at a port of the value v: the value of a connected input that is present, and 1 at an input Clock that is active
 abbrev pub written_by : Role → Port → List (Option ℤ) → Option ℤ → Option ℤ
@@ -29,7 +31,9 @@ written_by ClockOutput port values v = None
 written_by (TimeClock timing) port values v = if is_active v then Some (pos 1) else None
 
 abbrev pub written_at_port : List Port → List (Option ℤ) → ℕ → Option ℤ
-written_at_port ports values p = option_and_then (λ (port : Port). written_by port.role port values (value values p)) (slice_get ports p)
+written_at_port ports values p =
+    option_and_then (λ (port : Port). written_by port.role port values (value values p))
+    (slice_get ports p)
 
 -- ---- the states of FMUs
 
@@ -43,7 +47,8 @@ under ports at_port i reference = option_and_then at_port (position (is_under i 
 
 -- the state of the i-th component once this is written at its ports
 abbrev pub state_written : List Port → (ℕ → Option ℤ) → ℕ → Machine → MachineState → MachineState
-state_written ports at_port i m s = record s { values = all_written m.references (under ports at_port i) s.values }
+state_written ports at_port i m s =
+    record s { values = all_written m.references (under ports at_port i) s.values }
 
 -- the state of the i-th component once the values are written
 abbrev pub state_with : List Port → List (Option ℤ) → ℕ → Machine → MachineState → MachineState

@@ -19,11 +19,14 @@ use Rattle.run_model.specs.Behaved.{Reached}
 
 -- some values have the property, and no others
 abbrev pub HasOne : (List (Option ℤ) → Type 0) → Type 0
-HasOne P = (values : List (Option ℤ)) × P values × ((other : List (Option ℤ)) → P other → other ≡ values)
+HasOne P =
+    (values : List (Option ℤ)) × P values × ((other : List (Option ℤ)) → P other → other ≡ values)
 
 -- the equations of each instant have exactly one solution
 abbrev pub SolvedOnce : Type 0
-SolvedOnce = (r : Run) → IsSound r.system → AreMachines r → (s : Situation) → IsSituation r s → HasOne (Solves r s)
+SolvedOnce =
+    (r : Run) → IsSound r.system → AreMachines r → (s : Situation) → IsSituation r s →
+    HasOne (Solves r s)
 
 -- and so have those of Initialization Mode
 abbrev pub SolvedOnceInitially : Type 0
@@ -33,26 +36,37 @@ SolvedOnceInitially = (r : Run) → IsSound r.system → AreMachines r → HasOn
 
 -- an instant leads to one thing at most
 abbrev pub OneNext : Type 0
-OneNext = (r : Run) (s : Situation) (values : List (Option ℤ)) (x y : Next) → Leads r s values x → Leads r s values y → x ≡ y
+OneNext =
+    (r : Run) (s : Situation) (values : List (Option ℤ)) (x y : Next) → Leads r s values x →
+    Leads r s values y → x ≡ y
 
 -- two traces of one sound system, its machines and a plan are equal
 abbrev pub OneTrace : Type 0
-OneTrace = (r : Run) → IsSound r.system → AreMachines r → (is js : List Instant) (k l : EndKind) (p q : ℕ) → IsTrace r is k p → IsTrace r js l q → (is ≡ js) × (k ≡ l) × (p ≡ q)
+OneTrace =
+    (r : Run) → IsSound r.system → AreMachines r →
+    (is js : List Instant) (k l : EndKind) (p q : ℕ) → IsTrace r is k p → IsTrace r js l q →
+    (is ≡ js) × (k ≡ l) × (p ≡ q)
 
 -- ---- situations
 
 abbrev pub BeginsInSituation : Type 0
-BeginsInSituation = (r : Run) → AreMachines r → (initial : List (Option ℤ)) → IsSituation r (beginning r initial)
+BeginsInSituation =
+    (r : Run) → AreMachines r → (initial : List (Option ℤ)) → IsSituation r (beginning r initial)
 
 abbrev pub UpdatesToSituation : Type 0
-UpdatesToSituation = (r : Run) → IsSound r.system → AreMachines r → (s : Situation) (values : List (Option ℤ)) → IsSituation r s → Solves r s values → IsSituation r (updated r s values)
+UpdatesToSituation =
+    (r : Run) → IsSound r.system → AreMachines r → (s : Situation) (values : List (Option ℤ)) →
+    IsSituation r s → Solves r s values → IsSituation r (updated r s values)
 
 abbrev pub StepsToSituation : Type 0
-StepsToSituation = (r : Run) → AreMachines r → (s : Situation) (kept : List ℕ) (point : ℕ) → IsSituation r s → IsSituation r (stepped r s kept point)
+StepsToSituation =
+    (r : Run) → AreMachines r → (s : Situation) (kept : List ℕ) (point : ℕ) → IsSituation r s →
+    IsSituation r (stepped r s kept point)
 
 -- a run comes to situations alone
 abbrev pub ReachesSituations : Type 0
-ReachesSituations = (r : Run) → IsSound r.system → AreMachines r → (s : Situation) → Reached r s → IsSituation r s
+ReachesSituations =
+    (r : Run) → IsSound r.system → AreMachines r → (s : Situation) → Reached r s → IsSituation r s
 
 -- ---- values
 
@@ -62,8 +76,12 @@ ReadsFitting = (kind : PortType) (reply : Reply) → IfSome (value_in kind reply
 
 -- the values of an instant are of their ports' types
 abbrev pub SolvedByFitting : Type 0
-SolvedByFitting = (r : Run) → IsSound r.system → (s : Situation) (values : List (Option ℤ)) → AreFitting r.system s.before → Solves r s values → AreFitting r.system values
+SolvedByFitting =
+    (r : Run) → IsSound r.system → (s : Situation) (values : List (Option ℤ)) →
+    AreFitting r.system s.before → Solves r s values → AreFitting r.system values
 
 -- and so are those of Initialization Mode
 abbrev pub SolvedByFittingInitially : Type 0
-SolvedByFittingInitially = (r : Run) → IsSound r.system → (values : List (Option ℤ)) → SolvesInitially r values → AreFitting r.system values
+SolvedByFittingInitially =
+    (r : Run) → IsSound r.system → (values : List (Option ℤ)) → SolvesInitially r values →
+    AreFitting r.system values

@@ -12,20 +12,26 @@ use Rattle.run_model.specs.Run.{Run, Situation, IsFmu, value}
 -- each component has a machine of its shape, whose outputs keep to the dependencies that they declare
 pub record AreMachines (r : Run) : Type 0 where
   pub count : length r.machines ≡ length r.system.components
-  pub each : (i : ℕ) (c : Component) (m : Machine) → slice_get r.system.components i ≡ Some c → slice_get r.machines i ≡ Some m → IsMachineOf c.shape m × IsLawful c.shape m
+  pub each : (i : ℕ) (c : Component) (m : Machine) → slice_get r.system.components i ≡ Some c →
+      slice_get r.machines i ≡ Some m → IsMachineOf c.shape m × IsLawful c.shape m
 
 -- a state has a value for each variable of the shape, and is in Initialization Mode or not
-pub record IsStateOf (shape : Shape) (initializing : Bool) (m : Machine) (s : MachineState) : Type 0 where
+pub record IsStateOf (shape : Shape) (initializing : Bool) (m : Machine)
+    (s : MachineState) : Type 0 where
   pub values : length s.values ≡ length shape.variables
   pub mode : m.initializing s.numbers ≡ initializing
 
 -- so is each state of the run's FMUs
 abbrev pub AreStates : Run → Bool → List MachineState → Type 0
-AreStates r initializing states = (i : ℕ) (c : Component) (m : Machine) (s : MachineState) → IsFmu r states i c m s → IsStateOf c.shape initializing m s
+AreStates r initializing states =
+    (i : ℕ) (c : Component) (m : Machine) (s : MachineState) → IsFmu r states i c m s →
+    IsStateOf c.shape initializing m s
 
 -- each value is one of its port's type
 abbrev pub AreFitting : System → List (Option ℤ) → Type 0
-AreFitting system values = (p : ℕ) (port : Port) → slice_get system.ports p ≡ Some port → IfSome (value values p) (Fits port.kind)
+AreFitting system values =
+    (p : ℕ) (port : Port) → slice_get system.ports p ≡ Some port →
+    IfSome (value values p) (Fits port.kind)
 
 -- before an instant: a state for each component, out of Initialization Mode, and for each port a timer and a value of its type or none
 pub record IsSituation (r : Run) (s : Situation) : Type 0 where

@@ -34,23 +34,28 @@ value values p = slice_index_or values p None
 
 -- ---- the FMUs of a run: components, machines and states side by side
 
-abbrev pub each_from : {X : Type 0} → (ℕ → Component → Machine → MachineState → X) → ℕ → List Component → List Machine → List MachineState → List X
+abbrev pub each_from : {X : Type 0} → (ℕ → Component → Machine → MachineState → X) → ℕ →
+    List Component → List Machine → List MachineState → List X
 each_from f i (c ∷ cs) (m ∷ ms) (s ∷ ss) = f i c m s ∷ each_from f (suc i) cs ms ss
 each_from f i [] ms ss = []
 each_from f i (c ∷ cs) [] ss = []
 each_from f i (c ∷ cs) (m ∷ ms) [] = []
 
 -- what this gives for each FMU, by its number, component, machine and state
-abbrev pub each : {X : Type 0} → Run → List MachineState → (ℕ → Component → Machine → MachineState → X) → List X
+abbrev pub each : {X : Type 0} → Run → List MachineState →
+    (ℕ → Component → Machine → MachineState → X) → List X
 each r states f = each_from f 0 r.system.components r.machines states
 
 -- what this gives for the i-th FMU
-abbrev pub at_fmu : {X : Type 0} → Run → List MachineState → ℕ → (Component → Machine → MachineState → Option X) → Option X
+abbrev pub at_fmu : {X : Type 0} → Run → List MachineState → ℕ →
+    (Component → Machine → MachineState → Option X) → Option X
 at_fmu r states i f =
-    option_and_then (λ c. option_and_then (λ m. option_and_then (λ s. f c m s) (slice_get states i)) (slice_get r.machines i)) (slice_get r.system.components i)
+    option_and_then (λ c. option_and_then (λ m. option_and_then (λ s. f c m s) (slice_get states i))
+    (slice_get r.machines i)) (slice_get r.system.components i)
 
 -- the i-th FMU has this component, this machine and this state
-pub record IsFmu (r : Run) (states : List MachineState) (i : ℕ) (c : Component) (m : Machine) (s : MachineState) : Type 0 where
+pub record IsFmu (r : Run) (states : List MachineState) (i : ℕ) (c : Component) (m : Machine)
+    (s : MachineState) : Type 0 where
   pub component : slice_get r.system.components i ≡ Some c
   pub machine : slice_get r.machines i ≡ Some m
   pub state : slice_get states i ≡ Some s

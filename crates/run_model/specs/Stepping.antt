@@ -18,7 +18,9 @@ use Rattle.run_model.specs.Steps.{IsBound, Stepper, Agree, StopsShort}
 
 -- the states at a step's beginning: with event mode EnterStep was sent, without it the inputs were set
 abbrev pub departing : Run → Situation → List MachineState
-departing r s = each r s.states (λ i c m state. if c.shape.has_event_mode then after m state C.EnterStep else state_with r.system.ports s.before i m state)
+departing r s =
+    each r s.states (λ i c m state. if c.shape.has_event_mode then after m state C.EnterStep
+    else state_with r.system.ports s.before i m state)
 
 abbrev pub step_to : ℕ → ℕ → Call
 step_to t e = C.DoStep t (e - t)
@@ -29,7 +31,9 @@ end_in m s t e = end_of (m.look s (step_to t e)) t
 
 -- the FMUs at a step's beginning
 abbrev pub steppers : Run → Situation → List Stepper
-steppers r s = each r (departing r s) (λ i c m state. record { has_variable_steps = c.shape.has_variable_steps; end = end_in m state s.t })
+steppers r s =
+    each r (departing r s) (λ i c m state.
+    record { has_variable_steps = c.shape.has_variable_steps; end = end_in m state s.t })
 
 -- the ask that the i-th FMU keeps
 abbrev pub kept_at : List ℕ → ℕ → ℕ
@@ -54,7 +58,9 @@ is_terminating (R.Refused k status) = false
 
 -- whether a kept answer asks for the end
 abbrev pub asks_to_end : Run → Situation → List ℕ → Bool
-asks_to_end r s kept = list_any (λ b. b) (each r (departing r s) (λ i c m state. is_terminating (m.look state (step_to s.t (kept_at kept i)))))
+asks_to_end r s kept =
+    list_any (λ b. b) (each r (departing r s) (λ i c m state.
+    is_terminating (m.look state (step_to s.t (kept_at kept i)))))
 
 -- ---- the step
 
@@ -80,6 +86,9 @@ pub data Next : Type 0 where
 -- where a point is done: at the stop the run ends, and so it does at the reached point where a kept answer asks for it, and where a step begins that an FMU can't make
 pub data Departs (r : Run) (s : Situation) : Next → Type 0 where
   AtStop : (next : Next) → s.t ≡ r.plan.stop → next ≡ Ends Stop s.t → Departs r s next
-  WhereAsked : (next : Next) (kept : List ℕ) (point : ℕ) → IsStep r s kept point → asks_to_end r s kept ≡ true → next ≡ Ends Asked point → Departs r s next
-  WhereFixed : (next : Next) (i e : ℕ) → LacksStep r s i e → next ≡ Ends Fixed s.t → Departs r s next
-  ByStep : (next : Next) (kept : List ℕ) (point : ℕ) → IsStep r s kept point → asks_to_end r s kept ≡ false → next ≡ GoesOn (stepped r s kept point) → Departs r s next
+  WhereAsked : (next : Next) (kept : List ℕ) (point : ℕ) → IsStep r s kept point →
+      asks_to_end r s kept ≡ true → next ≡ Ends Asked point → Departs r s next
+  WhereFixed : (next : Next) (i e : ℕ) → LacksStep r s i e →
+      next ≡ Ends Fixed s.t → Departs r s next
+  ByStep : (next : Next) (kept : List ℕ) (point : ℕ) → IsStep r s kept point →
+      asks_to_end r s kept ≡ false → next ≡ GoesOn (stepped r s kept point) → Departs r s next

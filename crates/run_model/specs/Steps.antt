@@ -11,7 +11,8 @@ IsGridPoint plan point = (k : ℕ) × (point ≡ plan.start + k * plan.step)
 
 -- some Clock ticks at the point
 abbrev pub SomeTicksAt : ℕ → List Timer → ℕ → Type 0
-SomeTicksAt start timers point = (p : ℕ) × (timer : Timer) × (slice_get timers p ≡ Some timer) × TicksAt start timer point
+SomeTicksAt start timers point =
+    (p : ℕ) × (timer : Timer) × (slice_get timers p ≡ Some timer) × TicksAt start timer point
 
 -- a point that no step passes over: a grid point, a tick of a Clock or the stop
 pub data IsMark (plan : Plan) (timers : List Timer) (point : ℕ) : Type 0 where
@@ -63,7 +64,8 @@ kept_ask b m f = if f.end b == m then b else m
 -- ---- a size that an FMU can't take
 
 -- of those that are to be asked to step from t to e, another size than the plan's step, the i-th FMU is the least that takes no other
-pub record FixedStep (fmus : List Stepper) (is_asked : Stepper → Bool) (t step i e : ℕ) : Type 0 where
+pub record FixedStep (fmus : List Stepper) (is_asked : Stepper → Bool)
+    (t step i e : ℕ) : Type 0 where
   pub other_size : e - t ≢ step
   pub least : position (λ (f : Stepper). is_asked f && not f.has_variable_steps) fmus ≡ Some i
 
@@ -73,33 +75,43 @@ MayAsk fmus t step b = (i : ℕ) → FixedStep fmus (λ f. true) t step i b → 
 
 -- the others may be asked for the least end
 abbrev pub MayAskAgain : List Stepper → ℕ → ℕ → ℕ → Type 0
-MayAskAgain fmus t step b = (i : ℕ) → FixedStep fmus (is_other b (met fmus b)) t step i (met fmus b) → ⊥
+MayAskAgain fmus t step b =
+    (i : ℕ) → FixedStep fmus (is_other b (met fmus b)) t step i (met fmus b) → ⊥
 
 -- ---- the agreement
 
 -- from the bound b the FMUs agree on a point, and each keeps an ask
 pub data Agree (fmus : List Stepper) (t step : ℕ) : ℕ → List ℕ → ℕ → Type 0 where
   -- all end at the bound
-  AllMeet : (b : ℕ) (kept : List ℕ) (point : ℕ) → MayAsk fmus t step b → met fmus b ≡ b → kept ≡ map (λ (f : Stepper). b) fmus → point ≡ b → Agree fmus t step b kept point
+  AllMeet : (b : ℕ) (kept : List ℕ) (point : ℕ) → MayAsk fmus t step b → met fmus b ≡ b →
+      kept ≡ map (λ (f : Stepper). b) fmus → point ≡ b → Agree fmus t step b kept point
   -- some ended before it, and the others, asked for the least end, meet them there
-  OthersMeet : (b : ℕ) (kept : List ℕ) (point : ℕ) → MayAsk fmus t step b → met fmus b ≢ b → MayAskAgain fmus t step b → OthersEnd fmus b →
-      kept ≡ map (kept_ask b (met fmus b)) fmus → point ≡ met fmus b → Agree fmus t step b kept point
+  OthersMeet : (b : ℕ) (kept : List ℕ) (point : ℕ) → MayAsk fmus t step b → met fmus b ≢ b →
+      MayAskAgain fmus t step b → OthersEnd fmus b →
+      kept ≡ map (kept_ask b (met fmus b)) fmus → point ≡ met fmus b →
+      Agree fmus t step b kept point
   -- one of the others ends earlier still: all begin anew with the least of their ends as the bound
-  Falls : (b : ℕ) (kept : List ℕ) (point : ℕ) → MayAsk fmus t step b → met fmus b ≢ b → MayAskAgain fmus t step b → (OthersEnd fmus b → ⊥) →
+  Falls : (b : ℕ) (kept : List ℕ) (point : ℕ) → MayAsk fmus t step b → met fmus b ≢ b →
+      MayAskAgain fmus t step b → (OthersEnd fmus b → ⊥) →
       Agree fmus t step (fallen_bound fmus b) kept point → Agree fmus t step b kept point
 
 -- on the way to the agreement from b the i-th FMU, the least, would be asked to step to e and can't: nothing more is asked
 pub data StopsShort (fmus : List Stepper) (t step : ℕ) : ℕ → ℕ → ℕ → Type 0 where
-  StopsFirst : (b i e : ℕ) → FixedStep fmus (λ f. true) t step i b → e ≡ b → StopsShort fmus t step b i e
-  StopsAgain : (b i e : ℕ) → MayAsk fmus t step b → met fmus b ≢ b → FixedStep fmus (is_other b (met fmus b)) t step i (met fmus b) → e ≡ met fmus b →
+  StopsFirst : (b i e : ℕ) → FixedStep fmus (λ f. true) t step i b → e ≡ b →
       StopsShort fmus t step b i e
-  StopsLater : (b i e : ℕ) → MayAsk fmus t step b → met fmus b ≢ b → MayAskAgain fmus t step b → (OthersEnd fmus b → ⊥) →
+  StopsAgain : (b i e : ℕ) → MayAsk fmus t step b → met fmus b ≢ b →
+      FixedStep fmus (is_other b (met fmus b)) t step i (met fmus b) → e ≡ met fmus b →
+      StopsShort fmus t step b i e
+  StopsLater : (b i e : ℕ) → MayAsk fmus t step b → met fmus b ≢ b → MayAskAgain fmus t step b →
+      (OthersEnd fmus b → ⊥) →
       StopsShort fmus t step (fallen_bound fmus b) i e → StopsShort fmus t step b i e
 
 -- on the way to the agreement from b, the i-th FMU is asked to step to e
 pub data IsAsked (fmus : List Stepper) (t step : ℕ) : ℕ → ℕ → ℕ → Type 0 where
   AskedFirst : (b i e : ℕ) → MayAsk fmus t step b → e ≡ b → IsAsked fmus t step b i e
   AskedAgain : (b i e : ℕ) → MayAsk fmus t step b → met fmus b ≢ b → MayAskAgain fmus t step b →
-      (f : Stepper) → slice_get fmus i ≡ Some f → f.end b ≢ met fmus b → e ≡ met fmus b → IsAsked fmus t step b i e
-  AskedLater : (b i e : ℕ) → MayAsk fmus t step b → met fmus b ≢ b → MayAskAgain fmus t step b → (OthersEnd fmus b → ⊥) →
+      (f : Stepper) → slice_get fmus i ≡ Some f → f.end b ≢ met fmus b → e ≡ met fmus b →
+      IsAsked fmus t step b i e
+  AskedLater : (b i e : ℕ) → MayAsk fmus t step b → met fmus b ≢ b → MayAskAgain fmus t step b →
+      (OthersEnd fmus b → ⊥) →
       IsAsked fmus t step (fallen_bound fmus b) i e → IsAsked fmus t step b i e

@@ -46,5 +46,7 @@ periodic_of None shift = Never
 -- a fixed Clock's timer by what its FMU answers in Initialization Mode
 abbrev pub fixed : ℕ → Interval → Fraction → Timer
 fixed per_second NotYetKnown shift = Never
-fixed per_second (Unchanged f) shift = periodic_of (counts_of f per_second) (counts_of shift per_second)
-fixed per_second (Changed f) shift = periodic_of (counts_of f per_second) (counts_of shift per_second)
+fixed per_second (Unchanged f) shift =
+    periodic_of (counts_of f per_second) (counts_of shift per_second)
+fixed per_second (Changed f) shift =
+    periodic_of (counts_of f per_second) (counts_of shift per_second)

@@ -25,10 +25,14 @@ Leads r s values next = LeadsBy (following r s values) r s values next
 -- from here on the instants and the end are these
 pub data Continues (r : Run) : Situation → List Instant → EndKind → ℕ → Type 0 where
   Last : (s : Situation) (values : List (Option ℤ)) (is : List Instant) (kind : EndKind) (end : ℕ) →
-      Solves r s values → Leads r s values (Ends kind end) → is ≡ instant_of s values ∷ [] → Continues r s is kind end
-  Further : (s : Situation) (values : List (Option ℤ)) (is : List Instant) (kind : EndKind) (end : ℕ) (next : Situation) (rest : List Instant) →
-      Solves r s values → Leads r s values (GoesOn next) → is ≡ instant_of s values ∷ rest → Continues r next rest kind end → Continues r s is kind end
+      Solves r s values → Leads r s values (Ends kind end) → is ≡ instant_of s values ∷ [] →
+      Continues r s is kind end
+  Further : (s : Situation) (values : List (Option ℤ)) (is : List Instant) (kind : EndKind)
+      (end : ℕ) (next : Situation) (rest : List Instant) →
+      Solves r s values → Leads r s values (GoesOn next) → is ≡ instant_of s values ∷ rest →
+      Continues r next rest kind end → Continues r s is kind end
 
 -- the instants and the end of the run, with the values of its Initialization
 pub data IsTrace (r : Run) (instants : List Instant) (kind : EndKind) (end : ℕ) : Type 0 where
-  Runs : (initial : List (Option ℤ)) → SolvesInitially r initial → Continues r (beginning r initial) instants kind end → IsTrace r instants kind end
+  Runs : (initial : List (Option ℤ)) → SolvesInitially r initial →
+      Continues r (beginning r initial) instants kind end → IsTrace r instants kind end

@@ -26,7 +26,12 @@ system = record {
 }
 
 abbrev pub calls_run : Run
-calls_run = record { system = system; bound = unbound; machines = machine_of shape tally ∷ []; plan = plan_by 10 100 }
+calls_run = record {
+  system = system;
+  bound = unbound;
+  machines = machine_of shape tally ∷ [];
+  plan = plan_by 10 100;
+}
 
 abbrev pub v0 : List (Option ℤ)
 v0 = Some (pos 111) ∷ []

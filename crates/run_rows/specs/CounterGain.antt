@@ -21,15 +21,23 @@ abbrev pub y : Variable
 y = output (codes "y") 3 []
 
 abbrev pub counter_shape : Bool → Shape
-counter_shape has_event_mode = shape_of has_event_mode (parameter (codes "inc") 1 (pos 2) ∷ c_y ∷ []) [] (record { output = 2; on = Listed [] } ∷ [])
+counter_shape has_event_mode =
+    shape_of has_event_mode (parameter (codes "inc") 1 (pos 2) ∷ c_y ∷ []) []
+    (record { output = 2; on = Listed [] } ∷ [])
 
 abbrev pub gain_shape : Bool → Shape
-gain_shape has_event_mode = shape_of has_event_mode (parameter (codes "k") 1 (pos 1) ∷ u ∷ y ∷ []) [] (record { output = 3; on = AllInputs } ∷ [])
+gain_shape has_event_mode =
+    shape_of has_event_mode (parameter (codes "k") 1 (pos 1) ∷ u ∷ y ∷ []) []
+    (record { output = 3; on = AllInputs } ∷ [])
 
 abbrev pub system : Bool → System
 system has_event_mode = record {
-  components = component_of 0 (codes "c") (counter_shape has_event_mode) ∷ component_of 1 (codes "A.B.g") (gain_shape has_event_mode) ∷ [];
-  ports = port_of 0 c_y Int32 Output [] ∷ port_of 1 u Int32 (Input (feed_from 0)) [] ∷ port_of 1 y Int32 Output [] ∷ [];
+  components =
+      component_of 0 (codes "c") (counter_shape has_event_mode) ∷
+      component_of 1 (codes "A.B.g") (gain_shape has_event_mode) ∷ [];
+  ports =
+      port_of 0 c_y Int32 Output [] ∷ port_of 1 u Int32 (Input (feed_from 0)) [] ∷
+      port_of 1 y Int32 Output [] ∷ [];
   instant_order = port_ids (0 ∷ 1 ∷ 2 ∷ []);
   initial_order = port_ids (0 ∷ 1 ∷ 2 ∷ []);
 }
@@ -37,8 +45,13 @@ system has_event_mode = record {
 abbrev pub counter_gain_run : Bool → Run
 counter_gain_run has_event_mode = record {
   system = system has_event_mode;
-  bound = record { components = [] ∷ (record { kind = Int32; reference = 1; value = pos 3 } ∷ []) ∷ []; unreached = 0 };
-  machines = machine_of (counter_shape has_event_mode) counter ∷ machine_of (gain_shape has_event_mode) (gain (gain_shape has_event_mode)) ∷ [];
+  bound = record {
+    components = [] ∷ (record { kind = Int32; reference = 1; value = pos 3 } ∷ []) ∷ [];
+    unreached = 0;
+  };
+  machines =
+      machine_of (counter_shape has_event_mode) counter ∷
+      machine_of (gain_shape has_event_mode) (gain (gain_shape has_event_mode)) ∷ [];
   plan = plan_by 10 100;
 }
 

@@ -23,22 +23,32 @@ abbrev pub y : Variable
 y = output (codes "y") 3 []
 
 abbrev pub shape : Shape
-shape = shape_of true (c ∷ u ∷ y ∷ []) (timing_of 1 v.Fixed ∷ []) (record { output = 3; on = AllInputs } ∷ [])
+shape =
+    shape_of true (c ∷ u ∷ y ∷ []) (timing_of 1 v.Fixed ∷ [])
+    (record { output = 3; on = AllInputs } ∷ [])
 
 abbrev pub system : System
 system = record {
   components = component_of 0 (codes "t") shape ∷ [];
-  ports = port_of 0 c Clock (TimeClock Answered) [] ∷ port_of 0 u Int32 (Input None) (port_ids (0 ∷ [])) ∷ port_of 0 y Int32 Output [] ∷ [];
+  ports =
+      port_of 0 c Clock (TimeClock Answered) [] ∷
+      port_of 0 u Int32 (Input None) (port_ids (0 ∷ [])) ∷ port_of 0 y Int32 Output [] ∷ [];
   instant_order = port_ids (0 ∷ 1 ∷ 2 ∷ []);
   initial_order = port_ids (2 ∷ []);
 }
 
 abbrev pub fixed_run : Run
-fixed_run = record { system = system; bound = unbound; machines = machine_of shape fixed_ticker ∷ []; plan = plan_by 20 100 }
+fixed_run = record {
+  system = system;
+  bound = unbound;
+  machines = machine_of shape fixed_ticker ∷ [];
+  plan = plan_by 20 100;
+}
 
 -- the values of the Clock, of the input that nothing feeds, and the number of Updates with the Clock active
 abbrev pub values : ℕ → ℕ → List (Option ℤ)
 values clock ticks = Some (pos clock) ∷ None ∷ Some (pos ticks) ∷ []
 
 abbrev pub fixed_instants : List Instant
-fixed_instants = instant_at 0 0 (values 0 0) ∷ instant_at 10 0 (values 1 0) ∷ instant_at 20 0 (values 1 1) ∷ []
+fixed_instants =
+    instant_at 0 0 (values 0 0) ∷ instant_at 10 0 (values 1 0) ∷ instant_at 20 0 (values 1 1) ∷ []

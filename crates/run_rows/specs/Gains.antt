@@ -32,13 +32,22 @@ b_shape = shape_of true (k ∷ b_u ∷ y ∷ []) [] (record { output = 3; on = L
 abbrev pub system : System
 system = record {
   components = component_of 0 (codes "a") a_shape ∷ component_of 1 (codes "b") b_shape ∷ [];
-  ports = port_of 0 a_u Int32 (Input None) [] ∷ port_of 0 y Int32 Output [] ∷ port_of 1 b_u Int32 (Input (feed_from 1)) [] ∷ port_of 1 y Int32 Output [] ∷ [];
+  ports =
+      port_of 0 a_u Int32 (Input None) [] ∷ port_of 0 y Int32 Output [] ∷
+      port_of 1 b_u Int32 (Input (feed_from 1)) [] ∷ port_of 1 y Int32 Output [] ∷ [];
   instant_order = port_ids (0 ∷ 1 ∷ 2 ∷ 3 ∷ []);
   initial_order = port_ids (0 ∷ 1 ∷ 2 ∷ 3 ∷ []);
 }
 
 abbrev pub gains_run : Run
-gains_run = record { system = system; bound = unbound; machines = machine_of a_shape (gain a_shape) ∷ machine_of b_shape (gain b_shape) ∷ []; plan = plan_by 10 100 }
+gains_run = record {
+  system = system;
+  bound = unbound;
+  machines =
+      machine_of a_shape (gain a_shape) ∷ machine_of b_shape (gain b_shape) ∷ [];
+  plan =
+      plan_by 10 100;
+}
 
 abbrev pub values : List (Option ℤ)
 values = None ∷ Some (pos 15) ∷ Some (pos 15) ∷ Some (pos 45) ∷ []

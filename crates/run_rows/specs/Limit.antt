@@ -15,7 +15,9 @@ abbrev pub y : Variable
 y = output (codes "y") 2 []
 
 abbrev pub shape : Shape
-shape = shape_of true (parameter (codes "k") 1 (pos 3) ∷ y ∷ []) [] (record { output = 2; on = AllInputs } ∷ [])
+shape =
+    shape_of true (parameter (codes "k") 1 (pos 3) ∷ y ∷ []) []
+    (record { output = 2; on = AllInputs } ∷ [])
 
 abbrev pub system : System
 system = record {
@@ -26,7 +28,12 @@ system = record {
 }
 
 abbrev pub limit_run : Run
-limit_run = record { system = system; bound = unbound; machines = machine_of shape settle ∷ []; plan = plan_by 10 3 }
+limit_run = record {
+  system = system;
+  bound = unbound;
+  machines = machine_of shape settle ∷ [];
+  plan = plan_by 10 3;
+}
 
 abbrev pub v0 : List (Option ℤ)
 v0 = Some (pos 0) ∷ []

@@ -62,16 +62,23 @@ abbrev pub machine_of : Shape → Behaviour → Machine
 machine_of shape b = record {
   references = map (λ (v : Variable). v.reference) shape.variables;
   clocks = map (λ (v : Variable). v.reference) (filter is_input_clock shape.variables);
-  first = record { numbers = pos 0 ∷ b.first; values = map (λ (v : Variable). unwrap_or v.start (pos 0)) shape.variables; slot = None };
+  first = record {
+    numbers = pos 0 ∷ b.first;
+    values = map (λ (v : Variable). unwrap_or v.start (pos 0)) shape.variables;
+    slot = None;
+  };
   initializing = λ numbers. int_eq (at numbers 0) (pos 1);
-  look = λ s call. Done false (b.look (int_eq (at s.numbers 0) (pos 1)) (behind s.numbers) s.values call);
+  look =
+      λ s call. Done false (b.look (int_eq (at s.numbers 0) (pos 1))
+      (behind s.numbers) s.values call);
   change = λ s call. mark_after (at s.numbers 0) call ∷ b.change (behind s.numbers) s.values call;
 }
 
 -- what the output sees of the variable under a reference: its value where it is declared to depend on it, and else what was kept of it
 abbrev pub seen : Shape → Bool → ℕ → ℕ → ℤ → ℤ → ℤ
 seen shape initializing output reference value kept =
-    if option_map_or (is_declared shape initializing output) (variable_at shape.variables reference) false then value else kept
+    if option_map_or (is_declared shape initializing output) (variable_at shape.variables reference)
+    false then value else kept
 
 -- ---- the machines
 
@@ -85,7 +92,11 @@ counter_change own values (C.DoStep t size) = (at own 0 +ℤ at values 0) ∷ []
 counter_change own values call = own
 
 abbrev pub counter : Behaviour
-counter = record { first = pos 0 ∷ []; look = λ initializing own values call. counter_content own call; change = counter_change }
+counter = record {
+  first = pos 0 ∷ [];
+  look = λ initializing own values call. counter_content own call;
+  change = counter_change;
+}
 
 -- gain, with the variables k, u and y: y is k times u; what is kept of u is that of the last ExitInitialization, Update or step
 abbrev pub gain_content : ℤ → Call → Content
@@ -101,39 +112,54 @@ gain_change own values call = own
 abbrev pub gain : Shape → Behaviour
 gain shape = record {
   first = pos 0 ∷ [];
-  look = λ initializing own values call. gain_content (at values 0 *ℤ seen shape initializing 3 2 (at values 1) (at own 0)) call;
+  look =
+      λ initializing own values call.
+      gain_content (at values 0 *ℤ seen shape initializing 3 2 (at values 1) (at own 0)) call;
   change = gain_change;
 }
 
 -- sampler, with the variables c, u and y: y is u; what is kept of u is that of the last Update with c active
 abbrev pub sampler_change : List ℤ → List ℤ → Call → List ℤ
-sampler_change own values C.Update = (if int_eq (at values 0) (pos 1) then at values 1 else at own 0) ∷ []
+sampler_change own values C.Update =
+    (if int_eq (at values 0) (pos 1) then at values 1 else at own 0) ∷ []
 sampler_change own values call = own
 
 abbrev pub sampler : Shape → Behaviour
 sampler shape = record {
   first = pos 0 ∷ [];
-  look = λ initializing own values call. gain_content (seen shape initializing 3 2 (at values 1) (at own 0)) call;
+  look =
+      λ initializing own values call.
+      gain_content (seen shape initializing 3 2 (at values 1) (at own 0)) call;
   change = sampler_change;
 }
 
 -- ticker, with the variables c, u and y: y is the number of Updates with c active
 abbrev pub ticker_change : List ℤ → List ℤ → Call → List ℤ
-ticker_change own values C.Update = (if int_eq (at values 0) (pos 1) then at own 0 +ℤ pos 1 else at own 0) ∷ []
+ticker_change own values C.Update =
+    (if int_eq (at values 0) (pos 1) then at own 0 +ℤ pos 1 else at own 0) ∷ []
 ticker_change own values call = own
 
 abbrev pub ticker : Behaviour
-ticker = record { first = pos 0 ∷ []; look = λ initializing own values call. counter_content own call; change = ticker_change }
+ticker = record {
+  first = pos 0 ∷ [];
+  look = λ initializing own values call. counter_content own call;
+  change = ticker_change;
+}
 
 -- the same with a fixed Clock of a hundredth of a second, which ticks first after one
 abbrev pub fixed_content : List ℤ → Call → Content
 fixed_content own (C.Get kind reference) = A.Get (word_of (at own 0))
-fixed_content own (C.GetInterval reference) = A.GetInterval (Changed (record { counter = 1; resolution = 100 }))
+fixed_content own (C.GetInterval reference) =
+    A.GetInterval (Changed (record { counter = 1; resolution = 100 }))
 fixed_content own (C.GetShift reference) = A.GetShift (record { counter = 10; resolution = 1000 })
 fixed_content own call = plain call
 
 abbrev pub fixed_ticker : Behaviour
-fixed_ticker = record { first = pos 0 ∷ []; look = λ initializing own values call. fixed_content own call; change = ticker_change }
+fixed_ticker = record {
+  first = pos 0 ∷ [];
+  look = λ initializing own values call. fixed_content own call;
+  change = ticker_change;
+}
 
 -- relay, with the variables u, o and y: y is u, and o is active where u differs from that of the last Update
 abbrev pub relay_content : Bool → ℤ → Call → Content
@@ -149,7 +175,8 @@ abbrev pub relay : Shape → Behaviour
 relay shape = record {
   first = pos 0 ∷ [];
   look = λ initializing own values call.
-      relay_content (not (int_eq (seen shape initializing 2 1 (at values 0) (at own 0)) (at own 0))) (seen shape initializing 3 1 (at values 0) (at own 0)) call;
+      relay_content (not (int_eq (seen shape initializing 2 1 (at values 0) (at own 0)) (at own 0)))
+      (seen shape initializing 3 1 (at values 0) (at own 0)) call;
   change = relay_change;
 }
 
@@ -157,7 +184,9 @@ relay shape = record {
 abbrev pub timer_interval : List ℤ → List ℤ → Interval
 timer_interval own values =
     if int_eq (at own 2) (pos 0)
-    then (if int_eq (at own 0) (at values 0) then Changed (record { counter = nat_abs (at values 1); resolution = 1000 }) else NotYetKnown)
+    then (if int_eq (at own 0) (at values 0)
+    then Changed (record { counter = nat_abs (at values 1); resolution = 1000 })
+    else NotYetKnown)
     else Unchanged (record { counter = 0; resolution = 1000 })
 
 abbrev pub timer_content : List ℤ → List ℤ → Call → Content
@@ -175,7 +204,12 @@ timer_change own values C.Update =
 timer_change own values call = own
 
 abbrev pub timer : Behaviour
-timer = record { first = pos 0 ∷ pos 0 ∷ pos 0 ∷ []; look = λ initializing own values call. timer_content own values call; change = timer_change }
+timer = record {
+  first = pos 0 ∷ pos 0 ∷ pos 0 ∷ [];
+  look =
+      λ initializing own values call. timer_content own values call;
+  change = timer_change;
+}
 
 -- settle, with the variables k and y: y is the number of Updates since Event Mode was entered, and each asks for another until there were k
 abbrev pub settle_content : List ℤ → List ℤ → Call → Content
@@ -189,7 +223,12 @@ settle_change own values C.Update = (at own 0 +ℤ pos 1) ∷ []
 settle_change own values call = own
 
 abbrev pub settle : Behaviour
-settle = record { first = pos 0 ∷ []; look = λ initializing own values call. settle_content own values call; change = settle_change }
+settle = record {
+  first = pos 0 ∷ [];
+  look = λ initializing own values call.
+      settle_content own values call;
+  change = settle_change;
+}
 
 -- tally, with the variable y: y has a digit for each kind of call that changes a state, from Instantiate in the last to Update in the first of seven
 abbrev pub digit_of : Call → ℤ
@@ -203,7 +242,11 @@ digit_of C.Update = pos 1000000
 digit_of call = pos 0
 
 abbrev pub tally : Behaviour
-tally = record { first = pos 0 ∷ []; look = λ initializing own values call. counter_content own call; change = λ own values call. (at own 0 +ℤ digit_of call) ∷ [] }
+tally = record {
+  first = pos 0 ∷ [];
+  look = λ initializing own values call. counter_content own call;
+  change = λ own values call. (at own 0 +ℤ digit_of call) ∷ [];
+}
 
 -- alarm, with the variables at and y: a step that passes the point `at` ends there, and y is the number of such steps
 abbrev pub passes : ℕ → ℕ → ℤ → Bool
@@ -212,16 +255,27 @@ passes t size moment = int_lt (pos t) moment && int_lt moment (pos (t + size))
 abbrev pub alarm_content : List ℤ → List ℤ → Call → Content
 alarm_content own values (C.Get kind reference) = A.Get (word_of (at own 0))
 alarm_content own values (C.DoStep t size) =
-    if passes t size (at values 0) then A.DoStep true false true (nat_abs (at values 0)) else A.DoStep false false false (t + size)
+    if passes t size (at values 0) then A.DoStep true false true (nat_abs (at values 0))
+    else A.DoStep false false false (t + size)
 alarm_content own values call = plain call
 
 abbrev pub alarm_change : List ℤ → List ℤ → Call → List ℤ
-alarm_change own values (C.DoStep t size) = (if passes t size (at values 0) then at own 0 +ℤ pos 1 else at own 0) ∷ []
+alarm_change own values (C.DoStep t size) =
+    (if passes t size (at values 0) then at own 0 +ℤ pos 1 else at own 0) ∷ []
 alarm_change own values call = own
 
 abbrev pub alarm : Behaviour
-alarm = record { first = pos 0 ∷ []; look = λ initializing own values call. alarm_content own values call; change = alarm_change }
+alarm = record {
+  first = pos 0 ∷ [];
+  look = λ initializing own values call.
+      alarm_content own values call;
+  change = alarm_change;
+}
 
 -- quiet: every output is 0, and nothing changes
 abbrev pub quiet : Behaviour
-quiet = record { first = []; look = λ initializing own values call. plain call; change = λ own values call. own }
+quiet = record {
+  first = [];
+  look = λ initializing own values call. plain call;
+  change = λ own values call. own;
+}

@@ -24,7 +24,16 @@ use Rattle.system_model.specs.Text.{Instant}
 
 abbrev pub variable_of : List ℕ → ℕ → PortType → Causality → List ℕ → Option ℤ → Variable
 variable_of name reference kind causality clocks start =
-    record { name = name; aliases = []; reference = reference; kind = Some kind; causality = causality; clocks = clocks; start = start; can_be_set_again = true }
+    record {
+      name = name;
+      aliases = [];
+      reference = reference;
+      kind = Some kind;
+      causality = causality;
+      clocks = clocks;
+      start = start;
+      can_be_set_again = true;
+    }
 
 abbrev pub parameter : List ℕ → ℕ → ℤ → Variable
 parameter name reference start = variable_of name reference T.Int32 V.Parameter [] (Some start)
@@ -43,11 +52,23 @@ output_clock name reference = variable_of name reference T.Clock V.Output [] Non
 
 -- a Clock whose timing isn't in the description
 abbrev pub timing_of : ℕ → IntervalVariability → ClockTiming
-timing_of reference variability = record { reference = reference; variability = variability; supports_fraction = true; interval = None; shift = None }
+timing_of reference variability = record {
+  reference = reference;
+  variability = variability;
+  supports_fraction = true;
+  interval = None;
+  shift = None;
+}
 
 -- a constant Clock
 abbrev pub constant_timing : ℕ → Fraction → Fraction → ClockTiming
-constant_timing reference interval shift = record { reference = reference; variability = Constant; supports_fraction = false; interval = Some interval; shift = Some shift }
+constant_timing reference interval shift = record {
+  reference = reference;
+  variability = Constant;
+  supports_fraction = false;
+  interval = Some interval;
+  shift = Some shift;
+}
 
 -- an FMU at 1000 counts a second that takes steps of any size and saves its state
 abbrev pub shape_of : Bool → List Variable → List ClockTiming → List Dependency → Shape
@@ -69,10 +90,18 @@ shape_of has_event_mode variables clocks dependencies = record {
 -- ---- systems
 
 abbrev pub component_of : ℕ → List ℕ → Shape → Component
-component_of source name shape = record { name = name; source = record { 0 = source }; shape = shape }
+component_of source name shape =
+    record { name = name; source = record { 0 = source }; shape = shape }
 
 abbrev pub port_of : ℕ → Variable → PortType → Role → List PortId → Port
-port_of i v kind role clocks = record { component = record { 0 = i }; name = v.name; kind = kind; reference = v.reference; role = role; clocks = clocks }
+port_of i v kind role clocks = record {
+  component = record { 0 = i };
+  name = v.name;
+  kind = kind;
+  reference = v.reference;
+  role = role;
+  clocks = clocks;
+}
 
 abbrev pub feed_from : ℕ → Option Feed
 feed_from p = Some (record { from = record { 0 = p } })

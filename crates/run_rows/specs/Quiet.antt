@@ -9,7 +9,12 @@ use Rattle.run_rows.specs.Relayed.{relayed_run, counter_shape, relay_shape, samp
 
 -- it does so where no fixed Clock is asked
 abbrev pub QuietAnswersWell : Type 0
-QuietAnswersWell = (shape : Shape) → ((reference : ℕ) → RunSends shape (C.GetShift reference) → ⊥) → AlwaysWell shape (machine_of shape quiet)
+QuietAnswersWell =
+    (shape : Shape) → ((reference : ℕ) → RunSends shape (C.GetShift reference) → ⊥) →
+    AlwaysWell shape (machine_of shape quiet)
 
 abbrev pub quiet_run : Run
-quiet_run = record relayed_run { machines = machine_of counter_shape quiet ∷ machine_of relay_shape quiet ∷ machine_of sampler_shape quiet ∷ [] }
+quiet_run = record relayed_run {
+  machines = machine_of counter_shape quiet ∷ machine_of relay_shape quiet ∷
+      machine_of sampler_shape quiet ∷ [];
+}

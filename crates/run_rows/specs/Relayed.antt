@@ -34,19 +34,31 @@ abbrev pub s_y : Variable
 s_y = output (codes "y") 3 (1 ∷ [])
 
 abbrev pub counter_shape : Shape
-counter_shape = shape_of true (parameter (codes "inc") 1 (pos 2) ∷ c_y ∷ []) [] (record { output = 2; on = Listed [] } ∷ [])
+counter_shape =
+    shape_of true (parameter (codes "inc") 1 (pos 2) ∷ c_y ∷ []) []
+    (record { output = 2; on = Listed [] } ∷ [])
 
 abbrev pub relay_shape : Shape
-relay_shape = shape_of true (r_u ∷ r_o ∷ r_y ∷ []) (timing_of 2 v.Triggered ∷ []) (record { output = 2; on = AllInputs } ∷ record { output = 3; on = AllInputs } ∷ [])
+relay_shape =
+    shape_of true (r_u ∷ r_o ∷ r_y ∷ []) (timing_of 2 v.Triggered ∷ [])
+    (record { output = 2; on = AllInputs } ∷ record { output = 3; on = AllInputs } ∷ [])
 
 abbrev pub sampler_shape : Shape
-sampler_shape = shape_of true (s_c ∷ s_u ∷ s_y ∷ []) (timing_of 1 v.Triggered ∷ []) (record { output = 3; on = Listed (2 ∷ []) } ∷ [])
+sampler_shape =
+    shape_of true (s_c ∷ s_u ∷ s_y ∷ []) (timing_of 1 v.Triggered ∷ [])
+    (record { output = 3; on = Listed (2 ∷ []) } ∷ [])
 
 abbrev pub system : System
 system = record {
-  components = component_of 0 (codes "c") counter_shape ∷ component_of 1 (codes "r") relay_shape ∷ component_of 2 (codes "s") sampler_shape ∷ [];
-  ports = port_of 0 c_y Int32 Output [] ∷ port_of 1 r_u Int32 (Input (feed_from 0)) [] ∷ port_of 1 r_o Clock ClockOutput [] ∷ port_of 1 r_y Int32 Output (port_ids (2 ∷ []))
-      ∷ port_of 2 s_c Clock (ClockInput (feed_from 2)) [] ∷ port_of 2 s_u Int32 (Input (feed_from 3)) (port_ids (4 ∷ [])) ∷ port_of 2 s_y Int32 Output (port_ids (4 ∷ [])) ∷ [];
+  components =
+      component_of 0 (codes "c") counter_shape ∷ component_of 1 (codes "r") relay_shape ∷
+      component_of 2 (codes "s") sampler_shape ∷ [];
+  ports =
+      port_of 0 c_y Int32 Output [] ∷ port_of 1 r_u Int32 (Input (feed_from 0)) [] ∷
+      port_of 1 r_o Clock ClockOutput [] ∷ port_of 1 r_y Int32 Output (port_ids (2 ∷ []))
+      ∷ port_of 2 s_c Clock (ClockInput (feed_from 2)) [] ∷
+      port_of 2 s_u Int32 (Input (feed_from 3)) (port_ids (4 ∷ [])) ∷
+      port_of 2 s_y Int32 Output (port_ids (4 ∷ [])) ∷ [];
   instant_order = port_ids (0 ∷ 1 ∷ 2 ∷ 3 ∷ 4 ∷ 5 ∷ 6 ∷ []);
   initial_order = port_ids (0 ∷ 1 ∷ []);
 }
@@ -55,7 +67,9 @@ abbrev pub relayed_run : Run
 relayed_run = record {
   system = system;
   bound = unbound;
-  machines = machine_of counter_shape counter ∷ machine_of relay_shape (relay relay_shape) ∷ machine_of sampler_shape (sampler sampler_shape) ∷ [];
+  machines =
+      machine_of counter_shape counter ∷ machine_of relay_shape (relay relay_shape) ∷
+      machine_of sampler_shape (sampler sampler_shape) ∷ [];
   plan = plan_by 10 100;
 }
 
@@ -63,10 +77,14 @@ abbrev pub v0 : List (Option ℤ)
 v0 = Some (pos 0) ∷ Some (pos 0) ∷ Some (pos 0) ∷ None ∷ Some (pos 0) ∷ None ∷ None ∷ []
 
 abbrev pub v10 : List (Option ℤ)
-v10 = Some (pos 2) ∷ Some (pos 2) ∷ Some (pos 1) ∷ Some (pos 2) ∷ Some (pos 1) ∷ Some (pos 2) ∷ Some (pos 2) ∷ []
+v10 =
+    Some (pos 2) ∷ Some (pos 2) ∷ Some (pos 1) ∷ Some (pos 2) ∷ Some (pos 1) ∷
+    Some (pos 2) ∷ Some (pos 2) ∷ []
 
 abbrev pub v20 : List (Option ℤ)
-v20 = Some (pos 4) ∷ Some (pos 4) ∷ Some (pos 1) ∷ Some (pos 4) ∷ Some (pos 1) ∷ Some (pos 4) ∷ Some (pos 4) ∷ []
+v20 =
+    Some (pos 4) ∷ Some (pos 4) ∷ Some (pos 1) ∷ Some (pos 4) ∷ Some (pos 1) ∷
+    Some (pos 4) ∷ Some (pos 4) ∷ []
 
 abbrev pub relayed_instants : List Instant
 relayed_instants = instant_at 0 0 v0 ∷ instant_at 10 0 v10 ∷ instant_at 20 0 v20 ∷ []

@@ -11,4 +11,5 @@ pub record HasTrace (r : Run) (instants : List Instant) (kind : EndKind) (end : 
   pub sound : IsSound r.system
   pub machines : AreMachines r
   pub trace : IsTrace r instants kind end
-  pub only : (others : List Instant) (other : EndKind) (point : ℕ) → IsTrace r others other point → (others ≡ instants) × (other ≡ kind) × (point ≡ end)
+  pub only : (others : List Instant) (other : EndKind) (point : ℕ) → IsTrace r others other point →
+      (others ≡ instants) × (other ≡ kind) × (point ≡ end)

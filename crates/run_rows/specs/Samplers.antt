@@ -26,25 +26,42 @@ abbrev pub y : Variable
 y = output (codes "y") 3 (1 ∷ [])
 
 abbrev pub sampler_shape : Variable → ClockTiming → Shape
-sampler_shape u timing = shape_of true (c ∷ u ∷ y ∷ []) (timing ∷ []) (record { output = 3; on = Listed (2 ∷ []) } ∷ [])
+sampler_shape u timing =
+    shape_of true (c ∷ u ∷ y ∷ []) (timing ∷ []) (record { output = 3; on = Listed (2 ∷ []) } ∷ [])
 
 abbrev pub a_shape : Shape
-a_shape = sampler_shape a_u (constant_timing 1 (record { counter = 1; resolution = 1 }) (record { counter = 1; resolution = 100 }))
+a_shape =
+    sampler_shape a_u (constant_timing 1 (record { counter = 1; resolution = 1 })
+    (record { counter = 1; resolution = 100 }))
 
 abbrev pub b_shape : Shape
-b_shape = sampler_shape b_u (constant_timing 1 (record { counter = 1; resolution = 100 }) (record { counter = 0; resolution = 1 }))
+b_shape =
+    sampler_shape b_u (constant_timing 1 (record { counter = 1; resolution = 100 })
+    (record { counter = 0; resolution = 1 }))
 
 abbrev pub system : System
 system = record {
   components = component_of 0 (codes "a") a_shape ∷ component_of 1 (codes "b") b_shape ∷ [];
-  ports = port_of 0 c Clock (TimeClock (Periodic 1000 10)) [] ∷ port_of 0 a_u Int32 (Input None) (port_ids (0 ∷ [])) ∷ port_of 0 y Int32 Output (port_ids (0 ∷ []))
-      ∷ port_of 1 c Clock (TimeClock (Periodic 10 0)) [] ∷ port_of 1 b_u Int32 (Input (feed_from 2)) (port_ids (3 ∷ [])) ∷ port_of 1 y Int32 Output (port_ids (3 ∷ [])) ∷ [];
+  ports =
+      port_of 0 c Clock (TimeClock (Periodic 1000 10)) [] ∷
+      port_of 0 a_u Int32 (Input None) (port_ids (0 ∷ [])) ∷
+      port_of 0 y Int32 Output (port_ids (0 ∷ []))
+      ∷ port_of 1 c Clock (TimeClock (Periodic 10 0)) [] ∷
+      port_of 1 b_u Int32 (Input (feed_from 2)) (port_ids (3 ∷ [])) ∷
+      port_of 1 y Int32 Output (port_ids (3 ∷ [])) ∷ [];
   instant_order = port_ids (0 ∷ 1 ∷ 2 ∷ 3 ∷ 4 ∷ 5 ∷ []);
   initial_order = [];
 }
 
 abbrev pub samplers_run : Run
-samplers_run = record { system = system; bound = unbound; machines = machine_of a_shape (sampler a_shape) ∷ machine_of b_shape (sampler b_shape) ∷ []; plan = plan_by 10 100 }
+samplers_run = record {
+  system = system;
+  bound = unbound;
+  machines =
+      machine_of a_shape (sampler a_shape) ∷ machine_of b_shape (sampler b_shape) ∷ [];
+  plan =
+      plan_by 10 100;
+}
 
 abbrev pub v0 : List (Option ℤ)
 v0 = Some (pos 0) ∷ None ∷ None ∷ Some (pos 1) ∷ None ∷ Some (pos 0) ∷ []

@@ -25,25 +25,42 @@ abbrev pub y : Variable
 y = output (codes "y") 3 []
 
 abbrev pub settle_shape : Shape
-settle_shape = shape_of true (parameter (codes "k") 1 (pos 1) ∷ s_y ∷ []) [] (record { output = 2; on = AllInputs } ∷ [])
+settle_shape =
+    shape_of true (parameter (codes "k") 1 (pos 1) ∷ s_y ∷ []) []
+    (record { output = 2; on = AllInputs } ∷ [])
 
 abbrev pub ticker_shape : Shape
-ticker_shape = shape_of true (c ∷ u ∷ y ∷ []) (constant_timing 1 (record { counter = 1; resolution = 100 }) (record { counter = 0; resolution = 1 }) ∷ []) (record { output = 3; on = AllInputs } ∷ [])
+ticker_shape =
+    shape_of true (c ∷ u ∷ y ∷ [])
+    (constant_timing 1 (record { counter = 1; resolution = 100 })
+    (record { counter = 0; resolution = 1 }) ∷ []) (record { output = 3; on = AllInputs } ∷ [])
 
 abbrev pub system : System
 system = record {
-  components = component_of 0 (codes "s") settle_shape ∷ component_of 1 (codes "t") ticker_shape ∷ [];
-  ports = port_of 0 s_y Int32 Output [] ∷ port_of 1 c Clock (TimeClock (Periodic 10 0)) [] ∷ port_of 1 u Int32 (Input (feed_from 0)) (port_ids (1 ∷ [])) ∷ port_of 1 y Int32 Output [] ∷ [];
+  components =
+      component_of 0 (codes "s") settle_shape ∷ component_of 1 (codes "t") ticker_shape ∷ [];
+  ports =
+      port_of 0 s_y Int32 Output [] ∷ port_of 1 c Clock (TimeClock (Periodic 10 0)) [] ∷
+      port_of 1 u Int32 (Input (feed_from 0)) (port_ids (1 ∷ [])) ∷
+      port_of 1 y Int32 Output [] ∷ [];
   instant_order = port_ids (0 ∷ 1 ∷ 2 ∷ 3 ∷ []);
   initial_order = port_ids (0 ∷ 3 ∷ []);
 }
 
 abbrev pub ticks_run : Run
-ticks_run = record { system = system; bound = unbound; machines = machine_of settle_shape settle ∷ machine_of ticker_shape ticker ∷ []; plan = plan_by 20 100 }
+ticks_run = record {
+  system = system;
+  bound = unbound;
+  machines =
+      machine_of settle_shape settle ∷ machine_of ticker_shape ticker ∷ [];
+  plan =
+      plan_by 20 100;
+}
 
 -- the values of the settling y, the Clock, its input, and the number of Updates with it active
 abbrev pub values : ℕ → ℕ → ℕ → List (Option ℤ)
-values settled clock ticks = Some (pos settled) ∷ Some (pos clock) ∷ Some (pos 0) ∷ Some (pos ticks) ∷ []
+values settled clock ticks =
+    Some (pos settled) ∷ Some (pos clock) ∷ Some (pos 0) ∷ Some (pos ticks) ∷ []
 
 abbrev pub ticks_instants : List Instant
 ticks_instants =

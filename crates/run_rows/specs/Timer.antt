@@ -20,7 +20,9 @@ abbrev pub y : Variable
 y = output (codes "y") 3 []
 
 abbrev pub shape : Shape
-shape = shape_of true (parameter (codes "when") 1 (pos 20) ∷ parameter (codes "wait") 4 (pos 0) ∷ c ∷ y ∷ []) (timing_of 2 v.Countdown ∷ [])
+shape =
+    shape_of true (parameter (codes "when") 1 (pos 20) ∷ parameter (codes "wait") 4 (pos 0) ∷ c ∷
+    y ∷ []) (timing_of 2 v.Countdown ∷ [])
     (record { output = 3; on = AllInputs } ∷ [])
 
 abbrev pub system : System
@@ -32,7 +34,12 @@ system = record {
 }
 
 abbrev pub timer_run : Run
-timer_run = record { system = system; bound = unbound; machines = machine_of shape timer ∷ []; plan = plan_by 10 100 }
+timer_run = record {
+  system = system;
+  bound = unbound;
+  machines = machine_of shape timer ∷ [];
+  plan = plan_by 10 100;
+}
 
 abbrev pub quiet : List (Option ℤ)
 quiet = Some (pos 0) ∷ Some (pos 0) ∷ []
@@ -41,4 +48,6 @@ abbrev pub ticked : List (Option ℤ)
 ticked = Some (pos 1) ∷ Some (pos 0) ∷ []
 
 abbrev pub timer_instants : List Instant
-timer_instants = instant_at 0 0 quiet ∷ instant_at 10 0 quiet ∷ instant_at 20 0 quiet ∷ instant_at 20 1 ticked ∷ []
+timer_instants =
+    instant_at 0 0 quiet ∷ instant_at 10 0 quiet ∷ instant_at 20 0 quiet ∷
+    instant_at 20 1 ticked ∷ []

@@ -20,7 +20,8 @@ get_of port = C.Get port.kind port.reference
 
 -- the Get of each port, in port order
 abbrev pub gets : List Port → List Asking
-gets ports = map (λ (port : Port). record { component = port.component.0; call = get_of port }) ports
+gets ports =
+    map (λ (port : Port). record { component = port.component.0; call = get_of port }) ports
 
 abbrev pub value_by : Call → Result Reply PeerFault → Option ℤ
 value_by (C.Get kind reference) (Ok reply) = value_in kind reply

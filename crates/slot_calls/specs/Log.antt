@@ -16,7 +16,9 @@ use Rattle.fmu_peer.specs.View.{View, Asked}
 -- the instance was asked these calls, each permitted in its turn, and answered so
 abbrev pub Talks : View → List Exchange → View → Type 0
 Talks old [] new = new ≡ old
-Talks old (e ∷ es) new = (mid : View) × Permitted old.fixed.shape old.phase e.call × Asked old e.call e.result mid × Talks mid es new
+Talks old (e ∷ es) new =
+    (mid : View) × Permitted old.fixed.shape old.phase e.call ×
+    Asked old e.call e.result mid × Talks mid es new
 
 -- the same of an instance among others, which is marked where one of these answers was a refusal with Fatal
 pub record Has (old : Instance) (es : List Exchange) (new : Instance) : Type 0 where
@@ -31,7 +33,8 @@ Worth shape value e (Ok x) = IsGood shape e × (x ≡ value e)
 Worth shape value e (Err why) = IsWhy shape why e
 
 -- the instance was asked this call alone
-pub record One {T : Type 0} (call : Call) (value : Exchange → T) (old new : Instance) (result : Result T Why) : Type 0 where
+pub record One {T : Type 0} (call : Call) (value : Exchange → T) (old new : Instance)
+    (result : Result T Why) : Type 0 where
   pub exchange : Exchange
   pub is : exchange.call ≡ call
   pub has : Has old (exchange ∷ []) new
@@ -63,4 +66,5 @@ part i (s ∷ log) = if s.component == i then s.exchange ∷ part i log else par
 -- from the first list to the second each instance had its part of the log, and nothing else
 pub record Told (log : List Sent) (olds news : List Instance) : Type 0 where
   pub len : length news ≡ length olds
-  pub each : (i : ℕ) (d : Instance) → i < length olds → Has (slice_index_or olds i d) (part i log) (slice_index_or news i d)
+  pub each : (i : ℕ) (d : Instance) → i < length olds →
+      Has (slice_index_or olds i d) (part i log) (slice_index_or news i d)

@@ -11,7 +11,9 @@ use Rattle.slot_calls.specs.Log.{Sent, part}
 -- from this state on each reply is the machine's, up to a call that had none
 abbrev pub RepliesBy : Machine → MachineState → List Exchange → Type 0
 RepliesBy m s [] = Unit {0}
-RepliesBy m s (e ∷ es) = MatchResult e.result (λ reply. (reply ≡ m.look s e.call) × RepliesBy m (after m s e.call) es) (λ fault. Unit {0})
+RepliesBy m s (e ∷ es) =
+    MatchResult e.result (λ reply. (reply ≡ m.look s e.call) ×
+    RepliesBy m (after m s e.call) es) (λ fault. Unit {0})
 
 -- its state behind exchanges
 abbrev pub state_by : Machine → MachineState → List Exchange → MachineState
@@ -22,7 +24,9 @@ state_by m s (e ∷ es) = state_by m (after m s e.call) es
 
 -- the replies of each are its own
 abbrev pub AreReplies : Run → List MachineState → List Sent → Type 0
-AreReplies r ss log = (i : ℕ) (c : Component) (m : Machine) (s : MachineState) → IsFmu r ss i c m s → RepliesBy m s (part i log)
+AreReplies r ss log =
+    (i : ℕ) (c : Component) (m : Machine) (s : MachineState) → IsFmu r ss i c m s →
+    RepliesBy m s (part i log)
 
 -- their states behind a log
 abbrev pub states_by : Run → List MachineState → List Sent → List MachineState

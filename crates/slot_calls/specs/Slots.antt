@@ -95,14 +95,16 @@ abbrev pub MayTakePart : Ask → View → Type 0
 MayTakePart ask v = is_asked ask v.fixed.shape ≡ true → MayBeAsked ask v
 
 -- the peer was asked this call alone
-pub record Called {T : Type 0} (call : Call) (value : Exchange → T) (old new : View) (result : Result T Why) : Type 0 where
+pub record Called {T : Type 0} (call : Call) (value : Exchange → T) (old new : View)
+    (result : Result T Why) : Type 0 where
   pub exchange : Exchange
   pub is : exchange.call ≡ call
   pub talks : Talks old (exchange ∷ []) new
   pub worth : Worth old.fixed.shape value exchange result
 
 -- what is held was asked this call alone, and is held in the state of its phase where the answer is good
-pub record Moves {L T : Type 0} {g : _} (view : L → View) (old : Held L g) (call : Call) (value : Exchange → T) (new : Held L g) (result : Result T Why) : Type 0 where
+pub record Moves {L T : Type 0} {g : _} (view : L → View) (old : Held L g) (call : Call)
+    (value : Exchange → T) (new : Held L g) (result : Result T Why) : Type 0 where
   pub called : Called call value (view (peer_in old)) (view (peer_in new)) result
   pub live : OnOk result (IsLive view new)
 

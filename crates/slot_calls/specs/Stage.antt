@@ -24,7 +24,8 @@ abbrev pub IsGoodOf : List Shape → Sent → Type 0
 IsGoodOf shapes s = (d : Shape) → IsGood (slice_index_or shapes s.component d) s.exchange
 
 -- the last answer isn't good, and those in front of it are
-pub record IsFirst (shapes : List Shape) (bad : BadAnswer) (front : List Sent) (last : Sent) : Type 0 where
+pub record IsFirst (shapes : List Shape) (bad : BadAnswer) (front : List Sent)
+    (last : Sent) : Type 0 where
   pub good : All (IsGoodOf shapes) front
   pub component : last.component ≡ bad.component.0
   pub why : (d : Shape) → IsWhy (slice_index_or shapes last.component d) bad.why last.exchange
@@ -35,7 +36,8 @@ pub record IsAnswered (shapes : List Shape) (calls : List Asking) (log : List Se
   pub good : All (IsGoodOf shapes) log
 
 -- the calls were sent up to the first whose answer isn't good
-pub record StopsAt (shapes : List Shape) (calls : List Asking) (bad : BadAnswer) (log : List Sent) : Type 0 where
+pub record StopsAt (shapes : List Shape) (calls : List Asking) (bad : BadAnswer)
+    (log : List Sent) : Type 0 where
   pub front : List Sent
   pub last : Sent
   pub left : List Asking
@@ -44,7 +46,8 @@ pub record StopsAt (shapes : List Shape) (calls : List Asking) (bad : BadAnswer)
   pub first : IsFirst shapes bad front last
 
 -- all of the calls were sent, whatever was answered, and this answer is the first that isn't good
-pub record FailsIn (shapes : List Shape) (calls : List Asking) (bad : BadAnswer) (log : List Sent) : Type 0 where
+pub record FailsIn (shapes : List Shape) (calls : List Asking) (bad : BadAnswer)
+    (log : List Sent) : Type 0 where
   pub front : List Sent
   pub last : Sent
   pub back : List Sent
@@ -55,21 +58,25 @@ pub record FailsIn (shapes : List Shape) (calls : List Asking) (bad : BadAnswer)
 -- ---- stages and rounds
 
 -- what calls that stop at the first bad answer give: a value that the log tells, or that answer
-abbrev pub StageSays : {T : Type 0} → List Shape → List Asking → (List Sent → T) → List Sent → Result T BadAnswer → Type 0
+abbrev pub StageSays : {T : Type 0} → List Shape → List Asking → (List Sent → T) → List Sent →
+    Result T BadAnswer → Type 0
 StageSays shapes calls value log (Ok x) = IsAnswered shapes calls log × (x ≡ value log)
 StageSays shapes calls value log (Err bad) = StopsAt shapes calls bad log
 
-pub record Stage {T : Type 0} (calls : List Asking) (value : List Sent → T) (olds news : List Instance) (result : Result T BadAnswer) : Type 0 where
+pub record Stage {T : Type 0} (calls : List Asking) (value : List Sent → T)
+    (olds news : List Instance) (result : Result T BadAnswer) : Type 0 where
   pub log : List Sent
   pub told : Told log olds news
   pub says : StageSays (shapes olds) calls value log result
 
 -- the same of calls that are all sent
-abbrev pub RoundSays : {T : Type 0} → List Shape → List Asking → (List Sent → T) → List Sent → Result T BadAnswer → Type 0
+abbrev pub RoundSays : {T : Type 0} → List Shape → List Asking → (List Sent → T) → List Sent →
+    Result T BadAnswer → Type 0
 RoundSays shapes calls value log (Ok x) = IsAnswered shapes calls log × (x ≡ value log)
 RoundSays shapes calls value log (Err bad) = FailsIn shapes calls bad log
 
-pub record Round {T : Type 0} (calls : List Asking) (value : List Sent → T) (olds news : List Instance) (result : Result T BadAnswer) : Type 0 where
+pub record Round {T : Type 0} (calls : List Asking) (value : List Sent → T)
+    (olds news : List Instance) (result : Result T BadAnswer) : Type 0 where
   pub log : List Sent
   pub told : Told log olds news
   pub says : RoundSays (shapes olds) calls value log result
@@ -84,7 +91,8 @@ nothing log = tt
 abbrev pub to_those_from : ℕ → (Shape → Bool) → (Shape → Call) → List Shape → List Asking
 to_those_from i test call [] = []
 to_those_from i test call (s ∷ ss) =
-    if test s then record { component = i; call = call s } ∷ to_those_from (i + 1) test call ss else to_those_from (i + 1) test call ss
+    if test s then record { component = i; call = call s } ∷ to_those_from (i + 1) test call ss
+    else to_those_from (i + 1) test call ss
 
 -- in their order, to those whose shape passes the test, the call that each shape says
 abbrev pub to_those : (Shape → Bool) → (Shape → Call) → List Shape → List Asking

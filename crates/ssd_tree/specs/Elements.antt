@@ -28,12 +28,14 @@ holder t k list = option_and_then (λ l. key_if (is_named t l list) (parent t l)
 -- the System in the root, and those among the Elements of a System
 pub data IsSystem (t : List Node) : ℕ → Type 0 where
   Outermost : (k : ℕ) → is_named t k (codes "System") ≡ true → parent t k ≡ Some 0 → IsSystem t k
-  Inner : (k outer : ℕ) → is_named t k (codes "System") ≡ true → holder t k (codes "Elements") ≡ Some outer → IsSystem t outer → IsSystem t k
+  Inner : (k outer : ℕ) → is_named t k (codes "System") ≡ true →
+      holder t k (codes "Elements") ≡ Some outer → IsSystem t outer → IsSystem t k
 
 -- a Component stands among the Elements of a System
 abbrev pub IsComponent : List Node → ℕ → Type 0
 IsComponent t k =
-    (is_named t k (codes "Component") ≡ true) × ((system : ℕ) × (holder t k (codes "Elements") ≡ Some system) × IsSystem t system)
+    (is_named t k (codes "Component") ≡ true) ×
+    ((system : ℕ) × (holder t k (codes "Elements") ≡ Some system) × IsSystem t system)
 
 -- a System or a Component: it may have connectors and parameter bindings
 abbrev pub IsPart : List Node → ℕ → Type 0
@@ -54,7 +56,8 @@ abbrev pub IsConnection : List Node → ℕ → Type 0
 IsConnection t k = (is_named t k (codes "Connection") ≡ true) × IsOfSystem t k (codes "Connections")
 
 abbrev pub IsBinding : List Node → ℕ → Type 0
-IsBinding t k = (is_named t k (codes "ParameterBinding") ≡ true) × IsOfPart t k (codes "ParameterBindings")
+IsBinding t k =
+    (is_named t k (codes "ParameterBinding") ≡ true) × IsOfPart t k (codes "ParameterBindings")
 
 -- ---- keys, by which elements are found
 
@@ -73,16 +76,20 @@ element_key t k =
 -- the name of a connector, in its part
 abbrev pub connector_key : List Node → ℕ → Option (ℕ × List ℕ)
 connector_key t k =
-    key_if (is_named t k (codes "Connector")) (both (holder t k (codes "Connectors")) (unless_empty (attribute t k (codes "name"))))
+    key_if (is_named t k (codes "Connector"))
+    (both (holder t k (codes "Connectors")) (unless_empty (attribute t k (codes "name"))))
 
 -- a ParameterMapping, in the element that it stands in
 abbrev pub mapping_key : List Node → ℕ → Option (ℕ × List ℕ)
-mapping_key t k = key_if (is_named t k (codes "ParameterMapping")) (both (parent t k) (Some (codes "ParameterMapping")))
+mapping_key t k =
+    key_if (is_named t k (codes "ParameterMapping"))
+    (both (parent t k) (Some (codes "ParameterMapping")))
 
 -- of several ParameterMappings of a binding the first counts
 abbrev pub IsMappingOf : List Node → ℕ → ℕ → Type 0
 IsMappingOf t k binding =
-    (is_named t k (codes "ParameterMapping") ≡ true) × (parent t k ≡ Some binding) × IsBinding t binding × (IsRepeated (mapping_key t) k → ⊥)
+    (is_named t k (codes "ParameterMapping") ≡ true) × (parent t k ≡ Some binding) ×
+    IsBinding t binding × (IsRepeated (mapping_key t) k → ⊥)
 
 -- ---- what connectors say (SSP 1.0: Connector)
 
@@ -103,7 +110,8 @@ type_child name =
     if bytes_eq name (codes "Integer") then Some child.Integer
     else if bytes_eq name (codes "Boolean") then Some child.Boolean
     else if bytes_eq name (codes "Enumeration") then Some child.Enumeration
-    else if (bytes_eq name (codes "Real") || bytes_eq name (codes "String")) || bytes_eq name (codes "Binary") then Some child.Other
+    else if (bytes_eq name (codes "Real") || bytes_eq name (codes "String")) ||
+    bytes_eq name (codes "Binary") then Some child.Other
     else None
 
 -- the first of two, where it is there

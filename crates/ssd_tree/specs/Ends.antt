@@ -13,7 +13,8 @@ IsPartNamed t system None part = part ≡ system
 IsPartNamed t system (Some name) part = IsFirstWith (element_key t) (system, name) part
 
 -- the connector that is named by these two attributes of a connection
-pub record IsEnd (t : List Node) (connection : ℕ) (element connector : List ℕ) (k : ℕ) : Type 0 where
+pub record IsEnd (t : List Node) (connection : ℕ) (element connector : List ℕ)
+    (k : ℕ) : Type 0 where
   pub system : ℕ
   pub part : ℕ
   pub name : List ℕ

@@ -40,10 +40,14 @@ pub record ListsParts (t : List Node) (nodes : PartNodes) : Type 0 where
 
 -- the element names below the outermost System, joined with dots
 pub data IsFullName (t : List Node) : ℕ → List ℕ → Type 0 where
-  InOutermost : (k outer : ℕ) (name : List ℕ) → holder t k (codes "Elements") ≡ Some outer → parent t outer ≡ Some 0 →
+  InOutermost : (k outer : ℕ) (name : List ℕ) → holder t k (codes "Elements") ≡ Some outer →
+      parent t outer ≡ Some 0 →
       attribute t k (codes "name") ≡ Some name → IsFullName t k name
-  InInner : (k system outer : ℕ) (above name : List ℕ) → holder t k (codes "Elements") ≡ Some system → holder t system (codes "Elements") ≡ Some outer →
-      IsFullName t system above → attribute t k (codes "name") ≡ Some name → IsFullName t k (above ++ 46 ∷ name)
+  InInner : (k system outer : ℕ) (above name : List ℕ) →
+      holder t k (codes "Elements") ≡ Some system →
+      holder t system (codes "Elements") ≡ Some outer →
+      IsFullName t system above → attribute t k (codes "name") ≡ Some name →
+      IsFullName t k (above ++ 46 ∷ name)
 
 -- the place is that of the element in a list; there is none where there is no element
 abbrev pub IsPlaceOf : List ℕ → Option ℕ → Option ℕ → Type 0
@@ -59,17 +63,21 @@ owner_node nodes (Component place) = slice_get nodes.components place
 
 -- its `source`, without the segments that lead nowhere
 abbrev pub HasPath : List Node → ℕ → List ℕ → Type 0
-HasPath t k path = (source : List ℕ) × (attribute t k (codes "source") ≡ Some source) × (path ≡ plain_path source)
+HasPath t k path =
+    (source : List ℕ) × (attribute t k (codes "source") ≡ Some source) × (path ≡ plain_path source)
 
 -- ---- where values and mappings of parameters are given (SSP 1.0: ParameterBinding, ParameterMapping; source, sourceBase)
 
 -- below the component's folder where `sourceBase` is `component`, and else below the description's
 abbrev pub base_of : Option (List ℕ) → SourceBase
-base_of sort = if option_map_or (λ text. bytes_eq text (codes "component")) sort false then base.Component else base.Description
+base_of sort =
+    if option_map_or (λ text. bytes_eq text (codes "component")) sort false then base.Component
+    else base.Description
 
 -- in the file that the element's `source` names; where it has none, within this one
 abbrev pub IsOrigin : List Node → ℕ → Option ℕ → Origin → Type 0
-IsOrigin t k inner (File base path) = HasPath t k path × (base ≡ base_of (attribute t k (codes "sourceBase")))
+IsOrigin t k inner (File base path) =
+    HasPath t k path × (base ≡ base_of (attribute t k (codes "sourceBase")))
 IsOrigin t k inner (Inline node) = Lacks t k (codes "source") × (inner ≡ Some node)
 
 -- the values of a binding, in a file or in its first ParameterValues
@@ -88,13 +96,15 @@ pub record IsSystemPart (t : List Node) (nodes : PartNodes) (k : ℕ) (x : Syste
   pub outer : IsPlaceOf nodes.systems x.parent (holder t k (codes "Elements"))
   pub name : attribute t k (codes "name") ≡ Some x.name
 
-pub record IsComponentPart (t : List Node) (nodes : PartNodes) (k : ℕ) (x : ComponentPart) : Type 0 where
+pub record IsComponentPart (t : List Node) (nodes : PartNodes) (k : ℕ)
+    (x : ComponentPart) : Type 0 where
   pub node : x.node ≡ k
   pub system : IsPlaceOf nodes.systems (Some x.system) (holder t k (codes "Elements"))
   pub name : IsFullName t k x.name
   pub source : HasPath t k x.source
 
-pub record IsConnectorPart (t : List Node) (nodes : PartNodes) (k : ℕ) (x : Connector) : Type 0 where
+pub record IsConnectorPart (t : List Node) (nodes : PartNodes) (k : ℕ)
+    (x : Connector) : Type 0 where
   pub node : x.node ≡ k
   pub part : ℕ
   pub of : holder t k (codes "Connectors") ≡ Some part
@@ -103,7 +113,8 @@ pub record IsConnectorPart (t : List Node) (nodes : PartNodes) (k : ℕ) (x : Co
   pub kind : kind_of t k ≡ Some x.kind
   pub child : x.child ≡ type_of t k
 
-pub record IsConnectionPart (t : List Node) (nodes : PartNodes) (k : ℕ) (x : Connection) : Type 0 where
+pub record IsConnectionPart (t : List Node) (nodes : PartNodes) (k : ℕ)
+    (x : Connection) : Type 0 where
   pub node : x.node ≡ k
   pub from : ℕ
   pub is_from : IsStart t k from

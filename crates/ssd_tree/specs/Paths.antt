@@ -7,7 +7,8 @@ use Rattle.ssd_tree.specs.Elements.{holder}
 -- the elements from this one on, each among the Elements of the next, and the last among those of the end
 abbrev pub Climbs : List Node → ℕ → List ℕ → ℕ → Type 0
 Climbs t k [] end = k ≡ end
-Climbs t k (x ∷ xs) end = (x ≡ k) × ((outer : ℕ) × (holder t k (codes "Elements") ≡ Some outer) × Climbs t outer xs end)
+Climbs t k (x ∷ xs) end =
+    (x ≡ k) × ((outer : ℕ) × (holder t k (codes "Elements") ≡ Some outer) × Climbs t outer xs end)
 
 -- the elements from this one out to the outermost System, which isn't among them
 abbrev pub LeadsOut : List Node → ℕ → List ℕ → Type 0

@@ -17,20 +17,23 @@ use Rattle.ssd_tree.specs.Ends.{IsStart, IsStop, start_kind, end_kind}
 -- ---- the root
 
 abbrev pub has_version : List Node → ℕ → Bool
-has_version t k = option_map_or (λ text. bytes_eq text (codes "1.0")) (attribute t k (codes "version")) false
+has_version t k =
+    option_map_or (λ text. bytes_eq text (codes "1.0")) (attribute t k (codes "version")) false
 
 abbrev pub system_count : List Node → ℕ → ℕ
 system_count t k = count_by (λ c. is_named t c (codes "System")) (children t k)
 
 abbrev pub IsOtherStructure : List Node → ℕ → Type 0
 IsOtherStructure t k =
-    (is_named t k (codes "SystemStructureDescription") ≡ false) ⊎ ((has_version t k ≡ false) ⊎ (system_count t k ≢ 1))
+    (is_named t k (codes "SystemStructureDescription") ≡ false) ⊎
+    ((has_version t k ≡ false) ⊎ (system_count t k ≢ 1))
 
 -- ---- types
 
 -- the type that is given, or this one where none is
 abbrev pub is_of_type : List Node → ℕ → List ℕ → Bool
-is_of_type t k wanted = option_map_or (λ text. bytes_eq text wanted) (attribute t k (codes "type")) true
+is_of_type t k wanted =
+    option_map_or (λ text. bytes_eq text wanted) (attribute t k (codes "type")) true
 
 abbrev pub HasOtherType : List Node → ℕ → Type 0
 HasOtherType t k =
@@ -41,12 +44,15 @@ HasOtherType t k =
 
 -- its `source` is no path
 abbrev pub HasNoPath : List Node → ℕ → Type 0
-HasNoPath t k = (source : List ℕ) × (attribute t k (codes "source") ≡ Some source) × (is_path source ≡ false)
+HasNoPath t k =
+    (source : List ℕ) × (attribute t k (codes "source") ≡ Some source) × (is_path source ≡ false)
 
 -- its `source` is to be read below a component, and the binding is that of a System
 abbrev pub ReadsBelowSystem : List Node → ℕ → ℕ → Type 0
 ReadsBelowSystem t k binding =
-    (attribute t k (codes "source") ≢ None) × (attribute t k (codes "sourceBase") ≡ Some (codes "component")) × IsOfSystem t binding (codes "ParameterBindings")
+    (attribute t k (codes "source") ≢ None) ×
+    (attribute t k (codes "sourceBase") ≡ Some (codes "component")) ×
+    IsOfSystem t binding (codes "ParameterBindings")
 
 abbrev pub ComponentHasNoSource : List Node → ℕ → Type 0
 ComponentHasNoSource t k = IsComponent t k × HasNoPath t k
@@ -55,7 +61,8 @@ abbrev pub BindingHasNoSource : List Node → ℕ → Type 0
 BindingHasNoSource t k = IsBinding t k × (HasNoPath t k ⊎ ReadsBelowSystem t k k)
 
 abbrev pub MappingHasNoSource : List Node → ℕ → Type 0
-MappingHasNoSource t k = (binding : ℕ) × IsMappingOf t k binding × (HasNoPath t k ⊎ ReadsBelowSystem t k binding)
+MappingHasNoSource t k =
+    (binding : ℕ) × IsMappingOf t k binding × (HasNoPath t k ⊎ ReadsBelowSystem t k binding)
 
 abbrev pub HasNoSource : List Node → ℕ → Type 0
 HasNoSource t k = ComponentHasNoSource t k ⊎ (BindingHasNoSource t k ⊎ MappingHasNoSource t k)
@@ -69,26 +76,31 @@ abbrev pub IsIncompleteSystem : List Node → ℕ → Type 0
 IsIncompleteSystem t k = IsSystem t k × LacksText t k (codes "name")
 
 abbrev pub IsIncompleteComponent : List Node → ℕ → Type 0
-IsIncompleteComponent t k = IsComponent t k × (LacksText t k (codes "name") ⊎ Lacks t k (codes "source"))
+IsIncompleteComponent t k =
+    IsComponent t k × (LacksText t k (codes "name") ⊎ Lacks t k (codes "source"))
 
 -- its kind is absent or another, or a connector before it has its name
 abbrev pub IsIncompleteConnector : List Node → ℕ → Type 0
 IsIncompleteConnector t k =
-    IsConnector t k × (LacksText t k (codes "name") ⊎ ((kind_of t k ≡ None) ⊎ IsRepeated (connector_key t) k))
+    IsConnector t k × (LacksText t k (codes "name") ⊎
+    ((kind_of t k ≡ None) ⊎ IsRepeated (connector_key t) k))
 
 abbrev pub IsIncompleteConnection : List Node → ℕ → Type 0
-IsIncompleteConnection t k = IsConnection t k × (Lacks t k (codes "startConnector") ⊎ Lacks t k (codes "endConnector"))
+IsIncompleteConnection t k =
+    IsConnection t k × (Lacks t k (codes "startConnector") ⊎ Lacks t k (codes "endConnector"))
 
 -- it has neither a file of values nor values of its own
 abbrev pub IsIncompleteBinding : List Node → ℕ → Type 0
-IsIncompleteBinding t k = IsBinding t k × Lacks t k (codes "source") × (has_child t k (codes "ParameterValues") ≡ false)
+IsIncompleteBinding t k =
+    IsBinding t k × Lacks t k (codes "source") × (has_child t k (codes "ParameterValues") ≡ false)
 
 abbrev pub IsIncompletePart : List Node → ℕ → Type 0
 IsIncompletePart t k = IsIncompleteRoot t k ⊎ (IsIncompleteSystem t k ⊎ IsIncompleteComponent t k)
 
 -- an entry of a part's lists
 abbrev pub IsIncompleteEntry : List Node → ℕ → Type 0
-IsIncompleteEntry t k = IsIncompleteConnector t k ⊎ (IsIncompleteConnection t k ⊎ IsIncompleteBinding t k)
+IsIncompleteEntry t k =
+    IsIncompleteConnector t k ⊎ (IsIncompleteConnection t k ⊎ IsIncompleteBinding t k)
 
 abbrev pub IsIncomplete : List Node → ℕ → Type 0
 IsIncomplete t k = IsIncompletePart t k ⊎ IsIncompleteEntry t k
@@ -97,8 +109,10 @@ IsIncomplete t k = IsIncompletePart t k ⊎ IsIncompleteEntry t k
 
 abbrev pub is_transformation : List ℕ → Bool
 is_transformation name =
-    (bytes_eq name (codes "LinearTransformation") || bytes_eq name (codes "BooleanMappingTransformation"))
-    || (bytes_eq name (codes "IntegerMappingTransformation") || bytes_eq name (codes "EnumerationMappingTransformation"))
+    (bytes_eq name (codes "LinearTransformation") ||
+    bytes_eq name (codes "BooleanMappingTransformation"))
+    || (bytes_eq name (codes "IntegerMappingTransformation") ||
+    bytes_eq name (codes "EnumerationMappingTransformation"))
 
 abbrev pub has_transformation : List Node → ℕ → Bool
 has_transformation t k = list_any (λ c. is_transformation (name_of t c)) (children t k)
@@ -110,10 +124,13 @@ abbrev pub HasNoStop : List Node → ℕ → Type 0
 HasNoStop t k = (c : ℕ) → IsStop t k c → ⊥
 
 abbrev pub StartsWrong : List Node → ℕ → Type 0
-StartsWrong t k = (c : ℕ) × IsStart t k c × (kind_of t c ≢ Some (start_kind (attribute t k (codes "startElement"))))
+StartsWrong t k =
+    (c : ℕ) × IsStart t k c × (kind_of t c ≢
+    Some (start_kind (attribute t k (codes "startElement"))))
 
 abbrev pub StopsWrong : List Node → ℕ → Type 0
-StopsWrong t k = (c : ℕ) × IsStop t k c × (kind_of t c ≢ Some (end_kind (attribute t k (codes "endElement"))))
+StopsWrong t k =
+    (c : ℕ) × IsStop t k c × (kind_of t c ≢ Some (end_kind (attribute t k (codes "endElement"))))
 
 abbrev pub HasNoEnd : List Node → ℕ → Type 0
 HasNoEnd t k = HasNoStart t k ⊎ HasNoStop t k
@@ -138,7 +155,8 @@ Violates t r.OtherType k = HasOtherType t k
 -- 33: a source is a path below the description's folder or, at a component, below the component's
 Violates t r.NoSource k = HasNoSource t k
 -- 34: Model Exchange is left out of this profile
-Violates t r.ModelExchange k = IsComponent t k × (attribute t k (codes "implementation") ≡ Some (codes "ModelExchange"))
+Violates t r.ModelExchange k =
+    IsComponent t k × (attribute t k (codes "implementation") ≡ Some (codes "ModelExchange"))
 -- 35: something required is absent; two connectors of a part have one name; a kind is none of this profile
 Violates t r.Incomplete k = IsIncomplete t k
 -- 36: transformations of connections are left out of this profile

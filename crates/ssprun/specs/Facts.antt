@@ -39,13 +39,15 @@ LoadsLine line loaded old new = Loads (search_for line) (Found loaded) old new
 
 -- what is to be run of it
 abbrev pub task_of : RunLine → Loaded → Task
-task_of asked loaded = record { plan = asked.plan; host = asked.host; bound = loaded.bound; folders = loaded.folders }
+task_of asked loaded =
+    record { plan = asked.plan; host = asked.host; bound = loaded.bound; folders = loaded.folders }
 
 -- ---- a run
 
 -- a run ended, and the outcome tells its end
 abbrev pub EndsSo : End → Task → System → Scene → Scene → Type 0
-EndsSo e task system old new = (end : RunEnd) × IsEndOf (names_of system) end e × HasRun task system end old new
+EndsSo e task system old new =
+    (end : RunEnd) × IsEndOf (names_of system) end e × HasRun task system end old new
 
 -- what holds of an outcome once it is known what to run
 abbrev pub RunFacts : Outcome → Task → System → Scene → Scene → Type 0
@@ -80,7 +82,8 @@ CheckFacts Untold loaded old new = FailsToTell loaded old new
 
 -- what holds of an outcome once the system is known: of a run where one is asked for, else of a check
 abbrev pub LoadedFacts : Option RunLine → Outcome → Loaded → Scene → Scene → Type 0
-LoadedFacts (Some asked) outcome loaded old new = RunFacts outcome (task_of asked loaded) loaded.system old new
+LoadedFacts (Some asked) outcome loaded old new =
+    RunFacts outcome (task_of asked loaded) loaded.system old new
 LoadedFacts None outcome loaded old new = CheckFacts outcome loaded old new
 
 abbrev pub SystemFacts : Line → Outcome → Loaded → Scene → Scene → Type 0
@@ -100,8 +103,10 @@ LoadFacts Untold line old new = ⊥
 
 -- nothing is loaded, and nothing else is done; or what is loaded is run or checked
 pub data LineFacts (outcome : Outcome) (line : Line) (old new : Stage) : Type 0 where
-  Unloaded : Calm old.run new.run → LoadFacts outcome line old.folder new.folder → LineFacts outcome line old new
-  OfSystem : (loaded : Loaded) → LoadsLine line loaded old.folder new.folder → SystemFacts line outcome loaded old.run new.run → LineFacts outcome line old new
+  Unloaded : Calm old.run new.run → LoadFacts outcome line old.folder new.folder →
+      LineFacts outcome line old new
+  OfSystem : (loaded : Loaded) → LoadsLine line loaded old.folder new.folder →
+      SystemFacts line outcome loaded old.run new.run → LineFacts outcome line old new
 
 -- ---- the words
 

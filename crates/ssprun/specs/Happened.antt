@@ -31,4 +31,11 @@ pub record Happened : Type 0 where
 
 abbrev pub happened : List (List ℕ) → Stage → Stage → SinkView → SinkView → ℕ → Happened
 happened words old new err err_after status =
-    record { words = words; old = old; new = new; err = err; err_after = err_after; status = status }
+    record {
+      words = words;
+      old = old;
+      new = new;
+      err = err;
+      err_after = err_after;
+      status = status;
+    }

@@ -68,7 +68,8 @@ file_message path Unread = codes "read " ++ escaped path ++ codes "\n"
 file_message path Missing = codes "missing " ++ escaped path ++ codes "\n"
 file_message path TooBig = codes "big " ++ escaped path ++ codes "\n"
 file_message path (Broken rule place ports) =
-    codes "refused " ++ decimal (number rule) ++ codes " " ++ escaped path ++ codes " " ++ place_text place ++ loop_text ports ++ codes "\n"
+    codes "refused " ++ decimal (number rule) ++ codes " " ++ escaped path ++ codes " " ++
+    place_text place ++ loop_text ports ++ codes "\n"
 
 -- of a component whose peer wasn't started
 unfoldable pub start_message : List ℕ → StartCause → List ℕ
@@ -82,15 +83,19 @@ limit_message point = codes "limit " ++ decimal point ++ codes "\n"
 -- of a step that a component can't make, from a point to an end
 unfoldable pub fixed_message : List ℕ → ℕ → ℕ → List ℕ
 fixed_message component at end =
-    codes "fixed " ++ escaped component ++ codes " " ++ decimal at ++ codes " " ++ decimal end ++ codes "\n"
+    codes "fixed " ++ escaped component ++ codes " " ++ decimal at ++ codes " " ++
+    decimal end ++ codes "\n"
 
 -- of a component's answer that isn't good
 unfoldable pub bad_message : List ℕ → Why → List ℕ
 bad_message component (Refused call status) =
-    codes "fmu " ++ escaped component ++ codes " " ++ call_name call ++ codes " " ++ status_name (status_of_bad status) ++ codes "\n"
+    codes "fmu " ++ escaped component ++ codes " " ++ call_name call ++ codes " " ++
+    status_name (status_of_bad status) ++ codes "\n"
 bad_message component (Misreply call reply) =
-    codes "misreply " ++ escaped component ++ codes " " ++ call_name call ++ codes " " ++ encode_lower (frame_of reply) ++ codes "\n"
-bad_message component (Link call fault) = codes "link " ++ escaped component ++ codes " " ++ call_name call ++ codes "\n"
+    codes "misreply " ++ escaped component ++ codes " " ++ call_name call ++ codes " " ++
+    encode_lower (frame_of reply) ++ codes "\n"
+bad_message component (Link call fault) =
+    codes "link " ++ escaped component ++ codes " " ++ call_name call ++ codes "\n"
 
 -- of the end of a run: none at the stop and where a component asked for it
 abbrev pub end_message : End → Option (List ℕ)
@@ -120,7 +125,8 @@ feeds_in system = count_by (λ (port : Port). is_some (source_of port.role)) sys
 -- the line of a check: how many components, ports and feeds, and how many names of parameters that reach nothing
 unfoldable pub size_text : System → ℕ → List ℕ
 size_text system unreached =
-    codes "components " ++ decimal (length system.components) ++ codes " ports " ++ decimal (length system.ports) ++ codes " feeds " ++ decimal (feeds_in system)
+    codes "components " ++ decimal (length system.components) ++ codes " ports " ++
+    decimal (length system.ports) ++ codes " feeds " ++ decimal (feeds_in system)
     ++ codes " unreached " ++ decimal unreached ++ codes "\n"
 
 -- ---- the room for a line

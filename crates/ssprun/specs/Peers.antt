@@ -20,21 +20,25 @@ abbrev pub AreStarted : List ℕ → List (List ℕ) → List Component → List
 AreStarted host folders components [] = Unit {0}
 AreStarted host folders [] (v ∷ vs) = ⊥
 AreStarted host [] (c ∷ cs) (v ∷ vs) = ⊥
-AreStarted host (folder ∷ folders) (c ∷ cs) (v ∷ vs) = IsStarted host c.name folder c.shape v × AreStarted host folders cs vs
+AreStarted host (folder ∷ folders) (c ∷ cs) (v ∷ vs) =
+    IsStarted host c.name folder c.shape v × AreStarted host folders cs vs
 
 -- the model identifier of each is known by the host
 abbrev pub AreKnown : List ℕ → SpawnerView → List Component → Type 0
-AreKnown host spawner components = All (λ (c : Component). spawner.knows host c.shape.identifier ≡ true) components
+AreKnown host spawner components =
+    All (λ (c : Component). spawner.knows host c.shape.identifier ≡ true) components
 
 -- a peer was started for each of the components
-pub record StartsEach (host : List ℕ) (folders : List (List ℕ)) (components : List Component) (peers : List View) (old new : SpawnerView) : Type 0 where
+pub record StartsEach (host : List ℕ) (folders : List (List ℕ)) (components : List Component)
+    (peers : List View) (old new : SpawnerView) : Type 0 where
   pub each : length peers ≡ length components
   pub are : AreStarted host folders components peers
   pub known : AreKnown host old components
   pub told : new ≡ with_all_started old (length peers)
 
 -- the component at this place is the first whose model identifier the host doesn't know
-pub record IsFirstUnknown (host : List ℕ) (spawner : SpawnerView) (components : List Component) (place : ℕ) (c : Component) : Type 0 where
+pub record IsFirstUnknown (host : List ℕ) (spawner : SpawnerView) (components : List Component)
+    (place : ℕ) (c : Component) : Type 0 where
   pub here : slice_get components place ≡ Some c
   pub unknown : spawner.knows host c.shape.identifier ≡ false
   pub before : AreKnown host spawner (take place components)
@@ -46,7 +50,8 @@ NotesFault host Unknown c old new = (new ≡ old) × (old.knows host c.shape.ide
 NotesFault host Memory c old new = new ≡ old
 
 -- a peer was started for each of the components before this one, and its own wasn't
-pub record StartsUpTo (host : List ℕ) (folders : List (List ℕ)) (components : List Component) (place : ℕ) (fault : StartFault) (peers : List View) (old new : SpawnerView) : Type 0 where
+pub record StartsUpTo (host : List ℕ) (folders : List (List ℕ)) (components : List Component)
+    (place : ℕ) (fault : StartFault) (peers : List View) (old new : SpawnerView) : Type 0 where
   pub component : Component
   pub here : slice_get components place ≡ Some component
   pub each : length peers ≡ place

@@ -9,7 +9,8 @@ use Rattle.ssprun.specs.declared.outcome.Outcome.TheVariants.{Memory, File}
 
 -- a file that isn't taken is told; for what it breaks memory may be wanting
 abbrev pub TellsFile : List ℕ → FileFault → Outcome → Type 0
-TellsFile path (Broken rule place ports) outcome = (outcome ≡ File path (Broken rule place ports)) ⊎ (outcome ≡ Memory)
+TellsFile path (Broken rule place ports) outcome =
+    (outcome ≡ File path (Broken rule place ports)) ⊎ (outcome ≡ Memory)
 TellsFile path Unread outcome = outcome ≡ File path Unread
 TellsFile path Missing outcome = outcome ≡ File path Missing
 TellsFile path TooBig outcome = outcome ≡ File path TooBig

@@ -95,9 +95,12 @@ pub record IsToFind (h : Happened) (line : Line) (finding : Finding) : Type 0 wh
 
 -- the files are asked for in their order, each once: to an end, or to one whose read fails, which is answered, or until memory is wanting
 pub data ReadsFiles (h : Happened) (line : Line) : Type 0 where
-  Whole : (finding : Finding) → Loads (search_for line) finding h.old.folder h.new.folder → ReadsFiles h line
-  Failing : (path : List ℕ) → FailsToRead (search_for line) path h.old.folder h.new.folder → Answers h 3 (file_message path Unread) → ReadsFiles h line
-  Wanting : ReadsSome (search_for line) h.old.folder h.new.folder → Answers h 11 memory_line → ReadsFiles h line
+  Whole : (finding : Finding) → Loads (search_for line) finding h.old.folder h.new.folder →
+      ReadsFiles h line
+  Failing : (path : List ℕ) → FailsToRead (search_for line) path h.old.folder h.new.folder →
+      Answers h 3 (file_message path Unread) → ReadsFiles h line
+  Wanting : ReadsSome (search_for line) h.old.folder h.new.folder →
+      Answers h 11 memory_line → ReadsFiles h line
 
 -- without a line no file is asked for
 pub record ReadingRow (h : Happened) : Type 0 where
@@ -124,11 +127,15 @@ IsFinished E.WriteFault = ⊥
 
 -- the run of the line's system ended so
 abbrev pub RunsTo : Happened → Line → RunEnd → Type 0
-RunsTo h line end = (it : IsOfRun h line) × HasRun (task_of it.asked it.loaded) it.loaded.system end h.old.run h.new.run
+RunsTo h line end =
+    (it : IsOfRun h line) × HasRun (task_of it.asked it.loaded) it.loaded.system end
+    h.old.run h.new.run
 
 -- the line asks for a check of what was loaded, and this holds of it
 abbrev pub OnCheck : Happened → Line → (Loaded → Scene → Scene → Type 0) → Type 0
-OnCheck h line P = (loaded : Loaded) × (run_in line ≡ None) × LoadsLine line loaded h.old.folder h.new.folder × P loaded h.old.run h.new.run
+OnCheck h line P =
+    (loaded : Loaded) × (run_in line ≡ None) × LoadsLine line loaded h.old.folder h.new.folder ×
+    P loaded h.old.run h.new.run
 
 -- 0: the run came to its end, or the size of the system was told, and err holds what it held
 pub data HasEnded (h : Happened) (line : Line) : Type 0 where
@@ -145,27 +152,36 @@ pub record WordsRow (h : Happened) : Type 0 where
 
 -- 3: `read` only where the read of that file failed and no other, `missing` and `big` exactly where the first file that isn't taken is so
 pub data LacksFile (h : Happened) (line : Line) : Type 0 where
-  IsUnread : (path : List ℕ) → FailsToRead (search_for line) path h.old.folder h.new.folder → Says h (file_message path Unread) → LacksFile h line
-  IsMissing : (path : List ℕ) → Loads (search_for line) (Fails path Absent) h.old.folder h.new.folder → Says h (file_message path Missing) → LacksFile h line
-  IsTooBig : (path : List ℕ) → Loads (search_for line) (Fails path Long) h.old.folder h.new.folder → Says h (file_message path TooBig) → LacksFile h line
+  IsUnread : (path : List ℕ) → FailsToRead (search_for line) path h.old.folder h.new.folder →
+      Says h (file_message path Unread) → LacksFile h line
+  IsMissing : (path : List ℕ) → Loads (search_for line) (Fails path Absent) h.old.folder
+      h.new.folder → Says h (file_message path Missing) → LacksFile h line
+  IsTooBig : (path : List ℕ) → Loads (search_for line) (Fails path Long) h.old.folder h.new.folder →
+      Says h (file_message path TooBig) → LacksFile h line
 
 pub record FileRow (h : Happened) : Type 0 where
   pub when : h.status ≡ 3 → OnLine h (λ line. Calm h.old.run h.new.run × LacksFile h line)
-  pub missing : (line : Line) (path : List ℕ) → IsLine h.words line → IsToFind h line (Fails path Absent) → AnswersOr11 h 3 (file_message path Missing)
-  pub big : (line : Line) (path : List ℕ) → IsLine h.words line → IsToFind h line (Fails path Long) → AnswersOr11 h 3 (file_message path TooBig)
+  pub missing : (line : Line) (path : List ℕ) → IsLine h.words line →
+      IsToFind h line (Fails path Absent) → AnswersOr11 h 3 (file_message path Missing)
+  pub big : (line : Line) (path : List ℕ) → IsLine h.words line →
+      IsToFind h line (Fails path Long) → AnswersOr11 h 3 (file_message path TooBig)
 
 -- 4: exactly where the files break a rule, the first of which is told with its file and place; of a loop the ports of one are told
 abbrev pub BreaksRule : Happened → Line → Type 0
 BreaksRule h line = (path : List ℕ) × (rule : Rule) × (place : Place) × (ports : List PortId)
-    × Loads (search_for line) (Fails path (Faulty rule place ports)) h.old.folder h.new.folder × Says h (file_message path (Broken rule place ports))
+    × Loads (search_for line) (Fails path (Faulty rule place ports)) h.old.folder h.new.folder ×
+    Says h (file_message path (Broken rule place ports))
 
 -- the status is 4, with the line of this rule, or of a loop with the ports of one
 abbrev pub TellsRule : Happened → Line → List ℕ → Rule → Place → Type 0
-TellsRule h line path rule place = (ports : List PortId) × IsToFind h line (Fails path (Faulty rule place ports)) × AnswersOr11 h 4 (file_message path (Broken rule place ports))
+TellsRule h line path rule place =
+    (ports : List PortId) × IsToFind h line (Fails path (Faulty rule place ports)) ×
+    AnswersOr11 h 4 (file_message path (Broken rule place ports))
 
 pub record RuleRow (h : Happened) : Type 0 where
   pub when : h.status ≡ 4 → OnLine h (λ line. Calm h.old.run h.new.run × BreaksRule h line)
-  pub exact : (line : Line) (path : List ℕ) (rule : Rule) (place : Place) (ports : List PortId) → IsLine h.words line →
+  pub exact : (line : Line) (path : List ℕ) (rule : Rule) (place : Place) (ports : List PortId) →
+      IsLine h.words line →
       IsToFind h line (Fails path (Faulty rule place ports)) → TellsRule h line path rule place
 
 -- the run was broken off by an answer that isn't good, of the component with this name, and with its line
@@ -189,13 +205,15 @@ pub record IsFirstBadOf (shape : Shape) (why : Why) (talk : List Exchange) : Typ
   pub run_call : IsRunCall last.call
 
 -- these peers were taken back, each tells its talk, and no put on out failed
-pub record TellPeers (h : Happened) (peers : List View) (talks : List (List Exchange)) : Type 0 where
+pub record TellPeers (h : Happened) (peers : List View)
+    (talks : List (List Exchange)) : Type 0 where
   pub retired : h.new.run.spawner.retired ≡ h.old.run.spawner.retired ++ peers
   pub talks_are : map (λ (v : View). v.talk) peers ≡ map (λ (talk : List Exchange). Some talk) talks
   pub quiet : Rose h.old.run.out.faults h.new.run.out.faults → ⊥
 
 -- of these peers the one at a place, of this name, had this first answer that isn't good, and those before it had none
-pub record IsLeastBadOf (peers : List View) (talks : List (List Exchange)) (name : List ℕ) (why : Why) : Type 0 where
+pub record IsLeastBadOf (peers : List View) (talks : List (List Exchange)) (name : List ℕ)
+    (why : Why) : Type 0 where
   pub place : ℕ
   pub peer : View
   pub talk : List Exchange
@@ -203,11 +221,15 @@ pub record IsLeastBadOf (peers : List View) (talks : List (List Exchange)) (name
   pub told : slice_get talks place ≡ Some talk
   pub named : IsSomeAnd peer.fixed.origin (λ (o : Origin). o.name ≡ name)
   pub first : IsFirstBadOf peer.fixed.shape why talk
-  pub before : (k : ℕ) (v : View) (es : List Exchange) (other : Why) → k < place → slice_get peers k ≡ Some v → slice_get talks k ≡ Some es → IsFirstBadOf v.fixed.shape other es → ⊥
+  pub before : (k : ℕ) (v : View) (es : List Exchange) (other : Why) → k < place →
+      slice_get peers k ≡ Some v → slice_get talks k ≡ Some es →
+      IsFirstBadOf v.fixed.shape other es → ⊥
 
 -- the status and the line are those of the first answer that isn't good, of the least component
 abbrev pub DecidesBy : Happened → (Why → Type 0) → Type 0
-DecidesBy h P = (peers : List View) (talks : List (List Exchange)) (name : List ℕ) (why : Why) → P why → TellPeers h peers talks → IsLeastBadOf peers talks name why →
+DecidesBy h P =
+    (peers : List View) (talks : List (List Exchange)) (name : List ℕ) (why : Why) → P why →
+    TellPeers h peers talks → IsLeastBadOf peers talks name why →
     Answers h (why_status why) (bad_message name why)
 
 abbrev pub IsRefusedWhy : Why → Type 0
@@ -222,16 +244,21 @@ IsMisreplyWhy (Link call fault) = ⊥
 
 -- 5: `link` only where the spawner's count or the peer's rose, `unknown` exactly where the spawner doesn't know the identifier of a component, the first of which is named
 pub data LosesPeer (h : Happened) (line : Line) : Type 0 where
-  NotStarted : (it : IsOfRun h line) (name : List ℕ) → FailsToStart (task_of it.asked it.loaded) it.loaded.system name Failed h.old.run h.new.run →
-      Rose h.old.run.spawner.faults h.new.run.spawner.faults → Says h (start_message name Failed) → LosesPeer h line
-  NotKnown : (it : IsOfRun h line) (name : List ℕ) → FailsToStart (task_of it.asked it.loaded) it.loaded.system name Unknown h.old.run h.new.run →
+  NotStarted : (it : IsOfRun h line) (name : List ℕ) →
+      FailsToStart (task_of it.asked it.loaded) it.loaded.system name Failed h.old.run h.new.run →
+      Rose h.old.run.spawner.faults h.new.run.spawner.faults →
+      Says h (start_message name Failed) → LosesPeer h line
+  NotKnown : (it : IsOfRun h line) (name : List ℕ) →
+      FailsToStart (task_of it.asked it.loaded) it.loaded.system name Unknown h.old.run h.new.run →
       Says h (start_message name Unknown) → LosesPeer h line
   NotAnswering : BreaksOffBy h line IsLink → LosesPeer h line
 
 pub record LinkRow (h : Happened) : Type 0 where
   pub when : h.status ≡ 5 → OnLine h (LosesPeer h)
-  pub unknown : (line : Line) (asked : RunLine) (loaded : Loaded) (place : ℕ) (c : Component) → IsLine h.words line → run_in line ≡ Some asked → IsToFind h line (Found loaded) →
-      IsFirstUnknown asked.host h.old.run.spawner loaded.system.components place c → (Rose h.old.run.spawner.faults h.new.run.spawner.faults → ⊥) →
+  pub unknown : (line : Line) (asked : RunLine) (loaded : Loaded) (place : ℕ) (c : Component) →
+      IsLine h.words line → run_in line ≡ Some asked → IsToFind h line (Found loaded) →
+      IsFirstUnknown asked.host h.old.run.spawner loaded.system.components place c →
+      (Rose h.old.run.spawner.faults h.new.run.spawner.faults → ⊥) →
       AnswersOr11 h 5 (start_message c.name Unknown)
   pub lost : DecidesBy h IsLink
 
@@ -250,7 +277,8 @@ pub record ReachesLimit (h : Happened) (line : Line) : Type 0 where
   pub it : IsOfRun h line
   pub point : ℕ
   pub says : Says h (limit_message point)
-  pub run : HasRun (task_of it.asked it.loaded) it.loaded.system (E.EventLimit point) h.old.run h.new.run
+  pub run : HasRun (task_of it.asked it.loaded) it.loaded.system (E.EventLimit point)
+      h.old.run h.new.run
 
 pub record LimitRow (h : Happened) : Type 0 where
   pub when : h.status ≡ 8 → OnLine h (ReachesLimit h)
@@ -264,15 +292,18 @@ pub record LacksSize (h : Happened) (line : Line) : Type 0 where
   pub name : List ℕ
   pub named : slice_get (names_of it.loaded.system) component.0 ≡ Some name
   pub says : Says h (fixed_message name at end)
-  pub run : HasRun (task_of it.asked it.loaded) it.loaded.system (E.FixedStep component at end) h.old.run h.new.run
+  pub run : HasRun (task_of it.asked it.loaded) it.loaded.system (E.FixedStep component at end)
+      h.old.run h.new.run
 
 pub record FixedRow (h : Happened) : Type 0 where
   pub when : h.status ≡ 9 → OnLine h (LacksSize h)
 
 -- 10: only where a sink's count rose, and always where one is higher than before
 pub record WriteRow (h : Happened) : Type 0 where
-  pub when : h.status ≡ 10 → (Says h (codes "write\n") × Rose h.old.run.out.faults h.new.run.out.faults) ⊎ ((text : List ℕ) × IsMute h text)
-  pub higher : (h.old.run.out.faults < h.new.run.out.faults) ⊎ (h.err.faults < h.err_after.faults) → h.status ≡ 10
+  pub when : h.status ≡ 10 → (Says h (codes "write\n") ×
+      Rose h.old.run.out.faults h.new.run.out.faults) ⊎ ((text : List ℕ) × IsMute h text)
+  pub higher : (h.old.run.out.faults < h.new.run.out.faults) ⊎
+      (h.err.faults < h.err_after.faults) → h.status ≡ 10
 
 -- each peer that was started was taken back, and none of them was called
 pub record IsUncalled (h : Happened) : Type 0 where
@@ -288,7 +319,8 @@ pub record IsIdle (h : Happened) : Type 0 where
 
 -- 11: no read and no start failed, no peer was called, and nothing was put
 pub record MemoryRow (h : Happened) : Type 0 where
-  pub when : h.status ≡ 11 → IsIdle h × (h.new.run.spawner.faults ≡ h.old.run.spawner.faults) × (h.new.folder.failed ≡ h.old.folder.failed) × Says h memory_line
+  pub when : h.status ≡ 11 → IsIdle h × (h.new.run.spawner.faults ≡ h.old.run.spawner.faults) ×
+      (h.new.folder.failed ≡ h.old.folder.failed) × Says h memory_line
 
 -- the statuses that can come
 abbrev pub IsStatus : ℕ → Type 0
@@ -307,15 +339,20 @@ ReportsEnd h r Stop point = (h.status ≡ 0) × IsSilent h
 ReportsEnd h r Asked point = (h.status ≡ 0) × IsSilent h
 ReportsEnd h r Limit point = (h.status ≡ 8) × Says h (limit_message point)
 ReportsEnd h r Fixed point = (h.status ≡ 9) × (place : ℕ) × (name : List ℕ) × (bound : ℕ)
-    × (slice_get (names_of r.system) place ≡ Some name) × LacksStepAt r place point bound × Says h (fixed_message name point bound)
+    × (slice_get (names_of r.system) place ≡ Some name) × LacksStepAt r place point bound ×
+    Says h (fixed_message name point bound)
 ReportsEnd h r Fault point = ⊥
 
 -- out has the text of the one trace, one piece a put, and the status is that of its end; or the put of one of its pieces failed, out has those before it and a front of that, and the status is 10
 pub data WritesTrace (h : Happened) (r : Run) : Type 0 where
-  Whole : (is : List Instant) (kind : EndKind) (point : ℕ) → IsTrace r is kind point → ReportsEnd h r kind point →
-      h.new.run.out ≡ with_pieces h.old.run.out (trace_pieces r.system r.plan is kind point) → WritesTrace h r
-  Front : (is : List Instant) (kind : EndKind) (point : ℕ) (pieces : List (List ℕ)) (piece : List ℕ) (rest : List (List ℕ)) → IsTrace r is kind point → h.status ≡ 10 →
-      trace_pieces r.system r.plan is kind point ≡ pieces ++ piece ∷ rest → CutsPiece (with_pieces h.old.run.out pieces) piece h.new.run.out → WritesTrace h r
+  Whole : (is : List Instant) (kind : EndKind) (point : ℕ) → IsTrace r is kind point →
+      ReportsEnd h r kind point →
+      h.new.run.out ≡ with_pieces h.old.run.out (trace_pieces r.system r.plan is kind point) →
+      WritesTrace h r
+  Front : (is : List Instant) (kind : EndKind) (point : ℕ) (pieces : List (List ℕ)) (piece : List ℕ)
+      (rest : List (List ℕ)) → IsTrace r is kind point → h.status ≡ 10 →
+      trace_pieces r.system r.plan is kind point ≡ pieces ++ piece ∷ rest →
+      CutsPiece (with_pieces h.old.run.out pieces) piece h.new.run.out → WritesTrace h r
 
 -- the peers that were started, which keep their machines, and the trace where they tell machines that behave well and no call of them failed
 pub record Traces (h : Happened) (task : Task) (system : System) : Type 0 where
@@ -324,10 +361,12 @@ pub record Traces (h : Happened) (task : Task) (system : System) : Type 0 where
   pub peers : RunsPeers task system olds news h.old.run.spawner h.new.run.spawner
   pub same : map (λ (v : View). v.fixed) news ≡ map (λ (v : View). v.fixed) olds
   pub sound : IsSound system
-  pub writes : (r : Run) → IsRunOf system task.bound olds r → r.plan ≡ task.plan → WellBehaved r → All (λ (v : View). v.faults ≡ 0) news → WritesTrace h r
+  pub writes : (r : Run) → IsRunOf system task.bound olds r → r.plan ≡ task.plan → WellBehaved r →
+      All (λ (v : View). v.faults ≡ 0) news → WritesTrace h r
 
 -- what is run is a system with the same components and ports, by the same host, in the same folders, with the same values of parameters
-pub record IsRunAs (loaded : Loaded) (asked : RunLine) (task : Task) (system : System) : Type 0 where
+pub record IsRunAs (loaded : Loaded) (asked : RunLine) (task : Task)
+    (system : System) : Type 0 where
   pub plan_is : task.plan ≡ asked.plan
   pub host_is : task.host ≡ asked.host
   pub bound_is : task.bound ≡ loaded.bound
@@ -343,9 +382,11 @@ pub record TracesLoaded (h : Happened) (asked : RunLine) (loaded : Loaded) : Typ
 
 -- the trace: where the files say a system, the identifiers are known, and no read, start or put on err failed, or for want of memory nothing
 pub record TraceRow (h : Happened) : Type 0 where
-  pub when : (line : Line) (asked : RunLine) (loaded : Loaded) → IsLine h.words line → run_in line ≡ Some asked → IsToFind h line (Found loaded) →
+  pub when : (line : Line) (asked : RunLine) (loaded : Loaded) → IsLine h.words line →
+      run_in line ≡ Some asked → IsToFind h line (Found loaded) →
       AreKnown asked.host h.old.run.spawner loaded.system.components →
-      (Rose h.old.run.spawner.faults h.new.run.spawner.faults → ⊥) → (Rose h.err.faults h.err_after.faults → ⊥) →
+      (Rose h.old.run.spawner.faults h.new.run.spawner.faults → ⊥) →
+      (Rose h.err.faults h.err_after.faults → ⊥) →
       ((h.status ≡ 11) × IsIdle h) ⊎ TracesLoaded h asked loaded
 
 -- ---- a check
@@ -357,7 +398,8 @@ pub data WritesSize (h : Happened) (loaded : Loaded) : Type 0 where
 
 -- the size: where the files say a system, and no read or put on err failed, or for want of memory nothing
 pub record CheckRow (h : Happened) : Type 0 where
-  pub when : (line : Line) (loaded : Loaded) → IsLine h.words line → run_in line ≡ None → IsToFind h line (Found loaded) → (Rose h.err.faults h.err_after.faults → ⊥) →
+  pub when : (line : Line) (loaded : Loaded) → IsLine h.words line → run_in line ≡ None →
+      IsToFind h line (Found loaded) → (Rose h.err.faults h.err_after.faults → ⊥) →
       ((h.status ≡ 11) × IsIdle h) ⊎ WritesSize h loaded
 
 -- ---- built-in machines
@@ -369,13 +411,16 @@ pub record IsOverBuiltIns (h : Happened) : Type 0 where
 
 -- each of them that is of a component's shape can tell what it is asked of the Clocks there, with the values that the component's parameters are bound to: of a sampler its interval is at least one count and its shift whole, of every other no Clock is a fixed one with supportsFraction
 abbrev pub TellTimings : {h : Happened} → IsOverBuiltIns h → Loaded → Type 0
-TellTimings b loaded = (i : ℕ) (c : Component) (peer : BuiltIn) → slice_get loaded.system.components i ≡ Some c → Contains b.peers peer → (built_in_view peer).fixed.shape ≡ c.shape →
+TellTimings b loaded =
+    (i : ℕ) (c : Component) (peer : BuiltIn) → slice_get loaded.system.components i ≡ Some c →
+    Contains b.peers peer → (built_in_view peer).fixed.shape ≡ c.shape →
     TellsTimings peer.model c.shape (slice_index_or loaded.bound.components i [])
 
 -- each component has a built-in machine
 pub record HasBuiltIns (r : Run) : Type 0 where
   pub count : length r.machines ≡ length r.system.components
-  pub each : (i : ℕ) (c : Component) (m : Machine) → slice_get r.system.components i ≡ Some c → slice_get r.machines i ≡ Some m → IsBuiltIn c.shape m
+  pub each : (i : ℕ) (c : Component) (m : Machine) → slice_get r.system.components i ≡ Some c →
+      slice_get r.machines i ≡ Some m → IsBuiltIn c.shape m
 
 -- the trace of the system's built-in machines
 pub record TracesBuiltIns (h : Happened) (plan : Plan) (loaded : Loaded) : Type 0 where
@@ -390,15 +435,20 @@ pub record TracesBuiltIns (h : Happened) (plan : Plan) (loaded : Loaded) : Type 
 
 -- the same trace over built-in machines, of which no premise says that they behave well but for what they are asked of Clocks
 pub record BuiltInRow (h : Happened) : Type 0 where
-  pub when : (b : IsOverBuiltIns h) (line : Line) (asked : RunLine) (loaded : Loaded) → IsLine h.words line → run_in line ≡ Some asked → IsToFind h line (Found loaded) → TellTimings b loaded →
+  pub when : (b : IsOverBuiltIns h) (line : Line) (asked : RunLine) (loaded : Loaded) →
+      IsLine h.words line → run_in line ≡ Some asked → IsToFind h line (Found loaded) →
+      TellTimings b loaded →
       AreKnown asked.host h.old.run.spawner loaded.system.components →
-      (Rose h.old.run.spawner.faults h.new.run.spawner.faults → ⊥) → (Rose h.err.faults h.err_after.faults → ⊥) → All (λ (v : View). v.faults ≡ 0) h.new.run.spawner.retired →
+      (Rose h.old.run.spawner.faults h.new.run.spawner.faults → ⊥) →
+      (Rose h.err.faults h.err_after.faults → ⊥) →
+      All (λ (v : View). v.faults ≡ 0) h.new.run.spawner.retired →
       ((h.status ≡ 11) × IsIdle h) ⊎ TracesBuiltIns h asked.plan loaded
 
 -- each peer that was started was taken back once: uncalled, or behind a run in which its talk is legal, lean and closed, and puts and ends are those of the run; a check starts none, and puts the size
 pub data PeerRow (h : Happened) : Type 0 where
   Idle : IsIdle h → PeerRow h
-  Checked : (line : Line) → IsLine h.words line → OnCheck h line TellsSize ⊎ OnCheck h line FailsToTell → PeerRow h
+  Checked : (line : Line) → IsLine h.words line → OnCheck h line TellsSize ⊎
+      OnCheck h line FailsToTell → PeerRow h
   Ran : (line : Line) → IsLine h.words line → (end : RunEnd) → RunsTo h line end → PeerRow h
 
 -- ---- all of it

@@ -67,7 +67,8 @@ NotesUnstarted host Failed c old new = new ≡ with_failure old
 NotesUnstarted host Unknown c old new = (new ≡ old) × (old.knows host c.shape.identifier ≡ false)
 
 -- the peer of the component of this name wasn't started; those before it were, and were taken back without a call
-pub record FailsToStart (task : Task) (system : System) (name : List ℕ) (fault : StartCause) (old new : Scene) : Type 0 where
+pub record FailsToStart (task : Task) (system : System) (name : List ℕ) (fault : StartCause)
+    (old new : Scene) : Type 0 where
   pub place : ℕ
   pub component : Component
   pub here : slice_get system.components place ≡ Some component
@@ -84,7 +85,8 @@ pub record FailsToStart (task : Task) (system : System) (name : List ℕ) (fault
 -- ---- a run
 
 -- a peer was started for each component, and taken back at the end
-pub record RunsPeers (task : Task) (system : System) (olds news : List View) (old new : SpawnerView) : Type 0 where
+pub record RunsPeers (task : Task) (system : System) (olds news : List View)
+    (old new : SpawnerView) : Type 0 where
   pub known : AreKnown task.host old system.components
   pub each : length olds ≡ length system.components
   pub are : AreStarted task.host task.folders system.components olds
@@ -103,8 +105,10 @@ pub record Goes (task : Task) (system : System) (end : RunEnd) (old new : Scene)
   pub sound : IsSound system
   pub lived : Lived account
   pub over : AreOver lived.lives
-  pub so_far : (r : Run) → IsRunOf system task.bound account.olds r → r.plan ≡ task.plan → PutsRun account r end
-  pub well : (r : Run) → IsRunOf system task.bound account.olds r → r.plan ≡ task.plan → WellBehaved r → TracesWell account r end
+  pub so_far : (r : Run) → IsRunOf system task.bound account.olds r → r.plan ≡ task.plan →
+      PutsRun account r end
+  pub well : (r : Run) → IsRunOf system task.bound account.olds r → r.plan ≡ task.plan →
+      WellBehaved r → TracesWell account r end
 
 -- the answer to an Instantiate isn't good, and nothing was put; each peer that isn't spared is over
 pub record Fails (task : Task) (system : System) (bad : BadAnswer) (old new : Scene) : Type 0 where
@@ -114,13 +118,15 @@ pub record Fails (task : Task) (system : System) (bad : BadAnswer) (old new : Sc
   pub sound : IsSound system
   pub unmade : Unmade system olds bad news
   pub over : AreOver unmade.lives
-  pub well : (r : Run) → IsRunOf system task.bound olds r → WellBehaved r → IsLink bad.why × SomeRose olds news
+  pub well : (r : Run) → IsRunOf system task.bound olds r → WellBehaved r →
+      IsLink bad.why × SomeRose olds news
   pub out : new.out ≡ old.out
 
 -- a run with this end
 pub data HasRun (task : Task) (system : System) (end : RunEnd) (old new : Scene) : Type 0 where
   Went : Goes task system end old new → HasRun task system end old new
-  Broke : (bad : BadAnswer) → end ≡ E.Bad bad → Fails task system bad old new → HasRun task system end old new
+  Broke : (bad : BadAnswer) → end ≡ E.Bad bad → Fails task system bad old new →
+      HasRun task system end old new
 
 -- ---- its end
 
@@ -138,6 +144,8 @@ abbrev pub IsEndOf : List (List ℕ) → RunEnd → End → Type 0
 IsEndOf names E.Stop e = e ≡ O.Stop
 IsEndOf names (E.Asked point) e = e ≡ O.Asked
 IsEndOf names (E.EventLimit point) e = e ≡ O.EventLimit point
-IsEndOf names (E.FixedStep component at end) e = (name : List ℕ) × (slice_get names component.0 ≡ Some name) × (e ≡ O.FixedStep name at end)
-IsEndOf names (E.Bad bad) e = (name : List ℕ) × (slice_get names bad.component.0 ≡ Some name) × (e ≡ O.Bad name bad.why)
+IsEndOf names (E.FixedStep component at end) e =
+    (name : List ℕ) × (slice_get names component.0 ≡ Some name) × (e ≡ O.FixedStep name at end)
+IsEndOf names (E.Bad bad) e =
+    (name : List ℕ) × (slice_get names bad.component.0 ≡ Some name) × (e ≡ O.Bad name bad.why)
 IsEndOf names E.WriteFault e = e ≡ O.WriteFault

@@ -29,8 +29,10 @@ verdict_status (No line rule) = 1
 -- its line was put on out in one piece, and err holds what it held; or that put failed, and the status is 10
 abbrev pub TellsVerdict : Happened → Verdict → Type 0
 TellsVerdict h verdict =
-    ((h.status ≡ verdict_status verdict) × (h.new.run.out ≡ with_piece h.old.run.out (verdict_text verdict)) × IsSilent h)
-    ⊎ (CutsShort (verdict_text verdict) h.old.run.out h.new.run.out × Answers h 10 (codes "write\n"))
+    ((h.status ≡ verdict_status verdict) ×
+    (h.new.run.out ≡ with_piece h.old.run.out (verdict_text verdict)) × IsSilent h)
+    ⊎ (CutsShort (verdict_text verdict) h.old.run.out h.new.run.out ×
+    Answers h 10 (codes "write\n"))
 
 -- ---- no verdict
 
@@ -45,7 +47,8 @@ fault_of (Faulty rule place ports) = Broken rule place ports
 
 -- a file that isn't taken is told: 3 where it is missing or too big, 4 where it breaks a rule; or memory is wanting
 abbrev pub TellsFlaw : Happened → List ℕ → Flaw → Type 0
-TellsFlaw h path flaw = IsUntold h × AnswersOr11 h (file_status (fault_of flaw)) (file_message path (fault_of flaw))
+TellsFlaw h path flaw =
+    IsUntold h × AnswersOr11 h (file_status (fault_of flaw)) (file_message path (fault_of flaw))
 
 -- ---- the whole
 
@@ -55,9 +58,12 @@ Tells h (Gives verdict) = TellsVerdict h verdict
 
 -- what it comes to is told; or the read of a file failed, or memory is wanting
 pub data EndsCheck (h : Happened) (line : TraceLine) : Type 0 where
-  Judges : (j : Judgement) → Judged (question_of line) j h.old.folder h.new.folder → Tells h j → EndsCheck h line
-  FailsToRead : (path : List ℕ) → FailsReading (question_of line) path h.old.folder h.new.folder → IsUntold h → Answers h 3 (file_message path Unread) → EndsCheck h line
-  Wanting : ReadsFew (question_of line) h.old.folder h.new.folder → IsUntold h → Answers h 11 memory_line → EndsCheck h line
+  Judges : (j : Judgement) → Judged (question_of line) j h.old.folder h.new.folder →
+      Tells h j → EndsCheck h line
+  FailsToRead : (path : List ℕ) → FailsReading (question_of line) path h.old.folder h.new.folder →
+      IsUntold h → Answers h 3 (file_message path Unread) → EndsCheck h line
+  Wanting : ReadsFew (question_of line) h.old.folder h.new.folder → IsUntold h →
+      Answers h 11 memory_line → EndsCheck h line
 
 -- no peer is started
 pub record ChecksTrace (h : Happened) (line : TraceLine) : Type 0 where

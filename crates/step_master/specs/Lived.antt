@@ -44,7 +44,8 @@ pub record Lived (a : Account) : Type 0 where
   pub machines : TellTheirs a.system a.olds
 
 -- the answer to an Instantiate wasn't good, and all were closed
-pub record Unmade (system : System) (olds : List View) (bad : BadAnswer) (news : List View) : Type 0 where
+pub record Unmade (system : System) (olds : List View) (bad : BadAnswer)
+    (news : List View) : Type 0 where
   pub log : List Sent
   pub lives : List Life
   pub stops : StopsAt (shapes_of system) (making system) bad log
@@ -55,13 +56,20 @@ pub record Unmade (system : System) (olds : List View) (bad : BadAnswer) (news :
 
 -- a system that was prepared, run and closed
 abbrev pub RunIsLived : Type 0
-RunIsLived = (a : Account) (ready done : Standing) → IsSound a.system → BindsParameters a.system a.bound → CountsBy a.system a.plan → ArePeersOf a.system a.olds →
-    Prepares a.system a.bound a.plan a.olds ready → Runs ready done a.before a.after a.end → Closes done.instances a.news → a.instants ≡ done.instants → Lived a
+RunIsLived =
+    (a : Account) (ready done : Standing) → IsSound a.system → BindsParameters a.system a.bound →
+    CountsBy a.system a.plan → ArePeersOf a.system a.olds →
+    Prepares a.system a.bound a.plan a.olds ready → Runs ready done a.before a.after a.end →
+    Closes done.instances a.news → a.instants ≡ done.instants → Lived a
 
 -- a system that couldn't be prepared
 abbrev pub UnmadeIsClosed : Type 0
-UnmadeIsClosed = (system : System) (olds news : List View) (bad : BadAnswer) → IsSound system → ArePeersOf system olds → IsUnmade system olds bad news → Unmade system olds bad news
+UnmadeIsClosed =
+    (system : System) (olds news : List View) (bad : BadAnswer) → IsSound system →
+    ArePeersOf system olds → IsUnmade system olds bad news → Unmade system olds bad news
 
 -- of a system's peers each that isn't spared is over
 abbrev pub LivesAreOver : Type 0
-LivesAreOver = (system : System) (olds news : List View) (log : List Sent) (lives : List Life) → AreLives system olds news log lives → AreOver lives
+LivesAreOver =
+    (system : System) (olds news : List View) (log : List Sent) (lives : List Life) →
+    AreLives system olds news log lives → AreOver lives

@@ -64,7 +64,8 @@ pub record IsLife (life : Life) : Type 0 where
   pub phase : life.new.phase ≡ T.phase_after (shape_in life) (talk_in life)
   pub talk : IfSome life.new.talk (λ es. es ≡ talk_in life)
   pub counts : Counts life.old.faults life.new.faults (talk_in life)
-  pub replies : (m : Machine) (s : MachineState) → life.old.fixed.machine ≡ Some m → life.old.state ≡ Some s → RepliesBy m s (talk_in life)
+  pub replies : (m : Machine) (s : MachineState) → life.old.fixed.machine ≡ Some m →
+      life.old.state ≡ Some s → RepliesBy m s (talk_in life)
 
 -- how its closing leaves a peer: it was never asked, its instance is gone or lost, or it keeps a state that Free was answered Discard for
 pub data IsOver (life : Life) : Type 0 where
@@ -77,33 +78,42 @@ pub data IsOver (life : Life) : Type 0 where
 
 -- one of these, of the source, had a call of its run that was refused with Fatal
 abbrev pub any_fatal_run : ℕ → List Life → Bool
-any_fatal_run source lives = list_any (λ (l : Life). any_fatal (shape_in l) l.run && l.source == source) lives
+any_fatal_run source lives =
+    list_any (λ (l : Life). any_fatal (shape_in l) l.run && l.source == source) lives
 
 -- likewise one of its closing
 abbrev pub any_fatal_closing : ℕ → List Life → Bool
-any_fatal_closing source lives = list_any (λ (l : Life). any_fatal (shape_in l) l.closing && l.source == source) lives
+any_fatal_closing source lives =
+    list_any (λ (l : Life). any_fatal (shape_in l) l.closing && l.source == source) lives
 
 -- the peer at this place is spared: one of its source had a Fatal in a run, or one before it in the closing
 abbrev pub is_spared : List Life → ℕ → Life → Bool
-is_spared lives place life = any_fatal_run life.source lives || any_fatal_closing life.source (take place lives)
+is_spared lives place life =
+    any_fatal_run life.source lives || any_fatal_closing life.source (take place lives)
 
 abbrev pub member_in : Life → Member
-member_in life = record { source = life.source; shape = shape_in life; run = life.run; closing = life.closing }
+member_in life =
+    record { source = life.source; shape = shape_in life; run = life.run; closing = life.closing }
 
 -- the lives of a system's peers, in the order of the components: each has its part of the log, those behind a Fatal of their source have no closing, and each other is closed; no Update follows another at one point that wasn't asked for
-pub record AreLives (system : System) (olds news : List View) (log : List Sent) (lives : List Life) : Type 0 where
+pub record AreLives (system : System) (olds news : List View) (log : List Sent)
+    (lives : List Life) : Type 0 where
   pub olds_are : map (λ (l : Life). l.old) lives ≡ olds
   pub news_are : map (λ (l : Life). l.new) lives ≡ news
-  pub sources_are : map (λ (l : Life). l.source) lives ≡ map (λ (c : Component). c.source.0) system.components
+  pub sources_are : map (λ (l : Life). l.source) lives ≡
+      map (λ (c : Component). c.source.0) system.components
   pub runs_are : (k : ℕ) (life : Life) → slice_get lives k ≡ Some life → life.run ≡ part k log
   pub each : All IsLife lives
   pub siblings : Siblings (map member_in lives)
   pub updates : AreUpdatesNeeded (map (λ (l : Life). l.run) lives)
-  pub closed : (k : ℕ) (life : Life) → slice_get lives k ≡ Some life → is_spared lives k life ≡ false → T.Closed (shape_in life) (talk_in life)
+  pub closed : (k : ℕ) (life : Life) → slice_get lives k ≡ Some life →
+      is_spared lives k life ≡ false → T.Closed (shape_in life) (talk_in life)
 
 -- each of them is over, or spared
 abbrev pub AreOver : List Life → Type 0
-AreOver lives = (k : ℕ) (life : Life) → slice_get lives k ≡ Some life → is_spared lives k life ≡ false → IsOver life
+AreOver lives =
+    (k : ℕ) (life : Life) → slice_get lives k ≡ Some life →
+    is_spared lives k life ≡ false → IsOver life
 
 -- ---- how they end
 

@@ -42,7 +42,8 @@ abbrev pub making : System → List Asking
 making system = to_each instantiate_of (shapes_of system)
 
 -- each instance was made, and nothing else was sent; what the peers tell are machines of their shapes
-pub record Prepares (system : System) (bound : Bound) (plan : Plan) (views : List View) (new : Standing) : Type 0 where
+pub record Prepares (system : System) (bound : Bound) (plan : Plan) (views : List View)
+    (new : Standing) : Type 0 where
   pub log : List Sent
   pub told : Told log (seated system.components views) new.instances
   pub answered : IsAnswered (shapes_of system) (making system) log
@@ -54,7 +55,8 @@ pub record Prepares (system : System) (bound : Bound) (plan : Plan) (views : Lis
   pub machines : TellTheirs system views
 
 -- the answer to an Instantiate isn't good: no further was sent, and all were closed
-pub record IsUnmade (system : System) (views : List View) (bad : BadAnswer) (news : List View) : Type 0 where
+pub record IsUnmade (system : System) (views : List View) (bad : BadAnswer)
+    (news : List View) : Type 0 where
   pub log : List Sent
   pub mids : List Instance
   pub told : Told log (seated system.components views) mids

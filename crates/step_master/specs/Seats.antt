@@ -13,7 +13,8 @@ pub record IsFresh (v : View) : Type 0 where
 
 -- the instance of a peer before its first call, of its component's source
 abbrev pub seat : Component → View → Instance
-seat c v = record { source = c.source.0; view = v; has_saved = false; is_fatal = false; is_closed = false }
+seat c v =
+    record { source = c.source.0; view = v; has_saved = false; is_fatal = false; is_closed = false }
 
 abbrev pub seated : List Component → List View → List Instance
 seated (c ∷ cs) (v ∷ vs) = seat c v ∷ seated cs vs

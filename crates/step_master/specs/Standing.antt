@@ -29,5 +29,6 @@ pub record IsReady {L : Type 0} {g : _} (view : L → View) (m : Master L g) : T
   pub plan : IsPlan m.plan
   pub slots : AreSlots view m.system m.seats.slots.items
   pub counts : CountsBy m.system m.plan
-  pub room : HasRoom m.system m.plan m.room.reads m.room.schedule m.room.values.items m.room.text.items
+  pub room : HasRoom m.system m.plan m.room.reads m.room.schedule
+      m.room.values.items m.room.text.items
   pub made : AreMade view m.seats.slots.items m.instants

@@ -17,8 +17,12 @@ pub record IsNew (shape : Shape) (v : View) : Type 0 where
 -- a new peer for each component, in their order
 pub record ArePeersOf (system : System) (views : List View) : Type 0 where
   pub len : length views ≡ length system.components
-  pub each : (i : ℕ) (c : Component) (v : View) → slice_get system.components i ≡ Some c → slice_get views i ≡ Some v → IsNew c.shape v
+  pub each : (i : ℕ) (c : Component) (v : View) → slice_get system.components i ≡ Some c →
+      slice_get views i ≡ Some v → IsNew c.shape v
 
 -- a machine that a peer tells is one of its component's shape, and its outputs keep to the dependencies that they declare
 abbrev pub TellTheirs : System → List View → Type 0
-TellTheirs system views = (i : ℕ) (c : Component) (v : View) (m : Machine) → slice_get system.components i ≡ Some c → slice_get views i ≡ Some v → v.fixed.machine ≡ Some m → IsMachineOf c.shape m × IsLawful c.shape m
+TellTheirs system views =
+    (i : ℕ) (c : Component) (v : View) (m : Machine) → slice_get system.components i ≡ Some c →
+    slice_get views i ≡ Some v → v.fixed.machine ≡ Some m →
+    IsMachineOf c.shape m × IsLawful c.shape m

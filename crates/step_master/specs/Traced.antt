@@ -32,7 +32,8 @@ use Rattle.calling_sequence.specs.Systems.{IsBuilt}
 -- each peer tells a machine, in its first state
 pub record TellMachines (views : List View) (machines : List Machine) : Type 0 where
   pub count : length machines ≡ length views
-  pub each : (i : ℕ) (v : View) (m : Machine) → slice_get views i ≡ Some v → slice_get machines i ≡ Some m → (v.fixed.machine ≡ Some m) × (v.state ≡ Some m.first)
+  pub each : (i : ℕ) (v : View) (m : Machine) → slice_get views i ≡ Some v →
+      slice_get machines i ≡ Some m → (v.fixed.machine ≡ Some m) × (v.state ≡ Some m.first)
 
 -- a run of the system with these values of its parameters and these machines
 pub record IsRunOf (system : System) (bound : Bound) (views : List View) (r : Run) : Type 0 where
@@ -44,14 +45,19 @@ pub record IsRunOf (system : System) (bound : Bound) (views : List View) (r : Ru
 
 -- the run comes to this situation behind these instants
 pub data CameTo (r : Run) : Situation → List Instant → Type 0 where
-  AtFirst : (s : Situation) (is : List Instant) (initial : List (Option ℤ)) → SolvesInitially r initial → s ≡ beginning r initial → is ≡ [] → CameTo r s is
-  Onward : (s : Situation) (is : List Instant) (before : Situation) (values : List (Option ℤ)) (earlier : List Instant) →
-      CameTo r before earlier → Solves r before values → Leads r before values (GoesOn s) → is ≡ earlier ++ instant_of before values ∷ [] → CameTo r s is
+  AtFirst : (s : Situation) (is : List Instant) (initial : List (Option ℤ)) →
+      SolvesInitially r initial → s ≡ beginning r initial → is ≡ [] → CameTo r s is
+  Onward : (s : Situation) (is : List Instant) (before : Situation) (values : List (Option ℤ))
+      (earlier : List Instant) →
+      CameTo r before earlier → Solves r before values → Leads r before values (GoesOn s) →
+      is ≡ earlier ++ instant_of before values ∷ [] → CameTo r s is
 
 -- the run begins with these instants, whatever is behind the last
 pub data IsFront (r : Run) (is : List Instant) : Type 0 where
   Before : (s : Situation) → CameTo r s is → IsFront r is
-  Behind : (s : Situation) (values : List (Option ℤ)) (earlier : List Instant) → CameTo r s earlier → Solves r s values → is ≡ earlier ++ instant_of s values ∷ [] → IsFront r is
+  Behind : (s : Situation) (values : List (Option ℤ)) (earlier : List Instant) →
+      CameTo r s earlier → Solves r s values →
+      is ≡ earlier ++ instant_of s values ∷ [] → IsFront r is
 
 -- ---- what was put
 
@@ -75,7 +81,9 @@ pub record PutsBroken (a : Account) (r : Run) : Type 0 where
 
 -- a piece behind the text of these instants: the next instant of the run, or an end line
 abbrev pub IsNextPiece : Run → List Instant → List ℕ → Type 0
-IsNextPiece r is piece = ((i : Instant) × IsFront r (is ++ i ∷ []) × (piece ≡ text_of i)) ⊎ ((kind : EndKind) × (point : ℕ) × (piece ≡ end_text kind point))
+IsNextPiece r is piece =
+    ((i : Instant) × IsFront r (is ++ i ∷ []) × (piece ≡ text_of i)) ⊎
+    ((kind : EndKind) × (point : ℕ) × (piece ≡ end_text kind point))
 
 -- the header's put failed, or that of a piece behind the text of the run so far
 pub record CutsFront (a : Account) (r : Run) : Type 0 where
@@ -83,7 +91,8 @@ pub record CutsFront (a : Account) (r : Run) : Type 0 where
   pub front : IsFront r is
   pub counted : a.instants ≡ length is
   pub cut : CutsPiece a.before (header_of a.system a.plan) a.after
-      ⊎ ((piece : List ℕ) × IsNextPiece r is piece × CutsPiece (with_pieces a.before (pieces_of a.system a.plan is)) piece a.after)
+      ⊎ ((piece : List ℕ) × IsNextPiece r is piece ×
+      CutsPiece (with_pieces a.before (pieces_of a.system a.plan is)) piece a.after)
 
 -- the run stands at a point that is done, and the component, the least of those, can't take the step that would go from it to the end
 pub record LacksStepAt (r : Run) (component at end : ℕ) : Type 0 where
@@ -97,7 +106,8 @@ abbrev pub PutsRun : Account → Run → RunEnd → Type 0
 PutsRun a r E.Stop = PutsTrace a r K.Stop a.plan.stop
 PutsRun a r (E.Asked point) = PutsTrace a r K.Asked point
 PutsRun a r (E.EventLimit point) = PutsTrace a r K.Limit point
-PutsRun a r (E.FixedStep component at end) = PutsTrace a r K.Fixed at × LacksStepAt r component.0 at end
+PutsRun a r (E.FixedStep component at end) =
+    PutsTrace a r K.Fixed at × LacksStepAt r component.0 at end
 PutsRun a r (E.Bad bad) = PutsBroken a r
 PutsRun a r E.WriteFault = CutsFront a r
 
@@ -129,7 +139,8 @@ abbrev pub TracesWell : Account → Run → RunEnd → Type 0
 TracesWell a r E.Stop = PutsTrace a r K.Stop a.plan.stop
 TracesWell a r (E.Asked point) = PutsTrace a r K.Asked point
 TracesWell a r (E.EventLimit point) = PutsTrace a r K.Limit point
-TracesWell a r (E.FixedStep component at end) = PutsTrace a r K.Fixed at × LacksStepAt r component.0 at end
+TracesWell a r (E.FixedStep component at end) =
+    PutsTrace a r K.Fixed at × LacksStepAt r component.0 at end
 TracesWell a r (E.Bad bad) = IsLink bad.why × SomeRose a.olds a.news
 TracesWell a r E.WriteFault = SomeRose a.olds a.news ⊎ CutsTrace a r
 
@@ -137,12 +148,20 @@ TracesWell a r E.WriteFault = SomeRose a.olds a.news ⊎ CutsTrace a r
 
 -- the instants that were put are those of the run of told machines
 abbrev pub ToldRun : Type 0
-ToldRun = (a : Account) (r : Run) → IsSound a.system → IsBuilt a.system → IsPlan a.plan → IsRunOf a.system a.bound a.olds r → r.plan ≡ a.plan → Lived a → PutsRun a r a.end
+ToldRun =
+    (a : Account) (r : Run) → IsSound a.system → IsBuilt a.system → IsPlan a.plan →
+    IsRunOf a.system a.bound a.olds r → r.plan ≡ a.plan → Lived a → PutsRun a r a.end
 
 -- of told machines that behave well the text of their trace is put
 abbrev pub ToldTrace : Type 0
-ToldTrace = (a : Account) (r : Run) → IsSound a.system → IsBuilt a.system → BindsParameters a.system a.bound → IsPlan a.plan → IsRunOf a.system a.bound a.olds r → r.plan ≡ a.plan → WellBehaved r → Lived a → TracesWell a r a.end
+ToldTrace =
+    (a : Account) (r : Run) → IsSound a.system → IsBuilt a.system →
+    BindsParameters a.system a.bound → IsPlan a.plan → IsRunOf a.system a.bound a.olds r →
+    r.plan ≡ a.plan → WellBehaved r → Lived a → TracesWell a r a.end
 
 -- and their system is prepared, but for a call that failed
 abbrev pub ToldUnmade : Type 0
-ToldUnmade = (system : System) (bound : Bound) (olds news : List View) (bad : BadAnswer) (r : Run) → IsSound system → IsRunOf system bound olds r → WellBehaved r → Unmade system olds bad news → IsLink bad.why × SomeRose olds news
+ToldUnmade =
+    (system : System) (bound : Bound) (olds news : List View) (bad : BadAnswer) (r : Run) →
+    IsSound system → IsRunOf system bound olds r → WellBehaved r → Unmade system olds bad news →
+    IsLink bad.why × SomeRose olds news

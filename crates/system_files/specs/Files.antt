@@ -48,12 +48,15 @@ pub data Flaw : Type 0 where
 abbrev pub HasFlaw : (List ℕ → Rule → Place → Type 0) → Flaw → Option (List ℕ) → Type 0
 HasFlaw Breaks Absent file = file ≡ None
 HasFlaw Breaks Long file = IsTooBig file
-HasFlaw Breaks (Faulty rule place ports) file = (ports ≡ []) × IsFile (λ bytes. Breaks bytes rule place) file
+HasFlaw Breaks (Faulty rule place ports) file =
+    (ports ≡ []) × IsFile (λ bytes. Breaks bytes rule place) file
 
 -- the folder has a file at a path that says this
 abbrev pub HasFile : {A : Type 0} → (List ℕ → A → Type 0) → FolderView → List ℕ → A → Type 0
-HasFile Says folder path said = (file : Option (List ℕ)) × Holds folder path file × IsFile (λ bytes. Says bytes said) file
+HasFile Says folder path said =
+    (file : Option (List ℕ)) × Holds folder path file × IsFile (λ bytes. Says bytes said) file
 
 -- the folder has a file at a path, or none, with this flaw
 abbrev pub LacksFile : (List ℕ → Rule → Place → Type 0) → FolderView → List ℕ → Flaw → Type 0
-LacksFile Breaks folder path flaw = (file : Option (List ℕ)) × Holds folder path file × HasFlaw Breaks flaw file
+LacksFile Breaks folder path flaw =
+    (file : Option (List ℕ)) × Holds folder path file × HasFlaw Breaks flaw file

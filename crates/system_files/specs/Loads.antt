@@ -25,21 +25,32 @@ pub record Loads (s : Search) (finding : Finding) (old new : FolderView) : Type 
   pub told : new ≡ with_all_asked old asked
 
 -- the file at a path, the last of these, is that of a binding's values, or that of its mapping where the values are taken
-pub data ReachesPart (directory : List ℕ) (folder : FolderView) (o : Outline) (b : Binding) : List (List ℕ) → List ℕ → Type 0 where
-  OfValues : (base : SourceBase) (source : List ℕ) (files : List (List ℕ)) (path : List ℕ) → b.values ≡ File base source →
-      files ≡ part_files directory o b.owner b.values → path ≡ part_path directory o b.owner base source → ReachesPart directory folder o b files path
-  OfMapping : (given : GivenSet) (base : SourceBase) (source : List ℕ) (files : List (List ℕ)) (path : List ℕ) →
+pub data ReachesPart (directory : List ℕ) (folder : FolderView) (o : Outline) (b : Binding) : List
+    (List ℕ) → List ℕ → Type 0 where
+  OfValues : (base : SourceBase) (source : List ℕ) (files : List (List ℕ)) (path : List ℕ) →
+      b.values ≡ File base source →
+      files ≡ part_files directory o b.owner b.values →
+      path ≡ part_path directory o b.owner base source → ReachesPart directory folder o b files path
+  OfMapping : (given : GivenSet) (base : SourceBase) (source : List ℕ)
+      (files : List (List ℕ)) (path : List ℕ) →
       IsValuesPart directory folder o b.owner b.values given → b.mapping ≡ Some (File base source) →
-      files ≡ binding_files directory o b → path ≡ part_path directory o b.owner base source → ReachesPart directory folder o b files path
+      files ≡ binding_files directory o b → path ≡ part_path directory o b.owner base source →
+      ReachesPart directory folder o b files path
 
 -- the order of reading comes to the file at a path, the last of these
 pub data ComesTo (s : Search) (folder : FolderView) : List (List ℕ) → List ℕ → Type 0 where
-  ToOutline : (asked : List (List ℕ)) (path : List ℕ) → s.subject ≡ what.System → asked ≡ structure_path s.directory ∷ [] →
+  ToOutline : (asked : List (List ℕ)) (path : List ℕ) → s.subject ≡ what.System →
+      asked ≡ structure_path s.directory ∷ [] →
       path ≡ structure_path s.directory → ComesTo s folder asked path
-  ToShape : (o : Outline) (taken : List ComponentPart) (shapes : List Shape) (c : ComponentPart) (rest : List ComponentPart) (asked : List (List ℕ)) (path : List ℕ) →
-      Reaches s folder o taken shapes (c ∷ rest) → asked ≡ asked_for s (taken ++ c ∷ []) → path ≡ model_path s.directory c → ComesTo s folder asked path
-  ToPart : (o : Outline) (shapes : List Shape) (taken : List Binding) (given : List GivenBinding) (b : Binding) (rest : List Binding) (files : List (List ℕ))
-      (asked : List (List ℕ)) (path : List ℕ) → ReachesBindings s folder o shapes taken given (b ∷ rest) → ReachesPart s.directory folder o b files path →
+  ToShape : (o : Outline) (taken : List ComponentPart) (shapes : List Shape) (c : ComponentPart)
+      (rest : List ComponentPart) (asked : List (List ℕ)) (path : List ℕ) →
+      Reaches s folder o taken shapes (c ∷ rest) → asked ≡ asked_for s (taken ++ c ∷ []) →
+      path ≡ model_path s.directory c → ComesTo s folder asked path
+  ToPart : (o : Outline) (shapes : List Shape) (taken : List Binding) (given : List GivenBinding)
+      (b : Binding) (rest : List Binding) (files : List (List ℕ))
+      (asked : List (List ℕ)) (path : List ℕ) →
+      ReachesBindings s folder o shapes taken given (b ∷ rest) →
+      ReachesPart s.directory folder o b files path →
       asked ≡ asked_with s o taken ++ files → ComesTo s folder asked path
 
 -- these files were asked for, and the read of the last one failed, and no other
@@ -51,11 +62,15 @@ pub record FailsToRead (s : Search) (path : List ℕ) (old new : FolderView) : T
 -- these are the first that the order of reading asks for
 pub data AsksSome (s : Search) (folder : FolderView) : List (List ℕ) → Type 0 where
   Nothing : (asked : List (List ℕ)) → asked ≡ [] → AsksSome s folder asked
-  UpTo : (asked : List (List ℕ)) (path : List ℕ) → ComesTo s folder asked path → AsksSome s folder asked
-  Taken : (o : Outline) (taken : List ComponentPart) (shapes : List Shape) (rest : List ComponentPart) (asked : List (List ℕ)) →
+  UpTo : (asked : List (List ℕ)) (path : List ℕ) → ComesTo s folder asked path →
+      AsksSome s folder asked
+  Taken : (o : Outline) (taken : List ComponentPart) (shapes : List Shape)
+      (rest : List ComponentPart) (asked : List (List ℕ)) →
       Reaches s folder o taken shapes rest → asked ≡ asked_for s taken → AsksSome s folder asked
-  TakenBindings : (o : Outline) (shapes : List Shape) (taken : List Binding) (given : List GivenBinding) (rest : List Binding) (asked : List (List ℕ)) →
-      ReachesBindings s folder o shapes taken given rest → asked ≡ asked_with s o taken → AsksSome s folder asked
+  TakenBindings : (o : Outline) (shapes : List Shape) (taken : List Binding)
+      (given : List GivenBinding) (rest : List Binding) (asked : List (List ℕ)) →
+      ReachesBindings s folder o shapes taken given rest → asked ≡ asked_with s o taken →
+      AsksSome s folder asked
 
 -- some files were asked for, and no read failed
 pub record ReadsSome (s : Search) (old new : FolderView) : Type 0 where
@@ -68,7 +83,8 @@ abbrev pub FileFails : Search → FileFault → List ℕ → FolderView → Fold
 FileFails s Unread path old new = FailsToRead s path old new
 FileFails s Missing path old new = Loads s (Fails path Absent) old new
 FileFails s TooBig path old new = Loads s (Fails path Long) old new
-FileFails s (Broken rule place ports) path old new = Loads s (Fails path (Faulty rule place ports)) old new
+FileFails s (Broken rule place ports) path old new =
+    Loads s (Fails path (Faulty rule place ports)) old new
 
 -- why nothing is loaded
 abbrev pub EndsLoading : Search → LoadEnd → FolderView → FolderView → Type 0

@@ -37,7 +37,8 @@ pub record Search : Type 0 where
   pub per_second : ℕ
 
 abbrev pub search_of : Subject → List ℕ → ℕ → Search
-search_of subject directory per_second = record { subject = subject; directory = directory; per_second = per_second }
+search_of subject directory per_second =
+    record { subject = subject; directory = directory; per_second = per_second }
 
 -- ---- files
 
@@ -63,7 +64,8 @@ model_path directory c = description_path (folder_of directory c)
 
 -- what is asked for up to the descriptions of these components, each once
 abbrev pub asked_for : Search → List ComponentPart → List (List ℕ)
-asked_for s components = files_before s.subject s.directory ++ first_uses (map (model_path s.directory) components)
+asked_for s components =
+    files_before s.subject s.directory ++ first_uses (map (model_path s.directory) components)
 
 -- ---- the outline and the shapes
 
@@ -77,7 +79,8 @@ abbrev pub HasShape : Search → FolderView → ComponentPart → Shape → Type
 HasShape s folder c shape = HasFile (IsModel s.per_second) folder (model_path s.directory c) shape
 
 -- the first components of the outline have these shapes, and the others stand behind them
-pub record Reaches (s : Search) (folder : FolderView) (o : Outline) (taken : List ComponentPart) (shapes : List Shape) (rest : List ComponentPart) : Type 0 where
+pub record Reaches (s : Search) (folder : FolderView) (o : Outline) (taken : List ComponentPart)
+    (shapes : List Shape) (rest : List ComponentPart) : Type 0 where
   pub outline : Outlines s.subject s.directory folder o
   pub is : o.systems.components ≡ taken ++ rest
   pub each : AllZip (HasShape s folder) taken shapes
@@ -88,7 +91,8 @@ pub record Reaches (s : Search) (folder : FolderView) (o : Outline) (taken : Lis
 abbrev pub base_folder : List ℕ → Outline → Owner → SourceBase → List ℕ
 base_folder directory o owner base.Description = directory
 base_folder directory o (owner.System place) base.Component = directory
-base_folder directory o (owner.Component place) base.Component = option_map_or (folder_of directory) (slice_get o.systems.components place) directory
+base_folder directory o (owner.Component place) base.Component =
+    option_map_or (folder_of directory) (slice_get o.systems.components place) directory
 
 abbrev pub part_path : List ℕ → Outline → Owner → SourceBase → List ℕ → List ℕ
 part_path directory o owner base path = base_folder directory o owner base ++ 47 ∷ path
@@ -104,28 +108,37 @@ part_told subject directory o owner (File base path) = part_path directory o own
 part_told subject directory o owner (Inline node) = outline_path subject directory
 
 -- a part is this, in its file or in the outline
-abbrev pub IsPart : {A : Type 0} → (List ℕ → A → Type 0) → (Outline → ℕ → A → Type 0) → List ℕ → FolderView → Outline → Owner → Origin → A → Type 0
-IsPart Says Within directory folder o owner (File base path) given = HasFile Says folder (part_path directory o owner base path) given
+abbrev pub IsPart : {A : Type 0} → (List ℕ → A → Type 0) → (Outline → ℕ → A → Type 0) → List ℕ →
+    FolderView → Outline → Owner → Origin → A → Type 0
+IsPart Says Within directory folder o owner (File base path) given =
+    HasFile Says folder (part_path directory o owner base path) given
 IsPart Says Within directory folder o owner (Inline node) given = Within o node given
 
 -- it isn't taken, with this flaw
-abbrev pub LacksPart : (List ℕ → Rule → Place → Type 0) → (Outline → ℕ → Rule → Place → Type 0) → List ℕ → FolderView → Outline → Owner → Origin → Flaw → Type 0
-LacksPart Breaks Within directory folder o owner (File base path) flaw = LacksFile Breaks folder (part_path directory o owner base path) flaw
-LacksPart Breaks Within directory folder o owner (Inline node) flaw = (rule : Rule) × ((place : Place) × Within o node rule place × (flaw ≡ Faulty rule place []))
+abbrev pub LacksPart : (List ℕ → Rule → Place → Type 0) → (Outline → ℕ → Rule → Place → Type 0) →
+    List ℕ → FolderView → Outline → Owner → Origin → Flaw → Type 0
+LacksPart Breaks Within directory folder o owner (File base path) flaw =
+    LacksFile Breaks folder (part_path directory o owner base path) flaw
+LacksPart Breaks Within directory folder o owner (Inline node) flaw =
+    (rule : Rule) × ((place : Place) × Within o node rule place × (flaw ≡ Faulty rule place []))
 
 -- the values of a binding are these
 abbrev pub IsValuesPart : List ℕ → FolderView → Outline → Owner → Origin → GivenSet → Type 0
-IsValuesPart directory folder o owner origin given = IsPart IsValues IsValuesWithin directory folder o owner origin given
+IsValuesPart directory folder o owner origin given =
+    IsPart IsValues IsValuesWithin directory folder o owner origin given
 
 -- the mapping of a binding is this, where it has one
-abbrev pub IsMappingPart : List ℕ → FolderView → Outline → Owner → Option Origin → Option GivenMapping → Type 0
+abbrev pub IsMappingPart : List ℕ → FolderView → Outline → Owner → Option Origin →
+    Option GivenMapping → Type 0
 IsMappingPart directory folder o owner None None = Unit {0}
 IsMappingPart directory folder o owner None (Some given) = ⊥
 IsMappingPart directory folder o owner (Some origin) None = ⊥
-IsMappingPart directory folder o owner (Some origin) (Some given) = IsPart IsMapping IsMappingWithin directory folder o owner origin given
+IsMappingPart directory folder o owner (Some origin) (Some given) =
+    IsPart IsMapping IsMappingWithin directory folder o owner origin given
 
 -- the binding gives this
-pub record IsGiven (directory : List ℕ) (folder : FolderView) (o : Outline) (b : Binding) (given : GivenBinding) : Type 0 where
+pub record IsGiven (directory : List ℕ) (folder : FolderView) (o : Outline) (b : Binding)
+    (given : GivenBinding) : Type 0 where
   pub values : IsValuesPart directory folder o b.owner b.values given.values
   pub mapping : IsMappingPart directory folder o b.owner b.mapping given.mapping
 
@@ -135,26 +148,36 @@ mapping_files directory o owner (Some origin) = part_files directory o owner ori
 
 -- the files that it asks for, its values before its mapping
 abbrev pub binding_files : List ℕ → Outline → Binding → List (List ℕ)
-binding_files directory o b = part_files directory o b.owner b.values ++ mapping_files directory o b.owner b.mapping
+binding_files directory o b =
+    part_files directory o b.owner b.values ++ mapping_files directory o b.owner b.mapping
 
 -- its values aren't taken, or its mapping isn't: the files that are asked for up to there, the file in which it is told, and the flaw
-pub data LacksBinding (s : Search) (folder : FolderView) (o : Outline) (b : Binding) : List (List ℕ) → List ℕ → Flaw → Type 0 where
-  InValues : (files : List (List ℕ)) (path : List ℕ) (flaw : Flaw) → LacksPart BreaksValues BreaksValuesWithin s.directory folder o b.owner b.values flaw →
-      files ≡ part_files s.directory o b.owner b.values → path ≡ part_told s.subject s.directory o b.owner b.values → LacksBinding s folder o b files path flaw
-  InMapping : (origin : Origin) (given : GivenSet) (files : List (List ℕ)) (path : List ℕ) (flaw : Flaw) →
+pub data LacksBinding (s : Search) (folder : FolderView) (o : Outline) (b : Binding) : List
+    (List ℕ) → List ℕ → Flaw → Type 0 where
+  InValues : (files : List (List ℕ)) (path : List ℕ) (flaw : Flaw) →
+      LacksPart BreaksValues BreaksValuesWithin s.directory folder o b.owner b.values flaw →
+      files ≡ part_files s.directory o b.owner b.values →
+      path ≡ part_told s.subject s.directory o b.owner b.values →
+      LacksBinding s folder o b files path flaw
+  InMapping : (origin : Origin) (given : GivenSet) (files : List (List ℕ))
+      (path : List ℕ) (flaw : Flaw) →
       IsValuesPart s.directory folder o b.owner b.values given → b.mapping ≡ Some origin →
-      LacksPart BreaksMapping BreaksMappingWithin s.directory folder o b.owner origin flaw → files ≡ binding_files s.directory o b →
-      path ≡ part_told s.subject s.directory o b.owner origin → LacksBinding s folder o b files path flaw
+      LacksPart BreaksMapping BreaksMappingWithin s.directory folder o b.owner origin flaw →
+      files ≡ binding_files s.directory o b →
+      path ≡ part_told s.subject s.directory o b.owner origin →
+      LacksBinding s folder o b files path flaw
 
 -- each component has its shape, and the first bindings give this
-pub record ReachesBindings (s : Search) (folder : FolderView) (o : Outline) (shapes : List Shape) (taken : List Binding) (given : List GivenBinding) (rest : List Binding) : Type 0 where
+pub record ReachesBindings (s : Search) (folder : FolderView) (o : Outline) (shapes : List Shape)
+    (taken : List Binding) (given : List GivenBinding) (rest : List Binding) : Type 0 where
   pub reaches : Reaches s folder o o.systems.components shapes []
   pub is : o.systems.bindings ≡ taken ++ rest
   pub each : AllZip (IsGiven s.directory folder o) taken given
 
 -- what is asked for up to these bindings
 abbrev pub asked_with : Search → Outline → List Binding → List (List ℕ)
-asked_with s o bindings = asked_for s o.systems.components ++ flat_map (binding_files s.directory o) bindings
+asked_with s o bindings =
+    asked_for s o.systems.components ++ flat_map (binding_files s.directory o) bindings
 
 -- where a binding's set is given, or its mapping
 abbrev pub origin_of : Bool → Binding → Option Origin
@@ -164,14 +187,17 @@ origin_of true b = b.mapping
 -- the file of a binding's set, or of its mapping
 abbrev pub IsBindingToldIn : Search → Outline → ℕ → Bool → List ℕ → Type 0
 IsBindingToldIn s o n in_mapping path =
-    IsSomeAnd (slice_get o.systems.bindings n) (λ (b : Binding). IsSomeAnd (origin_of in_mapping b) (λ origin. path ≡ part_told s.subject s.directory o b.owner origin))
+    IsSomeAnd (slice_get o.systems.bindings n) (λ (b : Binding).
+    IsSomeAnd (origin_of in_mapping b) (λ origin. path ≡
+    part_told s.subject s.directory o b.owner origin))
 
 -- ---- what it comes to
 
 -- the file of a component's description, or that of the outline
 abbrev pub IsToldIn : Search → Outline → Option ℕ → List ℕ → Type 0
 IsToldIn s o None path = path ≡ outline_path s.subject s.directory
-IsToldIn s o (Some component) path = IsSomeAnd (slice_get o.systems.components component) (λ c. path ≡ model_path s.directory c)
+IsToldIn s o (Some component) path =
+    IsSomeAnd (slice_get o.systems.components component) (λ c. path ≡ model_path s.directory c)
 
 -- a file that isn't taken, or a system
 pub data Finding : Type 0 where
@@ -182,30 +208,48 @@ pub data Finding : Type 0 where
 pub data Comes (s : Search) (folder : FolderView) : List (List ℕ) → Finding → Type 0 where
   -- there is no outline
   NoOutline : (flaw : Flaw) (asked : List (List ℕ)) (finding : Finding) → s.subject ≡ what.System →
-      LacksFile BreaksStructure folder (structure_path s.directory) flaw → asked ≡ structure_path s.directory ∷ [] →
+      LacksFile BreaksStructure folder (structure_path s.directory) flaw →
+      asked ≡ structure_path s.directory ∷ [] →
       finding ≡ Fails (structure_path s.directory) flaw → Comes s folder asked finding
   -- the descriptions before that of a component are taken, and its own isn't
-  NoShape : (o : Outline) (taken : List ComponentPart) (shapes : List Shape) (c : ComponentPart) (rest : List ComponentPart) (flaw : Flaw)
+  NoShape : (o : Outline) (taken : List ComponentPart) (shapes : List Shape) (c : ComponentPart)
+      (rest : List ComponentPart) (flaw : Flaw)
       (asked : List (List ℕ)) (finding : Finding) → Reaches s folder o taken shapes (c ∷ rest) →
-      LacksFile (BreaksModel s.per_second) folder (model_path s.directory c) flaw → asked ≡ asked_for s (taken ++ c ∷ []) →
+      LacksFile (BreaksModel s.per_second) folder (model_path s.directory c) flaw →
+      asked ≡ asked_for s (taken ++ c ∷ []) →
       finding ≡ Fails (model_path s.directory c) flaw → Comes s folder asked finding
   -- all descriptions and the bindings before one are taken, and its own values or mapping aren't
-  NoSet : (o : Outline) (shapes : List Shape) (taken : List Binding) (given : List GivenBinding) (b : Binding) (rest : List Binding) (files : List (List ℕ)) (path : List ℕ)
-      (flaw : Flaw) (asked : List (List ℕ)) (finding : Finding) → ReachesBindings s folder o shapes taken given (b ∷ rest) → LacksBinding s folder o b files path flaw →
-      asked ≡ asked_with s o taken ++ files → finding ≡ Fails path flaw → Comes s folder asked finding
+  NoSet : (o : Outline) (shapes : List Shape) (taken : List Binding) (given : List GivenBinding)
+      (b : Binding) (rest : List Binding) (files : List (List ℕ)) (path : List ℕ)
+      (flaw : Flaw) (asked : List (List ℕ)) (finding : Finding) →
+      ReachesBindings s folder o shapes taken given (b ∷ rest) →
+      LacksBinding s folder o b files path flaw →
+      asked ≡ asked_with s o taken ++ files → finding ≡ Fails path flaw →
+      Comes s folder asked finding
   -- all are taken, and what a binding gives breaks a rule by the parameters that it reaches
-  NoBinding : (o : Outline) (shapes : List Shape) (given : List GivenBinding) (n : ℕ) (in_mapping : Bool) (rule : Rule) (place : Place) (path : List ℕ)
-      (asked : List (List ℕ)) (finding : Finding) → ReachesBindings s folder o shapes o.systems.bindings given [] → parameters.BreaksBinding o shapes given n in_mapping rule place →
-      IsBindingToldIn s o n in_mapping path → asked ≡ asked_with s o o.systems.bindings → finding ≡ Fails path (Faulty rule place []) → Comes s folder asked finding
+  NoBinding : (o : Outline) (shapes : List Shape) (given : List GivenBinding) (n : ℕ)
+      (in_mapping : Bool) (rule : Rule) (place : Place) (path : List ℕ)
+      (asked : List (List ℕ)) (finding : Finding) →
+      ReachesBindings s folder o shapes o.systems.bindings given [] →
+      parameters.BreaksBinding o shapes given n in_mapping rule place →
+      IsBindingToldIn s o n in_mapping path → asked ≡ asked_with s o o.systems.bindings →
+      finding ≡ Fails path (Faulty rule place []) → Comes s folder asked finding
   -- the bindings give values, and the structure and the descriptions break a rule together
-  NoSystem : (o : Outline) (shapes : List Shape) (given : List GivenBinding) (bound : Bound) (component : Option ℕ) (rule : Rule) (place : Place) (ports : List PortId)
-      (path : List ℕ) (asked : List (List ℕ)) (finding : Finding) → ReachesBindings s folder o shapes o.systems.bindings given [] → parameters.Binds o shapes given bound →
-      BreaksTogether o shapes component rule place ports → IsToldIn s o component path → asked ≡ asked_with s o o.systems.bindings →
+  NoSystem : (o : Outline) (shapes : List Shape) (given : List GivenBinding) (bound : Bound)
+      (component : Option ℕ) (rule : Rule) (place : Place) (ports : List PortId)
+      (path : List ℕ) (asked : List (List ℕ)) (finding : Finding) →
+      ReachesBindings s folder o shapes o.systems.bindings given [] →
+      parameters.Binds o shapes given bound →
+      BreaksTogether o shapes component rule place ports → IsToldIn s o component path →
+      asked ≡ asked_with s o o.systems.bindings →
       finding ≡ Fails path (Faulty rule place ports) → Comes s folder asked finding
   -- they make a system
-  Whole : (o : Outline) (shapes : List Shape) (given : List GivenBinding) (loaded : Loaded) (asked : List (List ℕ)) (finding : Finding) →
-      ReachesBindings s folder o shapes o.systems.bindings given [] → parameters.Binds o shapes given loaded.bound → Makes o shapes loaded.system →
-      loaded.folders ≡ folders_of s.directory o → asked ≡ asked_with s o o.systems.bindings → finding ≡ Found loaded → Comes s folder asked finding
+  Whole : (o : Outline) (shapes : List Shape) (given : List GivenBinding) (loaded : Loaded)
+      (asked : List (List ℕ)) (finding : Finding) →
+      ReachesBindings s folder o shapes o.systems.bindings given [] →
+      parameters.Binds o shapes given loaded.bound → Makes o shapes loaded.system →
+      loaded.folders ≡ folders_of s.directory o → asked ≡ asked_with s o o.systems.bindings →
+      finding ≡ Found loaded → Comes s folder asked finding
 
 -- ---- in one way
 
@@ -219,11 +263,15 @@ AreAlike _ _ = ⊥
 -- the same file with the same flaw, or the same system but for the orders of its ports, with the same values of parameters
 abbrev pub Agree : Finding → Finding → Type 0
 Agree (Fails path flaw) (Fails other another) = (path ≡ other) × AreAlike flaw another
-Agree (Found one) (Found other) = HaveSameParts one.system other.system × (one.bound ≡ other.bound) × (one.folders ≡ other.folders)
+Agree (Found one) (Found other) =
+    HaveSameParts one.system other.system × (one.bound ≡ other.bound) ×
+    (one.folders ≡ other.folders)
 Agree (Fails path flaw) (Found other) = ⊥
 Agree (Found one) (Fails path flaw) = ⊥
 
 -- it comes to this, and where the folder tells its files, to nothing else
-pub record ComesAlone (s : Search) (folder : FolderView) (asked : List (List ℕ)) (finding : Finding) : Type 0 where
+pub record ComesAlone (s : Search) (folder : FolderView) (asked : List (List ℕ))
+    (finding : Finding) : Type 0 where
   pub comes : Comes s folder asked finding
-  pub only : IfSome folder.files (λ at. (others : List (List ℕ)) (other : Finding) → Comes s folder others other → (asked ≡ others) × Agree finding other)
+  pub only : IfSome folder.files (λ at. (others : List (List ℕ)) (other : Finding) →
+      Comes s folder others other → (asked ≡ others) × Agree finding other)

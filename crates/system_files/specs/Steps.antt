@@ -45,10 +45,12 @@ use Rattle.system_files.specs.Order.{IsBindingToldIn, IsPart, IsToldIn, Search, 
 
 -- the bytes are a description of this shape and no other, and break no rule; or they break this one first, and are no description
 abbrev pub SaysModel : ℕ → List ℕ → Shape → Type 0
-SaysModel per_second bytes shape = SaysAlone (IsModel per_second bytes) (BreaksModel per_second bytes) shape
+SaysModel per_second bytes shape =
+    SaysAlone (IsModel per_second bytes) (BreaksModel per_second bytes) shape
 
 abbrev pub FailsModel : ℕ → List ℕ → Rule → Place → Type 0
-FailsModel per_second bytes rule place = BreaksAlone (IsModel per_second bytes) (BreaksModel per_second bytes) rule place
+FailsModel per_second bytes rule place =
+    BreaksAlone (IsModel per_second bytes) (BreaksModel per_second bytes) rule place
 
 -- the same of a structure
 abbrev pub SaysStructure : List ℕ → Outline → Type 0
@@ -76,24 +78,31 @@ abbrev pub SaysValuesWithin : Outline → ℕ → GivenSet → Type 0
 SaysValuesWithin o node given = SaysAlone (IsValuesWithin o node) (BreaksValuesWithin o node) given
 
 abbrev pub FailsValuesWithin : Outline → ℕ → Rule → Place → Type 0
-FailsValuesWithin o node rule place = BreaksAlone (IsValuesWithin o node) (BreaksValuesWithin o node) rule place
+FailsValuesWithin o node rule place =
+    BreaksAlone (IsValuesWithin o node) (BreaksValuesWithin o node) rule place
 
 abbrev pub SaysMappingWithin : Outline → ℕ → GivenMapping → Type 0
-SaysMappingWithin o node given = SaysAlone (IsMappingWithin o node) (BreaksMappingWithin o node) given
+SaysMappingWithin o node given =
+    SaysAlone (IsMappingWithin o node) (BreaksMappingWithin o node) given
 
 abbrev pub FailsMappingWithin : Outline → ℕ → Rule → Place → Type 0
-FailsMappingWithin o node rule place = BreaksAlone (IsMappingWithin o node) (BreaksMappingWithin o node) rule place
+FailsMappingWithin o node rule place =
+    BreaksAlone (IsMappingWithin o node) (BreaksMappingWithin o node) rule place
 
 -- why the file at a path isn't taken
-abbrev pub FaultAt : (List ℕ → Rule → Place → Type 0) → List ℕ → FileFault → FolderView → FolderView → Type 0
+abbrev pub FaultAt : (List ℕ → Rule → Place → Type 0) → List ℕ → FileFault → FolderView →
+    FolderView → Type 0
 FaultAt Breaks path Unread old new = new ≡ with_failed (with_asked old path) path
 FaultAt Breaks path Missing old new = (new ≡ with_asked old path) × LacksFile Breaks old path Absent
 FaultAt Breaks path TooBig old new = (new ≡ with_asked old path) × LacksFile Breaks old path Long
-FaultAt Breaks path (Broken rule place ports) old new = (new ≡ with_asked old path) × LacksFile Breaks old path (Faulty rule place ports)
+FaultAt Breaks path (Broken rule place ports) old new =
+    (new ≡ with_asked old path) × LacksFile Breaks old path (Faulty rule place ports)
 
 -- the end at the file at a path
-abbrev pub EndsAt : (List ℕ → Rule → Place → Type 0) → List ℕ → LoadEnd → FolderView → FolderView → Type 0
-EndsAt Breaks path (end.File file fault) old new = (file.path ≡ path) × FaultAt Breaks path fault old new
+abbrev pub EndsAt : (List ℕ → Rule → Place → Type 0) → List ℕ → LoadEnd → FolderView →
+    FolderView → Type 0
+EndsAt Breaks path (end.File file fault) old new =
+    (file.path ≡ path) × FaultAt Breaks path fault old new
 EndsAt Breaks path end.Memory old new = (new ≡ with_asked old path) ⊎ (new ≡ old)
 
 -- the end at the file at a path of which nothing is asked but its bytes
@@ -117,18 +126,23 @@ fault_end file f.Memory = end.Memory
 -- the outline of a subject, found alone
 abbrev pub OutlinesAlone : Subject → List ℕ → FolderView → Outline → Type 0
 OutlinesAlone what.Fmu directory folder o = o ≡ lone_outline
-OutlinesAlone what.System directory folder o = HasFile SaysStructure folder (structure_path directory) o
+OutlinesAlone what.System directory folder o =
+    HasFile SaysStructure folder (structure_path directory) o
 
 -- the end before there is an outline
-pub data EndsOutline (subject : Subject) (directory : List ℕ) (ended : LoadEnd) (old new : FolderView) : Type 0 where
-  AtStructure : subject ≡ what.System → EndsAt FailsStructure (structure_path directory) ended old new → EndsOutline subject directory ended old new
+pub data EndsOutline (subject : Subject) (directory : List ℕ) (ended : LoadEnd)
+    (old new : FolderView) : Type 0 where
+  AtStructure : subject ≡ what.System →
+      EndsAt FailsStructure (structure_path directory) ended old new →
+      EndsOutline subject directory ended old new
   NoOutlineRoom : ended ≡ end.Memory → new ≡ old → EndsOutline subject directory ended old new
 
 -- ---- the shapes
 
 -- the description of the component's FMU is that of this shape alone
 abbrev pub HasShapeAlone : ℕ → List ℕ → FolderView → ComponentPart → Shape → Type 0
-HasShapeAlone per_second directory folder c shape = HasFile (SaysModel per_second) folder (model_path directory c) shape
+HasShapeAlone per_second directory folder c shape =
+    HasFile (SaysModel per_second) folder (model_path directory c) shape
 
 -- the descriptions of these components, each once
 abbrev pub paths_of : List ℕ → List ComponentPart → List (List ℕ)
@@ -139,31 +153,45 @@ abbrev pub IsNew : List ComponentPart → ℕ → List ℕ → Type 0
 IsNew components n source = (k : ℕ) → k < n → source_at components k ≡ Some source → ⊥
 
 -- the shape of the next component is that of the first with its source, or its description was read
-pub data TakesNext (per_second : ℕ) (directory : List ℕ) (components : List ComponentPart) (n : ℕ) (c : ComponentPart) (shapes : List Shape) (shape : Shape) (old new : FolderView) : Type 0 where
-  Copied : (first : ℕ) → source_at components first ≡ Some c.source → slice_get shapes first ≡ Some shape → new ≡ old →
+pub data TakesNext (per_second : ℕ) (directory : List ℕ) (components : List ComponentPart) (n : ℕ)
+    (c : ComponentPart) (shapes : List Shape) (shape : Shape) (old new : FolderView) : Type 0 where
+  Copied : (first : ℕ) → source_at components first ≡ Some c.source →
+      slice_get shapes first ≡ Some shape → new ≡ old →
       TakesNext per_second directory components n c shapes shape old new
-  Read : IsNew components n c.source → HasShapeAlone per_second directory old c shape → new ≡ with_asked old (model_path directory c) →
+  Read : IsNew components n c.source → HasShapeAlone per_second directory old c shape →
+      new ≡ with_asked old (model_path directory c) →
       TakesNext per_second directory components n c shapes shape old new
 
 -- the end at the next component
-pub data EndsNext (per_second : ℕ) (directory : List ℕ) (components : List ComponentPart) (n : ℕ) (c : ComponentPart) (ended : LoadEnd) (old new : FolderView) : Type 0 where
-  NoCopy : ended ≡ end.Memory → new ≡ old → EndsNext per_second directory components n c ended old new
-  NoRead : IsNew components n c.source → EndsAt (FailsModel per_second) (model_path directory c) ended old new →
+pub data EndsNext (per_second : ℕ) (directory : List ℕ) (components : List ComponentPart) (n : ℕ)
+    (c : ComponentPart) (ended : LoadEnd) (old new : FolderView) : Type 0 where
+  NoCopy : ended ≡ end.Memory → new ≡ old →
+      EndsNext per_second directory components n c ended old new
+  NoRead : IsNew components n c.source →
+      EndsAt (FailsModel per_second) (model_path directory c) ended old new →
       EndsNext per_second directory components n c ended old new
 
 -- each component has its shape, and their descriptions were asked for
-pub record TakesShapes (per_second : ℕ) (directory : List ℕ) (components : List ComponentPart) (shapes : List Shape) (old new : FolderView) : Type 0 where
+pub record TakesShapes (per_second : ℕ) (directory : List ℕ) (components : List ComponentPart)
+    (shapes : List Shape) (old new : FolderView) : Type 0 where
   pub each : AllZip (HasShapeAlone per_second directory old) components shapes
   pub told : new ≡ with_all_asked old (paths_of directory components)
 
 -- the end before each component has its shape: at the description of one, or without memory
-pub data EndsShapes (per_second : ℕ) (directory : List ℕ) (components : List ComponentPart) (ended : LoadEnd) (old new : FolderView) : Type 0 where
-  AtShape : (taken : List ComponentPart) (shapes : List Shape) (c : ComponentPart) (rest : List ComponentPart) → components ≡ taken ++ c ∷ rest →
-      AllZip (HasShapeAlone per_second directory old) taken shapes → paths_of directory (taken ++ c ∷ []) ≡ paths_of directory taken ++ model_path directory c ∷ [] →
-      EndsAt (FailsModel per_second) (model_path directory c) ended (with_all_asked old (paths_of directory taken)) new →
+pub data EndsShapes (per_second : ℕ) (directory : List ℕ) (components : List ComponentPart)
+    (ended : LoadEnd) (old new : FolderView) : Type 0 where
+  AtShape : (taken : List ComponentPart) (shapes : List Shape) (c : ComponentPart)
+      (rest : List ComponentPart) → components ≡ taken ++ c ∷ rest →
+      AllZip (HasShapeAlone per_second directory old) taken shapes →
+      paths_of directory (taken ++ c ∷ []) ≡ paths_of directory taken ++
+      model_path directory c ∷ [] →
+      EndsAt (FailsModel per_second) (model_path directory c) ended
+      (with_all_asked old (paths_of directory taken)) new →
       EndsShapes per_second directory components ended old new
-  NoShapeRoom : (taken : List ComponentPart) (shapes : List Shape) (rest : List ComponentPart) → components ≡ taken ++ rest →
-      AllZip (HasShapeAlone per_second directory old) taken shapes → ended ≡ end.Memory → new ≡ with_all_asked old (paths_of directory taken) →
+  NoShapeRoom : (taken : List ComponentPart) (shapes : List Shape) (rest : List ComponentPart) →
+      components ≡ taken ++ rest →
+      AllZip (HasShapeAlone per_second directory old) taken shapes → ended ≡ end.Memory →
+      new ≡ with_all_asked old (paths_of directory taken) →
       EndsShapes per_second directory components ended old new
 
 -- ---- the bindings
@@ -174,106 +202,143 @@ HasDocument o = (n : ℕ) → n < length o.systems.bindings → IsSome o.documen
 
 -- the end at an element of the outline, which is told in the file at a path
 abbrev pub EndsWithin : (Rule → Place → Type 0) → List ℕ → LoadEnd → Type 0
-EndsWithin Breaks path (end.File file fault) = (rule : Rule) × ((place : Place) × (file.path ≡ path) × (fault ≡ Broken rule place []) × Breaks rule place)
+EndsWithin Breaks path (end.File file fault) =
+    (rule : Rule) × ((place : Place) × (file.path ≡ path) ×
+    (fault ≡ Broken rule place []) × Breaks rule place)
 EndsWithin Breaks path end.Memory = Unit {0}
 
 -- the end tells the fault in the file at a path, unless memory is wanting
 abbrev pub TellsWithin : Fault → List ℕ → LoadEnd → Type 0
-TellsWithin (f.Broken rule place) path (end.File file fault) = (file.path ≡ path) × (fault ≡ Broken rule place [])
+TellsWithin (f.Broken rule place) path (end.File file fault) =
+    (file.path ≡ path) × (fault ≡ Broken rule place [])
 TellsWithin f.Memory path (end.File file fault) = ⊥
 TellsWithin fault path end.Memory = Unit {0}
 
 -- the end at a part of a binding
-abbrev pub EndsPart : (List ℕ → Rule → Place → Type 0) → (Outline → ℕ → Rule → Place → Type 0) → Subject → List ℕ → Outline → Owner → Origin → LoadEnd → FolderView → FolderView → Type 0
-EndsPart Breaks Within subject directory o owner (File base path) ended old new = EndsAt Breaks (part_path directory o owner base path) ended old new
-EndsPart Breaks Within subject directory o owner (Inline node) ended old new = (new ≡ old) × EndsWithin (Within o node) (outline_path subject directory) ended
+abbrev pub EndsPart : (List ℕ → Rule → Place → Type 0) → (Outline → ℕ → Rule → Place → Type 0) →
+    Subject → List ℕ → Outline → Owner → Origin → LoadEnd → FolderView → FolderView → Type 0
+EndsPart Breaks Within subject directory o owner (File base path) ended old new =
+    EndsAt Breaks (part_path directory o owner base path) ended old new
+EndsPart Breaks Within subject directory o owner (Inline node) ended old new =
+    (new ≡ old) × EndsWithin (Within o node) (outline_path subject directory) ended
 
 -- the values of a binding, found alone
 abbrev pub IsValuesAlone : List ℕ → FolderView → Outline → Owner → Origin → GivenSet → Type 0
-IsValuesAlone directory folder o owner origin given = IsPart SaysValues SaysValuesWithin directory folder o owner origin given
+IsValuesAlone directory folder o owner origin given =
+    IsPart SaysValues SaysValuesWithin directory folder o owner origin given
 
 -- the mapping of a binding, found alone, where it has one
-abbrev pub IsMappingAlone : List ℕ → FolderView → Outline → Owner → Option Origin → Option GivenMapping → Type 0
+abbrev pub IsMappingAlone : List ℕ → FolderView → Outline → Owner → Option Origin →
+    Option GivenMapping → Type 0
 IsMappingAlone directory folder o owner None None = Unit {0}
 IsMappingAlone directory folder o owner None (Some given) = ⊥
 IsMappingAlone directory folder o owner (Some origin) None = ⊥
-IsMappingAlone directory folder o owner (Some origin) (Some given) = IsPart SaysMapping SaysMappingWithin directory folder o owner origin given
+IsMappingAlone directory folder o owner (Some origin) (Some given) =
+    IsPart SaysMapping SaysMappingWithin directory folder o owner origin given
 
 -- the binding gives this, found alone
-pub record IsGivenAlone (directory : List ℕ) (folder : FolderView) (o : Outline) (b : Binding) (given : GivenBinding) : Type 0 where
+pub record IsGivenAlone (directory : List ℕ) (folder : FolderView) (o : Outline) (b : Binding)
+    (given : GivenBinding) : Type 0 where
   pub values : IsValuesAlone directory folder o b.owner b.values given.values
   pub mapping : IsMappingAlone directory folder o b.owner b.mapping given.mapping
   pub range : AreInRange given.values.set
 
 -- the binding gives this, and its files were asked for
-pub record TakesBinding (directory : List ℕ) (o : Outline) (b : Binding) (given : GivenBinding) (old new : FolderView) : Type 0 where
+pub record TakesBinding (directory : List ℕ) (o : Outline) (b : Binding) (given : GivenBinding)
+    (old new : FolderView) : Type 0 where
   pub gives : IsGivenAlone directory old o b given
   pub told : new ≡ with_all_asked old (binding_files directory o b)
 
 -- the end at a binding: at its values, or at its mapping where the values were taken
-pub data EndsBinding (subject : Subject) (directory : List ℕ) (o : Outline) (b : Binding) (ended : LoadEnd) (old new : FolderView) : Type 0 where
-  AtValues : EndsPart FailsValues FailsValuesWithin subject directory o b.owner b.values ended old new → EndsBinding subject directory o b ended old new
-  AtMapping : (given : GivenSet) (origin : Origin) (mid : FolderView) → IsValuesAlone directory old o b.owner b.values given →
+pub data EndsBinding (subject : Subject) (directory : List ℕ) (o : Outline) (b : Binding)
+    (ended : LoadEnd) (old new : FolderView) : Type 0 where
+  AtValues : EndsPart FailsValues FailsValuesWithin subject directory o b.owner b.values ended old
+      new → EndsBinding subject directory o b ended old new
+  AtMapping : (given : GivenSet) (origin : Origin) (mid : FolderView) →
+      IsValuesAlone directory old o b.owner b.values given →
       mid ≡ with_all_asked old (part_files directory o b.owner b.values) → b.mapping ≡ Some origin →
-      EndsPart FailsMapping FailsMappingWithin subject directory o b.owner origin ended mid new → EndsBinding subject directory o b ended old new
+      EndsPart FailsMapping FailsMappingWithin subject directory o b.owner origin ended mid new →
+      EndsBinding subject directory o b ended old new
 
 -- each binding gives what it gives, and their files were asked for
-pub record TakesBindings (directory : List ℕ) (o : Outline) (bindings : List Binding) (given : List GivenBinding) (old new : FolderView) : Type 0 where
+pub record TakesBindings (directory : List ℕ) (o : Outline) (bindings : List Binding)
+    (given : List GivenBinding) (old new : FolderView) : Type 0 where
   pub each : AllZip (IsGivenAlone directory old o) bindings given
   pub told : new ≡ with_all_asked old (flat_map (binding_files directory o) bindings)
 
 -- the end before each binding is taken: at one of them, or without memory
-pub data EndsBindings (subject : Subject) (directory : List ℕ) (o : Outline) (ended : LoadEnd) (old new : FolderView) : Type 0 where
-  AtBinding : (taken : List Binding) (given : List GivenBinding) (b : Binding) (rest : List Binding) (mid : FolderView) → o.systems.bindings ≡ taken ++ b ∷ rest →
-      TakesBindings directory o taken given old mid → EndsBinding subject directory o b ended mid new → EndsBindings subject directory o ended old new
+pub data EndsBindings (subject : Subject) (directory : List ℕ) (o : Outline) (ended : LoadEnd)
+    (old new : FolderView) : Type 0 where
+  AtBinding : (taken : List Binding) (given : List GivenBinding) (b : Binding) (rest : List Binding)
+      (mid : FolderView) → o.systems.bindings ≡ taken ++ b ∷ rest →
+      TakesBindings directory o taken given old mid →
+      EndsBinding subject directory o b ended mid new →
+      EndsBindings subject directory o ended old new
   NoBindingRoom : ended ≡ end.Memory → new ≡ old → EndsBindings subject directory o ended old new
 
 -- ---- the system
 
 -- each binding gives a mapping where it has one
 abbrev pub HasParts : List Binding → List GivenBinding → Type 0
-HasParts bindings given = AllZip (λ (b : Binding) (g : GivenBinding). IsSome g.mapping → IsSome b.mapping) bindings given
+HasParts bindings given =
+    AllZip (λ (b : Binding) (g : GivenBinding). IsSome g.mapping → IsSome b.mapping) bindings given
 
 -- the part of a binding in which a fault is told stands in the outline
 abbrev pub HasBindingPart : Outline → BindingFault → Type 0
-HasBindingPart o (binds.Broken binding in_mapping rule place) = IsSomeAnd (slice_get o.systems.bindings binding) (λ (b : Binding). IsSome (origin_of in_mapping b))
+HasBindingPart o (binds.Broken binding in_mapping rule place) =
+    IsSomeAnd (slice_get o.systems.bindings binding) (λ (b : Binding).
+    IsSome (origin_of in_mapping b))
 HasBindingPart o binds.Memory = Unit {0}
 
 -- the component in whose description a fault is told stands in the outline
 abbrev pub HasComponent : Outline → AssemblyFault → Type 0
-HasComponent o (together.Broken component rule place ports) = IfSome component (λ n. n < length o.systems.components)
+HasComponent o (together.Broken component rule place ports) =
+    IfSome component (λ n. n < length o.systems.components)
 HasComponent o together.Memory = Unit {0}
 
 -- the end at a rule that what bindings give breaks, or that an outline and shapes break together, or without memory
-pub data EndsTogether (s : Search) (o : Outline) (shapes : List Shape) (given : List GivenBinding) (ended : LoadEnd) : Type 0 where
-  AtParameter : (n : ℕ) (in_mapping : Bool) (rule : Rule) (place : Place) (ports : List PortId) (file : NamedFile) → BreaksBindingAlone o shapes given n in_mapping rule place →
-      IsBindingToldIn s o n in_mapping file.path → ports ≡ [] → ended ≡ end.File file (Broken rule place ports) → EndsTogether s o shapes given ended
-  AtRule : (bound : Bound) (component : Option ℕ) (rule : Rule) (place : Place) (ports : List PortId) (file : NamedFile) → BindsAlone o shapes given bound →
-      BreaksTogetherAlone o shapes component rule place ports → IsToldIn s o component file.path → ended ≡ end.File file (Broken rule place ports) → EndsTogether s o shapes given ended
+pub data EndsTogether (s : Search) (o : Outline) (shapes : List Shape) (given : List GivenBinding)
+    (ended : LoadEnd) : Type 0 where
+  AtParameter : (n : ℕ) (in_mapping : Bool) (rule : Rule) (place : Place) (ports : List PortId)
+      (file : NamedFile) → BreaksBindingAlone o shapes given n in_mapping rule place →
+      IsBindingToldIn s o n in_mapping file.path → ports ≡ [] →
+      ended ≡ end.File file (Broken rule place ports) → EndsTogether s o shapes given ended
+  AtRule : (bound : Bound) (component : Option ℕ) (rule : Rule) (place : Place)
+      (ports : List PortId) (file : NamedFile) → BindsAlone o shapes given bound →
+      BreaksTogetherAlone o shapes component rule place ports → IsToldIn s o component file.path →
+      ended ≡ end.File file (Broken rule place ports) → EndsTogether s o shapes given ended
   NoSystemRoom : ended ≡ end.Memory → EndsTogether s o shapes given ended
 
 -- the shapes and what the bindings give were taken
-pub record TakesParts (s : Search) (o : Outline) (shapes : List Shape) (given : List GivenBinding) (old new : FolderView) : Type 0 where
+pub record TakesParts (s : Search) (o : Outline) (shapes : List Shape) (given : List GivenBinding)
+    (old new : FolderView) : Type 0 where
   pub mid : FolderView
   pub takes : TakesShapes s.per_second s.directory o.systems.components shapes old mid
   pub gives : TakesBindings s.directory o o.systems.bindings given mid new
 
 -- with these shapes the outline makes this system, and what the bindings give these values
-pub record IsLoaded (directory : List ℕ) (o : Outline) (shapes : List Shape) (given : List GivenBinding) (loaded : Loaded) : Type 0 where
+pub record IsLoaded (directory : List ℕ) (o : Outline) (shapes : List Shape)
+    (given : List GivenBinding) (loaded : Loaded) : Type 0 where
   pub binds : BindsAlone o shapes given loaded.bound
   pub makes : MakesAlone o shapes loaded.system
   pub folders : loaded.folders ≡ folders_of directory o
 
 -- they were taken, and make this system
-pub record TakesModels (s : Search) (o : Outline) (loaded : Loaded) (old new : FolderView) : Type 0 where
+pub record TakesModels (s : Search) (o : Outline) (loaded : Loaded)
+    (old new : FolderView) : Type 0 where
   pub shapes : List Shape
   pub given : List GivenBinding
   pub takes : TakesParts s o shapes given old new
   pub is : IsLoaded s.directory o shapes given loaded
 
 -- the end after there is an outline
-pub data EndsModels (s : Search) (o : Outline) (ended : LoadEnd) (old new : FolderView) : Type 0 where
-  OfShapes : EndsShapes s.per_second s.directory o.systems.components ended old new → EndsModels s o ended old new
-  OfBindings : (shapes : List Shape) (mid : FolderView) → TakesShapes s.per_second s.directory o.systems.components shapes old mid →
+pub data EndsModels (s : Search) (o : Outline) (ended : LoadEnd)
+    (old new : FolderView) : Type 0 where
+  OfShapes : EndsShapes s.per_second s.directory o.systems.components ended old new →
+      EndsModels s o ended old new
+  OfBindings : (shapes : List Shape) (mid : FolderView) →
+      TakesShapes s.per_second s.directory o.systems.components shapes old mid →
       EndsBindings s.subject s.directory o ended mid new → EndsModels s o ended old new
-  OfSystem : (shapes : List Shape) (given : List GivenBinding) → TakesParts s o shapes given old new → EndsTogether s o shapes given ended → EndsModels s o ended old new
+  OfSystem : (shapes : List Shape) (given : List GivenBinding) →
+      TakesParts s o shapes given old new → EndsTogether s o shapes given ended →
+      EndsModels s o ended old new

@@ -28,23 +28,32 @@ pub record IsBuilt (system : System) : Type 0 where
 
 -- there is a flattened system whose ports have orders
 abbrev pub IsOrdered : Outline → List Shape → Type 0
-IsOrdered o shapes = IsFitting o.systems shapes × ((system : System) × Flattens o.systems shapes system)
+IsOrdered o shapes =
+    IsFitting o.systems shapes × ((system : System) × Flattens o.systems shapes system)
 
 -- there is none, though each connector and connection fits
 abbrev pub HasNoOrder : Outline → List Shape → Type 0
-HasNoOrder o shapes = IsFitting o.systems shapes × ((system : System) → Flattens o.systems shapes system → ⊥)
+HasNoOrder o shapes =
+    IsFitting o.systems shapes × ((system : System) → Flattens o.systems shapes system → ⊥)
 
 -- the first rule that is broken, its place, and the ports of a loop. It is told in the description of a component, by its place, or in the file of the outline
-pub data BreaksTogether (o : Outline) (shapes : List Shape) : Option ℕ → Rule → Place → List PortId → Type 0 where
+pub data BreaksTogether (o : Outline) (shapes : List Shape) : Option ℕ → Rule → Place →
+    List PortId → Type 0 where
   -- connectors, connections, or too many ports
-  ByPart : (component : Option ℕ) (node : ℕ) (rule : Rule) (place : Place) (ports : List PortId) → IsFirstViolation o.systems shapes node rule →
-      component ≡ None → place ≡ place_in o node → ports ≡ [] → BreaksTogether o shapes component rule place ports
+  ByPart : (component : Option ℕ) (node : ℕ) (rule : Rule) (place : Place) (ports : List PortId) →
+      IsFirstViolation o.systems shapes node rule →
+      component ≡ None → place ≡ place_in o node → ports ≡ [] →
+      BreaksTogether o shapes component rule place ports
   -- a loop
-  ByLoop : (component : Option ℕ) (node : ℕ) (rule : Rule) (place : Place) (ports : List PortId) → HasNoOrder o shapes → TellsLoop o.systems shapes node ports →
-      component ≡ None → rule ≡ Loop → place ≡ place_in o node → BreaksTogether o shapes component rule place ports
+  ByLoop : (component : Option ℕ) (node : ℕ) (rule : Rule) (place : Place) (ports : List PortId) →
+      HasNoOrder o shapes → TellsLoop o.systems shapes node ports →
+      component ≡ None → rule ≡ Loop → place ≡ place_in o node →
+      BreaksTogether o shapes component rule place ports
   -- an FMU that asks for what isn't built yet
-  ByShape : (component : Option ℕ) (first : ℕ) (rule : Rule) (place : Place) (ports : List PortId) → IsOrdered o shapes →
-      position is_unbuilt shapes ≡ Some first → component ≡ Some first → rule ≡ Unbuilt → place ≡ whole_place → ports ≡ [] →
+  ByShape : (component : Option ℕ) (first : ℕ) (rule : Rule) (place : Place) (ports : List PortId) →
+      IsOrdered o shapes →
+      position is_unbuilt shapes ≡ Some first → component ≡ Some first → rule ≡ Unbuilt →
+      place ≡ whole_place → ports ≡ [] →
       BreaksTogether o shapes component rule place ports
 
 -- ---- the system
@@ -67,11 +76,14 @@ HaveSameParts one other = (one.components ≡ other.components) × (one.ports �
 pub record MakesAlone (o : Outline) (shapes : List Shape) (system : System) : Type 0 where
   pub is : Makes o shapes system
   pub only : (other : System) → Makes o shapes other → HaveSameParts system other
-  pub none : (component : Option ℕ) (rule : Rule) (place : Place) (ports : List PortId) → BreaksTogether o shapes component rule place ports → ⊥
+  pub none : (component : Option ℕ) (rule : Rule) (place : Place) (ports : List PortId) →
+      BreaksTogether o shapes component rule place ports → ⊥
 
 -- this rule is broken first, at this place and no other, and no system is made
-pub record BreaksTogetherAlone (o : Outline) (shapes : List Shape) (component : Option ℕ) (rule : Rule) (place : Place) (ports : List PortId) : Type 0 where
+pub record BreaksTogetherAlone (o : Outline) (shapes : List Shape) (component : Option ℕ)
+    (rule : Rule) (place : Place) (ports : List PortId) : Type 0 where
   pub broken : BreaksTogether o shapes component rule place ports
-  pub only : (in_description : Option ℕ) (other : Rule) (at : Place) (loop : List PortId) → BreaksTogether o shapes in_description other at loop →
+  pub only : (in_description : Option ℕ) (other : Rule) (at : Place) (loop : List PortId) →
+      BreaksTogether o shapes in_description other at loop →
       (component ≡ in_description) × ((rule ≡ other) × (place ≡ at))
   pub none : (system : System) → Makes o shapes system → ⊥

@@ -28,7 +28,8 @@ use Rattle.system_loading.specs.Outlines.{place_in}
 abbrev pub sets_at : ℕ → GivenBinding → BindingSets
 sets_at n g = record {
   values = record { file = 2 * n; set = g.values.set };
-  mapping = option_map (λ (m : GivenMapping). record { file = 2 * n + 1; mapping = m.mapping }) g.mapping;
+  mapping =
+      option_map (λ (m : GivenMapping). record { file = 2 * n + 1; mapping = m.mapping }) g.mapping;
 }
 
 abbrev pub sets_from : ℕ → List GivenBinding → List BindingSets
@@ -51,14 +52,18 @@ number_of n true = 2 * n + 1
 
 -- the documents of a binding's set and of its mapping, where these are files of their own
 abbrev pub documents_of : GivenBinding → Documents
-documents_of g = record { values = g.values.document; mapping = option_and_then (λ (m : GivenMapping). m.document) g.mapping }
+documents_of g = record {
+  values = g.values.document;
+  mapping = option_and_then (λ (m : GivenMapping). m.document) g.mapping;
+}
 
 abbrev pub own_document : Bool → Documents → Option (List Node)
 own_document false d = d.values
 own_document true d = d.mapping
 
 abbrev pub own_document_at : List Documents → ℕ → Bool → Option (List Node)
-own_document_at documents n in_mapping = option_and_then (own_document in_mapping) (slice_get documents n)
+own_document_at documents n in_mapping =
+    option_and_then (own_document in_mapping) (slice_get documents n)
 
 -- where an element is told that stands in this document, or in the outline
 abbrev pub place_by : Outline → Option (List Node) → ℕ → Place
@@ -66,7 +71,8 @@ place_by o None node = place_in o node
 place_by o (Some t) node = Element (path_to t node)
 
 abbrev pub place_in_part : Outline → List Documents → ℕ → Bool → ℕ → Place
-place_in_part o documents n in_mapping node = place_by o (own_document_at documents n in_mapping) node
+place_in_part o documents n in_mapping node =
+    place_by o (own_document_at documents n in_mapping) node
 
 -- where a place of a set or of a mapping is told: in its own document, or in that of the outline
 abbrev pub place_at : Outline → List GivenBinding → rules.Place → Place
@@ -74,12 +80,14 @@ place_at o given p = place_in_part o (map documents_of given) p.binding p.in_map
 
 -- ---- what they give, and which rule they break
 
-pub record Binds (o : Outline) (shapes : List Shape) (given : List GivenBinding) (bound : Bound) : Type 0 where
+pub record Binds (o : Outline) (shapes : List Shape) (given : List GivenBinding)
+    (bound : Bound) : Type 0 where
   pub fits : rules.IsFitting o.systems shapes (sets_of given)
   pub gives : AreBound o.systems shapes (sets_of given) bound
 
 -- the set of a binding, or its mapping, breaks this rule first, at this place
-pub record BreaksBinding (o : Outline) (shapes : List Shape) (given : List GivenBinding) (binding : ℕ) (in_mapping : Bool) (rule : Rule) (place : Place) : Type 0 where
+pub record BreaksBinding (o : Outline) (shapes : List Shape) (given : List GivenBinding)
+    (binding : ℕ) (in_mapping : Bool) (rule : Rule) (place : Place) : Type 0 where
   pub at : rules.Place
   pub broken : ParameterRule
   pub first : rules.IsFirstViolation o.systems shapes (sets_of given) at broken
@@ -89,23 +97,29 @@ pub record BreaksBinding (o : Outline) (shapes : List Shape) (given : List Given
   pub place_is : place ≡ place_at o given at
 
 -- these values are given and no others, and no rule is broken
-pub record BindsAlone (o : Outline) (shapes : List Shape) (given : List GivenBinding) (bound : Bound) : Type 0 where
+pub record BindsAlone (o : Outline) (shapes : List Shape) (given : List GivenBinding)
+    (bound : Bound) : Type 0 where
   pub is : Binds o shapes given bound
   pub only : (other : Bound) → Binds o shapes given other → bound ≡ other
-  pub none : (binding : ℕ) (in_mapping : Bool) (rule : Rule) (place : Place) → BreaksBinding o shapes given binding in_mapping rule place → ⊥
+  pub none : (binding : ℕ) (in_mapping : Bool) (rule : Rule) (place : Place) →
+      BreaksBinding o shapes given binding in_mapping rule place → ⊥
 
 -- this rule is broken first, at this place and no other, and no values are given
-pub record BreaksBindingAlone (o : Outline) (shapes : List Shape) (given : List GivenBinding) (binding : ℕ) (in_mapping : Bool) (rule : Rule) (place : Place) : Type 0 where
+pub record BreaksBindingAlone (o : Outline) (shapes : List Shape) (given : List GivenBinding)
+    (binding : ℕ) (in_mapping : Bool) (rule : Rule) (place : Place) : Type 0 where
   pub broken : BreaksBinding o shapes given binding in_mapping rule place
-  pub only : (other : ℕ) (mapped : Bool) (another : Rule) (at : Place) → BreaksBinding o shapes given other mapped another at →
+  pub only : (other : ℕ) (mapped : Bool) (another : Rule) (at : Place) →
+      BreaksBinding o shapes given other mapped another at →
       (binding ≡ other) × (in_mapping ≡ mapped) × (rule ≡ another) × (place ≡ at)
   pub none : (bound : Bound) → Binds o shapes given bound → ⊥
 
 abbrev pub TellsBinding : Outline → List Shape → List GivenBinding → BindingFault → Type 0
-TellsBinding o shapes given (Broken binding in_mapping rule place) = BreaksBindingAlone o shapes given binding in_mapping rule place
+TellsBinding o shapes given (Broken binding in_mapping rule place) =
+    BreaksBindingAlone o shapes given binding in_mapping rule place
 TellsBinding o shapes given Memory = Unit {0}
 
 -- the fault tells this binding, rule and place, unless memory is wanting
 abbrev pub SaysBinding : ℕ → Bool → Rule → Place → BindingFault → Type 0
-SaysBinding binding in_mapping rule place (Broken n m r p) = (n ≡ binding) × (m ≡ in_mapping) × (r ≡ rule) × (p ≡ place)
+SaysBinding binding in_mapping rule place (Broken n m r p) =
+    (n ≡ binding) × (m ≡ in_mapping) × (r ≡ rule) × (p ≡ place)
 SaysBinding binding in_mapping rule place Memory = Unit {0}

@@ -23,7 +23,8 @@ TellsFirst Says Breaks Memory = Unit {0}
 
 -- the same of what an outline and shapes break together
 abbrev pub TellsTogether : Outline → List Shape → AssemblyFault → Type 0
-TellsTogether o shapes (together.Broken component rule place ports) = BreaksTogetherAlone o shapes component rule place ports
+TellsTogether o shapes (together.Broken component rule place ports) =
+    BreaksTogetherAlone o shapes component rule place ports
 TellsTogether o shapes together.Memory = Unit {0}
 
 -- the same of a part that isn't built yet, where there is a flattened system whose ports have orders
@@ -39,7 +40,8 @@ SaysFault rule place Memory = Unit {0}
 
 -- the fault tells this component, rule, place and these ports, unless memory is wanting
 abbrev pub SaysTogether : Option ℕ → Rule → Place → List PortId → AssemblyFault → Type 0
-SaysTogether component rule place ports (together.Broken c r p l) = (c ≡ component) × (r ≡ rule) × (p ≡ place) × (l ≡ ports)
+SaysTogether component rule place ports (together.Broken c r p l) =
+    (c ≡ component) × (r ≡ rule) × (p ≡ place) × (l ≡ ports)
 SaysTogether component rule place ports together.Memory = Unit {0}
 
 -- the fault of bytes that are no document

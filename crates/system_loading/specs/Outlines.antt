@@ -40,4 +40,5 @@ whole_place = Element (codes "/fmiModelDescription[1]")
 
 -- where an element of the tree is told: in its document, or as the whole description of the FMU that is alone
 abbrev pub place_in : Outline → ℕ → Place
-place_in outline node = option_map_or (λ (t : List Node). Element (path_to t node)) outline.document whole_place
+place_in outline node =
+    option_map_or (λ (t : List Node). Element (path_to t node)) outline.document whole_place

@@ -25,29 +25,36 @@ use Rattle.system_loading.specs.Outlines.{IsOutlineOf}
 -- ---- any file
 
 -- the bytes are a document without violation that says this
-pub record SaysBy {A : Type 0} (IsSound : List Node → Type 0) (Describes : List Node → A → Type 0) (bytes : List ℕ) (said : A) : Type 0 where
+pub record SaysBy {A : Type 0} (IsSound : List Node → Type 0) (Describes : List Node → A → Type 0)
+    (bytes : List ℕ) (said : A) : Type 0 where
   pub document : List Node
   pub denotes : Denotes bytes document
   pub sound : IsSound document
   pub describes : Describes document said
 
 -- the rule that bytes break first, and its place
-pub data BreaksBy {R : Type 0} (rule_of : R → Rule) (IsFirst : List Node → ℕ → R → Type 0) (bytes : List ℕ) : Rule → Place → Type 0 where
+pub data BreaksBy {R : Type 0} (rule_of : R → Rule) (IsFirst : List Node → ℕ → R → Type 0)
+    (bytes : List ℕ) : Rule → Place → Type 0 where
   -- they are no document, at a byte
-  ByDocument : (why : d.Rule) (byte : ℕ) (rule : Rule) (place : Place) → IsFault bytes why byte → rule ≡ Document why → place ≡ Byte byte →
+  ByDocument : (why : d.Rule) (byte : ℕ) (rule : Rule) (place : Place) → IsFault bytes why byte →
+      rule ≡ Document why → place ≡ Byte byte →
       BreaksBy rule_of IsFirst bytes rule place
   -- an element breaks it
-  ByElement : (document : List Node) (element : ℕ) (broken : R) (rule : Rule) (place : Place) → Denotes bytes document → IsFirst document element broken →
-      rule ≡ rule_of broken → place ≡ Element (path_to document element) → BreaksBy rule_of IsFirst bytes rule place
+  ByElement : (document : List Node) (element : ℕ) (broken : R) (rule : Rule) (place : Place) →
+      Denotes bytes document → IsFirst document element broken →
+      rule ≡ rule_of broken → place ≡ Element (path_to document element) →
+      BreaksBy rule_of IsFirst bytes rule place
 
 -- this is said and nothing else, and no rule is broken
-pub record SaysAlone {A : Type 0} (Says : A → Type 0) (Breaks : Rule → Place → Type 0) (said : A) : Type 0 where
+pub record SaysAlone {A : Type 0} (Says : A → Type 0) (Breaks : Rule → Place → Type 0)
+    (said : A) : Type 0 where
   pub is : Says said
   pub only : (other : A) → Says other → said ≡ other
   pub none : (rule : Rule) (place : Place) → Breaks rule place → ⊥
 
 -- this rule is broken first, at this place and no other, and nothing is said
-pub record BreaksAlone {A : Type 0} (Says : A → Type 0) (Breaks : Rule → Place → Type 0) (rule : Rule) (place : Place) : Type 0 where
+pub record BreaksAlone {A : Type 0} (Says : A → Type 0) (Breaks : Rule → Place → Type 0)
+    (rule : Rule) (place : Place) : Type 0 where
   pub broken : Breaks rule place
   pub only : (other : Rule) (at : Place) → Breaks other at → (rule ≡ other) × (place ≡ at)
   pub none : (said : A) → Says said → ⊥
@@ -56,11 +63,14 @@ pub record BreaksAlone {A : Type 0} (Says : A → Type 0) (Breaks : Rule → Pla
 
 -- the bytes are a description of an FMU of this shape, where a second has so many counts
 abbrev pub IsModel : ℕ → List ℕ → Shape → Type 0
-IsModel per_second bytes shape = SaysBy (λ t. model.IsSound t per_second) (λ t s. model_says.Describes t per_second s) bytes shape
+IsModel per_second bytes shape =
+    SaysBy (λ t. model.IsSound t per_second) (λ t s.
+    model_says.Describes t per_second s) bytes shape
 
 abbrev pub BreaksModel : ℕ → List ℕ → Rule → Place → Type 0
 BreaksModel per_second bytes rule place =
-    BreaksBy (λ (r : DescriptionRule). Description r) (λ t k r. model.IsFirstViolation t per_second k r) bytes rule place
+    BreaksBy (λ (r : DescriptionRule). Description r) (λ t k r.
+    model.IsFirstViolation t per_second k r) bytes rule place
 
 -- ---- a system structure description (SSP 1.0, SystemStructure.ssd)
 
@@ -69,7 +79,8 @@ abbrev pub IsStructure : List ℕ → Outline → Type 0
 IsStructure bytes outline = SaysBy structure.IsSound IsOutlineOf bytes outline
 
 abbrev pub BreaksStructure : List ℕ → Rule → Place → Type 0
-BreaksStructure bytes rule place = BreaksBy (λ (r : SystemRule). System r) structure.IsFirstViolation bytes rule place
+BreaksStructure bytes rule place =
+    BreaksBy (λ (r : SystemRule). System r) structure.IsFirstViolation bytes rule place
 
 -- ---- a set of parameter values, and a mapping of parameters (SSP 1.0, SSV and SSM)
 
@@ -82,7 +93,9 @@ abbrev pub IsValues : List ℕ → GivenSet → Type 0
 IsValues bytes given = SaysBy (λ t. IsSoundSet t None) IsSetOf bytes given
 
 abbrev pub BreaksValues : List ℕ → Rule → Place → Type 0
-BreaksValues bytes rule place = BreaksBy (λ (r : ParameterRule). Parameters r) (λ t k r. IsFirstInSet t None k r) bytes rule place
+BreaksValues bytes rule place =
+    BreaksBy (λ (r : ParameterRule). Parameters r) (λ t k r.
+    IsFirstInSet t None k r) bytes rule place
 
 -- the same of a mapping
 abbrev pub IsMappingOf : List Node → GivenMapping → Type 0
@@ -92,19 +105,24 @@ abbrev pub IsMapping : List ℕ → GivenMapping → Type 0
 IsMapping bytes given = SaysBy (λ t. IsSoundMapping t None) IsMappingOf bytes given
 
 abbrev pub BreaksMapping : List ℕ → Rule → Place → Type 0
-BreaksMapping bytes rule place = BreaksBy (λ (r : ParameterRule). Parameters r) (λ t k r. IsFirstInMapping t None k r) bytes rule place
+BreaksMapping bytes rule place =
+    BreaksBy (λ (r : ParameterRule). Parameters r) (λ t k r.
+    IsFirstInMapping t None k r) bytes rule place
 
 -- ---- the same within an element of the outline's document
 
 -- the outline's document has this within the element
-pub record SaysWithin {A : Type 0} (IsSound : List Node → Option ℕ → Type 0) (Describes : List Node → Option ℕ → A → Type 0) (outline : Outline) (holder : ℕ) (said : A) : Type 0 where
+pub record SaysWithin {A : Type 0} (IsSound : List Node → Option ℕ → Type 0)
+    (Describes : List Node → Option ℕ → A → Type 0) (outline : Outline) (holder : ℕ)
+    (said : A) : Type 0 where
   pub document : List Node
   pub is : outline.document ≡ Some document
   pub sound : IsSound document (Some holder)
   pub describes : Describes document (Some holder) said
 
 -- the rule that what is within the element breaks first, and its place
-pub record BreaksWithin (IsFirst : List Node → Option ℕ → ℕ → ParameterRule → Type 0) (outline : Outline) (holder : ℕ) (rule : Rule) (place : Place) : Type 0 where
+pub record BreaksWithin (IsFirst : List Node → Option ℕ → ℕ → ParameterRule → Type 0)
+    (outline : Outline) (holder : ℕ) (rule : Rule) (place : Place) : Type 0 where
   pub document : List Node
   pub is : outline.document ≡ Some document
   pub element : ℕ
@@ -129,4 +147,5 @@ abbrev pub IsMappingWithin : Outline → ℕ → GivenMapping → Type 0
 IsMappingWithin outline holder given = SaysWithin IsSoundMapping IsMappingIn outline holder given
 
 abbrev pub BreaksMappingWithin : Outline → ℕ → Rule → Place → Type 0
-BreaksMappingWithin outline holder rule place = BreaksWithin IsFirstInMapping outline holder rule place
+BreaksMappingWithin outline holder rule place =
+    BreaksWithin IsFirstInMapping outline holder rule place

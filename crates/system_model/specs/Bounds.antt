@@ -27,4 +27,6 @@ pub record AreParameterValues (shape : Shape) (values : List BoundValue) : Type 
 
 -- there is a list for each component, in their order, and it has values for parameters of that component
 abbrev pub BindsParameters : System → Bound → Type 0
-BindsParameters system bound = AllZip (λ (c : Component) (values : List BoundValue). AreParameterValues c.shape values) system.components bound.components
+BindsParameters system bound =
+    AllZip (λ (c : Component) (values : List BoundValue). AreParameterValues c.shape values)
+    system.components bound.components

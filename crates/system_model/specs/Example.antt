@@ -15,13 +15,40 @@ use Rattle.system_model.specs.declared.system.Port.{Port}
 use Rattle.system_model.specs.declared.system.System.{System}
 
 abbrev pub variable_c : Variable
-variable_c = record { name = codes "c"; aliases = []; reference = 1; kind = Some T.Clock; causality = V.Input; clocks = []; start = None; can_be_set_again = true }
+variable_c = record {
+  name = codes "c";
+  aliases = [];
+  reference = 1;
+  kind = Some T.Clock;
+  causality = V.Input;
+  clocks = [];
+  start = None;
+  can_be_set_again = true;
+}
 
 abbrev pub variable_u : Variable
-variable_u = record { name = codes "u"; aliases = []; reference = 2; kind = Some T.Int32; causality = V.Input; clocks = 1 ∷ []; start = None; can_be_set_again = true }
+variable_u = record {
+  name = codes "u";
+  aliases = [];
+  reference = 2;
+  kind = Some T.Int32;
+  causality = V.Input;
+  clocks = 1 ∷ [];
+  start = None;
+  can_be_set_again = true;
+}
 
 abbrev pub variable_y : Variable
-variable_y = record { name = codes "y"; aliases = []; reference = 3; kind = Some T.Int32; causality = V.Output; clocks = []; start = None; can_be_set_again = true }
+variable_y = record {
+  name = codes "y";
+  aliases = [];
+  reference = 3;
+  kind = Some T.Int32;
+  causality = V.Output;
+  clocks = [];
+  start = None;
+  can_be_set_again = true;
+}
 
 -- every hundredth of a second
 abbrev pub timing_c : ClockTiming
@@ -56,13 +83,34 @@ abbrev pub sampling_component : Component
 sampling_component = record { name = codes "s"; source = record { 0 = 0 }; shape = sampling_shape }
 
 abbrev pub port_c : Port
-port_c = record { component = record { 0 = 0 }; name = codes "c"; kind = T.Clock; reference = 1; role = TimeClock (Periodic 10 0); clocks = [] }
+port_c = record {
+  component = record { 0 = 0 };
+  name = codes "c";
+  kind = T.Clock;
+  reference = 1;
+  role = TimeClock (Periodic 10 0);
+  clocks = [];
+}
 
 abbrev pub port_u : Port
-port_u = record { component = record { 0 = 0 }; name = codes "u"; kind = T.Int32; reference = 2; role = Input (Some (record { from = record { 0 = 2 } })); clocks = record { 0 = 0 } ∷ [] }
+port_u = record {
+  component = record { 0 = 0 };
+  name = codes "u";
+  kind = T.Int32;
+  reference = 2;
+  role = Input (Some (record { from = record { 0 = 2 } }));
+  clocks = record { 0 = 0 } ∷ [];
+}
 
 abbrev pub port_y : Port
-port_y = record { component = record { 0 = 0 }; name = codes "y"; kind = T.Int32; reference = 3; role = Output; clocks = [] }
+port_y = record {
+  component = record { 0 = 0 };
+  name = codes "y";
+  kind = T.Int32;
+  reference = 3;
+  role = Output;
+  clocks = [];
+}
 
 abbrev pub sampling_system : System
 sampling_system = record {

@@ -24,9 +24,12 @@ pub record DependsOn (system : System) (initializing : Bool) (p q : ℕ) : Type 
 
 -- in an instant p needs q: q feeds it, q is one of its Clocks, or p is an output of an FMU with event mode and depends on q
 pub data Needs (system : System) (p q : ℕ) : Type 0 where
-  ByFeed : (port : Port) → slice_get system.ports p ≡ Some port → source_of port.role ≡ Some q → Needs system p q
-  ByClock : (port : Port) → slice_get system.ports p ≡ Some port → Contains (numbers port.clocks) q → Needs system p q
-  ByDependency : (depends : DependsOn system false p q) → depends.component.shape.has_event_mode ≡ true → Needs system p q
+  ByFeed : (port : Port) → slice_get system.ports p ≡ Some port →
+      source_of port.role ≡ Some q → Needs system p q
+  ByClock : (port : Port) → slice_get system.ports p ≡ Some port →
+      Contains (numbers port.clocks) q → Needs system p q
+  ByDependency : (depends : DependsOn system false p q) →
+      depends.component.shape.has_event_mode ≡ true → Needs system p q
 
 -- ---- in Initialization Mode
 
@@ -40,5 +43,7 @@ is_unclocked_at ports p = option_map_or is_unclocked (slice_get ports p) false
 -- in Initialization Mode p needs q, both without Clocks: q feeds it, or p is an output that depends on q
 pub data NeedsInitially (system : System) (p q : ℕ) : Type 0 where
   InitiallyByFeed : is_unclocked_at system.ports p ≡ true → is_unclocked_at system.ports q ≡ true →
-      (port : Port) → slice_get system.ports p ≡ Some port → source_of port.role ≡ Some q → NeedsInitially system p q
-  InitiallyByDependency : is_unclocked_at system.ports p ≡ true → is_unclocked_at system.ports q ≡ true → DependsOn system true p q → NeedsInitially system p q
+      (port : Port) → slice_get system.ports p ≡ Some port → source_of port.role ≡ Some q →
+      NeedsInitially system p q
+  InitiallyByDependency : is_unclocked_at system.ports p ≡ true →
+      is_unclocked_at system.ports q ≡ true → DependsOn system true p q → NeedsInitially system p q

@@ -6,4 +6,5 @@ pub record IsOrder (IsAmong : ℕ → Type 0) (NeedsOf : ℕ → ℕ → Type 0)
   pub each : (p : ℕ) → IsAmong p → Contains order p
   pub only : (p : ℕ) → Contains order p → IsAmong p
   pub once : (before behind : List ℕ) (p : ℕ) → order ≡ before ++ p ∷ behind → Contains before p → ⊥
-  pub after : (before behind : List ℕ) (p q : ℕ) → order ≡ before ++ p ∷ behind → NeedsOf p q → Contains before q
+  pub after : (before behind : List ℕ) (p q : ℕ) → order ≡ before ++ p ∷ behind →
+      NeedsOf p q → Contains before q

@@ -20,7 +20,8 @@ pub record HasOutputsAlone (shape : Shape) : Type 0 where
   pub no_early : shape.might_return_early ≡ false
   pub no_inputs : All (λ (v : Variable). is_input_port v ≡ false) shape.variables
   pub no_clocks : All (λ (v : Variable). is_clock v ≡ false) shape.variables
-  pub independent : All (λ (d : Dependency). (d.on ≡ AllInputs) ⊎ (d.on ≡ Listed [])) shape.initial_dependencies
+  pub independent : All (λ (d : Dependency). (d.on ≡ AllInputs) ⊎
+      (d.on ≡ Listed [])) shape.initial_dependencies
 
 -- components of such shapes, each with a name and all at one resolution; both orders take their ports by number
 pub record IsOfOutputs (system : System) : Type 0 where

@@ -52,11 +52,19 @@ pub record Label : Type 0 where
   pub reference : ℕ
 
 abbrev pub label_of : Port → Label
-label_of port = record { component = port.component.0; name = port.name; kind = port.kind; reference = port.reference }
+label_of port = record {
+  component = port.component.0;
+  name = port.name;
+  kind = port.kind;
+  reference = port.reference;
+}
 
 -- a variable of the i-th component as a port, where it is one
 abbrev pub label_at : ℕ → Variable → Option Label
-label_at i v = if is_port v then option_map (λ (kind : PortType). record { component = i; name = v.name; kind = kind; reference = v.reference }) v.kind else None
+label_at i v =
+    if is_port v then option_map (λ (kind : PortType).
+    record { component = i; name = v.name; kind = kind; reference = v.reference }) v.kind
+    else None
 
 -- the ports of these components, by component and then by place in its description; the numbers of the components go on from i
 abbrev pub labels_from : ℕ → List Component → List Label

@@ -29,7 +29,8 @@ HasFittingStart v = IfSome v.start (λ x. IsSomeAnd v.kind (λ (kind : PortType)
 
 -- what the variable names as its Clocks are Clocks, and aren't foreign where it isn't
 abbrev pub NamesClocks : Shape → Variable → Type 0
-NamesClocks shape v = is_some v.kind ≡ true → All (λ r. is_at is_clock shape.variables r ≡ true) v.clocks
+NamesClocks shape v =
+    is_some v.kind ≡ true → All (λ r. is_at is_clock shape.variables r ≡ true) v.clocks
 
 pub record HasSoundVariables (shape : Shape) : Type 0 where
   pub named : All HasNames shape.variables
@@ -66,8 +67,10 @@ pub record IsSoundClock (shape : Shape) (v : Variable) (timing : ClockTiming) : 
   pub reference : timing.reference ≡ v.reference
   pub events : shape.has_event_mode ≡ true
   pub causality : MayTick timing.variability v.causality
-  pub described : is_described timing.variability timing.supports_fraction ≡ true → IsSome timing.interval × IsSome timing.shift
-  pub interval : IfSome timing.interval (λ (f : Fraction). (0 < f.counter) × IsWhole shape.resolution f)
+  pub described : is_described timing.variability timing.supports_fraction ≡ true →
+      IsSome timing.interval × IsSome timing.shift
+  pub interval : IfSome timing.interval (λ (f : Fraction). (0 < f.counter) ×
+      IsWhole shape.resolution f)
   pub shift : IfSome timing.shift (IsWhole shape.resolution)
 
 -- ---- dependencies (2.4.9)
@@ -88,6 +91,8 @@ pub record IsSoundDependency (shape : Shape) (v : Variable) (dependency : Depend
 pub record IsSoundShape (shape : Shape) : Type 0 where
   pub variables : HasSoundVariables shape
   pub clocks : AllZip (IsSoundClock shape) (filter is_clock shape.variables) shape.clocks
-  pub dependencies : AllZip (IsSoundDependency shape) (filter is_output_port shape.variables) shape.dependencies
-  pub initial_dependencies : AllZip (IsSoundDependency shape) (filter is_output_port shape.variables) shape.initial_dependencies
+  pub dependencies : AllZip (IsSoundDependency shape)
+      (filter is_output_port shape.variables) shape.dependencies
+  pub initial_dependencies : AllZip (IsSoundDependency shape)
+      (filter is_output_port shape.variables) shape.initial_dependencies
   pub serialized : shape.can_serialize_state ≡ true → shape.can_save_state ≡ true

@@ -35,13 +35,15 @@ pub record HasSoundComponents (system : System) : Type 0 where
   pub above : 0 < per_second
   pub within : per_second ≤ 2 ^ 62
   pub resolutions : All (λ (c : Component). c.shape.resolution ≡ per_second) system.components
-  pub saved : (i j : ℕ) (early other : Component) → slice_get system.components i ≡ Some early → slice_get system.components j ≡ Some other → i ≢ j →
+  pub saved : (i j : ℕ) (early other : Component) → slice_get system.components i ≡ Some early →
+      slice_get system.components j ≡ Some other → i ≢ j →
       early.shape.might_return_early ≡ true → other.shape.can_save_state ≡ true
 
 -- ---- ports
 
 -- a port, its component, and its variable there
-pub record IsPort (system : System) (p : ℕ) (port : Port) (component : Component) (variable : Variable) : Type 0 where
+pub record IsPort (system : System) (p : ℕ) (port : Port) (component : Component)
+    (variable : Variable) : Type 0 where
   pub at : slice_get system.ports p ≡ Some port
   pub of : slice_get system.components port.component.0 ≡ Some component
   pub there : variable_at component.shape.variables port.reference ≡ Some variable
@@ -58,7 +60,8 @@ pub record IsPeriodic (per_second : ℕ) (clock : ClockTiming) (interval shift :
 -- the timing of a time-based Clock is that of its description
 abbrev pub IsTiming : ℕ → ClockTiming → Timing → Type 0
 IsTiming per_second clock (Periodic interval shift) = IsPeriodic per_second clock interval shift
-IsTiming per_second clock Answered = (clock.variability ≡ v.Fixed) × (clock.supports_fraction ≡ true)
+IsTiming per_second clock Answered =
+    (clock.variability ≡ v.Fixed) × (clock.supports_fraction ≡ true)
 IsTiming per_second clock Countdown = clock.variability ≡ v.Countdown
 
 -- the role of a port is that of its variable
@@ -66,21 +69,29 @@ abbrev pub IsRole : Shape → Variable → Role → Type 0
 IsRole shape x (Input feed) = (x.causality ≡ c.Input) × (is_clock x ≡ false)
 IsRole shape x Output = (x.causality ≡ c.Output) × (is_clock x ≡ false)
 IsRole shape x (ClockInput feed) =
-    (x.causality ≡ c.Input) × (is_clock x ≡ true) × IsSomeAnd (timing_at shape.clocks x.reference) (λ (t : ClockTiming). t.variability ≡ v.Triggered)
+    (x.causality ≡ c.Input) × (is_clock x ≡ true) ×
+    IsSomeAnd (timing_at shape.clocks x.reference) (λ (t : ClockTiming).
+    t.variability ≡ v.Triggered)
 IsRole shape x ClockOutput = (x.causality ≡ c.Output) × (is_clock x ≡ true)
 IsRole shape x (TimeClock timing) =
-    (x.causality ≡ c.Input) × (is_clock x ≡ true) × IsSomeAnd (timing_at shape.clocks x.reference) (λ (t : ClockTiming). IsTiming shape.resolution t timing)
+    (x.causality ≡ c.Input) × (is_clock x ≡ true) ×
+    IsSomeAnd (timing_at shape.clocks x.reference) (λ (t : ClockTiming).
+    IsTiming shape.resolution t timing)
 
 -- the number is that of the i-th component's port under a reference
 abbrev pub IsUnder : System → ℕ → ℕ → PortId → Type 0
-IsUnder system i reference p = IsSomeAnd (slice_get system.ports p.0) (λ (port : Port). (port.component.0 ≡ i) × (port.reference ≡ reference))
+IsUnder system i reference p =
+    IsSomeAnd (slice_get system.ports p.0) (λ (port : Port). (port.component.0 ≡ i) ×
+    (port.reference ≡ reference))
 
 -- the ports are the variables of the components that are inputs or outputs and aren't foreign, by component and place in its description; each has the role and the Clocks of its variable
 pub record HasSoundPorts (system : System) : Type 0 where
   pub few : length system.ports ≤ 65536
   pub numbered : map label_of system.ports ≡ labels_from 0 system.components
-  pub roles : (p : ℕ) (port : Port) (component : Component) (variable : Variable) → IsPort system p port component variable → IsRole component.shape variable port.role
-  pub clocks : (p : ℕ) (port : Port) (component : Component) (variable : Variable) → IsPort system p port component variable →
+  pub roles : (p : ℕ) (port : Port) (component : Component) (variable : Variable) →
+      IsPort system p port component variable → IsRole component.shape variable port.role
+  pub clocks : (p : ℕ) (port : Port) (component : Component) (variable : Variable) →
+      IsPort system p port component variable →
       AllZip (IsUnder system port.component.0) variable.clocks port.clocks
 
 -- ---- connections
@@ -92,7 +103,8 @@ pub record IsFeed (source target : Port) : Type 0 where
 
 -- each connected input has its source
 abbrev pub HasSoundFeeds : System → Type 0
-HasSoundFeeds system = (p q : ℕ) (port : Port) → slice_get system.ports p ≡ Some port → source_of port.role ≡ Some q →
+HasSoundFeeds system =
+    (p q : ℕ) (port : Port) → slice_get system.ports p ≡ Some port → source_of port.role ≡ Some q →
     IsSomeAnd (slice_get system.ports q) (λ (source : Port). IsFeed source port)
 
 -- ---- the whole
@@ -102,5 +114,7 @@ pub record IsSound (system : System) : Type 0 where
   pub components : HasSoundComponents system
   pub ports : HasSoundPorts system
   pub feeds : HasSoundFeeds system
-  pub instant_order : IsOrder (λ p. p < length system.ports) (Needs system) (numbers system.instant_order)
-  pub initial_order : IsOrder (λ p. is_unclocked_at system.ports p ≡ true) (NeedsInitially system) (numbers system.initial_order)
+  pub instant_order : IsOrder (λ p. p < length system.ports) (Needs system)
+      (numbers system.instant_order)
+  pub initial_order : IsOrder (λ p. is_unclocked_at system.ports p ≡ true) (NeedsInitially system)
+      (numbers system.initial_order)

@@ -38,16 +38,20 @@ component_name components k = option_map_or (λ (c : Component). c.name) (slice_
 
 abbrev pub port_line : List Component → ℕ → Port → List ℕ
 port_line components k port =
-    codes "port " ++ decimal k ++ codes " " ++ type_name port.kind ++ codes " " ++ escaped (component_name components port.component.0) ++ codes " " ++ escaped port.name ++ codes "\n"
+    codes "port " ++ decimal k ++ codes " " ++ type_name port.kind ++ codes " " ++
+    escaped (component_name components port.component.0) ++ codes " " ++
+    escaped port.name ++ codes "\n"
 
 -- a line for each port, whose numbers go on from k
 abbrev pub port_lines_from : List Component → ℕ → List Port → List ℕ
 port_lines_from components k [] = []
-port_lines_from components k (port ∷ ports) = port_line components k port ++ port_lines_from components (k + 1) ports
+port_lines_from components k (port ∷ ports) =
+    port_line components k port ++ port_lines_from components (k + 1) ports
 
 abbrev pub header_text : System → ℕ → ℕ → ℕ → List ℕ
 header_text system resolution start stop =
-    codes "trace 1 " ++ decimal resolution ++ codes " " ++ decimal start ++ codes " " ++ decimal stop ++ codes "\n" ++ port_lines_from system.components 0 system.ports
+    codes "trace 1 " ++ decimal resolution ++ codes " " ++ decimal start ++ codes " " ++
+    decimal stop ++ codes "\n" ++ port_lines_from system.components 0 system.ports
 
 abbrev pub value_line : ℕ → ℤ → List ℕ
 value_line k value = decimal k ++ codes " " ++ signed_decimal value ++ codes "\n"
@@ -59,7 +63,8 @@ value_lines_from k (None ∷ values) = value_lines_from (k + 1) values
 value_lines_from k (Some value ∷ values) = value_line k value ++ value_lines_from (k + 1) values
 
 abbrev pub instant_text : ℕ → ℕ → List (Option ℤ) → List ℕ
-instant_text t n values = codes "at " ++ decimal t ++ codes " " ++ decimal n ++ codes "\n" ++ value_lines_from 0 values
+instant_text t n values =
+    codes "at " ++ decimal t ++ codes " " ++ decimal n ++ codes "\n" ++ value_lines_from 0 values
 
 abbrev pub instants_text : List Instant → List ℕ
 instants_text [] = []
@@ -77,4 +82,5 @@ end_text kind t = codes "end " ++ kind_text kind ++ codes " " ++ decimal t ++ co
 
 abbrev pub trace_text : System → Plan → List Instant → EndKind → ℕ → List ℕ
 trace_text system plan instants kind point =
-    header_text system plan.resolution plan.start plan.stop ++ (instants_text instants ++ end_text kind point)
+    header_text system plan.resolution plan.start plan.stop ++
+    (instants_text instants ++ end_text kind point)

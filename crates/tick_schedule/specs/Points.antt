@@ -20,7 +20,8 @@ point_of start stop (Countdown None) = past
 -- interval and shift are within bounds
 abbrev pub IsSoundState : ClockState → Type 0
 IsSoundState Unasked = ⊤
-IsSoundState (Periodic interval shift ticks) = (0 < interval) × (interval ≤ 2 ^ 126) × (shift ≤ 2 ^ 126)
+IsSoundState (Periodic interval shift ticks) =
+    (0 < interval) × (interval ≤ 2 ^ 126) × (shift ≤ 2 ^ 126)
 IsSoundState (Countdown armed) = ⊤
 
 -- the next tick is so near that its point is no number past 128 bits

@@ -20,12 +20,15 @@ pub record Timetable : Type 0 where
 -- the Clock has a tick at `t` that it still has to make: a periodic one by its shift and interval, from its next tick on; a countdown one where it is armed for `t`
 abbrev pub IsToTick : ℕ → ClockState → ℕ → Type 0
 IsToTick start Unasked t = ⊥
-IsToTick start (Periodic interval shift ticks) t = IsTick start shift interval t × (start + shift + ticks * interval ≤ t)
+IsToTick start (Periodic interval shift ticks) t =
+    IsTick start shift interval t × (start + shift + ticks * interval ≤ t)
 IsToTick start (Countdown armed) t = armed ≡ Some t
 
 -- the Clock at this place has a tick at `t` that it still has to make, and `t` isn't past the stop
 abbrev pub TicksAt : Timetable → ℕ → ℕ → Type 0
-TicksAt table clock t = (t ≤ table.stop) × IsSomeAnd (slice_get table.clocks clock) (λ state. IsToTick table.start state t)
+TicksAt table clock t =
+    (t ≤ table.stop) × IsSomeAnd (slice_get table.clocks clock) (λ state.
+    IsToTick table.start state t)
 
 -- a tick is left that it has to make
 abbrev pub HasNext : Timetable → ℕ → Type 0
@@ -49,7 +52,8 @@ IsUnasked table clock = slice_get table.clocks clock ≡ Some Unasked
 
 -- a countdown Clock, armed or not
 abbrev pub IsCountdown : Timetable → ℕ → Type 0
-IsCountdown table clock = (armed : Option ℕ) × (slice_get table.clocks clock ≡ Some (Countdown armed))
+IsCountdown table clock =
+    (armed : Option ℕ) × (slice_get table.clocks clock ≡ Some (Countdown armed))
 
 -- ---- before a run
 

@@ -32,7 +32,8 @@ lines_to values p = if is_some (value values p) then count_by is_some (take (p +
 
 -- when the last of these instants is: its point, and its number there
 abbrev pub last_time : List Instant → Option (ℕ × ℕ)
-last_time instants = option_map (λ (i : Instant). (i.t, i.n)) (slice_get instants (length instants - 1))
+last_time instants =
+    option_map (λ (i : Instant). (i.t, i.n)) (slice_get instants (length instants - 1))
 
 -- the first instant of a run is at its start; behind the m-th at s stands the next at s, or the first at a later point up to the stop
 abbrev pub IsInOrder : ℕ → ℕ → Option (ℕ × ℕ) → ℕ → ℕ → Type 0

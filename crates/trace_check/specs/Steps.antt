@@ -23,10 +23,12 @@ pub record IsWithinLimits (clock : ConstantClock) : Type 0 where
 pub record AreConstantClocks (system : System) (clocks : List ConstantClock) : Type 0 where
   pub each : All (λ (c : ConstantClock). IsConstantClock system c.port c.interval c.shift) clocks
   pub limits : All IsWithinLimits clocks
-  pub all : (p interval shift : ℕ) → IsConstantClock system p interval shift → Contains clocks (record { port = p; interval = interval; shift = shift })
+  pub all : (p interval shift : ℕ) → IsConstantClock system p interval shift →
+      Contains clocks (record { port = p; interval = interval; shift = shift })
 
 -- one of these is off its ticks
-pub record IsAnyOff (clocks : List ConstantClock) (start : ℕ) (last : Option (ℕ × ℕ)) (t n : ℕ) (values : List (Option ℤ)) : Type 0 where
+pub record IsAnyOff (clocks : List ConstantClock) (start : ℕ) (last : Option (ℕ × ℕ)) (t n : ℕ)
+    (values : List (Option ℤ)) : Type 0 where
   pub place : ℕ
   pub clock : ConstantClock
   pub at : slice_get clocks place ≡ Some clock
@@ -41,7 +43,8 @@ BeginsNoValue (At t n ∷ lines) = Unit {0}
 BeginsNoValue (Value p v ∷ lines) = ⊥
 
 -- the lines are those of values, of which there are so many, and of what stands behind them
-pub record BeginsWithValues (lines : List TraceLine) (ports : ℕ) (values : List (Option ℤ)) (behind : List TraceLine) : Type 0 where
+pub record BeginsWithValues (lines : List TraceLine) (ports : ℕ) (values : List (Option ℤ))
+    (behind : List TraceLine) : Type 0 where
   pub size : length values ≡ ports
   pub parts : lines ≡ value_lines_from 0 values ++ behind
   pub ends : BeginsNoValue behind
@@ -58,6 +61,7 @@ pub record IsOtherValue (system : System) (values : List (Option ℤ)) (lines : 
   pub line : lines ≡ lines_to values input
   pub behind : 0 < lines
 
-pub record IsFirstIn (system : System) (t : Trace) (last : Option (ℕ × ℕ)) (i : Instant) (offset rule : ℕ) : Type 0 where
+pub record IsFirstIn (system : System) (t : Trace) (last : Option (ℕ × ℕ)) (i : Instant)
+    (offset rule : ℕ) : Type 0 where
   pub breaks : BreaksIn system t last i offset rule
   pub least : (o r : ℕ) → BreaksIn system t last i o r → (offset < o) ⊎ ((offset ≡ o) × (rule ≤ r))

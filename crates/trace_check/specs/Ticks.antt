@@ -43,8 +43,10 @@ PassesTick start interval shift None t = ⊥
 PassesTick start interval shift (Some (s, m)) t = TicksBetween start interval shift s t
 
 -- a constant Clock with the value v in the n-th instant at t isn't 1 exactly where it is due, or one of its ticks was passed over
-pub data IsOffTick (start interval shift : ℕ) (last : Option (ℕ × ℕ)) (t n : ℕ) (v : Option ℤ) : Type 0 where
-  Wrong : ((v ≡ Some (pos 1)) ↔ IsDue start interval shift t n → ⊥) → IsOffTick start interval shift last t n v
+pub data IsOffTick (start interval shift : ℕ) (last : Option (ℕ × ℕ)) (t n : ℕ)
+    (v : Option ℤ) : Type 0 where
+  Wrong : ((v ≡ Some (pos 1)) ↔ IsDue start interval shift t n → ⊥) →
+      IsOffTick start interval shift last t n v
   Passed : PassesTick start interval shift last t → IsOffTick start interval shift last t n v
 
 -- ---- limits
@@ -55,7 +57,8 @@ HasLimits (Input feed) = Unit {0}
 HasLimits Output = Unit {0}
 HasLimits (ClockInput feed) = Unit {0}
 HasLimits ClockOutput = Unit {0}
-HasLimits (TimeClock (Periodic interval shift)) = (0 < interval) × (interval ≤ 2 ^ 126) × (shift ≤ 2 ^ 126)
+HasLimits (TimeClock (Periodic interval shift)) =
+    (0 < interval) × (interval ≤ 2 ^ 126) × (shift ≤ 2 ^ 126)
 HasLimits (TimeClock Answered) = Unit {0}
 HasLimits (TimeClock Countdown) = Unit {0}
 

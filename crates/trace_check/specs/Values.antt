@@ -15,7 +15,9 @@ is_active v = option_map_or (λ x. int_eq x (pos 1)) v false
 
 -- a Clock is always present, and so is a port that has no Clocks; another is where one of them is active
 abbrev pub is_present : Port → List (Option ℤ) → Bool
-is_present port values = is_clock_role port.role || length port.clocks == 0 || list_any (λ (c : PortId). is_active (value values c.0)) port.clocks
+is_present port values =
+    is_clock_role port.role || length port.clocks == 0 ||
+    list_any (λ (c : PortId). is_active (value values c.0)) port.clocks
 
 -- an input is present and has a source, and it hasn't the source's value, or has one where the source has none
 pub record DiffersFromSource (system : System) (values : List (Option ℤ)) (p : ℕ) : Type 0 where

@@ -56,15 +56,24 @@ NoRule bytes rule place = ⊥
 -- these files are asked for, and it comes to this
 pub data Judges (q : Question) (folder : FolderView) : List (List ℕ) → Judgement → Type 0 where
   -- the trace isn't there, or is too long
-  NoTrace : (flaw : Flaw) (asked : List (List ℕ)) (j : Judgement) → LacksFile NoRule folder q.file flaw → asked ≡ q.file ∷ [] → j ≡ Lacks q.file flaw → Judges q folder asked j
+  NoTrace : (flaw : Flaw) (asked : List (List ℕ)) (j : Judgement) →
+      LacksFile NoRule folder q.file flaw → asked ≡ q.file ∷ [] → j ≡ Lacks q.file flaw →
+      Judges q folder asked j
   -- its first line out of form breaks rule 1
-  OutOfForm : (n : ℕ) (asked : List (List ℕ)) (j : Judgement) → HasFile IsFirstFault folder q.file n → asked ≡ q.file ∷ [] → j ≡ Gives (No n 1) → Judges q folder asked j
+  OutOfForm : (n : ℕ) (asked : List (List ℕ)) (j : Judgement) →
+      HasFile IsFirstFault folder q.file n → asked ≡ q.file ∷ [] → j ≡ Gives (No n 1) →
+      Judges q folder asked j
   -- a file of the system isn't taken
-  NoSystem : (t : Trace) (path : List ℕ) (flaw : Flaw) (others asked : List (List ℕ)) (j : Judgement) → HoldsTrace q folder t →
-      Comes (search_for q t) (behind_trace q folder) others (Fails path flaw) → asked ≡ q.file ∷ others → j ≡ Lacks path flaw → Judges q folder asked j
+  NoSystem : (t : Trace) (path : List ℕ) (flaw : Flaw) (others asked : List (List ℕ))
+      (j : Judgement) → HoldsTrace q folder t →
+      Comes (search_for q t) (behind_trace q folder) others (Fails path flaw) →
+      asked ≡ q.file ∷ others → j ≡ Lacks path flaw → Judges q folder asked j
   -- the trace keeps the rules of the system, or breaks one first
-  ByRules : (t : Trace) (loaded : Loaded) (verdict : Verdict) (others asked : List (List ℕ)) (j : Judgement) → HoldsTrace q folder t →
-      Comes (search_for q t) (behind_trace q folder) others (Found loaded) → IsVerdict loaded.system t verdict → asked ≡ q.file ∷ others → j ≡ Gives verdict → Judges q folder asked j
+  ByRules : (t : Trace) (loaded : Loaded) (verdict : Verdict) (others asked : List (List ℕ))
+      (j : Judgement) → HoldsTrace q folder t →
+      Comes (search_for q t) (behind_trace q folder) others (Found loaded) →
+      IsVerdict loaded.system t verdict → asked ≡ q.file ∷ others → j ≡ Gives verdict →
+      Judges q folder asked j
 
 -- ---- in one way
 
@@ -79,27 +88,33 @@ Agree (Gives one) (Lacks path flaw) = ⊥
 pub record Judged (q : Question) (j : Judgement) (old new : FolderView) : Type 0 where
   pub asked : List (List ℕ)
   pub judges : Judges q old asked j
-  pub only : IfSome old.files (λ at. (others : List (List ℕ)) (other : Judgement) → Judges q old others other → (asked ≡ others) × Agree j other)
+  pub only : IfSome old.files (λ at. (others : List (List ℕ)) (other : Judgement) →
+      Judges q old others other → (asked ≡ others) × Agree j other)
   pub told : new ≡ with_all_asked old asked
 
 -- ---- where it comes to nothing
 
 -- the read of the trace failed, or that of a file of the system
 pub data FailsReading (q : Question) (path : List ℕ) (old new : FolderView) : Type 0 where
-  OfTrace : path ≡ q.file → new ≡ with_failed (with_asked old path) path → FailsReading q path old new
-  OfSystem : (t : Trace) → HoldsTrace q old t → FailsToRead (search_for q t) path (behind_trace q old) new → FailsReading q path old new
+  OfTrace : path ≡ q.file → new ≡ with_failed (with_asked old path) path →
+      FailsReading q path old new
+  OfSystem : (t : Trace) → HoldsTrace q old t →
+      FailsToRead (search_for q t) path (behind_trace q old) new → FailsReading q path old new
 
 -- memory was wanting: no file was asked for, or the trace alone, or with it some files of the system or all, and no read failed
 pub data ReadsFew (q : Question) (old new : FolderView) : Type 0 where
   Nothing : new ≡ old → ReadsFew q old new
   TheTrace : new ≡ behind_trace q old → ReadsFew q old new
-  SomeFiles : (t : Trace) → HoldsTrace q old t → ReadsSome (search_for q t) (behind_trace q old) new → ReadsFew q old new
-  AllFiles : (t : Trace) (loaded : Loaded) → HoldsTrace q old t → Loads (search_for q t) (Found loaded) (behind_trace q old) new → ReadsFew q old new
+  SomeFiles : (t : Trace) → HoldsTrace q old t →
+      ReadsSome (search_for q t) (behind_trace q old) new → ReadsFew q old new
+  AllFiles : (t : Trace) (loaded : Loaded) → HoldsTrace q old t →
+      Loads (search_for q t) (Found loaded) (behind_trace q old) new → ReadsFew q old new
 
 -- why there is no verdict
 abbrev pub LacksVerdict : Question → LoadEnd → FolderView → FolderView → Type 0
 LacksVerdict q (end.File file Unread) old new = FailsReading q file.path old new
 LacksVerdict q (end.File file Missing) old new = Judged q (Lacks file.path Absent) old new
 LacksVerdict q (end.File file TooBig) old new = Judged q (Lacks file.path Long) old new
-LacksVerdict q (end.File file (Broken rule place ports)) old new = Judged q (Lacks file.path (Faulty rule place ports)) old new
+LacksVerdict q (end.File file (Broken rule place ports)) old new =
+    Judged q (Lacks file.path (Faulty rule place ports)) old new
 LacksVerdict q end.Memory old new = ReadsFew q old new

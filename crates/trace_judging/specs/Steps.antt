@@ -11,7 +11,8 @@ use Rattle.system_files.specs.Order.{Found, Search}
 use Rattle.trace_judging.specs.Judging.{IsVerdict}
 
 -- a system is loaded, and this is the verdict on the trace
-pub record JudgesTrace (s : Search) (t : Trace) (verdict : Verdict) (old new : FolderView) : Type 0 where
+pub record JudgesTrace (s : Search) (t : Trace) (verdict : Verdict)
+    (old new : FolderView) : Type 0 where
   pub loaded : Loaded
   pub loads : Loads s (Found loaded) old new
   pub verdict_is : IsVerdict loaded.system t verdict
@@ -19,4 +20,5 @@ pub record JudgesTrace (s : Search) (t : Trace) (verdict : Verdict) (old new : F
 -- no system is loaded, or memory is wanting behind it
 pub data LacksTraceVerdict (s : Search) (ended : LoadEnd) (old new : FolderView) : Type 0 where
   Unloaded : EndsLoading s ended old new → LacksTraceVerdict s ended old new
-  BehindSystem : (loaded : Loaded) → ended ≡ end.Memory → Loads s (Found loaded) old new → LacksTraceVerdict s ended old new
+  BehindSystem : (loaded : Loaded) → ended ≡ end.Memory → Loads s (Found loaded) old new →
+      LacksTraceVerdict s ended old new

@@ -40,28 +40,38 @@ pub record IsTraceOf (r : Run) (is : List Instant) (kind : EndKind) (end : ℕ) 
 -- a piece for the header, one for each instant and one for the end line are the text together
 abbrev pub IsTextInPieces : Type 0
 IsTextInPieces = (system : System) (plan : Plan) (is : List Instant) (kind : EndKind) (end : ℕ) →
-    concat ((header_text system plan.resolution plan.start plan.stop ∷ map (λ (i : Instant). instant_text i.t i.n i.values) is) ++ end_text kind end ∷ [])
+    concat ((header_text system plan.resolution plan.start plan.stop ∷
+    map (λ (i : Instant). instant_text i.t i.n i.values) is) ++ end_text kind end ∷ [])
     ≡ trace_text system plan is kind end
 
 -- the text of the run is that of the trace that it tells
 abbrev pub IsToldInForm : Type 0
-IsToldInForm = (r : Run) (is : List Instant) (kind : EndKind) (end : ℕ) → IsTraceOf r is kind end → IsWritable r.system r.plan is end
+IsToldInForm =
+    (r : Run) (is : List Instant) (kind : EndKind) (end : ℕ) → IsTraceOf r is kind end →
+    IsWritable r.system r.plan is end
 
 -- no line of this trace breaks a rule
 abbrev pub KeepsItsRules : Type 0
-KeepsItsRules = (r : Run) (is : List Instant) (kind : EndKind) (end : ℕ) → IsTraceOf r is kind end → KeepsRules r.system (trace_told r.system r.plan is kind end)
+KeepsItsRules =
+    (r : Run) (is : List Instant) (kind : EndKind) (end : ℕ) → IsTraceOf r is kind end →
+    KeepsRules r.system (trace_told r.system r.plan is kind end)
 
 -- the rules are about components and ports alone
 abbrev pub IsOfParts : Type 0
-IsOfParts = (one other : System) (t : Trace) → one.components ≡ other.components → one.ports ≡ other.ports → KeepsRules one t → KeepsRules other t
+IsOfParts =
+    (one other : System) (t : Trace) → one.components ≡ other.components → one.ports ≡ other.ports →
+    KeepsRules one t → KeepsRules other t
 
 -- no line of the run's text is out of form
 abbrev pub HasNoFault : Type 0
 HasNoFault = (r : Run) (is : List Instant) (kind : EndKind) (end : ℕ) → IsTraceOf r is kind end →
-    (bytes : List ℕ) → bytes ≡ trace_text r.system r.plan is kind end → (n : ℕ) → IsFirstFault bytes n → ⊥
+    (bytes : List ℕ) → bytes ≡ trace_text r.system r.plan is kind end → (n : ℕ) →
+    IsFirstFault bytes n → ⊥
 
 -- what is read from the text of the run keeps the rules of each system with the same components and ports
 abbrev pub IsReadByRules : Type 0
 IsReadByRules = (r : Run) (is : List Instant) (kind : EndKind) (end : ℕ) → IsTraceOf r is kind end →
-    (bytes : List ℕ) → bytes ≡ trace_text r.system r.plan is kind end → (t : Trace) → IsTextOf bytes t →
-    (other : System) → r.system.components ≡ other.components → r.system.ports ≡ other.ports → KeepsRules other t
+    (bytes : List ℕ) → bytes ≡ trace_text r.system r.plan is kind end →
+    (t : Trace) → IsTextOf bytes t →
+    (other : System) → r.system.components ≡ other.components →
+    r.system.ports ≡ other.ports → KeepsRules other t

@@ -13,8 +13,10 @@ pub record Begins (lines : List (List ℕ)) : Type 0 where
 
 -- what stands behind the good lines: a line with its end with which no text goes on; or no line feed more, where the good lines with these bytes are no whole text
 pub data Wrong (before : List (List ℕ)) (after : List ℕ) : Type 0 where
-  NoText : (line rest : List ℕ) → after ≡ line ++ (10 ∷ rest) → Lacks 10 line → (Begins (before ++ (line ∷ [])) → ⊥) → Wrong before after
-  Unended : Lacks 10 after → ((t : Trace) → IsTextOf (text_of before ++ after) t → ⊥) → Wrong before after
+  NoText : (line rest : List ℕ) → after ≡ line ++ (10 ∷ rest) → Lacks 10 line →
+      (Begins (before ++ (line ∷ [])) → ⊥) → Wrong before after
+  Unended : Lacks 10 after → ((t : Trace) → IsTextOf (text_of before ++ after) t → ⊥) →
+      Wrong before after
 
 -- the lines before the n-th begin a text, and the n-th is out of form or missing
 pub record IsFirstFault (bytes : List ℕ) (n : ℕ) : Type 0 where

@@ -68,7 +68,8 @@ pub record IsTrace (t : Trace) : Type 0 where
 
 abbrev pub lines_of : Trace → List (List ℕ)
 lines_of t =
-    header_line t.resolution t.start t.stop ∷ (port_lines_from 0 t.ports ++ (map line_text t.lines ++ (end_line t.kind t.point ∷ [])))
+    header_line t.resolution t.start t.stop ∷
+    (port_lines_from 0 t.ports ++ (map line_text t.lines ++ (end_line t.kind t.point ∷ [])))
 
 -- the bytes are the text of the trace
 pub record IsTextOf (bytes : List ℕ) (t : Trace) : Type 0 where

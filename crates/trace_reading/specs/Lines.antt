@@ -10,7 +10,8 @@ use Rattle.trace_reading.specs.declared.trace.TraceLine.{TraceLine}
 use Rattle.trace_reading.specs.declared.trace.TraceLine.TheVariants.{At, Value}
 
 abbrev pub header_line : ℕ → ℕ → ℕ → List ℕ
-header_line resolution start stop = codes "trace 1 " ++ (decimal resolution ++ (32 ∷ (decimal start ++ (32 ∷ decimal stop))))
+header_line resolution start stop =
+    codes "trace 1 " ++ (decimal resolution ++ (32 ∷ (decimal start ++ (32 ∷ decimal stop))))
 
 -- a port's line by its fields
 abbrev pub port_fields : ℕ → PortType → List ℕ → List ℕ → List ℕ

@@ -10,4 +10,5 @@ pub record StandBefore (text : List ℕ) (ports : List TracePort) (rest : List �
   pub parts : text ≡ text_of (port_lines_from 0 ports) ++ rest
   pub named : AllByRecursion IsNamed ports
   pub few : length ports < 2 ^ 64
-  pub last : (port : TracePort) (more : List ℕ) → IsNamed port → rest ≡ port_line (length ports) port ++ (10 ∷ more) → ⊥
+  pub last : (port : TracePort) (more : List ℕ) → IsNamed port →
+      rest ≡ port_line (length ports) port ++ (10 ∷ more) → ⊥

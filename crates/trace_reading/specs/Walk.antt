@@ -56,12 +56,14 @@ is_closed kinds (Ended kind t) = false
 
 -- it is a port's number, and the value fits the port's type
 abbrev pub fits_at : List PortType → ℕ → ℤ → Bool
-fits_at kinds port value = option_map_or (λ (kind : PortType). is_fitting kind value) (slice_get kinds port) false
+fits_at kinds port value =
+    option_map_or (λ (kind : PortType). is_fitting kind value) (slice_get kinds port) false
 
 -- the port is this one or a later one, its value fits, and no Clock is passed over
 abbrev pub is_next : List PortType → ℕ → ℕ → ℤ → Bool
 is_next kinds next port value =
-    nat_le next port && (fits_at kinds port value && clocks_before kinds next == clocks_before kinds port)
+    nat_le next port && (fits_at kinds port value && clocks_before kinds next ==
+    clocks_before kinds port)
 
 -- an instant's point and its number there are within their limits
 abbrev pub is_start : ℕ → ℕ → Bool
@@ -69,15 +71,19 @@ is_start t n = nat_le t (2 ^ 62) && nat_lt n 10000
 
 -- where the reading stands behind the line; none where the line may not stand there
 abbrev pub place_behind : List PortType → Place → Item → Option Place
-place_behind kinds place (Row (At t n)) = if is_closed kinds place && is_start t n then Some (Within 0) else None
-place_behind kinds place (End kind t) = if is_closed kinds place && nat_le t (2 ^ 62) then Some (Ended kind t) else None
+place_behind kinds place (Row (At t n)) =
+    if is_closed kinds place && is_start t n then Some (Within 0) else None
+place_behind kinds place (End kind t) =
+    if is_closed kinds place && nat_le t (2 ^ 62) then Some (Ended kind t) else None
 place_behind kinds Between (Row (Value port value)) = None
-place_behind kinds (Within next) (Row (Value port value)) = if is_next kinds next port value then Some (Within (port + 1)) else None
+place_behind kinds (Within next) (Row (Value port value)) =
+    if is_next kinds next port value then Some (Within (port + 1)) else None
 place_behind kinds (Ended kind t) (Row (Value port value)) = None
 
 abbrev pub walk : List PortType → Place → List Item → Option Place
 walk kinds place [] = Some place
-walk kinds place (item ∷ items) = option_and_then (λ (p : Place). walk kinds p items) (place_behind kinds place item)
+walk kinds place (item ∷ items) =
+    option_and_then (λ (p : Place). walk kinds p items) (place_behind kinds place item)
 
 -- ---- what the reading has done so far
 
@@ -97,8 +103,10 @@ rows_with lines (End kind t) = lines
 -- behind the lines of the items: a line that no item has which may stand there; or no line feed more, where no end line came or bytes are left
 pub data WrongBehind (kinds : List PortType) (place : Place) (after : List ℕ) : Type 0 where
   NoItem : (line rest : List ℕ) → after ≡ line ++ (10 ∷ rest) → Lacks 10 line →
-      ((item : Item) → IsShortItem item → line ≡ item_line item → place_behind kinds place item ≡ None) → WrongBehind kinds place after
-  NoEnd : Lacks 10 after → ((kind : EndKind) (t : ℕ) → place ≡ Ended kind t → after ≡ [] → ⊥) → WrongBehind kinds place after
+      ((item : Item) → IsShortItem item → line ≡ item_line item →
+      place_behind kinds place item ≡ None) → WrongBehind kinds place after
+  NoEnd : Lacks 10 after → ((kind : EndKind) (t : ℕ) → place ≡ Ended kind t → after ≡ [] → ⊥) →
+      WrongBehind kinds place after
 
 pub record IsFirstFaultOf (kinds : List PortType) (bytes : List ℕ) (n : ℕ) : Type 0 where
   pub before : List Item
@@ -110,6 +118,7 @@ pub record IsFirstFaultOf (kinds : List PortType) (bytes : List ℕ) (n : ℕ) :
   pub wrong : WrongBehind kinds place after
 
 -- the text is that of these lines and this end, each where it may stand
-pub record IsRows (kinds : List PortType) (text : List ℕ) (lines : List TraceLine) (kind : EndKind) (point : ℕ) : Type 0 where
+pub record IsRows (kinds : List PortType) (text : List ℕ) (lines : List TraceLine) (kind : EndKind)
+    (point : ℕ) : Type 0 where
   pub parts : text ≡ text_of (map item_line (items_of lines kind point))
   pub good : walk kinds Between (items_of lines kind point) ≡ Some (Ended kind point)

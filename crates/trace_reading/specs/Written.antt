@@ -14,7 +14,11 @@ use Rattle.trace_reading.specs.Form.{IsInstant, IsRange, instant_lines, kinds_of
 
 -- a system's port, as its line tells it
 abbrev pub port_told : List Component → Port → TracePort
-port_told components port = record { kind = port.kind; component = component_name components port.component.0; variable = port.name }
+port_told components port = record {
+  kind = port.kind;
+  component = component_name components port.component.0;
+  variable = port.name;
+}
 
 abbrev pub ports_told : System → List TracePort
 ports_told system = map (port_told system.components) system.ports
@@ -32,7 +36,8 @@ trace_told system plan instants kind point = record {
 }
 
 -- the system is sound, the plan and the points are within their limits, and each instant's values fit
-pub record IsWritable (system : System) (plan : Plan) (instants : List Instant) (point : ℕ) : Type 0 where
+pub record IsWritable (system : System) (plan : Plan) (instants : List Instant)
+    (point : ℕ) : Type 0 where
   pub sound : IsSound system
   pub range : IsRange plan.resolution plan.start plan.stop
   pub each : AllByRecursion (IsInstant (kinds_of (ports_told system))) instants

@@ -9,7 +9,8 @@ use Rattle.system_model.specs.Text.{component_name, header_text, instant_text, e
 
 -- for a line of a port: in a header its number, type and names, whose bytes take three each where they are escaped, and in an instant its number and value
 abbrev pub port_room : List Component → Port → ℕ
-port_room components port = 3 * (length (component_name components port.component.0) + length port.name) + 64
+port_room components port =
+    3 * (length (component_name components port.component.0) + length port.name) + 64
 
 -- for a line without names, and one of each port
 abbrev pub room_of : System → ℕ
@@ -25,6 +26,8 @@ AreValues values = All (λ (value : Option ℤ). IfSome value (FitsSigned w128))
 
 -- each text fits
 pub record HoldsEach (system : System) (room : ℕ) : Type 0 where
-  pub header : (resolution start stop : ℕ) → IsCount resolution → IsCount start → IsCount stop → length (header_text system resolution start stop) ≤ room
-  pub instant : (t n : ℕ) (values : List (Option ℤ)) → IsCount t → IsCount n → AreValues values → length values ≤ length system.ports → length (instant_text t n values) ≤ room
+  pub header : (resolution start stop : ℕ) → IsCount resolution → IsCount start → IsCount stop →
+      length (header_text system resolution start stop) ≤ room
+  pub instant : (t n : ℕ) (values : List (Option ℤ)) → IsCount t → IsCount n → AreValues values →
+      length values ≤ length system.ports → length (instant_text t n values) ≤ room
   pub end : (kind : EndKind) (t : ℕ) → IsCount t → length (end_text kind t) ≤ room

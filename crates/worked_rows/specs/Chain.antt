@@ -22,22 +22,36 @@ gain_on inputs = record {
   has_variable_steps = true;
   can_save_state = true;
   can_serialize_state = false;
-  variables = number (codes "k") 1 V.Parameter (Some (pos 3)) ∷ number (codes "u") 2 V.Input (Some (pos 5)) ∷ number (codes "y") 3 V.Output None ∷ [];
+  variables =
+      number (codes "k") 1 V.Parameter (Some (pos 3)) ∷
+      number (codes "u") 2 V.Input (Some (pos 5)) ∷ number (codes "y") 3 V.Output None ∷ [];
   clocks = [];
   dependencies = record { output = 3; on = Listed inputs } ∷ [];
   initial_dependencies = record { output = 3; on = Listed inputs } ∷ [];
 }
 
 abbrev pub port_of : ℕ → List ℕ → ℕ → Role → Port
-port_of i name reference role = record { component = record { 0 = i }; name = name; kind = T.Int32; reference = reference; role = role; clocks = [] }
+port_of i name reference role = record {
+  component = record { 0 = i };
+  name = name;
+  kind = T.Int32;
+  reference = reference;
+  role = role;
+  clocks = [];
+}
 
 abbrev pub by_place : List PortId
 by_place = record { 0 = 0 } ∷ record { 0 = 1 } ∷ record { 0 = 2 } ∷ record { 0 = 3 } ∷ []
 
 abbrev pub chain : System
 chain = record {
-  components = component (codes "first") 0 (gain_on []) ∷ component (codes "second") 1 (gain_on (2 ∷ [])) ∷ [];
-  ports = port_of 0 (codes "u") 2 (Input None) ∷ port_of 0 (codes "y") 3 Output ∷ port_of 1 (codes "u") 2 (Input (Some (record { from = record { 0 = 1 } }))) ∷ port_of 1 (codes "y") 3 Output ∷ [];
+  components =
+      component (codes "first") 0 (gain_on []) ∷
+      component (codes "second") 1 (gain_on (2 ∷ [])) ∷ [];
+  ports =
+      port_of 0 (codes "u") 2 (Input None) ∷ port_of 0 (codes "y") 3 Output ∷
+      port_of 1 (codes "u") 2 (Input (Some (record { from = record { 0 = 1 } }))) ∷
+      port_of 1 (codes "y") 3 Output ∷ [];
   instant_order = by_place;
   initial_order = by_place;
 }

@@ -16,7 +16,9 @@ use Rattle.worked_rows.specs.declared.own_counter.OwnCounter.{OwnCounter}
 
 -- the output under reference 3 shows the count; nothing else can be read
 abbrev pub shown : List ℤ → ℕ → Reply
-shown numbers reference = if reference == 3 then Done false (A.Get (word_of (numbers_in numbers).count)) else Refused K.Get Error
+shown numbers reference =
+    if reference == 3 then Done false (A.Get (word_of (numbers_in numbers).count))
+    else Refused K.Get Error
 
 -- what it answers otherwise than a built-in machine
 abbrev pub own_answer : List ℤ → Call → Option Reply

@@ -18,7 +18,8 @@ use Rattle.worked_rows.specs.OwnCounter.{own_answer, own_look, own_machine, own_
 -- ---- what it answers by itself
 
 -- neither EnterInitialization nor ExitInitialization
-no_mode : (numbers : List ℤ) (call : Call) → changes_mode call ≡ true → own_answer numbers call ≡ None
+no_mode : (numbers : List ℤ) (call : Call) → changes_mode call ≡ true →
+    own_answer numbers call ≡ None
 no_mode numbers (C.EnterInitialization start stop) changes = refl
 no_mode numbers C.ExitInitialization changes = refl
 no_mode numbers (C.Instantiate event_mode early_return) changes = refl
@@ -39,7 +40,8 @@ no_mode numbers C.Terminate changes = refl
 no_mode numbers C.FreeInstance changes = refl
 
 -- a call that leaves the state
-pub unmoved : (m : Machine) (s : MachineState) (call : Call) (reply : Reply) → own_answer s.numbers call ≡ Some reply → after m s call ≡ s
+pub unmoved : (m : Machine) (s : MachineState) (call : Call) (reply : Reply) →
+    own_answer s.numbers call ≡ Some reply → after m s call ≡ s
 unmoved m s (C.Get kind reference) reply is = refl
 unmoved m s (C.EnterInitialization start stop) reply is = absurd (cc)
 unmoved m s C.ExitInitialization reply is = absurd (cc)
@@ -60,7 +62,8 @@ unmoved m s C.Terminate reply is = absurd (cc)
 unmoved m s C.FreeInstance reply is = absurd (cc)
 
 -- its states are those of the other machine
-after_same : (m : Machine) (s : MachineState) (call : Call) → after (own_machine m) s call ≡ after m s call
+after_same : (m : Machine) (s : MachineState) (call : Call) →
+    after (own_machine m) s call ≡ after m s call
 after_same m s (C.Get kind reference) = refl
 after_same m s (C.EnterInitialization start stop) = refl
 after_same m s C.ExitInitialization = refl
@@ -82,7 +85,8 @@ after_same m s C.FreeInstance = refl
 
 -- ---- the laws, of any machine
 
-pub machine_is : (shape : Shape) (m : Machine) → IsMachineOf shape m → IsMachineOf shape (own_machine m)
+pub machine_is : (shape : Shape) (m : Machine) → IsMachineOf shape m →
+    IsMachineOf shape (own_machine m)
 machine_is shape m is = record {
   references = is.references;
   clocks = is.clocks;
@@ -92,12 +96,16 @@ machine_is shape m is = record {
   enters = is.enters;
   exits = is.exits;
   keeps = is.keeps;
-  undiscarded = λ s call changes. ap (λ (o : Option Reply). is_discard (unwrap_or o (m.look s call))) (no_mode s.numbers call changes) ∙ is.undiscarded s call changes;
+  undiscarded =
+      λ s call changes. ap (λ (o : Option Reply). is_discard (unwrap_or o (m.look s call)))
+      (no_mode s.numbers call changes) ∙ is.undiscarded s call changes;
 }
 
 machine_alike : (m : Machine) → IgnoresSlot m → IgnoresSlot (own_machine m)
 machine_alike m alike = record {
-  looks = λ call s slot other. ap (unwrap_or (own_answer s.numbers call)) (alike.looks call s slot other);
+  looks =
+      λ call s slot other. ap (unwrap_or (own_answer s.numbers call))
+      (alike.looks call s slot other);
   changes = alike.changes;
 }
 
@@ -105,21 +113,29 @@ machine_lawful : (shape : Shape) (m : Machine) → IsLawful shape m → IsLawful
 machine_lawful shape m lawful = λ call output s xs ys looked found mode agree.
     ap (unwrap_or (own_answer s.numbers call)) (lawful call output s xs ys looked found mode agree)
 
-pub machine_in_phase : (m : Machine) (phase : Phase) (s : MachineState) → IsInPhase m phase s → IsInPhase (own_machine m) phase s
+pub machine_in_phase : (m : Machine) (phase : Phase) (s : MachineState) → IsInPhase m phase s →
+    IsInPhase (own_machine m) phase s
 machine_in_phase m phase s is = record { mode = is.mode; saved = is.saved }
 
-pub base_in_phase : (m : Machine) (phase : Phase) (s : MachineState) → IsInPhase (own_machine m) phase s → IsInPhase m phase s
+pub base_in_phase : (m : Machine) (phase : Phase) (s : MachineState) →
+    IsInPhase (own_machine m) phase s → IsInPhase m phase s
 base_in_phase m phase s is = record { mode = is.mode; saved = is.saved }
 
 -- what it answers by itself is its look
-pub own_looks : (m : Machine) (s : MachineState) (call : Call) (reply : Reply) → own_answer s.numbers call ≡ Some reply → reply ≡ own_look m s call
+pub own_looks : (m : Machine) (s : MachineState) (call : Call) (reply : Reply) →
+    own_answer s.numbers call ≡ Some reply → reply ≡ own_look m s call
 own_looks m s call reply is = sym (ap (λ (o : Option Reply). unwrap_or o (m.look s call)) is)
 
 -- and so is what the other machine answers in its place
-pub answers_own : (m : Machine) (s : MachineState) (call : Call) (result : Result Reply PeerFault) (new : Option MachineState) →
-    own_answer s.numbers call ≡ None → AnswersAs (Some m) (Some s) call result new → AnswersAs (Some (own_machine m)) (Some s) call result new
-answers_own m s call (Ok reply) new none (reply_is, new_is) =
-    (reply_is ∙ sym (ap (λ (o : Option Reply). unwrap_or o (m.look s call)) none), new_is ∙ sym (ap (λ (t : MachineState). Some t) (after_same m s call)))
+pub answers_own : (m : Machine) (s : MachineState) (call : Call) (result : Result Reply PeerFault)
+    (new : Option MachineState) →
+    own_answer s.numbers call ≡ None → AnswersAs (Some m) (Some s) call result new →
+    AnswersAs (Some (own_machine m)) (Some s) call result new
+answers_own m s call (Ok reply) new none (reply_is, new_is) = (
+  reply_is ∙ sym (ap (λ (o : Option Reply). unwrap_or o (m.look s call)) none),
+  new_is ∙
+      sym (ap (λ (t : MachineState). Some t) (after_same m s call)),
+)
 answers_own m s call (Err fault) new none is = is
 
 -- ---- the laws of the peer
@@ -134,7 +150,8 @@ pub own_alike : (p : OwnCounter) → IgnoresSlot (own_machine (base p))
 own_alike p = machine_alike (base p) (answers_alike p.inner.model p.inner.book.shape)
 
 pub own_lawful : (p : OwnCounter) → IsLawful p.inner.book.shape (own_machine (base p))
-own_lawful p = machine_lawful p.inner.book.shape (base p) (is_lawful p.inner.model p.inner.book.shape)
+own_lawful p =
+    machine_lawful p.inner.book.shape (base p) (is_lawful p.inner.model p.inner.book.shape)
 
 pub own_in_phase : (p : OwnCounter) → TellsItsPhase (own_view p)
 own_in_phase p = machine_in_phase (base p) p.inner.book.phase _ p.inner.in_phase

@@ -78,7 +78,8 @@ asks_again Updates count = int_lt count (pos 1)
 asks_again Ticks count = false
 
 abbrev pub shown : Numbers → ℕ → Reply
-shown n reference = if reference == 3 then Done false (A.Get (word_of n.count)) else Refused K.Get Error
+shown n reference =
+    if reference == 3 then Done false (A.Get (word_of n.count)) else Refused K.Get Error
 
 -- the reply to a call
 abbrev pub answer : Counts → Numbers → Call → Reply
@@ -87,7 +88,8 @@ answer counts n (C.DoStep at size) = Done false (A.DoStep false false false (at 
 answer counts n C.Update = Done false (A.Update (asks_again counts n.count) false None)
 answer counts n (C.GetClock reference) = Done false (A.GetClock 0)
 answer counts n (C.GetInterval reference) = Done false (A.GetInterval NotYetKnown)
-answer counts n (C.GetShift reference) = Done false (A.GetShift (record { counter = 0; resolution = 1 }))
+answer counts n (C.GetShift reference) =
+    Done false (A.GetShift (record { counter = 0; resolution = 1 }))
 answer counts n (C.Instantiate event_mode early_return) = Done false A.Instantiate
 answer counts n (C.EnterInitialization start stop) = Done false A.EnterInitialization
 answer counts n C.ExitInitialization = Done false A.ExitInitialization
@@ -105,7 +107,11 @@ abbrev pub ticker : Counts → Machine
 ticker counts = record {
   references = references_of counts;
   clocks = clocks_of counts;
-  first = record { numbers = listed (record { mark = pos 0; count = pos 0 }); values = first_values counts; slot = None };
+  first = record {
+    numbers = listed (record { mark = pos 0; count = pos 0 });
+    values = first_values counts;
+    slot = None;
+  };
   initializing = λ numbers. is_marked (numbers_in numbers);
   look = λ s call. answer counts (numbers_in s.numbers) call;
   change = λ s call. listed (numbers_after counts (numbers_in s.numbers) s.values call);
@@ -129,4 +135,8 @@ abbrev pub saved_in : Counts → Counted → SavedMachine
 saved_in counts s = record { numbers = listed (told s); values = values_in counts s }
 
 abbrev pub state_in : Counts → Counted → Option Counted → MachineState
-state_in counts s saved = record { numbers = listed (told s); values = values_in counts s; slot = option_map (saved_in counts) saved }
+state_in counts s saved = record {
+  numbers = listed (told s);
+  values = values_in counts s;
+  slot = option_map (saved_in counts) saved;
+}

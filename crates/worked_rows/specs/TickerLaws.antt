@@ -13,7 +13,8 @@ use Rattle.worked_rows.specs.declared.counted.Counts.{Counts}
 use Rattle.worked_rows.specs.Ticker.{answer, clocks_of, first_values, is_marked, numbers_after, numbers_in, references_of, ticker}
 
 pub keeps_mark : (counts : Counts) (s : MachineState) (call : Call) → changes_mode call ≡ false →
-    is_marked (numbers_after counts (numbers_in s.numbers) s.values call) ≡ is_marked (numbers_in s.numbers)
+    is_marked (numbers_after counts (numbers_in s.numbers) s.values call) ≡
+    is_marked (numbers_in s.numbers)
 keeps_mark counts s (C.EnterInitialization start stop) other = absurd (cc)
 keeps_mark counts s C.ExitInitialization other = absurd (cc)
 keeps_mark counts s (C.DoStep at size) other = refl
@@ -33,7 +34,8 @@ keeps_mark counts s C.Free other = refl
 keeps_mark counts s C.Terminate other = refl
 keeps_mark counts s C.FreeInstance other = refl
 
-pub never_discards : (counts : Counts) (s : MachineState) (call : Call) → changes_mode call ≡ true → is_discard (answer counts (numbers_in s.numbers) call) ≡ false
+pub never_discards : (counts : Counts) (s : MachineState) (call : Call) → changes_mode call ≡ true →
+    is_discard (answer counts (numbers_in s.numbers) call) ≡ false
 never_discards counts s (C.EnterInitialization start stop) changes = refl
 never_discards counts s C.ExitInitialization changes = refl
 never_discards counts s (C.DoStep at size) changes = absurd (cc)
@@ -54,15 +56,18 @@ never_discards counts s C.Terminate changes = absurd (cc)
 never_discards counts s C.FreeInstance changes = absurd (cc)
 
 pub ticker_alike : (counts : Counts) → IgnoresSlot (ticker counts)
-ticker_alike counts = record { looks = λ call s slot other. refl; changes = λ call s slot other. refl }
+ticker_alike counts =
+    record { looks = λ call s slot other. refl; changes = λ call s slot other. refl }
 
 -- no reply reads a value
 pub ticker_lawful : (counts : Counts) (shape : Shape) → IsLawful shape (ticker counts)
 ticker_lawful counts shape = λ call output s xs ys looked found mode agree. refl
 
 -- a machine is one of a shape with these variables
-pub machine_by : (shape : Shape) (counts : Counts) → references_of counts ≡ map (λ (v : Variable). v.reference) shape.variables →
-    clocks_of counts ≡ map (λ (v : Variable). v.reference) (filter is_input_clock shape.variables) → length (first_values counts) ≡ length shape.variables → IsMachineOf shape (ticker counts)
+pub machine_by : (shape : Shape) (counts : Counts) →
+    references_of counts ≡ map (λ (v : Variable). v.reference) shape.variables →
+    clocks_of counts ≡ map (λ (v : Variable). v.reference) (filter is_input_clock shape.variables) →
+    length (first_values counts) ≡ length shape.variables → IsMachineOf shape (ticker counts)
 machine_by shape counts references clocks values = record {
   references = references;
   clocks = clocks;
@@ -76,8 +81,11 @@ machine_by shape counts references clocks values = record {
 }
 
 -- a peer that keeps no talk goes on to keep none
-pub untold_kept : (old new : Option TalkRoom) (call : Call) (result : Result Reply PeerFault) → old ≡ None →
-    option_map (λ (t : TalkRoom). t.exchanges.items) new ≡ option_map (λ (t : TalkRoom). t.exchanges.items ++ record { call = call; result = result } ∷ []) old → new ≡ None
+pub untold_kept : (old new : Option TalkRoom) (call : Call) (result : Result Reply PeerFault) →
+    old ≡ None →
+    option_map (λ (t : TalkRoom). t.exchanges.items) new ≡
+    option_map (λ (t : TalkRoom). t.exchanges.items ++ record { call = call; result = result } ∷
+    []) old → new ≡ None
 untold_kept old None call result none is = refl
 untold_kept None (Some t) call result none is = absurd (cc)
 untold_kept (Some o) (Some t) call result none is = absurd (cc)

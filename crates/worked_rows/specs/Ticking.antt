@@ -29,11 +29,14 @@ clocked = record (number (codes "u") 5 V.Input None) { clocks = 2 ∷ [] }
 
 -- an FMU with event mode whose output depends on nothing
 abbrev pub eventful : List Variable → List ClockTiming → Shape
-eventful variables clocks = shape_of true variables clocks (record { output = 3; on = Listed [] } ∷ [])
+eventful variables clocks =
+    shape_of true variables clocks (record { output = 3; on = Listed [] } ∷ [])
 
 -- a hundredth of a second, from the start on
 abbrev pub each_hundredth : ClockTiming
-each_hundredth = constant_timing 2 (record { counter = 1; resolution = 100 }) (record { counter = 0; resolution = 1 })
+each_hundredth =
+    constant_timing 2 (record { counter = 1; resolution = 100 })
+    (record { counter = 0; resolution = 1 })
 
 abbrev pub settling : Component
 settling = component (codes "settle") 0 (eventful (shown ∷ []) [])
@@ -47,7 +50,10 @@ abbrev pub clock_port : Port
 clock_port = record (port_of 1 (codes "c") 2 (TimeClock (Periodic 10 0))) { kind = T.Clock }
 
 abbrev pub clocked_port : Port
-clocked_port = record (port_of 1 (codes "u") 5 (Input (Some (record { from = record { 0 = 0 } })))) { clocks = record { 0 = 1 } ∷ [] }
+clocked_port =
+    record (port_of 1 (codes "u") 5 (Input (Some (record { from = record { 0 = 0 } })))) {
+      clocks = record { 0 = 1 } ∷ [];
+    }
 
 abbrev pub outputs_alone : List PortId
 outputs_alone = record { 0 = 0 } ∷ record { 0 = 3 } ∷ []
@@ -55,7 +61,9 @@ outputs_alone = record { 0 = 0 } ∷ record { 0 = 3 } ∷ []
 abbrev pub ticking : System
 ticking = record {
   components = settling ∷ own ∷ [];
-  ports = port_of 0 (codes "y") 3 Output ∷ clock_port ∷ clocked_port ∷ port_of 1 (codes "y") 3 Output ∷ [];
+  ports =
+      port_of 0 (codes "y") 3 Output ∷ clock_port ∷ clocked_port ∷
+      port_of 1 (codes "y") 3 Output ∷ [];
   instant_order = by_place;
   initial_order = outputs_alone;
 }

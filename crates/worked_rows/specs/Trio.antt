@@ -43,7 +43,8 @@ counting by varies = record {
   has_variable_steps = varies;
   can_save_state = false;
   can_serialize_state = false;
-  variables = number (codes "inc") 1 V.Parameter (Some by) ∷ number (codes "y") 2 V.Output None ∷ [];
+  variables =
+      number (codes "inc") 1 V.Parameter (Some by) ∷ number (codes "y") 2 V.Output None ∷ [];
   clocks = [];
   dependencies = on_nothing ∷ [];
   initial_dependencies = on_nothing ∷ [];
@@ -63,14 +64,24 @@ abbrev pub component : List ℕ → ℕ → Shape → Component
 component name source shape = record { name = name; source = record { 0 = source }; shape = shape }
 
 abbrev pub port : ℕ → Port
-port of = record { component = record { 0 = of }; name = codes "y"; kind = T.Int32; reference = 2; role = Output; clocks = [] }
+port of = record {
+  component = record { 0 = of };
+  name = codes "y";
+  kind = T.Int32;
+  reference = 2;
+  role = Output;
+  clocks = [];
+}
 
 abbrev pub in_turn : List PortId
 in_turn = record { 0 = 0 } ∷ record { 0 = 1 } ∷ record { 0 = 2 } ∷ []
 
 abbrev pub trio : System
 trio = record {
-  components = component (codes "first") 0 (counting (pos 2) true) ∷ component (codes "second") 0 (counting (pos 2) true) ∷ component (codes "third") 1 (counting (pos 5) false) ∷ [];
+  components =
+      component (codes "first") 0 (counting (pos 2) true) ∷
+      component (codes "second") 0 (counting (pos 2) true) ∷
+      component (codes "third") 1 (counting (pos 5) false) ∷ [];
   ports = port 0 ∷ port 1 ∷ port 2 ∷ [];
   instant_order = in_turn;
   initial_order = in_turn;
