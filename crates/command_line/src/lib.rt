@@ -9,6 +9,7 @@ mod values;
 mod words;
 
 pub use fault::WordsFault;
+pub use values::read_count;
 pub use words::{
     BUILT_IN_HOST, CheckOptions, CommandLine, Options, Request, TraceOptions, read_words,
 };

@@ -39,8 +39,8 @@ pub(crate) fn value_of<'a>(matches: &ArgMatches<'a>, name: &str) -> Option<&'a s
     matches.get_str(name)
 }
 
-// A count from the least one to the greatest.
-fn read_count(word: &str, least: u64, most: u64) -> Option<u64>
+/// A count from the least one to the greatest, in digits without a sign or a leading zero.
+pub fn read_count(word: &str, least: u64, most: u64) -> Option<u64>
     ensures ok { IfSome result (λ n. (word.now ≡ decimal n) × (least ≤ n) × (n ≤ most)) }
     ensures only { (n : ℕ) → word.now ≡ decimal n → least ≤ n → n ≤ most → result ≡ Some n }
 {

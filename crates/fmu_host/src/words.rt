@@ -3,7 +3,7 @@ ghost use Rattle.std.specs.Prelude.{◌≡◌, ℕ, ◌^◌, ◌<◌, ◌≤◌,
 ghost use Rattle.command_line.specs.Line.{texts};
 ghost use Rattle.fmu_host.specs.Line.{IsLine, Line, line_of};
 
-use itoa::Buffer;
+use command_line::read_count;
 use sim_base::MOST_COUNTS;
 
 /// What the program is asked for: the directory of an FMU, and how many counts a second has.
@@ -38,23 +38,5 @@ fn read_resolution(word: &str) -> Option<u64>
     ensures ok { IfSome result (λ n. (word.now ≡ decimal n) × (1 ≤ n) × (n ≤ 2 ^ 62)) }
     ensures only { (n : ℕ) → word.now ≡ decimal n → 1 ≤ n → n ≤ 2 ^ 62 → result ≡ Some n }
 {
-    let count = read_number(word)?;
-    if 1 <= count && count <= MOST_COUNTS {
-        Some(count)
-    } else {
-        None
-    }
-}
-
-// A number without a sign or a leading zero: the digits that it is printed as.
-fn read_number(word: &str) -> Option<u64>
-    ensures ok { IfSome result (λ n. word.now ≡ decimal n) }
-    ensures only { (n : ℕ) → word.now ≡ decimal n → n < 2 ^ 64 → result ≡ Some n }
-{
-    let number = word.parse::<u64>().ok()?;
-    if Buffer::new().format(number) == word {
-        Some(number)
-    } else {
-        None
-    }
+    read_count(word, 1, MOST_COUNTS)
 }
