@@ -1,10 +1,10 @@
 //! Parameters that bindings give, from files and from the structure itself, and the rules that they break.
 use crate::system_tests::{CHECK, COUNTER, RUN, Structure, describe_system, make_files};
 use crate::tests::{
-    Answer, FREED, NOT_SET, OTHER_KIND, SET, STARTED, Wanted, assert_run, describe_counter,
-    make_file,
+    Answer, FREED, NOT_SET, OTHER_KIND, Output, SET, STARTED, Wanted, assert_output, assert_run,
+    describe_counter, make_file,
 };
-use bench_fmus::{Bench, Script, Scripts};
+use bench_fmus::{Script, Scripts};
 use fmi_calls::{BadStatus, Call, Kind, Reply};
 use sim_base::{Items, MemFile, MemFolder};
 use std::alloc::{AllocError, Global};
@@ -42,33 +42,6 @@ const FOLDERS: &[(&str, &str)] = &[
         r#"<fmiModelDescription fmiVersion="2.0" modelName="m" instantiationToken=""><CoSimulation modelIdentifier="counter"/></fmiModelDescription>"#,
     ),
 ];
-
-// What a command gives over files, with built-in machines.
-#[derive(Clone, Copy)]
-struct Answered<'a> {
-    status: u8,
-    out: &'a str,
-    err: &'a str,
-}
-
-fn assert_answered<R: Abort + Threads + Sync>(
-    rt: &R,
-    alloc: Global,
-    folder: &mut MemFolder,
-    words: &str,
-    answered: Answered<'_>,
-) -> Result<(), AllocError> {
-    let mut bench = Bench::new(alloc, None, Vec::new(alloc));
-    let wanted = Wanted {
-        words,
-        outs: &[],
-        errs: &[],
-        status: answered.status,
-        out: answered.out,
-        err: answered.err,
-    };
-    assert_run(rt, alloc, &wanted, folder, &mut bench)
-}
 
 // ---- one binding of the component `c`, inside the structure or in files
 
@@ -416,12 +389,12 @@ fn a_binding_gives_values(rt: HostRuntime) -> Result<(), Fail> {
         for files in [inline, apart] {
             let mut folder = folder_of(alloc, files);
             for (words, out) in [(RUN, out.as_str()), (CHECK, size.as_str())] {
-                let answered = Answered {
+                let output = Output {
                     status: 0,
                     out,
                     err: "",
                 };
-                assert_answered(&rt, alloc, &mut folder, words, answered)?;
+                assert_output(&rt, alloc, &mut folder, words, output)?;
             }
         }
     }
@@ -783,13 +756,13 @@ fn a_broken_rule_is_told_where_the_binding_stands(rt: HostRuntime) -> Result<(),
             (apart, told_apart(alloc, row)?),
         ] {
             let mut folder = folder_of(alloc, files);
-            let answered = Answered {
+            let output = Output {
                 status: 4,
                 out: "",
                 err: err.as_str(),
             };
             for words in [RUN, CHECK] {
-                assert_answered(&rt, alloc, &mut folder, words, answered)?;
+                assert_output(&rt, alloc, &mut folder, words, output)?;
             }
         }
     }
@@ -879,20 +852,20 @@ fn a_scaled_value_goes_to_the_ends_of_its_type(rt: HostRuntime) -> Result<(), Fa
         let out = format!(in alloc;
             "trace 1 1000 0 10\nport 0 {kind} c y\nat 0 0\n0 0\nat 10 0\n0 {end}\nend stop 10\n"
         )?;
-        let taken = Answered {
+        let taken = Output {
             status: 0,
             out: out.as_str(),
             err: "",
         };
-        let refused = Answered {
+        let refused = Output {
             status: 4,
             out: "",
             err: "refused 53 d/v.ssv /ParameterSet[1]/Parameters[1]/Parameter[1]\n",
         };
         let mut folder = scaled_folder(alloc, kind, value, factor, offset)?;
-        assert_answered(&rt, alloc, &mut folder, words, taken)?;
+        assert_output(&rt, alloc, &mut folder, words, taken)?;
         let mut folder = scaled_folder(alloc, kind, value, factor, past)?;
-        assert_answered(&rt, alloc, &mut folder, words, refused)?;
+        assert_output(&rt, alloc, &mut folder, words, refused)?;
     }
     Ok(())
 }
@@ -1581,12 +1554,12 @@ fn assert_cases<R: Abort + Threads + Sync>(
     for case in cases {
         for (words, out) in [(RUN, case.out), (CHECK, case.size)] {
             let mut folder = case_folder(alloc, case)?;
-            let answered = Answered {
+            let output = Output {
                 status: case.status,
                 out,
                 err: case.err,
             };
-            assert_answered(rt, alloc, &mut folder, words, answered)?;
+            assert_output(rt, alloc, &mut folder, words, output)?;
         }
     }
     Ok(())
@@ -1641,12 +1614,12 @@ const TWICE: Case = Case {
 fn bindings_are_read_behind_descriptions(rt: HostRuntime) -> Result<(), Fail> {
     let alloc = rt.alloc();
     let mut folder = case_folder(alloc, &TWICE)?;
-    let answered = Answered {
+    let output = Output {
         status: 0,
         out: TWICE.size,
         err: "",
     };
-    assert_answered(&rt, alloc, &mut folder, CHECK, answered)?;
+    assert_output(&rt, alloc, &mut folder, CHECK, output)?;
     let paths = [
         "d/SystemStructure.ssd",
         "d/counter/modelDescription.xml",

@@ -1,7 +1,6 @@
 //! Systems with Clocks: constant, fixed, countdown and triggered ones, their ticks and what is present at them.
 use crate::system_tests::{RUN, Structure, make_files};
-use crate::tests::{Wanted, assert_run};
-use bench_fmus::Bench;
+use crate::tests::{Output, assert_output};
 use sim_base::MemFolder;
 use std::alloc::{AllocError, Global};
 use std::process::Abort;
@@ -269,16 +268,12 @@ fn assert_rows<R: Abort + Threads + Sync>(
     for row in rows {
         let files = make_files(alloc, &row.system, FOLDERS)?;
         let mut folder = MemFolder::new(alloc, files, Vec::new(alloc));
-        let mut bench = Bench::new(alloc, None, Vec::new(alloc));
-        let wanted = Wanted {
-            words: row.words,
-            outs: &[],
-            errs: &[],
+        let output = Output {
             status: row.status,
             out: row.out,
             err: row.err,
         };
-        assert_run(rt, alloc, &wanted, &mut folder, &mut bench)?;
+        assert_output(rt, alloc, &mut folder, row.words, output)?;
     }
     Ok(())
 }

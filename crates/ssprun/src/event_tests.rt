@@ -1,10 +1,10 @@
 //! Systems with Event Mode: several instants at one point, their limit, and values that go through FMUs within an instant.
 use crate::system_tests::{NESTED, OPEN_RING, RING, RUN, Structure, make_files};
 use crate::tests::{
-    Answer, ENTERED, EXITED, FREED, READ, STARTED, STEPPED, TERMINATED, Wanted, assert_run,
-    kinds_of, make_file,
+    Answer, ENTERED, EXITED, FREED, Output, READ, STARTED, STEPPED, TERMINATED, Wanted,
+    assert_output, assert_run, kinds_of, make_file,
 };
-use bench_fmus::{Bench, Scripts};
+use bench_fmus::Scripts;
 use fmi_calls::{Content, Kind, Reply};
 use sim_base::{Items, MemFolder};
 use std::alloc::{AllocError, Global};
@@ -109,18 +109,14 @@ fn a_point_has_instants_up_to_the_limit(rt: HostRuntime) -> Result<(), Fail> {
         let description = describe_settle(alloc, row.k)?;
         let file = make_file(alloc, "d/modelDescription.xml", description.as_str())?;
         let mut folder = MemFolder::new(alloc, vec![in alloc; file]?, Vec::new(alloc));
-        let mut bench = Bench::new(alloc, None, Vec::new(alloc));
         let (start, _) = row.points[0];
         let out = settling_text(alloc, start, row)?;
-        let wanted = Wanted {
-            words: row.words,
-            outs: &[],
-            errs: &[],
+        let output = Output {
             status: row.status,
             out: out.as_str(),
             err: row.err,
         };
-        assert_run(&rt, alloc, &wanted, &mut folder, &mut bench)?;
+        assert_output(&rt, alloc, &mut folder, row.words, output)?;
     }
     Ok(())
 }
@@ -174,16 +170,12 @@ fn values_go_through_a_system_within_an_instant(rt: HostRuntime) -> Result<(), F
     for (structure, status, out, err) in &SYSTEMS {
         let files = make_files(alloc, structure, FOLDERS)?;
         let mut folder = MemFolder::new(alloc, files, Vec::new(alloc));
-        let mut bench = Bench::new(alloc, None, Vec::new(alloc));
-        let wanted = Wanted {
-            words: RUN,
-            outs: &[],
-            errs: &[],
+        let output = Output {
             status: *status,
             out,
             err,
         };
-        assert_run(&rt, alloc, &wanted, &mut folder, &mut bench)?;
+        assert_output(&rt, alloc, &mut folder, RUN, output)?;
     }
     Ok(())
 }

@@ -1,7 +1,6 @@
 //! The rules that systems break, each with its place, and the order in which they are told.
 use crate::system_tests::{CHECK, COUNTER, GAIN, RUN, Structure, make_files};
-use crate::tests::{Wanted, assert_run, make_file};
-use bench_fmus::Bench;
+use crate::tests::{Output, assert_output, make_file};
 use sim_base::{Items, MemFile, MemFolder, Text};
 use std::alloc::{AllocError, Global};
 use std::process::Abort;
@@ -349,16 +348,12 @@ fn assert_refused<R: Abort + Threads + Sync>(
     status: u8,
     err: &str,
 ) -> Result<(), AllocError> {
-    let mut bench = Bench::new(alloc, None, Vec::new(alloc));
-    let wanted = Wanted {
-        words,
-        outs: &[],
-        errs: &[],
+    let output = Output {
         status,
         out: "",
         err,
     };
-    assert_run(rt, alloc, &wanted, folder, &mut bench)
+    assert_output(rt, alloc, folder, words, output)
 }
 
 // Both commands refuse files alike.
@@ -417,16 +412,12 @@ fn assert_size<R: Abort + Threads + Sync>(
     folder: &mut MemFolder,
     out: &str,
 ) -> Result<(), AllocError> {
-    let mut bench = Bench::new(alloc, None, Vec::new(alloc));
-    let wanted = Wanted {
-        words: CHECK,
-        outs: &[],
-        errs: &[],
+    let output = Output {
         status: 0,
         out,
         err: "",
     };
-    assert_run(rt, alloc, &wanted, folder, &mut bench)
+    assert_output(rt, alloc, folder, CHECK, output)
 }
 
 #[test]

@@ -638,6 +638,34 @@ pub(crate) fn assert_run<R: Abort + Threads + Sync, S: Spawner>(
     Ok(())
 }
 
+// What a command gives.
+#[derive(Clone, Copy)]
+pub(crate) struct Output<'a> {
+    pub status: u8,
+    pub out: &'a str,
+    pub err: &'a str,
+}
+
+// Runs a command over a folder with the built-in machines, where each put goes through, and compares all that it gives.
+pub(crate) fn assert_output<R: Abort + Threads + Sync>(
+    rt: &R,
+    alloc: Global,
+    folder: &mut MemFolder,
+    words: &str,
+    output: Output<'_>,
+) -> Result<(), AllocError> {
+    let mut bench = Bench::new(alloc, None, Vec::new(alloc));
+    let wanted = Wanted {
+        words,
+        outs: &[],
+        errs: &[],
+        status: output.status,
+        out: output.out,
+        err: output.err,
+    };
+    assert_run(rt, alloc, &wanted, folder, &mut bench)
+}
+
 // Runs the command of a case with a spawner.
 fn assert_case<R: Abort + Threads + Sync, S: Spawner>(
     rt: &R,
