@@ -24,7 +24,7 @@ use Rattle.bench_fmus.specs.Gain.{factor, gain, product}
 use Rattle.bench_fmus.specs.Sampler.{sampler}
 use Rattle.bench_fmus.specs.Alarm.{alarm}
 use Rattle.bench_fmus.specs.Timer.{timer}
-use Rattle.bench_fmus.specs.Relay.{differ, relay, relayed}
+use Rattle.bench_fmus.specs.Relay.{differ, relay}
 use Rattle.bench_fmus.specs.Settle.{settle}
 use Rattle.bench_fmus.specs.Models.{behaviour_of}
 use Rattle.bench_fmus.specs.Wrapping.{wrapped, wrapped_int64}

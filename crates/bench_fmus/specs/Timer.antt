@@ -1,7 +1,7 @@
 -- The machine `timer`: at the point that the parameter under reference 1 says, it arms its countdown Clock under
 -- reference 2, once, for as many counts later as the parameter under reference 4 says. The output under reference 3
 -- counts the ticks.
-use Rattle.std.specs.Prelude.{ℕ, List, ℤ, pos, Bool, ◌==◌, false, None, if◌then◌else◌}
+use Rattle.std.specs.Prelude.{List, ℤ, pos, Bool, ◌==◌, false, None, if◌then◌else◌}
 use Rattle.std.specs.Ordering.{int_eq}
 use Rattle.value_types.specs.declared.shape.Shape.{Shape}
 use Rattle.fmi_calls.specs.declared.call.Call.{Call}

@@ -1,6 +1,6 @@
 -- The bound of a step by the schedule's next tick, and where the schedule stands behind the step.
 use Rattle.std.proofs.Common.{◌≡◌, ℕ, zero, suc, ◌+◌, ◌*◌, ◌<◌, ◌≤◌, Bool, true, false, List, [], ◌∷◌, Option, Some, None, refl, sym, ap, ◌∙◌, subst, arith, get_or, map}
-use Rattle.std.specs.Prelude.{All, IfSome, IsSomeAnd, ◌||◌, ◌==◌, min, nat_lt, slice_get}
+use Rattle.std.specs.Prelude.{All, IsSomeAnd, ◌||◌, ◌==◌, min, nat_lt, slice_get}
 use Rattle.std.specs.List.{list_any}
 use Rattle.std.proofs.Math.Nat.{mul-le-mul_left}
 use Rattle.std.proofs.lemmas.Bool.Decides.{nat_tests}

@@ -1,7 +1,7 @@
 -- Where the instances stand behind walks, and what the values are that were found.
 use Rattle.std.proofs.Common.{◌≡◌, ℕ, ◌<◌, Bool, true, false, List, [], ◌∷◌, Option, Some, None, Result, Ok, Err, refl, sym, ap, ◌∙◌, subst, arith, length, get_or, map, replicate, zero, suc}
 use Rattle.std.specs.Int.{w128}
-use Rattle.std.specs.Prelude.{All, ℤ, ◌||◌, FitsSigned, IfOk, IfSome, OnOk, slice_get}
+use Rattle.std.specs.Prelude.{All, ℤ, ◌||◌, FitsSigned, IfSome, OnOk, slice_get}
 use Rattle.std.proofs.lemmas.Int.{ints}
 use Rattle.std.proofs.lemmas.List.{get_or_default}
 use Rattle.std.proofs.lemmas.List.Elements.{All-cons, All-nil}

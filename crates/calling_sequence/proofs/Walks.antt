@@ -22,7 +22,7 @@ use Rattle.run_model.specs.Equations.{fed}
 use Rattle.run_model.specs.Initial.{is_read}
 use Rattle.run_model.specs.Inputs.{is_active, is_present}
 use Rattle.run_model.specs.Run.{value}
-use Rattle.slot_calls.specs.Log.{Asking, Sent, asking_of}
+use Rattle.slot_calls.specs.Log.{Asking, Sent}
 use Rattle.slot_calls.specs.Stage.{IsAnswered, shapes_of}
 use Rattle.slot_calls.proofs.Parts.{sent_all}
 use Rattle.event_iteration.specs.Explains.{Explains, all_said, call_at, said}

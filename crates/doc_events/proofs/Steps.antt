@@ -1,11 +1,11 @@
 -- From the steps of the machine to those of the reader.
-use Rattle.std.proofs.Common.{◌≡◌, ℕ, suc, ◌+◌, ◌-◌, ◌<◌, ◌≤◌, Bool, true, false, ◌&&◌, List, [], ◌∷◌, ◌++◌, length, take, drop, refl, sym, ap, ◌∙◌, subst, arith, append_assoc, length-append, length-drop, Result, Ok, Err}
+use Rattle.std.proofs.Common.{◌≡◌, ℕ, ◌+◌, ◌-◌, ◌≤◌, Bool, true, false, ◌&&◌, List, [], ◌∷◌, ◌++◌, length, take, drop, refl, sym, ap, ◌∙◌, subst, arith, append_assoc, length-append, length-drop, Result, Ok, Err}
 use Rattle.std.proofs.lemmas.List.{append-nil, take_all, length-reverse, length-map}
-use Rattle.std.proofs.lemmas.Str.{encodes-append, encodes-chars, scalars-chars, cons_from_encodes, chars_from_encodes}
+use Rattle.std.proofs.lemmas.Str.{encodes-append, encodes-chars, scalars-chars, cons_from_encodes}
 use Rattle.std.specs.Str.{encode_utf8_all, all_scalars, IsUtf8, chars}
 use Rattle.std.specs.Char.{encode_utf8, IsScalar}
 use Rattle.doc_grammar.specs.Characters.{class}
-use Rattle.doc_grammar.specs.Grammar.{strict, Document}
+use Rattle.doc_grammar.specs.Grammar.{strict}
 use Rattle.doc_grammar.specs.Grammar as g
 use Rattle.doc_grammar.specs.Machine as m
 use Rattle.doc_grammar.specs.Faults.{IsDocument, IsBroken, IsFault, judged}

@@ -1,5 +1,5 @@
 -- An answer that is right is the only one.
-use Rattle.std.proofs.Common.{◌≡◌, ℕ, List, Ok, Err, Result, IfOk, IfErr, ◌<◌, ◌^◌, ◌≤◌, length, arith}
+use Rattle.std.proofs.Common.{◌≡◌, ℕ, List, Ok, Err, Result, IfOk, IfErr, ◌<◌, ◌^◌, length, arith}
 use Rattle.std.specs.declared.vec.Vec.{Vec}
 use Rattle.std.specs.declared.alloc.Global.{Global}
 use Rattle.doc_grammar.specs.Grammar.{strict, Event}

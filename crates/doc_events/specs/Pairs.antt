@@ -1,7 +1,6 @@
 -- The attributes of a tag, as the grammar sees them.
 use Rattle.std.specs.Prelude.{◌≡◌, ℕ, List}
 use Rattle.std.specs.Str.{encode_utf8_all}
-use Rattle.std.specs.declared.vec.Vec.{Vec}
 use Rattle.std.specs.declared.alloc.Global.{Global}
 use Rattle.std.specs.declared.string.String.{String}
 use Rattle.std.specs.BTreeSet.{BTreeSet, contains_text}

@@ -2,10 +2,9 @@
 use Rattle.std.specs.Prelude.{◌≡◌, ℕ, List, [], ◌∷◌, ◌++◌, map, reverse, drop, Result, Ok, Err, ⊤, codes}
 use Rattle.std.specs.declared.vec.Vec.{Vec}
 use Rattle.std.specs.declared.alloc.Global.{Global}
-use Rattle.doc_grammar.specs.Grammar.{Pair, begin, close}
+use Rattle.doc_grammar.specs.Grammar.{begin, close}
 use Rattle.doc_grammar.specs.Grammar as g
 use Rattle.doc_grammar.specs.Machine as m
-use Rattle.doc_grammar.specs.declared.reasons.Why.{Why}
 use Rattle.doc_events.specs.declared.state.Place.{Place}
 use Rattle.doc_events.specs.declared.state.Place.TheVariants.{Before, Within}
 use Rattle.doc_events.specs.declared.state.Quote.{Quote}
@@ -16,7 +15,6 @@ use Rattle.doc_events.specs.declared.state.Saying.{Saying}
 use Rattle.doc_events.specs.declared.state.Saying.TheVariants.{OnePointZero, Utf8, Yes, No}
 use Rattle.doc_events.specs.declared.state.Base.{Base}
 use Rattle.doc_events.specs.declared.state.Base.TheVariants.{Ten, Sixteen}
-use Rattle.doc_events.specs.declared.state.Tag.{Tag}
 use Rattle.doc_events.specs.declared.state.Hole.{Hole}
 use Rattle.doc_events.specs.declared.state.Hole.TheVariants.{InText, InValue}
 use Rattle.doc_events.specs.declared.state.Tail.{Tail}

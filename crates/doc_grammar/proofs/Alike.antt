@@ -9,7 +9,7 @@ use Rattle.doc_grammar.specs.declared.characters.Class.{Class}
 use Rattle.doc_grammar.specs.declared.characters.Class.TheVariants.{Letter, Bad}
 use Rattle.doc_grammar.specs.declared.reasons.Why.{Why}
 use Rattle.doc_grammar.specs.declared.reasons.Why.TheVariants as w
-use Rattle.doc_grammar.specs.Machine.{Place, before, within, Hole, in_text, in_value, State, Step, dead, go, emit, along, guard, exactly, step, Run, Leads, Final, stack, may_open, why_open, after_reference, setting_value_start, partly, bad, bad_tag_open, common_prefix_length, is_small_xml, step_tag_open, step_after_byte_order_mark, step_tag, step_digit, step_part, step_reference_digits}
+use Rattle.doc_grammar.specs.Machine.{before, within, Hole, State, Step, dead, go, emit, guard, exactly, step, after_reference, partly, bad, step_digit, step_part}
 use Rattle.doc_grammar.specs.Machine as m
 use Rattle.doc_grammar.proofs.Classes.{high_class, class_of_mark}
 use Rattle.doc_grammar.proofs.Bytes.{ascii_same}

@@ -6,7 +6,7 @@ use Rattle.std.proofs.lemmas.List.{append-nil}
 use Rattle.std.proofs.lemmas.Bool.Decides.{nat_tests}
 use Rattle.std.proofs.lemmas.Slice.Eq.{bytes_eq-Decides}
 use Rattle.doc_grammar.specs.Characters.{class, names, blanks, legal, is_text, IsName, is_char}
-use Rattle.doc_grammar.specs.Grammar.{Limits, clashes, may_stand, is_valued, Quote, with_double, with_single, quote_char, Part, version, encoding, standalone, fold_for, word, IsSettingValue, Setting, IsSetting, print_setting, print_maybe, IsMaybe, Declaration, Base, ten, sixteen, is_numeral, with_digit, with_digits, Reference, named, numbered, print_reference, IsReference, code_of, Attr, IsAttr, print_named, attr_of, Pair, has, Tag, is_xml, IsFree, IsTarget, IsInstruction, Content, print, IsContent, Event, begin, close, raw_value, Entity, lt, gt, amp, apos, quot, entity_text, entity_code, Body, Unmarked, Document}
+use Rattle.doc_grammar.specs.Grammar.{Limits, clashes, is_valued, Quote, with_double, with_single, quote_char, Part, version, encoding, standalone, fold_for, word, IsSettingValue, Setting, IsSetting, print_setting, print_maybe, Base, ten, sixteen, is_numeral, with_digit, Reference, named, numbered, print_reference, IsReference, code_of, print_named, attr_of, Pair, Tag, is_xml, IsTarget, IsInstruction, print, Event, begin, close, raw_value, Entity, lt, gt, amp, apos, quot, entity_text, entity_code, Body, Unmarked, Document}
 use Rattle.doc_grammar.specs.declared.characters.Class.{Class}
 use Rattle.doc_grammar.specs.declared.reasons.Why.{Why}
 use Rattle.doc_grammar.specs.declared.reasons.Why.TheVariants as w

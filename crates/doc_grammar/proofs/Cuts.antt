@@ -10,7 +10,7 @@ use Rattle.doc_grammar.specs.Grammar.{Limits, strict, Event, Document, Begins}
 use Rattle.doc_grammar.specs.declared.characters.Class.TheVariants.{Letter, Bad}
 use Rattle.doc_grammar.specs.declared.reasons.Why.{Why}
 use Rattle.doc_grammar.specs.declared.reasons.Why.TheVariants as w
-use Rattle.doc_grammar.specs.Machine.{Place, before, within, Hole, in_text, in_value, State, Step, dead, go, emit, along, guard, exactly, step, Run, Leads, Final, stack, may_open, why_open, after_reference, setting_value_start, partly, bad, bad_tag_open, common_prefix_length, is_small_xml, step_tag_open, step_after_byte_order_mark, step_tag, step_digit, step_part, step_reference_digits}
+use Rattle.doc_grammar.specs.Machine.{State, dead, go, along, guard, step, Leads, partly, step_after_byte_order_mark}
 use Rattle.doc_grammar.specs.Machine as m
 use Rattle.std.proofs.lemmas.Str.{encodes-append, encode_same, encode_ascii}
 use Rattle.doc_grammar.specs.Faults.{IsDocument, BeginsOne, IsLongestOf}

@@ -7,7 +7,7 @@ use Rattle.std.specs.Str.{bytes_eq}
 use Rattle.doc_grammar.specs.Characters.{class, other_class, names, is_char, AllOf}
 use Rattle.doc_grammar.specs.Grammar.{Limits, clashes, Quote, with_double, quote_char, Part, version, encoding, standalone, word, fold_case, is_xml, Base, ten, sixteen, is_numeral, AllNumerals, with_digits, named, Pair, has, Event, begin, close, lt}
 use Rattle.doc_grammar.specs.declared.characters.Class.TheVariants.{Letter, Dash, Greater, Question}
-use Rattle.doc_grammar.specs.Machine.{Place, before, within, State, Step, dead, go, emit, along, stack, Hole, in_text, in_value, after_reference, setting_value_start, step, Run}
+use Rattle.doc_grammar.specs.Machine.{Place, before, within, State, Step, dead, go, emit, stack, Hole, in_text, in_value, after_reference, setting_value_start, Run}
 use Rattle.doc_grammar.specs.Machine as m
 use Rattle.doc_grammar.proofs.Classes.{class_dash, class_greater, class_question, class_of_a}
 use Rattle.doc_grammar.proofs.Forward as f

@@ -11,7 +11,7 @@ use Rattle.doc_grammar.specs.declared.characters.Class.{Class}
 use Rattle.doc_grammar.specs.declared.reasons.Why.{Why}
 use Rattle.doc_grammar.specs.declared.reasons.Why.TheVariants as w
 use Rattle.doc_grammar.specs.declared.characters.Class.TheVariants.{Less, Greater, Slash, Bang, Question, Dash, Ampersand, Equal, DoubleQuote, SingleQuote, OpenBracket, CloseBracket, Blank, Letter, Digit, Bad}
-use Rattle.doc_grammar.specs.Machine.{Place, before, within, State, Step, dead, go, emit, along, guard, exactly, stack, may_open, Hole, in_text, in_value, tag_open, markup_declaration, comment_start, comment_dash, comment_end, tag_name, before_attribute_name, attribute_name, after_attribute_name, before_attribute_value, attribute_value, after_attribute_value, self_closing_start_tag, end_tag_name, after_end_tag_name, named_reference, after_reference, setting_value_start, is_small_xml, standalone_word, step_content, step_tag_open, step_comment, step_comment_dash, step_instruction_text, step_instruction_end, step_cdata_section, step_cdata_section_bracket, step_cdata_section_end, step_instruction_target, step_after_byte_order_mark, step_start, step_document_tag_open, step_document_processing_instruction, step_document_instruction_target, step_tag, step_tag_name, step_before_attribute_name, step_attribute_name, step_attribute_value, step_digit, step_reference_digits, step, Run, Final}
+use Rattle.doc_grammar.specs.Machine.{Place, before, within, State, dead, go, along, guard, exactly, stack, may_open, Hole, in_text, in_value, tag_open, markup_declaration, comment_start, comment_dash, comment_end, tag_name, before_attribute_name, attribute_name, after_attribute_name, before_attribute_value, attribute_value, after_attribute_value, self_closing_start_tag, end_tag_name, after_end_tag_name, after_reference, setting_value_start, is_small_xml, step_content, step_tag_open, step_comment, step_comment_dash, step_instruction_text, step_instruction_end, step_cdata_section, step_cdata_section_bracket, step_cdata_section_end, step_instruction_target, step_after_byte_order_mark, step_document_tag_open, step_document_processing_instruction, step_document_instruction_target, step_tag, step_tag_name, step_before_attribute_name, step_attribute_name, step_attribute_value, step_digit, step, Run}
 use Rattle.doc_grammar.specs.Machine as m
 use Rattle.doc_grammar.proofs.Classes.{class_less, class_greater, class_slash, class_bang, class_question, class_dash, class_ampersand, class_equal, class_double, class_single, class_open_bracket, class_close_bracket, class_of_mark, blank_is, dash_is, question_is, close_bracket_is, greater_is}
 

@@ -7,7 +7,7 @@ use Rattle.doc_grammar.specs.declared.characters.Class.{Class}
 use Rattle.doc_grammar.specs.declared.characters.Class.TheVariants.{Less, Greater, Slash, Bang, Question, Dash, Ampersand, Equal, DoubleQuote, SingleQuote, OpenBracket, CloseBracket, Blank, Letter, Digit, Bad}
 use Rattle.doc_grammar.specs.declared.reasons.Why.{Why}
 use Rattle.doc_grammar.specs.declared.reasons.Why.TheVariants as w
-use Rattle.doc_grammar.specs.Machine.{Place, before, within, Hole, in_text, in_value, State, Step, dead, go, emit, along, guard, exactly, after_reference, setting_value_start, may_open, why_open, is_small_xml, step_tag_open, step_after_byte_order_mark, step_tag, step_digit, step_part, step, Leads, start}
+use Rattle.doc_grammar.specs.Machine.{Place, before, within, Hole, in_text, in_value, State, Step, guard, after_reference, setting_value_start, may_open, why_open, is_small_xml, step_tag_open, step_after_byte_order_mark, step_tag, step_digit, step_part, step, start}
 use Rattle.doc_grammar.specs.Machine as m
 use Rattle.doc_grammar.proofs.Finish.{Sane, SaneStep}
 

@@ -1,6 +1,6 @@
 -- Which Clocks are active behind good calls.
 use Rattle.std.proofs.Common.{◌≡◌, ℕ, zero, suc, ◌+◌, ◌<◌, Bool, true, false, ◌||◌, List, [], ◌∷◌, ◌++◌, Option, Some, None, Result, Ok, Err, Contains, refl, sym, ap, ◌∙◌, subst, arith, length, get_or, set}
-use Rattle.std.specs.Prelude.{All, ◌==◌, find, if◌then◌else◌, slice_get}
+use Rattle.std.specs.Prelude.{All, ◌==◌, if◌then◌else◌, slice_get}
 use Rattle.std.specs.List.{list_any, position_from}
 use Rattle.std.specs.Option.{option_map_or}
 use Rattle.std.proofs.lemmas.Iterator.Adapters.{position_from-zero}

@@ -1,20 +1,18 @@
 -- What a sound system's Clocks may be asked for, and what a good answer tells.
-use Rattle.std.proofs.Common.{◌≡◌, ℕ, ◌+◌, ◌*◌, ◌^◌, ◌<◌, ◌≤◌, Bool, true, false, List, [], ◌∷◌, Option, Some, None, Result, Ok, Err, refl, sym, ap, ap₂, ◌∙◌, subst, arith, length, get_or, map, mul-le-mul_left}
+use Rattle.std.proofs.Common.{◌≡◌, ℕ, ◌*◌, ◌^◌, ◌<◌, ◌≤◌, Bool, true, false, List, [], ◌∷◌, Option, Some, None, Result, Ok, Err, refl, sym, ap, ap₂, ◌∙◌, subst, arith, get_or, mul-le-mul_left}
 use Rattle.std.specs.Prelude.{IsSome, IsSomeAnd, MatchResult, ◌&&◌, if◌then◌else◌, is_some, nat_le, option_map, slice_get}
 use Rattle.std.specs.Option.{option_map_or}
 use Rattle.std.specs.Result.{result_ok}
 use Rattle.std.proofs.lemmas.Bool.Decides.{nat_tests}
 use Rattle.std.proofs.lemmas.List.Elements.{All-head}
 use Rattle.std.proofs.lemmas.Option.{get_or_from_slice_get, same_Some, slice_get-map}
-use Rattle.clock_fraction.specs.Counts.{IsCounts, counts_of}
+use Rattle.clock_fraction.specs.Counts.{counts_of}
 use Rattle.clock_fraction.specs.declared.fraction.Fraction.{Fraction}
-use Rattle.value_types.specs.Shape.{is_clock, is_input, is_input_port, timing_at, variable_at}
-use Rattle.value_types.specs.declared.shape.Causality.{Causality}
+use Rattle.value_types.specs.Shape.{is_clock, is_input, timing_at}
 use Rattle.value_types.specs.declared.shape.ClockTiming.{ClockTiming}
 use Rattle.value_types.specs.declared.shape.IntervalVariability.{IntervalVariability}
 use Rattle.value_types.specs.declared.shape.IntervalVariability.TheVariants as v
 use Rattle.value_types.specs.declared.shape.Shape.{Shape}
-use Rattle.value_types.specs.declared.shape.Variable.{Variable}
 use Rattle.fmi_calls.specs.declared.call.Call.{Call}
 use Rattle.fmi_calls.specs.declared.call.Call.TheVariants as C
 use Rattle.fmi_calls.specs.declared.call.Content.TheVariants as A
@@ -44,9 +42,9 @@ use Rattle.system_model.specs.Sound.{IsRole, IsSound, IsTiming}
 use Rattle.system_model.proofs.Lists.{true_false}
 use Rattle.system_model.proofs.SoundLemmas.{Placed, events_of, place_of}
 use Rattle.run_model.specs.Initial.{interval_in, shift_in}
-use Rattle.run_model.specs.Run.{Timer, Every}
+use Rattle.run_model.specs.Run.{Every}
 use Rattle.run_model.specs.Timers.{fixed, periodic_of}
-use Rattle.slot_calls.specs.Log.{Asking, Sent, askings}
+use Rattle.slot_calls.specs.Log.{Asking, Sent}
 use Rattle.slot_calls.specs.Stage.{IsAnswered, IsGoodOf, shapes, shapes_of}
 use Rattle.event_iteration.specs.Questions as Q
 use Rattle.event_iteration.specs.Questions.{AreRunning, MayTell, counts_told, first_reply, is_asked, modes}

@@ -1,10 +1,9 @@
 -- Which Clocks of a schedule are due at a point: those whose timers are.
-use Rattle.std.proofs.Common.{◌≡◌, ℕ, zero, suc, ◌+◌, ◌*◌, ◌<◌, ◌≤◌, Bool, true, false, List, [], ◌∷◌, Option, Some, None, refl, sym, ap, ◌∙◌, subst, arith, length, get_or, map, inl, inr, mul-le-mul_right}
-use Rattle.std.specs.Prelude.{◌↔◌, ◌==◌, IfSome, IsSomeAnd, IsTrue, slice_get}
+use Rattle.std.proofs.Common.{◌≡◌, ℕ, zero, suc, ◌+◌, ◌*◌, ◌<◌, ◌≤◌, Bool, true, false, List, [], ◌∷◌, Option, Some, None, refl, sym, ap, ◌∙◌, subst, arith, length, map, inl, inr, mul-le-mul_right}
+use Rattle.std.specs.Prelude.{◌↔◌, ◌==◌, IsSomeAnd, IsTrue, slice_get}
 use Rattle.std.specs.Option.{option_map_or}
 use Rattle.std.proofs.lemmas.Bool.{cases_lt, eq-eqb, eqb-true}
 use Rattle.std.proofs.lemmas.Option.{same_Some, slice_get_within}
-use Rattle.clock_fraction.specs.Ticks.{IsTick}
 use Rattle.system_model.specs.declared.system.System.{System}
 use Rattle.system_model.specs.Ports.{numbers}
 use Rattle.system_model.specs.Sound.{IsSound}
@@ -12,7 +11,6 @@ use Rattle.system_model.proofs.Lists.{all_at, at_contains, true_false}
 use Rattle.tick_schedule.specs.declared.clock.ClockState.{ClockState}
 use Rattle.tick_schedule.specs.declared.clock.ClockState.TheVariants as S
 use Rattle.tick_schedule.specs.Timetable.{IsToTick, TicksAt, Timetable}
-use Rattle.run_model.specs.Run.{Never, Timer}
 use Rattle.run_model.specs.Equations.{timer_of}
 use Rattle.run_model.specs.Timers.{IsDue}
 use Rattle.event_iteration.specs.Clocks.{AreTicks, IsNextFrom, StandsAt, is_due_at, is_due_in, timer_in, timers_in}

@@ -1,5 +1,5 @@
 -- The walk through an instant: each call of it is permitted, and each value is one of its port's type.
-use Rattle.std.proofs.Common.{◌≡◌, ◌⊎◌, inl, inr, ℕ, ◌<◌, ◌+◌, ℤ, pos, Bool, true, false, not, List, [], ◌∷◌, ◌++◌, Option, Some, None, Err, Contains, refl, sym, ap, ◌∙◌, subst, append-nil, length, get_or, map, take, drop}
+use Rattle.std.proofs.Common.{◌≡◌, ◌⊎◌, inl, inr, ℕ, ◌<◌, ◌+◌, ℤ, pos, Bool, true, false, not, List, [], ◌∷◌, ◌++◌, Option, Some, None, Err, Contains, refl, sym, ap, ◌∙◌, subst, length, get_or}
 use Rattle.std.specs.Prelude.{All, IfSome, ◌&&◌, ◌||◌, ◌==◌, if◌then◌else◌, is_some, option_map, slice_get}
 use Rattle.std.specs.List.{list_any}
 use Rattle.std.specs.Ordering.{int_eq}
@@ -7,7 +7,7 @@ use Rattle.std.proofs.lemmas.Bool.{eq-eqb}
 use Rattle.std.proofs.lemmas.Bool.Decides.{Decides-int_eq}
 use Rattle.std.proofs.lemmas.Option.{same_Some, slice_get-map, slice_get_within}
 use Rattle.sim_base.specs.declared.numbers.PortId.{PortId}
-use Rattle.value_types.specs.Shape.{is_at, is_clock, is_clock_type, is_input, is_input_port, is_output, is_output_port, is_unclocked as has_no_clocks, variable_at}
+use Rattle.value_types.specs.Shape.{is_at, is_clock, is_clock_type, is_input, is_output, is_unclocked as has_no_clocks, variable_at}
 use Rattle.value_types.specs.Values.{Fits, is_fitting, number_of, word_value}
 use Rattle.value_types.specs.declared.shape.Causality.{Causality}
 use Rattle.value_types.specs.declared.shape.Shape.{Shape}
@@ -26,7 +26,6 @@ use Rattle.fmi_calls.specs.Next.{is_tick, marked, running_state}
 use Rattle.fmi_calls.specs.Permission as May
 use Rattle.fmi_calls.specs.Permission.{Permitted, can_be_read, can_be_set, can_be_ticked, is_input_clock, is_marked, is_output_clock, none_marked}
 use Rattle.fmi_calls.specs.Worth.{grade_of}
-use Rattle.fmu_peer.specs.declared.peer.Exchange.{Exchange}
 use Rattle.fmu_peer.specs.CloseAll.{Instance}
 use Rattle.fmu_peer.specs.View.{View}
 use Rattle.system_model.specs.declared.system.Component.{Component}
@@ -56,9 +55,7 @@ use Rattle.slot_calls.proofs.Logs.{part_append}
 use Rattle.event_iteration.specs.Instants.{BeginsInstant, HasPlacedClocks, asks_in_instant, in_instant, seen_or, takes_in_instant}
 use Rattle.event_iteration.specs.Turns.{IsPaired, MayAsk, MayTurn, TakesTurn, Turn, Walked}
 use Rattle.event_iteration.proofs.Activity.{active_by, active_by-append, active_keeps, any_from, any_some, length-active, marked_here, talks_active}
-use Rattle.event_iteration.proofs.Clockless.{unclocked_parts}
-use Rattle.event_iteration.proofs.Fmus.{exchanges_of, part_other_of, part_own_of}
-use Rattle.event_iteration.proofs.Loops.{split_order}
+use Rattle.event_iteration.proofs.Fmus.{exchanges_of, part_own_of}
 use Rattle.event_iteration.proofs.Marks.{unmarked}
 use Rattle.event_iteration.proofs.Permits.{at_under, fed_fits, input_there, no_clocks_there, placed, readable, under, writable}
 use Rattle.event_iteration.proofs.Turning.{AsksBy, Gets, IsCallOf, Sets, TakesFitting, Ticks, Touches, all_was, behind, calls_of, fits_along, quiet_behind, read_alone, shape_here, shape_was, talks_here}

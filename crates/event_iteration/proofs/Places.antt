@@ -1,13 +1,11 @@
 -- Where Clocks stand in a schedule, and their timers.
-use Rattle.std.proofs.Common.{◌≡◌, inl, inr, ℕ, zero, suc, ◌+◌, ◌*◌, ◌^◌, ◌<◌, ◌≤◌, ◌==◌, ℤ, Bool, true, false, List, [], ◌∷◌, ◌++◌, Option, Some, None, refl, sym, ap, ap₂, ◌∙◌, subst, append_assoc, arith, length, get_or, set, map, take, drop}
+use Rattle.std.proofs.Common.{◌≡◌, inl, inr, ℕ, zero, suc, ◌+◌, ◌*◌, ◌<◌, ◌≤◌, ◌==◌, ℤ, Bool, true, false, List, [], ◌∷◌, ◌++◌, Option, Some, None, refl, sym, ap, ◌∙◌, subst, arith, length, set, map, take}
 use Rattle.std.specs.Prelude.{IfSome, IsSomeAnd, if◌then◌else◌, option_map, slice_get}
-use Rattle.std.specs.List.{list_any}
 use Rattle.std.specs.Option.{option_map_or}
 use Rattle.std.proofs.lemmas.Bool.{cases_lt, eq-eqb, eqb-true}
 use Rattle.std.proofs.lemmas.Bool.Decides.{nat_tests}
-use Rattle.std.proofs.lemmas.List.{length-map, length-set, map-append, set-get_or, take_all, take_more}
-use Rattle.std.proofs.lemmas.List.Folds.{list_any-append}
-use Rattle.std.proofs.lemmas.Option.{get_or_from_slice_get, same_Some, slice_get-get_or, slice_get-map, slice_get_within}
+use Rattle.std.proofs.lemmas.List.{set-get_or}
+use Rattle.std.proofs.lemmas.Option.{get_or_from_slice_get, same_Some, slice_get_within}
 use Rattle.clock_fraction.specs.Counts.{counts_of}
 use Rattle.fmi_calls.specs.declared.call.Interval.{Interval}
 use Rattle.fmi_calls.specs.declared.call.Interval.TheVariants.{NotYetKnown, Unchanged, Changed}
@@ -20,7 +18,7 @@ use Rattle.tick_schedule.specs.declared.clock.ClockState.{ClockState}
 use Rattle.tick_schedule.specs.declared.clock.ClockState.TheVariants as S
 use Rattle.tick_schedule.specs.Timetable.{HasNext, IsCountdown, IsToTick, Timetable, with_clock}
 use Rattle.run_model.specs.Inputs.{is_active}
-use Rattle.run_model.specs.Run.{Timer, Never, Every, Once}
+use Rattle.run_model.specs.Run.{Never, Every}
 use Rattle.run_model.specs.Timers.{answered, armed_after, is_armed_for}
 use Rattle.event_iteration.specs.Clocks.{IsNextFrom, IsPlaceOf, is_due_in, timer_in}
 use Rattle.event_iteration.specs.Intervals.{interval_by, is_time_clock, timer_behind}

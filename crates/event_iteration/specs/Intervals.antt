@@ -12,7 +12,6 @@ use Rattle.fmu_peer.specs.CloseAll.{Instance}
 use Rattle.system_model.specs.declared.system.Role.{Role}
 use Rattle.system_model.specs.declared.system.Role.TheVariants.{Input, Output, ClockInput, ClockOutput, TimeClock}
 use Rattle.system_model.specs.declared.system.Timing.TheVariants.{Periodic, Answered, Countdown}
-use Rattle.system_model.specs.declared.system.Component.{Component}
 use Rattle.system_model.specs.declared.system.Port.{Port}
 use Rattle.system_model.specs.declared.system.System.{System}
 use Rattle.tick_schedule.specs.Timetable.{Timetable}
@@ -26,7 +25,7 @@ use Rattle.slot_calls.specs.declared.bad_answer.BadAnswer.{BadAnswer}
 use Rattle.slot_calls.specs.Carried.{reply_in}
 use Rattle.slot_calls.specs.Log.{Asking, Sent, Told}
 use Rattle.slot_calls.specs.Stage.{IsAnswered, StopsAt, shapes_of}
-use Rattle.event_iteration.specs.Clocks.{is_due_at, timers_in}
+use Rattle.event_iteration.specs.Clocks.{is_due_at}
 use Rattle.event_iteration.specs.Explains.{Explains, ExplainsUntil}
 use Rattle.event_iteration.specs.Machines.{AreAt}
 use Rattle.event_iteration.specs.Settings.{port_order}

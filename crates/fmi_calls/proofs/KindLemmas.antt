@@ -1,5 +1,5 @@
 -- A kind by its number.
-use Rattle.std.proofs.Common.{◌≡◌, ℕ, ◌-◌, ◌==◌, true, List, [], ◌∷◌, get_or, refl, sym, ap, ◌∙◌}
+use Rattle.std.proofs.Common.{◌≡◌, ℕ, ◌-◌, true, List, [], ◌∷◌, get_or, refl, sym, ap, ◌∙◌}
 use Rattle.std.proofs.lemmas.Bool.{eqb-true}
 use Rattle.fmi_calls.specs.declared.call.Kind.{Kind}
 use Rattle.fmi_calls.specs.declared.call.Kind.TheVariants.{Instantiate, EnterInitialization, ExitInitialization, EnterEvent, EnterStep, DoStep, Update, Get, Set, GetClock, SetClock, GetInterval, GetShift, Save, Restore, Free, Terminate, FreeInstance}

@@ -1,5 +1,5 @@
 -- Which Updates the run of several FMUs needs (FMI 3.0, 4.2.1: Event Mode, fmi3UpdateDiscreteStates; 2.2.9: fmi3GetIntervalFraction). Each FMU with event mode has one Update in an instant, so the k-th Updates of their talks are those of the k-th instant.
-use Rattle.std.specs.Prelude.{◌≡◌, ℕ, suc, ◌==◌, ◌||◌, Bool, true, false, List, [], ◌∷◌, ◌++◌, Option, Some, Contains, Result, Ok, Err}
+use Rattle.std.specs.Prelude.{◌≡◌, ℕ, suc, ◌==◌, ◌||◌, Bool, true, false, List, [], ◌∷◌, ◌++◌, Some, Contains, Result, Ok, Err}
 use Rattle.std.specs.List.{list_any, slice_get}
 use Rattle.std.specs.Option.{option_map_or}
 use Rattle.fmi_calls.specs.declared.call.Call.{Call}

@@ -23,7 +23,7 @@ use Rattle.link_frames.specs.Numbers.{Reads}
 use Rattle.link_frames.specs.Taking.{AreSingle}
 use Rattle.link_frames.specs.Text.{IsText}
 use Rattle.link_frames.proofs.BehindLemmas.{Followed, behind_single}
-use Rattle.link_frames.proofs.HeadLemmas.{Allowed, IsHead, head_length, IsKindNumber, head_reads, head_same, in_any, in_between, in_zero, is_between, is_zero, kind_again, number_in, read_head}
+use Rattle.link_frames.proofs.HeadLemmas.{Allowed, IsHead, head_length, head_reads, head_same, in_any, in_between, in_zero, is_between, is_zero, kind_again, number_in, read_head}
 use Rattle.link_frames.proofs.HeadLemmas as heads
 use Rattle.link_frames.proofs.MapLemmas.{Same, made_single}
 use Rattle.link_frames.proofs.NumbersLemmas.{reads_single}

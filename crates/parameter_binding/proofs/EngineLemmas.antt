@@ -1,18 +1,16 @@
 -- The values of a component are values for its parameters, each once.
-use Rattle.std.proofs.Common.{◌≡◌, ◌⊎◌, ◌<◌, ◌≤◌, ℕ, zero, suc, Bool, true, false, List, [], ◌∷◌, length, map, get_or, Option, Some, None, refl, sym, ap, ◌∙◌, subst, inl, inr, arith, All, find, nat_eq, Result, Ok, Err}
+use Rattle.std.proofs.Common.{◌≡◌, ◌<◌, ℕ, zero, suc, Bool, true, false, List, [], ◌∷◌, length, map, get_or, Some, None, refl, sym, ap, ◌∙◌, subst, inl, inr, arith, All, nat_eq, Result, Ok, Err}
 use Rattle.std.specs.List.{slice_get, AllZip, IsDistinct}
 use Rattle.std.specs.Option.{option_map}
-use Rattle.std.specs.Prelude.{◌==◌}
 use Rattle.std.specs.Result.{IfOk}
 use Rattle.std.proofs.lemmas.Bool.{eq-eqb, ne_eqb}
 use Rattle.std.proofs.lemmas.List.{length-map}
 use Rattle.std.proofs.lemmas.List.Elements.{All-contains}
 use Rattle.std.proofs.lemmas.Map.Keys.{IsDistinct-from_apart, apart_from_distinct}
-use Rattle.std.proofs.lemmas.Option.{same_Some, get_or_from_slice_get, slice_get-get_or, slice_get-map, slice_get_within}
-use Rattle.value_types.specs.Shape.{is_clock, is_clock_type, is_parameter, variable_at}
+use Rattle.std.proofs.lemmas.Option.{same_Some, get_or_from_slice_get, slice_get-map, slice_get_within}
+use Rattle.value_types.specs.Shape.{is_clock, is_parameter, variable_at}
 use Rattle.value_types.specs.declared.shape.Causality.{Causality}
 use Rattle.value_types.specs.declared.shape.Causality.TheVariants as causality
-use Rattle.value_types.specs.declared.shape.ClockTiming.{ClockTiming}
 use Rattle.value_types.specs.declared.shape.IntervalVariability.{IntervalVariability}
 use Rattle.value_types.specs.declared.shape.IntervalVariability.TheVariants.{Constant, Fixed, Tunable, Changing, Countdown, Triggered}
 use Rattle.value_types.specs.declared.shape.Shape.{Shape}
@@ -27,9 +25,8 @@ use Rattle.ssd_tree.specs.declared.tree.SystemTree.{SystemTree}
 use Rattle.parameter_targets.proofs.ListLemmas.{contains_at, element_at}
 use Rattle.parameter_binding.specs.declared.gathered.Gathered.{Gathered}
 use Rattle.parameter_binding.specs.declared.sets.BindingSets.{BindingSets}
-use Rattle.parameter_binding.specs.declared.winners.Best.{Best}
 use Rattle.parameter_binding.specs.Binds.{IsLater, target_at}
-use Rattle.parameter_binding.specs.Walk.{AreAllGathered, AreAllValues, AreValues, IsBest, IsBoundOf, triple_at}
+use Rattle.parameter_binding.specs.Walk.{AreAllGathered, AreValues, IsBest, IsBoundOf, triple_at}
 use Rattle.parameter_binding.proofs.BoundLemmas.{IsValueOf, winner_at}
 
 -- ---- a parameter of a sound shape

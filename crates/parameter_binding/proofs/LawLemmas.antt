@@ -1,10 +1,9 @@
 -- One list of values, and one number of names that reach nothing.
-use Rattle.std.proofs.Common.{◌≡◌, ◌+◌, ◌⊎◌, ◌<◌, ◌≤◌, ℕ, ℤ, zero, suc, List, [], ◌∷◌, length, Option, Some, None, refl, sym, ap, ◌∙◌, subst, inl, inr, arith}
-use Rattle.std.specs.List.{slice_get, AllZip, Contains}
+use Rattle.std.proofs.Common.{◌≡◌, ◌+◌, ◌⊎◌, ◌<◌, ◌≤◌, ℕ, ℤ, zero, suc, List, [], ◌∷◌, length, Option, Some, refl, sym, ap, ◌∙◌, subst, inl, inr, arith}
+use Rattle.std.specs.List.{slice_get, AllZip}
 use Rattle.std.proofs.lemmas.Option.{same_Some, slice_get_within}
 use Rattle.value_types.specs.declared.shape.Shape.{Shape}
 use Rattle.value_types.specs.declared.shape.Variable.{Variable}
-use Rattle.value_types.specs.declared.values.PortType.{PortType}
 use Rattle.system_model.specs.declared.bound.Bound.{Bound}
 use Rattle.system_model.specs.declared.bound.BoundValue.{BoundValue}
 use Rattle.parameter_values.specs.declared.change.Change.{Change}
@@ -18,10 +17,10 @@ use Rattle.ssd_tree.specs.declared.tree.SystemTree.{SystemTree}
 use Rattle.ssd_tree.proofs.ListingLemmas.{one_listing}
 use Rattle.parameter_targets.specs.declared.target.Target.{Target}
 use Rattle.parameter_targets.specs.Scopes.{IsDepth, IsLevel}
-use Rattle.parameter_targets.proofs.ListLemmas.{contains_at, element_at, place_of}
+use Rattle.parameter_targets.proofs.ListLemmas.{contains_at, place_of}
 use Rattle.parameter_targets.proofs.PathLemmas.{depth_once}
 use Rattle.parameter_binding.specs.declared.sets.BindingSets.{BindingSets}
-use Rattle.parameter_binding.specs.Binds.{AreBound, AreBoundOf, Beats, Binds, HasLevel, IsBoundAt, IsCandidate, IsLater, IsReached, IsUnreached, ListsUnreached, Reaches, Triple, Wins, target_at}
+use Rattle.parameter_binding.specs.Binds.{AreBound, AreBoundOf, Beats, Binds, HasLevel, IsBoundAt, IsCandidate, IsLater, IsReached, ListsUnreached, Reaches, Triple, Wins, target_at}
 use Rattle.parameter_binding.proofs.OnceLemmas.{candidate_once, gives_once, target_once}
 
 -- ---- one winner

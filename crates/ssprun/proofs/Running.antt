@@ -1,16 +1,13 @@
 -- From peers that were started to what holds of their run.
-use Rattle.std.proofs.Common.{◌≡◌, ℕ, ◌-◌, ◌<◌, ◌==◌, Bool, true, false, not, List, [], ◌∷◌, ◌++◌, Some, None, refl, sym, ap, ◌∙◌, subst, arith, length, map}
+use Rattle.std.proofs.Common.{◌≡◌, ℕ, ◌-◌, ◌<◌, ◌==◌, Bool, true, false, not, List, ◌++◌, Some, None, refl, sym, ap, ◌∙◌, subst, arith, length}
 use Rattle.std.specs.Prelude.{if◌then◌else◌, position}
-use Rattle.std.specs.List.{AllZip, IsDistinct}
 use Rattle.std.proofs.lemmas.List.{length-map}
-use Rattle.std.proofs.lemmas.List.Elements.{All-nil}
 use Rattle.std.proofs.lemmas.Option.{none-some as none_some, same_Some, slice_get_within}
 use Rattle.sim_base.specs.Sink.{SinkView}
 use Rattle.value_types.proofs.IndexLemmas.{placed_within}
 use Rattle.fmi_calls.specs.Next.{fresh}
 use Rattle.fmu_peer.specs.View.{View}
 use Rattle.system_model.specs.declared.bound.Bound.{Bound}
-use Rattle.system_model.specs.declared.bound.BoundValue.{BoundValue}
 use Rattle.system_model.specs.declared.plan.Plan.{Plan}
 use Rattle.system_model.specs.declared.system.Component.{Component}
 use Rattle.system_model.specs.declared.system.System.{System}
@@ -24,7 +21,7 @@ use Rattle.step_master.specs.declared.prepare_end.PrepareFault.TheVariants as F
 use Rattle.step_master.specs.Lived.{Account, Lived, LivesAreOver, Unmade, UnmadeIsClosed}
 use Rattle.step_master.specs.Master.{FailsToPrepare, Standing}
 use Rattle.step_master.specs.Traced.{IsRunOf, ToldRun, ToldTrace, ToldUnmade}
-use Rattle.system_model.specs.Bounds.{AreParameterValues, BindsParameters, IsParameterValue}
+use Rattle.system_model.specs.Bounds.{BindsParameters}
 use Rattle.system_model.specs.Sound.{IsSound}
 use Rattle.step_master.specs.Lives.{AreLives, EndsLives, Life}
 use Rattle.slot_calls.specs.Log.{Sent}

@@ -1,5 +1,5 @@
 -- The rows of the check of a trace, and those of a system beside them.
-use Rattle.std.proofs.Common.{◌≡◌, ℕ, List, inl, inr, refl, sym, ap, subst, codes}
+use Rattle.std.proofs.Common.{◌≡◌, ℕ, List, inl, inr, sym, ap, subst}
 use Rattle.command_line.specs.Line.{Asked, IsAsked, IsLine, IsTraceLine, Line, OfSystem, OfTrace, TraceLine}
 use Rattle.built_in_laws.specs.BuiltInRuns.{BuiltInsBehaveWell}
 use Rattle.system_files.specs.declared.loading.LoadEnd.{LoadEnd}
@@ -12,8 +12,8 @@ use Rattle.ssprun.specs.declared.outcome.Outcome.{Outcome}
 use Rattle.ssprun.specs.declared.outcome.Outcome.TheVariants.{Words, Memory, File}
 use Rattle.ssprun.specs.Facts.{LacksLine, LineFacts, WithLine, WithoutLine}
 use Rattle.ssprun.specs.Happened.{Happened, Stage}
-use Rattle.ssprun.specs.Message.{Reports, file_message, file_status, message, status_of}
-use Rattle.ssprun.specs.Refusing.{TellsEnd, TellsFile}
+use Rattle.ssprun.specs.Message.{file_message, file_status}
+use Rattle.ssprun.specs.Refusing.{TellsEnd}
 use Rattle.ssprun.specs.Rows.{Answers, KeepsSystemRows, memory_line}
 use Rattle.ssprun.specs.TraceCheck.{ChecksTrace, EndsCheck, FailsToRead, IsUntold, Judges, KeepsRows, Wanting, question_of}
 use Rattle.ssprun.proofs.Exactly.{answers}

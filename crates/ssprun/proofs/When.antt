@@ -12,7 +12,6 @@ use Rattle.fmu_peer.specs.View.{View}
 use Rattle.calling_sequence.specs.declared.run_end.RunEnd.{RunEnd}
 use Rattle.calling_sequence.specs.declared.run_end.RunEnd.TheVariants as E
 use Rattle.system_model.specs.declared.system.System.{System}
-use Rattle.system_model.specs.declared.plan.Plan.{Plan}
 use Rattle.command_line.specs.Line.{Line, IsLine, RunLine, run_in}
 use Rattle.ssprun.specs.declared.outcome.Outcome.{Outcome}
 use Rattle.ssprun.specs.declared.outcome.Outcome.TheVariants.{Words, Memory, File, Start, Ran, Checked, Untold}

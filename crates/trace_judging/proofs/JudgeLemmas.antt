@@ -1,5 +1,5 @@
 -- The check of a trace comes to one thing, where the folder tells its files.
-use Rattle.std.proofs.Common.{◌≡◌, ◌<◌, ◌≤◌, ◌^◌, ◌⊎◌, inl, inr, ℕ, ℤ, List, [], ◌∷◌, ◌++◌, length, map, Option, Some, None, IfSome, refl, sym, ap, subst, ◌∙◌, arith}
+use Rattle.std.proofs.Common.{◌≡◌, ◌<◌, ◌≤◌, ◌^◌, ◌⊎◌, inl, inr, ℕ, ℤ, List, [], ◌∷◌, length, map, Option, Some, None, IfSome, refl, sym, ap, subst, ◌∙◌, arith}
 use Rattle.std.specs.List.{slice_get}
 use Rattle.std.specs.Prelude.{Result, Ok, Err, IfOk, IfErr}
 use Rattle.std.proofs.lemmas.List.{append_assoc}
@@ -23,14 +23,13 @@ use Rattle.system_loading.specs.Assembly.{HaveSameParts}
 use Rattle.system_files.specs.declared.loaded.Loaded.{Loaded}
 use Rattle.system_files.specs.declared.loading.LoadEnd.{LoadEnd}
 use Rattle.system_files.specs.declared.loading.LoadEnd.TheVariants as end
-use Rattle.system_files.specs.declared.named.FileFault.{FileFault}
 use Rattle.system_files.specs.declared.named.FileFault.TheVariants.{Unread, Missing, TooBig, Broken}
-use Rattle.system_files.specs.Files.{Absent, Faulty, Flaw, HasFile, HasFlaw, Holds, IsFile, LacksFile, Long, with_all_asked}
-use Rattle.system_files.specs.Loads.{EndsLoading, FailsToRead, Loads, ReadsSome}
-use Rattle.system_files.specs.Order.{AreAlike, Comes, ComesAlone, Fails, Finding, Found, Search}
+use Rattle.system_files.specs.Files.{Absent, Faulty, Flaw, HasFile, Holds, LacksFile, Long, with_all_asked}
+use Rattle.system_files.specs.Loads.{EndsLoading, Loads}
+use Rattle.system_files.specs.Order.{AreAlike, Comes, ComesAlone, Fails, Finding, Found}
 use Rattle.system_files.specs.Order as order
 use Rattle.system_files.specs.Steps.{EndsUnread}
-use Rattle.trace_judging.specs.Judging.{Agree, AllFiles, ByRules, FailsReading, Gives, HoldsTrace, IsVerdict, Judged, Judgement, Judges, Lacks, LacksVerdict, NoRule, NoSystem, NoTrace, Nothing, OfSystem, OfTrace, OutOfForm, Question, ReadsFew, SomeFiles, TheTrace, behind_trace, search_for}
+use Rattle.trace_judging.specs.Judging.{Agree, AllFiles, ByRules, Gives, HoldsTrace, IsVerdict, Judged, Judgement, Judges, Lacks, LacksVerdict, NoRule, NoSystem, NoTrace, Nothing, OfSystem, OfTrace, OutOfForm, Question, SomeFiles, TheTrace, behind_trace, search_for}
 use Rattle.trace_judging.specs.Steps.{BehindSystem, JudgesTrace, LacksTraceVerdict, Unloaded}
 
 -- ---- the laws of texts

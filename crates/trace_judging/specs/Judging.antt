@@ -13,7 +13,6 @@ use Rattle.trace_check.specs.Rules.{IsFirst, KeepsRules}
 use Rattle.system_files.specs.declared.loaded.Loaded.{Loaded}
 use Rattle.system_files.specs.declared.loading.LoadEnd.{LoadEnd}
 use Rattle.system_files.specs.declared.loading.LoadEnd.TheVariants as end
-use Rattle.system_files.specs.declared.named.FileFault.{FileFault}
 use Rattle.system_files.specs.declared.named.FileFault.TheVariants.{Unread, Missing, TooBig, Broken}
 use Rattle.system_files.specs.declared.subject.Subject.TheVariants as what
 use Rattle.system_files.specs.Files.{Absent, Faulty, Flaw, HasFile, LacksFile, Long, with_all_asked}

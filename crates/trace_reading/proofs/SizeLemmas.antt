@@ -1,5 +1,5 @@
 -- A text has at least so many bytes as lines.
-use Rattle.std.proofs.Common.{arith, ◌≡◌, refl, ap, suc, ℕ, ◌+◌, ◌≤◌, List, [], ◌∷◌, ◌++◌, map, length}
+use Rattle.std.proofs.Common.{arith, ◌≡◌, refl, ap, suc, ℕ, ◌+◌, ◌≤◌, List, [], ◌∷◌, map, length}
 use Rattle.std.proofs.lemmas.List.{length-map, length-append}
 use Rattle.trace_reading.specs.declared.trace.Trace.{Trace}
 use Rattle.trace_reading.specs.declared.trace.TracePort.{TracePort}

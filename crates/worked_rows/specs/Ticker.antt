@@ -1,11 +1,10 @@
 -- Two machines of the tests' own (FMI 3.0, 2.2.6: FMU state; 2.2.8: Clocks). One counts its Updates since Event Mode was entered, and asks for another at the first of them. The other counts its Updates with the Clock under reference 2 active. The output under reference 3 shows the count; nothing else can be read.
-use Rattle.std.specs.Prelude.{ℕ, ◌+◌, ◌==◌, ℤ, pos, ◌+ℤ◌, int_lt, Bool, true, false, ◌||◌, List, [], ◌∷◌, Option, Some, None, option_map, if◌then◌else◌}
+use Rattle.std.specs.Prelude.{ℕ, ◌+◌, ◌==◌, ℤ, pos, ◌+ℤ◌, int_lt, Bool, true, false, List, [], ◌∷◌, Option, None, option_map, if◌then◌else◌}
 use Rattle.std.specs.Ordering.{int_eq}
 use Rattle.value_types.specs.Values.{word_of}
 use Rattle.fmi_calls.specs.declared.call.BadStatus.TheVariants.{Error}
 use Rattle.fmi_calls.specs.declared.call.Call.{Call}
 use Rattle.fmi_calls.specs.declared.call.Call.TheVariants as C
-use Rattle.fmi_calls.specs.declared.call.Content.{Content}
 use Rattle.fmi_calls.specs.declared.call.Content.TheVariants as A
 use Rattle.fmi_calls.specs.declared.call.Interval.TheVariants.{NotYetKnown}
 use Rattle.fmi_calls.specs.declared.call.Kind.TheVariants as K

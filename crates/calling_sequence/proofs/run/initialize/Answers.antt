@@ -1,4 +1,4 @@
-use Rattle.std.proofs.Common.{◌∙◌, ◌≤◌, ℕ, true, List, ap, arith, subst, sym}
+use Rattle.std.proofs.Common.{ℕ, true, List, ap, arith, subst, sym}
 use Rattle.std.specs.List.{AllZip}
 use Rattle.core.proofs.result.Match.{err_is}
 use Rattle.value_types.specs.declared.shape.Shape.{Shape}

@@ -1,4 +1,4 @@
-use Rattle.std.proofs.Common.{◌≡◌, ◌+◌, ◌≤◌, ◌∷◌, drop, length, length-drop, ap, subst, arith, sym}
+use Rattle.std.proofs.Common.{◌≡◌, ◌+◌, ◌≤◌, ◌∷◌, drop, length, length-drop, ap, subst, arith}
 use Rattle.doc_grammar.specs.Characters.{class}
 use Rattle.doc_events.specs.declared.state.Saying.{Saying}
 use Rattle.doc_events.specs.declared.state.Saying.TheVariants.{OnePointZero, Utf8, Yes, No}

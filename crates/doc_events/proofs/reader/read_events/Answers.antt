@@ -1,4 +1,4 @@
-use Rattle.std.proofs.Common.{◌≡◌, ℕ, List, Err, subst, sym}
+use Rattle.std.proofs.Common.{ℕ, List, Err, subst, sym}
 use Rattle.std.specs.Str.{IsValidUpTo}
 use Rattle.doc_grammar.specs.Grammar.{strict, Event}
 use Rattle.doc_grammar.specs.Faults.{IsDocument, IsFault}

@@ -1,11 +1,9 @@
-use Rattle.std.proofs.Common.{◌≡◌, ◌+◌, ◌∷◌, [], ◌++◌, ℕ, List, length, refl, sym, ap, ◌∙◌, subst, take, drop, ◌-◌, ◌<◌, ◌^◌, arith}
+use Rattle.std.proofs.Common.{◌≡◌, ◌+◌, ◌∷◌, [], ◌++◌, length, refl, sym, ap, ◌∙◌, subst, take, drop, ◌-◌, ◌<◌, ◌^◌, arith}
 use Rattle.doc_grammar.specs.Grammar.{strict}
-use Rattle.doc_grammar.specs.Faults.{IsDocument, IsBroken}
-use Rattle.doc_grammar.specs.declared.reasons.Rule.TheVariants.{Malformed}
 use Rattle.doc_events.specs.View.{state_of, events_of}
 use Rattle.doc_grammar.specs.Characters.{class}
 use Rattle.doc_grammar.specs.Machine.{step}
-use Rattle.doc_events.specs.Answers.{Faults, PlaceFits}
+use Rattle.doc_events.specs.Answers.{Faults}
 use Rattle.doc_events.proofs.Steps.{moved, step_text, step_place, whole_text, ended, early, slice_left, slice_fault}
 use Rattle.doc_events.proofs.Told.{refused_fits, refused_fault}
 use Rattle.doc_events.proofs.reader.read_text.Goals as goal

@@ -1,4 +1,4 @@
-use Rattle.std.proofs.Common.{◌≡◌, ℕ, ◌+◌, ◌<◌, ◌≤◌, ◌++◌, length, map, take, get_or, Bor}
+use Rattle.std.proofs.Common.{◌≡◌, ℕ, ◌+◌, ◌<◌, ◌++◌, length, map, take, get_or, Bor}
 use Rattle.value_types.specs.declared.shape.Variable.{Variable}
 use Rattle.flatten.specs.Indexed.{all_variables, begin_of}
 use Rattle.flatten.proofs.connectors.make_variables.Given as goal

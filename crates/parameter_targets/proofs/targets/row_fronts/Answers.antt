@@ -1,4 +1,4 @@
-use Rattle.std.proofs.Common.{◌∙◌, [], get_or, refl, subst, rules}
+use Rattle.std.proofs.Common.{get_or, refl, subst, rules}
 use Rattle.std.specs.List.{Contains}
 use Rattle.std.proofs.lemmas.List.Elements.{Contains-get_or}
 use Rattle.parameter_targets.proofs.ListLemmas.{read_at}

@@ -1,6 +1,6 @@
 use Rattle.std.proofs.Common.{◌≡◌, List, ℕ, refl, sym, subst, ◌∙◌}
 use Rattle.std.specs.Prelude.{Ok, Err}
-use Rattle.sim_base.specs.Folder.{FolderView, NotesRead, with_asked}
+use Rattle.sim_base.specs.Folder.{NotesRead}
 use Rattle.system_files.specs.declared.loading.LoadEnd.{LoadEnd}
 use Rattle.system_files.specs.Steps.{EndsUnread}
 use Rattle.system_files.proofs.EndLemmas.{ends_unread}

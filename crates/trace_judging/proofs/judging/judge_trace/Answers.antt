@@ -1,4 +1,4 @@
-use Rattle.std.proofs.Common.{◌≡◌, refl}
+use Rattle.std.proofs.Common.{refl}
 use Rattle.trace_judging.specs.Steps.{BehindSystem}
 use Rattle.trace_judging.proofs.JudgeLemmas.{is_verdict}
 use Rattle.trace_judging.proofs.judging.judge_trace.Goals as goal

@@ -1,7 +1,7 @@
-use Rattle.std.proofs.Common.{◌≡◌, ℕ, List, [], ◌∷◌, map, subst, sym, ap, ◌∙◌, encode_utf8_all}
+use Rattle.std.proofs.Common.{map, sym, ap, ◌∙◌, encode_utf8_all}
 use Rattle.std.proofs.lemmas.List.{map-append}
 use Rattle.doc_grammar.specs.Grammar.{has}
-use Rattle.doc_events.specs.Pairs.{pair_of, Sees}
+use Rattle.doc_events.specs.Pairs.{pair_of}
 use Rattle.doc_events.proofs.Names.{sees_more}
 use Rattle.doc_events.proofs.attributes.Attributes.with.Goals as goal
 

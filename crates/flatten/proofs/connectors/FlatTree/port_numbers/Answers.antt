@@ -1,9 +1,7 @@
-use Rattle.std.proofs.Common.{◌≡◌, ◌+◌, ◌++◌, ◌∷◌, [], length, map, Some, None, true, false, refl, sym, ap, ◌∙◌, subst, arith, Bor}
-use Rattle.std.specs.List.{slice_get}
+use Rattle.std.proofs.Common.{◌≡◌, ◌+◌, [], length, map, true, false, sym, ap, ◌∙◌, subst, arith, Bor}
 use Rattle.std.proofs.lemmas.List.{length-map}
 use Rattle.value_types.specs.Shape.{is_port}
 use Rattle.value_types.specs.declared.shape.Variable.{Variable}
-use Rattle.flatten.specs.Indexed.{all_variables}
 use Rattle.flatten.proofs.PortNumberLemmas.{AreNumbersBelow, variable_read, number_port, number_other, numbers_whole}
 use Rattle.flatten.proofs.connectors.FlatTree.port_numbers.Goals as goal
 use Rattle.flatten.proofs.connectors.FlatTree.port_numbers.Goals.{then-is_port+in_ok-push, else-is_port+in_ok-push-2}

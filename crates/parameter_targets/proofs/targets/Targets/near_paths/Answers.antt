@@ -1,5 +1,5 @@
-use Rattle.std.proofs.Common.{◌≡◌, ◌<◌, ◌*◌, ◌^◌, ℕ, List, [], length, get_or, map, take, Some, sym, ap, ◌∙◌, subst, refl, arith, rules}
-use Rattle.std.specs.List.{slice_get, Contains}
+use Rattle.std.proofs.Common.{◌≡◌, ◌<◌, ℕ, List, [], length, get_or, map, take, sym, ap, subst, refl, arith, rules}
+use Rattle.std.specs.List.{Contains}
 use Rattle.std.proofs.lemmas.List.Elements.{Contains-get_or}
 use Rattle.name_fronts.specs.Fronts.{AreFronts}
 use Rattle.parameter_targets.specs.Tables.{row_texts}

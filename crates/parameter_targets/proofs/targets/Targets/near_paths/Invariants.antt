@@ -1,4 +1,4 @@
-use Rattle.std.proofs.Common.{◌≡◌, ℕ, map, take, get_or}
+use Rattle.std.proofs.Common.{◌≡◌, map, take, get_or}
 use Rattle.parameter_targets.proofs.targets.Targets.near_paths.Given as goal
 
 abbrev pub invariant-loop-place : goal.invariant-loop-place
