@@ -1,6 +1,6 @@
 -- The names of a tag and their texts.
-use Rattle.std.proofs.Common.{◌≡◌, ℕ, ◌+◌, ◌<◌, Bool, true, false, cond, ◌||◌, List, [], ◌∷◌, ◌++◌, length, take, get_or, refl, sym, ap, ◌∙◌}
-use Rattle.std.proofs.lemmas.List.{append-nil, take_more}
+use Rattle.std.proofs.Common.{◌≡◌, ℕ, zero, suc, ◌+◌, ◌<◌, ◌≤◌, Bool, true, false, cond, ◌||◌, List, [], ◌∷◌, ◌++◌, length, take, drop, map, get_or, refl, sym, ap, ◌∙◌, subst, arith, length-append}
+use Rattle.std.proofs.lemmas.List.{append-nil, take_more, drop_all, drop-append-le, map-append, length-map}
 use Rattle.std.proofs.lemmas.Str.{encodes-append, encodes_same}
 use Rattle.std.proofs.lemmas.Slice.Eq.{bytes_eq-Decides}
 use Rattle.std.proofs.lemmas.Map.Text.{btree_set_updates_text}
@@ -11,7 +11,8 @@ use Rattle.std.specs.declared.alloc.Global.{Global}
 use Rattle.std.specs.declared.string.String.{String}
 use Rattle.std.specs.BTreeSet.{BTreeSet, Updates, contains_text}
 use Rattle.doc_grammar.specs.Grammar.{Pair, has}
-use Rattle.doc_events.specs.Pairs.{Sees}
+use Rattle.doc_events.specs.declared.attributes.Attribute.{Attribute}
+use Rattle.doc_events.specs.Pairs.{pair_of, Sees}
 
 pub chars_more : (chars : List ℕ) (i : ℕ) (old : List ℕ) → i < length chars → old ≡ encode_utf8_all (take i chars) → encode_utf8_all (take (i + 1) chars) ≡ old ++ encode_utf8 (get_or chars i 0)
 chars_more chars i old h e =
@@ -57,3 +58,39 @@ sees_more seen new pairs name value text s e u = λ n.
     ∙ ap (λ z. cond (bytes_eq name n) true z) (s n)
     ∙ pick (bytes_eq name n) (has pairs n)
     ∙ sym (has_append pairs name value n)
+
+-- a name is among the first of these, or behind them
+has_split : (k : ℕ) (ps : List Pair) (n : List ℕ) → has ps n ≡ has (take k ps) n || has (drop k ps) n
+has_split zero ps n = refl
+has_split (suc k) [] n = refl
+has_split (suc k) (p ∷ ps) n = ap (λ z. bytes_eq p.0 n || z) (has_split k ps n) ∙ sym (or_assoc (bytes_eq p.0 n) (has (take k ps) n) (has (drop k ps) n))
+
+take_map : (k : ℕ) (xs : List Attribute) → map pair_of (take k xs) ≡ take k (map pair_of xs)
+take_map zero xs = refl
+take_map (suc k) [] = refl
+take_map (suc k) (x ∷ xs) = ap (λ z. pair_of x ∷ z) (take_map k xs)
+
+-- a name that isn't among the first is there where it is behind them
+pub is_behind : (k : ℕ) (xs front : List Attribute) (ps : List Pair) (n : List ℕ) (b c : Bool) → ps ≡ map pair_of xs → front ≡ take k xs → c ≡ has (map pair_of front) n → c ≡ false → b ≡ has (drop k (map pair_of xs)) n → b ≡ has ps n
+is_behind k xs front ps n b c e f g h i =
+    let w : has (take k (map pair_of xs)) n ≡ false = ap (λ z. has z n) (sym (take_map k xs)) ∙ ap (λ z. has (map pair_of z) n) (sym f) ∙ sym g ∙ h in
+    i ∙ sym (ap (λ z. z || has (drop k (map pair_of xs)) n) w) ∙ sym (has_split k (map pair_of xs) n) ∙ ap (λ z. has z n) (sym e)
+
+pub is_front : (k : ℕ) (xs front : List Attribute) (ps : List Pair) (n : List ℕ) (c : Bool) → ps ≡ map pair_of xs → front ≡ take k xs → c ≡ has (map pair_of front) n → c ≡ true → true ≡ has ps n
+is_front k xs front ps n c e f g h =
+    let w : has (take k (map pair_of xs)) n ≡ true = ap (λ z. has z n) (sym (take_map k xs)) ∙ ap (λ z. has (map pair_of z) n) (sym f) ∙ sym g ∙ h in
+    sym (ap (λ z. z || has (drop k (map pair_of xs)) n) w) ∙ sym (has_split k (map pair_of xs) n) ∙ ap (λ z. has z n) (sym e)
+
+-- one more among the first
+pub few_more : (k : ℕ) (seen : BTreeSet (String Global)) (old new : List Attribute) (a : Attribute) → length old < k → new ≡ old ++ a ∷ [] → Sees seen (drop k (map pair_of old)) → Sees seen (drop k (map pair_of new))
+few_more k seen old new a h e s =
+    let few : length (map pair_of old) ≤ k = omega (arith, length-map old pair_of) in
+    let more : length (map pair_of new) ≤ k = omega (arith, length-map new pair_of, ap length e, length-append old (a ∷ [])) in
+    subst (λ z. Sees seen z) (drop_all k (map pair_of old) few ∙ sym (drop_all k (map pair_of new) more)) s
+
+-- one more behind them
+pub many_more : (k : ℕ) (seen next : BTreeSet (String Global)) (old new : List Attribute) (a : Attribute) (text : String Global) → k ≤ length old → new ≡ old ++ a ∷ [] → Sees seen (drop k (map pair_of old)) → string_bytes text ≡ encode_utf8_all a.name.items → Updates string_cmp seen next text true → Sees next (drop k (map pair_of new))
+many_more k seen next old new a text h e s t u =
+    let many : k ≤ length (map pair_of old) = omega (arith, length-map old pair_of) in
+    let split : drop k (map pair_of new) ≡ drop k (map pair_of old) ++ pair_of a ∷ [] = ap (λ z. drop k (map pair_of z)) e ∙ ap (drop k) (map-append pair_of old (a ∷ [])) ∙ drop-append-le k (map pair_of old) (pair_of a ∷ []) many in
+    subst (λ z. Sees next z) (sym split) (sees_more seen next (drop k (map pair_of old)) a.name.items a.value.items text s t u)

@@ -16,7 +16,12 @@ use Rattle.doc_grammar.proofs.Prefix.{lead_lead}
 use Rattle.doc_grammar.proofs.Lift.{strip}
 use Rattle.doc_grammar.proofs.Judging.{judged_fault, end_fault, end_document}
 use Rattle.doc_events.specs.declared.state.State.{State}
-use Rattle.doc_events.specs.declared.state.Event.{Event}
+use Rattle.doc_events.specs.declared.state.Reader.{Reader}
+use Rattle.doc_events.specs.declared.state.Token.{Token}
+use Rattle.doc_events.specs.declared.state.Token.TheVariants.{Nothing}
+use Rattle.doc_events.specs.declared.state.Place.{Place}
+use Rattle.doc_events.specs.declared.state.Hole.{Hole}
+use Rattle.doc_events.specs.declared.state.Hole.TheVariants.{InText, InValue}
 use Rattle.doc_events.specs.declared.state.Stop.{Stop}
 use Rattle.doc_grammar.specs.declared.characters.Class.{Class}
 use Rattle.doc_events.specs.declared.state.Place.TheVariants.{Within, Before}
@@ -24,23 +29,26 @@ use Rattle.doc_events.specs.declared.state.State.TheVariants as s
 use Rattle.std.specs.declared.vec.Vec.{Vec}
 use Rattle.std.specs.declared.alloc.Global.{Global}
 use Rattle.std.proofs.Common.{map}
-use Rattle.doc_events.specs.View.{state_of, events_of, Goes, Took, Moves, setting_name_from, setting_value_from, cdata_start_from, name_of, names_of}
+use Rattle.doc_events.specs.View.{state_in, state_of, place_of, hole_of, tail_of, base_of, events_at, quieted, Goes, Took, Moves, setting_name_from, setting_value_from, cdata_start_from, name_of, names_of}
 
--- a step that emits nothing leaves what was emitted
-pub goes_moves : (w : m.Step) (r : Result State Stop) (es : List Event) → Goes w r → Moves w r es es
-goes_moves w (Ok t) es h = subst (λ z. Took z t (events_of es) (events_of es)) (sym h) (refl, refl)
-goes_moves w (Err e) es h = h
+-- a step that emits nothing completes nothing
+pub goes_moves : (w : m.Step) (x : Result State Stop) (y : Result (State × Token) Stop) (r : Reader) → Goes w x r → y ≡ quieted x → Moves w y r
+goes_moves w x y r h e = subst (λ z. Moves w z r) (sym e) (quiet w x r h)
+  where
+    quiet : (w : m.Step) (x : Result State Stop) (r : Reader) → Goes w x r → Moves w (quieted x) r
+    quiet w (Ok t) r h = subst (λ z. Took z t Nothing r) (sym h) (refl, refl)
+    quiet w (Err e) r h = h
 
 -- a step in a value of the declaration
 pub setting_value_step : (part : g.Part) (q : g.Quote) (t : ℕ) (todo : List ℕ) (k : Class) (b : ℕ) → m.step strict (setting_value_from part q (t ∷ todo)) k b ≡ m.exactly (g.fold_for part t) (g.fold_for part b) (setting_value_from part q todo)
 setting_value_step part q t [] k b = refl
 setting_value_step part q t (u ∷ todo) k b = refl
 
-pub setting_value_goes : (part : g.Part) (q : g.Quote) (text rest : List ℕ) (t : ℕ) (k : Class) (b fe fb : ℕ) (u : m.State) (r : Result State Stop) → text ≡ t ∷ rest → fe ≡ g.fold_for part t → fb ≡ g.fold_for part b → u ≡ setting_value_from part q rest
-    → Goes (m.exactly fe fb u) r → Goes (m.step strict (setting_value_from part q text) k b) r
-setting_value_goes part q text rest t k b fe fb u r e f h i j =
-    subst (λ z. Goes (m.step strict (setting_value_from part q z) k b) r) (sym e) (subst (λ z. Goes z r) (sym (setting_value_step part q t rest k b))
-    (subst (λ z. Goes (m.exactly z (g.fold_for part b) (setting_value_from part q rest)) r) f (subst (λ z. Goes (m.exactly fe z (setting_value_from part q rest)) r) h (subst (λ z. Goes (m.exactly fe fb z) r) i j))))
+pub setting_value_goes : (part : g.Part) (q : g.Quote) (text rest : List ℕ) (t : ℕ) (k : Class) (b fe fb : ℕ) (u : m.State) (x : Result State Stop) (r : Reader) → text ≡ t ∷ rest → fe ≡ g.fold_for part t → fb ≡ g.fold_for part b → u ≡ setting_value_from part q rest
+    → Goes (m.exactly fe fb u) x r → Goes (m.step strict (setting_value_from part q text) k b) x r
+setting_value_goes part q text rest t k b fe fb u x r e f h i j =
+    subst (λ z. Goes (m.step strict (setting_value_from part q z) k b) x r) (sym e) (subst (λ z. Goes z x r) (sym (setting_value_step part q t rest k b))
+    (subst (λ z. Goes (m.exactly z (g.fold_for part b) (setting_value_from part q rest)) x r) f (subst (λ z. Goes (m.exactly fe z (setting_value_from part q rest)) x r) h (subst (λ z. Goes (m.exactly fe fb z) x r) i j))))
 
 not_setting_name : (part : g.Part) (todo : List ℕ) → m.Final (setting_name_from part todo) → ⊥
 not_setting_name part [] h = h
@@ -54,9 +62,6 @@ not_cdata_start : (n : List ℕ) (ns : List (List ℕ)) (todo : List ℕ) → m.
 not_cdata_start n ns [] h = h
 not_cdata_start n ns (t ∷ todo) h = h
 
-not_end_tag_name : (ns : List (List ℕ)) (todo : List ℕ) → m.Final (m.end_tag_name ns todo) → ⊥
-not_end_tag_name ns todo h = h
-
 none_within : (vs : List (Vec ℕ Global)) → m.Final (m.content (m.within (names_of vs))) → length vs ≡ 0
 none_within [] h = refl
 none_within (v ∷ vs) h = absurd (some (names_of (v ∷ vs)) h (not_none vs v))
@@ -69,27 +74,61 @@ none_within (v ∷ vs) h = absurd (some (names_of (v ∷ vs)) h (not_none vs v))
     some (n ∷ ns) h k = h
 
 -- the state in which a document may end: behind the root
-abbrev pub IsEnd : State → Type 0
-IsEnd (s.Content (Within v)) = length v.items ≡ 0
-IsEnd t = ⊥
+abbrev pub IsEndAt : Place → Type 0
+IsEndAt (Within v) = length v.items ≡ 0
+IsEndAt Before = ⊥
 
-pub final_is : (t : State) → m.Final (state_of t) → IsEnd t
-final_is (s.Content (Within v)) h = none_within v.items h
-final_is (s.Content Before) h = absurd h
-final_is (s.SettingName part k) h = absurd (not_setting_name _ _ h)
-final_is (s.SettingValue w q k) h = absurd (not_setting_value _ _ _ h)
-final_is (s.CdataStart n ns k) h = absurd (not_cdata_start _ _ _ h)
-final_is t h = absurd h
+abbrev pub IsEnd : State → Place → Type 0
+IsEnd s.Content p = IsEndAt p
+IsEnd t p = ⊥
 
-took_along : (w : m.Step) (t : State) (old new : List g.Event) → Took w t old new → (o : List g.Event) × m.along (λ u o. (u ≡ state_of t) × (o ≡ [])) w o × (new ≡ old ++ o)
-took_along (m.dead y) t old new h = absurd h
-took_along (m.go s) t old new h = ([], (h.0, refl), h.1 ∙ sym (append-nil old))
-took_along (m.emit s es) t old new h = (es, ([], sym (append-nil es), (h.0, refl)), h.1)
+end_at : (p : Place) → m.Final (m.content (place_of p)) → IsEndAt p
+end_at (Within v) h = none_within v.items h
+end_at Before h = absurd h
 
-pub moved : (p : List ℕ) (s : m.State) (b : ℕ) (t : State) (old new : List g.Event) → m.Leads strict m.start p s old → Took (m.step strict s (class b) b) t old new → m.Leads strict m.start (p ++ b ∷ []) (state_of t) new
-moved p s b t old new h k =
-    let d = took_along (m.step strict s (class b) b) t old new k in
-    subst (λ o. m.Leads strict m.start (p ++ b ∷ []) (state_of t) o) (sym d.2) (lead_lead strict p m.start s (state_of t) old d.0 (b ∷ []) h d.1)
+pub final_is : (t : State) (r : Reader) → m.Final (state_in t r) → IsEnd t r.place
+final_is s.Content r h = end_at r.place h
+final_is (s.SettingName part k) r h = absurd (not_setting_name _ _ h)
+final_is (s.SettingValue w q k) r h = absurd (not_setting_value _ _ _ h)
+final_is (s.CdataStart k) r h = absurd (not_cdata_start _ _ _ h)
+final_is t r h = absurd h
+
+-- the reader that has this state, and else is the same
+abbrev pub put_in : State → Reader → Reader
+put_in t r = record r { state = t }
+
+same_hole : (h : Hole) (u : State) (r : Reader) → hole_of h r ≡ hole_of h (put_in u r)
+same_hole InText u r = refl
+same_hole (InValue q) u r = refl
+
+same_state : (t u : State) (r : Reader) → state_in t r ≡ state_in t (put_in u r)
+same_state (s.Reference h) u r = ap m.reference (same_hole h u r)
+same_state (s.ReferenceA h) u r = ap m.reference_a (same_hole h u r)
+same_state (s.NamedReference h code n rest) u r = ap (λ z. m.named_reference z code n (tail_of rest)) (same_hole h u r)
+same_state (s.NumericReference h) u r = ap m.numeric_reference (same_hole h u r)
+same_state (s.HexadecimalReference h) u r = ap m.hexadecimal_reference (same_hole h u r)
+same_state (s.ReferenceDigits h base n) u r = ap (λ z. m.reference_digits z (base_of base) n) (same_hole h u r)
+same_state t u r = refl
+
+same_events : (k : Token) (u : State) (r : Reader) → events_at k r ≡ events_at k (put_in u r)
+same_events Nothing u r = refl
+same_events k u r = refl
+
+-- the state is put in
+pub took_in : (w : m.Step) (t : State) (k : Token) (r : Reader) → Took w t k r → Took w t k (put_in t r)
+took_in (m.dead y) t k r h = absurd h
+took_in (m.go s) t k r h = (h.0 ∙ same_state t t r, sym (same_events k t r) ∙ h.1)
+took_in (m.emit s es) t k r h = (h.0 ∙ same_state t t r, h.1 ∙ same_events k t r)
+
+took_along : (w : m.Step) (t : State) (k : Token) (r : Reader) → Took w t k r → m.along (λ u o. (u ≡ state_in t r) × (o ≡ [])) w (events_at k r)
+took_along (m.dead y) t k r h = absurd h
+took_along (m.go s) t k r h = (h.0, h.1)
+took_along (m.emit s es) t k r h = ([], sym h.1 ∙ sym (append-nil es), (h.0, refl))
+
+-- the reader took a character more
+pub moved : (p : List ℕ) (u : m.State) (b : ℕ) (k : Token) (r : Reader) (old : List g.Event) → m.Leads strict m.start p u old → Took (m.step strict u (class b) b) r.state k r → m.Leads strict m.start (p ++ b ∷ []) (state_of r) (old ++ events_at k r)
+moved p u b k r old h t =
+    lead_lead strict p m.start u (state_of r) old (events_at k r) (b ∷ []) h (took_along (m.step strict u (class b) b) r.state k r t)
 
 enc_snoc : (front : List ℕ) (c : ℕ) → encode_utf8_all (front ++ c ∷ []) ≡ encode_utf8_all front ++ encode_utf8 c
 enc_snoc front c = encodes-append front (c ∷ []) ∙ ap (λ z. encode_utf8_all front ++ z) (append-nil (encode_utf8 c))

@@ -1,4 +1,4 @@
-ghost use Rattle.std.specs.Prelude.{◌≡◌, ◌∷◌, ◌++◌, [], IfOk, IfErr, OnOk, map, string_bytes, encode_utf8_all};
+ghost use Rattle.std.specs.Prelude.{◌≡◌, ◌∷◌, ◌++◌, [], IfOk, IfErr, map, string_bytes, encode_utf8_all};
 ghost use Rattle.doc_events.specs.Pairs.{pair_of};
 ghost use Rattle.doc_grammar.specs.Grammar.{has};
 ghost use Rattle.doc_events.specs.declared.state.Stop.TheVariants.{Memory};
@@ -15,33 +15,49 @@ pub struct Attribute {
     pub value: Vec<char>,
 }
 
+/// How many names are compared one by one.
+const FEW: usize = 8;
+
 /// The attributes of a tag so far. A clause sees their names and values, in order.
 #[derive(Drop)]
 pub struct Attributes {
     list: Vec<Attribute>,
+    /// The names behind the first few.
     seen: BTreeSet<String>,
 }
 
 impl Model for Attributes {
-    ghost use Rattle.std.specs.Prelude.{List, ℕ, map};
+    ghost use Rattle.std.specs.Prelude.{List, ℕ, map, drop};
     ghost use Rattle.doc_events.specs.Pairs.{pair_of, Sees};
 
     ghost Value = { List (List ℕ × List ℕ) };
 
     ghost view = { λ a. map pair_of a.list.items };
 
-    ghost invariant = { λ a. Sees a.seen (map pair_of a.list.items) };
+    ghost invariant = { λ a. Sees a.seen (drop 8 (map pair_of a.list.items)) };
 }
 
 /// A text of these characters.
 pub fn text_of(alloc: Global, chars: &[char]) -> Result<String, AllocError>
     ensures { IfOk result (λ t. string_bytes t ≡ encode_utf8_all chars.now) }
 {
-    let mut text = String::new(alloc);
+    let mut text = String::with_capacity(alloc, chars.len())?;
     for c in chars {
         text.push(*c)?;
     }
     Ok(text)
+}
+
+/// Whether one of these attributes has this full name.
+fn is_among(attributes: &[Attribute], name: &[char]) -> bool
+    ensures { result ≡ has (map pair_of attributes.now) name.now }
+{
+    for attribute in attributes {
+        if attribute.name.as_slice() == name {
+            return true;
+        }
+    }
+    false
 }
 
 impl Attributes {
@@ -66,6 +82,13 @@ impl Attributes {
     pub(crate) fn has(&self, alloc: Global, name: &[char]) -> Result<bool, AllocError>
         ensures { IfOk result (λ b. b ≡ has self.now name.now) }
     {
+        let all = self.list.as_slice();
+        if all.len() <= FEW {
+            return Ok(is_among(all, name));
+        }
+        if is_among(&all[..FEW], name) {
+            return Ok(true);
+        }
         let text = text_of(alloc, name)?;
         Ok(self.seen.contains(text.as_str()))
     }
@@ -74,16 +97,20 @@ impl Attributes {
     pub(crate) fn with(
         self,
         alloc: Global,
-        name: Vec<char>,
-        value: Vec<char>,
+        name: &[char],
+        value: &[char],
     ) -> Result<Attributes, Stop>
-        ensures ok { IfOk result (λ a. a ≡ self ++ (name.items, value.items) ∷ []) }
+        ensures ok { IfOk result (λ a. a ≡ self ++ (name.now, value.now) ∷ []) }
         ensures err { IfErr result (λ e. e ≡ Memory) }
     {
         let Attributes { mut list, mut seen } = self;
-        let text = text_of(alloc, name.as_slice())?;
-        seen.insert(text)?;
-        list.push(Attribute { name, value })?;
+        if list.len() >= FEW {
+            seen.insert(text_of(alloc, name)?)?;
+        }
+        list.push(Attribute {
+            name: Vec::from_slice(alloc, name)?,
+            value: Vec::from_slice(alloc, value)?,
+        })?;
         Ok(Attributes { list, seen })
     }
 }

@@ -1,4 +1,4 @@
-//! An exact reader of the simulator's documents, an XML 1.0 subset: what begins and ends in one, or the one rule that the bytes break and its place.
+//! An exact reader of the simulator's documents, an XML 1.0 subset, character by character: what each completes, or why no document goes on with it.
 #![tactic(auto)]
 
 mod attributes;
@@ -13,8 +13,5 @@ mod tags;
 pub use attributes::{Attribute, Attributes, text_of};
 pub use doc_grammar::Rule;
 pub use error::DocError;
-pub use reader::read_events;
-pub use state::{Event, Tag};
-
-#[cfg(test)]
-mod tests;
+pub use reader::refusal;
+pub use state::{Reader, Stop, Token};

@@ -1,95 +1,140 @@
 //! One character at a time.
-ghost use Rattle.std.specs.Prelude.{◌≡◌, ◌<◌, ◌^◌, ℕ, List, length, IfOk, IfErr, IsTrue, IsFalse};
+ghost use Rattle.std.specs.Prelude.{◌≡◌, ◌<◌, ◌^◌, map, IsTrue, IsFalse};
+ghost use Rattle.doc_events.specs.Pairs.{pair_of};
 ghost use Rattle.doc_grammar.specs.Characters.{class};
 ghost use Rattle.doc_grammar.specs.Grammar.{strict};
 ghost use Rattle.doc_grammar.specs.Machine as m;
-ghost use Rattle.doc_grammar.specs.Faults.{judged, IsDocument, IsFault};
-ghost use Rattle.doc_grammar.specs.Grammar as g;
-ghost use Rattle.doc_grammar.specs.declared.reasons.Rule.{Rule};
-ghost use Rattle.doc_events.specs.View.{state_of, events_of, Moves};
-ghost use Rattle.doc_events.specs.Answers.{refused, PlaceFits, Faults, Gives, Refuses};
+ghost use Rattle.doc_grammar.specs.Faults.{judged};
+ghost use Rattle.doc_events.specs.View.{state_of, tag_name, tag_attributes, quieted, Moves, Takes};
+ghost use Rattle.doc_events.specs.Answers.{refused, PlaceFits};
 
-use crate::declaration::{
-    after_byte_order_mark, after_setting, after_setting_name, before_setting_value, before_version,
-    between_settings, document_instruction_target, document_processing_instruction,
-    document_tag_open, setting_name, setting_value, standalone_value, start,
-};
+use crate::attributes::{Attribute, Attributes};
 use crate::error::DocError;
-use crate::markup::{
-    cdata_section, cdata_section_bracket, cdata_section_end, cdata_start, comment, comment_dash,
-    comment_start, content, greater, instruction_end, instruction_target, instruction_text,
-    markup_declaration, processing_instruction,
-};
-use crate::references::{
-    digit, named_reference, numeric_reference, reference, reference_a, reference_digits,
-};
-use crate::state::{Base, Event, Place, State, Stop};
-use crate::tags::{
-    after_attribute_name, after_end_tag_name, attribute_name, attribute_value,
-    before_attribute_name, before_attribute_value, end_tag_name, in_tag, self_closing_start_tag,
-    tag_name, tag_open,
-};
+use crate::state::{Base, Place, Reader, State, Stop, Token};
 use doc_grammar::{Rule, Why};
 use std::alloc::Global;
-use std::str;
 
-/// One character more.
-#[tactic(auto, using(crate::proofs::Steps::goes_moves))]
-fn next(alloc: Global, state: State, b: char, out: &mut Vec<Event>) -> Result<State, Stop>
-    ensures { Moves (m.step strict (state_of state) (class b) b) result out.old.items
-        out.new.items }
+/// A step that completes nothing.
+fn quiet(step: Result<State, Stop>) -> Result<(State, Token), Stop>
+    ensures { result ≡ quieted step }
 {
-    match state {
-        State::Start => start(alloc, b),
-        State::AfterByteOrderMark => after_byte_order_mark(b, Why::Plain),
-        State::DocumentTagOpen => document_tag_open(alloc, b),
-        State::DocumentProcessingInstruction => document_processing_instruction(alloc, b),
-        State::DocumentInstructionTarget(name) => document_instruction_target(name, b),
-        State::BeforeVersion => before_version(b),
-        State::AfterSetting(part) => after_setting(part, b),
-        State::BetweenSettings(part) => between_settings(part, b),
-        State::SettingName(part, done) => setting_name(part, done, b),
-        State::AfterSettingName(part) => after_setting_name(part, b),
-        State::BeforeSettingValue(part) => before_setting_value(part, b),
-        State::StandaloneValue(quote) => standalone_value(quote, b),
-        State::SettingValue(saying, quote, done) => setting_value(saying, quote, done, b),
-        State::DeclarationEnd => greater(State::Content(Place::Before), b),
-        State::Content(place) => content(place, b),
-        State::TagOpen(place) => tag_open(alloc, place, b),
-        State::MarkupDeclaration(place) => markup_declaration(place, b),
-        State::CommentStart(place) => comment_start(place, b),
-        State::Comment(place) => comment(place, b),
-        State::CommentDash(place) => comment_dash(place, b),
-        State::CommentEnd(place) => greater(State::Content(place), b),
-        State::ProcessingInstruction(place) => processing_instruction(alloc, place, b),
-        State::InstructionTarget(place, name) => instruction_target(place, name, b),
-        State::InstructionTargetEnd(place) => greater(State::Content(place), b),
-        State::InstructionText(place) => instruction_text(place, b),
-        State::InstructionEnd(place) => instruction_end(place, b),
-        State::CdataStart(name, names, done) => cdata_start(name, names, done, b),
-        State::CdataSection(name, names) => cdata_section(name, names, b),
-        State::CdataSectionBracket(name, names) => cdata_section_bracket(name, names, b),
-        State::CdataSectionEnd(name, names) => cdata_section_end(name, names, b),
-        State::TagName(place, name) => tag_name(alloc, place, name, b, out),
-        State::BeforeAttributeName(place, tag) => before_attribute_name(alloc, place, tag, b, out),
-        State::AttributeName(place, tag, name) => attribute_name(alloc, place, tag, name, b),
-        State::AfterAttributeName(place, tag, name) => after_attribute_name(place, tag, name, b),
-        State::BeforeAttributeValue(place, tag, name) => before_attribute_value(
-            alloc, place, tag, name, b,
-        ),
-        State::AttributeValue(place, tag, name, quote, text, behind_return) => {
-            attribute_value(alloc, place, tag, name, quote, text, behind_return, b)
+    match step {
+        Ok(state) => Ok((state, Token::Nothing)),
+        Err(stop) => Err(stop),
+    }
+}
+
+impl Reader {
+    /// A reader that has read nothing.
+    pub fn new(alloc: Global) -> Reader
+        ensures { state_of result ≡ m.start }
+    {
+        Reader {
+            state: State::Start,
+            place: Place::Before,
+            name: Vec::new(alloc),
+            attributes: Attributes::new(alloc),
+            attribute: Vec::new(alloc),
+            value: Vec::new(alloc),
         }
-        State::AfterAttributeValue(place, tag) => in_tag(alloc, place, tag, b, out),
-        State::SelfClosingStartTag(place, tag) => self_closing_start_tag(alloc, place, tag, b, out),
-        State::EndTagName(names, name, done) => end_tag_name(alloc, names, name, done, b, out),
-        State::AfterEndTagName(names) => after_end_tag_name(names, b, out),
-        State::Reference(hole) => reference(hole, b),
-        State::ReferenceA(hole) => reference_a(hole, b),
-        State::NamedReference(hole, code, next, tail) => named_reference(hole, code, next, tail, b),
-        State::NumericReference(hole) => numeric_reference(hole, b),
-        State::HexadecimalReference(hole) => digit(hole, Base::Sixteen, 0, b),
-        State::ReferenceDigits(hole, base, code) => reference_digits(hole, base, code, b),
+    }
+
+    /// The full name of the tag that was read last.
+    pub fn name(&self) -> &[char]
+        ensures { result.now ≡ tag_name self.now }
+    {
+        self.name.as_slice()
+    }
+
+    /// The attributes of the tag that was read last, in order.
+    pub fn attributes(&self) -> &[Attribute]
+        ensures { map pair_of result.now ≡ tag_attributes self.now }
+    {
+        self.attributes.as_slice()
+    }
+
+    /// Whether a document may end here.
+    #[tactic(auto, using(crate::proofs::Steps::final_is))]
+    pub fn is_final(&self) -> bool
+        ensures yes { IsTrue result → m.Final (state_of self.now) }
+        ensures no { IsFalse result → m.Final (state_of self.now) → ⊥ }
+    {
+        match (self.state, &self.place) {
+            (State::Content, Place::Within(names)) => names.is_empty(),
+            _ => false,
+        }
+    }
+
+    /// One character more, and what it completes.
+    pub fn take(&mut self, alloc: Global, c: char) -> Result<Token, Stop>
+        ensures { Takes (m.step strict (state_of self.old) (class c) c) result self.new }
+    {
+        let (state, token) = self.next(alloc, c)?;
+        self.state = state;
+        Ok(token)
+    }
+
+    /// The state behind one character more, and what it completes.
+    #[tactic(auto, using(crate::proofs::Steps::goes_moves))]
+    fn next(&mut self, alloc: Global, b: char) -> Result<(State, Token), Stop>
+        ensures { Moves (m.step strict (state_of self.old) (class b) b) result self.new }
+    {
+        match self.state {
+            State::Start => quiet(self.start(alloc, b)),
+            State::AfterByteOrderMark => quiet(self.after_byte_order_mark(b, Why::Plain)),
+            State::DocumentTagOpen => quiet(self.document_tag_open(b)),
+            State::DocumentProcessingInstruction => quiet(self.document_processing_instruction(b)),
+            State::DocumentInstructionTarget => quiet(self.document_instruction_target(b)),
+            State::BeforeVersion => quiet(self.before_version(b)),
+            State::AfterSetting(part) => quiet(self.after_setting(part, b)),
+            State::BetweenSettings(part) => quiet(self.between_settings(part, b)),
+            State::SettingName(part, done) => quiet(self.setting_name(part, done, b)),
+            State::AfterSettingName(part) => quiet(self.after_setting_name(part, b)),
+            State::BeforeSettingValue(part) => quiet(self.before_setting_value(part, b)),
+            State::StandaloneValue(quote) => quiet(self.standalone_value(quote, b)),
+            State::SettingValue(saying, quote, done) => {
+                quiet(self.setting_value(saying, quote, done, b))
+            }
+            State::DeclarationEnd => quiet(self.declaration_end(b)),
+            State::Content => quiet(self.content(b)),
+            State::TagOpen => quiet(self.tag_open(b)),
+            State::MarkupDeclaration => quiet(self.markup_declaration(b)),
+            State::CommentStart => quiet(self.comment_start(b)),
+            State::Comment => quiet(self.comment(b)),
+            State::CommentDash => quiet(self.comment_dash(b)),
+            State::CommentEnd => quiet(self.greater(State::Content, b)),
+            State::ProcessingInstruction => quiet(self.processing_instruction(b)),
+            State::InstructionTarget => quiet(self.instruction_target(b)),
+            State::InstructionTargetEnd => quiet(self.greater(State::Content, b)),
+            State::InstructionText => quiet(self.instruction_text(b)),
+            State::InstructionEnd => quiet(self.instruction_end(b)),
+            State::CdataStart(done) => quiet(self.cdata_start(done, b)),
+            State::CdataSection => quiet(self.cdata_section(b)),
+            State::CdataSectionBracket => quiet(self.cdata_section_bracket(b)),
+            State::CdataSectionEnd => quiet(self.cdata_section_end(alloc, b)),
+            State::TagName => self.tag_name(alloc, b),
+            State::BeforeAttributeName => self.before_attribute_name(alloc, b),
+            State::AttributeName => quiet(self.attribute_name(alloc, b)),
+            State::AfterAttributeName => quiet(self.after_attribute_name(b)),
+            State::BeforeAttributeValue => quiet(self.before_attribute_value(b)),
+            State::AttributeValue(quote, behind_return) => {
+                quiet(self.attribute_value(alloc, quote, behind_return, b))
+            }
+            State::AfterAttributeValue => self.in_tag(alloc, b),
+            State::SelfClosingStartTag => self.self_closing_start_tag(alloc, b),
+            State::EndTagName(done) => self.end_tag_name(alloc, done, b),
+            State::AfterEndTagName => self.after_end_tag_name(alloc, b),
+            State::Reference(hole) => quiet(self.reference(hole, b)),
+            State::ReferenceA(hole) => quiet(self.reference_a(hole, b)),
+            State::NamedReference(hole, code, next, tail) => {
+                quiet(self.named_reference(alloc, hole, code, next, tail, b))
+            }
+            State::NumericReference(hole) => quiet(self.numeric_reference(hole, b)),
+            State::HexadecimalReference(hole) => quiet(self.digit(hole, Base::Sixteen, 0, b)),
+            State::ReferenceDigits(hole, base, code) => {
+                quiet(self.reference_digits(alloc, hole, base, code, b))
+            }
+        }
     }
 }
 
@@ -113,8 +158,8 @@ fn judge(why: Why, rest: &[u8], at: usize) -> (Rule, usize)
     }
 }
 
-/// The error at a character that was not taken, where the next byte is the first of `rest`.
-fn refusal(stop: Stop, rest: &[u8], at: usize) -> DocError
+/// The error at a character that was not taken, at this byte, which is the first of `rest`.
+pub fn refusal(stop: Stop, rest: &[u8], at: usize) -> DocError
     requires { PlaceFits stop rest.now at }
     ensures { result ≡ refused stop rest.now at }
 {
@@ -124,57 +169,5 @@ fn refusal(stop: Stop, rest: &[u8], at: usize) -> DocError
             let (rule, byte) = judge(why, rest, at);
             DocError::At { rule, byte }
         }
-    }
-}
-
-/// Whether a document may end here.
-#[tactic(auto, using(crate::proofs::Steps::final_is))]
-fn is_final(state: &State) -> bool
-    ensures yes { IsTrue result → m.Final (state_of state.now) }
-    ensures no { IsFalse result → m.Final (state_of state.now) → ⊥ }
-{
-    match state {
-        State::Content(Place::Within(names)) => names.is_empty(),
-        _ => false,
-    }
-}
-
-/// What begins and ends in the text, in document order.
-fn read_text(alloc: Global, text: &str) -> Result<Vec<Event>, DocError>
-    ensures found { IfOk result (λ t. IsDocument strict text.now (events_of t.items)) }
-    ensures fault { IfErr result (λ e. Faults e text.now) }
-{
-    let mut out = Vec::new(alloc);
-    let mut state = State::Start;
-    for (at, c) in text.char_indices() {
-        state = match next(alloc, state, c, &mut out) {
-            Ok(state) => state,
-            Err(stop) => return Err(refusal(stop, &text.as_bytes()[at..], at)),
-        };
-    }
-    if is_final(&state) {
-        Ok(out)
-    } else {
-        Err(DocError::At {
-            rule: Rule::Malformed,
-            byte: text.len(),
-        })
-    }
-}
-
-/// What begins and ends in a document, in order, or the rule that the bytes break and the place.
-pub fn read_events(alloc: Global, bytes: &[u8]) -> Result<Vec<Event>, DocError>
-    ensures found { IfOk result (λ t. IsDocument strict bytes.now (events_of t.items)) }
-    ensures fault { IfErr result (λ e. Faults e bytes.now) }
-    ensures only { (tree : List g.Event) → IsDocument strict bytes.now tree → Gives result tree }
-    ensures exact { (rule : Rule) (place : ℕ) → IsFault bytes.now rule place →
-        Refuses result rule place }
-{
-    match str::from_utf8(bytes) {
-        Ok(text) => read_text(alloc, text),
-        Err(e) => Err(DocError::At {
-            rule: Rule::NotUtf8,
-            byte: e.valid_up_to(),
-        }),
     }
 }

@@ -13,13 +13,6 @@ pub(crate) enum Place {
     Within(Vec<Vec<char>>),
 }
 
-/// A tag, as far as it was read.
-#[derive(Drop)]
-pub struct Tag {
-    pub name: Vec<char>,
-    pub attrs: Attributes,
-}
-
 #[derive(Clone, Copy)]
 pub(crate) enum Quote {
     Double,
@@ -50,10 +43,10 @@ pub(crate) enum Base {
 }
 
 /// Where a reference stands.
-#[derive(Drop)]
+#[derive(Clone, Copy)]
 pub(crate) enum Hole {
-    InText(Vec<char>, Vec<Vec<char>>),
-    InValue(Place, Tag, Vec<char>, Quote, Vec<char>),
+    InText,
+    InValue(Quote),
 }
 
 /// What a reference still waits for behind its next character.
@@ -66,14 +59,14 @@ pub(crate) enum Tail {
     S,
 }
 
-/// What was read, so far as it decides what may follow.
-#[derive(Drop)]
+/// What may follow. The names and values that it goes with stand in the reader.
+#[derive(Clone, Copy)]
 pub(crate) enum State {
     Start,
     AfterByteOrderMark,
     DocumentTagOpen,
     DocumentProcessingInstruction,
-    DocumentInstructionTarget(Vec<char>),
+    DocumentInstructionTarget,
     BeforeVersion,
     AfterSetting(Part),
     BetweenSettings(Part),
@@ -84,33 +77,35 @@ pub(crate) enum State {
     StandaloneValue(Quote),
     SettingValue(Saying, Quote, usize),
     DeclarationEnd,
-    Content(Place),
-    TagOpen(Place),
-    MarkupDeclaration(Place),
-    CommentStart(Place),
-    Comment(Place),
-    CommentDash(Place),
-    CommentEnd(Place),
-    ProcessingInstruction(Place),
-    InstructionTarget(Place, Vec<char>),
-    InstructionTargetEnd(Place),
-    InstructionText(Place),
-    InstructionEnd(Place),
+    Content,
+    TagOpen,
+    MarkupDeclaration,
+    CommentStart,
+    Comment,
+    CommentDash,
+    CommentEnd,
+    ProcessingInstruction,
+    InstructionTarget,
+    InstructionTargetEnd,
+    InstructionText,
+    InstructionEnd,
     /// In `CDATA[`, of which so many characters were read.
-    CdataStart(Vec<char>, Vec<Vec<char>>, usize),
-    CdataSection(Vec<char>, Vec<Vec<char>>),
-    CdataSectionBracket(Vec<char>, Vec<Vec<char>>),
-    CdataSectionEnd(Vec<char>, Vec<Vec<char>>),
-    TagName(Place, Vec<char>),
-    BeforeAttributeName(Place, Tag),
-    AttributeName(Place, Tag, Vec<char>),
-    AfterAttributeName(Place, Tag, Vec<char>),
-    BeforeAttributeValue(Place, Tag, Vec<char>),
-    AttributeValue(Place, Tag, Vec<char>, Quote, Vec<char>, bool),
-    AfterAttributeValue(Place, Tag),
-    SelfClosingStartTag(Place, Tag),
-    EndTagName(Vec<Vec<char>>, Vec<char>, usize),
-    AfterEndTagName(Vec<Vec<char>>),
+    CdataStart(usize),
+    CdataSection,
+    CdataSectionBracket,
+    CdataSectionEnd,
+    TagName,
+    BeforeAttributeName,
+    AttributeName,
+    AfterAttributeName,
+    BeforeAttributeValue,
+    /// Whether the character before was a raw carriage return.
+    AttributeValue(Quote, bool),
+    AfterAttributeValue,
+    SelfClosingStartTag,
+    /// Of the name so many characters were read.
+    EndTagName(usize),
+    AfterEndTagName,
     Reference(Hole),
     ReferenceA(Hole),
     NamedReference(Hole, char, char, Tail),
@@ -119,17 +114,39 @@ pub(crate) enum State {
     ReferenceDigits(Hole, Base, u32),
 }
 
-/// An element begins or ends.
+/// A reader of a document, which takes it character by character.
 #[derive(Drop)]
-pub enum Event {
-    Begin(Tag),
-    Close,
+pub struct Reader {
+    pub(crate) state: State,
+    pub(crate) place: Place,
+    /// Of a tag or of a target; in text, of the element that a reference or a section stands in.
+    pub(crate) name: Vec<char>,
+    /// Of the tag, as far as it was read.
+    pub(crate) attributes: Attributes,
+    /// The name of the attribute that is read.
+    pub(crate) attribute: Vec<char>,
+    /// Its value, as far as it was read.
+    pub(crate) value: Vec<char>,
+}
+
+/// What a character completes.
+#[derive(Clone, Copy, Debug, PartialEq, Eq)]
+pub enum Token {
+    Nothing,
+    /// An element begins.
+    Begin,
+    /// An element begins and ends.
+    Empty,
+    /// The innermost element ends.
+    End,
 }
 
 /// Why a character was not taken.
 #[derive(Debug, Drop)]
-pub(crate) enum Stop {
+pub enum Stop {
+    /// No document goes on with it.
     Dead(Why),
+    /// There isn't enough memory.
     Memory,
 }
 

@@ -1,18 +1,18 @@
 //! Tags.
-ghost use Rattle.std.specs.Prelude.{◌≡◌, ◌+◌, ◌∷◌, [], ◌++◌, drop, IfOk, IfErr, OnOk, length};
-ghost use Rattle.doc_events.specs.declared.state.Stop.TheVariants.{Memory};
-ghost use Rattle.doc_grammar.specs.Characters.{class, is_blank};
+ghost use Rattle.std.specs.Prelude.{◌≡◌, ◌∷◌, [], ◌++◌, drop, IfOk, IfErr, OnOk};
+ghost use Rattle.doc_grammar.specs.Characters.{class};
 ghost use Rattle.doc_grammar.specs.Grammar.{strict};
 ghost use Rattle.doc_grammar.specs.Grammar as g;
 ghost use Rattle.doc_grammar.specs.Machine as m;
-ghost use Rattle.doc_events.specs.View.{state_of, place_of, names_of, quote_of, events_of, Goes, Moves};
-ghost use Rattle.std.specs.Str.{encode_utf8_all};
+ghost use Rattle.doc_events.specs.View.{state_in, place_of, stack_of, quote_of, unless_twice, Goes, Moves};
+ghost use Rattle.doc_events.specs.declared.state.Stop.TheVariants.{Memory};
 
 use crate::attributes::{Attributes, text_of};
-use crate::markup::{bad, one};
-use crate::state::{Event, Hole, Place, Quote, State, Stop, Tag};
+use crate::markup::bad;
+use crate::state::{Hole, Place, Quote, Reader, State, Stop, Token};
 use doc_grammar::{Class, Why, class_of};
 use std::alloc::{AllocError, Global};
+use std::mem;
 
 /// How many bytes two texts begin with alike.
 #[tactic(auto, using(crate::proofs::CommonPrefix::common_prefix_short, crate::proofs::CommonPrefix::common_prefix_whole, crate::proofs::CommonPrefix::common_prefix_apart, crate::proofs::CommonPrefix::common_prefix_more))]
@@ -75,218 +75,6 @@ fn bad_tag_open(place: &Place, b: char) -> Why
     }
 }
 
-/// Behind `<`.
-pub(crate) fn tag_open(alloc: Global, place: Place, b: char) -> Result<State, Stop>
-    ensures { Goes (m.step_tag_open strict (place_of place) (class b) b) result }
-{
-    match (place, class_of(b)) {
-        (place, Class::Bang) => Ok(State::MarkupDeclaration(place)),
-        (place, Class::Question) => Ok(State::ProcessingInstruction(place)),
-        (place, Class::Letter) => {
-            if may_open(&place) {
-                Ok(State::TagName(place, one(alloc, b)?))
-            } else {
-                Err(Stop::Dead(why_open(&place)))
-            }
-        }
-        (place, Class::Bad) => Err(Stop::Dead(bad_tag_open(&place, b))),
-        (Place::Within(mut names), Class::Slash) => match names.pop() {
-            None => Err(Stop::Dead(Why::Plain)),
-            Some(name) => Ok(State::EndTagName(names, name, 0)),
-        },
-        _ => Err(Stop::Dead(Why::Plain)),
-    }
-}
-
-/// The names of the elements that are open around a tag.
-fn stack(alloc: Global, place: Place) -> Vec<Vec<char>>
-    ensures { names_of result.items ≡ m.stack (place_of place) }
-{
-    match place {
-        Place::Before => Vec::new(alloc),
-        Place::Within(names) => names,
-    }
-}
-
-/// A copy of a name.
-fn copy(alloc: Global, name: &[char]) -> Result<Vec<char>, AllocError>
-    ensures { IfOk result (λ v. v.items ≡ name.now) }
-{
-    name.iter().copied().collect(alloc)
-}
-
-/// Behind a name or a value in a tag.
-pub(crate) fn in_tag(
-    alloc: Global,
-    place: Place,
-    tag: Tag,
-    b: char,
-    out: &mut Vec<Event>,
-) -> Result<State, Stop>
-    ensures { Moves (m.step_tag (place_of place) tag.name.items tag.attrs (class b)) result
-        out.old.items out.new.items }
-{
-    match class_of(b) {
-        Class::Blank => Ok(State::BeforeAttributeName(place, tag)),
-        Class::Slash => Ok(State::SelfClosingStartTag(place, tag)),
-        Class::Greater => {
-            let mut names = stack(alloc, place);
-            names.push(copy(alloc, tag.name.as_slice())?)?;
-            out.push(Event::Begin(tag))?;
-            Ok(State::Content(Place::Within(names)))
-        }
-        _ => Err(Stop::Dead(Why::Plain)),
-    }
-}
-
-/// In the name of an element.
-pub(crate) fn tag_name(
-    alloc: Global,
-    place: Place,
-    mut name: Vec<char>,
-    b: char,
-    out: &mut Vec<Event>,
-) -> Result<State, Stop>
-    ensures { Moves (m.step_tag_name (place_of place) name.items (class b) b) result out.old.items
-        out.new.items }
-{
-    match class_of(b) {
-        Class::Letter | Class::Digit | Class::Dash => {
-            name.push(b)?;
-            Ok(State::TagName(place, name))
-        }
-        Class::Bad => Err(Stop::Dead(bad(b))),
-        _ => in_tag(
-            alloc,
-            place,
-            Tag {
-                name,
-                attrs: Attributes::new(alloc),
-            },
-            b,
-            out,
-        ),
-    }
-}
-
-/// Behind white space in a tag.
-pub(crate) fn before_attribute_name(
-    alloc: Global,
-    place: Place,
-    tag: Tag,
-    b: char,
-    out: &mut Vec<Event>,
-) -> Result<State, Stop>
-    ensures { Moves (m.step_before_attribute_name (place_of place) tag.name.items tag.attrs (class b) b) result
-        out.old.items out.new.items }
-{
-    match class_of(b) {
-        Class::Letter => Ok(State::AttributeName(place, tag, one(alloc, b)?)),
-        Class::Bad => Err(Stop::Dead(bad(b))),
-        _ => in_tag(alloc, place, tag, b, out),
-    }
-}
-
-/// In the name of an attribute.
-pub(crate) fn attribute_name(
-    alloc: Global,
-    place: Place,
-    tag: Tag,
-    mut name: Vec<char>,
-    b: char,
-) -> Result<State, Stop>
-    ensures { Goes (m.step_attribute_name strict (place_of place) tag.name.items tag.attrs name.items
-        (class b) b) result }
-{
-    match class_of(b) {
-        Class::Letter | Class::Digit | Class::Dash => {
-            name.push(b)?;
-            Ok(State::AttributeName(place, tag, name))
-        }
-        Class::Blank => {
-            if tag.attrs.has(alloc, name.as_slice())? {
-                Err(Stop::Dead(Why::Twice(text_of(alloc, name.as_slice())?.len())))
-            } else {
-                Ok(State::AfterAttributeName(place, tag, name))
-            }
-        }
-        Class::Equal => {
-            if tag.attrs.has(alloc, name.as_slice())? {
-                Err(Stop::Dead(Why::Twice(text_of(alloc, name.as_slice())?.len())))
-            } else {
-                Ok(State::BeforeAttributeValue(place, tag, name))
-            }
-        }
-        Class::Bad => Err(Stop::Dead(bad(b))),
-        _ => Err(Stop::Dead(Why::Plain)),
-    }
-}
-
-/// Behind an attribute's name.
-pub(crate) fn after_attribute_name(
-    place: Place,
-    tag: Tag,
-    name: Vec<char>,
-    b: char,
-) -> Result<State, Stop>
-    ensures { Goes (m.step_after_attribute_name (place_of place) tag.name.items tag.attrs name.items (class b))
-        result }
-{
-    match class_of(b) {
-        Class::Blank => Ok(State::AfterAttributeName(place, tag, name)),
-        Class::Equal => Ok(State::BeforeAttributeValue(place, tag, name)),
-        _ => Err(Stop::Dead(Why::Plain)),
-    }
-}
-
-/// Behind an attribute's `=`.
-pub(crate) fn before_attribute_value(
-    alloc: Global,
-    place: Place,
-    tag: Tag,
-    name: Vec<char>,
-    b: char,
-) -> Result<State, Stop>
-    ensures { Goes (m.step_before_attribute_value (place_of place) tag.name.items tag.attrs name.items (class b))
-        result }
-{
-    match class_of(b) {
-        Class::Blank => Ok(State::BeforeAttributeValue(place, tag, name)),
-        Class::DoubleQuote => Ok(State::AttributeValue(
-            place,
-            tag,
-            name,
-            Quote::Double,
-            Vec::new(alloc),
-            false,
-        )),
-        Class::SingleQuote => Ok(State::AttributeValue(
-            place,
-            tag,
-            name,
-            Quote::Single,
-            Vec::new(alloc),
-            false,
-        )),
-        _ => Err(Stop::Dead(Why::Plain)),
-    }
-}
-
-/// The tag with one more attribute.
-fn add(alloc: Global, tag: Tag, name: Vec<char>, value: Vec<char>) -> Result<Tag, Stop>
-    ensures ok { IfOk result (λ t. (t.name.items ≡ tag.name.items) × (t.attrs ≡ tag.attrs ++ (name.items, value.items) ∷ [])) }
-    ensures err { IfErr result (λ e. e ≡ Memory) }
-{
-    let Tag {
-        name: tag_name,
-        attrs,
-    } = tag;
-    Ok(Tag {
-        name: tag_name,
-        attrs: attrs.with(alloc, name, value)?,
-    })
-}
-
 /// Adds what a raw character of a value means.
 fn push_raw(text: &mut Vec<char>, behind_return: bool, b: char) -> Result<(), Stop>
     ensures ok { OnOk result (text.new.items ≡ text.old.items ++ g.raw_value behind_return b) }
@@ -303,96 +91,274 @@ fn push_raw(text: &mut Vec<char>, behind_return: bool, b: char) -> Result<(), St
     Ok(())
 }
 
-/// In an attribute's value.
-pub(crate) fn attribute_value(
-    alloc: Global,
-    place: Place,
-    tag: Tag,
-    name: Vec<char>,
-    quote: Quote,
-    mut text: Vec<char>,
-    behind_return: bool,
-    b: char,
-) -> Result<State, Stop>
-    ensures { Goes (m.step_attribute_value (place_of place) tag.name.items tag.attrs name.items
-        (quote_of quote) text.items behind_return (class b) b) result }
-{
-    match (quote, class_of(b)) {
-        (Quote::Double, Class::DoubleQuote) => {
-            Ok(State::AfterAttributeValue(place, add(alloc, tag, name, text)?))
+impl Place {
+    /// Goes in, where it stands before the root.
+    pub(crate) fn enter(&mut self, alloc: Global)
+        ensures { place_of self.new ≡ m.within (stack_of self.old) }
+    {
+        if let Place::Before = self {
+            *self = Place::Within(Vec::new(alloc));
         }
-        (Quote::Single, Class::SingleQuote) => {
-            Ok(State::AfterAttributeValue(place, add(alloc, tag, name, text)?))
+    }
+
+    /// An element of this name begins.
+    pub(crate) fn open(&mut self, alloc: Global, name: Vec<char>) -> Result<(), AllocError>
+        ensures { OnOk result (place_of self.new ≡ m.within (name.items ∷ stack_of self.old)) }
+    {
+        match self {
+            Place::Before => {
+                let mut names = Vec::new(alloc);
+                names.push(name)?;
+                *self = Place::Within(names);
+            }
+            Place::Within(names) => names.push(name)?,
         }
-        (_, Class::Less) => Err(Stop::Dead(Why::Plain)),
-        (_, Class::Bad) => Err(Stop::Dead(bad(b))),
-        (_, Class::Ampersand) => Ok(State::Reference(Hole::InValue(place, tag, name, quote, text))),
-        _ => {
-            push_raw(&mut text, behind_return, b)?;
-            Ok(State::AttributeValue(place, tag, name, quote, text, b == '\r'))
-        }
+        Ok(())
     }
 }
 
-/// Behind `/` in a tag.
-pub(crate) fn self_closing_start_tag(
-    alloc: Global,
-    place: Place,
-    tag: Tag,
-    b: char,
-    out: &mut Vec<Event>,
-) -> Result<State, Stop>
-    ensures { Moves (m.step strict (m.self_closing_start_tag (place_of place) tag.name.items tag.attrs)
-        (class b) b) result out.old.items out.new.items }
-{
-    match class_of(b) {
-        Class::Greater => {
-            out.push(Event::Begin(tag))?;
-            out.push(Event::Close)?;
-            Ok(State::Content(Place::Within(stack(alloc, place))))
-        }
-        _ => Err(Stop::Dead(Why::Plain)),
+impl Reader {
+    /// Goes back into the element around a reference or a section.
+    pub(crate) fn reopen(&mut self, alloc: Global) -> Result<(), AllocError>
+        ensures { OnOk result (place_of self.new.place ≡ m.within (self.old.name.items
+            ∷ stack_of self.old.place)) }
+    {
+        let name = mem::replace(&mut self.name, Vec::new(alloc));
+        self.place.open(alloc, name)
     }
-}
 
-/// Behind an end tag's name.
-pub(crate) fn after_end_tag_name(
-    names: Vec<Vec<char>>,
-    b: char,
-    out: &mut Vec<Event>,
-) -> Result<State, Stop>
-    ensures { Moves (m.step_after_end_tag_name (names_of names.items) (class b)) result out.old.items
-        out.new.items }
-{
-    match class_of(b) {
-        Class::Blank => Ok(State::AfterEndTagName(names)),
-        Class::Greater => {
-            out.push(Event::Close)?;
-            Ok(State::Content(Place::Within(names)))
+    /// Behind `<`.
+    pub(crate) fn tag_open(&mut self, b: char) -> Result<State, Stop>
+        ensures { Goes (m.step_tag_open strict (place_of self.old.place) (class b) b) result
+            self.new }
+    {
+        match (&mut self.place, class_of(b)) {
+            (_, Class::Bang) => Ok(State::MarkupDeclaration),
+            (_, Class::Question) => Ok(State::ProcessingInstruction),
+            (place, Class::Letter) => {
+                if may_open(place) {
+                    self.name.clear();
+                    self.name.push(b)?;
+                    Ok(State::TagName)
+                } else {
+                    Err(Stop::Dead(why_open(place)))
+                }
+            }
+            (place, Class::Bad) => Err(Stop::Dead(bad_tag_open(place, b))),
+            (Place::Within(names), Class::Slash) => match names.pop() {
+                None => Err(Stop::Dead(Why::Plain)),
+                Some(name) => {
+                    self.name = name;
+                    Ok(State::EndTagName(0))
+                }
+            },
+            _ => Err(Stop::Dead(Why::Plain)),
         }
-        _ => Err(Stop::Dead(Why::Plain)),
     }
-}
 
-/// In an end tag's name, of which `done` characters were read.
-pub(crate) fn end_tag_name(
-    alloc: Global,
-    names: Vec<Vec<char>>,
-    name: Vec<char>,
-    done: usize,
-    b: char,
-    out: &mut Vec<Event>,
-) -> Result<State, Stop>
-    ensures { Moves (m.step_end_tag_name (names_of names.items) (drop done name.items) (class b) b)
-        result out.old.items out.new.items }
-{
-    match name.get(done) {
-        None => after_end_tag_name(names, b, out),
-        Some(expected) => {
-            if *expected == b {
-                Ok(State::EndTagName(names, name, done + 1))
-            } else {
-                Err(Stop::Dead(partly(alloc, *expected, b)?))
+    /// Behind a name or a value in a tag.
+    pub(crate) fn in_tag(&mut self, alloc: Global, b: char) -> Result<(State, Token), Stop>
+        ensures { Moves (m.step_tag (place_of self.old.place) self.old.name.items
+            self.old.attributes (class b)) result self.new }
+    {
+        match class_of(b) {
+            Class::Blank => Ok((State::BeforeAttributeName, Token::Nothing)),
+            Class::Slash => Ok((State::SelfClosingStartTag, Token::Nothing)),
+            Class::Greater => {
+                let name = Vec::from_slice(alloc, self.name.as_slice())?;
+                self.place.open(alloc, name)?;
+                Ok((State::Content, Token::Begin))
+            }
+            _ => Err(Stop::Dead(Why::Plain)),
+        }
+    }
+
+    /// In the name of an element.
+    pub(crate) fn tag_name(&mut self, alloc: Global, b: char) -> Result<(State, Token), Stop>
+        ensures { Moves (m.step_tag_name (place_of self.old.place) self.old.name.items (class b) b)
+            result self.new }
+    {
+        match class_of(b) {
+            Class::Letter | Class::Digit | Class::Dash => {
+                self.name.push(b)?;
+                Ok((State::TagName, Token::Nothing))
+            }
+            Class::Bad => Err(Stop::Dead(bad(b))),
+            _ => {
+                self.attributes = Attributes::new(alloc);
+                self.in_tag(alloc, b)
+            }
+        }
+    }
+
+    /// Behind white space in a tag.
+    pub(crate) fn before_attribute_name(
+        &mut self,
+        alloc: Global,
+        b: char,
+    ) -> Result<(State, Token), Stop>
+        ensures { Moves (m.step_before_attribute_name (place_of self.old.place)
+            self.old.name.items self.old.attributes (class b) b) result self.new }
+    {
+        match class_of(b) {
+            Class::Letter => {
+                self.attribute.clear();
+                self.attribute.push(b)?;
+                Ok((State::AttributeName, Token::Nothing))
+            }
+            Class::Bad => Err(Stop::Dead(bad(b))),
+            _ => self.in_tag(alloc, b),
+        }
+    }
+
+    /// In the name of an attribute.
+    pub(crate) fn attribute_name(&mut self, alloc: Global, b: char) -> Result<State, Stop>
+        ensures { Goes (m.step_attribute_name strict (place_of self.old.place) self.old.name.items
+            self.old.attributes self.old.attribute.items (class b) b) result self.new }
+    {
+        match class_of(b) {
+            Class::Letter | Class::Digit | Class::Dash => {
+                self.attribute.push(b)?;
+                Ok(State::AttributeName)
+            }
+            Class::Blank => self.unless_twice(alloc, State::AfterAttributeName),
+            Class::Equal => self.unless_twice(alloc, State::BeforeAttributeValue),
+            Class::Bad => Err(Stop::Dead(bad(b))),
+            _ => Err(Stop::Dead(Why::Plain)),
+        }
+    }
+
+    /// What goes on behind an attribute's name, which the tag doesn't have yet.
+    fn unless_twice(&self, alloc: Global, next: State) -> Result<State, Stop>
+        ensures { Goes (unless_twice self.now.attributes self.now.attribute.items
+            (state_in next self.now)) result self.now }
+    {
+        let name = self.attribute.as_slice();
+        if self.attributes.has(alloc, name)? {
+            Err(Stop::Dead(Why::Twice(text_of(alloc, name)?.len())))
+        } else {
+            Ok(next)
+        }
+    }
+
+    /// Behind an attribute's name.
+    pub(crate) fn after_attribute_name(&self, b: char) -> Result<State, Stop>
+        ensures { Goes (m.step_after_attribute_name (place_of self.now.place) self.now.name.items
+            self.now.attributes self.now.attribute.items (class b)) result self.now }
+    {
+        match class_of(b) {
+            Class::Blank => Ok(State::AfterAttributeName),
+            Class::Equal => Ok(State::BeforeAttributeValue),
+            _ => Err(Stop::Dead(Why::Plain)),
+        }
+    }
+
+    /// Behind an attribute's `=`.
+    pub(crate) fn before_attribute_value(&mut self, b: char) -> Result<State, Stop>
+        ensures { Goes (m.step_before_attribute_value (place_of self.old.place)
+            self.old.name.items self.old.attributes self.old.attribute.items (class b)) result
+            self.new }
+    {
+        self.value.clear();
+        match class_of(b) {
+            Class::Blank => Ok(State::BeforeAttributeValue),
+            Class::DoubleQuote => Ok(State::AttributeValue(Quote::Double, false)),
+            Class::SingleQuote => Ok(State::AttributeValue(Quote::Single, false)),
+            _ => Err(Stop::Dead(Why::Plain)),
+        }
+    }
+
+    /// Behind an attribute's value.
+    fn attribute_end(&mut self, alloc: Global) -> Result<State, Stop>
+        ensures { Goes (m.go (m.after_attribute_value (place_of self.old.place)
+            self.old.name.items (self.old.attributes
+            ++ (self.old.attribute.items, self.old.value.items) ∷ []))) result self.new }
+    {
+        let attributes = mem::replace(&mut self.attributes, Attributes::new(alloc));
+        self.attributes = attributes.with(alloc, self.attribute.as_slice(), self.value.as_slice())?;
+        Ok(State::AfterAttributeValue)
+    }
+
+    /// In an attribute's value.
+    pub(crate) fn attribute_value(
+        &mut self,
+        alloc: Global,
+        quote: Quote,
+        behind_return: bool,
+        b: char,
+    ) -> Result<State, Stop>
+        ensures { Goes (m.step_attribute_value (place_of self.old.place) self.old.name.items
+            self.old.attributes self.old.attribute.items (quote_of quote) self.old.value.items
+            behind_return (class b) b) result self.new }
+    {
+        match (quote, class_of(b)) {
+            (Quote::Double, Class::DoubleQuote) => self.attribute_end(alloc),
+            (Quote::Single, Class::SingleQuote) => self.attribute_end(alloc),
+            (_, Class::Less) => Err(Stop::Dead(Why::Plain)),
+            (_, Class::Bad) => Err(Stop::Dead(bad(b))),
+            (_, Class::Ampersand) => Ok(State::Reference(Hole::InValue(quote))),
+            _ => {
+                push_raw(&mut self.value, behind_return, b)?;
+                Ok(State::AttributeValue(quote, b == '\r'))
+            }
+        }
+    }
+
+    /// Behind `/` in a tag.
+    pub(crate) fn self_closing_start_tag(
+        &mut self,
+        alloc: Global,
+        b: char,
+    ) -> Result<(State, Token), Stop>
+        ensures { Moves (m.step strict (m.self_closing_start_tag (place_of self.old.place)
+            self.old.name.items self.old.attributes) (class b) b) result self.new }
+    {
+        match class_of(b) {
+            Class::Greater => {
+                self.place.enter(alloc);
+                Ok((State::Content, Token::Empty))
+            }
+            _ => Err(Stop::Dead(Why::Plain)),
+        }
+    }
+
+    /// Behind an end tag's name.
+    pub(crate) fn after_end_tag_name(
+        &mut self,
+        alloc: Global,
+        b: char,
+    ) -> Result<(State, Token), Stop>
+        ensures { Moves (m.step_after_end_tag_name (stack_of self.old.place) (class b)) result
+            self.new }
+    {
+        match class_of(b) {
+            Class::Blank => Ok((State::AfterEndTagName, Token::Nothing)),
+            Class::Greater => {
+                self.place.enter(alloc);
+                Ok((State::Content, Token::End))
+            }
+            _ => Err(Stop::Dead(Why::Plain)),
+        }
+    }
+
+    /// In an end tag's name, of which `done` characters were read.
+    pub(crate) fn end_tag_name(
+        &mut self,
+        alloc: Global,
+        done: usize,
+        b: char,
+    ) -> Result<(State, Token), Stop>
+        ensures { Moves (m.step_end_tag_name (stack_of self.old.place)
+            (drop done self.old.name.items) (class b) b) result self.new }
+    {
+        match self.name.get(done).copied() {
+            None => self.after_end_tag_name(alloc, b),
+            Some(expected) => {
+                if expected == b {
+                    Ok((State::EndTagName(done + 1), Token::Nothing))
+                } else {
+                    Err(Stop::Dead(partly(alloc, expected, b)?))
+                }
             }
         }
     }

@@ -1,19 +1,23 @@
-ghost use Rattle.std.specs.Prelude.{◌≡◌, ◌∷◌, [], ◌++◌, ℕ, List, length, reverse, IfOk, IfErr};
+ghost use Rattle.std.specs.Prelude.{◌≡◌, ◌∷◌, [], ◌++◌, ℕ, List, length, reverse, map, IfOk, IfErr};
 ghost use Rattle.doc_grammar.specs.Faults.{IsFault};
-ghost use Rattle.doc_grammar.specs.Nodes.{Node, Denotes, nodes_of, node};
+ghost use Rattle.doc_grammar.specs.Nodes.{Node, Denotes, node};
 ghost use Rattle.doc_grammar.specs.Nodes as n;
 ghost use Rattle.doc_tree.specs.Building.{AllBelow};
 ghost use Rattle.doc_tree.specs.Elements.{IsBelow};
 ghost use Rattle.doc_grammar.specs.declared.reasons.Rule.{Rule};
-ghost use Rattle.doc_events.specs.View.{event_of, events_of};
+ghost use Rattle.doc_grammar.specs.Grammar as g;
+ghost use Rattle.doc_grammar.specs.Nodes.{nodes_behind};
+ghost use Rattle.doc_events.specs.Pairs.{pair_of};
+ghost use Rattle.doc_events.specs.View.{events_at};
 ghost use Rattle.doc_events.specs.Answers.{Faults};
 ghost use Rattle.doc_tree.specs.Answers.{Gives, Refuses};
 
 use crate::element::element;
 use crate::tree::Tree;
-use doc_events::{DocError, Event, Tag, read_events};
+use doc_events::{Attribute, DocError, Reader, Rule as DocumentRule, Token, refusal};
 use std::alloc::{AllocError, Global};
 use std::marker::Model;
+use std::str;
 
 /// The innermost of the open elements.
 #[tactic(auto, using(crate::proofs::BuildLemmas::last_is, crate::proofs::BuildLemmas::last_below))]
@@ -53,14 +57,22 @@ impl Builder {
         }
     }
 
-    /// An element begins.
-    fn begin(self, alloc: Global, tag: &Tag) -> Result<Builder, AllocError>
-        ensures { IfOk result (λ b. b ≡ (length self.1 ∷ self.0, self.1 ++ node tag.now.name.items tag.now.attrs (n.innermost self.0) ∷ [])) }
+    /// An element with this full name and these attributes begins.
+    fn begin(
+        self,
+        alloc: Global,
+        name: &[char],
+        attributes: &[Attribute],
+    ) -> Result<Builder, AllocError>
+        ensures { IfOk result (λ b. b ≡ (
+          length self.1 ∷ self.0,
+          self.1 ++ node name.now (map pair_of attributes.now) (n.innermost self.0) ∷ [],
+        )) }
     {
         let Builder { mut around, tree } = self;
         let parent = innermost(around.as_slice());
         around.push(tree.len())?;
-        let tree = tree.with(alloc, element(alloc, tag, parent)?)?;
+        let tree = tree.with(alloc, element(alloc, name, attributes, parent)?)?;
         Ok(Builder { around, tree })
     }
 
@@ -72,20 +84,52 @@ impl Builder {
         around.pop();
         Builder { around, tree }
     }
+
+    /// What the reader's last character completed.
+    fn take(self, alloc: Global, token: Token, reader: &Reader) -> Result<Builder, AllocError>
+        ensures { IfOk result (λ b. (more : List g.Event) → nodes_behind more b.0 b.1
+            ≡ nodes_behind (events_at token reader.now ++ more) self.0 self.1) }
+    {
+        match token {
+            Token::Nothing => Ok(self),
+            Token::Begin => self.begin(alloc, reader.name(), reader.attributes()),
+            Token::Empty => {
+                let begun = self.begin(alloc, reader.name(), reader.attributes())?;
+                Ok(begun.close())
+            }
+            Token::End => Ok(self.close()),
+        }
+    }
 }
 
-/// The tree of what begins and ends.
-fn build(alloc: Global, events: &[Event]) -> Result<Tree, AllocError>
-    ensures { IfOk result (λ t. t ≡ nodes_of (events_of events.now)) }
+/// The tree of a text, or the rule that it breaks and the place.
+fn read_text(alloc: Global, text: &str) -> Result<Tree, DocError>
+    ensures found { IfOk result (λ t. Denotes text.now t) }
+    ensures fault { IfErr result (λ e. Faults e text.now) }
 {
+    let mut reader = Reader::new(alloc);
     let mut builder = Builder::new(alloc);
-    for event in events {
-        builder = match event {
-            Event::Begin(tag) => builder.begin(alloc, tag)?,
-            Event::Close => builder.close(),
+    for (at, c) in text.char_indices() {
+        let token = match reader.take(alloc, c) {
+            Ok(token) => token,
+            Err(stop) => return Err(refusal(stop, &text.as_bytes()[at..], at)),
+        };
+        if let Token::Nothing = token {
+            continue;
+        }
+        builder = match builder.take(alloc, token, &reader) {
+            Ok(builder) => builder,
+            Err(_) => return Err(DocError::Memory),
         };
     }
-    Ok(builder.tree)
+    if reader.is_final() {
+        Ok(builder.tree)
+    } else {
+        Err(DocError::At {
+            rule: DocumentRule::Malformed,
+            byte: text.len(),
+        })
+    }
 }
 
 /// The tree of a document, or the rule that the bytes break and the place.
@@ -96,11 +140,11 @@ pub fn read_tree(alloc: Global, bytes: &[u8]) -> Result<Tree, DocError>
     ensures exact { (rule : Rule) (place : ℕ) → IsFault bytes.now rule place →
         Refuses result rule place }
 {
-    match read_events(alloc, bytes) {
-        Ok(events) => match build(alloc, events.as_slice()) {
-            Ok(tree) => Ok(tree),
-            Err(_) => Err(DocError::Memory),
-        },
-        Err(e) => Err(e),
+    match str::from_utf8(bytes) {
+        Ok(text) => read_text(alloc, text),
+        Err(e) => Err(DocError::At {
+            rule: DocumentRule::NotUtf8,
+            byte: e.valid_up_to(),
+        }),
     }
 }

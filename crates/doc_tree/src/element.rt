@@ -5,7 +5,7 @@ ghost use Rattle.doc_events.specs.Pairs.{pair_of};
 ghost use Rattle.doc_tree.specs.Elements as e;
 
 use crate::tree::{Element, Named};
-use doc_events::{Attribute, Tag, text_of};
+use doc_events::{Attribute, text_of};
 use std::alloc::{AllocError, Global};
 
 /// What follows the last colon.
@@ -65,25 +65,27 @@ fn add(alloc: Global, attrs: &mut Vec<Named>, attr: &Attribute) -> Result<(), Al
 fn kept_of(alloc: Global, all: &[Attribute]) -> Result<Vec<Named>, AllocError>
     ensures { IfOk result (λ v. map e.pair_of v.items ≡ kept (map pair_of all.now)) }
 {
-    let mut attrs = Vec::new(alloc);
+    let mut attrs = Vec::with_capacity(alloc, all.len())?;
     for attr in all {
         add(alloc, &mut attrs, attr)?;
     }
     Ok(attrs)
 }
 
-/// The element of a tag.
+/// The element of a tag with this full name and these attributes.
 pub(crate) fn element(
     alloc: Global,
-    tag: &Tag,
+    name: &[char],
+    attributes: &[Attribute],
     parent: Option<usize>,
 ) -> Result<Element, AllocError>
-    ensures node { IfOk result (λ x. e.node_of x ≡ node tag.now.name.items tag.now.attrs parent) }
+    ensures node { IfOk result
+        (λ x. e.node_of x ≡ node name.now (map pair_of attributes.now) parent) }
     ensures parent { IfOk result (λ x. x.parent ≡ parent) }
 {
     Ok(Element {
-        name: text_of(alloc, local(tag.name.as_slice()))?,
-        attrs: kept_of(alloc, tag.attrs.as_slice())?,
+        name: text_of(alloc, local(name))?,
+        attrs: kept_of(alloc, attributes)?,
         parent,
     })
 }

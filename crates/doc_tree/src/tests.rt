@@ -100,7 +100,7 @@ const VALUES: [(&str, Option<&str>); 17] = [
 ];
 
 /// Bytes that are no document, their rule and its place.
-const FAULTS: [(&[u8], DocumentRule, usize); 132] = [
+const FAULTS: [(&[u8], DocumentRule, usize); 134] = [
     // The encoding is tested first, over all bytes.
     (b"\xff", DocumentRule::NotUtf8, 0),
     (b"<a\xff", DocumentRule::NotUtf8, 2),
@@ -189,6 +189,17 @@ const FAULTS: [(&[u8], DocumentRule, usize); 132] = [
     (b"<a b='' b/>", DocumentRule::Malformed, 9),
     (b"<a p:b='' p:b=''/>", DocumentRule::AttributeTwice, 10),
     (b"<a xmlns='' xmlns=''/>", DocumentRule::AttributeTwice, 12),
+    // Behind the eighth attribute, of a name before it and behind it.
+    (
+        b"<a b='' c='' d='' e='' f='' g='' h='' i='' j='' i=''/>",
+        DocumentRule::AttributeTwice,
+        48,
+    ),
+    (
+        b"<a b='' c='' d='' e='' f='' g='' h='' i='' j='' j=''/>",
+        DocumentRule::AttributeTwice,
+        48,
+    ),
     (
         b"<a><b \xc3\xa9='' \xc3\xa9=''/></a>",
         DocumentRule::AttributeTwice,

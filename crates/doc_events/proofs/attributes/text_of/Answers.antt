@@ -1,4 +1,4 @@
-use Rattle.std.proofs.Common.{◌≡◌, ◌++◌, get_or, string_bytes, ◌∙◌, sym, ap, rules}
+use Rattle.std.proofs.Common.{◌≡◌, ◌++◌, get_or, string_bytes, ◌∙◌, sym, ap}
 use Rattle.std.proofs.lemmas.List.{get_or_read}
 use Rattle.std.specs.Char.{encode_utf8}
 use Rattle.doc_events.proofs.Names.{chars_more}

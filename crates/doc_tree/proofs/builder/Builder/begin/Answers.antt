@@ -1,5 +1,6 @@
-use Rattle.std.proofs.Common.{length, reverse, sym, ap, ◌∙◌}
+use Rattle.std.proofs.Common.{length, reverse, map, sym, ap, ◌∙◌}
 use Rattle.doc_grammar.specs.Nodes.{node, innermost}
+use Rattle.doc_events.specs.Pairs.{pair_of}
 use Rattle.doc_tree.proofs.BuildLemmas.{starts_below, begun_below, begun_view}
 use Rattle.doc_tree.proofs.builder.Builder.begin.Goals as goal
 
@@ -18,4 +19,4 @@ returns c =
     begun_view c.args.self c.self.inside.around.items c.push.new.self.items c.self.inside.tree _ c.in_ok-tree.tree _ _ _
     (sym c.self.view_is) (sym c.tree.view_is) (c.len.ensures ∙ ap length (sym c.tree.view_is)) c.in_ok-push.ensures.items c.in_ok-tree.ensures
     (c.in_ok-element.ensures.node
-    ∙ ap (node c.args.tag.now.name.items c.args.tag.now.attrs) (c.innermost-parent.ensures.value ∙ ap (λ z. innermost (reverse z)) c.as_slice.ensures.value ∙ ap (λ z. innermost z.0) c.self.view_is))
+    ∙ ap (node c.args.name.now (map pair_of c.args.attributes.now)) (c.innermost-parent.ensures.value ∙ ap (λ z. innermost (reverse z)) c.as_slice.ensures.value ∙ ap (λ z. innermost z.0) c.self.view_is))

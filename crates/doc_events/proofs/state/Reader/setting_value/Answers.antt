@@ -4,7 +4,7 @@ use Rattle.doc_events.specs.declared.state.Saying.{Saying}
 use Rattle.doc_events.specs.declared.state.Saying.TheVariants.{OnePointZero, Utf8, Yes, No}
 use Rattle.doc_events.specs.View.{quote_of, saying_part, saying_text, setting_value_from}
 use Rattle.doc_events.proofs.Steps.{setting_value_goes}
-use Rattle.doc_events.proofs.declaration.setting_value.Goals as goal
+use Rattle.doc_events.proofs.state.Reader.setting_value.Goals as goal
 
 short : (w : Saying) → length (saying_text w) ≤ 5
 short OnePointZero = omega arith
@@ -19,5 +19,5 @@ returns-in-Some c =
     let size = ap length e in
     let few = short c.args.saying in
     let next : c.saturating_add.result ≡ c.args.done + 1 = omega (arith, size, few, length-drop c.args.done text, c.saturating_add.ensures) in
-    setting_value_goes (saying_part c.args.saying) (quote_of c.args.quote) (drop c.args.done text) (drop (c.args.done + 1) text) c.in-Some.expected (class c.args.b) c.args.b c.fold_for.result c.fold_for-in-Some.result _ c.exactly-in-Some.result e c.fold_for.ensures c.fold_for-in-Some.ensures
+    setting_value_goes (saying_part c.args.saying) (quote_of c.args.quote) (drop c.args.done text) (drop (c.args.done + 1) text) c.in-Some.expected (class c.args.b) c.args.b c.fold_for.result c.fold_for-in-Some.result _ c.exactly-in-Some.result c.args.self.now e c.fold_for.ensures c.fold_for-in-Some.ensures
     (ap (λ n. setting_value_from (saying_part c.args.saying) (quote_of c.args.quote) (drop n text)) next) c.exactly-in-Some.ensures
