@@ -6,7 +6,15 @@ mod bench;
 mod built_in;
 mod built_in_state;
 mod counter;
+#[cfg(test)]
+mod counter_tests;
+#[cfg(test)]
+mod driving;
+#[cfg(test)]
+mod event_tests;
 mod gain;
+#[cfg(test)]
+mod gain_tests;
 mod model;
 mod origin;
 mod relay;
@@ -18,7 +26,7 @@ mod scripts;
 mod settle;
 mod start_plan;
 #[cfg(test)]
-mod tests;
+mod start_tests;
 mod timer;
 mod wrap;
 

@@ -16,4 +16,5 @@ pub mod Cuts
 pub mod Judging
 pub mod Encoded
 pub mod Built
+pub mod Sizes
 pub mod Bounded

@@ -1,4 +1,5 @@
-use crate::tests::{
+//! The calls of Clocks: when they are permitted, and what is present once a Clock is active.
+use crate::paths::{
     ENTERED, EXITED, FREE, IN_STEP, Row, SETTLED, STARTED_EVENTS, assert_phases, clock, shape_of,
     variable,
 };

@@ -7,10 +7,14 @@ mod clock_tests;
 mod kind_facts;
 mod marks;
 mod next;
+#[cfg(test)]
+mod paths;
 mod permission;
 mod phase;
 #[cfg(test)]
-mod tests;
+mod phase_tests;
+#[cfg(test)]
+mod reply_tests;
 mod worth;
 
 pub use call::{BadStatus, Call, Content, Grade, Interval, Kind, Reply, Status};

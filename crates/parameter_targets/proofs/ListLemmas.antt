@@ -1,28 +1,17 @@
 -- What stands in a list with one more.
 use Rattle.std.proofs.Common.{◌≡◌, ◌⊎◌, ◌↔◌, ◌<◌, ℕ, zero, suc, List, [], ◌∷◌, ◌++◌, length, get_or, Some, refl, sym, ap, ◌∙◌, subst, inl, inr, arith, map}
 use Rattle.std.specs.List.{slice_get, Contains}
-use Rattle.std.proofs.lemmas.Option.{slice_get_within, slice_get-get_or, same_Some, get_or_from_slice_get}
+use Rattle.std.proofs.lemmas.Option.{slice_get_within, slice_get-get_or, get_or_from_slice_get}
 use Rattle.std.proofs.lemmas.List.{map-append}
 use Rattle.std.proofs.lemmas.List.Elements.{Contains-append_left, Contains-get_or, Contains-push, Contains-push_cases}
+use Rattle.name_fronts.proofs.PushLemmas.{pushed}
 
 pub push_cases : {X : Type 0} (xs : List X) (y : X) (j : ℕ) (x : X) → slice_get (xs ++ y ∷ []) j ≡ Some x → (slice_get xs j ≡ Some x) ⊎ ((j ≡ length xs) × (y ≡ x))
-push_cases [] y zero x e = inr (refl, same_Some y x e)
-push_cases [] y (suc j) x e = cc
-push_cases (z ∷ zs) y zero x e = inl e
-push_cases (z ∷ zs) y (suc j) x e = by (push_cases zs y j x e)
+push_cases xs y j x e = by (pushed xs y j x e)
   where
-    by : (slice_get zs j ≡ Some x) ⊎ ((j ≡ length zs) × (y ≡ x)) → (slice_get zs j ≡ Some x) ⊎ ((suc j ≡ suc (length zs)) × (y ≡ x))
-    by (inl h) = inl h
-    by (inr h) = inr (ap suc h.0, h.1)
-
-pub push_last : {X : Type 0} (xs : List X) (y : X) → slice_get (xs ++ y ∷ []) (length xs) ≡ Some y
-push_last [] y = refl
-push_last (z ∷ zs) y = push_last zs y
-
-pub push_kept : {X : Type 0} (xs : List X) (y : X) (j : ℕ) (x : X) → slice_get xs j ≡ Some x → slice_get (xs ++ y ∷ []) j ≡ Some x
-push_kept [] y j x e = cc
-push_kept (z ∷ zs) y zero x e = e
-push_kept (z ∷ zs) y (suc j) x e = push_kept zs y j x e
+    by : ((j < length xs) × (slice_get xs j ≡ Some x)) ⊎ ((j ≡ length xs) × (y ≡ x)) → (slice_get xs j ≡ Some x) ⊎ ((j ≡ length xs) × (y ≡ x))
+    by (inl h) = inl h.1
+    by (inr h) = inr h
 
 pub element_at : {X : Type 0} (xs : List X) (k : ℕ) → k < length xs → (x : X) × (slice_get xs k ≡ Some x)
 element_at [] k h = absurd (omega (arith, h))

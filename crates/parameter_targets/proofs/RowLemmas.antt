@@ -9,12 +9,13 @@ use Rattle.ssd_tree.specs.declared.tree.SystemPart.{SystemPart}
 use Rattle.ssd_tree.specs.declared.tree.ComponentPart.{ComponentPart}
 use Rattle.ssd_tree.specs.declared.tree.SystemTree.{SystemTree}
 use Rattle.dependency_order.proofs.ListLemmas.{in_pushed, in_pushed_back}
+use Rattle.name_fronts.proofs.PushLemmas.{pushed_before, pushed_last}
 use Rattle.parameter_targets.specs.declared.paths.Path.{Path}
 use Rattle.parameter_targets.specs.declared.paths.Paths.{Paths}
 use Rattle.parameter_targets.specs.Named.{BeginsWithScope, IsInScope, IsNamedTree}
 use Rattle.parameter_targets.specs.Scopes.{IsWithin, Same, Deeper}
 use Rattle.parameter_targets.specs.Tables.{AreRows, ArePaths, ArePathsBelow, IsPath, IsPathText, TellsPath}
-use Rattle.parameter_targets.proofs.ListLemmas.{contains_at, push_cases, push_kept, push_last}
+use Rattle.parameter_targets.proofs.ListLemmas.{contains_at, push_cases}
 use Rattle.parameter_targets.proofs.PathLemmas.{begins_within, path_once}
 
 -- ---- one path more
@@ -55,7 +56,7 @@ module _ (old new : Paths) (system : ℕ) (p : Path) (all : new.all.items ≡ ol
         at = t.at;
         in_row = subst (λ z. Contains (get_or z s []) t.at) (sym below) (in_pushed old.below system (length old.all.items) s t.at within t.in_row);
         path = t.path;
-        is = subst (λ (z : List Path). slice_get z t.at ≡ Some t.path) (sym all) (push_kept old.all.items p t.at t.path t.is);
+        is = subst (λ (z : List Path). slice_get z t.at ≡ Some t.path) (sym all) (pushed_before old.all.items p t.at t.path t.is);
         component_is = t.component_is;
         text_is = t.text_is;
       }
@@ -65,7 +66,7 @@ module _ (old new : Paths) (system : ℕ) (p : Path) (all : new.all.items ≡ ol
             (subst (λ z. Contains (get_or (set old.below system (get_or old.below system [] ++ length old.all.items ∷ [])) z []) (length old.all.items)) (sym h.0)
             (subst (λ z. Contains z (length old.all.items)) (sym (get_or-set_same old.below system (get_or old.below system [] ++ length old.all.items ∷ []) [] within)) (Contains-push (get_or old.below system []) (length old.all.items))));
         path = p;
-        is = subst (λ (z : List Path). slice_get z (length old.all.items) ≡ Some p) (sym all) (push_last old.all.items p);
+        is = subst (λ (z : List Path). slice_get z (length old.all.items) ≡ Some p) (sym all) (pushed_last old.all.items p);
         component_is = sym h.1;
         text_is = sym h.2;
       }

@@ -2,7 +2,7 @@
 use Rattle.std.proofs.Common.{◌≡◌, ◌⊎◌, ◌↔◌, ◌<◌, ◌≤◌, ◌+◌, ℕ, List, [], ◌∷◌, ◌++◌, length, take, get_or, Some, refl, sym, ap, ◌∙◌, subst, inl, inr, arith, append_assoc, map, Bor}
 use Rattle.std.specs.List.{slice_get, Contains}
 use Rattle.std.proofs.lemmas.List.{append_cancel_left, length-map, length_push, map-append, take_all, take_more}
-use Rattle.std.proofs.lemmas.List.Elements.{Contains-append_left, Contains-push, Contains-push_cases}
+use Rattle.std.proofs.lemmas.List.Elements.{Contains-append_left, Contains-get_or, Contains-push, Contains-push_cases}
 use Rattle.std.proofs.lemmas.Option.{get_or_from_slice_get, same_Some, slice_get-get_or, slice_get-map, slice_get_within}
 use Rattle.std.specs.Option.{option_map}
 use Rattle.name_fronts.specs.Fronts.{AreFronts, texts}
@@ -309,6 +309,20 @@ front_within paths s k name places fronts c =
     let w = slice_get_within (row_texts paths s) k h.path h.at in
     let l = length-map (get_or paths.below s []) (λ at. path_text (slice_get paths.all.items at)) in
     omega (arith, w, l)
+
+-- the places that the fronts of a System answer are those of its row
+pub fronts_in_row : {targets : Targets} (s : ℕ) {texts : List (List ℕ)} {bytes name places : List ℕ} → AreTargets targets → s < length targets.tree.now.systems → texts ≡ get_or targets.fronts.items s texts → bytes ≡ name → AreFronts texts bytes places → AreFronts (row_texts targets.paths s) name places
+fronts_in_row {targets} s {texts} {bytes} {name} {places} are within read same fronts =
+    let rows_len = are.paths.rows.rows_len in
+    let fronts_len = are.fronts.fronts_len in
+    let row = are.fronts.each s texts (read_at targets.fronts.items targets.fronts.items s texts refl (omega (arith, within, rows_len, fronts_len)) read) in
+    subst (λ n. AreFronts (row_texts targets.paths s) n places) same (subst (λ t. AreFronts t bytes places) row fronts)
+
+-- each of them stands in the row
+pub place_in_row : (paths : Paths) (s i : ℕ) {name places items row : List ℕ} → AreFronts (row_texts paths s) name places → items ≡ places → i < length items → row ≡ get_or paths.below s [] → get_or items i 0 < length row
+place_in_row paths s i {name} {places} {items} {row} fronts same less is =
+    let inside = subst (λ z. Contains z (get_or items i 0)) same (Contains-get_or items i 0 less) in
+    subst (λ (z : List ℕ). get_or items i 0 < length z) (sym is) (front_within paths s (get_or items i 0) name places fronts inside)
 
 -- the elements of a row at some places
 pub led_all : (row : List ℕ) (places ats : List ℕ) (i : ℕ) → length places ≤ i → ats ≡ map (λ k. get_or row k 0) (take i places) → ((k : ℕ) → Contains places k → k < length row) → (at : ℕ) → Contains ats at ↔ ((k : ℕ) × (Contains places k × (slice_get row k ≡ Some at)))

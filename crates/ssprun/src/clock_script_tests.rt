@@ -1,9 +1,7 @@
 //! An FMU with Clocks by itself, over a script: every call of its run, and what follows a bad answer to each kind of call
 //! that Clocks add.
-use crate::binding_tests::calls_of;
-use crate::tests::{
-    Answer, ENTERED, EXITED, FREED, STARTED, TERMINATED, Wanted, assert_run, make_file,
-};
+use crate::answers::{Answer, ENTERED, EXITED, FREED, STARTED, TERMINATED, calls_of};
+use crate::memory_runs::{Wanted, assert_run, make_file};
 use bench_fmus::Scripts;
 use clock_fraction::Fraction;
 use fmi_calls::{BadStatus, Call, Content, Interval, Reply};

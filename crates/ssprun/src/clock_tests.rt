@@ -1,6 +1,6 @@
 //! Systems with Clocks: constant, fixed, countdown and triggered ones, their ticks and what is present at them.
+use crate::memory_runs::{Output, assert_output};
 use crate::system_tests::{RUN, Structure, make_files};
-use crate::tests::{Output, assert_output};
 use sim_base::MemFolder;
 use std::alloc::{AllocError, Global};
 use std::process::Abort;

@@ -1,8 +1,8 @@
 //! A system in which two FMUs have event mode and one has none, over scripts: every call of its run, worked out by hand,
 //! and what follows a bad answer to each kind of call that event mode adds.
-use crate::binding_tests::calls_of;
+use crate::answers::{Answer, ENTERED, EXITED, FREED, SET, STARTED, TERMINATED, calls_of};
+use crate::memory_runs::{Wanted, assert_run};
 use crate::system_tests::{Structure, make_files};
-use crate::tests::{Answer, ENTERED, EXITED, FREED, SET, STARTED, TERMINATED, Wanted, assert_run};
 use bench_fmus::Scripts;
 use fmi_calls::{BadStatus, Call, Content, Kind, Reply};
 use sim_base::{Items, MemFolder};

@@ -1,9 +1,9 @@
 //! Systems with Event Mode: several instants at one point, their limit, and values that go through FMUs within an instant.
-use crate::system_tests::{NESTED, OPEN_RING, RING, RUN, Structure, make_files};
-use crate::tests::{
-    Answer, ENTERED, EXITED, FREED, Output, READ, STARTED, STEPPED, TERMINATED, Wanted,
-    assert_output, assert_run, kinds_of, make_file,
+use crate::answers::{
+    Answer, ENTERED, EXITED, FREED, READ, STARTED, STEPPED, TERMINATED, kinds_of,
 };
+use crate::memory_runs::{Output, Wanted, assert_output, assert_run, make_file};
+use crate::system_tests::{NESTED, OPEN_RING, RING, RUN, Structure, make_files};
 use bench_fmus::Scripts;
 use fmi_calls::{Content, Kind, Reply};
 use sim_base::{Items, MemFolder};

@@ -1,19 +1,35 @@
 //! The program: it reads the descriptions of a system of FMUs, runs it, and writes the trace.
 #![tactic(auto)]
 
+#[cfg(test)]
+mod answer_tests;
+#[cfg(test)]
+mod answers;
 mod args;
 #[cfg(test)]
-mod binding_tests;
+mod binding_file_tests;
+#[cfg(test)]
+mod binding_files;
+#[cfg(test)]
+mod binding_rule_tests;
+#[cfg(test)]
+mod binding_script_tests;
+#[cfg(test)]
+mod binding_value_tests;
 #[cfg(test)]
 mod clock_script_tests;
 #[cfg(test)]
 mod clock_tests;
+#[cfg(test)]
+mod command_tests;
 #[cfg(test)]
 mod event_script_tests;
 #[cfg(test)]
 mod event_tests;
 #[cfg(test)]
 mod long_tests;
+#[cfg(test)]
+mod memory_runs;
 mod message;
 mod names;
 mod naming;
@@ -26,8 +42,6 @@ mod rule_tests;
 mod run;
 #[cfg(test)]
 mod system_tests;
-#[cfg(test)]
-mod tests;
 #[cfg(test)]
 mod trace_check_tests;
 mod trace_verdict;

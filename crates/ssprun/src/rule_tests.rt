@@ -1,6 +1,6 @@
 //! The rules that systems break, each with its place, and the order in which they are told.
+use crate::memory_runs::{Output, assert_output, make_file};
 use crate::system_tests::{CHECK, COUNTER, GAIN, RUN, Structure, make_files};
-use crate::tests::{Output, assert_output, make_file};
 use sim_base::{Items, MemFile, MemFolder, Text};
 use std::alloc::{AllocError, Global};
 use std::process::Abort;

@@ -1,9 +1,10 @@
 //! Systems of built-in machines and of scripts, whose texts are worked out by hand.
-use crate::run::run_words;
-use crate::tests::{
+use crate::answers::{
     Answer, DIED, ENTERED, EXITED, FREED, NOT_SET, NOT_STEPPED, READ, SET, STARTED, STEPPED,
-    TERMINATED, Wanted, assert_run, kinds_of, make_file, split_words,
+    TERMINATED, kinds_of,
 };
+use crate::memory_runs::{Wanted, assert_run, make_file, split_words};
+use crate::run::run_words;
 use bench_fmus::{Bench, Scripts};
 use fmi_calls::{BadStatus, Kind, Reply};
 use sim_base::{Items, MemFile, MemFolder, MemSink};

@@ -1,6 +1,6 @@
 //! The check of a trace: the order of what is read, the verdict, and each status.
+use crate::memory_runs::{Wanted, assert_run, make_file};
 use crate::system_tests::{Structure, make_files};
-use crate::tests::{Wanted, assert_run, make_file};
 use bench_fmus::Bench;
 use sim_base::MemFolder;
 use std::alloc::{AllocError, Global};

@@ -1,13 +1,11 @@
 -- The elements of a document stand in it side by side: all their values together, and a byte for each element, are no more bytes than the document has.
-use Rattle.std.proofs.Common.{◌≡◌, ℕ, ◌+◌, ◌≤◌, Bool, true, false, if◌then◌else◌, ◌==◌, ◌&&◌, List, [], ◌∷◌, ◌++◌, length, map, Option, Some, None, inl, inr, sym, ap, ◌∙◌, subst, arith, length-append, sum_by}
-use Rattle.std.proofs.lemmas.Str.{length-encode, len_utf8_bounds, encodes-append, length-le-encodes}
+use Rattle.std.proofs.Common.{ℕ, ◌+◌, ◌≤◌, Bool, true, false, List, [], ◌∷◌, ◌++◌, length, map, Option, Some, None, inl, inr, sym, ap, subst, arith, sum_by}
 use Rattle.std.proofs.lemmas.List.Sums.{sum_by-cons, sum_by-append}
 use Rattle.std.specs.Str.{encode_utf8_all}
-use Rattle.std.specs.Char.{encode_utf8, len_utf8}
-use Rattle.doc_grammar.specs.Characters.{is_blank}
-use Rattle.doc_grammar.specs.Grammar.{strict, quote_char, Part, version, encoding, standalone, word, Setting, print_setting, print_maybe, Declaration, print_declaration, Reference, named, numbered, lt, gt, amp, apos, quot, base_mark, print_reference, code_of, Piece, raw, ref, print_value, raw_value, value_of, Attr, print_attr, print_attrs, attr_of, Pair, Tag, print_tag, Content, done, char, reference, comment, instruction, section, empty, element, print, Event, events, Body, Unmarked, Document}
+use Rattle.doc_grammar.specs.Grammar.{strict, quote_char, Piece, print_value, value_of, Attr, print_attr, print_attrs, attr_of, Pair, Tag, print_tag, Content, done, char, reference, comment, instruction, section, empty, element, print, Event, events, Body, Unmarked, Document}
 use Rattle.doc_grammar.specs.Nodes.{is_kept, kept_if, kept, Node, nodes_of, Denotes, tag_node, count, nodes_under}
 use Rattle.doc_grammar.specs.Laws.{Ordered}
+use Rattle.doc_grammar.proofs.Sizes.{size, size_cons, Takes, past_char, past, past_reference, value_size, past_end, past_comment, past_instruction, past_section, past_declaration}
 
 -- how many bytes the values of a tag's attributes have
 abbrev pub value_bytes : List Pair → ℕ
@@ -17,76 +15,7 @@ value_bytes ps = sum_by (λ (p : Pair). length p.1) ps
 abbrev pub weight : Node → ℕ
 weight n = 1 + value_bytes n.attrs
 
--- ---- texts
-
--- how many bytes a text has in UTF-8
-abbrev size : List ℕ → ℕ
-size text = length (encode_utf8_all text)
-
-size_cons : (c : ℕ) (text : List ℕ) → size (c ∷ text) ≡ len_utf8 c + size text
-size_cons c text =
-    length-append (encode_utf8 c) (encode_utf8_all text) ∙ ap (λ n. n + size text) (length-encode c)
-
-size_append : (a b : List ℕ) → size (a ++ b) ≡ size a + size b
-size_append a b = ap length (encodes-append a b) ∙ length-append (encode_utf8_all a) (encode_utf8_all b)
-
--- a text of at least so many bytes
-record Takes (n : ℕ) (text : List ℕ) : Type 0 where
-  bytes : n ≤ size text
-
-past_char : (c : ℕ) {n : ℕ} {text : List ℕ} → Takes n text → Takes n (c ∷ text)
-past_char c {n} {text} h = record { bytes = omega (arith, size_cons c text, h.bytes) }
-
-past : (x : List ℕ) {n : ℕ} {text : List ℕ} → Takes n text → Takes n (x ++ text)
-past x {n} {text} h = record { bytes = omega (arith, size_append x text, h.bytes) }
-
 -- ---- references and values
-
--- each character has a byte
-at_least : (x text : List ℕ) → length x + size text ≤ size (x ++ text)
-at_least x text = omega (arith, size_append x text, length-le-encodes x)
-
--- a reference has at least the four bytes that a character may have
-four_bytes : (r : Reference) (text : List ℕ) → 4 + size text ≤ size (38 ∷ print_reference r text)
-four_bytes (named lt) text = at_least (38 ∷ 108 ∷ 116 ∷ 59 ∷ []) text
-four_bytes (named gt) text = at_least (38 ∷ 103 ∷ 116 ∷ 59 ∷ []) text
-four_bytes (named amp) text =
-    let h = at_least (38 ∷ 97 ∷ 109 ∷ 112 ∷ 59 ∷ []) text in
-    omega (arith, h)
-four_bytes (named apos) text =
-    let h = at_least (38 ∷ 97 ∷ 112 ∷ 111 ∷ 115 ∷ 59 ∷ []) text in
-    omega (arith, h)
-four_bytes (named quot) text =
-    let h = at_least (38 ∷ 113 ∷ 117 ∷ 111 ∷ 116 ∷ 59 ∷ []) text in
-    omega (arith, h)
-four_bytes (numbered base c digits) text =
-    let behind = c ∷ (digits ++ 59 ∷ text) in
-    let marked = at_least (38 ∷ 35 ∷ []) (base_mark base ++ behind) in
-    let unmarked = size_append (base_mark base) behind in
-    let one = at_least (c ∷ []) (digits ++ 59 ∷ text) in
-    let many = size_append digits (59 ∷ text) in
-    let last = at_least (59 ∷ []) text in
-    omega (arith, marked, unmarked, one, many, last)
-
-past_reference : (r : Reference) {n : ℕ} {text : List ℕ} → Takes n text → Takes n (38 ∷ print_reference r text)
-past_reference r {n} {text} h = record { bytes = omega (arith, four_bytes r text, h.bytes) }
-
-raw_cases : (joined blank : Bool) (c : ℕ) → size (if joined then [] else (if blank then 32 else c) ∷ []) ≤ len_utf8 c
-raw_cases true blank c = omega arith
-raw_cases false true c = omega (arith, size_cons 32 [], (len_utf8_bounds c).0)
-raw_cases false false c = omega (arith, size_cons c [])
-
-raw_size : (behind_return : Bool) (c : ℕ) → size (raw_value behind_return c) ≤ len_utf8 c
-raw_size behind_return c = raw_cases (behind_return && (c == 10)) (is_blank c) c
-
-value_size : (behind_return : Bool) (ps : List Piece) (text : List ℕ) → size (value_of behind_return ps) + size text ≤ size (print_value ps text)
-value_size behind_return [] text = omega arith
-value_size behind_return (raw c ∷ ps) text =
-    let rest = value_size (c == 13) ps text in
-    omega (arith, rest, size_append (raw_value behind_return c) (value_of (c == 13) ps), raw_size behind_return c, size_cons c (print_value ps text))
-value_size behind_return (ref r ∷ ps) text =
-    let rest = value_size false ps text in
-    omega (arith, rest, size_cons (code_of r) (value_of false ps), (len_utf8_bounds (code_of r)).1, four_bytes r (print_value ps text))
 
 value_takes : (ps : List Piece) {n : ℕ} {text : List ℕ} → Takes n text → Takes (size (value_of false ps) + n) (print_value ps text)
 value_takes ps {n} {text} h = record { bytes = omega (arith, value_size false ps text, h.bytes) }
@@ -117,18 +46,6 @@ tag_takes t parent {n} {text} h =
 
 -- ---- content
 
-past_end : (t : Tag) (gap : List ℕ) {n : ℕ} {text : List ℕ} → Takes n text → Takes n (60 ∷ 47 ∷ (t.name ++ (gap ++ 62 ∷ text)))
-past_end t gap h = past_char 60 (past_char 47 (past t.name (past gap (past_char 62 h))))
-
-past_comment : (t : List ℕ) {n : ℕ} {text : List ℕ} → Takes n text → Takes n (60 ∷ 33 ∷ 45 ∷ 45 ∷ (t ++ 45 ∷ 45 ∷ 62 ∷ text))
-past_comment t h = past (60 ∷ 33 ∷ 45 ∷ 45 ∷ []) (past t (past (45 ∷ 45 ∷ 62 ∷ []) h))
-
-past_instruction : (target t : List ℕ) {n : ℕ} {text : List ℕ} → Takes n text → Takes n (60 ∷ 63 ∷ (target ++ (t ++ 63 ∷ 62 ∷ text)))
-past_instruction target t h = past (60 ∷ 63 ∷ []) (past target (past t (past (63 ∷ 62 ∷ []) h)))
-
-past_section : (t : List ℕ) {n : ℕ} {text : List ℕ} → Takes n text → Takes n (60 ∷ 33 ∷ 91 ∷ 67 ∷ 68 ∷ 65 ∷ 84 ∷ 65 ∷ 91 ∷ (t ++ 93 ∷ 93 ∷ 62 ∷ text))
-past_section t h = past (60 ∷ 33 ∷ 91 ∷ 67 ∷ 68 ∷ 65 ∷ 84 ∷ 65 ∷ 91 ∷ []) (past t (past (93 ∷ 93 ∷ 62 ∷ []) h))
-
 content_takes : (c : Content) (parent : Option ℕ) (k : ℕ) {n : ℕ} {text : List ℕ} → Takes n text → Takes (sum_by weight (nodes_under c parent k) + n) (print c text)
 content_takes done parent k h = record { bytes = omega (arith, h.bytes) }
 content_takes (char b c) parent k h = past_char b (content_takes c parent k h)
@@ -150,18 +67,6 @@ content_takes (element t kids gap c) parent k h =
     record { bytes = omega (arith, tag.bytes, nodes, both) }
 
 -- ---- documents
-
-past_setting : (part : Part) (s : Setting) {n : ℕ} {text : List ℕ} → Takes n text → Takes n (print_setting part s text)
-past_setting part s h =
-    past_char s.first (past s.before (past (word part) (past s.left (past_char 61 (past s.right (past_char (quote_char s.quote) (past s.value (past_char (quote_char s.quote) h))))))))
-
-past_maybe : (part : Part) (s : Option Setting) {n : ℕ} {text : List ℕ} → Takes n text → Takes n (print_maybe part s text)
-past_maybe part None h = h
-past_maybe part (Some s) h = past_setting part s h
-
-past_declaration : (d : Declaration) {n : ℕ} {text : List ℕ} → Takes n text → Takes n (print_declaration d text)
-past_declaration d h =
-    past (60 ∷ 63 ∷ 120 ∷ 109 ∷ 108 ∷ []) (past_setting version d.version (past_maybe encoding d.encoding (past_maybe standalone d.standalone (past d.gap (past (63 ∷ 62 ∷ []) h)))))
 
 abbrev TakesAll : List Event → List ℕ → Type 0
 TakesAll tree text = Takes (sum_by weight (nodes_of tree)) text

@@ -1,8 +1,9 @@
+//! Commands over one FMU: what each gives, with reads, starts, calls and puts that fail, the host that is started, and the types.
+use crate::memory_runs::{Wanted, assert_run, describe_counter, make_file, split_words};
 use crate::run::run_words;
-use bench_fmus::{Bench, Script, Scripts};
-use fmi_calls::{BadStatus, Content, Kind, Reply};
-use fmu_peer::{PeerFault, Spawner};
-use sim_base::{Items, MemFile, MemFolder, MemSink, Text};
+use bench_fmus::Bench;
+use fmu_peer::Spawner;
+use sim_base::{MemFolder, MemSink};
 use std::alloc::{AllocError, Global};
 use std::process::Abort;
 use std::test::Fail;
@@ -10,16 +11,9 @@ use std::thread::Threads;
 
 const WORDS: &str = "one|d|--resolution|1000|--step|10|--stop|20";
 
-// What stands before and behind the counter's variables in its description.
-const BEFORE: &str =
-    r#"<fmiModelDescription fmiVersion="3.0" modelName="counter" instantiationToken="{c}"><CoSimulation modelIdentifier="counter" canGetAndSetFMUState="true" canHandleVariableCommunicationStepSize="true"/><ModelVariables>"#;
-
-const BEHIND: &str =
-    r#"</ModelVariables><ModelStructure><Output valueReference="2" dependencies=""/></ModelStructure></fmiModelDescription>"#;
-
 // What stands at `d/modelDescription.xml`.
 #[derive(Clone, Copy)]
-enum File {
+pub(crate) enum File {
     None,
     // the counter's description with this type and this start value
     Counter(&'static str, &'static str),
@@ -28,20 +22,20 @@ enum File {
 
 // A command with what is to fail, by numbers from 0, and what it is to give.
 #[derive(Clone, Copy)]
-struct Case {
-    words: &'static str,
-    file: File,
-    room: Option<usize>,
-    reads: &'static [u64],
-    starts: &'static [u64],
-    outs: &'static [u64],
-    errs: &'static [u64],
-    status: u8,
-    out: &'static str,
-    err: &'static str,
+pub(crate) struct Case {
+    pub words: &'static str,
+    pub file: File,
+    pub room: Option<usize>,
+    pub reads: &'static [u64],
+    pub starts: &'static [u64],
+    pub outs: &'static [u64],
+    pub errs: &'static [u64],
+    pub status: u8,
+    pub out: &'static str,
+    pub err: &'static str,
 }
 
-const WORKED: Case = Case {
+pub(crate) const WORKED: Case = Case {
     words: WORDS,
     file: File::Counter("Int32", "2"),
     room: None,
@@ -272,311 +266,6 @@ static CASES: [Case; 33] = [
     },
 ];
 
-macro_rules! done {
-    ($content:expr) => {
-        Ok(Reply::Done {
-            is_warning: false,
-            content: $content,
-        })
-    };
-}
-
-pub(crate) type Answer = Result<Reply, PeerFault>;
-
-pub(crate) const STARTED: Answer = done!(Content::Instantiate);
-
-pub(crate) const ENTERED: Answer = done!(Content::EnterInitialization);
-
-pub(crate) const EXITED: Answer = done!(Content::ExitInitialization);
-
-pub(crate) const READ: Answer = done!(Content::Get { word: 0 });
-
-// The greatest Int32 and one more.
-const MISREAD: Answer = done!(Content::Get {
-    word: 2_147_483_648
-});
-
-pub(crate) const SET: Answer = done!(Content::Set);
-
-// A step to 10.
-pub(crate) const STEPPED: Answer = done!(Content::DoStep {
-    event_needed: false,
-    terminate: false,
-    early: false,
-    end: 10,
-});
-
-pub(crate) const FREED: Answer = done!(Content::FreeInstance);
-
-pub(crate) const TERMINATED: Answer = done!(Content::Terminate);
-
-const ASKED: Answer = done!(Content::DoStep {
-    event_needed: false,
-    terminate: true,
-    early: false,
-    end: 10,
-});
-
-pub(crate) const NOT_STEPPED: Answer = Ok(Reply::Refused {
-    kind: Kind::DoStep,
-    status: BadStatus::Error,
-});
-
-pub(crate) const NOT_SET: Answer = Ok(Reply::Refused {
-    kind: Kind::Set,
-    status: BadStatus::Discard,
-});
-
-const NOT_STARTED: Answer = Ok(Reply::Refused {
-    kind: Kind::Instantiate,
-    status: BadStatus::Discard,
-});
-
-pub(crate) const OTHER_KIND: Answer = Ok(Reply::Refused {
-    kind: Kind::FreeInstance,
-    status: BadStatus::Fatal,
-});
-
-const EARLY: Answer = done!(Content::DoStep {
-    event_needed: false,
-    terminate: false,
-    early: true,
-    end: 0,
-});
-
-// An end whose bytes all differ, with each flag.
-const BEYOND: Answer = Ok(Reply::Done {
-    is_warning: true,
-    content: Content::DoStep {
-        event_needed: true,
-        terminate: true,
-        early: true,
-        end: 0x0123_4567_89ab_cdef,
-    },
-});
-
-const DISCARDED: Answer = Ok(Reply::Refused {
-    kind: Kind::DoStep,
-    status: BadStatus::Discard,
-});
-
-pub(crate) const DIED: Answer = Ok(Reply::Refused {
-    kind: Kind::DoStep,
-    status: BadStatus::Fatal,
-});
-
-const NOT_TERMINATED: Answer = Ok(Reply::Refused {
-    kind: Kind::Terminate,
-    status: BadStatus::Discard,
-});
-
-// The answers of a peer and the puts on out that fail, the calls that it gets, and what the worked command is to give.
-struct ScriptCase {
-    answers: &'static [Answer],
-    outs: &'static [u64],
-    calls: &'static [Kind],
-    status: u8,
-    out: &'static str,
-    err: &'static str,
-}
-
-const HEAD: &str = "trace 1 1000 0 20\nport 0 Int32 fmu y\n";
-
-const FIRST: &str = "trace 1 1000 0 20\nport 0 Int32 fmu y\nat 0 0\n0 0\n";
-
-const EARLY_FAULT: &str = "trace 1 1000 0 20\nport 0 Int32 fmu y\nend fault 0\n";
-
-const FIRST_FAULT: &str = "trace 1 1000 0 20\nport 0 Int32 fmu y\nat 0 0\n0 0\nend fault 0\n";
-
-// Up to the first step.
-const TO_STEP: &[Kind] = &[
-    Kind::Instantiate,
-    Kind::EnterInitialization,
-    Kind::ExitInitialization,
-    Kind::Get,
-    Kind::DoStep,
-];
-
-const TO_STEP_AND_FREE: &[Kind] = &[
-    Kind::Instantiate,
-    Kind::EnterInitialization,
-    Kind::ExitInitialization,
-    Kind::Get,
-    Kind::DoStep,
-    Kind::FreeInstance,
-];
-
-const TO_STEP_AND_CLOSE: &[Kind] = &[
-    Kind::Instantiate,
-    Kind::EnterInitialization,
-    Kind::ExitInitialization,
-    Kind::Get,
-    Kind::DoStep,
-    Kind::Terminate,
-    Kind::FreeInstance,
-];
-
-static SCRIPTS: [ScriptCase; 14] = [
-    ScriptCase {
-        answers: &[STARTED, ENTERED, EXITED, READ, DISCARDED, TERMINATED, FREED],
-        outs: &[],
-        calls: TO_STEP_AND_CLOSE,
-        status: 6,
-        out: FIRST_FAULT,
-        err: "fmu fmu DoStep Discard\n",
-    },
-    ScriptCase {
-        answers: &[STARTED, ENTERED, EXITED, READ, NOT_STEPPED, FREED],
-        outs: &[],
-        calls: TO_STEP_AND_FREE,
-        status: 6,
-        out: FIRST_FAULT,
-        err: "fmu fmu DoStep Error\n",
-    },
-    ScriptCase {
-        answers: &[STARTED, ENTERED, EXITED, READ, DIED],
-        outs: &[],
-        calls: TO_STEP,
-        status: 6,
-        out: FIRST_FAULT,
-        err: "fmu fmu DoStep Fatal\n",
-    },
-    ScriptCase {
-        answers: &[STARTED, ENTERED, EXITED, READ, EARLY, FREED],
-        outs: &[],
-        calls: TO_STEP_AND_FREE,
-        status: 7,
-        out: FIRST_FAULT,
-        err: "misreply fmu DoStep 060004000000000000000000000000000000000000000000\n",
-    },
-    ScriptCase {
-        answers: &[STARTED, ENTERED, EXITED, READ, Err(PeerFault::Failed)],
-        outs: &[],
-        calls: TO_STEP,
-        status: 5,
-        out: FIRST_FAULT,
-        err: "link fmu DoStep\n",
-    },
-    ScriptCase {
-        answers: &[NOT_STARTED],
-        outs: &[],
-        calls: &[Kind::Instantiate],
-        status: 6,
-        out: "",
-        err: "fmu fmu Instantiate Discard\n",
-    },
-    // The put of the first instant fails.
-    ScriptCase {
-        answers: &[STARTED, ENTERED, EXITED, READ, TERMINATED, FREED],
-        outs: &[1],
-        calls: &[
-            Kind::Instantiate,
-            Kind::EnterInitialization,
-            Kind::ExitInitialization,
-            Kind::Get,
-            Kind::Terminate,
-            Kind::FreeInstance,
-        ],
-        status: 10,
-        out: HEAD,
-        err: "write\n",
-    },
-    // The put of the end line fails.
-    ScriptCase {
-        answers: &[STARTED, ENTERED, EXITED, READ, NOT_STEPPED, FREED],
-        outs: &[2],
-        calls: TO_STEP_AND_FREE,
-        status: 10,
-        out: FIRST,
-        err: "write\n",
-    },
-    ScriptCase {
-        answers: &[STARTED, ENTERED, EXITED, READ, BEYOND, FREED],
-        outs: &[],
-        calls: TO_STEP_AND_FREE,
-        status: 7,
-        out: FIRST_FAULT,
-        err: "misreply fmu DoStep 06010700000000000123456789abcdef0000000000000000\n",
-    },
-    ScriptCase {
-        answers: &[STARTED, ENTERED, EXITED, MISREAD, FREED],
-        outs: &[],
-        calls: &[
-            Kind::Instantiate,
-            Kind::EnterInitialization,
-            Kind::ExitInitialization,
-            Kind::Get,
-            Kind::FreeInstance,
-        ],
-        status: 7,
-        out: EARLY_FAULT,
-        err: "misreply fmu Get 080000000000000000000000800000000000000000000000\n",
-    },
-    ScriptCase {
-        answers: &[STARTED, OTHER_KIND, FREED],
-        outs: &[],
-        calls: &[
-            Kind::Instantiate,
-            Kind::EnterInitialization,
-            Kind::FreeInstance,
-        ],
-        status: 7,
-        out: EARLY_FAULT,
-        err: "misreply fmu EnterInitialization 120400000000000000000000000000000000000000000000\n",
-    },
-    ScriptCase {
-        answers: &[],
-        outs: &[],
-        calls: &[Kind::Instantiate],
-        status: 5,
-        out: "",
-        err: "link fmu Instantiate\n",
-    },
-    // The peer asks for the end.
-    ScriptCase {
-        answers: &[STARTED, ENTERED, EXITED, READ, ASKED, TERMINATED, FREED],
-        outs: &[],
-        calls: TO_STEP_AND_CLOSE,
-        status: 0,
-        out: "trace 1 1000 0 20\nport 0 Int32 fmu y\nat 0 0\n0 0\nend asked 10\n",
-        err: "",
-    },
-    // A bad answer in closing changes nothing.
-    ScriptCase {
-        answers: &[STARTED, ENTERED, EXITED, READ, ASKED, NOT_TERMINATED, FREED],
-        outs: &[],
-        calls: TO_STEP_AND_CLOSE,
-        status: 0,
-        out: "trace 1 1000 0 20\nport 0 Int32 fmu y\nat 0 0\n0 0\nend asked 10\n",
-        err: "",
-    },
-];
-
-pub(crate) fn split_words(alloc: Global, line: &str) -> Result<Vec<String>, AllocError> {
-    let mut words = Vec::new(alloc);
-    for word in line.split('|') {
-        words.push(String::from_str(alloc, word)?)?;
-    }
-    Ok(words)
-}
-
-pub(crate) fn describe_counter(
-    alloc: Global,
-    kind: &str,
-    start: &str,
-) -> Result<String, AllocError> {
-    format!(in alloc;
-        "{BEFORE}<{kind} name=\"inc\" valueReference=\"1\" causality=\"parameter\" variability=\"fixed\" start=\"{start}\"/><{kind} name=\"y\" valueReference=\"2\" causality=\"output\" variability=\"discrete\"/>{BEHIND}"
-    )
-}
-
-pub(crate) fn make_file(alloc: Global, path: &str, text: &str) -> Result<MemFile, AllocError> {
-    Ok(MemFile {
-        path: Text::from_str(alloc, path)?,
-        bytes: Items::from_vec(text.as_bytes().to_vec(alloc)?),
-    })
-}
-
 fn make_folder(alloc: Global, file: &File, reads: &[u64]) -> Result<MemFolder, AllocError> {
     let mut files = Vec::new(alloc);
     let text = match file {
@@ -599,75 +288,8 @@ fn make_bench(rt: &impl Abort, alloc: Global, case: &Case) -> Result<Bench, Allo
     Ok(Bench::new(alloc, Some(room), failing))
 }
 
-// A command with the puts that are to fail, by numbers from 0, and what it is to give.
-#[derive(Clone, Copy)]
-pub(crate) struct Wanted<'a> {
-    pub words: &'a str,
-    pub outs: &'a [u64],
-    pub errs: &'a [u64],
-    pub status: u8,
-    pub out: &'a str,
-    pub err: &'a str,
-}
-
-// Runs a command over a folder with a spawner, and compares all that it gives.
-pub(crate) fn assert_run<R: Abort + Threads + Sync, S: Spawner>(
-    rt: &R,
-    alloc: Global,
-    wanted: &Wanted<'_>,
-    folder: &mut MemFolder,
-    spawner: &mut S,
-) -> Result<(), AllocError> {
-    let words = split_words(alloc, wanted.words)?;
-    let mut out = MemSink::with_room(alloc, 10_000, 400, wanted.outs.to_vec(alloc)?)?;
-    let mut err = MemSink::with_room(alloc, 1_000, 1, wanted.errs.to_vec(alloc)?)?;
-    let status = run_words(rt, alloc, &words, folder, spawner, &mut out, &mut err);
-    assert_eq!(rt;
-        err.bytes.as_slice(),
-        wanted.err.as_bytes(),
-        "{}",
-        wanted.err
-    );
-    assert_eq!(rt;
-        out.bytes.as_slice(),
-        wanted.out.as_bytes(),
-        "{}",
-        wanted.out
-    );
-    assert_eq!(rt; status, wanted.status);
-    Ok(())
-}
-
-// What a command gives.
-#[derive(Clone, Copy)]
-pub(crate) struct Output<'a> {
-    pub status: u8,
-    pub out: &'a str,
-    pub err: &'a str,
-}
-
-// Runs a command over a folder with the built-in machines, where each put goes through, and compares all that it gives.
-pub(crate) fn assert_output<R: Abort + Threads + Sync>(
-    rt: &R,
-    alloc: Global,
-    folder: &mut MemFolder,
-    words: &str,
-    output: Output<'_>,
-) -> Result<(), AllocError> {
-    let mut bench = Bench::new(alloc, None, Vec::new(alloc));
-    let wanted = Wanted {
-        words,
-        outs: &[],
-        errs: &[],
-        status: output.status,
-        out: output.out,
-        err: output.err,
-    };
-    assert_run(rt, alloc, &wanted, folder, &mut bench)
-}
-
 // Runs the command of a case with a spawner.
-fn assert_case<R: Abort + Threads + Sync, S: Spawner>(
+pub(crate) fn assert_case<R: Abort + Threads + Sync, S: Spawner>(
     rt: &R,
     alloc: Global,
     case: &Case,
@@ -763,40 +385,6 @@ fn a_counter_wraps_in_its_type(rt: HostRuntime) -> Result<(), Fail> {
         );
         assert_eq!(rt; status, 0);
         assert_eq!(rt; out.bytes.as_slice(), expected.as_bytes());
-    }
-    Ok(())
-}
-
-// The kinds of the calls that a peer got.
-pub(crate) fn kinds_of(alloc: Global, script: &Script) -> Result<Vec<Kind>, AllocError> {
-    let mut kinds = Vec::new(alloc);
-    if let Some(talk) = script.talk() {
-        for exchange in talk {
-            kinds.push(exchange.call.kind())?;
-        }
-    }
-    Ok(kinds)
-}
-
-#[test]
-fn a_bad_answer_gives_its_line(rt: HostRuntime) -> Result<(), Fail> {
-    let alloc = rt.alloc();
-    for row in &SCRIPTS {
-        let answers = Items::from_vec(row.answers.to_vec(alloc)?);
-        let mut scripts = Scripts::new(alloc, vec![in alloc; answers]?, Vec::new(alloc));
-        let case = Case {
-            outs: row.outs,
-            status: row.status,
-            out: row.out,
-            err: row.err,
-            ..WORKED
-        };
-        assert_case(&rt, alloc, &case, &mut scripts)?;
-        assert_eq!(rt; scripts.retired_peers().len(), 1);
-        for script in scripts.retired_peers() {
-            let kinds = kinds_of(alloc, script)?;
-            assert_eq!(rt; kinds.as_slice(), row.calls, "{}", row.err);
-        }
     }
     Ok(())
 }
