@@ -1,8 +1,7 @@
 -- Tables of the first elements, one element after another, and elements past the end, which have no key.
-use Rattle.std.proofs.Common.{◌≡◌, ◌⊎◌, ℕ, ◌+◌, ◌<◌, Bool, true, false, ◌&&◌, ◌||◌, cond, List, length, Option, Some, None, refl, sym, ap, ◌∙◌, subst, inl, inr, arith, below_more}
+use Rattle.std.proofs.Common.{◌≡◌, ◌⊎◌, ℕ, ◌+◌, ◌<◌, Bool, true, false, ◌&&◌, ◌||◌, List, length, Option, Some, None, refl, sym, ap, ◌∙◌, subst, inl, inr, arith, below_more}
 use Rattle.std.specs.List.{slice_get}
-use Rattle.std.specs.Map.{update}
-use Rattle.std.specs.Option.{is_some, option_and_then, option_map_or}
+use Rattle.std.specs.Option.{is_some, option_and_then, option_map_or, unwrap_or}
 use Rattle.std.specs.Str.{bytes_eq}
 use Rattle.std.proofs.lemmas.Slice.Eq.{bytes_eq-Decides}
 use Rattle.std.proofs.lemmas.Option.{slice_get_within}
@@ -42,6 +41,33 @@ table_put {A} key n old new y is free each table = λ x. at x (each x)
         subst (FindsBelow key (n + 1) x) (sym other.1) (finds_more key n x (old x) (table x) (λ _ some.
         let same : x ≡ y = cc in
         other.0 same))
+
+-- it is put in, unless an element before it has its key
+pub table_entry : {A : Type 0} (key : ℕ → Option A) (n : ℕ) (old new : A → Option ℕ) (y : A) → key n ≡ Some y → new y ≡ Some (unwrap_or (old y) n)
+    → ((x : A) → (x ≡ y) ⊎ ((x ≡ y → ⊥) × (new x ≡ old x))) → IsTableBelow key n old → IsTableBelow key (n + 1) new
+table_entry {A} key n old new y is here each table = by (old y) refl
+  where
+    by : (o : Option ℕ) → old y ≡ o → IsTableBelow key (n + 1) new
+    by None free = table_put key n old new y is free (λ x. elim (each x) [
+      | inl same ↦ inl (same, ap new same ∙ here ∙ ap (λ o. Some (unwrap_or o n)) free)
+      | inr other ↦ inr other
+    ]) table
+    by (Some k) held = λ x. subst (FindsBelow key (n + 1) x) (sym (kept x (each x))) (table_held key n old y k is held table x)
+      where
+        kept : (x : A) → (x ≡ y) ⊎ ((x ≡ y → ⊥) × (new x ≡ old x)) → new x ≡ old x
+        kept x (inl same) = ap new same ∙ here ∙ ap (λ o. Some (unwrap_or o n)) held ∙ sym held ∙ ap old (sym same)
+        kept x (inr other) = other.1
+
+-- it is put in, and the element before it that has its key is put back
+pub table_back : {A : Type 0} (key : ℕ → Option A) (n k : ℕ) (old put back : A → Option ℕ) (y : A) → key n ≡ Some y → old y ≡ Some k
+    → ((x : A) → ((x ≡ y) × (put x ≡ Some n)) ⊎ ((x ≡ y → ⊥) × (put x ≡ old x))) → ((x : A) → ((x ≡ y) × (back x ≡ Some k)) ⊎ ((x ≡ y → ⊥) × (back x ≡ put x)))
+    → IsTableBelow key n old → IsTableBelow key (n + 1) back
+table_back {A} key n k old put back y is held each again table = λ x. subst (FindsBelow key (n + 1) x) (sym (same x (each x) (again x))) (table_held key n old y k is held table x)
+  where
+    same : (x : A) → ((x ≡ y) × (put x ≡ Some n)) ⊎ ((x ≡ y → ⊥) × (put x ≡ old x)) → ((x ≡ y) × (back x ≡ Some k)) ⊎ ((x ≡ y → ⊥) × (back x ≡ put x)) → back x ≡ old x
+    same x first (inl there) = there.1 ∙ sym held ∙ ap old (sym there.0)
+    same x (inl here) (inr other) = absurd (other.0 here.0)
+    same x (inr kept) (inr other) = other.1 ∙ kept.1
 
 -- nothing is found as long as no element is looked at
 pub table_empty : {A : Type 0} (key : ℕ → Option A) (found : A → Option ℕ) → ((x : A) → found x ≡ None) → IsTableBelow key 0 found
@@ -83,13 +109,13 @@ key_if_true false o x h = cc
 
 -- ---- a table by texts
 
-pub name_each : (y : List ℕ) (n : ℕ) (old new : List ℕ → Option ℕ) → ((x : List ℕ) → new x ≡ update bytes_eq old y (Some n) x)
-    → (x : List ℕ) → ((x ≡ y) × (new x ≡ Some n)) ⊎ ((x ≡ y → ⊥) × (new x ≡ old x))
-name_each y n old new each x = at (bytes_eq y x) refl
+-- each name but one is found as before
+pub name_kept : (y : List ℕ) (was now : List ℕ → Option ℕ) → ((x : List ℕ) → bytes_eq y x ≡ false → now x ≡ was x) → (x : List ℕ) → (x ≡ y) ⊎ ((x ≡ y → ⊥) × (now x ≡ was x))
+name_kept y was now each x = at (bytes_eq y x) refl
   where
-    at : (b : Bool) → bytes_eq y x ≡ b → ((x ≡ y) × (new x ≡ Some n)) ⊎ ((x ≡ y → ⊥) × (new x ≡ old x))
-    at true e = inl (sym ((bytes_eq-Decides y x).0 e), each x ∙ ap (λ z. cond z (Some n) (old x)) e)
-    at false e = inr (λ same. let is : bytes_eq y x ≡ true = (bytes_eq-Decides y x).1 (sym same) in cc, each x ∙ ap (λ z. cond z (Some n) (old x)) e)
+    at : (b : Bool) → bytes_eq y x ≡ b → (x ≡ y) ⊎ ((x ≡ y → ⊥) × (now x ≡ was x))
+    at true e = inl (sym ((bytes_eq-Decides y x).0 e))
+    at false e = inr (λ same. let is : bytes_eq y x ≡ true = (bytes_eq-Decides y x).1 (sym same) in cc, each x e)
 
 pub free_from : {A : Type 0} (o : Option A) (b : Bool) → b ≡ is_some o → b ≡ false → o ≡ None
 free_from None b e f = refl

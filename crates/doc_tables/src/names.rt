@@ -31,9 +31,7 @@ impl<'a> NamePlaces<'a> {
         let Some(name) = name else {
             return Ok(());
         };
-        if !self.first.contains_key(name) {
-            self.first.insert(name, node)?;
-        }
+        self.first.entry(name)?.or_insert(node);
         Ok(())
     }
 

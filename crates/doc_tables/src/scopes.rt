@@ -31,8 +31,9 @@ impl<'a> ScopedPlaces<'a> {
         let Some((scope, name)) = key else {
             return Ok(());
         };
-        if !self.first.contains_key(&(scope, name)) {
-            self.first.insert((scope, name), node)?;
+        if let Some(first) = self.first.insert((scope, name), node)? {
+            // The first one stays.
+            self.first.insert((scope, name), first)?;
         }
         Ok(())
     }

@@ -1,108 +1,149 @@
 -- Names put in one after another, and the places to which they lead.
-use Rattle.std.proofs.Common.{◌≡◌, ◌⊎◌, ℕ, suc, ◌+◌, ◌<◌, ◌≤◌, ◌==◌, Bool, true, false, ◌||◌, not, cond, eqb, nat_lt, List, [], ◌∷◌, ◌++◌, length, take, get_or, Option, Some, None, refl, sym, ap, ◌∙◌, subst, inl, inr, arith, position}
+use Rattle.std.proofs.Common.{◌≡◌, ◌⊎◌, ℕ, zero, suc, ◌+◌, ◌<◌, ◌≤◌, ◌==◌, Bool, true, false, ◌||◌, not, cond, eqb, nat_lt, List, [], ◌∷◌, ◌++◌, length, take, replicate, set, get_or, Option, Some, None, refl, sym, ap, ◌∙◌, subst, inl, inr, arith, position}
 use Rattle.std.specs.List.{slice_get, list_any, position_or_len}
 use Rattle.std.specs.Str.{bytes_eq}
-use Rattle.std.specs.Option.{option_or, option_and_then}
-use Rattle.std.proofs.lemmas.Bool.{cases_lt, eq-eqb, eqb-true}
+use Rattle.std.specs.Option.{option_or, option_and_then, option_flatten}
+use Rattle.std.proofs.lemmas.Bool.{cases_eq, cases_lt, eq-eqb, eqb-true}
 use Rattle.std.proofs.lemmas.Bool.Decides.{nat_tests}
-use Rattle.std.proofs.lemmas.List.{length_push, length-take-le, take_more, take_all}
+use Rattle.std.proofs.lemmas.List.{length_push, length-replicate, length-set, length-take-le, take_more, take_all}
 use Rattle.std.proofs.lemmas.List.Folds.{list_any_more, position_or_len_push}
 use Rattle.std.proofs.lemmas.Option.{slice_get_within, slice_get_past, same_Some}
 use Rattle.std.proofs.lemmas.Slice.Eq.{bytes_eq-Decides}
 use Rattle.doc_tables.specs.Places.{found_in}
-use Rattle.doc_tables.specs.Tables.{FindsBelow, IsFirstWith, IsTableBelow}
-use Rattle.doc_tables.proofs.TableLemmas.{table_empty}
-use Rattle.ssd_tree.specs.declared.tree.Owner.TheVariants.{Component}
+use Rattle.doc_tables.specs.Tables.{Finds, IsTable}
+use Rattle.doc_tables.specs.declared.scopes.ScopedPlaces.{ScopedPlaces}
+use Rattle.doc_tables.proofs.TableLemmas.{IsWithin}
+use Rattle.ssd_tree.specs.declared.tree.Owner.{Owner}
+use Rattle.ssd_tree.specs.declared.tree.Owner.TheVariants.{System, Component}
+use Rattle.ssd_tree.specs.declared.tree.Connector.{Connector}
 use Rattle.value_types.specs.declared.shape.Variable.{Variable}
 use Rattle.value_types.specs.declared.shape.Shape.{Shape}
 use Rattle.flatten.specs.declared.names.VariableNames.{VariableNames}
-use Rattle.flatten.specs.Indexed.{LeadTo, place_for, place_in, place_if, with_places}
+use Rattle.flatten.specs.Indexed.{AreNames, LeadTo, place_by, place_for, place_if, wanted_at, wanted_by, with_places}
 use Rattle.flatten.specs.Points.{has_name}
+use Rattle.flatten.proofs.FeedLemmas.{set_here, set_other}
 use Rattle.flatten.proofs.PieceLemmas.{element_at, get_left, get_right}
+
+-- ---- the names that connectors give
+
+pub wanted_within : (connectors : List Connector) → IsWithin (wanted_at connectors) (length connectors)
+wanted_within connectors number key is = by (slice_get connectors number) refl is
+  where
+    by : (o : Option Connector) → slice_get connectors number ≡ o → option_and_then (λ (k : Connector). wanted_by k.owner k.name) o ≡ Some key → number < length connectors
+    by None e h = cc
+    by (Some k) e h = slice_get_within connectors number k e
+
+none_at : (n k : ℕ) → k < n → ◌≡◌ {A = Option (Option ℕ)} (slice_get (replicate n None) k) (Some None)
+none_at zero k less = absurd (omega arith)
+none_at (suc n) zero less = refl
+none_at (suc n) (suc k) less = none_at n k (omega arith)
 
 -- ---- one name more
 
-module _ (keys : List (ℕ × List ℕ)) (component : ℕ) (name : List ℕ) where
-  abbrev more : List (ℕ × List ℕ)
-  more = keys ++ (component, name) ∷ []
+abbrev IsKey : ℕ → List ℕ → ℕ → List ℕ → Type 0
+IsKey component name other wanted = ◌≡◌ {A = ℕ × List ℕ} (component, name) (other, wanted)
 
-  kept : (k : ℕ) → k < length keys → slice_get more k ≡ slice_get keys k
-  kept k less = let x = element_at keys k less in get_left keys ((component, name) ∷ []) k x.0 x.1 ∙ sym x.1
-
-  last : slice_get more (length keys) ≡ Some (component, name)
-  last = ap (slice_get more) (omega arith) ∙ get_right keys ((component, name) ∷ []) 0
-
-  finds_kept : (x : ℕ × List ℕ) (o : Option ℕ) → FindsBelow (slice_get keys) (length keys) x o → FindsBelow (slice_get more) (length keys) x o
-  finds_kept x None below = λ k less there. below k less (sym (kept k less) ∙ there)
-  finds_kept x (Some k) first =
-      let within = slice_get_within keys k x first.0 in
-      (kept k within ∙ first.0, λ j less there. first.1 j less (sym (kept j (omega arith)) ∙ there))
-
-  pub table_kept : (found : ℕ × List ℕ → Option ℕ) → IsTableBelow (slice_get keys) (length keys) found → IsTableBelow (slice_get more) (length keys) found
-  table_kept found table = λ x. finds_kept x (found x) (table x)
-
--- the first with a key is one
-one_first : {A : Type 0} (key : ℕ → Option A) (x : A) (i j : ℕ) → IsFirstWith key x i → IsFirstWith key x j → i ≡ j
-one_first key x i j a b = by (cases_lt i j) (cases_lt j i)
+split : (other component : ℕ) (wanted name : List ℕ) → (IsKey component name other wanted) ⊎ (IsKey component name other wanted → ⊥)
+split other component wanted name = by (cases_eq component other) (bytes_eq name wanted) refl
   where
-    by : (i < j) ⊎ (j ≤ i) → (j < i) ⊎ (i ≤ j) → i ≡ j
-    by (inl h) k = absurd (b.1 i h a.0)
-    by (inr h) (inl k) = absurd (a.1 j k b.0)
-    by (inr h) (inr k) = omega arith
+    by : (component ≡ other) ⊎ (component ≡ other → ⊥) → (b : Bool) → bytes_eq name wanted ≡ b → (IsKey component name other wanted) ⊎ (IsKey component name other wanted → ⊥)
+    by (inl same) true e = inl (ap (λ z. (z, name)) same ∙ ap (λ z. (other, z)) ((bytes_eq-Decides name wanted).0 e))
+    by (inl same) false e = inr (λ one. let alike : bytes_eq name wanted ≡ true = (bytes_eq-Decides name wanted).1 (ap (λ (z : ℕ × List ℕ). z.1) one) in cc)
+    by (inr apart) b e = inr (λ one. apart (ap (λ (z : ℕ × List ℕ). z.0) one))
 
-module _ (keys : List (ℕ × List ℕ)) (places : List ℕ) (component place : ℕ) (name : List ℕ) (len : length keys ≡ length places) where
-  -- what a name leads to before and after
-  put_at : (other : ℕ) (wanted : List ℕ) (was : Option ℕ) (o new : Option ℕ) → FindsBelow (slice_get keys) (length keys) (other, wanted) o → FindsBelow (slice_get (more keys component name)) (length keys + 1) (other, wanted) new
-      → option_and_then (slice_get places) o ≡ was → option_and_then (slice_get (places ++ place ∷ [])) new ≡ option_or was (cond (other == component) (place_if (bytes_eq name wanted) place) None)
-  put_at other wanted was (Some e) None first none told = absurd (none e (let w = slice_get_within keys e (other, wanted) first.0 in omega arith) (finds_kept keys component name (other, wanted) (Some e) first).0)
-  put_at other wanted was (Some e) (Some f) first again told =
-      let same : f ≡ e = one_first (slice_get (more keys component name)) (other, wanted) f e again (finds_kept keys component name (other, wanted) (Some e) first) in
-      let x = element_at places e (let w = slice_get_within keys e (other, wanted) first.0 in omega arith) in
-      let was_is : was ≡ Some x.0 = sym told ∙ x.1 in
-      ap (slice_get (places ++ place ∷ [])) same ∙ get_left places (place ∷ []) e x.0 x.1 ∙ ap (λ z. option_or z (cond (other == component) (place_if (bytes_eq name wanted) place) None)) (sym was_is)
-  put_at other wanted was None None none still told = by (other == component) refl (bytes_eq name wanted) refl ∙ ap (λ z. option_or z (cond (other == component) (place_if (bytes_eq name wanted) place) None)) told
-    where
-      by : (a : Bool) → (other == component) ≡ a → (b : Bool) → bytes_eq name wanted ≡ b → None ≡ cond (other == component) (place_if (bytes_eq name wanted) place) None
-      by false e b f = sym (ap (λ z. cond z (place_if (bytes_eq name wanted) place) None) e)
-      by true e false f = sym (ap (λ z. cond z (place_if (bytes_eq name wanted) place) None) e ∙ ap (λ z. place_if z place) f)
-      by true e true f =
-          let same : other ≡ component = eqb-true other component e in
-          let alike : name ≡ wanted = (bytes_eq-Decides name wanted).0 f in
-          absurd (still (length keys) (omega arith) (last keys component name ∙ ap (λ z. Some (z, name)) (sym same) ∙ ap (λ z. Some (other, z)) alike))
-  put_at other wanted was None (Some f) none first told = by (cases_lt f (length keys))
-    where
-      by : (f < length keys) ⊎ (length keys ≤ f) → option_and_then (slice_get (places ++ place ∷ [])) (Some f) ≡ option_or was (cond (other == component) (place_if (bytes_eq name wanted) place) None)
-      by (inl less) = absurd (none f less (sym (kept keys component name f less) ∙ first.0))
-      by (inr more_than) =
-          let within = slice_get_within (more keys component name) f (other, wanted) first.0 in
-          let pushed = length_push keys (component, name) in
-          let here : f ≡ length keys = omega (arith, within, pushed) in
-          let at_end : f ≡ length places + 0 = omega arith in
-          let there : slice_get (places ++ place ∷ []) f ≡ Some place = ap (slice_get (places ++ place ∷ [])) at_end ∙ get_right places (place ∷ []) 0 in
-          let one : (component, name) ≡ (other, wanted) = same_Some (component, name) (other, wanted) (sym (last keys component name) ∙ ap (slice_get (more keys component name)) (sym here) ∙ first.0) in
-          let same : (other == component) ≡ true = eq-eqb other component (sym (ap (λ (z : ℕ × List ℕ). z.0) one)) in
-          let alike : bytes_eq name wanted ≡ true = (bytes_eq-Decides name wanted).1 (ap (λ (z : ℕ × List ℕ). z.1) one) in
-          there ∙ sym (ap (λ z. option_or z (cond (other == component) (place_if (bytes_eq name wanted) place) None)) (sym told) ∙ ap (λ z. cond z (place_if (bytes_eq name wanted) place) None) same ∙ ap (λ z. place_if z place) alike)
+module _ (places : ℕ → List ℕ → Option ℕ) (component place : ℕ) (name : List ℕ) where
+  abbrev more : ℕ → List ℕ → Option ℕ
+  more = with_places places component (λ other. place_if (bytes_eq name other) place)
 
--- a name is put in with its place
-pub lead_put : (old new : VariableNames) (component place : ℕ) (name : List ℕ) (places : ℕ → List ℕ → Option ℕ) → new.places.items ≡ old.places.items ++ place ∷ []
-    → ((wanted : ℕ → Option (ℕ × List ℕ)) → Some (component, name) ≡ wanted (length old.places.items) → IsTableBelow wanted (length old.places.items) (found_in old.first) → IsTableBelow wanted (length old.places.items + 1) (found_in new.first))
-    → LeadTo places old → LeadTo (with_places places component (λ other. place_if (bytes_eq name other) place)) new
-lead_put old new component place name places pushed puts l =
-    let table = puts (slice_get (l.keys ++ (component, name) ∷ [])) (sym (last l.keys component name) ∙ ap (slice_get (l.keys ++ (component, name) ∷ [])) l.len) (subst (λ n. IsTableBelow (slice_get (l.keys ++ (component, name) ∷ [])) n (found_in old.first)) l.len (table_kept l.keys component name (found_in old.first) l.table)) in
-    let table_new : IsTableBelow (slice_get (l.keys ++ (component, name) ∷ [])) (length l.keys + 1) (found_in new.first) = subst (λ n. IsTableBelow (slice_get (l.keys ++ (component, name) ∷ [])) (n + 1) (found_in new.first)) (sym l.len) table in
-    record {
-      keys = l.keys ++ (component, name) ∷ [];
-      len = length_push l.keys (component, name) ∙ ap (λ n. n + 1) l.len ∙ sym (ap length pushed ∙ length_push old.places.items place);
-      table = subst (λ n. IsTableBelow (slice_get (l.keys ++ (component, name) ∷ [])) n (found_in new.first)) (sym (length_push l.keys (component, name))) table_new;
-      told = λ other wanted.
-          ap (λ xs. option_and_then (slice_get xs) (found_in new.first (other, wanted))) pushed
-          ∙ put_at l.keys old.places.items component place name l.len other wanted (places other wanted) (found_in old.first (other, wanted)) (found_in new.first (other, wanted)) (l.table (other, wanted)) (table_new (other, wanted)) (l.told other wanted);
-    }
+  -- the name itself
+  more_here : (other : ℕ) (wanted : List ℕ) → IsKey component name other wanted → more other wanted ≡ option_or (places other wanted) (Some place)
+  more_here other wanted one =
+      let same : (other == component) ≡ true = eq-eqb other component (sym (ap (λ (z : ℕ × List ℕ). z.0) one)) in
+      let alike : bytes_eq name wanted ≡ true = (bytes_eq-Decides name wanted).1 (ap (λ (z : ℕ × List ℕ). z.1) one) in
+      ap (λ z. option_or (places other wanted) (cond z (place_if (bytes_eq name wanted) place) None)) same ∙ ap (λ z. option_or (places other wanted) (place_if z place)) alike
+
+  -- every other name
+  more_other : (other : ℕ) (wanted : List ℕ) → (IsKey component name other wanted → ⊥) → more other wanted ≡ places other wanted
+  more_other other wanted apart = by (other == component) refl (bytes_eq name wanted) refl
+    where
+      none : (o : Option ℕ) → option_or o None ≡ o
+      none (Some x) = refl
+      none None = refl
+
+      by : (a : Bool) → (other == component) ≡ a → (b : Bool) → bytes_eq name wanted ≡ b → more other wanted ≡ places other wanted
+      by false e b f = ap (λ z. option_or (places other wanted) (cond z (place_if (bytes_eq name wanted) place) None)) e ∙ none (places other wanted)
+      by true e false f = ap (λ z. option_or (places other wanted) (cond z (place_if (bytes_eq name wanted) place) None)) e ∙ ap (λ z. option_or (places other wanted) (place_if z place)) f ∙ none (places other wanted)
+      by true e true f = absurd (apart (ap (λ z. (z, name)) (sym (eqb-true other component e)) ∙ ap (λ z. (other, z)) ((bytes_eq-Decides name wanted).0 f)))
+
+module _ (connectors : List Connector) (places : ℕ → List ℕ → Option ℕ) (component place : ℕ) (name : List ℕ) (names : VariableNames) (l : LeadTo connectors places names) where
+  -- the connector that is found gives the name
+  gives : (key : ℕ × List ℕ) (number : ℕ) → found_in names.wanted key ≡ Some number → wanted_at connectors number ≡ Some key
+  gives key number is = (subst (Finds (wanted_at connectors) key) is (l.table key)).0
+
+  -- no connector gives the name
+  pub lead_unwanted : found_in names.wanted (component, name) ≡ None → LeadTo connectors (more places component place name) names
+  lead_unwanted none = record {
+    table = l.table;
+    len = l.len;
+    told = λ other wanted number is. l.told other wanted number is ∙ ap Some (sym (more_other places component place name other wanted (λ one.
+        let here : found_in names.wanted (component, name) ≡ Some number = ap (found_in names.wanted) one ∙ is in cc)));
+  }
+
+  -- the name leads somewhere already
+  pub lead_known : (number q : ℕ) → found_in names.wanted (component, name) ≡ Some number → slice_get names.places.items number ≡ Some (Some q) → LeadTo connectors (more places component place name) names
+  lead_known number q found known = record {
+    table = l.table;
+    len = l.len;
+    told = λ other wanted at is. l.told other wanted at is ∙ ap Some (sym (by other wanted at is (split other component wanted name)));
+  }
+    where
+      by : (other : ℕ) (wanted : List ℕ) (at : ℕ) → found_in names.wanted (other, wanted) ≡ Some at → (IsKey component name other wanted) ⊎ (IsKey component name other wanted → ⊥)
+          → more places component place name other wanted ≡ places other wanted
+      by other wanted at is (inl one) =
+          let same : number ≡ at = same_Some number at (sym found ∙ ap (found_in names.wanted) one ∙ is) in
+          let told : places other wanted ≡ Some q = same_Some (places other wanted) (Some q) (sym (l.told other wanted at is) ∙ ap (slice_get names.places.items) (sym same) ∙ known) in
+          more_here places component place name other wanted one ∙ ap (λ z. option_or z (Some place)) told ∙ sym told
+      by other wanted at is (inr apart) = more_other places component place name other wanted apart
+
+  pub lead_held : (number : ℕ) (x : Option ℕ) → found_in names.wanted (component, name) ≡ Some number → slice_get names.places.items number ≡ Some x → (x ≡ None → ⊥) → LeadTo connectors (more places component place name) names
+  lead_held number None found known some = absurd (some refl)
+  lead_held number (Some q) found known some = lead_known number q found known
+
+  -- the connector that is found has a place
+  pub found_within : (number : ℕ) → found_in names.wanted (component, name) ≡ Some number → number < length names.places.items
+  found_within number found =
+      let within = wanted_within connectors number (component, name) (gives (component, name) number found) in
+      let len = l.len in
+      omega (arith, within, len)
+
+  -- the name leads nowhere as yet
+  pub lead_noted : (number : ℕ) (new : VariableNames) → found_in names.wanted (component, name) ≡ Some number → slice_get names.places.items number ≡ Some None
+      → new.wanted ≡ names.wanted → new.places.items ≡ set names.places.items number (Some place) → LeadTo connectors (more places component place name) new
+  lead_noted number new found free same written = record {
+    table = subst (λ (w : ScopedPlaces). IsTable (wanted_at connectors) (found_in w)) (sym same) l.table;
+    len = ap length written ∙ length-set names.places.items number (Some place) ∙ l.len;
+    told = λ other wanted at is.
+        let was : found_in names.wanted (other, wanted) ≡ Some at = ap (λ (w : ScopedPlaces). found_in w (other, wanted)) (sym same) ∙ is in
+        ap (λ xs. slice_get xs at) written ∙ by other wanted at was (split other component wanted name);
+  }
+    where
+      within : number < length names.places.items
+      within = slice_get_within names.places.items number None free
+
+      by : (other : ℕ) (wanted : List ℕ) (at : ℕ) → found_in names.wanted (other, wanted) ≡ Some at → (IsKey component name other wanted) ⊎ (IsKey component name other wanted → ⊥)
+          → slice_get (set names.places.items number (Some place)) at ≡ Some (more places component place name other wanted)
+      by other wanted at is (inl one) =
+          let here : number ≡ at = same_Some number at (sym found ∙ ap (found_in names.wanted) one ∙ is) in
+          let told : places other wanted ≡ None = same_Some (places other wanted) None (sym (l.told other wanted at is) ∙ ap (slice_get names.places.items) (sym here) ∙ free) in
+          ap (slice_get (set names.places.items number (Some place))) (sym here) ∙ set_here names.places.items number (Some place) within
+          ∙ ap Some (sym (more_here places component place name other wanted one ∙ ap (λ z. option_or z (Some place)) told))
+      by other wanted at is (inr apart) =
+          let elsewhere : at ≡ number → ⊥ = λ same_at. apart (same_Some (component, name) (other, wanted) (sym (gives (component, name) number found) ∙ ap (wanted_at connectors) (sym same_at) ∙ gives (other, wanted) at is)) in
+          set_other names.places.items number at (Some place) elsewhere ∙ l.told other wanted at is ∙ ap Some (sym (more_other places component place name other wanted apart))
 
 -- the same places, told another way
-pub lead_as : (names : VariableNames) (one other : ℕ → List ℕ → Option ℕ) → ((component : ℕ) (name : List ℕ) → one component name ≡ other component name) → LeadTo one names → LeadTo other names
-lead_as names one other same l = record { keys = l.keys; len = l.len; table = l.table; told = λ component name. l.told component name ∙ same component name }
+pub lead_as : (connectors : List Connector) (names : VariableNames) (one other : ℕ → List ℕ → Option ℕ) → ((component : ℕ) (name : List ℕ) → one component name ≡ other component name) → LeadTo connectors one names → LeadTo connectors other names
+lead_as connectors names one other same l = record { table = l.table; len = l.len; told = λ component name number is. l.told component name number is ∙ ap Some (same component name) }
 
 -- ---- several names, one after another
 
@@ -112,8 +153,8 @@ or_none None true = refl
 or_none None false = refl
 
 -- no names as yet
-pub lead_begins : (names : VariableNames) (component : ℕ) (places : ℕ → List ℕ → Option ℕ) (more : List ℕ → Option ℕ) → ((name : List ℕ) → more name ≡ None) → LeadTo places names → LeadTo (with_places places component more) names
-lead_begins names component places more none = lead_as names places (with_places places component more) (λ other name. or_none (places other name) (other == component) ∙ ap (λ z. option_or (places other name) (cond (other == component) z None)) (sym (none name)))
+pub lead_begins : (connectors : List Connector) (names : VariableNames) (component : ℕ) (places : ℕ → List ℕ → Option ℕ) (more : List ℕ → Option ℕ) → ((name : List ℕ) → more name ≡ None) → LeadTo connectors places names → LeadTo connectors (with_places places component more) names
+lead_begins connectors names component places more none = lead_as connectors names places (with_places places component more) (λ other name. or_none (places other name) (other == component) ∙ ap (λ z. option_or (places other name) (cond (other == component) z None)) (sym (none name)))
 
 both_places : (was one other : Option ℕ) (b : Bool) → option_or (option_or was (cond b one None)) (cond b other None) ≡ option_or was (cond b (option_or one other) None)
 both_places (Some x) one other b = refl
@@ -121,9 +162,9 @@ both_places None one other true = refl
 both_places None one other false = refl
 
 -- further names of the same component
-pub lead_more : (names : VariableNames) (component : ℕ) (places : ℕ → List ℕ → Option ℕ) (one more both : List ℕ → Option ℕ) → ((name : List ℕ) → option_or (one name) (more name) ≡ both name)
-    → LeadTo (with_places (with_places places component one) component more) names → LeadTo (with_places places component both) names
-lead_more names component places one more both is = lead_as names (with_places (with_places places component one) component more) (with_places places component both)
+pub lead_more : (connectors : List Connector) (names : VariableNames) (component : ℕ) (places : ℕ → List ℕ → Option ℕ) (one more both : List ℕ → Option ℕ) → ((name : List ℕ) → option_or (one name) (more name) ≡ both name)
+    → LeadTo connectors (with_places (with_places places component one) component more) names → LeadTo connectors (with_places places component both) names
+lead_more connectors names component places one more both is = lead_as connectors names (with_places (with_places places component one) component more) (with_places places component both)
     (λ other name. both_places (places other name) (one name) (more name) (other == component) ∙ ap (λ z. option_or (places other name) (cond (other == component) z None)) (is name))
 
 or_places : (a b : Bool) (place : ℕ) → option_or (place_if a place) (place_if b place) ≡ place_if (a || b) place
@@ -227,48 +268,64 @@ slice_more f xs y k = by (cases_lt k (length xs))
             let here : slice_get (xs ++ y ∷ []) k ≡ Some y = ap (slice_get (xs ++ y ∷ [])) (omega arith) ∙ get_right xs (y ∷ []) 0 in
             ap (λ z. option_or (option_and_then f z) (cond (k == length xs) (f y) None)) none ∙ ap (λ z. cond z (f y) None) same ∙ ap (option_and_then f) (sym here)
 
-pub lead_none : (names : VariableNames) → names.places.items ≡ [] → ((component : ℕ) (name : List ℕ) → found_in names.first (component, name) ≡ None) → LeadTo (λ component name. place_for [] (Component component) name) names
-lead_none names none nothing = record {
-  keys = [];
-  len = sym (ap length none);
-  table = table_empty (slice_get []) (found_in names.first) (λ x. nothing x.0 x.1);
-  told = λ component name. ap (option_and_then (slice_get names.places.items)) (nothing component name);
+pub lead_none : (connectors : List Connector) (names : VariableNames) → IsTable (wanted_at connectors) (found_in names.wanted) → names.places.items ≡ replicate (length connectors) None
+    → LeadTo connectors (λ component name. place_for [] (Component component) name) names
+lead_none connectors names table none = record {
+  table = table;
+  len = ap length none ∙ length-replicate (length connectors) None;
+  told = λ component name number is.
+      let key : wanted_at connectors number ≡ Some (component, name) = (subst (Finds (wanted_at connectors) (component, name)) is (table (component, name))).0 in
+      ap (λ xs. slice_get xs number) none ∙ none_at (length connectors) number (wanted_within connectors number (component, name) key);
 }
 
-pub lead_component : (names : VariableNames) (shapes : List Shape) (i : ℕ) (s : Shape) → i < length shapes → s ≡ get_or shapes i s
-    → LeadTo (with_places (λ component name. place_for (take i shapes) (Component component) name) i (λ name. position (has_name name) s.variables)) names → LeadTo (λ component name. place_for (take (i + 1) shapes) (Component component) name) names
-lead_component names shapes i s within is = lead_as names _ _ (λ component name.
+pub lead_component : (connectors : List Connector) (names : VariableNames) (shapes : List Shape) (i : ℕ) (s : Shape) → i < length shapes → s ≡ get_or shapes i s
+    → LeadTo connectors (with_places (λ component name. place_for (take i shapes) (Component component) name) i (λ name. position (has_name name) s.variables)) names → LeadTo connectors (λ component name. place_for (take (i + 1) shapes) (Component component) name) names
+lead_component connectors names shapes i s within is = lead_as connectors names _ _ (λ component name.
     let len : length (take i shapes) ≡ i = length-take-le i shapes (omega arith) in
     ap (λ n. option_or (place_for (take i shapes) (Component component) name) (cond (component == n) (position (has_name name) s.variables) None)) (sym len)
     ∙ slice_more (λ (z : Shape). position (has_name name) z.variables) (take i shapes) s component
     ∙ ap (λ z. place_for z (Component component) name) (sym (take_more shapes i s within ∙ ap (λ z. take i shapes ++ z ∷ []) (sym is))))
 
-pub names_whole : (names : VariableNames) (shapes : List Shape) (i : ℕ) → length shapes ≤ i → LeadTo (λ component name. place_for (take i shapes) (Component component) name) names
-    → (component : ℕ) (name : List ℕ) → place_in names component name ≡ place_for shapes (Component component) name
-names_whole names shapes i past l component name = l.told component name ∙ ap (λ z. place_for z (Component component) name) (take_all i shapes past)
+pub names_whole : (connectors : List Connector) (names : VariableNames) (shapes : List Shape) (i : ℕ) → length shapes ≤ i → LeadTo connectors (λ component name. place_for (take i shapes) (Component component) name) names
+    → AreNames connectors shapes names
+names_whole connectors names shapes i past l number k there = by k.owner refl
+  where
+    all : (component : ℕ) → place_for (take i shapes) (Component component) k.name ≡ place_for shapes (Component component) k.name
+    all component = ap (λ z. place_for z (Component component) k.name) (take_all i shapes past)
+
+    at : (component : ℕ) → wanted_at connectors number ≡ Some (component, k.name) → (o : Option ℕ) → found_in names.wanted (component, k.name) ≡ o
+        → option_and_then (λ (n : ℕ). option_flatten (slice_get names.places.items n)) o ≡ place_for shapes (Component component) k.name
+    at component gives None is = absurd ((subst (Finds (wanted_at connectors) (component, k.name)) is (l.table (component, k.name))) (number, gives))
+    at component gives (Some n) is = ap option_flatten (l.told component k.name n is) ∙ all component
+
+    by : (owner : Owner) → k.owner ≡ owner → place_by names owner k.name ≡ place_for shapes owner k.name
+    by (System system) e = refl
+    by (Component component) e =
+        let gives : wanted_at connectors number ≡ Some (component, k.name) = ap (option_and_then (λ (z : Connector). wanted_by z.owner z.name)) there ∙ ap (λ z. wanted_by z k.name) e in
+        at component gives (found_in names.wanted (component, k.name)) refl
 
 -- ---- steps of the loops
 
-pub lead_alias : (old new : VariableNames) (component place i : ℕ) (v : Variable) (alias : List ℕ) (places : ℕ → List ℕ → Option ℕ) → i < length v.aliases → alias ≡ get_or v.aliases i alias
-    → ((was : ℕ → List ℕ → Option ℕ) → LeadTo was old → LeadTo (with_places was component (λ other. place_if (bytes_eq alias other) place)) new)
-    → LeadTo (with_places places component (λ name. place_if (bytes_eq v.name name || list_any (λ z. bytes_eq z name) (take i v.aliases)) place)) old → LeadTo (with_places places component (λ name. place_if (bytes_eq v.name name || list_any (λ z. bytes_eq z name) (take (i + 1) v.aliases)) place)) new
-lead_alias old new component place i v alias places within is puts l =
-    lead_more new component places _ _ _ (λ name. alias_more v i place alias name within is) (puts _ l)
+pub lead_alias : (connectors : List Connector) (old new : VariableNames) (component place i : ℕ) (v : Variable) (alias : List ℕ) (places : ℕ → List ℕ → Option ℕ) → i < length v.aliases → alias ≡ get_or v.aliases i alias
+    → ((was : ℕ → List ℕ → Option ℕ) → LeadTo connectors was old → LeadTo connectors (with_places was component (λ other. place_if (bytes_eq alias other) place)) new)
+    → LeadTo connectors (with_places places component (λ name. place_if (bytes_eq v.name name || list_any (λ z. bytes_eq z name) (take i v.aliases)) place)) old → LeadTo connectors (with_places places component (λ name. place_if (bytes_eq v.name name || list_any (λ z. bytes_eq z name) (take (i + 1) v.aliases)) place)) new
+lead_alias connectors old new component place i v alias places within is puts l =
+    lead_more connectors new component places _ _ _ (λ name. alias_more v i place alias name within is) (puts _ l)
 
-pub lead_own : (names : VariableNames) (component place : ℕ) (v : Variable) (places : ℕ → List ℕ → Option ℕ) → LeadTo (with_places places component (λ name. place_if (bytes_eq v.name name) place)) names
-    → LeadTo (with_places places component (λ name. place_if (bytes_eq v.name name || list_any (λ z. bytes_eq z name) (take 0 v.aliases)) place)) names
-lead_own names component place v places = lead_as names _ _ (λ other name. ap (λ z. option_or (places other name) (cond (other == component) z None)) (alias_none v place name))
+pub lead_own : (connectors : List Connector) (names : VariableNames) (component place : ℕ) (v : Variable) (places : ℕ → List ℕ → Option ℕ) → LeadTo connectors (with_places places component (λ name. place_if (bytes_eq v.name name) place)) names
+    → LeadTo connectors (with_places places component (λ name. place_if (bytes_eq v.name name || list_any (λ z. bytes_eq z name) (take 0 v.aliases)) place)) names
+lead_own connectors names component place v places = lead_as connectors names _ _ (λ other name. ap (λ z. option_or (places other name) (cond (other == component) z None)) (alias_none v place name))
 
-pub lead_all_names : (names : VariableNames) (component place i : ℕ) (v : Variable) (places : ℕ → List ℕ → Option ℕ) → length v.aliases ≤ i → LeadTo (with_places places component (λ name. place_if (bytes_eq v.name name || list_any (λ z. bytes_eq z name) (take i v.aliases)) place)) names
-    → LeadTo (with_places places component (λ name. place_if (has_name name v) place)) names
-lead_all_names names component place i v places past = lead_as names _ _ (λ other name. ap (λ zs. option_or (places other name) (cond (other == component) (place_if (bytes_eq v.name name || list_any (λ z. bytes_eq z name) zs) place) None)) (take_all i v.aliases past))
+pub lead_all_names : (connectors : List Connector) (names : VariableNames) (component place i : ℕ) (v : Variable) (places : ℕ → List ℕ → Option ℕ) → length v.aliases ≤ i → LeadTo connectors (with_places places component (λ name. place_if (bytes_eq v.name name || list_any (λ z. bytes_eq z name) (take i v.aliases)) place)) names
+    → LeadTo connectors (with_places places component (λ name. place_if (has_name name v) place)) names
+lead_all_names connectors names component place i v places past = lead_as connectors names _ _ (λ other name. ap (λ zs. option_or (places other name) (cond (other == component) (place_if (bytes_eq v.name name || list_any (λ z. bytes_eq z name) zs) place) None)) (take_all i v.aliases past))
 
-pub lead_variable : (old new : VariableNames) (component i : ℕ) (variables : List Variable) (v : Variable) (places : ℕ → List ℕ → Option ℕ) → i < length variables → v ≡ get_or variables i v
-    → ((was : ℕ → List ℕ → Option ℕ) → LeadTo was old → LeadTo (with_places was component (λ name. place_if (has_name name v) i)) new)
-    → LeadTo (with_places places component (λ name. position (has_name name) (take i variables))) old → LeadTo (with_places places component (λ name. position (has_name name) (take (i + 1) variables))) new
-lead_variable old new component i variables v places within is puts l =
-    lead_more new component places _ _ _ (λ name. position_more (has_name name) variables i v within is) (puts _ l)
+pub lead_variable : (connectors : List Connector) (old new : VariableNames) (component i : ℕ) (variables : List Variable) (v : Variable) (places : ℕ → List ℕ → Option ℕ) → i < length variables → v ≡ get_or variables i v
+    → ((was : ℕ → List ℕ → Option ℕ) → LeadTo connectors was old → LeadTo connectors (with_places was component (λ name. place_if (has_name name v) i)) new)
+    → LeadTo connectors (with_places places component (λ name. position (has_name name) (take i variables))) old → LeadTo connectors (with_places places component (λ name. position (has_name name) (take (i + 1) variables))) new
+lead_variable connectors old new component i variables v places within is puts l =
+    lead_more connectors new component places _ _ _ (λ name. position_more (has_name name) variables i v within is) (puts _ l)
 
-pub lead_all_variables : (names : VariableNames) (component i : ℕ) (variables : List Variable) (places : ℕ → List ℕ → Option ℕ) → length variables ≤ i → LeadTo (with_places places component (λ name. position (has_name name) (take i variables))) names
-    → LeadTo (with_places places component (λ name. position (has_name name) variables)) names
-lead_all_variables names component i variables places past = lead_as names _ _ (λ other name. ap (λ z. option_or (places other name) (cond (other == component) z None)) (position_all (has_name name) variables i past))
+pub lead_all_variables : (connectors : List Connector) (names : VariableNames) (component i : ℕ) (variables : List Variable) (places : ℕ → List ℕ → Option ℕ) → length variables ≤ i → LeadTo connectors (with_places places component (λ name. position (has_name name) (take i variables))) names
+    → LeadTo connectors (with_places places component (λ name. position (has_name name) variables)) names
+lead_all_variables connectors names component i variables places past = lead_as connectors names _ _ (λ other name. ap (λ z. option_or (places other name) (cond (other == component) z None)) (position_all (has_name name) variables i past))

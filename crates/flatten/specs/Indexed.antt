@@ -1,7 +1,7 @@
 -- The tables of a tree of systems: the variables of all components in one list, and what each connector stands for by its number there.
 use Rattle.std.specs.Prelude.{◌≡◌, ℕ, ◌+◌, ◌<◌, ◌≤◌, ◌==◌, Bool, if◌then◌else◌, List, length, map, take, Option, Some, None, option_and_then, slice_get, slice_index_or}
 use Rattle.std.specs.List.{flat_map, position}
-use Rattle.std.specs.Option.{option_or}
+use Rattle.std.specs.Option.{option_flatten, option_or}
 use Rattle.value_types.specs.declared.shape.Variable.{Variable}
 use Rattle.value_types.specs.declared.shape.Shape.{Shape}
 use Rattle.connection_paths.specs.declared.point.Point as paths
@@ -16,7 +16,7 @@ use Rattle.flatten.specs.declared.connectors.FlatTree.{FlatTree}
 use Rattle.flatten.specs.declared.connectors.Variables.{Variables}
 use Rattle.flatten.specs.declared.names.VariableNames.{VariableNames}
 use Rattle.doc_tables.specs.Places.{found_in}
-use Rattle.doc_tables.specs.Tables.{IsTableBelow}
+use Rattle.doc_tables.specs.Tables.{IsTable}
 use Rattle.flatten.specs.Points.{has_name}
 use Rattle.flatten.specs.Given.{AreShapesOf, IsWhole}
 
@@ -55,18 +55,33 @@ IsPlaceIn v (Component component) (Some place) =
 
 -- ---- names
 
+-- the component and the name that a connector gives; that of a System gives none
+abbrev pub wanted_by : Owner → List ℕ → Option (ℕ × List ℕ)
+wanted_by (System system) name = None
+wanted_by (Component component) name = Some (component, name)
+
+abbrev pub wanted_at : List Connector → ℕ → Option (ℕ × List ℕ)
+wanted_at connectors number =
+    option_and_then (λ (k : Connector). wanted_by k.owner k.name) (slice_get connectors number)
+
 -- where a component's name leads
 abbrev pub place_in : VariableNames → ℕ → List ℕ → Option ℕ
 place_in names component name =
-    option_and_then (λ (entry : ℕ). slice_get names.places.items entry)
-    (found_in names.first (component, name))
+    option_and_then (λ (number : ℕ). option_flatten (slice_get names.places.items number))
+    (found_in names.wanted (component, name))
 
--- the names put in so far, one after another, lead to these places
-pub record LeadTo (places : ℕ → List ℕ → Option ℕ) (names : VariableNames) : Type 0 where
-  pub keys : List (ℕ × List ℕ)
-  pub len : length keys ≡ length names.places.items
-  pub table : IsTableBelow (slice_get keys) (length keys) (found_in names.first)
-  pub told : (component : ℕ) (name : List ℕ) → place_in names component name ≡ places component name
+abbrev pub place_by : VariableNames → Owner → List ℕ → Option ℕ
+place_by names (System system) name = None
+place_by names (Component component) name = place_in names component name
+
+-- the names that connectors give lead to these places
+pub record LeadTo (connectors : List Connector) (places : ℕ → List ℕ → Option ℕ)
+    (names : VariableNames) : Type 0 where
+  pub table : IsTable (wanted_at connectors) (found_in names.wanted)
+  pub len : length names.places.items ≡ length connectors
+  pub told : (component : ℕ) (name : List ℕ) (number : ℕ) →
+      found_in names.wanted (component, name) ≡ Some number →
+      slice_get names.places.items number ≡ Some (places component name)
 
 -- further places of a component's names, for those that led nowhere
 abbrev pub with_places : (ℕ → List ℕ → Option ℕ) → ℕ → (List ℕ → Option ℕ) → ℕ → List ℕ → Option ℕ
@@ -77,11 +92,11 @@ with_places places component more other name =
 abbrev pub place_if : Bool → ℕ → Option ℕ
 place_if such place = if such then Some place else None
 
--- each name leads to the first variable that has it
-abbrev pub AreNames : List Shape → VariableNames → Type 0
-AreNames shapes names =
-    (component : ℕ) (name : List ℕ) →
-    place_in names component name ≡ place_for shapes (Component component) name
+-- the name of each connector leads to the first variable that has it
+abbrev pub AreNames : List Connector → List Shape → VariableNames → Type 0
+AreNames connectors shapes names =
+    (number : ℕ) (k : Connector) → slice_get connectors number ≡ Some k →
+    place_by names k.owner k.name ≡ place_for shapes k.owner k.name
 
 -- ---- points
 

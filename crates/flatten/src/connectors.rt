@@ -2,7 +2,7 @@
 ghost use Rattle.std.specs.Prelude.{◌≡◌, ◌↔◌, ◌<◌, ◌^◌, List, IfOk, IsTrue, length, map, option_copied};
 ghost use Rattle.value_types.specs.declared.shape.Shape.{Shape};
 ghost use Rattle.flatten.specs.Given.{AreShapesOf, IsWhole};
-ghost use Rattle.flatten.specs.Indexed.{AreNames, AreNumbered, AreVariables, IsIndexed, IsPlaceIn, ends_of, number_for, place_for};
+ghost use Rattle.flatten.specs.Indexed.{AreNumbered, AreVariables, IsIndexed, IsPlaceIn, ends_of, number_for, place_by};
 ghost use Rattle.flatten.specs.Points.{IsOfSystem, Itself, variable_of};
 
 use crate::names::VariableNames;
@@ -47,8 +47,7 @@ fn make_variables(alloc: Global, shapes: &[Shape]) -> Result<Variables<'_>, Allo
 
 // The place in its description of the variable that a connector names.
 fn place_named<'a>(names: &VariableNames<'a>, connector: &'a Connector) -> Option<usize>
-    ensures { (shapes : List Shape) → AreNames shapes names.now →
-        result ≡ place_for shapes connector.now.owner connector.now.name }
+    ensures { result ≡ place_by names.now connector.now.owner connector.now.name }
 {
     match connector.owner {
         Owner::System(_) => None,
@@ -83,8 +82,8 @@ fn points<'a>(
     requires variables { AreVariables shapes.now variables.now }
     ensures { IfOk result (λ points. AreNumbered tree.now shapes.now points.items) }
 {
-    let names = VariableNames::new(alloc, shapes)?;
     let connectors = tree.connectors.as_slice();
+    let names = VariableNames::new(alloc, connectors, shapes)?;
     let mut points = Vec::with_capacity(alloc, connectors.len())?;
     for number in 0..connectors.len() {
         let connector = &connectors[number];

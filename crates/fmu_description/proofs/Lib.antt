@@ -11,4 +11,5 @@ mod MisreadLemmas
 mod PastLemmas
 mod RuleLemmas
 mod TableUse
+mod NameLemmas
 pub mod DistinctLemmas

@@ -2,6 +2,7 @@ pub mod Texts
 pub mod Elements
 pub mod Clocks
 pub mod Places
+pub mod Names
 pub mod Marks
 pub mod Rules
 pub mod Indexed

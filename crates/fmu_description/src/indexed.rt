@@ -8,15 +8,14 @@ ghost use Rattle.fmu_description.specs.Indexed.{IsIndexed};
 ghost use Rattle.fmu_description.specs.Rules.{DependsOnNothing, HasNoCoSimulation, HasNoEventMode, NamesNoClock, NamesNone, NamesNoVariable, RefersToNothing};
 
 use crate::elements::{
-    flag_of, initial_key, is_initial_unknown, is_output, name_key, output_key, reference_of,
-    references_of, variable_key,
+    flag_of, initial_key, is_initial_unknown, is_output, output_key, reference_of, references_of,
+    variable_key,
 };
 use crate::foreign::{Foreign, foreign_variables};
+use crate::names::RepeatedNames;
 use crate::places::{
-    Places, clock_places, co_simulation, initial_places, name_places, output_places,
-    variable_places,
+    Places, clock_places, co_simulation, initial_places, output_places, variable_places,
 };
-use doc_tables::NamePlaces;
 use doc_tree::Tree;
 use std::alloc::{AllocError, Global};
 
@@ -30,7 +29,7 @@ pub(crate) struct IndexedTree<'a> {
     pub(crate) clocks: Places,
     pub(crate) outputs: Places,
     pub(crate) initial_unknowns: Places,
-    pub(crate) names: NamePlaces<'a>,
+    pub(crate) names: RepeatedNames,
     pub(crate) co_simulation: Option<usize>,
     pub(crate) foreign: Foreign,
 }
@@ -53,7 +52,7 @@ impl<'a> IndexedTree<'a> {
             clocks: clock_places(alloc, tree)?,
             outputs: output_places(alloc, tree)?,
             initial_unknowns: initial_places(alloc, tree)?,
-            names: name_places(alloc, tree)?,
+            names: RepeatedNames::new(alloc, tree)?,
             co_simulation: co_simulation(tree),
             foreign: foreign_variables(alloc, tree)?,
         })
@@ -133,7 +132,7 @@ impl<'a> IndexedTree<'a> {
         requires { IsIndexed self.now }
         ensures { IsTrue result ↔ IsRepeated (name_key self.now.tree.now) node }
     {
-        self.names.is_repeated(name_key(self.tree, node), node)
+        self.names.is_repeated(node)
     }
 
     /// One of `clocks` is no Clock.

@@ -11,6 +11,7 @@ mod indexed;
 mod intervals;
 mod law;
 mod misread;
+mod names;
 mod places;
 mod reader;
 #[cfg(test)]

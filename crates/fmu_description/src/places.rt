@@ -1,12 +1,10 @@
 //! Where the elements with keys stand.
 ghost use Rattle.std.specs.Prelude.{◌≡◌, ◌↔◌, ℕ, ◌+◌, Option, IfOk, IsTrue, OnOk};
 ghost use Rattle.doc_tables.specs.Tables.{IsRepeated, IsTable, IsTableBelow};
-ghost use Rattle.fmu_description.specs.Elements.{clock_key, initial_key, name_key, output_key, variable_key};
-ghost use Rattle.doc_tables.specs.Places.{found_name};
+ghost use Rattle.fmu_description.specs.Elements.{clock_key, initial_key, output_key, variable_key};
 ghost use Rattle.fmu_description.specs.Places.{FindsCoSimulation, found};
 
 use crate::elements;
-use doc_tables::NamePlaces;
 use doc_tree::Tree;
 use std::alloc::{AllocError, Global};
 use std::collections::BTreeMap;
@@ -34,9 +32,7 @@ impl Places {
         let Some(reference) = reference else {
             return Ok(());
         };
-        if !self.first.contains_key(&reference) {
-            self.first.insert(reference, node)?;
-        }
+        self.first.entry(reference)?.or_insert(node);
         Ok(())
     }
 
@@ -102,17 +98,6 @@ pub(crate) fn initial_places(alloc: Global, tree: &Tree) -> Result<Places, Alloc
     let mut places = Places::new(alloc);
     for node in 0..tree.len() {
         places.put(elements::initial_key(tree, node), node)?;
-    }
-    Ok(places)
-}
-
-/// The first variable or Alias of each name.
-pub(crate) fn name_places(alloc: Global, tree: &Tree) -> Result<NamePlaces<'_>, AllocError>
-    ensures { IfOk result (λ places. IsTable (name_key tree.now) (found_name places)) }
-{
-    let mut places = NamePlaces::new(alloc);
-    for node in 0..tree.len() {
-        places.put(elements::name_key(tree, node), node)?;
     }
     Ok(places)
 }

@@ -1,6 +1,7 @@
 use crate::elements;
 use crate::foreign::foreign_variables;
-use crate::places::{co_simulation, name_places, variable_places};
+use crate::names::RepeatedNames;
+use crate::places::{co_simulation, variable_places};
 use crate::texts::{
     causality, counter, flag, is_foreign_type, port_type, reference, references, variability,
 };
@@ -146,9 +147,8 @@ fn elements_are_found(rt: HostRuntime) -> Result<(), Fail> {
     assert_eq!(rt; variables.find(7), Some(10));
     assert!(rt; variables.is_repeated(elements::variable_key(&tree, 11), 11));
     assert!(rt; !variables.is_repeated(elements::variable_key(&tree, 10), 10));
-    let names = name_places(alloc, &tree)?;
-    assert_eq!(rt; names.find("i"), Some(13));
-    assert!(rt; names.is_repeated(elements::name_key(&tree, 14), 14));
+    let names = RepeatedNames::new(alloc, &tree)?;
+    assert!(rt; names.is_repeated(14) && !names.is_repeated(13));
     assert_eq!(rt; co_simulation(&tree), Some(1));
     Ok(())
 }

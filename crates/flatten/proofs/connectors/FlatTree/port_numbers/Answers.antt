@@ -1,6 +1,5 @@
-use Rattle.std.proofs.Common.{◌≡◌, ◌+◌, [], length, map, true, false, sym, ap, ◌∙◌, subst, arith, Bor}
+use Rattle.std.proofs.Common.{◌≡◌, ◌+◌, length, map, sym, ap, ◌∙◌, subst, arith, Bor}
 use Rattle.std.proofs.lemmas.List.{length-map}
-use Rattle.value_types.specs.Shape.{is_port}
 use Rattle.value_types.specs.declared.shape.Variable.{Variable}
 use Rattle.flatten.proofs.PortNumberLemmas.{AreNumbersBelow, variable_read, number_port, number_other, numbers_whole}
 use Rattle.flatten.proofs.connectors.FlatTree.port_numbers.Goals as goal

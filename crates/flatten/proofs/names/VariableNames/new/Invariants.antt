@@ -4,4 +4,4 @@ use Rattle.flatten.specs.Indexed.{LeadTo, place_for}
 use Rattle.flatten.proofs.names.VariableNames.new.Given as goal
 
 abbrev pub invariant-loop-component : goal.invariant-loop-component
-invariant-loop-component l = LeadTo (λ (component : ℕ) (name : List ℕ). place_for (take l.component l.shapes) (Component component) name) l.names
+invariant-loop-component l = LeadTo l.fn.connectors (λ (component : ℕ) (name : List ℕ). place_for (take l.component l.shapes) (Component component) name) l.names
