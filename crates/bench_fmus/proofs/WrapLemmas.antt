@@ -2,6 +2,7 @@
 use Rattle.std.proofs.Common.{◌≡◌, ℕ, suc, ◌+◌, ◌-◌, ◌*◌, ◌/◌, ◌%◌, ◌<◌, ◌≤◌, ℤ, pos, negsuc, ◌+ℤ◌, ◌-ℤ◌, ◌*ℤ◌, ◌≤ℤ◌, refl, sym, ap, ap₂, ◌∙◌, ◌^◌, arith}
 use Rattle.std.proofs.lemmas.Int.{ints, int_rem_euclid_is}
 use Rattle.std.proofs.Math.Nat.{add-mul, mul-le-mul_left, div-add-mod', mod-lt}
+use Rattle.std.proofs.lemmas.Nat.{mod-mul-add}
 use Rattle.std.specs.Int.{int_rem_euclid}
 use Rattle.value_types.specs.Values.{least_of, greatest_of}
 use Rattle.value_types.specs.declared.values.PortType.{PortType}
@@ -120,6 +121,18 @@ pub wrapped_product_by : (a b first second product product_again : ℤ) →
     first ≡ wrapped_int64 a → second ≡ wrapped_int64 b → product_again ≡ first *ℤ second → product ≡ wrapped_int64 product_again → product ≡ wrapped_int64 (a *ℤ b)
 wrapped_product_by a b first second product product_again first_is second_is again is =
     is ∙ ap (λ (x : ℤ). wrapped_int64 x) (again ∙ ap₂ (λ (x y : ℤ). x *ℤ y) first_is second_is) ∙ wrapped_product a b
+
+-- a number of the range stays as it is
+pub wrapped_within : (least greatest z : ℤ) → least ≤ℤ z → z ≤ℤ greatest → z ≡ wrapped_between least greatest z
+wrapped_within least greatest z low high =
+    let n = up greatest + down least + 1 - down greatest - up least in
+    let size : HasSize least greatest n = (omega (arith, ints), omega (arith, ints)) in
+    let m = up z + down least - down z - up least in
+    let small : m < n = omega (arith, ints) in
+    let rest : (z -ℤ least) +ℤ pos (0 * n) ≡ pos (0 * n + m) = omega (arith, ints) in
+    let last : int_rem_euclid (z -ℤ least) (pos n) ≡ pos ((0 * n + m) % n) = int_rem_euclid_is (z -ℤ least) (pos n) n 0 (0 * n + m) size.0 refl rest in
+    let back : z ≡ least +ℤ pos m = omega (arith, ints) in
+    back ∙ ap (λ (k : ℕ). least +ℤ pos k) (sym (mod-mul-add 0 n m small)) ∙ ap (λ (x : ℤ). least +ℤ x) (sym last) ∙ sym (wrapped_is least greatest z n size)
 
 -- what a remainder of a remainder gives; its numbers may be written in other ways
 pub wrapped_by : (least greatest z value count rest less last sum : ℤ) → least ≤ℤ greatest →

@@ -10,7 +10,25 @@ const GREATEST_INT64: i128 = i64::MAX as i128;
 
 const GREATEST_COUNT: i128 = u64::MAX as i128;
 
+// A number of the range stays as it is, and most are.
+#[tactic(auto, using(crate::proofs::WrapLemmas::wrapped_within))]
 fn wrap_between(least: i128, greatest: i128, value: i128) -> i128
+    requires low { negsuc (2 ^ 63 - 1) ≤ℤ least }
+    requires order { least ≤ℤ greatest }
+    requires high { greatest ≤ℤ pos (2 ^ 64 - 1) }
+    ensures value { result ≡ wrapped_between least greatest value }
+    ensures low { least ≤ℤ result }
+    ensures high { result ≤ℤ greatest }
+{
+    if least <= value && value <= greatest {
+        value
+    } else {
+        reduce_between(least, greatest, value)
+    }
+}
+
+// Two remainders keep each number within 128 bits.
+fn reduce_between(least: i128, greatest: i128, value: i128) -> i128
     requires low { negsuc (2 ^ 63 - 1) ≤ℤ least }
     requires order { least ≤ℤ greatest }
     requires high { greatest ≤ℤ pos (2 ^ 64 - 1) }

@@ -1,37 +1,68 @@
 ghost use Rattle.std.specs.Prelude.{◌≡◌, IfOk, IfErr, OnOk, IsTrue};
 ghost use Rattle.fmi_calls.specs.declared.call.Reply.{Reply};
+ghost use Rattle.fmi_calls.specs.Kinds.{bad_status_of};
 ghost use Rattle.fmi_calls.specs.Permission.{Permitted};
 ghost use Rattle.fmi_calls.specs.declared.phase.InstanceState.TheVariants as P;
 ghost use Rattle.fmu_peer.specs.Mode.{agrees, instantiate_of};
 ghost use Rattle.fmu_peer.specs.Answer.{Answered, Failed};
 ghost use Rattle.fmu_peer.specs.Close.{IsClosed, can_be_closed};
+ghost use Rattle.fmu_peer.specs.declared.ended.Why.TheVariants as Why;
 
 use crate::closing::close_unless;
 use crate::running::into_running;
 use crate::{
-    Ended, Eventing, Fresh, Initializing, Instantiated, Mode, Peer, Running, Saved, Stepping, Why,
+    Ended, Eventing, Fresh, Initializing, Instantiated, Mode, Peer, PeerFault, Running, Saved,
+    Stepping, Why,
 };
 use fmi_calls::{Call, Grade, Reply, grade};
 use std::marker::PhantomData;
 use value_types::PortType;
 
-// Sends a call of the run, and says what its answer is worth.
-fn ask<L: Peer>(peer: &mut L, call: Call) -> Result<Reply, Why>
-    requires { Permitted (L.view peer.old).fixed.shape (L.view peer.old).phase call }
-    ensures ok { IfOk result (λ reply. Answered (L.view peer.old) call reply (L.view peer.new)) }
-    ensures err { IfErr result (λ why. Failed (L.view peer.old) call why (L.view peer.new)) }
+// Sends a call of the run, and says what its answer is worth. A good answer is given back at once, since nearly each one is.
+#[inline(always)]
+fn ask<L: Peer>(peer: &mut L, call: &Call) -> Result<Reply, Why>
+    requires { Permitted (L.view peer.old).fixed.shape (L.view peer.old).phase call.now }
+    ensures ok { IfOk result (λ reply. Answered (L.view peer.old) call.now reply (L.view peer.new)) }
+    ensures err { IfErr result (λ why. Failed (L.view peer.old) call.now why (L.view peer.new)) }
 {
-    match peer.call(&call) {
-        Ok(reply) => match grade(peer.shape(), peer.phase(), &call, &reply) {
-            Grade::Good => Ok(reply),
-            Grade::Refused => Err(Why::Refused {
-                call,
-                status: reply.bad_status(),
-            }),
-            Grade::Misreply => Err(Why::Misreply { call, reply }),
+    match peer.call(call) {
+        Ok(reply) => match grade(peer.shape(), peer.phase(), call, &reply) {
+            Grade::Good => return Ok(reply),
+            Grade::Refused => return Err(refused(call, &reply)),
+            Grade::Misreply => return Err(misreply(call, &reply)),
         },
-        Err(fault) => Err(Why::Link { call, fault }),
+        Err(fault) => return Err(lost(call, fault)),
     }
+}
+
+#[cold]
+#[inline(never)]
+fn refused(call: &Call, reply: &Reply) -> Why
+    ensures { result ≡ Why.Refused call.now (bad_status_of reply.now) }
+{
+    Why::Refused {
+        call: *call,
+        status: reply.bad_status(),
+    }
+}
+
+#[cold]
+#[inline(never)]
+fn misreply(call: &Call, reply: &Reply) -> Why
+    ensures { result ≡ Why.Misreply call.now reply.now }
+{
+    Why::Misreply {
+        call: *call,
+        reply: *reply,
+    }
+}
+
+#[cold]
+#[inline(never)]
+fn lost(call: &Call, fault: PeerFault) -> Why
+    ensures { result ≡ Why.Link call.now fault }
+{
+    Why::Link { call: *call, fault }
 }
 
 /// An FMU in a state (FMI 3.0, 4.2.1). It can't be let go: it is closed.
@@ -68,7 +99,7 @@ impl<L: Peer> Fmu<L, Fresh> {
             event_mode: shape.has_event_mode,
             early_return: shape.might_return_early,
         };
-        match ask(&mut peer, call) {
+        match ask(&mut peer, &call) {
             Ok(_) => Ok(Fmu {
                 peer,
                 mode: PhantomData,
@@ -94,7 +125,7 @@ impl<L: Peer> Fmu<L, Instantiated> {
             (Call.EnterInitialization start stop) ended.why (L.view ended.peer)) }
     {
         let Fmu { mut peer, mode: _ } = self;
-        match ask(&mut peer, Call::EnterInitialization { start, stop }) {
+        match ask(&mut peer, &Call::EnterInitialization { start, stop }) {
             Ok(_) => Ok(Fmu {
                 peer,
                 mode: PhantomData,
@@ -120,7 +151,7 @@ impl<L: Peer> Fmu<L, Initializing> {
             (L.view ended.peer)) }
     {
         let Fmu { mut peer, mode: _ } = self;
-        match ask(&mut peer, Call::ExitInitialization) {
+        match ask(&mut peer, &Call::ExitInitialization) {
             Ok(_) => Ok(into_running(peer)),
             Err(why) => Err(Ended { peer, why }),
         }
@@ -137,7 +168,7 @@ impl<L: Peer> Fmu<L, Eventing> {
         ensures err { IfErr result (λ why. Failed (L.view self.old.peer) Call.Update why
             (L.view self.new.peer)) }
     {
-        ask(&mut self.peer, Call::Update)
+        ask(&mut self.peer, &Call::Update)
     }
 
     /// Leaves Event Mode.
@@ -150,7 +181,7 @@ impl<L: Peer> Fmu<L, Eventing> {
             (L.view ended.peer)) }
     {
         let Fmu { mut peer, mode: _ } = self;
-        match ask(&mut peer, Call::EnterStep) {
+        match ask(&mut peer, &Call::EnterStep) {
             Ok(_) => Ok(Fmu {
                 peer,
                 mode: PhantomData,
@@ -171,7 +202,7 @@ impl<L: Peer> Fmu<L, Stepping> {
             (L.view ended.peer)) }
     {
         let Fmu { mut peer, mode: _ } = self;
-        match ask(&mut peer, Call::EnterEvent) {
+        match ask(&mut peer, &Call::EnterEvent) {
             Ok(_) => Ok(Fmu {
                 peer,
                 mode: PhantomData,
@@ -189,7 +220,7 @@ impl<L: Peer> Fmu<L, Stepping> {
         ensures err { IfErr result (λ why. Failed (L.view self.old.peer) (Call.DoStep at size) why
             (L.view self.new.peer)) }
     {
-        ask(&mut self.peer, Call::DoStep { at, size })
+        ask(&mut self.peer, &Call::DoStep { at, size })
     }
 
     /// Saves the state in the instance's slot. What it gives is spent by `free` or by `abandon`.
@@ -201,7 +232,7 @@ impl<L: Peer> Fmu<L, Stepping> {
         ensures err { IfErr result (λ why. Failed (L.view self.old.peer) Call.Save why
             (L.view self.new.peer)) }
     {
-        match ask(&mut self.peer, Call::Save) {
+        match ask(&mut self.peer, &Call::Save) {
             Ok(_) => Ok(Saved { kept: () }),
             Err(why) => Err(why),
         }
@@ -216,7 +247,7 @@ impl<L: Peer> Fmu<L, Stepping> {
         ensures err { IfErr result (λ why. Failed (L.view self.old.peer) Call.Restore why
             (L.view self.new.peer)) }
     {
-        ask(&mut self.peer, Call::Restore)
+        ask(&mut self.peer, &Call::Restore)
     }
 
     /// Frees the state that was saved.
@@ -229,7 +260,7 @@ impl<L: Peer> Fmu<L, Stepping> {
             (L.view self.new.peer)) }
     {
         let Saved { kept: () } = saved;
-        ask(&mut self.peer, Call::Free)
+        ask(&mut self.peer, &Call::Free)
     }
 
     /// Gives up the state that was saved without a call. The phase, its full slot too, stays as it is.
@@ -250,7 +281,7 @@ impl<L: Peer, M: Mode> Fmu<L, M> {
         ensures err { IfErr result (λ why. Failed (L.view self.old.peer)
             (Call.Get kind reference) why (L.view self.new.peer)) }
     {
-        ask(&mut self.peer, Call::Get { kind, reference })
+        ask(&mut self.peer, &Call::Get { kind, reference })
     }
 
     /// Writes a value: a parameter before Initialization Mode, later an input.
@@ -264,7 +295,7 @@ impl<L: Peer, M: Mode> Fmu<L, M> {
     {
         ask(
             &mut self.peer,
-            Call::Set {
+            &Call::Set {
                 kind,
                 reference,
                 value,
@@ -281,7 +312,7 @@ impl<L: Peer, M: Mode> Fmu<L, M> {
         ensures err { IfErr result (λ why. Failed (L.view self.old.peer)
             (Call.GetClock reference) why (L.view self.new.peer)) }
     {
-        ask(&mut self.peer, Call::GetClock { reference })
+        ask(&mut self.peer, &Call::GetClock { reference })
     }
 
     /// Sets an input Clock to active.
@@ -293,7 +324,7 @@ impl<L: Peer, M: Mode> Fmu<L, M> {
         ensures err { IfErr result (λ why. Failed (L.view self.old.peer)
             (Call.SetClock reference) why (L.view self.new.peer)) }
     {
-        ask(&mut self.peer, Call::SetClock { reference })
+        ask(&mut self.peer, &Call::SetClock { reference })
     }
 
     /// Asks for the interval of a Clock: of a fixed one in Initialization Mode, of a countdown Clock in Event Mode.
@@ -305,7 +336,7 @@ impl<L: Peer, M: Mode> Fmu<L, M> {
         ensures err { IfErr result (λ why. Failed (L.view self.old.peer)
             (Call.GetInterval reference) why (L.view self.new.peer)) }
     {
-        ask(&mut self.peer, Call::GetInterval { reference })
+        ask(&mut self.peer, &Call::GetInterval { reference })
     }
 
     /// Asks for the shift of a fixed Clock.
@@ -317,7 +348,7 @@ impl<L: Peer, M: Mode> Fmu<L, M> {
         ensures err { IfErr result (λ why. Failed (L.view self.old.peer)
             (Call.GetShift reference) why (L.view self.new.peer)) }
     {
-        ask(&mut self.peer, Call::GetShift { reference })
+        ask(&mut self.peer, &Call::GetShift { reference })
     }
 
     /// Ends the instance by the calls that it still may be sent, or silently by none, and gives the peer back.

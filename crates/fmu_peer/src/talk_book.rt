@@ -7,7 +7,7 @@ ghost use Rattle.fmu_peer.specs.Talk.{Legal, phase_after};
 ghost use Rattle.fmu_peer.specs.Props.{legal-prop};
 ghost use Rattle.fmu_peer.specs.Book.{has_room, is_lost, fills_next};
 
-use crate::{Exchange, PeerFault, TalkRoom};
+use crate::{PeerFault, TalkRoom};
 use fmi_calls::{Call, Phase, Reply, next_phase};
 use std::alloc::{AllocError, Global};
 use value_types::Shape;
@@ -62,25 +62,38 @@ impl TalkBook {
             option_map (λ t. t.room) self.old.talk }
         ensures cause { HasCause self.old.faults self.new.faults result }
     {
-        let result = if fills_next(&self.talk) {
-            Err(PeerFault::Failed)
-        } else {
-            answer
-        };
-        let call = *call;
-        match result {
-            Ok(reply) => {
-                next_phase(&self.shape, &mut self.phase, &call, Some(&reply));
-                keep_in(&mut self.talk, Exchange { call, result });
-                Ok(reply)
-            }
-            Err(fault) => {
-                next_phase(&self.shape, &mut self.phase, &call, None);
-                self.faults = self.faults.saturating_add(1);
-                keep_in(&mut self.talk, Exchange { call, result });
-                Err(fault)
-            }
+        if fills_next(&self.talk) {
+            return self.keep_fault(call, PeerFault::Failed);
         }
+        match &answer {
+            Ok(reply) => {
+                next_phase(&self.shape, &mut self.phase, call, Some(reply));
+                keep_in(&mut self.talk, call, &answer);
+                return answer;
+            }
+            Err(fault) => return self.keep_fault(call, *fault),
+        }
+    }
+
+    // Keeps an exchange that got no reply.
+    #[cold]
+    #[inline(never)]
+    fn keep_fault(&mut self, call: &Call, fault: PeerFault) -> Result<Reply, PeerFault>
+        requires { Permitted self.old.shape self.old.phase call.now }
+        ensures kept { result ≡ Err fault }
+        ensures shape { self.new.shape ≡ self.old.shape }
+        ensures phase { self.new.phase ≡ next_of self.old.shape self.old.phase call.now None }
+        ensures talk { option_map (λ t. t.exchanges.items) self.new.talk
+            ≡ option_map (λ t. t.exchanges.items ++ record { call = call.now; result = result } ∷ []) self.old.talk }
+        ensures room { option_map (λ t. t.room) self.new.talk ≡
+            option_map (λ t. t.room) self.old.talk }
+        ensures cause { HasCause self.old.faults self.new.faults result }
+    {
+        let answer = Err(fault);
+        next_phase(&self.shape, &mut self.phase, call, None);
+        self.faults = self.faults.saturating_add(1);
+        keep_in(&mut self.talk, call, &answer);
+        answer
     }
 }
 
@@ -93,13 +106,13 @@ fn fills_next(talk: &Option<TalkRoom>) -> bool
     }
 }
 
-fn keep_in(talk: &mut Option<TalkRoom>, exchange: Exchange)
+fn keep_in(talk: &mut Option<TalkRoom>, call: &Call, answer: &Result<Reply, PeerFault>)
     requires { IsTrue (has_room talk.old) }
     ensures exchanges { option_map (λ t. t.exchanges.items) talk.new ≡
-        option_map (λ t. t.exchanges.items ++ exchange ∷ []) talk.old }
+        option_map (λ t. t.exchanges.items ++ record { call = call.now; result = answer.now } ∷ []) talk.old }
     ensures room { option_map (λ t. t.room) talk.new ≡ option_map (λ t. t.room) talk.old }
 {
     if let Some(talk) = talk {
-        talk.push(exchange);
+        talk.push(call, answer);
     }
 }

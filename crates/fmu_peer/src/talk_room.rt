@@ -1,6 +1,7 @@
 ghost use Rattle.std.specs.Prelude.{◌≡◌, ◌+◌, ◌<◌, ◌≤◌, ◌++◌, [], ◌∷◌, length, vec_len, vec_capacity, IfOk};
 
-use crate::Exchange;
+use crate::{Exchange, PeerFault};
+use fmi_calls::{Call, Reply};
 use std::alloc::{AllocError, Global};
 
 /// The exchanges with an instance, in room for a number of them that is fixed when it is made.
@@ -22,11 +23,17 @@ impl TalkRoom {
     }
 
     /// Adds an exchange, for which there is room.
-    pub(crate) fn push(&mut self, exchange: Exchange)
+    #[inline(never)]
+    pub(crate) fn push(&mut self, call: &Call, answer: &Result<Reply, PeerFault>)
         requires { vec_len self.old.exchanges < self.old.room }
-        ensures exchanges { self.new.exchanges.items ≡ self.old.exchanges.items ++ exchange ∷ [] }
+        ensures exchanges { self.new.exchanges.items ≡ self.old.exchanges.items ++
+            record { call = call.now; result = answer.now } ∷ [] }
         ensures room { self.new.room ≡ self.old.room }
     {
+        let exchange = Exchange {
+            call: *call,
+            result: *answer,
+        };
         self.exchanges.push(exchange).unwrap();
     }
 }

@@ -16,11 +16,15 @@ pub(crate) fn append(piece: &[u8], out: &mut [u8], at: usize) -> usize
     end
 }
 
+#[tactic(auto, using(std::proofs::lemmas::Fmt::decimal_digit))]
 pub(crate) fn append_number(number: u64, out: &mut [u8], at: usize) -> usize
     requires { at + length (decimal number) ≤ length out.old }
     ensures end { result ≡ at + length (decimal number) }
     ensures text { take result out.new ≡ take at out.old ++ decimal number }
 {
+    if number < 10 {
+        return append(&[b'0' + number as u8], out, at);
+    }
     append(Buffer::new().format(number).as_bytes(), out, at)
 }
 

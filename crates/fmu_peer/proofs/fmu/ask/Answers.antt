@@ -1,5 +1,4 @@
 use Rattle.std.proofs.Common.{rules, Ok, Err}
-use Rattle.fmu_peer.specs.declared.ended.Why.TheVariants.{Refused, Misreply, Link}
 use Rattle.fmu_peer.proofs.TalkLemmas.{answered_good, failed_bad}
 use Rattle.fmu_peer.proofs.fmu.ask.Goals as goal
 
@@ -8,7 +7,7 @@ returns-in-Good-clause-ok g c = record {
   asked = c.in-Ok.ensures;
   good = search rules;
   quiet = search rules;
-  talk_good = answered_good (g.L.Peer.view c.args.peer.now) (g.L.Peer.view c.call.new.self) c.args.call c.in-Ok.reply c.in-Ok.ensures (search rules);
+  talk_good = answered_good (g.L.Peer.view c.args.peer.now) (g.L.Peer.view c.call.new.self) c.args.call.now c.in-Ok.reply c.in-Ok.ensures (search rules);
 }
 
 pub returns-in-Refused-clause-err : goal.returns-in-Refused-clause-err
@@ -18,7 +17,7 @@ returns-in-Refused-clause-err g c = record {
   later = search rules;
   rose = search rules;
   quiet = search rules;
-  bad = failed_bad (g.L.Peer.view c.args.peer.now) (g.L.Peer.view c.call.new.self) c.args.call (Ok c.in-Ok.reply) (Refused c.args.call c.bad_status.result) c.in-Ok.ensures (search rules);
+  bad = failed_bad (g.L.Peer.view c.args.peer.now) (g.L.Peer.view c.call.new.self) c.args.call.now (Ok c.in-Ok.reply) c.refused.result c.in-Ok.ensures (search rules);
 }
 
 pub returns-in-Misreply-clause-err : goal.returns-in-Misreply-clause-err
@@ -28,7 +27,7 @@ returns-in-Misreply-clause-err g c = record {
   later = search rules;
   rose = search rules;
   quiet = search rules;
-  bad = failed_bad (g.L.Peer.view c.args.peer.now) (g.L.Peer.view c.call.new.self) c.args.call (Ok c.in-Ok.reply) (Misreply c.args.call c.in-Ok.reply) c.in-Ok.ensures (search rules);
+  bad = failed_bad (g.L.Peer.view c.args.peer.now) (g.L.Peer.view c.call.new.self) c.args.call.now (Ok c.in-Ok.reply) c.misreply.result c.in-Ok.ensures (search rules);
 }
 
 pub returns-in-Err-clause-err : goal.returns-in-Err-clause-err
@@ -38,5 +37,5 @@ returns-in-Err-clause-err g c = record {
   later = search rules;
   rose = search rules;
   quiet = search rules;
-  bad = failed_bad (g.L.Peer.view c.args.peer.now) (g.L.Peer.view c.call.new.self) c.args.call (Err c.in-Err.fault) (Link c.args.call c.in-Err.fault) c.in-Err.ensures (search rules);
+  bad = failed_bad (g.L.Peer.view c.args.peer.now) (g.L.Peer.view c.call.new.self) c.args.call.now (Err c.in-Err.fault) c.lost.result c.in-Err.ensures (search rules);
 }

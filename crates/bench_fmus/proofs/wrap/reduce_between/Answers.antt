@@ -1,7 +1,7 @@
 use Rattle.std.proofs.Common.{arith}
 use Rattle.std.proofs.lemmas.Int.{ints}
 use Rattle.bench_fmus.proofs.WrapLemmas.{wrapped_by}
-use Rattle.bench_fmus.proofs.wrap.wrap_between.Goals as goal
+use Rattle.bench_fmus.proofs.wrap.reduce_between.Goals as goal
 
 pub returns-clause-value : goal.returns-clause-value
 returns-clause-value c =

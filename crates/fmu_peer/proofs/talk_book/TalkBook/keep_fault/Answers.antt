@@ -1,0 +1,8 @@
+use Rattle.std.proofs.Common.{Err, rules}
+use Rattle.fmu_peer.proofs.TalkLemmas.{kept_leads_on}
+use Rattle.fmu_peer.proofs.talk_book.TalkBook.keep_fault.Goals as goal
+
+pub invariant_of-self-clause-legal : goal.invariant_of-self-clause-legal
+invariant_of-self-clause-legal c =
+    kept_leads_on c.args.self.now.shape c.args.self.now.phase c.next_phase.new.phase c.args.self.now.talk _ (record { call = c.args.call.now; result = Err c.args.fault })
+    c.args.self.now.legal c.requires c.next_phase.ensures.next (search (rules, c.keep_in.ensures.exchanges))
