@@ -12,4 +12,5 @@ mod PastLemmas
 mod RuleLemmas
 mod TableUse
 mod NameLemmas
+mod PlaceLemmas
 pub mod DistinctLemmas

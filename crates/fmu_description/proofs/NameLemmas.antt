@@ -1,5 +1,5 @@
 -- Names in order, and the elements that stand behind one of their name.
-use Rattle.std.proofs.Common.{◌≡◌, ◌↔◌, ◌⊎◌, ℕ, zero, suc, ◌+◌, ◌-◌, ◌<◌, ◌≤◌, Bool, true, false, List, [], ◌∷◌, ◌++◌, length, Option, Some, None, get_or, set, refl, sym, ap, ◌∙◌, subst, inl, inr, arith, All, IsTrue}
+use Rattle.std.proofs.Common.{◌≡◌, ◌↔◌, ◌⊎◌, ℕ, zero, suc, ◌+◌, ◌-◌, ◌<◌, ◌≤◌, Bool, true, false, List, length, Option, Some, get_or, set, refl, sym, ap, ◌∙◌, subst, inl, inr, arith, All, IsTrue}
 use Rattle.std.specs.List.{slice_get}
 use Rattle.std.specs.List.Sorted.{IsSorted, IsPermutation}
 use Rattle.std.specs.Ordering.{is_lt, is_eq, nat_cmp, ordering_then, ordering_reverse}
@@ -11,7 +11,6 @@ use Rattle.std.proofs.lemmas.Cmp.{nat_cmp_total, nat_list_cmp_total, on_total, t
 use Rattle.std.proofs.lemmas.Bool.{cases_lt, cases_eq}
 use Rattle.std.proofs.lemmas.Bool.Decides.{nat_tests}
 use Rattle.std.proofs.lemmas.List.{get_or-set_same, get_or-set_other}
-use Rattle.std.proofs.lemmas.List.Elements.{All-push, Contains-push, Contains-append_left}
 use Rattle.std.proofs.lemmas.List.Sorted.{sorted_far, ranks_by, All-permutation, Contains-permutation}
 use Rattle.std.proofs.lemmas.Option.{slice_get_within, slice_get-get_or, get_or_from_slice_get, same_Some}
 use Rattle.std.proofs.lemmas.Map.Text.{is_eq-slice_cmp}
@@ -19,45 +18,18 @@ use Rattle.std.proofs.lemmas.Slice.Eq.{bytes_eq-Decides}
 use Rattle.std.proofs.lemmas.Grind.{common_steps}
 use Rattle.doc_tables.specs.Tables.{IsRepeated}
 use Rattle.doc_tables.proofs.TableLemmas.{IsWithin}
-use Rattle.fmu_description.specs.Names.{AreNamed, AreNamedBelow, IsBehind, IsBehindAt, IsListed, Named, StandsBehind, named_cmp}
+use Rattle.fmu_description.specs.Names.{AreNamed, AreNamedBelow, IsBehind, IsBehindAt, Named, StandsBehind, named_cmp}
 
--- ---- the list, element by element
+-- ---- the list
 
-listed_more : (named : List Named) (e : Named) (name : List ℕ) (k : ℕ) → IsListed named name k → IsListed (named ++ e ∷ []) name k
-listed_more named e name k is = (is.0, Contains-append_left named (e ∷ []) is.0 is.1, is.2, is.3)
-
-module _ (key : ℕ → Option (List ℕ)) (n : ℕ) (named : List Named) (below : AreNamedBelow key n named) where
-  -- the next element has a name
-  pub added : (e : Named) → e.1 ≡ n → key n ≡ Some e.0.now → AreNamedBelow key (n + 1) (named ++ e ∷ [])
-  added e here is = record {
-    told = All-push (λ (x : Named). key x.1 ≡ Some x.0.now) named e below.told (ap key here ∙ is);
-    whole = λ k name less some. elim (cases_lt k n) [
-      | inl lower ↦ listed_more named e name k (below.whole k name lower some)
-      | inr behind ↦
-          let at : k ≡ n = omega arith in
-          let same : e.0.now ≡ name = same_Some e.0.now name (sym is ∙ ap key (sym at) ∙ some) in
-          (e, Contains-push named e, same, here ∙ sym at)
-    ];
-  }
-
-  -- the next element has none
-  pub passed : key n ≡ None → AreNamedBelow key (n + 1) named
-  passed none = record {
-    told = below.told;
-    whole = λ k name less some. elim (cases_lt k n) [
-      | inl lower ↦ below.whole k name lower some
-      | inr behind ↦ let at : k ≡ n = omega arith in let free : key k ≡ None = ap key at ∙ none in cc
-    ];
-  }
-
-  -- all elements, in another order
-  pub all_named : (ordered : List Named) → IsWithin key n → IsPermutation named ordered → AreNamed key ordered
-  all_named ordered within moved = record {
-    told = All-permutation (λ (x : Named). key x.1 ≡ Some x.0.now) named ordered moved below.told;
-    whole = λ k name some.
-        let is = below.whole k name (within k name some) some in
-        (is.0, Contains-permutation named ordered is.0 moved is.1, is.2, is.3);
-  }
+-- all elements, in another order
+pub all_named : (key : ℕ → Option (List ℕ)) (n : ℕ) (named ordered : List Named) → AreNamedBelow key n named → IsWithin key n → IsPermutation named ordered → AreNamed key ordered
+all_named key n named ordered below within moved = record {
+  told = All-permutation (λ (x : Named). key x.1 ≡ Some x.0.now) named ordered moved below.told;
+  whole = λ k name some.
+      let is = below.whole k name (within k name some) some in
+      (is.0, Contains-permutation named ordered is.0 moved is.1, is.2, is.3);
+}
 
 pub named_within : (key : ℕ → Option (List ℕ)) (n : ℕ) (named : List Named) → IsWithin key n → AreNamed key named → All (λ (e : Named). e.1 < n) named
 named_within key n named within is = λ i d less. within (get_or named i d).1 (get_or named i d).0.now (is.told i d less)

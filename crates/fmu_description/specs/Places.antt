@@ -1,17 +1,26 @@
 -- What the tables of a description have: elements by their value references, the CoSimulation, foreign variables.
-use Rattle.std.specs.Prelude.{◌↔◌, ℕ, Bool, false, IsTrue, List, slice_index_or, Option}
-use Rattle.std.specs.Ordering.{nat_cmp}
-use Rattle.std.specs.BTreeMap.{get}
+use Rattle.std.specs.Prelude.{◌≡◌, ◌↔◌, ◌==◌, ◌<◌, ℕ, Bool, false, IsTrue, List, All, Contains, Option, Some, find, slice_index_or}
+use Rattle.std.specs.Option.{option_map}
 use Rattle.doc_grammar.specs.Nodes.{Node}
-use Rattle.fmu_description.specs.declared.places.Places.{Places}
 use Rattle.fmu_description.specs.declared.foreign.Foreign.{Foreign}
 use Rattle.doc_tables.specs.Tables.{FindsFirst}
 use Rattle.fmu_description.specs.Elements.{is_co_simulation}
 use Rattle.fmu_description.specs.Clocks.{IsForeign}
 
--- the place that a table has for a reference
-abbrev pub found : Places → ℕ → Option ℕ
-found places reference = get nat_cmp places.first reference
+-- the first element that a list has for a reference
+unfoldable pub found : List (ℕ × ℕ) → ℕ → Option ℕ
+found entries reference =
+    option_map (λ (e : ℕ × ℕ). e.1) (find (λ (e : ℕ × ℕ). e.0 == reference) entries)
+
+-- each is listed with its reference, all that have one
+pub record AreListed (key : ℕ → Option ℕ) (entries : List (ℕ × ℕ)) : Type 0 where
+  pub told : All (λ (e : ℕ × ℕ). key e.1 ≡ Some e.0) entries
+  pub whole : (k reference : ℕ) → key k ≡ Some reference → Contains entries (reference, k)
+
+-- the same of the first n
+pub record AreListedBelow (key : ℕ → Option ℕ) (n : ℕ) (entries : List (ℕ × ℕ)) : Type 0 where
+  pub told : All (λ (e : ℕ × ℕ). key e.1 ≡ Some e.0) entries
+  pub whole : (k reference : ℕ) → k < n → key k ≡ Some reference → Contains entries (reference, k)
 
 -- the mark of an element
 abbrev pub is_foreign : Foreign → ℕ → Bool

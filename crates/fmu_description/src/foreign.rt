@@ -148,11 +148,7 @@ fn mark_all(
 fn no_marks(alloc: Global, len: usize) -> Result<Vec<bool>, AllocError>
     ensures { IfOk result (λ marks. marks.items ≡ replicate len false) }
 {
-    let mut marks = Vec::new(alloc);
-    for _ in 0..len {
-        marks.push(false)?;
-    }
-    Ok(marks)
+    Ok(vec![in alloc; false; len]?)
 }
 
 /// The foreign variables of a description.

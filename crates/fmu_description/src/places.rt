@@ -1,46 +1,90 @@
 //! Where the elements with keys stand.
-ghost use Rattle.std.specs.Prelude.{◌≡◌, ◌↔◌, ℕ, ◌+◌, Option, IfOk, IsTrue, OnOk};
-ghost use Rattle.doc_tables.specs.Tables.{IsRepeated, IsTable, IsTableBelow};
+ghost use Rattle.std.specs.Prelude.{◌≡◌, ◌↔◌, ℕ, ◌+◌, Option, IfOk, IsTrue, OnOk, false, nat_lt, slice_get, true};
+ghost use Rattle.std.specs.List.Sorted.{IsPartitionPoint, IsSorted};
+ghost use Rattle.value_types.specs.Index.{entry_cmp};
+ghost use Rattle.doc_tables.specs.Tables.{IsRepeated, IsTable};
 ghost use Rattle.fmu_description.specs.Elements.{clock_key, initial_key, output_key, variable_key};
-ghost use Rattle.fmu_description.specs.Places.{FindsCoSimulation, found};
+ghost use Rattle.fmu_description.specs.Places.{AreListed, AreListedBelow, FindsCoSimulation, found};
 
 use crate::elements;
 use doc_tree::Tree;
 use std::alloc::{AllocError, Global};
-use std::collections::BTreeMap;
+use std::marker::Model;
 
-/// The first element of each value reference.
+/// Elements by their value references. A clause sees the list of both, in the order of the references; those of one
+/// reference are in the order of the elements.
 #[derive(Drop)]
 pub(crate) struct Places {
-    first: BTreeMap<u32, usize>,
+    entries: Vec<(u32, usize)>,
+}
+
+impl Model for Places {
+    ghost use Rattle.std.specs.Prelude.{List, ℕ};
+    ghost use Rattle.std.specs.List.Sorted.{IsSorted};
+    ghost use Rattle.value_types.specs.Index.{entry_cmp};
+
+    ghost Value = { List (ℕ × ℕ) };
+
+    ghost view = { λ p. p.entries.items };
+
+    ghost invariant = { λ p. IsSorted entry_cmp p.entries.items };
+}
+
+// Adds the next element, where it has a reference.
+fn add(
+    entries: &mut Vec<(u32, usize)>,
+    reference: Option<u32>,
+    node: usize,
+) -> Result<(), AllocError>
+    ensures { OnOk result ((key : ℕ → Option ℕ) → reference ≡ key node →
+        AreListedBelow key node entries.old.items →
+        AreListedBelow key (node + 1) entries.new.items) }
+{
+    if let Some(reference) = reference {
+        entries.push((reference, node))?;
+    }
+    Ok(())
+}
+
+// Where the entries of a reference begin, or would.
+fn first_entry(entries: &[(u32, usize)], reference: u32) -> usize
+    ensures { IsSorted entry_cmp entries.now → IsPartitionPoint
+        (λ e. nat_lt e.0 reference ≡ true) (λ e. nat_lt e.0 reference ≡ false) entries.now result }
+{
+    entries.partition_point(|entry| entry.0 < reference)
+}
+
+fn entry_at(entries: &[(u32, usize)], at: usize) -> Option<(u32, usize)>
+    ensures { result ≡ slice_get entries.now at }
+{
+    entries.get(at).copied()
+}
+
+// The first element of a reference.
+fn node_in(entries: &[(u32, usize)], reference: u32) -> Option<usize>
+    ensures { IsSorted entry_cmp entries.now → result ≡ found entries.now reference }
+{
+    match entry_at(entries, first_entry(entries, reference)) {
+        Some((other, node)) => if other == reference { Some(node) } else { None },
+        None => None,
+    }
 }
 
 impl Places {
-    fn new(alloc: Global) -> Places
-        ensures { (reference : ℕ) → found result reference ≡ None }
+    // The elements that are listed.
+    fn new(entries: Vec<(u32, usize)>) -> Places
+        ensures { (key : ℕ → Option ℕ) → AreListed key entries.items → IsTable key (found result) }
     {
-        Places {
-            first: BTreeMap::new(alloc),
-        }
-    }
-
-    // Puts in an element, unless one with its reference is there.
-    fn put(&mut self, reference: Option<u32>, node: usize) -> Result<(), AllocError>
-        ensures { OnOk result ((key : ℕ → Option ℕ) → reference ≡ key node →
-            IsTableBelow key node (found self.old) → IsTableBelow key (node + 1) (found self.new)) }
-    {
-        let Some(reference) = reference else {
-            return Ok(());
-        };
-        self.first.entry(reference)?.or_insert(node);
-        Ok(())
+        let mut entries = entries;
+        entries.sort_unstable();
+        Places { entries }
     }
 
     /// The first element with the reference.
     pub(crate) fn find(&self, reference: u32) -> Option<usize>
         ensures { result ≡ found self.now reference }
     {
-        self.first.get(&reference).copied()
+        node_in(self.entries.as_slice(), reference)
     }
 
     /// Whether an element before this one has its reference, where it has one.
@@ -62,44 +106,44 @@ impl Places {
 pub(crate) fn variable_places(alloc: Global, tree: &Tree) -> Result<Places, AllocError>
     ensures { IfOk result (λ places. IsTable (variable_key tree.now) (found places)) }
 {
-    let mut places = Places::new(alloc);
+    let mut entries = Vec::new(alloc);
     for node in 0..tree.len() {
-        places.put(elements::variable_key(tree, node), node)?;
+        add(&mut entries, elements::variable_key(tree, node), node)?;
     }
-    Ok(places)
+    Ok(Places::new(entries))
 }
 
 /// The first Clock of each value reference.
 pub(crate) fn clock_places(alloc: Global, tree: &Tree) -> Result<Places, AllocError>
     ensures { IfOk result (λ places. IsTable (clock_key tree.now) (found places)) }
 {
-    let mut places = Places::new(alloc);
+    let mut entries = Vec::new(alloc);
     for node in 0..tree.len() {
-        places.put(elements::clock_key(tree, node), node)?;
+        add(&mut entries, elements::clock_key(tree, node), node)?;
     }
-    Ok(places)
+    Ok(Places::new(entries))
 }
 
 /// The first Output of each value reference.
 pub(crate) fn output_places(alloc: Global, tree: &Tree) -> Result<Places, AllocError>
     ensures { IfOk result (λ places. IsTable (output_key tree.now) (found places)) }
 {
-    let mut places = Places::new(alloc);
+    let mut entries = Vec::new(alloc);
     for node in 0..tree.len() {
-        places.put(elements::output_key(tree, node), node)?;
+        add(&mut entries, elements::output_key(tree, node), node)?;
     }
-    Ok(places)
+    Ok(Places::new(entries))
 }
 
 /// The first InitialUnknown of each value reference.
 pub(crate) fn initial_places(alloc: Global, tree: &Tree) -> Result<Places, AllocError>
     ensures { IfOk result (λ places. IsTable (initial_key tree.now) (found places)) }
 {
-    let mut places = Places::new(alloc);
+    let mut entries = Vec::new(alloc);
     for node in 0..tree.len() {
-        places.put(elements::initial_key(tree, node), node)?;
+        add(&mut entries, elements::initial_key(tree, node), node)?;
     }
-    Ok(places)
+    Ok(Places::new(entries))
 }
 
 /// The element CoSimulation that counts.

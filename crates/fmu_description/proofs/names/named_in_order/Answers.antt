@@ -8,5 +8,5 @@ pub returns-clause-named : goal.returns-clause-named
 returns-clause-named c =
     let t = c.args.tree.now in
     let past : length t ≤ c.loop-node.node = omega arith in
-    all_named (name_key t) c.loop-node.node c.loop-node.named.items c.loop-node.invariant c.sort_unstable.new.self.items
+    all_named (name_key t) c.loop-node.node c.loop-node.named.items c.sort_unstable.new.self.items c.loop-node.invariant
     (λ k x some. let within = name_key_within t k x some in omega arith) c.sort_unstable.ensures.permutation

@@ -1,7 +1,6 @@
 use Rattle.fmu_description.specs.Elements.{clock_key}
-use Rattle.doc_tables.specs.Tables.{IsTableBelow}
-use Rattle.fmu_description.specs.Places.{found}
+use Rattle.fmu_description.specs.Places.{AreListedBelow}
 use Rattle.fmu_description.proofs.places.clock_places.Given as goal
 
 abbrev pub invariant-loop-node : goal.invariant-loop-node
-invariant-loop-node l = IsTableBelow (clock_key l.tree) l.node (found l.places)
+invariant-loop-node l = AreListedBelow (clock_key l.tree) l.node l.entries.items
