@@ -29,10 +29,10 @@ pub(crate) fn ask_if<L: Peer>(slot: &mut Slot<L>, call: Option<Call>) -> Result<
     ensures asks { AsksIf call (instance_in L.view slot.old) (instance_in L.view slot.new) result }
 {
     match call {
-        Some(call) => match send(slot, call) {
-            Ok(reply) => Ok(Some(reply)),
-            Err(why) => Err(why),
+        Some(call) => match &send(slot, call) {
+            Ok(reply) => return Ok(Some(*reply)),
+            Err(why) => return Err(*why),
         },
-        None => Ok(None),
+        None => return Ok(None),
     }
 }

@@ -7,6 +7,7 @@ use clock_fraction::{Fraction, to_counts};
 use value_types::{IntervalVariability, PortType, Shape, from_word};
 
 /// Whether what a reply with OK or Warning carries is what the call may get, in any phase that permits the call.
+#[inline(always)]
 pub fn valid(shape: &Shape, _phase: &Phase, call: &Call, content: &Content) -> bool
     ensures { result ≡ is_valid shape.now call.now content.now }
 {
@@ -60,6 +61,7 @@ fn is_word(kind: PortType, word: u64) -> bool
     from_word(kind, word).is_some()
 }
 
+#[inline(never)]
 fn variability_at(shape: &Shape, reference: u32) -> Option<IntervalVariability>
     ensures { result ≡ variability_at shape.now reference }
 {
@@ -69,6 +71,7 @@ fn variability_at(shape: &Shape, reference: u32) -> Option<IntervalVariability>
     }
 }
 
+#[inline(never)]
 fn is_interval(
     variability: Option<IntervalVariability>,
     interval: Interval,
@@ -103,6 +106,7 @@ fn is_known_interval(interval: Interval, resolution: u64) -> bool
 }
 
 // Whether a fraction of a second is a whole number of counts, and at least so many.
+#[inline(never)]
 fn has_counts(least: u128, fraction: Fraction, resolution: u64) -> bool
     ensures { result ≡ has_counts least fraction resolution }
 {
@@ -113,6 +117,7 @@ fn has_counts(least: u128, fraction: Fraction, resolution: u64) -> bool
 }
 
 /// The worth of a reply to a call that the phase permits.
+#[inline(always)]
 pub fn grade(shape: &Shape, phase: &Phase, call: &Call, reply: &Reply) -> Grade
     ensures { result ≡ grade_of shape.now call.now reply.now }
 {

@@ -26,7 +26,42 @@ pub fn advance<L: Peer>(slot: &mut Slot<L>, ask: Ask) -> Result<bool, Why>
     ensures one { One (call_of ask (L.view (peer_in slot.old.held)).fixed.shape) asks_to_end
         (instance_in L.view slot.old) (instance_in L.view slot.new) result }
 {
-    let answer = ask_held(&mut slot.held, ask);
+    match ask {
+        Ask::DoStep { at, size } => return step(slot, at, size),
+        _ => return change(slot, ask),
+    }
+}
+
+// Makes a step where the FMU stands, and says whether its answer asks for the end of the run.
+#[inline(always)]
+fn step<L: Peer>(slot: &mut Slot<L>, at: u64, size: u64) -> Result<bool, Why>
+    requires live { IsLive L.view slot.old.held }
+    requires permitted { Permitted (L.view (peer_in slot.old.held)).fixed.shape
+        (L.view (peer_in slot.old.held)).phase (C.DoStep at size) }
+    ensures live { OnOk result (IsLive L.view slot.new.held) }
+    ensures one { One (C.DoStep at size) asks_to_end (instance_in L.view slot.old)
+        (instance_in L.view slot.new) result }
+{
+    match step_held(&mut slot.held, at, size) {
+        Ok(asks) => return Ok(asks),
+        Err(why) => {
+            slot.is_fatal = slot.is_fatal || is_fatal_why(&why);
+            return Err(why);
+        }
+    }
+}
+
+// Sends a call by which the FMU leaves its typed state.
+#[inline(never)]
+fn change<L: Peer>(slot: &mut Slot<L>, ask: Ask) -> Result<bool, Why>
+    requires live { IsLive L.view slot.old.held }
+    requires permitted { MayBeAsked ask (L.view (peer_in slot.old.held)) }
+    requires transition { IsTransition ask }
+    ensures live { OnOk result (IsLive L.view slot.new.held) }
+    ensures one { One (call_of ask (L.view (peer_in slot.old.held)).fixed.shape) asks_to_end
+        (instance_in L.view slot.old) (instance_in L.view slot.new) result }
+{
+    let answer = move_held(&mut slot.held, ask);
     slot.is_fatal = slot.is_fatal || is_fatal(&answer);
     answer
 }
@@ -53,25 +88,23 @@ fn is_fatal_why(why: &Why) -> bool
     }
 }
 
-// A step is made where the FMU stands, and a transition takes it out of its typed state.
-fn ask_held<L: Peer>(held: &mut Held<L>, ask: Ask) -> Result<bool, Why>
+// A transition takes the FMU out of its typed state.
+fn move_held<L: Peer>(held: &mut Held<L>, ask: Ask) -> Result<bool, Why>
     requires live { IsLive L.view held.old }
     requires permitted { MayBeAsked ask (L.view (peer_in held.old)) }
+    requires transition { IsTransition ask }
     ensures { Moves L.view held.old (call_of ask (L.view (peer_in held.old)).fixed.shape)
         asks_to_end held.new result }
 {
-    match ask {
-        Ask::DoStep { at, size } => step_held(held, at, size),
-        _ => replace_with(
-            held,
-            ask,
-            |held, ask| -> (Held<L>, Result<bool, Why>)
-                requires { IsLive L.view held × MayBeAsked ask (L.view (peer_in held)) × IsTransition ask }
-                ensures { Moves L.view held (call_of ask (L.view (peer_in held)).fixed.shape)
-                    asks_to_end result.0 result.1 }
-            { advance_held(held, ask) },
-        ),
-    }
+    replace_with(
+        held,
+        ask,
+        |held, ask| -> (Held<L>, Result<bool, Why>)
+            requires { IsLive L.view held × MayBeAsked ask (L.view (peer_in held)) × IsTransition ask }
+            ensures { Moves L.view held (call_of ask (L.view (peer_in held)).fixed.shape)
+                asks_to_end result.0 result.1 }
+        { advance_held(held, ask) },
+    )
 }
 
 fn step_held<L: Peer>(held: &mut Held<L>, at: u64, size: u64) -> Result<bool, Why>
@@ -211,8 +244,8 @@ fn do_step<L: Peer>(fmu: &mut Fmu<L, Stepping>, at: u64, size: u64) -> Result<bo
         (Held.Stepping fmu.new) result }
 {
     match fmu.do_step(at, size) {
-        Ok(reply) => Ok(is_terminating(&reply)),
-        Err(why) => Err(why),
+        Ok(reply) => return Ok(is_terminating(&reply)),
+        Err(why) => return Err(why),
     }
 }
 
