@@ -21,6 +21,7 @@ pub(crate) fn shown_value(shape: &Shape, state: &BuiltInState, reference: u32) -
 }
 
 /// Where a step ends early.
+#[inline(never)]
 pub(crate) fn early_end(shape: &Shape, state: &BuiltInState, at: u64, size: u64) -> Option<u64>
     requires { at + size < 2 ^ 64 }
     ensures { result ≡ rung_at shape.now (values_in shape.now.variables state.now) at size }

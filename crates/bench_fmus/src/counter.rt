@@ -17,6 +17,7 @@ const OUTPUT: u32 = 2;
 /// The size from which a step asks to end the simulation, a parameter; none does where it isn't above 0.
 const LONG: u32 = 3;
 
+#[inline(always)]
 pub(crate) fn shown_value(shape: &Shape, state: &BuiltInState, reference: u32) -> i128
     ensures { result ≡ counter.shown shape.now (told state.now.numbers)
         (values_in shape.now.variables state.now) reference }

@@ -39,6 +39,7 @@ impl Model {
     }
 
     /// What a reference shows, before it is wrapped into its type.
+    #[inline(always)]
     pub(crate) fn shown_value(self, shape: &Shape, state: &BuiltInState, reference: u32) -> i128
         ensures { result ≡ (behaviour_of self).shown shape.now (told state.now.numbers)
             (values_in shape.now.variables state.now) reference }
@@ -55,6 +56,7 @@ impl Model {
     }
 
     /// Where a step ends early.
+    #[inline(always)]
     pub(crate) fn early_end(
         self,
         shape: &Shape,

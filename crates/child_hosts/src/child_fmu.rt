@@ -139,6 +139,7 @@ impl Peer for ChildFmu {
         self.peer.phase()
     }
 
+    #[inline(never)]
     fn call(&mut self, call: &Call) -> Result<Reply, PeerFault> {
         self.peer.call(call)
     }

@@ -53,8 +53,8 @@ impl Peer for HostLink {
 
     fn call(&mut self, call: &Call) -> Result<Reply, PeerFault> {
         match self {
-            HostLink::BuiltIn(peer) => peer.call(call),
-            HostLink::Child(peer) => peer.call(call),
+            HostLink::BuiltIn(peer) => return peer.call(call),
+            HostLink::Child(peer) => return peer.call(call),
         }
     }
 }

@@ -33,7 +33,6 @@ pub fn advance<L: Peer>(slot: &mut Slot<L>, ask: Ask) -> Result<bool, Why>
 }
 
 // Makes a step where the FMU stands, and says whether its answer asks for the end of the run.
-#[inline(always)]
 fn step<L: Peer>(slot: &mut Slot<L>, at: u64, size: u64) -> Result<bool, Why>
     requires live { IsLive L.view slot.old.held }
     requires permitted { Permitted (L.view (peer_in slot.old.held)).fixed.shape

@@ -16,6 +16,7 @@ pub(crate) fn append(piece: &[u8], out: &mut [u8], at: usize) -> usize
     end
 }
 
+#[inline(always)]
 #[tactic(auto, using(std::proofs::lemmas::Fmt::decimal_digit))]
 pub(crate) fn append_number(number: u64, out: &mut [u8], at: usize) -> usize
     requires { at + length (decimal number) ≤ length out.old }
