@@ -32,7 +32,7 @@ fn wanted_by(connector: &Connector) -> Option<(usize, &str)>
 }
 
 // For each component and name the first connector that gives them.
-fn wanted(alloc: Global, connectors: &[Connector]) -> Result<ScopedPlaces<'_>, AllocError>
+fn wanted_places(alloc: Global, connectors: &[Connector]) -> Result<ScopedPlaces<'_>, AllocError>
     ensures { IfOk result (λ wanted. IsTable (wanted_at connectors.now) (found_in wanted)) }
 {
     let mut wanted = ScopedPlaces::new(alloc);
@@ -52,7 +52,7 @@ impl<'a> VariableNames<'a> {
         ensures { IfOk result (AreNames connectors.now shapes.now) }
     {
         let mut names = VariableNames {
-            wanted: wanted(alloc, connectors)?,
+            wanted: wanted_places(alloc, connectors)?,
             places: vec![in alloc; None; connectors.len()]?,
         };
         for component in 0..shapes.len() {

@@ -28,7 +28,7 @@ fn ask<L: Peer>(peer: &mut L, call: &Call) -> Result<Reply, Why>
     match peer.call(call) {
         Ok(reply) => match grade(peer.shape(), peer.phase(), call, &reply) {
             Grade::Good => return Ok(reply),
-            Grade::Refused => return Err(refused(call, &reply)),
+            Grade::Refused => return Err(refusal(call, &reply)),
             Grade::Misreply => return Err(misreply(call, &reply)),
         },
         Err(fault) => return Err(lost(call, fault)),
@@ -37,7 +37,7 @@ fn ask<L: Peer>(peer: &mut L, call: &Call) -> Result<Reply, Why>
 
 #[cold]
 #[inline(never)]
-fn refused(call: &Call, reply: &Reply) -> Why
+fn refusal(call: &Call, reply: &Reply) -> Why
     ensures { result ≡ Why.Refused call.now (bad_status_of reply.now) }
 {
     Why::Refused {

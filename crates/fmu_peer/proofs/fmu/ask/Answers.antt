@@ -17,7 +17,7 @@ returns-in-Refused-clause-err g c = record {
   later = search rules;
   rose = search rules;
   quiet = search rules;
-  bad = failed_bad (g.L.Peer.view c.args.peer.now) (g.L.Peer.view c.call.new.self) c.args.call.now (Ok c.in-Ok.reply) c.refused.result c.in-Ok.ensures (search rules);
+  bad = failed_bad (g.L.Peer.view c.args.peer.now) (g.L.Peer.view c.call.new.self) c.args.call.now (Ok c.in-Ok.reply) c.refusal.result c.in-Ok.ensures (search rules);
 }
 
 pub returns-in-Misreply-clause-err : goal.returns-in-Misreply-clause-err

@@ -12,7 +12,7 @@ use Rattle.flatten.proofs.names.VariableNames.new.Goals as goal
 pub loop-component-init : goal.loop-component-init
 loop-component-init c =
     let none : c.in_ok-vec.field-0.items ≡ replicate (length c.args.connectors.now) None = c.in_ok-vec.ensures.items_if_clones_equal (only_none _ (λ x h. h)) in
-    lead_none c.args.connectors.now (record { wanted = c.in_ok-wanted.field-0; places = c.in_ok-vec.field-0 }) c.in_ok-wanted.ensures none
+    lead_none c.args.connectors.now (record { wanted = c.in_ok-wanted_places.field-0; places = c.in_ok-vec.field-0 }) c.in_ok-wanted_places.ensures none
 
 pub loop-component-preserved : goal.loop-component-preserved
 loop-component-preserved c =

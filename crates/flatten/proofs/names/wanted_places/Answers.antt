@@ -7,7 +7,7 @@ use Rattle.doc_tables.proofs.TableLemmas.{table_empty, table_whole}
 use Rattle.ssd_tree.specs.declared.tree.Connector.{Connector}
 use Rattle.flatten.specs.Indexed.{wanted_at, wanted_by}
 use Rattle.flatten.proofs.NameLemmas.{wanted_within}
-use Rattle.flatten.proofs.names.wanted.Goals as goal
+use Rattle.flatten.proofs.names.wanted_places.Goals as goal
 
 pub loop-number-init : goal.loop-number-init
 loop-number-init c = table_empty (wanted_at c.args.connectors.now) (found_in c.new-wanted.result) (λ x. c.new-wanted.ensures x.0 x.1)
