@@ -75,12 +75,14 @@ class Element:
     """An element with its local name, its attributes without prefix, and where its start tag begins.
 
     `line` and `column` count from 1, the column in characters; `byte` counts from 0. `path` is the place as the program tells
-    it: `/NAME[i]` for each level, where i is the number among all elements that stand in the same one.
+    it: `/NAME[i]` for each level, where i is the number among all elements that stand in the same one. `end` is the byte where
+    the end tag begins, if there is one.
     """
 
     def __init__(self, name, attributes, path, line, column, byte):
         self.name, self.attributes, self.path = name, attributes, path
         self.line, self.column, self.byte = line, column, byte
+        self.end = byte
         self.children = []
 
     def get(self, name, default=None):
@@ -133,7 +135,7 @@ def parse_xml(data, path):
         open_ones.append(beside[-1])
 
     def end(_name):
-        open_ones.pop()
+        open_ones.pop().end = parser.CurrentByteIndex
 
     def doctype(*_about):
         raise Told(f"{path}:{parser.CurrentLineNumber}: a document type declaration isn't read")
