@@ -768,16 +768,16 @@ static bool read_resolution(const char *word)
     return resolution >= 1 && resolution <= MOST_COUNTS;
 }
 
-/* How long an answer may take, or 0 for ever; and when the answer that is awaited is late, or 0. */
-static time_t longest_answer;
-static time_t late;
+/* In thousandths of a second: how long an answer may take, or 0 for ever; when the answer that is awaited is late, or 0. */
+static int64_t longest_answer;
+static int64_t late;
 static pthread_mutex_t late_lock = PTHREAD_MUTEX_INITIALIZER;
 
-static time_t now(void)
+static int64_t now(void)
 {
     struct timespec time;
     clock_gettime(CLOCK_MONOTONIC, &time);
-    return time.tv_sec;
+    return (int64_t)time.tv_sec * 1000 + time.tv_nsec / 1000000;
 }
 
 static void await_answer(bool is_awaited)
@@ -785,26 +785,29 @@ static void await_answer(bool is_awaited)
     if (longest_answer == 0)
         return;
     pthread_mutex_lock(&late_lock);
-    late = is_awaited ? now() + longest_answer + 1 : 0;
+    late = is_awaited ? now() + longest_answer : 0;
     pthread_mutex_unlock(&late_lock);
 }
 
-/* A thread that ends the host where an answer is late. Standard error is written to only where that doesn't wait. */
+/*
+ * A thread that ends the host where an answer is late. No answer is late sooner than the longest time from now on, so it
+ * may sleep for that long. Standard error is written to only where that doesn't wait.
+ */
 static void *watch(void *nothing)
 {
     (void)nothing;
     for (;;) {
-        sleep(1);
         pthread_mutex_lock(&late_lock);
-        bool is_late = late != 0 && now() >= late;
+        int64_t left = late != 0 ? late - now() : longest_answer;
         pthread_mutex_unlock(&late_lock);
-        if (is_late)
+        if (left <= 0)
             break;
+        poll(NULL, 0, (int)left);
     }
     char text[512];
     struct pollfd errors = {STDERR_FILENO, POLLOUT, 0};
     int length = snprintf(text, sizeof text, "fmi3_host: %.400s: no answer within %ld seconds\n", directory,
-                          (long)longest_answer);
+                          (long)(longest_answer / 1000));
     if (poll(&errors, 1, 0) == 1 && (errors.revents & POLLOUT) != 0 && write(STDERR_FILENO, text, (size_t)length) < 0)
         _exit(1);
     _exit(1);
@@ -818,9 +821,10 @@ static bool start_watch(void)
         return true;
     if (*word == '\0' || strspn(word, "0123456789") != strlen(word) || strlen(word) > 7)
         return false;
-    longest_answer = (time_t)strtol(word, NULL, 10);
-    if (longest_answer < 1 || longest_answer > 1000000)
+    long seconds_to_wait = strtol(word, NULL, 10);
+    if (seconds_to_wait < 1 || seconds_to_wait > 1000000)
         return false;
+    longest_answer = (int64_t)seconds_to_wait * 1000;
     sigset_t all, kept;
     sigfillset(&all);
     pthread_sigmask(SIG_SETMASK, &all, &kept);

@@ -11,8 +11,8 @@ import struct
 import tempfile
 from fractions import Fraction
 
-from ssp_commands import common
-from ssp_commands.common import Told
+from . import common
+from .common import Told
 
 # beside a description: the value references of the variables that were real, for the host
 REFERENCES = "reals.txt"
