@@ -50,6 +50,8 @@ static void fork_one(void)
 {
     pid_t child = fork();
     if (child == 0) {
+        if (is_to("fork and run"))
+            execlp("sleep", "sleep", "1000", (char *)NULL);
         for (;;)
             pause();
     }
@@ -79,7 +81,7 @@ static bool step(struct model *model, double point, double size, double *end)
         for (volatile int forever = 1; forever;)
             continue;
     }
-    if (is_to("fork"))
+    if (is_to("fork") || is_to("fork and run"))
         fork_one();
     if (is_to("fork and hang")) {
         fork_one();
