@@ -4,6 +4,7 @@ The program knows no reals. Two words of 64 bits are handed on exactly, though: 
 a connection, and the host hands the bits on to the FMU, nothing is rounded. `ssp reals` writes a system in which that is so.
 The documents are edited by the places of their elements: what isn't changed stays as it is, byte for byte.
 """
+import math
 import os
 import re
 import shutil
@@ -35,6 +36,8 @@ DROPPED = (
 REAL_TEXT = re.compile(r"[+-]?(?:[0-9]+(?:\.[0-9]*)?|\.[0-9]+)(?:[Ee][+-]?[0-9]+)?|-?INF|NaN")
 WHOLE_TEXT = re.compile(r"[+-]?0*[0-9]{1,20}")
 LONGEST_TEXT = 1000
+# the program reads 64 levels of elements, so fewer systems
+MOST_LEVELS = 64
 WHITE_SPACE = " \t\r\n"
 
 
@@ -222,9 +225,11 @@ class Unit:
 
     def differs(self, other):
         """Whether a value would have to be converted from the one to the other."""
-        if self.base is not None and other.base is not None:
-            return self.base != other.base
-        return self.name != other.name
+        if self.base is None or other.base is None:
+            return self.name != other.name
+        (exponents, factor, offset), (others, other_factor, other_offset) = self.base, other.base
+        same = exponents == others and math.isclose(factor, other_factor) and math.isclose(offset, other_offset)
+        return not same
 
 
 def unit_of(element, definitions):
@@ -458,6 +463,8 @@ class Plan:
     def read_part(self, element, around):
         """A System or a component with what is in it. The outermost System has no name of its own."""
         names = around if element in self.structure.root.children else [*around, element.get("name", "")]
+        if len(names) > MOST_LEVELS:
+            raise Told(f"{self.structure.at(element)}: more than {MOST_LEVELS} systems in one another")
         part = Part(element, names)
         if element.name == "Component":
             if element.get("source") is None:
@@ -674,6 +681,8 @@ def copy(plan, out):
         raise Told(f"{out} is there already")
     if os.path.commonpath([os.path.realpath(plan.top), os.path.realpath(out)]) == os.path.realpath(plan.top):
         raise Told(f"{out} lies within {plan.top}")
+    if not os.path.isdir(os.path.dirname(out)):
+        raise Told(f"{os.path.dirname(out)}: there is no such folder")
     room = tempfile.mkdtemp(prefix=".reals", dir=os.path.dirname(out))
     try:
         made = os.path.join(room, "made")

@@ -293,12 +293,16 @@ class Reals(Case):
         self.write("d/other.xml", "<a/>")
         self.refused("there is neither SystemStructure.ssd nor modelDescription.xml")
         self.write("d/modelDescription.xml", FMU)
-        for out, line in (("d", "d is there already"), ("d/inside", "lies within"), ("none/o", "No such file or directory")):
+        for out, line in (("d", "d is there already"), ("d/inside", "lies within"), ("none/o", "none: there is no such folder")):
             before = self.files()
             status, _, err = self.call("d", out)
             self.assertEqual(2, status)
             self.assertIn(line, err)
             self.assertEqual(before, self.files())
+
+    def test_systems_that_are_too_deep(self):
+        self.write("d/SystemStructure.ssd", structure("<Elements><System name='s'>" * 3000 + "</System></Elements>" * 3000))
+        self.refused("more than 64 systems in one another")
 
     def test_no_word_of_a_document_in_another_encoding(self):
         self.write("d/modelDescription.xml", ("\ufeff" + FMU).encode("utf-16-le"))
