@@ -319,6 +319,8 @@ class Fmu:
 
     def convert(self, variable):
         element, document = variable.element, self.document
+        if not variable.name:
+            raise Told(f"{document.at(element)}: a {variable.type} without a name")
         at = f"{document.at(element)}: {variable.name}"
         if not re.fullmatch("[0-9]{1,10}", element.get("valueReference", "")):
             raise Told(f"{at}: valueReference is no number")
@@ -542,6 +544,13 @@ class Plan:
             units = [self.unit_at(connector) for connector in (start, end)]
             if differ(*units) and not flag(element, "suppressUnitConversion"):
                 raise Told(f"{at} leads from the unit {units[0].name} to {units[1].name}, and bits can't be converted")
+        # through connectors of Systems that have no unit
+        if not any(flag(element, "suppressUnitConversion") for element, _, _ in net.connections):
+            told = [end for end in net.ends if end[1].unit is not None]
+            for other in told[1:]:
+                if differ(told[0][1].unit, other[1].unit):
+                    units = [f"{part.name}.{variable.name} has the unit {variable.unit.name}" for part, variable in (told[0], other)]
+                    raise Told(f"{at} joins ends of two units: {' and '.join(units)}")
 
     def unit_at(self, connector):
         own = connector.variable.unit if connector.variable is not None else None

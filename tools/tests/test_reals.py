@@ -198,6 +198,7 @@ ROWS = [
     (bound(("blob", '<Binary value="00"/>')), "blob reaches a.blob, parameter of type Binary, which isn't converted"),
     # units that a master would convert
     (joint("y", "z"), "leads from the unit m/s to km/h, and bits can't be converted"),
+    (through("Real", "y", "z"), "joins ends of two units: a.y has the unit m/s and inner.b.z has the unit km/h"),
     (joint("y", "u", second_more=' unit="km/h"'), "the connector b.u has the unit km/h, and its variable m/s"),
     (bound(("k", '<Real value="1" unit="km/h"/>')), "k reaches a.k, whose unit is m/s, and has the unit km/h"),
     # what can't be read
