@@ -3,6 +3,8 @@ import argparse
 import importlib
 import os
 import pkgutil
+import re
+import shlex
 import sys
 from xml.parsers import expat
 
@@ -48,8 +50,8 @@ def make_parser():
     subparsers = parser.add_subparsers(title="subcommands", metavar="SUBCOMMAND", required=True)
     folder = os.path.dirname(os.path.realpath(__file__))
     for found in sorted(pkgutil.iter_modules([folder]), key=lambda module: module.name):
-        if found.name != "common":
-            module = importlib.import_module(f"ssp_commands.{found.name}")
+        module = importlib.import_module(f"ssp_commands.{found.name}")
+        if hasattr(module, "add_parser"):
             module.add_parser(subparsers).set_defaults(run=module.run)
     return parser
 
@@ -66,6 +68,16 @@ def one_line(text):
 
 def escaped(letter):
     return "".join(f"\\x{byte:02x}" for byte in letter.encode("utf-8", "surrogateescape"))
+
+
+def unescaped(text):
+    """A FILE or COMPONENT of the program's lines as it is: there `%` and two digits stand for a byte."""
+    return re.sub(rb"%([0-9A-F]{2})", lambda found: bytes([int(found[1], 16)]), os.fsencode(text)).decode("utf-8", "surrogateescape")
+
+
+def in_shell(word):
+    """A word as it is typed in a shell."""
+    return shlex.quote(word)
 
 
 # ---- XML
