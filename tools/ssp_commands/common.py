@@ -28,7 +28,7 @@ class Parser(argparse.ArgumentParser):
 
 def main(words):
     try:
-        args = make_parser().parse_args(words)
+        args = make_parser(words[:1]).parse_args(words)
         status = args.run(args)
         sys.stdout.flush()
         return status or 0
@@ -45,12 +45,14 @@ def main(words):
         return 130
 
 
-def make_parser():
+def make_parser(wanted):
+    """The parser of the subcommand that is wanted; of all, where there is none of this name."""
     parser = Parser(prog="ssp", description="Small tools around the program ssprun. Nothing here is proved.")
     subparsers = parser.add_subparsers(title="subcommands", metavar="SUBCOMMAND", required=True)
     folder = os.path.dirname(os.path.realpath(__file__))
-    for found in sorted(pkgutil.iter_modules([folder]), key=lambda module: module.name):
-        module = importlib.import_module(f"ssp_commands.{found.name}")
+    names = sorted(module.name for module in pkgutil.iter_modules([folder]))
+    for name in [name for name in names if name in wanted] or names:
+        module = importlib.import_module(f"ssp_commands.{name}")
         if hasattr(module, "add_parser"):
             module.add_parser(subparsers).set_defaults(run=module.run)
     return parser

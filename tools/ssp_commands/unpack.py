@@ -36,7 +36,8 @@ def run(args):
         made = os.path.join(room, "made")
         files, fmus = unpack(args.file, made)
         os.rename(made, folder)
-    print(one_line(f"PLACE
+    of_fmus = f", in folders of {counted(fmus, 'FMU')}" if fmus else ""
+    print(one_line(f"{folder}: {counted(files, 'file')}{of_fmus}"))
     try:
         _, command = suggestion(read_system(folder))
     except (Told, OSError) as why:
