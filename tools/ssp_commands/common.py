@@ -11,6 +11,8 @@ from xml.parsers import expat
 TOP = os.path.dirname(os.path.dirname(os.path.dirname(os.path.realpath(__file__))))
 STRUCTURE = "SystemStructure.ssd"
 DESCRIPTION = "modelDescription.xml"
+# the modules that are no subcommands
+SHARED = ("common", "systems")
 # the longest file that the program reads, in bytes
 LONGEST_FILE = 1 << 24
 
@@ -50,11 +52,10 @@ def make_parser(wanted):
     parser = Parser(prog="ssp", description="Small tools around the program ssprun. Nothing here is proved.")
     subparsers = parser.add_subparsers(title="subcommands", metavar="SUBCOMMAND", required=True)
     folder = os.path.dirname(os.path.realpath(__file__))
-    names = sorted(module.name for module in pkgutil.iter_modules([folder]))
+    names = sorted(module.name for module in pkgutil.iter_modules([folder]) if module.name not in SHARED)
     for name in [name for name in names if name in wanted] or names:
         module = importlib.import_module(f"ssp_commands.{name}")
-        if hasattr(module, "add_parser"):
-            module.add_parser(subparsers).set_defaults(run=module.run)
+        module.add_parser(subparsers).set_defaults(run=module.run)
     return parser
 
 

@@ -30,7 +30,8 @@ def run(args):
     if os.path.lexists(folder) and not os.path.isdir(folder):
         raise Told(f"{folder} is there already, and is no folder: give another DIR")
     above = os.path.dirname(os.path.abspath(folder))
-    os.makedirs(above, exist_ok=True)
+    if not os.path.isdir(above):
+        raise Told(f"{above}: there is no such folder to make {os.path.basename(folder)} in")
     # beside DIR, so that it can be put into its place as a whole
     with tempfile.TemporaryDirectory(prefix=".ssp-unpack-", dir=above) as room:
         made = os.path.join(room, "made")
