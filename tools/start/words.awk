@@ -2,8 +2,8 @@
 #
 #     LC_ALL=C awk -f words.awk -- WORD..
 #
-# Nothing is written and the status is 0 where they are one; else the first thing that isn't as it should be, in one line, and
-# the status is 2. That words are UTF-8 is seen elsewhere. The program reads its words by itself, and is proved to; this is for
+# Where they are one, the status is 0 and the numbers of the words that are DIR and FILE are written, counted from 1; else the first
+# thing that isn't as it should be, in one line, and the status is 2. That words are UTF-8 is seen elsewhere. The program reads its words by itself, and is proved to; this is for
 # the time before it is built, and to say what is wrong. .ci/script compares the two.
 BEGIN {
     most = "4611686018427387904"
@@ -33,6 +33,7 @@ BEGIN {
     for (i = 1; i <= count; i++) if (!(names[i] in value)) fault("--" names[i] " is missing: " wanted(names[i]))
     if ("start" in value && is_less(value["stop"], value["start"]))
         fault("--start " value["start"] " is above --stop " value["stop"])
+    print places
     exit 0
 }
 
@@ -53,6 +54,7 @@ function read_words(   i, word, name, at) {
             if (word == "") fault("a word is empty")
             if (word ~ /^-/) fault("`" word "` is no option; a directory of this name is written ./" word)
             if (found > split(positionals[command], names, " ")) fault("`" word "` is a word too many")
+            places = places (found > 1 ? " " : "") i
             continue
         }
         name = substr(word, 3)
