@@ -3,12 +3,16 @@ import argparse
 import importlib
 import os
 import pkgutil
+import re
+import shlex
 import sys
 from xml.parsers import expat
 
 TOP = os.path.dirname(os.path.dirname(os.path.dirname(os.path.realpath(__file__))))
 STRUCTURE = "SystemStructure.ssd"
 DESCRIPTION = "modelDescription.xml"
+# the modules that are no subcommands
+SHARED = ("common", "systems")
 # the longest file that the program reads, in bytes
 LONGEST_FILE = 1 << 24
 
@@ -26,7 +30,7 @@ class Parser(argparse.ArgumentParser):
 
 def main(words):
     try:
-        args = make_parser().parse_args(words)
+        args = make_parser(words[:1]).parse_args(words)
         status = args.run(args)
         sys.stdout.flush()
         return status or 0
@@ -43,14 +47,15 @@ def main(words):
         return 130
 
 
-def make_parser():
+def make_parser(wanted):
+    """The parser of the subcommand that is wanted; of all, where there is none of this name."""
     parser = Parser(prog="ssp", description="Small tools around the program ssprun. Nothing here is proved.")
     subparsers = parser.add_subparsers(title="subcommands", metavar="SUBCOMMAND", required=True)
     folder = os.path.dirname(os.path.realpath(__file__))
-    for found in sorted(pkgutil.iter_modules([folder]), key=lambda module: module.name):
-        if found.name != "common":
-            module = importlib.import_module(f"ssp_commands.{found.name}")
-            module.add_parser(subparsers).set_defaults(run=module.run)
+    names = sorted(module.name for module in pkgutil.iter_modules([folder]) if module.name not in SHARED)
+    for name in [name for name in names if name in wanted] or names:
+        module = importlib.import_module(f"ssp_commands.{name}")
+        module.add_parser(subparsers).set_defaults(run=module.run)
     return parser
 
 
@@ -66,6 +71,16 @@ def one_line(text):
 
 def escaped(letter):
     return "".join(f"\\x{byte:02x}" for byte in letter.encode("utf-8", "surrogateescape"))
+
+
+def unescaped(text):
+    """A FILE or COMPONENT of the program's lines as it is: there `%` and two digits stand for a byte."""
+    return re.sub(rb"%([0-9A-F]{2})", lambda found: bytes([int(found[1], 16)]), os.fsencode(text)).decode("utf-8", "surrogateescape")
+
+
+def in_shell(word):
+    """A word as it is typed in a shell."""
+    return shlex.quote(word)
 
 
 # ---- XML

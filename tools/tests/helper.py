@@ -1,20 +1,33 @@
 """What the tests of tools/ssp share."""
+import contextlib
+import io
 import os
-import subprocess
 import sys
 import tempfile
 import unittest
 
 TOP = os.path.dirname(os.path.dirname(os.path.dirname(os.path.realpath(__file__))))
 SSP = f"{TOP}/tools/ssp"
+sys.dont_write_bytecode = True
+sys.path.insert(0, f"{TOP}/tools")
+
+from ssp_commands.common import main  # noqa: E402
 
 
 def ssp(*words, cwd=None, text=""):
     """The status of `tools/ssp` at these words, and what it writes on standard output and standard error."""
-    ran = subprocess.run(
-        [sys.executable, SSP, *words], cwd=cwd, input=text.encode(), capture_output=True, timeout=60, check=False
-    )
-    return ran.returncode, ran.stdout.decode(), ran.stderr.decode()
+    out, err, before = io.StringIO(), io.StringIO(), (os.getcwd(), sys.stdin)
+    os.chdir(cwd or before[0])
+    sys.stdin = io.StringIO(text)
+    try:
+        with contextlib.redirect_stdout(out), contextlib.redirect_stderr(err):
+            status = main(list(words))
+    except SystemExit as ended:
+        status = ended.code
+    finally:
+        os.chdir(before[0])
+        sys.stdin = before[1]
+    return status, out.getvalue(), err.getvalue()
 
 
 class Case(unittest.TestCase):
