@@ -2,7 +2,8 @@
 import os
 import re
 from fractions import Fraction
-from math import gcd, lcm
+from functools import reduce
+from math import gcd
 
 from .common import Told, in_shell, one_line
 from .systems import BUILT_IN, OneFmu, read_system
@@ -115,16 +116,25 @@ class Experiment:
             self.clocks.append((Said(interval, name), Said(shift, name)))
 
 
+def lcm(numbers):
+    """The least common multiple of numbers above 0."""
+    return reduce(lambda a, b: a * b // gcd(a, b), numbers, 1)
+
+
+def common_denominator(values):
+    return lcm(value.denominator for value in values)
+
+
 def whole_gcd(values):
     """The greatest time of which all these are whole multiples."""
-    bottom = lcm(*(value.denominator for value in values))
-    return Fraction(gcd(*(int(value * bottom) for value in values)), bottom)
+    bottom = common_denominator(values)
+    return Fraction(reduce(gcd, (int(value * bottom) for value in values)), bottom)
 
 
 def whole_lcm(values):
     """The least time that is a whole multiple of all these."""
-    bottom = gcd(*(value.denominator for value in values))
-    return Fraction(lcm(*(value.numerator for value in values)), bottom)
+    bottom = common_denominator(values)
+    return Fraction(lcm(int(value * bottom) for value in values), bottom)
 
 
 def choose_step(of):
@@ -170,7 +180,7 @@ def suggestion(system):
     times = [value for value in (step, start, stop) if value is not None]
     times += [said.value for pair in of.clocks for said in pair]
     described = [value for value in times if value]
-    resolution = lcm(*(value.denominator for value in described)) if described else None
+    resolution = common_denominator(described) if described else None
     sentences = [of_step, of_start, of_stop]
     if of.clocks:
         listed = ", ".join(f"{interval.whose} {seconds(interval.value)}" for interval, _ in of.clocks)

@@ -45,7 +45,7 @@ function fault(text) {
 
 # The positionals and options behind the command.
 function read_words(   i, word, name, at) {
-    about["DIR"] = "a directory that exists and isn't an option"
+    about["DIR"] = "the folder of the system, or of the FMU"
     about["FILE"] = "the file of a trace"
     for (i = 2; i < ARGC; i++) {
         word = ARGV[i]
@@ -59,10 +59,12 @@ function read_words(   i, word, name, at) {
         }
         name = substr(word, 3)
         at = index(name, "=")
-        if (at > 0) {
-            word = substr(name, at + 1)
-            name = substr(name, 1, at - 1)
-        } else {
+        word = substr(name, at + 1)
+        if (at > 0) name = substr(name, 1, at - 1)
+        if (index(" " options[command] " ", " " name " ") == 0 || name == "")
+            fault("`--" name "` is no option of `" command "`" \
+                (options[command] == "" ? ", which has none" : "; there are --" joined(options[command])))
+        if (at == 0) {
             if (++i >= ARGC) fault("--" name " has no value" (name in is ? ": " wanted(name) : ""))
             word = ARGV[i]
         }
@@ -71,14 +73,12 @@ function read_words(   i, word, name, at) {
 }
 
 function take(name, word) {
-    if (index(" " options[command] " ", " " name " ") == 0 || name == "")
-        fault("`--" name "` is no option of `" command "`" (options[command] == "" ? ", which has none" : "; there are --" joined(options[command])))
     if (name in value) fault("--" name " stands twice")
     value[name] = word
     if (word == "" || word ~ /^-/) fault("--" name " `" word "`: a value isn't empty and doesn't begin with -")
     if (!(name in is)) return
     if (word !~ /^(0|[1-9][0-9]*)$/ || is_less(word, least_of[name]) || is_less(most_of[name], word))
-        fault("--" name " " word ": " wanted(name))
+        fault("--" name " " word ": " wanted(name) (word ~ /^[0-9]*[.][0-9]+$/ ? "; with --resolution 1000, 10 counts are 0.01 s" : ""))
 }
 
 function wanted(name) {
