@@ -2,9 +2,10 @@
 #
 #     LC_ALL=C awk -f words.awk -- WORD..
 #
-# Where they are one, the status is 0 and the numbers of the words that are DIR and FILE are written, counted from 1; else the first
-# thing that isn't as it should be, in one line, and the status is 2. That words are UTF-8 is seen elsewhere. The program reads its words by itself, and is proved to; this is for
-# the time before it is built, and to say what is wrong. .ci/script compares the two.
+# Where they are one, the status is 0 and the numbers of the words that are DIR and FILE are written, counted from 1; else the
+# first thing that isn't as it should be, in one line, and the status is 2. That words are UTF-8 is seen elsewhere. The program
+# reads its words by itself, and is proved to; this is for the time before it is built, and to say what is wrong. .ci/script
+# compares the two.
 BEGIN {
     most = "4611686018427387904"
     run = "resolution step stop start max-iterations host"
@@ -78,7 +79,8 @@ function take(name, word) {
     if (word == "" || word ~ /^-/) fault("--" name " `" word "`: a value isn't empty and doesn't begin with -")
     if (!(name in is)) return
     if (word !~ /^(0|[1-9][0-9]*)$/ || is_less(word, least_of[name]) || is_less(most_of[name], word))
-        fault("--" name " " word ": " wanted(name) (word ~ /^[0-9]*[.][0-9]+$/ ? "; with --resolution 1000, 10 counts are 0.01 s" : ""))
+        fault("--" name " " word ": " wanted(name) \
+            (word ~ /^[0-9]*[.][0-9]+$/ ? "; with --resolution 1000, 10 counts are 0.01 s" : ""))
 }
 
 function wanted(name) {
