@@ -2,7 +2,6 @@
 use bench_fmus::Script;
 use fmi_calls::{BadStatus, Call, Content, Kind, Reply};
 use fmu_peer::PeerFault;
-use std::alloc::{AllocError, Global};
 
 macro_rules! done {
     ($content:expr) => {
@@ -59,23 +58,34 @@ pub(crate) const DIED: Answer = Ok(Reply::Refused {
     status: BadStatus::Fatal,
 });
 
-// The kinds of the calls that a peer got.
-pub(crate) fn kinds_of(alloc: Global, script: &Script) -> Result<Vec<Kind>, AllocError> {
-    let mut kinds = Vec::new(alloc);
-    if let Some(talk) = script.talk() {
-        for exchange in talk {
-            kinds.push(exchange.call.kind())?;
+// The calls that a script got are of these kinds.
+pub(crate) fn got_kinds(script: &Script, kinds: &[Kind]) -> bool {
+    let Some(talk) = script.talk() else {
+        return kinds.is_empty();
+    };
+    if talk.len() != kinds.len() {
+        return false;
+    }
+    for place in 0..kinds.len() {
+        if talk[place].call.kind() != kinds[place] {
+            return false;
         }
     }
-    Ok(kinds)
+    true
 }
 
-pub(crate) fn calls_of(alloc: Global, script: &Script) -> Result<Vec<Call>, AllocError> {
-    let mut calls = Vec::new(alloc);
-    if let Some(talk) = script.talk() {
-        for exchange in talk {
-            calls.push(exchange.call)?;
+// The calls that a script got are these.
+pub(crate) fn got_calls(script: &Script, calls: &[Call]) -> bool {
+    let Some(talk) = script.talk() else {
+        return calls.is_empty();
+    };
+    if talk.len() != calls.len() {
+        return false;
+    }
+    for place in 0..calls.len() {
+        if talk[place].call != calls[place] {
+            return false;
         }
     }
-    Ok(calls)
+    true
 }

@@ -1,7 +1,7 @@
 //! The files that bindings of parameters name: what they are, whether they are there, when they are read, and what is told first.
-use crate::binding_files::{Case, REFUSED, TAKEN, assert_cases, case_folder};
-use crate::memory_runs::{Output, assert_output};
-use crate::system_tests::{CHECK, Structure};
+use crate::binding_files::{Case, REFUSED, TAKEN, case_folder, wrong_case};
+use crate::memory_runs::{Output, outputs};
+use crate::system_tests::{CHECK, Structure, was_asked};
 use std::test::Fail;
 
 // Files that are no set, or no mapping.
@@ -110,7 +110,8 @@ static FORMS: [Case; 9] = [
 
 #[test]
 fn a_file_is_a_set_or_a_mapping(rt: HostRuntime) -> Result<(), Fail> {
-    assert_cases(&rt, rt.alloc(), &FORMS)
+    assert_eq!(rt; wrong_case(&rt, rt.alloc(), &FORMS)?, None);
+    Ok(())
 }
 
 // Files that are missing, unread or no documents.
@@ -260,7 +261,8 @@ static READS: [Case; 10] = [
 
 #[test]
 fn a_file_is_there_and_a_document(rt: HostRuntime) -> Result<(), Fail> {
-    assert_cases(&rt, rt.alloc(), &READS)
+    assert_eq!(rt; wrong_case(&rt, rt.alloc(), &READS)?, None);
+    Ok(())
 }
 
 // What is told first.
@@ -440,11 +442,12 @@ static ORDER: [Case; 18] = [
 
 #[test]
 fn what_is_broken_first_is_told(rt: HostRuntime) -> Result<(), Fail> {
-    assert_cases(&rt, rt.alloc(), &ORDER)
+    assert_eq!(rt; wrong_case(&rt, rt.alloc(), &ORDER)?, None);
+    Ok(())
 }
 
 // Two bindings of one set, the first with a mapping.
-const TWICE: Case = Case {
+static TWICE: Case = Case {
     structure: Structure::Of(
         r#"<Elements><Component name="c" source="counter"><ParameterBindings><ParameterBinding source="v.ssv"><ParameterMapping source="m.ssm"/></ParameterBinding></ParameterBindings></Component><Component name="d" source="counter"><ParameterBindings><ParameterBinding source="v.ssv"/></ParameterBindings></Component></Elements>"#,
     ),
@@ -466,23 +469,24 @@ const TWICE: Case = Case {
 #[test]
 fn bindings_are_read_behind_descriptions(rt: HostRuntime) -> Result<(), Fail> {
     let alloc = rt.alloc();
-    let mut folder = case_folder(alloc, &TWICE)?;
     let output = Output {
         status: 0,
         out: TWICE.size,
         err: "",
     };
-    assert_output(&rt, alloc, &mut folder, CHECK, output)?;
-    let paths = [
-        "d/SystemStructure.ssd",
-        "d/counter/modelDescription.xml",
-        "d/v.ssv",
-        "d/m.ssm",
-        "d/v.ssv",
-    ];
-    assert_eq!(rt; folder.book.asked_paths().len(), paths.len());
-    for (asked, path) in folder.book.asked_paths().iter().zip(paths) {
-        assert_eq!(rt; asked.as_str(), path);
-    }
+    let mut folder = case_folder(alloc, &TWICE)?;
+    assert!(rt; outputs(&rt, alloc, &mut folder, CHECK, &output)?);
+    assert!(rt;
+        was_asked(
+            &folder,
+            &[
+                "d/SystemStructure.ssd",
+                "d/counter/modelDescription.xml",
+                "d/v.ssv",
+                "d/m.ssm",
+                "d/v.ssv",
+            ]
+        )
+    );
     Ok(())
 }

@@ -1,14 +1,12 @@
 //! FMUs, structures and files with bindings of parameters, and what runs and checks over them are to give.
-use crate::memory_runs::{Output, assert_output, make_file};
+use crate::memory_runs::{Output, make_file, outputs};
 use crate::system_tests::{CHECK, COUNTER, RUN, Structure, describe_system, make_files};
 use sim_base::{MemFile, MemFolder};
 use std::alloc::{AllocError, Global};
-use std::process::Abort;
-use std::test::Fail;
 use std::thread::Threads;
 
 // The folders and descriptions of the FMUs that may be named.
-pub(crate) const FOLDERS: &[(&str, &str)] = &[
+pub(crate) static FOLDERS: [(&str, &str); 6] = [
     ("counter", COUNTER),
     // a counter of small numbers
     (
@@ -55,7 +53,7 @@ fn files_with(alloc: Global, source: &str, binding: &str) -> Result<Vec<MemFile>
         "<Elements><Component name=\"c\" source=\"{source}\"><ParameterBindings>{binding}</ParameterBindings></Component></Elements>"
     )?;
     let structure = describe_system(alloc, inside.as_str())?;
-    let mut files = make_files(alloc, &Structure::None, FOLDERS)?;
+    let mut files = make_files(alloc, &Structure::None, &FOLDERS)?;
     files.push(make_file(alloc, "d/SystemStructure.ssd", structure.as_str())?)?;
     Ok(files)
 }
@@ -137,28 +135,60 @@ pub(crate) const TAKEN: Case = Case {
 pub(crate) const REFUSED: Case = Case { status: 4, ..TAKEN };
 
 pub(crate) fn case_folder(alloc: Global, case: &Case) -> Result<MemFolder, AllocError> {
-    let mut files = make_files(alloc, &case.structure, FOLDERS)?;
+    let mut files = make_files(alloc, &case.structure, &FOLDERS)?;
     for (path, text) in case.files {
         files.push(make_file(alloc, path, text)?)?;
     }
     Ok(MemFolder::new(alloc, files, case.reads.to_vec(alloc)?))
 }
 
-pub(crate) fn assert_cases<R: Abort + Threads + Sync>(
+// A run and a check give what is wanted.
+fn holds<R: Threads + Sync>(rt: &R, alloc: Global, case: &Case) -> Result<bool, AllocError> {
+    let run = Output {
+        status: case.status,
+        out: case.out,
+        err: case.err,
+    };
+    let size = Output {
+        out: case.size,
+        ..run
+    };
+    Ok(case_outputs(rt, alloc, case, RUN, &run)? && case_outputs(rt, alloc, case, CHECK, &size)?)
+}
+
+fn case_outputs<R: Threads + Sync>(
+    rt: &R,
+    alloc: Global,
+    case: &Case,
+    words: &str,
+    output: &Output<'_>,
+) -> Result<bool, AllocError> {
+    let mut folder = case_folder(alloc, case)?;
+    outputs(rt, alloc, &mut folder, words, output)
+}
+
+// The place of the first case that doesn't hold.
+pub(crate) fn wrong_case<R: Threads + Sync>(
     rt: &R,
     alloc: Global,
     cases: &[Case],
-) -> Result<(), Fail> {
-    for case in cases {
-        for (words, out) in [(RUN, case.out), (CHECK, case.size)] {
-            let mut folder = case_folder(alloc, case)?;
-            let output = Output {
-                status: case.status,
-                out,
-                err: case.err,
-            };
-            assert_output(rt, alloc, &mut folder, words, output)?;
+) -> Result<Option<usize>, AllocError> {
+    for place in 0..cases.len() {
+        if !holds(rt, alloc, &cases[place])? {
+            return Ok(Some(place));
         }
     }
-    Ok(())
+    Ok(None)
+}
+
+// A run and a check over these files give this.
+pub(crate) fn both_output<R: Threads + Sync>(
+    rt: &R,
+    alloc: Global,
+    files: Vec<MemFile>,
+    run: &Output<'_>,
+    check: &Output<'_>,
+) -> Result<bool, AllocError> {
+    let mut folder = folder_of(alloc, files);
+    Ok(outputs(rt, alloc, &mut folder, RUN, run)? && outputs(rt, alloc, &mut folder, CHECK, check)?)
 }

@@ -1,9 +1,11 @@
 //! The rules that a binding of parameters breaks, where the binding stands and where its value doesn't fit what it reaches.
-use crate::binding_files::{Case, REFUSED, assert_cases, files_apart, files_inline, folder_of};
-use crate::memory_runs::{Output, assert_output};
-use crate::system_tests::{CHECK, RUN, Structure};
+use crate::binding_files::{Case, REFUSED, both_output, files_apart, files_inline, wrong_case};
+use crate::memory_runs::Output;
+use crate::system_tests::Structure;
+use sim_base::MemFile;
 use std::alloc::{AllocError, Global};
 use std::test::Fail;
+use std::thread::Threads;
 
 // What of a binding breaks a rule.
 #[derive(Clone, Copy)]
@@ -349,27 +351,61 @@ fn told_apart(alloc: Global, row: &Broken) -> Result<String, AllocError> {
     }
 }
 
-#[test]
-fn a_broken_rule_is_told_where_the_binding_stands(rt: HostRuntime) -> Result<(), Fail> {
-    let alloc = rt.alloc();
-    for row in &BROKEN {
-        let inline = files_inline(alloc, row.source, row.parameters, row.entries)?;
-        let apart = files_apart(alloc, row.source, row.parameters, row.entries)?;
-        for (files, err) in [
-            (inline, told_inline(alloc, row)?),
-            (apart, told_apart(alloc, row)?),
-        ] {
-            let mut folder = folder_of(alloc, files);
-            let output = Output {
-                status: 4,
-                out: "",
-                err: err.as_str(),
-            };
-            for words in [RUN, CHECK] {
-                assert_output(&rt, alloc, &mut folder, words, output)?;
-            }
+// A run and a check refuse these files with this line.
+fn both_refuse<R: Threads + Sync>(
+    rt: &R,
+    alloc: Global,
+    files: Vec<MemFile>,
+    err: &str,
+) -> Result<bool, AllocError> {
+    let output = Output {
+        status: 4,
+        out: "",
+        err,
+    };
+    both_output(rt, alloc, files, &output, &output)
+}
+
+// The rule is told where the binding stands inside the structure.
+fn is_told_inline<R: Threads + Sync>(
+    rt: &R,
+    alloc: Global,
+    row: &Broken,
+) -> Result<bool, AllocError> {
+    let err = told_inline(alloc, row)?;
+    let files = files_inline(alloc, row.source, row.parameters, row.entries)?;
+    both_refuse(rt, alloc, files, err.as_str())
+}
+
+// And where it stands in files.
+fn is_told_apart<R: Threads + Sync>(
+    rt: &R,
+    alloc: Global,
+    row: &Broken,
+) -> Result<bool, AllocError> {
+    let err = told_apart(alloc, row)?;
+    let files = files_apart(alloc, row.source, row.parameters, row.entries)?;
+    both_refuse(rt, alloc, files, err.as_str())
+}
+
+// The place of the first row that doesn't hold.
+fn wrong_row<R: Threads + Sync>(
+    rt: &R,
+    alloc: Global,
+    rows: &[Broken],
+) -> Result<Option<usize>, AllocError> {
+    for place in 0..rows.len() {
+        let row = &rows[place];
+        if !is_told_inline(rt, alloc, row)? || !is_told_apart(rt, alloc, row)? {
+            return Ok(Some(place));
         }
     }
+    Ok(None)
+}
+
+#[test]
+fn a_broken_rule_is_told_where_the_binding_stands(rt: HostRuntime) -> Result<(), Fail> {
+    assert_eq!(rt; wrong_row(&rt, rt.alloc(), &BROKEN)?, None);
     Ok(())
 }
 
@@ -445,5 +481,6 @@ static REACHED: [Case; 6] = [
 
 #[test]
 fn a_value_fits_what_it_reaches(rt: HostRuntime) -> Result<(), Fail> {
-    assert_cases(&rt, rt.alloc(), &REACHED)
+    assert_eq!(rt; wrong_case(&rt, rt.alloc(), &REACHED)?, None);
+    Ok(())
 }

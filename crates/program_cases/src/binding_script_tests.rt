@@ -1,12 +1,14 @@
 //! Parameters that are set by calls, over scripts: the calls up to a bad answer to one, and the line that it gives.
-use crate::answers::{Answer, FREED, NOT_SET, OTHER_KIND, SET, STARTED, calls_of};
+use crate::answers::{Answer, FREED, NOT_SET, OTHER_KIND, SET, STARTED, got_calls};
 use crate::binding_files::{FOLDERS, folder_of};
-use crate::memory_runs::{Wanted, assert_run};
+use crate::memory_runs::{Wanted, gives};
 use crate::system_tests::{RUN, Structure, make_files};
-use bench_fmus::Scripts;
+use bench_fmus::{Script, Scripts};
 use fmi_calls::{BadStatus, Call, Kind, Reply};
 use sim_base::Items;
+use std::alloc::{AllocError, Global};
 use std::test::Fail;
+use std::thread::Threads;
 use value_types::PortType;
 
 // Two instances of one FMU, and one of another with two parameters.
@@ -186,36 +188,48 @@ static SCRIPTS: [ScriptCase; 7] = [
     },
 ];
 
+fn make_scripts(alloc: Global, answers: &[&[Answer]]) -> Result<Scripts, AllocError> {
+    let mut lists = Vec::new(alloc);
+    for list in answers {
+        lists.push(Items::from_vec(list.to_vec(alloc)?))?;
+    }
+    Ok(Scripts::new(alloc, lists, Vec::new(alloc)))
+}
+
+fn got_each(scripts: &[Script], calls: &[&[Call]]) -> bool {
+    if scripts.len() != calls.len() {
+        return false;
+    }
+    for place in 0..calls.len() {
+        if !got_calls(&scripts[place], calls[place]) {
+            return false;
+        }
+    }
+    true
+}
+
+// The run over scripts gives what is wanted, and each script got its calls.
+fn holds<R: Threads + Sync>(rt: &R, alloc: Global, row: &ScriptCase) -> Result<bool, AllocError> {
+    let wanted = Wanted {
+        words: RUN,
+        outs: row.outs,
+        errs: &[],
+        status: row.status,
+        out: row.out,
+        err: row.err,
+    };
+    let mut scripts = make_scripts(alloc, row.answers)?;
+    let mut folder = folder_of(alloc, make_files(alloc, &SIBLINGS, &FOLDERS)?);
+    Ok(
+        gives(rt, alloc, &wanted, &mut folder, &mut scripts)?
+            && got_each(scripts.retired_peers(), row.calls),
+    )
+}
+
 #[test]
 fn a_bad_answer_to_a_parameter_ends_the_run(rt: HostRuntime) -> Result<(), Fail> {
-    let alloc = rt.alloc();
     for row in &SCRIPTS {
-        let mut lists = Vec::new(alloc);
-        for list in row.answers {
-            lists.push(Items::from_vec(list.to_vec(alloc)?))?;
-        }
-        let mut scripts = Scripts::new(alloc, lists, Vec::new(alloc));
-        let wanted = Wanted {
-            words: RUN,
-            outs: row.outs,
-            errs: &[],
-            status: row.status,
-            out: row.out,
-            err: row.err,
-        };
-        let files = make_files(alloc, &SIBLINGS, FOLDERS)?;
-        let mut folder = folder_of(alloc, files);
-        assert_run(&rt, alloc, &wanted, &mut folder, &mut scripts)?;
-        assert_eq!(rt;
-            scripts.retired_peers().len(),
-            row.calls.len(),
-            "{}",
-            row.err
-        );
-        for (script, calls) in scripts.retired_peers().iter().zip(row.calls) {
-            let made = calls_of(alloc, script)?;
-            assert_eq!(rt; made.as_slice(), *calls, "{}", row.err);
-        }
+        assert!(rt; holds(&rt, rt.alloc(), row)?);
     }
     Ok(())
 }

@@ -1,11 +1,14 @@
 //! The values that bindings of parameters give: by names, aliases, mappings and transformations, up to the ends of each type, and
 //! which of several wins.
-use crate::binding_files::{Case, TAKEN, assert_cases, files_apart, files_inline, folder_of};
-use crate::memory_runs::{Output, assert_output, describe_counter, make_file};
-use crate::system_tests::{CHECK, RUN, Structure};
+use crate::binding_files::{
+    Case, TAKEN, both_output, files_apart, files_inline, folder_of, wrong_case,
+};
+use crate::memory_runs::{Output, describe_counter, make_file, outputs};
+use crate::system_tests::Structure;
 use sim_base::MemFolder;
 use std::alloc::{AllocError, Global};
 use std::test::Fail;
+use std::thread::Threads;
 
 // A binding of a counter, the type of its output, what that shows after one step and after two, and how many names reach nothing.
 struct Given {
@@ -266,34 +269,72 @@ static GIVEN: [Given; 23] = [
     },
 ];
 
-#[test]
-fn a_binding_gives_values(rt: HostRuntime) -> Result<(), Fail> {
-    let alloc = rt.alloc();
-    for row in &GIVEN {
-        let (kind, first, second, unreached) = (row.kind, row.first, row.second, row.unreached);
-        let out = format!(in alloc;
-            "trace 1 1000 0 20\nport 0 {kind} c y\nat 0 0\n0 0\nat 10 0\n0 {first}\nat 20 0\n0 {second}\nend stop 20\n"
-        )?;
-        let size = format!(in alloc; "components 1 ports 1 feeds 0 unreached {unreached}\n")?;
-        let inline = files_inline(alloc, row.source, row.parameters, row.entries)?;
-        let apart = files_apart(alloc, row.source, row.parameters, row.entries)?;
-        for files in [inline, apart] {
-            let mut folder = folder_of(alloc, files);
-            for (words, out) in [(RUN, out.as_str()), (CHECK, size.as_str())] {
-                let output = Output {
-                    status: 0,
-                    out,
-                    err: "",
-                };
-                assert_output(&rt, alloc, &mut folder, words, output)?;
-            }
+// A binding gives its values, inside the structure and in files.
+fn holds<R: Threads + Sync>(rt: &R, alloc: Global, row: &Given) -> Result<bool, AllocError> {
+    let (kind, first, second, unreached) = (row.kind, row.first, row.second, row.unreached);
+    let out = format!(in alloc;
+        "trace 1 1000 0 20\nport 0 {kind} c y\nat 0 0\n0 0\nat 10 0\n0 {first}\nat 20 0\n0 {second}\nend stop 20\n"
+    )?;
+    let size = format!(in alloc; "components 1 ports 1 feeds 0 unreached {unreached}\n")?;
+    let run = Output {
+        status: 0,
+        out: out.as_str(),
+        err: "",
+    };
+    let check = Output {
+        out: size.as_str(),
+        ..run
+    };
+    Ok(
+        inline_outputs(rt, alloc, row, &run, &check)?
+            && apart_outputs(rt, alloc, row, &run, &check)?,
+    )
+}
+
+fn inline_outputs<R: Threads + Sync>(
+    rt: &R,
+    alloc: Global,
+    row: &Given,
+    run: &Output<'_>,
+    check: &Output<'_>,
+) -> Result<bool, AllocError> {
+    let files = files_inline(alloc, row.source, row.parameters, row.entries)?;
+    both_output(rt, alloc, files, run, check)
+}
+
+fn apart_outputs<R: Threads + Sync>(
+    rt: &R,
+    alloc: Global,
+    row: &Given,
+    run: &Output<'_>,
+    check: &Output<'_>,
+) -> Result<bool, AllocError> {
+    let files = files_apart(alloc, row.source, row.parameters, row.entries)?;
+    both_output(rt, alloc, files, run, check)
+}
+
+// The place of the first row that doesn't hold.
+fn wrong_row<R: Threads + Sync>(
+    rt: &R,
+    alloc: Global,
+    rows: &[Given],
+) -> Result<Option<usize>, AllocError> {
+    for place in 0..rows.len() {
+        if !holds(rt, alloc, &rows[place])? {
+            return Ok(Some(place));
         }
     }
+    Ok(None)
+}
+
+#[test]
+fn a_binding_gives_values(rt: HostRuntime) -> Result<(), Fail> {
+    assert_eq!(rt; wrong_row(&rt, rt.alloc(), &GIVEN)?, None);
     Ok(())
 }
 
 // A type, a value, a factor and an offset that lead to one end of the type, that end, and an offset that leads one past it.
-const ENDS: [(&str, &str, &str, &str, &str, &str); 16] = [
+static ENDS: [(&str, &str, &str, &str, &str, &str); 16] = [
     ("Int8", "13", "10", "-3", "127", "-2"),
     ("Int8", "-64", "2", "0", "-128", "-1"),
     ("UInt8", "51", "5", "0", "255", "1"),
@@ -367,28 +408,50 @@ fn scaled_folder(
     Ok(folder_of(alloc, files))
 }
 
+// A counter of such an increment goes in one step to this value.
+fn scales<R: Threads + Sync>(
+    rt: &R,
+    alloc: Global,
+    folder: &mut MemFolder,
+    kind: &str,
+    end: &str,
+) -> Result<bool, AllocError> {
+    let out = format!(in alloc;
+        "trace 1 1000 0 10\nport 0 {kind} c y\nat 0 0\n0 0\nat 10 0\n0 {end}\nend stop 10\n"
+    )?;
+    let output = Output {
+        status: 0,
+        out: out.as_str(),
+        err: "",
+    };
+    outputs(rt, alloc, folder, TO_10, &output)
+}
+
+const TO_10: &str = "run|d|--resolution|1000|--step|10|--stop|10";
+
+const PAST: Output<'static> = Output {
+    status: 4,
+    out: "",
+    err: "refused 53 d/v.ssv /ParameterSet[1]/Parameters[1]/Parameter[1]\n",
+};
+
+// The first offset leads to one end of the type, and the second past it.
+fn reaches_its_end<R: Threads + Sync>(
+    rt: &R,
+    alloc: Global,
+    row: &(&str, &str, &str, &str, &str, &str),
+) -> Result<bool, AllocError> {
+    let (kind, value, factor, offset, end, past) = row;
+    let mut folder = scaled_folder(alloc, kind, value, factor, offset)?;
+    let is_taken = scales(rt, alloc, &mut folder, kind, end)?;
+    let mut folder = scaled_folder(alloc, kind, value, factor, past)?;
+    Ok(is_taken && outputs(rt, alloc, &mut folder, TO_10, &PAST)?)
+}
+
 #[test]
 fn a_scaled_value_goes_to_the_ends_of_its_type(rt: HostRuntime) -> Result<(), Fail> {
-    let alloc = rt.alloc();
-    let words = "run|d|--resolution|1000|--step|10|--stop|10";
-    for (kind, value, factor, offset, end, past) in &ENDS {
-        let out = format!(in alloc;
-            "trace 1 1000 0 10\nport 0 {kind} c y\nat 0 0\n0 0\nat 10 0\n0 {end}\nend stop 10\n"
-        )?;
-        let taken = Output {
-            status: 0,
-            out: out.as_str(),
-            err: "",
-        };
-        let refused = Output {
-            status: 4,
-            out: "",
-            err: "refused 53 d/v.ssv /ParameterSet[1]/Parameters[1]/Parameter[1]\n",
-        };
-        let mut folder = scaled_folder(alloc, kind, value, factor, offset)?;
-        assert_output(&rt, alloc, &mut folder, words, taken)?;
-        let mut folder = scaled_folder(alloc, kind, value, factor, past)?;
-        assert_output(&rt, alloc, &mut folder, words, refused)?;
+    for row in &ENDS {
+        assert!(rt; reaches_its_end(&rt, rt.alloc(), row)?);
     }
     Ok(())
 }
@@ -543,5 +606,6 @@ static LEVELS: [Case; 11] = [
 
 #[test]
 fn one_value_of_a_parameter_wins(rt: HostRuntime) -> Result<(), Fail> {
-    assert_cases(&rt, rt.alloc(), &LEVELS)
+    assert_eq!(rt; wrong_case(&rt, rt.alloc(), &LEVELS)?, None);
+    Ok(())
 }

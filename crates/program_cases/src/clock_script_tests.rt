@@ -1,14 +1,13 @@
 //! An FMU with Clocks by itself, over a script: every call of its run, and what follows a bad answer to each kind of call
 //! that Clocks add.
-use crate::answers::{Answer, ENTERED, EXITED, FREED, STARTED, TERMINATED, calls_of};
-use crate::memory_runs::{Wanted, assert_run, make_file};
-use bench_fmus::Scripts;
+use crate::answers::{Answer, ENTERED, EXITED, FREED, STARTED, TERMINATED, got_calls};
+use crate::memory_runs::{Wanted, gives, make_file};
+use bench_fmus::{Script, Scripts};
 use clock_fraction::Fraction;
 use fmi_calls::{BadStatus, Call, Content, Interval, Reply};
 use fmu_peer::PeerFault;
 use sim_base::{Items, MemFolder};
 use std::alloc::{AllocError, Global};
-use std::process::Abort;
 use std::test::Fail;
 use std::thread::Threads;
 
@@ -187,46 +186,72 @@ fn closing_behind(place: usize, status: BadStatus) -> &'static [Call] {
     }
 }
 
-// Runs the FMU up to a place, whose answer is this one, and compares what is given and each call that is sent.
-fn assert_cut<R: Abort + Threads + Sync>(
+// The calls up to a place, and those of the closing.
+fn calls_up_to(alloc: Global, place: usize, closing: &[Call]) -> Result<Vec<Call>, AllocError> {
+    let mut calls = Vec::new(alloc);
+    for (call, _) in RUN.iter().take(place.saturating_add(1)) {
+        calls.push(*call)?;
+    }
+    calls.extend_from_slice(closing)?;
+    Ok(calls)
+}
+
+// The answers to them, where that at the place is this one.
+fn answers_up_to(
+    alloc: Global,
+    place: usize,
+    answer: Answer,
+    closing: &[Call],
+) -> Result<Vec<Answer>, AllocError> {
+    let mut answers = Vec::new(alloc);
+    for (_, usual) in RUN.iter().take(place) {
+        answers.push(*usual)?;
+    }
+    answers.push(answer)?;
+    for call in closing {
+        answers.push(match call {
+            Call::Terminate => TERMINATED,
+            _ => FREED,
+        })?;
+    }
+    Ok(answers)
+}
+
+fn make_folder(alloc: Global) -> Result<MemFolder, AllocError> {
+    let file = make_file(alloc, "d/modelDescription.xml", CLOCKS)?;
+    Ok(MemFolder::new(alloc, vec![in alloc; file]?, Vec::new(alloc)))
+}
+
+// The only script got the calls up to a place, and those of the closing.
+fn is_only(
+    alloc: Global,
+    scripts: &[Script],
+    place: usize,
+    closing: &[Call],
+) -> Result<bool, AllocError> {
+    let calls = calls_up_to(alloc, place, closing)?;
+    match scripts {
+        [script] => Ok(got_calls(script, &calls)),
+        _ => Ok(false),
+    }
+}
+
+// The FMU up to a place, whose answer is this one, gives what is wanted and gets each call that it is to get.
+fn holds<R: Threads + Sync>(
     rt: &R,
     alloc: Global,
     place: usize,
     answer: Answer,
     closing: &[Call],
     wanted: &Wanted<'_>,
-) -> Result<(), AllocError> {
-    let mut calls = Vec::new(alloc);
-    let mut answers = Vec::new(alloc);
-    for (call, usual) in RUN.iter().take(place) {
-        calls.push(*call)?;
-        answers.push(*usual)?;
-    }
-    if let Some((call, _)) = RUN.get(place) {
-        calls.push(*call)?;
-        answers.push(answer)?;
-    }
-    for call in closing {
-        calls.push(*call)?;
-        answers.push(match call {
-            Call::Terminate => TERMINATED,
-            _ => FREED,
-        })?;
-    }
-    let mut scripts = Scripts::new(
-        alloc,
-        vec![in alloc; Items::from_vec(answers)]?,
-        Vec::new(alloc),
-    );
-    let file = make_file(alloc, "d/modelDescription.xml", CLOCKS)?;
-    let mut folder = MemFolder::new(alloc, vec![in alloc; file]?, Vec::new(alloc));
-    assert_run(rt, alloc, wanted, &mut folder, &mut scripts)?;
-    for script in scripts.retired_peers() {
-        let made = calls_of(alloc, script)?;
-        assert_eq!(rt; made.as_slice(), calls.as_slice(), "{}", wanted.err);
-    }
-    assert_eq!(rt; scripts.retired_peers().len(), 1);
-    Ok(())
+) -> Result<bool, AllocError> {
+    let answers = Items::from_vec(answers_up_to(alloc, place, answer, closing)?);
+    let mut scripts = Scripts::new(alloc, vec![in alloc; answers]?, Vec::new(alloc));
+    let mut folder = make_folder(alloc)?;
+    Ok(
+        gives(rt, alloc, wanted, &mut folder, &mut scripts)?
+            && is_only(alloc, scripts.retired_peers(), place, closing)?,
+    )
 }
 
 #[test]
@@ -241,36 +266,7 @@ fn clocks_are_asked_and_set_in_their_order(rt: HostRuntime) -> Result<(), Fail> 
         out: out.as_str(),
         err: "",
     };
-    assert_cut(&rt, alloc, END, TERMINATED, &FREEING, &wanted)?;
-    Ok(())
-}
-
-#[test]
-fn a_bad_answer_about_a_clock_ends_the_run(rt: HostRuntime) -> Result<(), Fail> {
-    let alloc = rt.alloc();
-    for (place, name, instants) in &BAD {
-        for (status, status_name) in &STATUSES {
-            let out = broken_text(alloc, instants)?;
-            let err = format!(in alloc; "fmu fmu {name} {status_name}\n")?;
-            let kind = RUN
-                .get(*place)
-                .map_or(Call::Update.kind(), |(call, _)| call.kind());
-            let wanted = Wanted {
-                words: WORDS,
-                outs: &[],
-                errs: &[],
-                status: 6,
-                out: out.as_str(),
-                err: err.as_str(),
-            };
-            let answer = Ok(Reply::Refused {
-                kind,
-                status: *status,
-            });
-            let closing = closing_behind(*place, *status);
-            assert_cut(&rt, alloc, *place, answer, closing, &wanted)?;
-        }
-    }
+    assert!(rt; holds(&rt, alloc, END, TERMINATED, &FREEING, &wanted)?);
     Ok(())
 }
 
@@ -284,39 +280,90 @@ fn broken_text(alloc: Global, instants: &[&str]) -> Result<String, AllocError> {
     Ok(out)
 }
 
+// An answer at a place ends the run behind these instants, with this status and line.
+fn ends<R: Threads + Sync>(
+    rt: &R,
+    alloc: Global,
+    place: usize,
+    answer: Answer,
+    closing: &[Call],
+    instants: &[&str],
+    status: u8,
+    err: &str,
+) -> Result<bool, AllocError> {
+    let out = broken_text(alloc, instants)?;
+    let wanted = Wanted {
+        words: WORDS,
+        outs: &[],
+        errs: &[],
+        status,
+        out: out.as_str(),
+        err,
+    };
+    holds(rt, alloc, place, answer, closing, &wanted)
+}
+
+// A refusal at a place ends the run.
+fn refusal_ends<R: Threads + Sync>(
+    rt: &R,
+    alloc: Global,
+    bad: &(usize, &str, &[&str]),
+    status: BadStatus,
+    status_name: &str,
+) -> Result<bool, AllocError> {
+    let (place, name, instants) = bad;
+    let err = format!(in alloc; "fmu fmu {name} {status_name}\n")?;
+    let kind = RUN
+        .get(*place)
+        .map_or(Call::Update.kind(), |(call, _)| call.kind());
+    let answer = Ok(Reply::Refused { kind, status });
+    let closing = closing_behind(*place, status);
+    ends(
+        rt,
+        alloc,
+        *place,
+        answer,
+        closing,
+        instants,
+        6,
+        err.as_str(),
+    )
+}
+
 #[test]
-fn a_wrong_answer_about_a_clock_ends_the_run(rt: HostRuntime) -> Result<(), Fail> {
-    let alloc = rt.alloc();
-    for (place, answer, instants, err) in &WRONG {
-        let out = broken_text(alloc, instants)?;
-        let wanted = Wanted {
-            words: WORDS,
-            outs: &[],
-            errs: &[],
-            status: 7,
-            out: out.as_str(),
-            err,
-        };
-        assert_cut(&rt, alloc, *place, *answer, &FREEING, &wanted)?;
+fn a_bad_answer_about_a_clock_ends_the_run(rt: HostRuntime) -> Result<(), Fail> {
+    for bad in &BAD {
+        for (status, name) in &STATUSES {
+            assert!(rt; refusal_ends(&rt, rt.alloc(), bad, *status, name)?);
+        }
     }
     Ok(())
 }
 
 #[test]
+fn a_wrong_answer_about_a_clock_ends_the_run(rt: HostRuntime) -> Result<(), Fail> {
+    for (place, answer, instants, err) in &WRONG {
+        assert!(rt; ends(&rt, rt.alloc(), *place, *answer, &FREEING, instants, 7, err)?);
+    }
+    Ok(())
+}
+
+// A call that fails ends the run.
+fn failure_ends<R: Threads + Sync>(
+    rt: &R,
+    alloc: Global,
+    bad: &(usize, &str, &[&str]),
+) -> Result<bool, AllocError> {
+    let (place, name, instants) = bad;
+    let err = format!(in alloc; "link fmu {name}\n")?;
+    let answer = Err(PeerFault::Failed);
+    ends(rt, alloc, *place, answer, &[], instants, 5, err.as_str())
+}
+
+#[test]
 fn a_link_that_fails_about_a_clock_ends_the_run(rt: HostRuntime) -> Result<(), Fail> {
-    let alloc = rt.alloc();
-    for (place, name, instants) in &BAD {
-        let out = broken_text(alloc, instants)?;
-        let err = format!(in alloc; "link fmu {name}\n")?;
-        let wanted = Wanted {
-            words: WORDS,
-            outs: &[],
-            errs: &[],
-            status: 5,
-            out: out.as_str(),
-            err: err.as_str(),
-        };
-        assert_cut(&rt, alloc, *place, Err(PeerFault::Failed), &[], &wanted)?;
+    for bad in &BAD {
+        assert!(rt; failure_ends(&rt, rt.alloc(), bad)?);
     }
     Ok(())
 }

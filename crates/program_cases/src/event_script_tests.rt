@@ -1,19 +1,18 @@
 //! A system in which two FMUs have event mode and one has none, over scripts: every call of its run, worked out by hand,
 //! and what follows a bad answer to each kind of call that event mode adds.
-use crate::answers::{Answer, ENTERED, EXITED, FREED, SET, STARTED, TERMINATED, calls_of};
-use crate::memory_runs::{Wanted, assert_run};
+use crate::answers::{Answer, ENTERED, EXITED, FREED, SET, STARTED, TERMINATED, got_calls};
+use crate::memory_runs::{Wanted, gives};
 use crate::system_tests::{Structure, make_files};
-use bench_fmus::Scripts;
+use bench_fmus::{Script, Scripts};
 use fmi_calls::{BadStatus, Call, Content, Kind, Reply};
 use sim_base::{Items, MemFolder};
 use std::alloc::{AllocError, Global};
-use std::process::Abort;
 use std::test::Fail;
 use std::thread::Threads;
 use value_types::PortType;
 
 // A source without event mode, an FMU with event mode that it feeds, and one with event mode by itself.
-const FOLDERS: &[(&str, &str)] = &[
+static FOLDERS: [(&str, &str); 3] = [
     (
         "plain",
         r#"<fmiModelDescription fmiVersion="3.0" modelName="p" instantiationToken="{p}"><CoSimulation modelIdentifier="p" canHandleVariableCommunicationStepSize="true"/><ModelVariables><Int32 name="y" valueReference="2" causality="output" variability="discrete"/></ModelVariables></fmiModelDescription>"#,
@@ -302,17 +301,6 @@ static STATUSES: [(BadStatus, &str, &[Call]); 3] = [
 
 const CLOSING: [Call; 2] = [Call::Terminate, Call::FreeInstance];
 
-// The lines of a component up to a place.
-fn lines_of(alloc: Global, component: usize, place: usize) -> Result<Vec<Line>, AllocError> {
-    let mut lines = Vec::new(alloc);
-    for line in RUN.iter().take(place.saturating_add(1)) {
-        if line.component == component {
-            lines.push(*line)?;
-        }
-    }
-    Ok(lines)
-}
-
 // The answers of a component: those of its lines, the last of which is replaced where the run is cut there, and those of
 // its closing.
 fn answers_of(
@@ -340,25 +328,76 @@ fn answers_of(
     Ok(answers)
 }
 
-// Runs the system over scripts, and compares what it gives and each call that it sends.
-fn assert_cut<R: Abort + Threads + Sync>(
-    rt: &R,
+// The calls that a component gets: those of its lines, and those of its closing.
+fn calls_of(
     alloc: Global,
-    cut: &Cut<'_>,
+    component: usize,
+    place: usize,
     closing: &[Call],
-) -> Result<(), AllocError> {
+) -> Result<Vec<Call>, AllocError> {
+    let mut calls = Vec::new(alloc);
+    for line in RUN.iter().take(place.saturating_add(1)) {
+        if line.component == component {
+            calls.push(line.call)?;
+        }
+    }
+    calls.extend_from_slice(closing)?;
+    Ok(calls)
+}
+
+// How a component is closed: as is asked for where its answer cuts the run, and else as usual.
+fn closing_of<'a>(component: usize, cut: &Cut<'_>, closing: &'a [Call]) -> &'a [Call] {
     let last = RUN.get(cut.place).map_or(P, |line| line.component);
+    if component == last { closing } else { &CLOSING }
+}
+
+fn make_scripts(alloc: Global, cut: &Cut<'_>, closing: &[Call]) -> Result<Scripts, AllocError> {
     let mut lists = Vec::new(alloc);
     for component in P..=F {
-        let closing = if component == last { closing } else { &CLOSING };
+        let closing = closing_of(component, cut, closing);
         lists.push(Items::from_vec(answers_of(alloc, component, cut, closing)?))?;
     }
-    let mut scripts = Scripts::new(alloc, lists, Vec::new(alloc));
+    Ok(Scripts::new(alloc, lists, Vec::new(alloc)))
+}
+
+// The text of a run that goes so far.
+fn text_of(alloc: Global, cut: &Cut<'_>) -> Result<String, AllocError> {
     let mut out = String::from_str(alloc, HEAD)?;
     for instant in cut.instants {
         out.push_str(instant)?;
     }
     out.push_str(cut.end)?;
+    Ok(out)
+}
+
+// Each script got the calls of its component.
+fn got_each(
+    alloc: Global,
+    scripts: &[Script],
+    cut: &Cut<'_>,
+    closing: &[Call],
+) -> Result<bool, AllocError> {
+    if scripts.len() != 3 {
+        return Ok(false);
+    }
+    for component in P..=F {
+        let closing = closing_of(component, cut, closing);
+        let calls = calls_of(alloc, component, cut.place, closing)?;
+        if !got_calls(&scripts[component], &calls) {
+            return Ok(false);
+        }
+    }
+    Ok(true)
+}
+
+// The system over scripts gives what is wanted, and sends each call that it is to send.
+fn holds<R: Threads + Sync>(
+    rt: &R,
+    alloc: Global,
+    cut: &Cut<'_>,
+    closing: &[Call],
+) -> Result<bool, AllocError> {
+    let out = text_of(alloc, cut)?;
     let wanted = Wanted {
         words: cut.words,
         outs: &[],
@@ -367,54 +406,54 @@ fn assert_cut<R: Abort + Threads + Sync>(
         out: out.as_str(),
         err: cut.err,
     };
-    let files = make_files(alloc, &MIXED, FOLDERS)?;
+    let mut scripts = make_scripts(alloc, cut, closing)?;
+    let files = make_files(alloc, &MIXED, &FOLDERS)?;
     let mut folder = MemFolder::new(alloc, files, Vec::new(alloc));
-    assert_run(rt, alloc, &wanted, &mut folder, &mut scripts)?;
-    assert_eq!(rt; scripts.retired_peers().len(), 3);
-    for (component, script) in scripts.retired_peers().iter().enumerate() {
-        let mut calls = Vec::new(alloc);
-        for line in &lines_of(alloc, component, cut.place)? {
-            calls.push(line.call)?;
-        }
-        let closing = if component == last { closing } else { &CLOSING };
-        calls.extend_from_slice(closing)?;
-        let made = calls_of(alloc, script)?;
-        assert_eq!(rt; made.as_slice(), calls.as_slice(), "{}", cut.err);
-    }
-    Ok(())
+    Ok(
+        gives(rt, alloc, &wanted, &mut folder, &mut scripts)?
+            && got_each(alloc, scripts.retired_peers(), cut, closing)?,
+    )
 }
 
 #[test]
 fn instants_follow_as_updates_ask(rt: HostRuntime) -> Result<(), Fail> {
-    let alloc = rt.alloc();
     for cut in &ENDS {
-        assert_cut(&rt, alloc, cut, &CLOSING)?;
+        assert!(rt; holds(&rt, rt.alloc(), cut, &CLOSING)?);
     }
     Ok(())
 }
 
+// A bad answer at a place ends the run, and the instance is closed so.
+fn ends<R: Threads + Sync>(
+    rt: &R,
+    alloc: Global,
+    bad: &(usize, &str, &[&str], &str),
+    status: BadStatus,
+    name: &str,
+    closing: &[Call],
+) -> Result<bool, AllocError> {
+    let (place, call, instants, end) = bad;
+    let err = format!(in alloc; "fmu {call} {name}\n")?;
+    let kind = RUN
+        .get(*place)
+        .map_or(Kind::Update, |line| line.call.kind());
+    let cut = Cut {
+        words: WORDS,
+        place: *place,
+        answer: Ok(Reply::Refused { kind, status }),
+        status: 6,
+        instants,
+        end,
+        err: err.as_str(),
+    };
+    holds(rt, alloc, &cut, closing)
+}
+
 #[test]
 fn a_bad_answer_in_event_mode_ends_the_run(rt: HostRuntime) -> Result<(), Fail> {
-    let alloc = rt.alloc();
-    for (place, call, instants, end) in &BAD {
+    for bad in &BAD {
         for (status, name, closing) in &STATUSES {
-            let err = format!(in alloc; "fmu {call} {name}\n")?;
-            let kind = RUN
-                .get(*place)
-                .map_or(Kind::Update, |line| line.call.kind());
-            let cut = Cut {
-                words: WORDS,
-                place: *place,
-                answer: Ok(Reply::Refused {
-                    kind,
-                    status: *status,
-                }),
-                status: 6,
-                instants,
-                end,
-                err: err.as_str(),
-            };
-            assert_cut(&rt, alloc, &cut, closing)?;
+            assert!(rt; ends(&rt, rt.alloc(), bad, *status, name, closing)?);
         }
     }
     Ok(())

@@ -1,14 +1,15 @@
 //! Systems with Event Mode: several instants at one point, their limit, and values that go through FMUs within an instant.
 use crate::answers::{
-    Answer, ENTERED, EXITED, FREED, READ, STARTED, STEPPED, TERMINATED, kinds_of,
+    Answer, ENTERED, EXITED, FREED, READ, STARTED, STEPPED, TERMINATED, got_kinds,
 };
-use crate::memory_runs::{Output, Wanted, assert_output, assert_run, make_file};
+use crate::memory_runs::{Output, Wanted, gives, make_file, outputs};
 use crate::system_tests::{NESTED, OPEN_RING, RING, RUN, Structure, make_files};
-use bench_fmus::Scripts;
+use bench_fmus::{Script, Scripts};
 use fmi_calls::{Content, Kind, Reply};
 use sim_base::{Items, MemFolder};
 use std::alloc::{AllocError, Global};
 use std::test::Fail;
+use std::thread::Threads;
 
 const ONE: &str = "one|d|--resolution|1000|--step|10|--stop|20";
 
@@ -91,7 +92,8 @@ fn describe_settle(alloc: Global, k: u64) -> Result<String, AllocError> {
 }
 
 // Each instant shows its number at its point.
-fn settling_text(alloc: Global, start: u64, row: &Settling) -> Result<String, AllocError> {
+fn settling_text(alloc: Global, row: &Settling) -> Result<String, AllocError> {
+    let start = row.points.first().map_or(0, |(point, _)| *point);
     let mut text = format!(in alloc; "trace 1 1000 {start} 20\nport 0 Int32 fmu y\n")?;
     for (point, count) in row.points {
         for number in 0..*count {
@@ -102,27 +104,39 @@ fn settling_text(alloc: Global, start: u64, row: &Settling) -> Result<String, Al
     Ok(text)
 }
 
+// One FMU in the directory.
+fn folder_of(alloc: Global, description: &str) -> Result<MemFolder, AllocError> {
+    let file = make_file(alloc, "d/modelDescription.xml", description)?;
+    Ok(MemFolder::new(alloc, vec![in alloc; file]?, Vec::new(alloc)))
+}
+
+fn settle_folder(alloc: Global, k: u64) -> Result<MemFolder, AllocError> {
+    let description = describe_settle(alloc, k)?;
+    folder_of(alloc, description.as_str())
+}
+
+// A run over `settle` gives what is wanted.
+fn settles<R: Threads + Sync>(rt: &R, alloc: Global, row: &Settling) -> Result<bool, AllocError> {
+    let out = settling_text(alloc, row)?;
+    let output = Output {
+        status: row.status,
+        out: out.as_str(),
+        err: row.err,
+    };
+    let mut folder = settle_folder(alloc, row.k)?;
+    outputs(rt, alloc, &mut folder, row.words, &output)
+}
+
 #[test]
 fn a_point_has_instants_up_to_the_limit(rt: HostRuntime) -> Result<(), Fail> {
-    let alloc = rt.alloc();
     for row in &SETTLING {
-        let description = describe_settle(alloc, row.k)?;
-        let file = make_file(alloc, "d/modelDescription.xml", description.as_str())?;
-        let mut folder = MemFolder::new(alloc, vec![in alloc; file]?, Vec::new(alloc));
-        let (start, _) = row.points[0];
-        let out = settling_text(alloc, start, row)?;
-        let output = Output {
-            status: row.status,
-            out: out.as_str(),
-            err: row.err,
-        };
-        assert_output(&rt, alloc, &mut folder, row.words, output)?;
+        assert!(rt; settles(&rt, rt.alloc(), row)?);
     }
     Ok(())
 }
 
 // The folders and descriptions of the FMUs, all with event mode.
-const FOLDERS: &[(&str, &str)] = &[
+static FOLDERS: [(&str, &str); 3] = [
     (
         "counter",
         r#"<fmiModelDescription fmiVersion="3.0" modelName="counter" instantiationToken="{c}"><CoSimulation modelIdentifier="counter" hasEventMode="true" canHandleVariableCommunicationStepSize="true"/><ModelVariables><Int32 name="inc" valueReference="1" causality="parameter" variability="fixed" start="2"/><Int32 name="y" valueReference="2" causality="output" variability="discrete"/></ModelVariables><ModelStructure><Output valueReference="2" dependencies=""/></ModelStructure></fmiModelDescription>"#,
@@ -164,18 +178,27 @@ static SYSTEMS: [(Structure, u8, &str, &str); 3] = [
     ),
 ];
 
+// A run of a system gives what is wanted.
+fn goes_through<R: Threads + Sync>(
+    rt: &R,
+    alloc: Global,
+    structure: &Structure,
+    output: &Output<'_>,
+) -> Result<bool, AllocError> {
+    let files = make_files(alloc, structure, &FOLDERS)?;
+    let mut folder = MemFolder::new(alloc, files, Vec::new(alloc));
+    outputs(rt, alloc, &mut folder, RUN, output)
+}
+
 #[test]
 fn values_go_through_a_system_within_an_instant(rt: HostRuntime) -> Result<(), Fail> {
-    let alloc = rt.alloc();
     for (structure, status, out, err) in &SYSTEMS {
-        let files = make_files(alloc, structure, FOLDERS)?;
-        let mut folder = MemFolder::new(alloc, files, Vec::new(alloc));
         let output = Output {
             status: *status,
             out,
             err,
         };
-        assert_output(&rt, alloc, &mut folder, RUN, output)?;
+        assert!(rt; goes_through(&rt, rt.alloc(), structure, &output)?);
     }
     Ok(())
 }
@@ -208,29 +231,53 @@ const IN_EVENT: Answer = Ok(Reply::Done {
     content: Content::EnterEvent,
 });
 
-// The instants at a later point reach the limit: the calls of the run, and those of the closing.
+// The answers of a run whose instants at a later point reach the limit.
+static ANSWERS: [Answer; 12] = [
+    STARTED,
+    ENTERED,
+    EXITED,
+    READ,
+    UPDATED,
+    IN_STEP,
+    STEPPED,
+    IN_EVENT,
+    READ,
+    UPDATED_FOR_MORE,
+    TERMINATED,
+    FREED,
+];
+
+// The calls of that run, and those of the closing.
+static KINDS: [Kind; 12] = [
+    Kind::Instantiate,
+    Kind::EnterInitialization,
+    Kind::ExitInitialization,
+    Kind::Get,
+    Kind::Update,
+    Kind::EnterStep,
+    Kind::DoStep,
+    Kind::EnterEvent,
+    Kind::Get,
+    Kind::Update,
+    Kind::Terminate,
+    Kind::FreeInstance,
+];
+
+fn make_scripts(alloc: Global) -> Result<Scripts, AllocError> {
+    let answers = Items::from_vec(ANSWERS.to_vec(alloc)?);
+    Ok(Scripts::new(alloc, vec![in alloc; answers]?, Vec::new(alloc)))
+}
+
+fn is_only(scripts: &[Script], kinds: &[Kind]) -> bool {
+    match scripts {
+        [script] => got_kinds(script, kinds),
+        _ => false,
+    }
+}
+
 #[test]
 fn a_later_point_reaches_the_limit(rt: HostRuntime) -> Result<(), Fail> {
     let alloc = rt.alloc();
-    let description = describe_settle(alloc, 0)?;
-    let file = make_file(alloc, "d/modelDescription.xml", description.as_str())?;
-    let mut folder = MemFolder::new(alloc, vec![in alloc; file]?, Vec::new(alloc));
-    let answers = [
-        STARTED,
-        ENTERED,
-        EXITED,
-        READ,
-        UPDATED,
-        IN_STEP,
-        STEPPED,
-        IN_EVENT,
-        READ,
-        UPDATED_FOR_MORE,
-        TERMINATED,
-        FREED,
-    ];
-    let list = Items::from_vec(answers.to_vec(alloc)?);
-    let mut scripts = Scripts::new(alloc, vec![in alloc; list]?, Vec::new(alloc));
     let wanted = Wanted {
         words: "one|d|--resolution|1000|--step|10|--stop|20|--max-iterations|1",
         outs: &[],
@@ -239,28 +286,9 @@ fn a_later_point_reaches_the_limit(rt: HostRuntime) -> Result<(), Fail> {
         out: "trace 1 1000 0 20\nport 0 Int32 fmu y\nat 0 0\n0 0\nat 10 0\n0 0\nend limit 10\n",
         err: "limit 10\n",
     };
-    assert_run(&rt, alloc, &wanted, &mut folder, &mut scripts)?;
-    assert_eq!(rt; scripts.retired_peers().len(), 1);
-    for script in scripts.retired_peers() {
-        let kinds = kinds_of(alloc, script)?;
-        assert_eq!(rt;
-            kinds.as_slice(),
-            [
-                Kind::Instantiate,
-                Kind::EnterInitialization,
-                Kind::ExitInitialization,
-                Kind::Get,
-                Kind::Update,
-                Kind::EnterStep,
-                Kind::DoStep,
-                Kind::EnterEvent,
-                Kind::Get,
-                Kind::Update,
-                Kind::Terminate,
-                Kind::FreeInstance,
-            ]
-            .as_slice()
-        );
-    }
+    let mut scripts = make_scripts(alloc)?;
+    let mut folder = settle_folder(alloc, 0)?;
+    assert!(rt; gives(&rt, alloc, &wanted, &mut folder, &mut scripts)?);
+    assert!(rt; is_only(scripts.retired_peers(), &KINDS));
     Ok(())
 }

@@ -1,10 +1,9 @@
 //! Runs of the program over files and streams in memory, and what each is to give.
-use run_program::run_words;
 use bench_fmus::Bench;
 use fmu_peer::Spawner;
+use run_program::run_words;
 use sim_base::{Items, MemFile, MemFolder, MemSink, Text};
 use std::alloc::{AllocError, Global};
-use std::process::Abort;
 use std::thread::Threads;
 
 // What stands before and behind the counter's variables in its description.
@@ -50,32 +49,26 @@ pub(crate) struct Wanted<'a> {
     pub err: &'a str,
 }
 
-// Runs a command over a folder with a spawner, and compares all that it gives.
-pub(crate) fn assert_run<R: Abort + Threads + Sync, S: Spawner>(
+// What a command gives over a folder with a spawner is what is wanted.
+pub(crate) fn gives<R: Threads + Sync, S: Spawner>(
     rt: &R,
     alloc: Global,
     wanted: &Wanted<'_>,
     folder: &mut MemFolder,
     spawner: &mut S,
-) -> Result<(), AllocError> {
+) -> Result<bool, AllocError> {
+    let outs = wanted.outs.to_vec(alloc)?;
+    let errs = wanted.errs.to_vec(alloc)?;
     let words = split_words(alloc, wanted.words)?;
-    let mut out = MemSink::with_room(alloc, 10_000, 400, wanted.outs.to_vec(alloc)?)?;
-    let mut err = MemSink::with_room(alloc, 1_000, 1, wanted.errs.to_vec(alloc)?)?;
+    let mut out = MemSink::with_room(alloc, 10_000, 400, outs)?;
+    let mut err = MemSink::with_room(alloc, 1_000, 1, errs)?;
     let status = run_words(rt, alloc, &words, folder, spawner, &mut out, &mut err);
-    assert_eq!(rt;
-        err.bytes.as_slice(),
-        wanted.err.as_bytes(),
-        "{}",
-        wanted.err
-    );
-    assert_eq!(rt;
-        out.bytes.as_slice(),
-        wanted.out.as_bytes(),
-        "{}",
-        wanted.out
-    );
-    assert_eq!(rt; status, wanted.status);
-    Ok(())
+    Ok(status == wanted.status && has_got(&out, wanted.out) && has_got(&err, wanted.err))
+}
+
+// The text is all that a sink got.
+pub(crate) fn has_got(sink: &MemSink, text: &str) -> bool {
+    sink.bytes.as_slice() == text.as_bytes()
 }
 
 // What a command gives.
@@ -86,15 +79,14 @@ pub(crate) struct Output<'a> {
     pub err: &'a str,
 }
 
-// Runs a command over a folder with the built-in machines, where each put goes through, and compares all that it gives.
-pub(crate) fn assert_output<R: Abort + Threads + Sync>(
+// What a command gives over a folder with the built-in machines, where each put goes through, is this.
+pub(crate) fn outputs<R: Threads + Sync>(
     rt: &R,
     alloc: Global,
     folder: &mut MemFolder,
     words: &str,
-    output: Output<'_>,
-) -> Result<(), AllocError> {
-    let mut bench = Bench::new(alloc, None, Vec::new(alloc));
+    output: &Output<'_>,
+) -> Result<bool, AllocError> {
     let wanted = Wanted {
         words,
         outs: &[],
@@ -103,5 +95,6 @@ pub(crate) fn assert_output<R: Abort + Threads + Sync>(
         out: output.out,
         err: output.err,
     };
-    assert_run(rt, alloc, &wanted, folder, &mut bench)
+    let mut bench = Bench::new(alloc, None, Vec::new(alloc));
+    gives(rt, alloc, &wanted, folder, &mut bench)
 }

@@ -1,14 +1,13 @@
 //! The rules that systems break, each with its place, and the order in which they are told.
-use crate::memory_runs::{Output, assert_output, make_file};
+use crate::memory_runs::{Output, make_file, outputs};
 use crate::system_tests::{CHECK, COUNTER, GAIN, RUN, Structure, make_files};
 use sim_base::{Items, MemFile, MemFolder, Text};
 use std::alloc::{AllocError, Global};
-use std::process::Abort;
 use std::test::Fail;
 use std::thread::Threads;
 
 // The folders and descriptions of the FMUs that may be named.
-const FOLDERS: &[(&str, &str)] = &[
+static FOLDERS: [(&str, &str); 8] = [
     ("counter", COUNTER),
     ("gain", GAIN),
     // outputs and inputs of several types: `y` is also `z`, and `u` is also `v`
@@ -339,34 +338,57 @@ static REFUSED: [(Structure, u8, &str); 42] = [
     ),
 ];
 
-// A command refuses the files of a folder.
-fn assert_refused<R: Abort + Threads + Sync>(
+// A command refuses the files of a folder, with this status and line.
+fn refuses<R: Threads + Sync>(
     rt: &R,
     alloc: Global,
     folder: &mut MemFolder,
     words: &str,
     status: u8,
     err: &str,
-) -> Result<(), AllocError> {
+) -> Result<bool, AllocError> {
     let output = Output {
         status,
         out: "",
         err,
     };
-    assert_output(rt, alloc, folder, words, output)
+    outputs(rt, alloc, folder, words, &output)
 }
 
-// Both commands refuse files alike.
-#[test]
-fn the_first_rule_is_told(rt: HostRuntime) -> Result<(), Fail> {
-    let alloc = rt.alloc();
-    for (structure, status, err) in &REFUSED {
-        let files = make_files(alloc, structure, FOLDERS)?;
-        let mut folder = MemFolder::new(alloc, files, Vec::new(alloc));
-        for words in [RUN, CHECK] {
-            assert_refused(&rt, alloc, &mut folder, words, *status, err)?;
+// A run and a check refuse a structure alike.
+fn both_refuse<R: Threads + Sync>(
+    rt: &R,
+    alloc: Global,
+    structure: &Structure,
+    status: u8,
+    err: &str,
+) -> Result<bool, AllocError> {
+    let files = make_files(alloc, structure, &FOLDERS)?;
+    let mut folder = MemFolder::new(alloc, files, Vec::new(alloc));
+    Ok(
+        refuses(rt, alloc, &mut folder, RUN, status, err)?
+            && refuses(rt, alloc, &mut folder, CHECK, status, err)?,
+    )
+}
+
+// The place of the first row that doesn't hold.
+fn wrong_row<R: Threads + Sync>(
+    rt: &R,
+    alloc: Global,
+    rows: &[(Structure, u8, &str)],
+) -> Result<Option<usize>, AllocError> {
+    for place in 0..rows.len() {
+        let (structure, status, err) = &rows[place];
+        if !both_refuse(rt, alloc, structure, *status, err)? {
+            return Ok(Some(place));
         }
     }
+    Ok(None)
+}
+
+#[test]
+fn the_first_rule_is_told(rt: HostRuntime) -> Result<(), Fail> {
+    assert_eq!(rt; wrong_row(&rt, rt.alloc(), &REFUSED)?, None);
     Ok(())
 }
 
@@ -397,7 +419,7 @@ fn folder_with(
     description: Vec<u8>,
 ) -> Result<MemFolder, AllocError> {
     let structure = with_elements(alloc, elements)?;
-    let mut files = make_files(alloc, &Structure::None, FOLDERS)?;
+    let mut files = make_files(alloc, &Structure::None, &FOLDERS)?;
     files.push(make_file(alloc, "d/SystemStructure.ssd", structure.as_str())?)?;
     files.push(MemFile {
         path: Text::from_str(alloc, path)?,
@@ -406,41 +428,50 @@ fn folder_with(
     Ok(MemFolder::new(alloc, files, Vec::new(alloc)))
 }
 
-fn assert_size<R: Abort + Threads + Sync>(
+// A check tells this size.
+fn has_size<R: Threads + Sync>(
     rt: &R,
     alloc: Global,
     folder: &mut MemFolder,
     out: &str,
-) -> Result<(), AllocError> {
+) -> Result<bool, AllocError> {
     let output = Output {
         status: 0,
         out,
         err: "",
     };
-    assert_output(rt, alloc, folder, CHECK, output)
+    outputs(rt, alloc, folder, CHECK, &output)
+}
+
+// So many counters, and no other file.
+fn folder_of_counters(alloc: Global, count: u32) -> Result<MemFolder, AllocError> {
+    let elements = repeated_components(alloc, "counter", count)?;
+    folder_with(alloc, elements.as_str(), "d/x", Vec::new(alloc))
 }
 
 #[test]
 fn a_system_has_256_components(rt: HostRuntime) -> Result<(), Fail> {
     let alloc = rt.alloc();
-    let elements = repeated_components(alloc, "counter", 256)?;
-    let mut folder = folder_with(alloc, elements.as_str(), "d/x", Vec::new(alloc))?;
-    assert_size(
-        &rt,
-        alloc,
-        &mut folder,
-        "components 256 ports 256 feeds 0 unreached 0\n",
-    )?;
-    let elements = repeated_components(alloc, "counter", 257)?;
-    let mut folder = folder_with(alloc, elements.as_str(), "d/x", Vec::new(alloc))?;
-    assert_refused(
-        &rt,
-        alloc,
-        &mut folder,
-        CHECK,
-        4,
-        "refused 48 d/SystemStructure.ssd /SystemStructureDescription[1]/System[1]/Elements[1]/Component[257]\n",
-    )?;
+    let mut folder = folder_of_counters(alloc, 256)?;
+    assert!(rt;
+        has_size(
+            &rt,
+            alloc,
+            &mut folder,
+            "components 256 ports 256 feeds 0 unreached 0\n"
+        )?
+    );
+    let mut folder = folder_of_counters(alloc, 257)?;
+    assert!(rt;
+        refuses(
+            &rt,
+            alloc,
+            &mut folder,
+            CHECK,
+            4,
+            "refused 48 d/SystemStructure.ssd /SystemStructureDescription[1]/System[1]/Elements[1]/Component[257]\n"
+        )?
+    );
     Ok(())
 }
 
@@ -460,83 +491,107 @@ fn wide_description(alloc: Global, count: u32) -> Result<Vec<u8>, AllocError> {
     text.as_bytes().to_vec(alloc)
 }
 
+// 128 FMUs of 512 outputs, and so many counters.
+fn wide_folder(alloc: Global, counters: u32) -> Result<MemFolder, AllocError> {
+    let mut elements = repeated_components(alloc, "wide", 128)?;
+    elements.push_str(repeated_components(alloc, "counter", counters)?.as_str())?;
+    let description = wide_description(alloc, 512)?;
+    folder_with(
+        alloc,
+        elements.as_str(),
+        "d/wide/modelDescription.xml",
+        description,
+    )
+}
+
 #[test]
 fn a_system_has_65536_ports(rt: HostRuntime) -> Result<(), Fail> {
     let alloc = rt.alloc();
-    let mut elements = repeated_components(alloc, "wide", 128)?;
-    let description = wide_description(alloc, 512)?;
-    let mut folder = folder_with(
-        alloc,
-        elements.as_str(),
-        "d/wide/modelDescription.xml",
-        description,
-    )?;
-    assert_size(
-        &rt,
-        alloc,
-        &mut folder,
-        "components 128 ports 65536 feeds 0 unreached 0\n",
-    )?;
-    elements.push_str(repeated_components(alloc, "counter", 2)?.as_str())?;
-    let description = wide_description(alloc, 512)?;
-    let mut folder = folder_with(
-        alloc,
-        elements.as_str(),
-        "d/wide/modelDescription.xml",
-        description,
-    )?;
-    assert_refused(
-        &rt,
-        alloc,
-        &mut folder,
-        CHECK,
-        4,
-        "refused 49 d/SystemStructure.ssd /SystemStructureDescription[1]/System[1]/Elements[1]/Component[129]\n",
-    )?;
+    let mut folder = wide_folder(alloc, 0)?;
+    assert!(rt;
+        has_size(
+            &rt,
+            alloc,
+            &mut folder,
+            "components 128 ports 65536 feeds 0 unreached 0\n"
+        )?
+    );
+    let mut folder = wide_folder(alloc, 2)?;
+    assert!(rt;
+        refuses(
+            &rt,
+            alloc,
+            &mut folder,
+            CHECK,
+            4,
+            "refused 49 d/SystemStructure.ssd /SystemStructureDescription[1]/System[1]/Elements[1]/Component[129]\n"
+        )?
+    );
     Ok(())
+}
+
+// A file of one byte so many times, beside elements that name it, and what a check gives.
+struct Large {
+    elements: &'static str,
+    path: &'static str,
+    byte: u8,
+    count: usize,
+    status: u8,
+    err: &'static str,
+}
+
+const PLAIN: &str = r#"<Component name="large0" source="large"/>"#;
+
+const BOUND: &str =
+    r#"<Component name="c" source="counter"><ParameterBindings><ParameterBinding source="v.ssv"/></ParameterBindings></Component>"#;
+
+static LARGE: [Large; 4] = [
+    Large {
+        elements: PLAIN,
+        path: "d/large/modelDescription.xml",
+        byte: b'x',
+        count: 16_777_216,
+        status: 4,
+        err: "refused 2 d/large/modelDescription.xml byte 0\n",
+    },
+    Large {
+        elements: PLAIN,
+        path: "d/large/modelDescription.xml",
+        byte: b'x',
+        count: 16_777_217,
+        status: 3,
+        err: "big d/large/modelDescription.xml\n",
+    },
+    Large {
+        elements: BOUND,
+        path: "d/v.ssv",
+        byte: b' ',
+        count: 16_777_217,
+        status: 3,
+        err: "big d/v.ssv\n",
+    },
+    // no text begins with this byte
+    Large {
+        elements: BOUND,
+        path: "d/v.ssv",
+        byte: 255,
+        count: 1,
+        status: 4,
+        err: "refused 1 d/v.ssv byte 0\n",
+    },
+];
+
+fn refuses_file<R: Threads + Sync>(rt: &R, alloc: Global, row: &Large) -> Result<bool, AllocError> {
+    let bytes = vec![in alloc; row.byte; row.count]?;
+    let mut folder = folder_with(alloc, row.elements, row.path, bytes)?;
+    refuses(rt, alloc, &mut folder, CHECK, row.status, row.err)
 }
 
 // The bytes of a description or of a binding's file are the most that are read, or one more.
 #[test]
 fn a_file_has_16_mebibytes(rt: HostRuntime) -> Result<(), Fail> {
-    let alloc = rt.alloc();
-    let plain = repeated_components(alloc, "large", 1)?;
-    let bound =
-        r#"<Component name="c" source="counter"><ParameterBindings><ParameterBinding source="v.ssv"/></ParameterBindings></Component>"#;
-    let cases = [
-        (
-            plain.as_str(),
-            "d/large/modelDescription.xml",
-            vec![in alloc; b'x'; 16_777_216]?,
-            4,
-            "refused 2 d/large/modelDescription.xml byte 0\n",
-        ),
-        (
-            plain.as_str(),
-            "d/large/modelDescription.xml",
-            vec![in alloc; b'x'; 16_777_217]?,
-            3,
-            "big d/large/modelDescription.xml\n",
-        ),
-        (
-            bound,
-            "d/v.ssv",
-            vec![in alloc; b' '; 16_777_217]?,
-            3,
-            "big d/v.ssv\n",
-        ),
-        // no text begins with this byte
-        (
-            bound,
-            "d/v.ssv",
-            vec![in alloc; 255; 1]?,
-            4,
-            "refused 1 d/v.ssv byte 0\n",
-        ),
-    ];
-    for (elements, path, bytes, status, err) in cases {
-        let mut folder = folder_with(alloc, elements, path, bytes)?;
-        assert_refused(&rt, alloc, &mut folder, CHECK, status, err)?;
+    for row in &LARGE {
+        assert!(rt; refuses_file(&rt, rt.alloc(), row)?);
     }
     Ok(())
 }

@@ -1,15 +1,15 @@
 //! Systems of built-in machines and of scripts, whose texts are worked out by hand.
 use crate::answers::{
     Answer, DIED, ENTERED, EXITED, FREED, NOT_SET, NOT_STEPPED, READ, SET, STARTED, STEPPED,
-    TERMINATED, kinds_of,
+    TERMINATED, got_kinds,
 };
-use crate::memory_runs::{Wanted, assert_run, make_file, split_words};
-use run_program::run_words;
-use bench_fmus::{Bench, Scripts};
+use crate::memory_runs::{Wanted, gives, make_file};
+use bench_fmus::{Bench, Script, Scripts};
 use fmi_calls::{BadStatus, Kind, Reply};
-use sim_base::{Items, MemFile, MemFolder, MemSink};
+use sim_base::{Items, MemFile, MemFolder};
 use std::alloc::{AllocError, Global};
 use std::test::Fail;
+use std::thread::Threads;
 
 pub(crate) const RUN: &str = "run|d|--resolution|1000|--step|10|--stop|20";
 
@@ -23,7 +23,7 @@ pub(crate) const GAIN: &str =
     r#"<fmiModelDescription fmiVersion="3.0" modelName="gain" instantiationToken="{g}"><CoSimulation modelIdentifier="gain" canGetAndSetFMUState="true" canHandleVariableCommunicationStepSize="true"/><ModelVariables><Int32 name="k" valueReference="1" causality="parameter" variability="fixed" start="3"/><Int32 name="u" valueReference="2" causality="input" variability="discrete"/><Int32 name="y" valueReference="3" causality="output" variability="discrete"/></ModelVariables><ModelStructure><Output valueReference="3" dependencies="2"/></ModelStructure></fmiModelDescription>"#;
 
 // The folders and descriptions of the FMUs that may be named.
-const FOLDERS: &[(&str, &str)] = &[
+static FOLDERS: [(&str, &str); 7] = [
     ("counter", COUNTER),
     ("gain", GAIN),
     // a counter with steps of one size alone
@@ -421,49 +421,60 @@ fn wanted_of(case: &Case) -> Wanted<'static> {
 }
 
 fn make_folder(alloc: Global, case: &Case) -> Result<MemFolder, AllocError> {
-    let files = make_files(alloc, &case.structure, FOLDERS)?;
+    let files = make_files(alloc, &case.structure, &FOLDERS)?;
     Ok(MemFolder::new(alloc, files, case.reads.to_vec(alloc)?))
+}
+
+// The place of the first case that doesn't hold.
+fn wrong_case<R: Threads + Sync>(
+    rt: &R,
+    alloc: Global,
+    cases: &[Case],
+) -> Result<Option<usize>, AllocError> {
+    for place in 0..cases.len() {
+        if !holds(rt, alloc, &cases[place])? {
+            return Ok(Some(place));
+        }
+    }
+    Ok(None)
+}
+
+// The command of a case gives what is wanted, with the built-in machines.
+fn holds<R: Threads + Sync>(rt: &R, alloc: Global, case: &Case) -> Result<bool, AllocError> {
+    let mut bench = Bench::new(alloc, None, case.starts.to_vec(alloc)?);
+    let mut folder = make_folder(alloc, case)?;
+    gives(rt, alloc, &wanted_of(case), &mut folder, &mut bench)
 }
 
 #[test]
 fn a_system_gives_its_trace_or_its_line(rt: HostRuntime) -> Result<(), Fail> {
-    let alloc = rt.alloc();
-    for case in &CASES {
-        let mut folder = make_folder(alloc, case)?;
-        let mut bench = Bench::new(alloc, None, case.starts.to_vec(alloc)?);
-        assert_run(&rt, alloc, &wanted_of(case), &mut folder, &mut bench)?;
-    }
+    assert_eq!(rt; wrong_case(&rt, rt.alloc(), &CASES)?, None);
     Ok(())
+}
+
+// The lines of the two loops of TWO_RINGS.
+static LOOPS: [&str; 2] = [
+    "refused 46 d/SystemStructure.ssd /SystemStructureDescription[1]/System[1] ports 0 3 2 1\n",
+    "refused 46 d/SystemStructure.ssd /SystemStructureDescription[1]/System[1] ports 4 7 6 5\n",
+];
+
+// A run of the two rings is refused with this line.
+fn tells<R: Threads + Sync>(rt: &R, alloc: Global, err: &'static str) -> Result<bool, AllocError> {
+    let case = Case {
+        structure: TWO_RINGS,
+        status: 4,
+        err,
+        ..REFUSED
+    };
+    holds(rt, alloc, &case)
 }
 
 // Either of two loops may be told.
 #[test]
 fn one_of_two_loops_is_told(rt: HostRuntime) -> Result<(), Fail> {
-    let alloc = rt.alloc();
-    let words = split_words(alloc, RUN)?;
-    let files = make_files(alloc, &TWO_RINGS, FOLDERS)?;
-    let mut folder = MemFolder::new(alloc, files, Vec::new(alloc));
-    let mut bench = Bench::new(alloc, None, Vec::new(alloc));
-    let mut out = MemSink::with_room(alloc, 200, 8, Vec::new(alloc))?;
-    let mut err = MemSink::with_room(alloc, 200, 1, Vec::new(alloc))?;
-    let status = run_words(
-        &rt,
-        alloc,
-        &words,
-        &mut folder,
-        &mut bench,
-        &mut out,
-        &mut err,
-    );
-    let first =
-        "refused 46 d/SystemStructure.ssd /SystemStructureDescription[1]/System[1] ports 0 3 2 1\n";
-    let second =
-        "refused 46 d/SystemStructure.ssd /SystemStructureDescription[1]/System[1] ports 4 7 6 5\n";
-    assert_eq!(rt; status, 4);
-    assert_eq!(rt; out.bytes.len(), 0);
-    assert!(rt;
-        err.bytes.as_slice() == first.as_bytes() || err.bytes.as_slice() == second.as_bytes()
-    );
+    let first = tells(&rt, rt.alloc(), LOOPS[0])?;
+    let second = tells(&rt, rt.alloc(), LOOPS[1])?;
+    assert!(rt; first || second);
     Ok(())
 }
 
@@ -471,6 +482,20 @@ fn one_of_two_loops_is_told(rt: HostRuntime) -> Result<(), Fail> {
 const SOURCES: Structure = Structure::Of(
     r#"<Elements><Component name="a" source="counter"/><Component name="b" source="./counter/"/><Component name="c" source="./././counter/."/><Component name="d" source="gain"/></Elements>"#,
 );
+
+// The folder was asked for these files, one after another.
+pub(crate) fn was_asked(folder: &MemFolder, paths: &[&str]) -> bool {
+    let asked = folder.book.asked_paths();
+    if asked.len() != paths.len() {
+        return false;
+    }
+    for place in 0..paths.len() {
+        if asked[place].as_str() != paths[place] {
+            return false;
+        }
+    }
+    true
+}
 
 // Each description is read where its source is used first, and no more.
 #[test]
@@ -482,18 +507,19 @@ fn one_description_serves_two_components(rt: HostRuntime) -> Result<(), Fail> {
         out: "components 4 ports 5 feeds 0 unreached 0\n",
         ..WORKED
     };
-    let mut folder = make_folder(alloc, &case)?;
     let mut bench = Bench::new(alloc, None, Vec::new(alloc));
-    assert_run(&rt, alloc, &wanted_of(&case), &mut folder, &mut bench)?;
-    let paths = [
-        "d/SystemStructure.ssd",
-        "d/counter/modelDescription.xml",
-        "d/gain/modelDescription.xml",
-    ];
-    assert_eq!(rt; folder.book.asked_paths().len(), paths.len());
-    for (asked, path) in folder.book.asked_paths().iter().zip(paths) {
-        assert_eq!(rt; asked.as_str(), path);
-    }
+    let mut folder = make_folder(alloc, &case)?;
+    assert!(rt; gives(&rt, alloc, &wanted_of(&case), &mut folder, &mut bench)?);
+    assert!(rt;
+        was_asked(
+            &folder,
+            &[
+                "d/SystemStructure.ssd",
+                "d/counter/modelDescription.xml",
+                "d/gain/modelDescription.xml",
+            ]
+        )
+    );
     Ok(())
 }
 
@@ -672,30 +698,55 @@ fn make_scripts(alloc: Global, answers: &[&[Answer]]) -> Result<Scripts, AllocEr
     Ok(Scripts::new(alloc, lists, Vec::new(alloc)))
 }
 
-#[test]
-fn a_bad_answer_ends_a_system(rt: HostRuntime) -> Result<(), Fail> {
-    let alloc = rt.alloc();
-    for row in &SCRIPTS {
-        let case = Case {
-            structure: row.structure,
-            status: row.status,
-            out: row.out,
-            err: row.err,
-            ..WORKED
-        };
-        let mut folder = make_folder(alloc, &case)?;
-        let mut scripts = make_scripts(alloc, row.answers)?;
-        assert_run(&rt, alloc, &wanted_of(&case), &mut folder, &mut scripts)?;
-        assert_eq!(rt;
-            scripts.retired_peers().len(),
-            row.calls.len(),
-            "{}",
-            row.err
-        );
-        for (script, calls) in scripts.retired_peers().iter().zip(row.calls) {
-            let kinds = kinds_of(alloc, script)?;
-            assert_eq!(rt; kinds.as_slice(), *calls, "{}", row.err);
+// The run of a system over scripts gives what is wanted, and each script got its calls.
+fn scripts_hold<R: Threads + Sync>(
+    rt: &R,
+    alloc: Global,
+    row: &ScriptCase,
+) -> Result<bool, AllocError> {
+    let case = Case {
+        structure: row.structure,
+        status: row.status,
+        out: row.out,
+        err: row.err,
+        ..WORKED
+    };
+    let mut scripts = make_scripts(alloc, row.answers)?;
+    let mut folder = make_folder(alloc, &case)?;
+    Ok(
+        gives(rt, alloc, &wanted_of(&case), &mut folder, &mut scripts)?
+            && got_each(scripts.retired_peers(), row.calls),
+    )
+}
+
+fn got_each(scripts: &[Script], calls: &[&[Kind]]) -> bool {
+    if scripts.len() != calls.len() {
+        return false;
+    }
+    for place in 0..calls.len() {
+        if !got_kinds(&scripts[place], calls[place]) {
+            return false;
         }
     }
+    true
+}
+
+// The place of the first row that doesn't hold.
+fn wrong_script<R: Threads + Sync>(
+    rt: &R,
+    alloc: Global,
+    rows: &[ScriptCase],
+) -> Result<Option<usize>, AllocError> {
+    for place in 0..rows.len() {
+        if !scripts_hold(rt, alloc, &rows[place])? {
+            return Ok(Some(place));
+        }
+    }
+    Ok(None)
+}
+
+#[test]
+fn a_bad_answer_ends_a_system(rt: HostRuntime) -> Result<(), Fail> {
+    assert_eq!(rt; wrong_script(&rt, rt.alloc(), &SCRIPTS)?, None);
     Ok(())
 }

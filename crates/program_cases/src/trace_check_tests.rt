@@ -1,15 +1,14 @@
 //! The check of a trace: the order of what is read, the verdict, and each status.
-use crate::memory_runs::{Wanted, assert_run, make_file};
+use crate::memory_runs::{Wanted, gives, make_file};
 use crate::system_tests::{Structure, make_files};
 use bench_fmus::Bench;
 use sim_base::MemFolder;
 use std::alloc::{AllocError, Global};
-use std::process::Abort;
 use std::test::Fail;
 use std::thread::Threads;
 
 // The folders and descriptions of two samplers: each second, first behind a hundredth of one, and each hundredth.
-const FOLDERS: &[(&str, &str)] = &[
+static FOLDERS: [(&str, &str); 2] = [
     (
         "slow",
         r#"<fmiModelDescription fmiVersion="3.0" modelName="slow" instantiationToken="{slow}"><CoSimulation modelIdentifier="sampler" hasEventMode="true" canGetAndSetFMUState="true" canHandleVariableCommunicationStepSize="true"/><ModelVariables><Clock name="c" valueReference="1" causality="input" variability="discrete" intervalVariability="constant" intervalDecimal="1" shiftDecimal="0.01"/><Int32 name="u" valueReference="2" causality="input" variability="discrete" clocks="1" start="7"/><Int32 name="y" valueReference="3" causality="output" variability="discrete" clocks="1"/></ModelVariables><ModelStructure><Output valueReference="3" dependencies="2"/></ModelStructure></fmiModelDescription>"#,
@@ -228,39 +227,51 @@ static REFUSALS: [Row; 9] = [
     },
 ];
 
-fn assert_rows<R: Abort + Threads + Sync>(
+fn make_folder(alloc: Global, row: &Row) -> Result<MemFolder, AllocError> {
+    let mut files = make_files(alloc, &row.structure, &FOLDERS)?;
+    if let Some(text) = row.text {
+        files.push(make_file(alloc, "t.txt", text)?)?;
+    }
+    Ok(MemFolder::new(alloc, files, row.reads.to_vec(alloc)?))
+}
+
+// A check gives what is wanted.
+fn holds<R: Threads + Sync>(rt: &R, alloc: Global, row: &Row) -> Result<bool, AllocError> {
+    let wanted = Wanted {
+        words: row.words,
+        outs: row.outs,
+        errs: &[],
+        status: row.status,
+        out: row.out,
+        err: row.err,
+    };
+    let mut folder = make_folder(alloc, row)?;
+    let mut bench = Bench::new(alloc, None, Vec::new(alloc));
+    gives(rt, alloc, &wanted, &mut folder, &mut bench)
+}
+
+// The place of the first row that doesn't hold.
+fn wrong_row<R: Threads + Sync>(
     rt: &R,
     alloc: Global,
     rows: &[Row],
-) -> Result<(), AllocError> {
-    for row in rows {
-        let mut files = make_files(alloc, &row.structure, FOLDERS)?;
-        if let Some(text) = row.text {
-            files.push(make_file(alloc, "t.txt", text)?)?;
+) -> Result<Option<usize>, AllocError> {
+    for place in 0..rows.len() {
+        if !holds(rt, alloc, &rows[place])? {
+            return Ok(Some(place));
         }
-        let mut folder = MemFolder::new(alloc, files, row.reads.to_vec(alloc)?);
-        let mut bench = Bench::new(alloc, None, Vec::new(alloc));
-        let wanted = Wanted {
-            words: row.words,
-            outs: row.outs,
-            errs: &[],
-            status: row.status,
-            out: row.out,
-            err: row.err,
-        };
-        assert_run(rt, alloc, &wanted, &mut folder, &mut bench)?;
     }
-    Ok(())
+    Ok(None)
 }
 
 #[test]
 fn a_trace_keeps_the_rules_or_breaks_one_first(rt: HostRuntime) -> Result<(), Fail> {
-    assert_rows(&rt, rt.alloc(), &VERDICTS)?;
+    assert_eq!(rt; wrong_row(&rt, rt.alloc(), &VERDICTS)?, None);
     Ok(())
 }
 
 #[test]
 fn a_trace_is_read_before_its_system(rt: HostRuntime) -> Result<(), Fail> {
-    assert_rows(&rt, rt.alloc(), &REFUSALS)?;
+    assert_eq!(rt; wrong_row(&rt, rt.alloc(), &REFUSALS)?, None);
     Ok(())
 }

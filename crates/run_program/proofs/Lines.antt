@@ -5,7 +5,7 @@ use Rattle.std.proofs.lemmas.List.{append-nil, length-map}
 use Rattle.sim_base.specs.Folder.{FolderView}
 use Rattle.system_model.specs.declared.system.System.{System}
 use Rattle.system_model.specs.Sound.{IsSound}
-use Rattle.command_line.specs.Line.{Check, IsWithin, KeepsLimits, Line, One, Run, RunLine, resolution_of, run_in}
+use Rattle.command_line.specs.Line.{Line}
 use Rattle.system_loading.specs.Assembly.{IsBuilt}
 use Rattle.system_files.specs.declared.loaded.Loaded.{Loaded}
 use Rattle.value_types.specs.declared.shape.Shape.{Shape}
@@ -26,23 +26,6 @@ use Rattle.run_program.specs.declared.outcome.Outcome.{Outcome}
 use Rattle.run_program.specs.Facts.{LoadFacts, search_for}
 use Rattle.run_program.specs.Refusing.{TellsEnd, TellsFile}
 use Rattle.run_program.specs.Runs.{CanRun, HasFolders}
-
--- ---- limits
-
-pub above : (line : Line) → KeepsLimits line → 1 ≤ resolution_of line
-above (One line) k = k.resolution.0
-above (Run line) k = k.resolution.0
-above (Check line) k = k.0
-
-pub within : (line : Line) → KeepsLimits line → resolution_of line ≤ 2 ^ 62
-within (One line) k = k.resolution.1
-within (Run line) k = k.resolution.1
-within (Check line) k = k.1
-
-pub plan_within : (line : Line) → KeepsLimits line → IfSome (run_in line) (λ (asked : RunLine). IsWithin asked.plan)
-plan_within (One line) k = k
-plan_within (Run line) k = k
-plan_within (Check line) k = tt
 
 -- ---- what is loaded
 

@@ -7,3 +7,4 @@ pub mod Rows
 pub mod Refusing
 pub mod Given
 pub mod TraceCheck
+pub mod Requests

@@ -9,6 +9,7 @@ mod outcome;
 mod peers;
 mod refusing;
 mod report;
+mod request;
 mod run;
 mod trace_verdict;
 

@@ -1,13 +1,13 @@
-ghost use Rattle.std.specs.Prelude.{[], ◌≡◌, ◌+◌, ◌<◌, ◌≤◌, ◌^◌, IfOk, IfSome, length, map, option_map};
-ghost use Rattle.command_line.specs.Line.{IsWithin, KeepsLimits, directory_of, line_of, resolution_of, run_in, run_of, texts};
+ghost use Rattle.std.specs.Prelude.{◌≡◌, ◌+◌, ◌<◌, ◌≤◌, length, map};
+ghost use Rattle.command_line.specs.Line.{IsWithin, Line, run_of, texts};
 ghost use Rattle.fmu_peer.specs.Start.{SpawnerView};
 ghost use Rattle.run_model.specs.Laws.{OneTrace};
 ghost use Rattle.sim_base.specs.Sink.{SinkView};
 ghost use Rattle.calling_sequence.specs.Plans.{CountsBy};
 ghost use Rattle.system_model.specs.Bounds.{BindsParameters};
 ghost use Rattle.system_model.specs.declared.system.System.{System};
-ghost use Rattle.run_program.specs.Facts.{CheckFacts, LineFacts, LoadedFacts, RunFacts, subject_of};
-ghost use Rattle.system_files.specs.declared.loaded.Loaded.{Loaded};
+ghost use Rattle.run_program.specs.Facts.{CheckFacts, LineFacts, RunFacts, task_of};
+ghost use Rattle.run_program.specs.Requests.{IsRequestOf, KeepsCounts};
 ghost use Rattle.run_program.specs.Happened.{happened, scene, stage};
 ghost use Rattle.run_program.specs.Peers.{AreKnown, AreStarted, StartsUpTo, with_all_started};
 ghost use Rattle.run_program.specs.TraceCheck.{KeepsRows};
@@ -19,16 +19,17 @@ use crate::outcome::StartCause;
 use crate::peers::{Unstarted, retire_each, start_each};
 use crate::refusing::refuse;
 use crate::report::Report;
+use crate::request::{SystemRequest, request_of};
 use crate::trace_verdict::check_trace;
 use built_in_laws::built_in_runs;
-use command_line::{CommandLine, Options, Request, WordsFault, read_words};
+use command_line::{Options, Request, WordsFault, read_words};
 use fmu_peer::{Spawner, StartFault};
 use run_model::one_trace;
 use sim_base::{Folder, Sink, Text};
 use std::alloc::Global;
 use std::thread::Threads;
 use step_master::{Master, PrepareEnd, PrepareFault, RunEnd, lives_of_peers, runs_of_machines};
-use system_files::{Loaded, Subject, load};
+use system_files::{Loaded, load};
 use system_model::{Bound, System};
 
 /// Does what the words of a command line say, and answers the program's status.
@@ -58,121 +59,51 @@ pub fn run_words<R: Threads + Sync, F: Folder, S: Spawner, O: Sink, E: Sink>(
     one_trace();
     built_in_runs();
     match read_words(alloc, words) {
-        Ok(Request::System(line)) => run_line(rt, alloc, line, folder, spawner, out).put(err),
+        Ok(Request::System(line)) => {
+            run_request(rt, alloc, request_of(line), folder, spawner, out).put(err)
+        }
         Ok(Request::TraceCheck(options)) => check_trace(alloc, options, folder, out, err),
         Err(WordsFault::NoLine) => Report::words(alloc).put(err),
         Err(WordsFault::Memory) => Report::memory(alloc).put(err),
     }
 }
 
-// Does what a line asks for.
-fn run_line<R: Threads + Sync, F: Folder, S: Spawner, O: Sink>(
+// Loads what a request names, and runs it, or tells its size where no run is asked for.
+fn run_request<R: Threads + Sync, F: Folder, S: Spawner, O: Sink>(
     rt: &R,
     alloc: Global,
-    line: CommandLine<'_>,
+    request: SystemRequest<'_>,
     folder: &mut F,
     spawner: &mut S,
     out: &mut O,
 ) -> Report
-    requires { KeepsLimits (line_of line) }
-    ensures { LineFacts result.outcome (line_of line.entry)
+    requires { KeepsCounts request }
+    ensures { (line : Line) → IsRequestOf line request.entry → LineFacts result.outcome line
         (stage (F.view folder.old) (S.view spawner.old) (O.view out.old))
         (stage (F.view folder.new) (S.view spawner.new) (O.view out.new)) }
 {
     match load(
         alloc,
-        subject_of(&line),
-        directory_of(&line),
-        resolution_of(&line),
+        request.subject,
+        request.directory,
+        request.resolution,
         folder,
     ) {
-        Ok(loaded) => run_loaded(rt, alloc, options_of(&line), loaded, spawner, out),
+        Ok(loaded) => match request.run {
+            Some(options) => run_system(rt, alloc, options, loaded, spawner, out),
+            None => tell_size(alloc, &loaded, out),
+        },
         Err(end) => refuse(alloc, end),
     }
 }
 
-fn subject_of(line: &CommandLine<'_>) -> Subject
-    ensures { result ≡ subject_of (line_of line.now) }
-{
-    match line {
-        CommandLine::One(_) => Subject::Fmu,
-        CommandLine::Run(_) | CommandLine::Check(_) => Subject::System,
-    }
-}
-
-fn directory_of<'a>(line: &CommandLine<'a>) -> &'a str
-    ensures { result.now ≡ directory_of (line_of line.now) }
-{
-    match line {
-        CommandLine::One(options) | CommandLine::Run(options) => options.directory,
-        CommandLine::Check(options) => options.directory,
-    }
-}
-
-fn resolution_of(line: &CommandLine<'_>) -> u64
-    ensures { result ≡ resolution_of (line_of line.now) }
-{
-    match line {
-        CommandLine::One(options) | CommandLine::Run(options) => options.plan.resolution,
-        CommandLine::Check(options) => options.resolution,
-    }
-}
-
-// What a run is asked for.
-fn options_of<'a>(line: &CommandLine<'a>) -> Option<Options<'a>>
-    ensures { option_map run_of result ≡ run_in (line_of line.now) }
-{
-    match line {
-        CommandLine::One(options) | CommandLine::Run(options) => Some(*options),
-        CommandLine::Check(_) => None,
-    }
-}
-
-// Runs a system as the options of a run say, or tells its size where there are none.
-fn run_loaded<R: Threads + Sync, S: Spawner, O: Sink>(
-    rt: &R,
-    alloc: Global,
-    options: Option<Options<'_>>,
-    loaded: Loaded,
-    spawner: &mut S,
-    out: &mut O,
-) -> Report
-    requires within { IfSome options (λ o. IsWithin o.plan) }
-    requires runnable { CanRun loaded.system }
-    requires bound { BindsParameters loaded.system loaded.bound }
-    requires counts { IfSome options (λ o. CountsBy loaded.system o.plan) }
-    requires folders { HasFolders loaded.folders loaded.system }
-    ensures { LoadedFacts (option_map run_of options.entry) result.outcome loaded
-        (scene (S.view spawner.old) (O.view out.old)) (scene (S.view spawner.new) (O.view out.new)) }
-{
-    let Loaded {
-        system,
-        bound,
-        folders,
-    } = loaded;
-    match options {
-        Some(options) => run_system(
-            rt,
-            alloc,
-            options,
-            system,
-            bound,
-            folders.as_slice(),
-            spawner,
-            out,
-        ),
-        None => tell_size(alloc, &system, bound.unreached, out),
-    }
-}
-
 // Tells the size of a system.
-fn tell_size<O: Sink>(alloc: Global, system: &System, unreached: u64, out: &mut O) -> Report
-    ensures { (spawner : SpawnerView) (loaded : Loaded) → loaded.system ≡ system.now →
-        loaded.bound.unreached ≡ unreached → CheckFacts result.outcome loaded
+fn tell_size<O: Sink>(alloc: Global, loaded: &Loaded, out: &mut O) -> Report
+    ensures { (spawner : SpawnerView) → CheckFacts result.outcome loaded.now
         (scene spawner (O.view out.old)) (scene spawner (O.view out.new)) }
 {
     let mut text = [0u8; 128];
-    let length = write_size(system, unreached, &mut text);
+    let length = write_size(&loaded.system, loaded.bound.unreached, &mut text);
     Report::of_check(alloc, out.put(&text[..length]).is_ok())
 }
 
@@ -181,20 +112,24 @@ fn run_system<R: Threads + Sync, S: Spawner, O: Sink>(
     rt: &R,
     alloc: Global,
     options: Options<'_>,
-    system: System,
-    bound: Bound,
-    folders: &[Text],
+    loaded: Loaded,
     spawner: &mut S,
     out: &mut O,
 ) -> Report
     requires within { IsWithin options.plan }
-    requires runnable { CanRun system }
-    requires bound { BindsParameters system bound }
-    requires counts { CountsBy system options.plan }
-    requires folders { HasFolders folders.now system }
-    ensures { RunFacts result.outcome (record { plan = options.entry.plan; host = options.entry.host.now; bound = bound; folders = folders.now }) system
+    requires runnable { CanRun loaded.system }
+    requires bound { BindsParameters loaded.system loaded.bound }
+    requires counts { CountsBy loaded.system options.plan }
+    requires folders { HasFolders loaded.folders loaded.system }
+    ensures { RunFacts result.outcome (task_of (run_of options.entry) loaded) loaded.system
         (scene (S.view spawner.old) (O.view out.old)) (scene (S.view spawner.new) (O.view out.new)) }
 {
+    let Loaded {
+        system,
+        bound,
+        folders,
+    } = loaded;
+    let folders = folders.as_slice();
     let components = system.components.as_slice();
     let Ok(naming) = Naming::new(alloc, components) else {
         return Report::memory(alloc);
