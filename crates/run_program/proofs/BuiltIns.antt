@@ -3,7 +3,7 @@ use Rattle.std.proofs.Common.{◌≡◌, inl, inr, ℕ, ◌<◌, List, [], ◌�
 use Rattle.std.specs.Prelude.{All, Contains, unwrap_or, slice_get, slice_index_or, option_map}
 use Rattle.std.proofs.lemmas.List.{length-map}
 use Rattle.std.proofs.lemmas.List.Elements.{All-cons, All-head, All-map, All-nil, All-tail}
-use Rattle.std.proofs.lemmas.Option.{same_Some}
+use Rattle.std.proofs.lemmas.Option.{get_or_from_slice_get, same_Some, slice_get-get_or, slice_get_within}
 use Rattle.fmu_peer.specs.Machine.{Machine}
 use Rattle.fmu_peer.specs.Start.{SpawnerView}
 use Rattle.fmu_peer.specs.View.{Fixed, View}
@@ -15,7 +15,6 @@ use Rattle.bench_fmus.specs.Models.{behaviour_of}
 use Rattle.built_in_laws.specs.BuiltInRuns.{BuiltInsBehaveWell, IsBuiltIn}
 use Rattle.built_in_laws.specs.Clocks.{TellsTimings}
 use Rattle.system_model.specs.declared.bound.Bound.{Bound}
-use Rattle.system_model.proofs.Lists.{all_by_place, at_contains}
 use Rattle.system_model.specs.declared.system.Component.{Component}
 use Rattle.system_model.specs.declared.system.System.{System}
 use Rattle.run_model.specs.Behaved.{WellBehaved}
@@ -45,13 +44,13 @@ all_behind P [] ys all = all
 all_behind P (x ∷ xs) ys all = all_behind P xs ys (All-tail P x (xs ++ ys) all)
 
 built_ins_tell : (peers : List BuiltIn) → All (TellsModel peers) (map (λ (v : View). v.fixed) (map built_in_view peers))
-built_ins_tell peers = all_by_place (TellsModel peers) (map (λ (v : View). v.fixed) (map built_in_view peers)) tells
+built_ins_tell peers = λ k d lt. tells k _ (slice_get-get_or (map (λ (v : View). v.fixed) (map built_in_view peers)) k d lt)
   where
     tells : (k : ℕ) (f : Fixed) → slice_get (map (λ (v : View). v.fixed) (map built_in_view peers)) k ≡ Some f → TellsModel peers f
     tells k f at =
         let v = mapped_at (λ (v : View). v.fixed) (map built_in_view peers) k f at in
         let b = mapped_at built_in_view peers k v.0 v.1 in
-        (b.0, at_contains peers k b.0 b.1, sym v.2 ∙ ap (λ (x : View). x.fixed) (sym b.2))
+        (b.0, (k, slice_get_within peers k b.0 b.1, get_or_from_slice_get peers k b.0 b.0 b.1), sym v.2 ∙ ap (λ (x : View). x.fixed) (sym b.2))
 
 module _ (behave : BuiltInsBehaveWell) (h : Happened) (task : Task) (system : System) (t : Traces h task system) (b : IsOverBuiltIns h) (quiet : All (λ (v : View). v.faults ≡ 0) h.new.run.spawner.retired) where
   retired_is : h.new.run.spawner.retired ≡ h.old.run.spawner.retired ++ t.news

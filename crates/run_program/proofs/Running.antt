@@ -1,10 +1,10 @@
 -- From peers that were started to what holds of their run.
-use Rattle.std.proofs.Common.{◌≡◌, ℕ, ◌-◌, ◌<◌, ◌==◌, Bool, true, false, not, List, ◌++◌, Some, None, refl, sym, ap, ◌∙◌, subst, arith, length}
+use Rattle.std.proofs.Common.{◌≡◌, ℕ, ◌-◌, ◌<◌, ◌==◌, Bool, true, false, not, List, [], ◌∷◌, ◌++◌, Some, None, refl, sym, ap, ◌∙◌, subst, arith, length}
 use Rattle.std.specs.Prelude.{if◌then◌else◌, position}
 use Rattle.std.proofs.lemmas.List.{length-map}
+use Rattle.std.proofs.lemmas.List.Quantifiers.{position-Some}
 use Rattle.std.proofs.lemmas.Option.{none-some as none_some, same_Some, slice_get_within}
 use Rattle.sim_base.specs.Sink.{SinkView}
-use Rattle.value_types.proofs.IndexLemmas.{placed_within}
 use Rattle.fmi_calls.specs.Next.{fresh}
 use Rattle.fmu_peer.specs.View.{View}
 use Rattle.system_model.specs.declared.bound.Bound.{Bound}
@@ -65,7 +65,11 @@ unfit_within system plan size k is = by (size == plan.step) is
   where
     by : (b : Bool) → (if b then None else position (λ (c : Component). not c.shape.has_variable_steps) system.components) ≡ Some k → k < length system.components
     by true h = absurd (none_some k h)
-    by false h = placed_within (λ (c : Component). not c.shape.has_variable_steps) system.components k h
+    by false h = placed system.components h
+
+    placed : (cs : List Component) → position (λ (c : Component). not c.shape.has_variable_steps) cs ≡ Some k → k < length cs
+    placed [] h = absurd (none_some k h)
+    placed (c ∷ cs) h = (position-Some (λ (d : Component). not d.shape.has_variable_steps) (c ∷ cs) k c h).0
 
 lives_count : (system : System) (olds news : List View) (log : List Sent) (lives : List Life) → AreLives system olds news log lives → length lives ≡ length system.components
 lives_count system olds news log lives are =
