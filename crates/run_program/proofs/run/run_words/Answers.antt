@@ -8,9 +8,9 @@ pub returns-in-Ok-System-clause-rows : goal.returns-in-Ok-System-clause-rows
 returns-in-Ok-System-clause-rows g c =
     let words = texts c.args.words.now in
     let r = c.in-Ok-System.field-0-is in
-    system_rows c.built_in_runs.ensures.behaves c.run_line.result.outcome _ (line_of c.in-Ok-System.line)
+    system_rows c.built_in_runs.ensures.behaves c.run_request.result.outcome _ (line_of c.in-Ok-System.line)
     (subst (λ (x : Request). IsAsked words (asked_of x)) r c.in-Ok-System.ensures.ok)
-    (subst (λ (x : Request). (asked : Asked) → IsAsked words asked → asked_of x ≡ asked) r c.in-Ok-System.ensures.only) c.run_line.ensures c.put.ensures
+    (subst (λ (x : Request). (asked : Asked) → IsAsked words asked → asked_of x ≡ asked) r c.in-Ok-System.ensures.only) (c.run_request.ensures (line_of c.in-Ok-System.line) c.request_of.ensures.asks) c.put.ensures
 
 pub returns-in-Ok-TraceCheck-clause-rows : goal.returns-in-Ok-TraceCheck-clause-rows
 returns-in-Ok-TraceCheck-clause-rows g c =
