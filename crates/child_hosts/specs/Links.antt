@@ -1,5 +1,5 @@
 -- What the program's spawner and its peers tell.
-use Rattle.std.specs.Prelude.{◌≡◌, ◌≢◌, ℕ, List, Bool, true, map, Some, None, if◌then◌else◌, codes}
+use Rattle.std.specs.Prelude.{◌≡◌, ◌≢◌, ℕ, List, Bool, true, map, Some, None, if◌then◌else◌}
 use Rattle.std.specs.Str.{bytes_eq}
 use Rattle.std.specs.declared.process.pipes.ChildStdout.{ChildStdout}
 use Rattle.std.specs.declared.snapshot.Snapshot.{Snapshot}
@@ -10,6 +10,7 @@ use Rattle.fmu_link.specs.Piped.{piped_view}
 use Rattle.fmu_link.specs.Wire.{WireView, wire_view}
 use Rattle.bench_fmus.specs.BuiltInView.{built_in_view}
 use Rattle.bench_fmus.specs.Models.{is_model, model_named}
+use Rattle.command_line.specs.Line.{built_in_host}
 use Rattle.child_hosts.specs.declared.child_fmu.ChildFmu.{ChildFmu}
 use Rattle.child_hosts.specs.declared.hosts.Hosts.{Hosts}
 use Rattle.child_hosts.specs.declared.link.HostLink.{HostLink}
@@ -28,10 +29,6 @@ child_view c = piped_view pipes_view c.peer
 abbrev pub link_view : HostLink → View
 link_view (BuiltIn peer) = built_in_view peer.value
 link_view (Child child) = child_view child.value
-
--- the name of the host of the built-in machines
-abbrev pub built_in_host : List ℕ
-built_in_host = codes "builtin"
 
 -- the built-in machines are known by their names, and a program is given any identifier
 abbrev pub is_known : List ℕ → List ℕ → Bool

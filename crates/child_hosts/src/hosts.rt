@@ -1,19 +1,18 @@
 ghost use Rattle.std.specs.Prelude.{◌≡◌, ◌≤◌, ◌^◌, [], IfErr, IfOk, length};
 ghost use Rattle.bench_fmus.specs.BuiltInView.{built_in_view};
 ghost use Rattle.bench_fmus.specs.Models.{is_model};
-ghost use Rattle.child_hosts.specs.Links.{IsOfHost, built_in_host, is_known, link_view};
+ghost use Rattle.child_hosts.specs.Links.{IsOfHost, is_known, link_view};
+ghost use Rattle.command_line.specs.Line.{built_in_host};
 ghost use Rattle.fmu_peer.specs.Start.{AnswersUnknown, IsStarted};
 
 use crate::{ChildFmu, HostLink};
 use bench_fmus::{BuiltIn, Model, Origin, Retired};
+use command_line::BUILT_IN_HOST;
 use fmu_peer::{Spawner, StartFault};
 use std::alloc::{AllocError, AllocFailed, Global};
 use std::process::{Processes, SystemProcess};
 use std::snapshot::Snapshot;
 use value_types::Shape;
-
-/// The name of the host of the built-in machines.
-pub const BUILT_IN_HOST: &str = "builtin";
 
 /// The spawner of the program. By the host `builtin` it gives the built-in machines, which are known by their names; by
 /// another it starts the program of this name for each FMU, and knows all identifiers.

@@ -9,6 +9,6 @@ mod pipe_wire;
 mod tests;
 
 pub use child_fmu::ChildFmu;
-pub use hosts::{BUILT_IN_HOST, Hosts};
+pub use hosts::Hosts;
 pub use link::HostLink;
 pub use pipe_wire::{ChildInput, PipeWire, SteadyRead};

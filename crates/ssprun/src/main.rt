@@ -1,54 +1,9 @@
-//! The program: it reads the descriptions of a system of FMUs, runs it, and writes the trace.
+//! The program: its words, files, streams and FMUs are those of the host.
 #![tactic(auto)]
 
-#[cfg(test)]
-mod answer_tests;
-#[cfg(test)]
-mod answers;
-mod args;
-#[cfg(test)]
-mod binding_file_tests;
-#[cfg(test)]
-mod binding_files;
-#[cfg(test)]
-mod binding_rule_tests;
-#[cfg(test)]
-mod binding_script_tests;
-#[cfg(test)]
-mod binding_value_tests;
-#[cfg(test)]
-mod clock_script_tests;
-#[cfg(test)]
-mod clock_tests;
-#[cfg(test)]
-mod command_tests;
-#[cfg(test)]
-mod event_script_tests;
-#[cfg(test)]
-mod event_tests;
-#[cfg(test)]
-mod long_tests;
-#[cfg(test)]
-mod memory_runs;
-mod message;
-mod names;
-mod naming;
-mod outcome;
-mod peers;
-mod refusing;
-mod report;
-#[cfg(test)]
-mod rule_tests;
-mod run;
-#[cfg(test)]
-mod system_tests;
-#[cfg(test)]
-mod trace_check_tests;
-mod trace_verdict;
-
-use args::run_args;
 use child_hosts::Hosts;
 use host_edge::{HostFiles, OpenedFolder, StreamSink, WriterStream};
+use run_program::run_args;
 use std::env;
 use std::process::ExitCode;
 

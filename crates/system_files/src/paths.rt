@@ -1,5 +1,5 @@
 //! Where the files stand.
-ghost use Rattle.std.specs.Prelude.{◌≡◌, ◌++◌, IfOk};
+ghost use Rattle.std.specs.Prelude.{◌≡◌, ◌∷◌, ◌++◌, IfOk};
 ghost use Rattle.system_files.specs.Files.{description_path, structure_path};
 ghost use Rattle.system_files.specs.Order.{base_folder, folder_of, folders_of, part_path};
 
@@ -32,13 +32,12 @@ pub(crate) fn folder_of(
 ) -> Result<Text, AllocError>
     ensures { IfOk result (λ folder. folder ≡ folder_of directory.now component.now) }
 {
-    let mut folder = String::from_str(alloc, directory)?;
     let source = component.source.as_str();
-    if !source.is_empty() {
-        folder.push_str("/")?;
-        folder.push_str(source)?;
+    if source.is_empty() {
+        Text::from_str(alloc, directory)
+    } else {
+        join(alloc, directory, source)
     }
-    Ok(Text::from_string(folder))
 }
 
 /// Where the file of a part of a binding stands.
@@ -54,10 +53,7 @@ pub(crate) fn part_path(
         source.now) }
 {
     let folder = base_folder(alloc, directory, outline, owner, base)?;
-    let mut path = String::from_str(alloc, folder.as_str())?;
-    path.push_str("/")?;
-    path.push_str(source)?;
-    Ok(Text::from_string(path))
+    join(alloc, folder.as_str(), source)
 }
 
 // The folder below which the file of a part of a binding stands.
@@ -99,20 +95,22 @@ fn owner_folder(
 pub(crate) fn description_path(alloc: Global, folder: &str) -> Result<Text, AllocError>
     ensures { IfOk result (λ path. path ≡ description_path folder.now) }
 {
-    in_folder(alloc, folder, "/modelDescription.xml")
+    join(alloc, folder, "modelDescription.xml")
 }
 
 /// Where the description of a system stands in its directory.
 pub(crate) fn structure_path(alloc: Global, directory: &str) -> Result<Text, AllocError>
     ensures { IfOk result (λ path. path ≡ structure_path directory.now) }
 {
-    in_folder(alloc, directory, "/SystemStructure.ssd")
+    join(alloc, directory, "SystemStructure.ssd")
 }
 
-fn in_folder(alloc: Global, folder: &str, name: &str) -> Result<Text, AllocError>
-    ensures { IfOk result (λ path. path ≡ folder.now ++ name.now) }
+// A path below a folder. What structures name is plain already, so that it stands behind the folder as it is.
+fn join(alloc: Global, folder: &str, path: &str) -> Result<Text, AllocError>
+    ensures { IfOk result (λ joined. joined ≡ folder.now ++ 47 ∷ path.now) }
 {
-    let mut path = String::from_str(alloc, folder)?;
-    path.push_str(name)?;
-    Ok(Text::from_string(path))
+    let mut joined = String::from_str(alloc, folder)?;
+    joined.push_str("/")?;
+    joined.push_str(path)?;
+    Ok(Text::from_string(joined))
 }

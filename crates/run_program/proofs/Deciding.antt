@@ -1,0 +1,228 @@
+-- The first answer that isn't good, of the least component, decides status and line.
+use Rattle.std.proofs.Common.{◌≡◌, ◌⊎◌, inl, inr, ℕ, ◌<◌, List, [], ◌∷◌, ◌++◌, Option, Some, IfSome, sym, ap, ◌∙◌, subst, append_assoc, map, take}
+use Rattle.std.specs.Prelude.{All, IsSomeAnd}
+use Rattle.std.specs.List.{slice_get}
+use Rattle.std.proofs.lemmas.List.{append_cancel_left, map-append}
+use Rattle.std.proofs.lemmas.Option.{same_Some, slice_get-map}
+use Rattle.std.specs.Option.{option_map}
+use Rattle.sim_base.specs.Causes.{Rose}
+use Rattle.value_types.specs.declared.shape.Shape.{Shape}
+use Rattle.fmi_calls.specs.KindFacts.{IsRunCall}
+use Rattle.fmu_peer.specs.declared.ended.Why.{Why}
+use Rattle.fmu_peer.specs.declared.peer.Exchange.{Exchange}
+use Rattle.fmu_peer.specs.Answer.{IsFirstBad, IsWhy}
+use Rattle.fmu_peer.specs.Start.{SpawnerView}
+use Rattle.fmu_peer.specs.Talk as T
+use Rattle.fmu_peer.specs.View.{Fixed, Origin, View}
+use Rattle.system_model.specs.declared.system.Component.{Component}
+use Rattle.system_model.specs.declared.system.System.{System}
+use Rattle.slot_calls.specs.declared.bad_answer.BadAnswer.{BadAnswer}
+use Rattle.calling_sequence.specs.declared.run_end.RunEnd.{RunEnd}
+use Rattle.calling_sequence.specs.declared.run_end.RunEnd.TheVariants as E
+use Rattle.step_master.specs.Lives.{AreGood, AreLives, EndsLives, IsLeastBad, IsLife, Life, calls_in, shape_in, talk_in}
+use Rattle.slot_calls.specs.Log.{Sent}
+use Rattle.run_program.specs.declared.outcome.Outcome.{Outcome}
+use Rattle.run_program.specs.declared.outcome.End.{End}
+use Rattle.run_program.specs.Message.{Reports, bad_message, end_message, end_status, why_status}
+use Rattle.run_program.specs.Facts.{task_of}
+use Rattle.run_program.specs.Happened.{Happened, Scene}
+use Rattle.run_program.specs.Rows.{Answers, IsFirstBadOf, IsLeastBadOf, IsUncalled, TellPeers}
+use Rattle.run_program.specs.Runs.{Broke, HasRun, IsEndOf, IsUnasked, RunsPeers, Task, Went, names_of}
+use Rattle.run_program.proofs.Exactly.{answers}
+use Rattle.run_program.proofs.FirstBad.{at_middle, in_run, no_bad, one_bad}
+use Rattle.run_program.proofs.Outs.{TellsOut, tells_out}
+use Rattle.run_program.proofs.PeerLemmas.{all_got, compare, mapped_at, slice_get-take_front, started_at}
+use Rattle.run_program.proofs.Runs.{HasRunOne, ran_put}
+use Rattle.run_program.proofs.When.{HasPut}
+
+-- the lives of a run's peers, and how its end is told by them
+pub record Lives (task : Task) (system : System) (end : RunEnd) (old new : Scene) : Type 0 where
+  pub olds : List View
+  pub news : List View
+  pub peers : RunsPeers task system olds news old.spawner new.spawner
+  pub log : List Sent
+  pub lives : List Life
+  pub are : AreLives system olds news log lives
+  pub ends : EndsLives end lives
+
+pub lives_of : (task : Task) (system : System) (end : RunEnd) (old new : Scene) → HasRun task system end old new → Lives task system end old new
+lives_of task system end old new (Went g) =
+    let a = g.account in
+    record {
+      olds = a.olds;
+      news = a.news;
+      peers = g.peers;
+      log = g.lived.made ++ g.lived.log;
+      lives = g.lived.lives;
+      are = subst (λ (s : System). AreLives s a.olds a.news (g.lived.made ++ g.lived.log) g.lived.lives) g.system_is g.lived.are;
+      ends = subst (λ (e : RunEnd). EndsLives e g.lived.lives) g.end_is g.lived.ends;
+    }
+lives_of task system end old new (Broke bad is f) = record {
+  olds = f.olds;
+  news = f.news;
+  peers = f.peers;
+  log = f.unmade.log;
+  lives = f.unmade.lives;
+  are = f.unmade.are;
+  ends = subst (λ (e : RunEnd). EndsLives e f.unmade.lives) (sym is) f.unmade.least;
+}
+
+-- ---- lists
+
+-- each peer has its talk at its place
+talk_there : (peers : List View) (talks : List (List Exchange)) (k : ℕ) (v : View) → map (λ (x : View). x.talk) peers ≡ map (λ (es : List Exchange). Some es) talks →
+    slice_get peers k ≡ Some v → (talk : List Exchange) × (slice_get talks k ≡ Some talk)
+talk_there peers talks k v same here =
+    let at = mapped_at (λ (es : List Exchange). Some es) talks k v.talk
+    (ap (λ xs. slice_get xs k) (sym same) ∙ slice_get-map (λ (x : View). x.talk) peers k ∙ ap (option_map (λ (x : View). x.talk)) here) in
+    (at.0, at.1)
+
+-- ---- a peer
+
+-- the life of a peer that tells its talk
+record Found (lives : List Life) (olds : List View) (k : ℕ) (v : View) (talk : List Exchange) : Type 0 where
+  life : Life
+  here : slice_get lives k ≡ Some life
+  is : IsLife life
+  old : slice_get olds k ≡ Some life.old
+  new : life.new ≡ v
+  talk_is : talk ≡ life.run ++ life.closing
+
+told_talk : (life : Life) (v : View) (talk : List Exchange) → life.new ≡ v → v.talk ≡ Some talk → IfSome life.new.talk (λ (es : List Exchange). es ≡ talk_in life) → talk ≡ talk_in life
+told_talk life v talk same told h =
+    subst (λ (o : Option (List Exchange)). IfSome o (λ (es : List Exchange). es ≡ talk_in life)) (ap (λ (x : View). x.talk) same ∙ told) h
+
+talk_at : (peers : List View) (talks : List (List Exchange)) (k : ℕ) (v : View) (talk : List Exchange) → map (λ (x : View). x.talk) peers ≡ map (λ (es : List Exchange). Some es) talks →
+    slice_get peers k ≡ Some v → slice_get talks k ≡ Some talk → v.talk ≡ Some talk
+talk_at peers talks k v talk same here there =
+    same_Some v.talk (Some talk)
+    (sym (ap (option_map (λ (x : View). x.talk)) here) ∙ sym (slice_get-map (λ (x : View). x.talk) peers k) ∙ ap (λ xs. slice_get xs k) same
+    ∙ slice_get-map (λ (es : List Exchange). Some es) talks k ∙ ap (option_map (λ (es : List Exchange). Some es)) there)
+
+module _ (task : Task) (system : System) (end : RunEnd) (old new : Scene) (l : Lives task system end old new) where
+  found : (talks : List (List Exchange)) (k : ℕ) (v : View) (talk : List Exchange) → map (λ (x : View). x.talk) l.news ≡ map (λ (es : List Exchange). Some es) talks →
+      slice_get l.news k ≡ Some v → slice_get talks k ≡ Some talk → Found l.lives l.olds k v talk
+  found talks k v talk same here there =
+      let at = mapped_at (λ (x : Life). x.new) l.lives k v (ap (λ xs. slice_get xs k) l.are.news_are ∙ here) in
+      let life : Life = at.0 in
+      let is : IsLife life = all_got IsLife l.lives k life l.are.each at.1 in
+      record {
+        life = life;
+        here = at.1;
+        is = is;
+        old = ap (λ xs. slice_get xs k) (sym l.are.olds_are) ∙ slice_get-map (λ (x : Life). x.old) l.lives k ∙ ap (option_map (λ (x : Life). x.old)) at.1;
+        new = at.2;
+        talk_is = told_talk life v talk at.2 (talk_at l.news talks k v talk same here there) is.talk;
+      }
+
+  -- a first bad answer that the peer tells is one of its run
+  bad_in : (k : ℕ) (v : View) (talk : List Exchange) (why : Why) (f : Found l.lives l.olds k v talk) → (b : IsFirstBadOf v.fixed.shape why talk) →
+      (rest : List Exchange) × (f.life.run ≡ b.front ++ b.last ∷ rest)
+  bad_in k v talk why f b = in_run f.life.run f.life.closing talk b.front b.rest b.last f.talk_is f.is.closing_calls b.is b.run_call
+
+  shape_same : (k : ℕ) (v : View) (talk : List Exchange) (f : Found l.lives l.olds k v talk) → v.fixed.shape ≡ f.life.old.fixed.shape
+  shape_same k v talk f = ap (λ (x : Fixed). x.shape) (sym (ap (λ (x : View). x.fixed) f.new) ∙ f.is.fixed)
+
+  -- its name is that of its component
+  name_is : (k : ℕ) (v : View) (talk : List Exchange) (name : List ℕ) (f : Found l.lives l.olds k v talk) → IsSomeAnd v.fixed.origin (λ (o : Origin). o.name ≡ name) → slice_get (names_of system) k ≡ Some name
+  name_is k v talk name f h =
+      let s = started_at task.host task.folders system.components l.olds k f.life.old l.peers.are f.old in
+      let origin = ap (λ (x : Fixed). x.origin) (sym (ap (λ (x : View). x.fixed) f.new) ∙ f.is.fixed) ∙ s.2.1.origin in
+      let same : s.0.name ≡ name = subst (λ (o : Option Origin). IsSomeAnd o (λ (x : Origin). x.name ≡ name)) origin h in
+      slice_get-map (λ (c : Component). c.name) system.components k ∙ ap (option_map (λ (c : Component). c.name)) s.1 ∙ ap Some same
+
+  bad_here : (k : ℕ) (v : View) (talk : List Exchange) (why : Why) (f : Found l.lives l.olds k v talk) → (b : IsFirstBadOf v.fixed.shape why talk) → IsWhy f.life.old.fixed.shape why b.last
+  bad_here k v talk why f b = subst (λ (s : Shape). IsWhy s why b.last) (shape_same k v talk f) b.bad
+
+  front_here : (k : ℕ) (v : View) (talk : List Exchange) (why : Why) (f : Found l.lives l.olds k v talk) → (b : IsFirstBadOf v.fixed.shape why talk) → T.AllGood f.life.old.fixed.shape b.front
+  front_here k v talk why f b = subst (λ (s : Shape). T.AllGood s b.front) (shape_same k v talk f) b.good
+
+  -- where the run's answers are good there is none
+  good_none : {A : Type 0} (k : ℕ) (v : View) (talk : List Exchange) (why : Why) (f : Found l.lives l.olds k v talk) → IsFirstBadOf v.fixed.shape why talk → T.AllGood f.life.old.fixed.shape f.life.run → A
+  good_none k v talk why f b good =
+      let r = bad_in k v talk why f b in
+      no_bad f.life.old.fixed.shape f.life.run why b.front r.0 b.last good r.1 (bad_here k v talk why f b)
+
+  -- the peer of the least bad answer tells it
+  tells_bad : (talks : List (List Exchange)) (bad : BadAnswer) (least : IsLeastBad bad l.lives) (v : View) (talk : List Exchange) → (f : Found l.lives l.olds bad.component.0 v talk) → IsFirstBadOf v.fixed.shape bad.why talk
+  tells_bad talks bad least v talk f =
+      let same : least.life ≡ f.life = same_Some least.life f.life (sym least.here ∙ f.here) in
+      let first : IsFirstBad f.life.old.fixed.shape bad.why f.life.run = subst (λ (x : Life). IsFirstBad x.old.fixed.shape bad.why x.run) same least.first in
+      let back = λ (P : Shape → Type 0) (p : P f.life.old.fixed.shape). subst P (sym (shape_same bad.component.0 v talk f)) p in
+      record {
+        front = first.front;
+        last = first.last;
+        rest = f.life.closing;
+        is = f.talk_is ∙ ap (λ (es : List Exchange). es ++ f.life.closing) first.is ∙ append_assoc first.front (first.last ∷ []) f.life.closing;
+        good = back (λ s. T.AllGood s first.front) first.good;
+        bad = back (λ s. IsWhy s bad.why first.last) first.bad;
+        run_call = last_call f.life.run first.front first.last first.is f.is.run_calls;
+      }
+    where
+      last_call : (run front : List Exchange) (last : Exchange) → run ≡ front ++ last ∷ [] → All IsRunCall (calls_in run) → IsRunCall last.call
+      last_call run front last is all =
+          at_middle IsRunCall (calls_in front) last.call []
+          (subst (All IsRunCall) (map-append (λ (e : Exchange). e.call) front (last ∷ [])) (subst (λ (es : List Exchange). All IsRunCall (calls_in es)) is all))
+
+  -- of two answers that aren't good the one is the other
+  module _ (talks : List (List Exchange)) (told : map (λ (x : View). x.talk) l.news ≡ map (λ (es : List Exchange). Some es) talks) (name : List ℕ) (why : Why) (b : IsLeastBadOf l.news talks name why) where
+    mine : Found l.lives l.olds b.place b.peer b.talk
+    mine = found talks b.place b.peer b.talk told b.here b.told
+
+    pub all_good : {A : Type 0} → AreGood l.lives → A
+    all_good good = good_none b.place b.peer b.talk why mine b.first (all_got (λ (x : Life). T.AllGood (shape_in x) x.run) l.lives b.place mine.life good mine.here)
+
+    pub same_bad : (bad : BadAnswer) (other : List ℕ) → IsLeastBad bad l.lives → slice_get (names_of system) bad.component.0 ≡ Some other → (other ≡ name) × (bad.why ≡ why)
+    same_bad bad other least named = by (compare b.place bad.component.0)
+      where
+        by : (b.place < bad.component.0) ⊎ ((b.place ≡ bad.component.0) ⊎ (bad.component.0 < b.place)) → (other ≡ name) × (bad.why ≡ why)
+        by (inl before) =
+            let there : slice_get (take bad.component.0 l.lives) b.place ≡ Some mine.life = slice_get-take_front l.lives bad.component.0 b.place before ∙ mine.here in
+            good_none b.place b.peer b.talk why mine b.first (all_got (λ (x : Life). T.AllGood (shape_in x) x.run) (take bad.component.0 l.lives) b.place mine.life least.before there)
+        by (inr (inl same)) =
+            let life_is : least.life ≡ mine.life = same_Some least.life mine.life (sym least.here ∙ ap (slice_get l.lives) (sym same) ∙ mine.here) in
+            let first : IsFirstBad mine.life.old.fixed.shape bad.why mine.life.run = subst (λ (x : Life). IsFirstBad x.old.fixed.shape bad.why x.run) life_is least.first in
+            let r = bad_in b.place b.peer b.talk why mine b.first in (
+              same_Some other name (sym named ∙ ap (slice_get (names_of system)) (sym same) ∙ name_is b.place b.peer b.talk name mine b.named),
+              one_bad mine.life.old.fixed.shape mine.life.run b.first.front r.0 b.first.last bad.why why first r.1 (front_here b.place b.peer b.talk why mine b.first) (bad_here b.place b.peer b.talk why mine b.first),
+            )
+        by (inr (inr behind)) =
+            let v = least.life.new in
+            let at : slice_get l.news bad.component.0 ≡ Some v = ap (λ xs. slice_get xs bad.component.0) (sym l.are.news_are) ∙ slice_get-map (λ (x : Life). x.new) l.lives bad.component.0 ∙ ap (option_map (λ (x : Life). x.new)) least.here in
+            let talk = talk_there l.news talks bad.component.0 v told at in
+            absurd (b.before bad.component.0 v talk.0 bad.why behind at talk.1 (tells_bad talks bad least v talk.0 (found talks bad.component.0 v talk.0 told at talk.1)))
+
+-- ---- the outcome
+
+end_decides : (task : Task) (system : System) (end : RunEnd) (e : End) (h : Happened) (l : Lives task system end h.old.run h.new.run) (talks : List (List Exchange)) →
+    map (λ (x : View). x.talk) l.news ≡ map (λ (es : List Exchange). Some es) talks → (name : List ℕ) (why : Why) → IsLeastBadOf l.news talks name why → IsEndOf (names_of system) end e →
+    Reports (end_message e) (end_status e) h.status h.err h.err_after → (Rose h.old.run.out.faults h.new.run.out.faults → ⊥) → TellsOut end h.old.run.out.faults h.new.run.out.faults → Answers h (why_status why) (bad_message name why)
+end_decides task system E.Stop e h l talks told name why b named p quiet outs = all_good task system E.Stop h.old.run h.new.run l talks told name why b l.ends
+end_decides task system (E.Asked point) e h l talks told name why b named p quiet outs = all_good task system (E.Asked point) h.old.run h.new.run l talks told name why b l.ends
+end_decides task system (E.EventLimit point) e h l talks told name why b named p quiet outs = all_good task system (E.EventLimit point) h.old.run h.new.run l talks told name why b l.ends
+end_decides task system (E.FixedStep component at end) e h l talks told name why b named p quiet outs = all_good task system (E.FixedStep component at end) h.old.run h.new.run l talks told name why b l.ends
+end_decides task system (E.Bad bad) e h l talks told name why b named p quiet outs =
+    let same = same_bad task system (E.Bad bad) h.old.run h.new.run l talks told name why b bad named.0 l.ends named.1 in
+    let put : Reports (Some (bad_message named.0 bad.why)) (why_status bad.why) h.status h.err h.err_after = subst (λ (x : End). Reports (end_message x) (end_status x) h.status h.err h.err_after) named.2 p in
+    subst (λ (w : Why). Answers h (why_status w) (bad_message name w)) same.1 (subst (λ (n : List ℕ). Answers h (why_status bad.why) (bad_message n bad.why)) same.0 (answers (bad_message named.0 bad.why) (why_status bad.why) h put))
+end_decides task system E.WriteFault e h l talks told name why b named p quiet outs = absurd (quiet outs)
+
+pub decides : (o : Outcome) (h : Happened) → HasPut o h → IsUncalled h ⊎ HasRunOne o h → (peers : List View) (talks : List (List Exchange)) (name : List ℕ) (why : Why) →
+    TellPeers h peers talks → IsLeastBadOf peers talks name why → Answers h (why_status why) (bad_message name why)
+decides o h p (inl idle) peers talks name why told b =
+    let same : peers ≡ idle.peers = append_cancel_left h.old.run.spawner.retired peers idle.peers (sym told.retired ∙ idle.retired) in
+    let quiet : IsUnasked b.peer = all_got IsUnasked idle.peers b.place b.peer idle.unasked (ap (λ xs. slice_get xs b.place) (sym same) ∙ b.here) in
+    let none : b.talk ≡ [] = subst (λ (x : Option (List Exchange)). IfSome x (λ es. es ≡ [])) (talk_at peers talks b.place b.peer b.talk told.talks_are b.here b.told) quiet.talk in
+    absurd (no_last b.first.front b.first.rest b.first.last (sym none ∙ b.first.is))
+  where
+    no_last : (front rest : List Exchange) (last : Exchange) → [] ≡ front ++ last ∷ rest → ⊥
+    no_last [] rest last e = cc
+    no_last (x ∷ front) rest last e = cc
+decides o h p (inr one) peers talks name why told b =
+    let task = task_of one.it.asked one.it.loaded in
+    let system = one.it.loaded.system in
+    let l = lives_of task system one.end h.old.run h.new.run one.run in
+    let retired : h.new.run.spawner.retired ≡ h.old.run.spawner.retired ++ l.news = ap (λ (s : SpawnerView). s.retired) l.peers.told in
+    let same : peers ≡ l.news = append_cancel_left h.old.run.spawner.retired peers l.news (sym told.retired ∙ retired) in
+    end_decides task system one.end one.e h l talks (ap (map (λ (x : View). x.talk)) (sym same) ∙ told.talks_are) name why (subst (λ (vs : List View). IsLeastBadOf vs talks name why) same b) one.named
+    (ran_put o h p one) told.quiet (tells_out task system one.end h.old.run h.new.run one.run)

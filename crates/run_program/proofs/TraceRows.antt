@@ -1,0 +1,89 @@
+-- The rows of the check of a trace, and those of a system beside them.
+use Rattle.std.proofs.Common.{◌≡◌, ℕ, List, inl, inr, sym, ap, subst}
+use Rattle.command_line.specs.Line.{Asked, IsAsked, IsLine, IsTraceLine, Line, OfSystem, OfTrace, TraceLine}
+use Rattle.built_in_laws.specs.BuiltInRuns.{BuiltInsBehaveWell}
+use Rattle.system_files.specs.declared.loading.LoadEnd.{LoadEnd}
+use Rattle.system_files.specs.declared.loading.LoadEnd.TheVariants as end
+use Rattle.system_files.specs.declared.named.FileFault.{FileFault}
+use Rattle.system_files.specs.declared.named.FileFault.TheVariants.{Unread, Missing, TooBig, Broken}
+use Rattle.system_files.specs.Files.{Absent, Faulty, Long}
+use Rattle.trace_judging.specs.Judging.{Lacks, LacksVerdict, Nothing}
+use Rattle.run_program.specs.declared.outcome.Outcome.{Outcome}
+use Rattle.run_program.specs.declared.outcome.Outcome.TheVariants.{Words, Memory, File}
+use Rattle.run_program.specs.Facts.{LacksLine, LineFacts, WithLine, WithoutLine}
+use Rattle.run_program.specs.Happened.{Happened, Stage}
+use Rattle.run_program.specs.Message.{file_message, file_status}
+use Rattle.run_program.specs.Refusing.{TellsEnd}
+use Rattle.run_program.specs.Rows.{Answers, KeepsSystemRows, memory_line}
+use Rattle.run_program.specs.TraceCheck.{ChecksTrace, EndsCheck, FailsToRead, IsUntold, Judges, KeepsRows, Wanting, question_of}
+use Rattle.run_program.proofs.Exactly.{answers}
+use Rattle.run_program.proofs.Rows.{keeps_rows}
+use Rattle.run_program.proofs.When.{HasPut}
+
+-- ---- one command
+
+apart : (line : Line) (trace : TraceLine) → OfSystem line ≡ OfTrace trace → ⊥
+apart line trace e = cc
+
+one_trace_line : (one other : TraceLine) → OfTrace one ≡ OfTrace other → one ≡ other
+one_trace_line one other e = cc
+
+-- words that are a line of a system and of no other command
+pub of_system : (h : Happened) (line : Line) → ((asked : Asked) → IsAsked h.words asked → OfSystem line ≡ asked) → KeepsSystemRows h → KeepsRows h
+of_system h line only rows = record {
+  system = λ none. rows;
+  trace_check = λ trace is. absurd (apart line trace (only (OfTrace trace) is));
+}
+
+-- words that are the line of a trace
+pub of_trace : (h : Happened) (line : TraceLine) → IsTraceLine h.words line → ((asked : Asked) → IsAsked h.words asked → OfTrace line ≡ asked) → ChecksTrace h line → KeepsRows h
+of_trace h line is only checks = record {
+  system = λ none. absurd (none line is);
+  trace_check = λ trace other. subst (ChecksTrace h) (one_trace_line line trace (only (OfTrace trace) other)) checks;
+}
+
+-- words that are no line
+pub of_none : (h : Happened) → ((asked : Asked) → IsAsked h.words asked → ⊥) → KeepsSystemRows h → KeepsRows h
+of_none h none rows = record {
+  system = λ no_trace. rows;
+  trace_check = λ trace is. absurd (none (OfTrace trace) is);
+}
+
+one_line : (one other : Line) → OfSystem one ≡ OfSystem other → one ≡ other
+one_line one other e = cc
+
+pub system_rows : BuiltInsBehaveWell → (o : Outcome) (h : Happened) (line : Line) → IsLine h.words line → ((asked : Asked) → IsAsked h.words asked → OfSystem line ≡ asked) →
+    LineFacts o line h.old h.new → HasPut o h → KeepsRows h
+system_rows behave o h line is only facts p =
+    of_system h line only (keeps_rows behave o h (WithLine (record { line = line; is = is; only = λ other it. one_line line other (only (OfSystem other) it); facts = facts })) p)
+
+pub no_line_rows : BuiltInsBehaveWell → (o : Outcome) (h : Happened) → o ≡ Words → h.new ≡ h.old → ((asked : Asked) → IsAsked h.words asked → ⊥) → HasPut o h → KeepsRows h
+no_line_rows behave o h e same none p =
+    of_none h none (keeps_rows behave o h (WithoutLine (record { why = subst (λ (x : Outcome). LacksLine x h.words) (sym e) (λ line is. none (OfSystem line) is); same = same })) p)
+
+-- ---- no verdict
+
+flaw_told : (fault : FileFault) (path : List ℕ) (h : Happened) (o : Outcome) → o ≡ File path fault → IsUntold h → HasPut o h → IsUntold h × Answers h (file_status fault) (file_message path fault)
+flaw_told fault path h o e bare p = (bare, answers (file_message path fault) (file_status fault) h (subst (λ (x : Outcome). HasPut x h) e p))
+
+wants : (h : Happened) (o : Outcome) → o ≡ Memory → HasPut o h → Answers h 11 memory_line
+wants h o e p = answers memory_line 11 h (subst (λ (x : Outcome). HasPut x h) e p)
+
+pub refused : (h : Happened) (line : TraceLine) (ended : LoadEnd) (o : Outcome) → LacksVerdict (question_of line) ended h.old.folder h.new.folder → TellsEnd ended o → IsUntold h → HasPut o h → EndsCheck h line
+refused h line (end.File file Unread) o f tells bare p = FailsToRead file.path f bare (flaw_told Unread file.path h o tells bare p).1
+refused h line (end.File file Missing) o f tells bare p = Judges (Lacks file.path Absent) f (bare, inr (flaw_told Missing file.path h o tells bare p).1)
+refused h line (end.File file TooBig) o f tells bare p = Judges (Lacks file.path Long) f (bare, inr (flaw_told TooBig file.path h o tells bare p).1)
+refused h line (end.File file (Broken rule place ports)) o f (inl tells) bare p =
+    Judges (Lacks file.path (Faulty rule place ports)) f (bare, inr (flaw_told (Broken rule place ports) file.path h o tells bare p).1)
+refused h line (end.File file (Broken rule place ports)) o f (inr tells) bare p = Judges (Lacks file.path (Faulty rule place ports)) f (bare, inl (wants h o tells p))
+refused h line end.Memory o f tells bare p = Wanting f bare (wants h o tells p)
+
+-- memory was wanting to read the words
+pub unread_rows : BuiltInsBehaveWell → (o : Outcome) (h : Happened) → o ≡ Memory → h.new ≡ h.old → HasPut o h → KeepsRows h
+unread_rows behave o h e same p = record {
+  system = λ none. keeps_rows behave o h (WithoutLine (record { why = subst (λ (x : Outcome). LacksLine x h.words) (sym e) tt; same = same })) p;
+  trace_check = λ line is. record {
+    calm = ap (λ (s : Stage). s.run.spawner) same;
+    ends = Wanting (Nothing (ap (λ (s : Stage). s.folder) same)) (ap (λ (s : Stage). s.run.out) same) (wants h o e p);
+  };
+}

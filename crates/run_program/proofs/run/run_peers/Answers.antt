@@ -1,0 +1,119 @@
+use Rattle.std.proofs.Common.{◌≡◌, ◌<◌, ℕ, List, arith, length, map, refl, sym, ap, subst, ◌∙◌}
+use Rattle.std.proofs.lemmas.List.{length-map}
+use Rattle.fmu_peer.specs.Start.{SpawnerView}
+use Rattle.step_master.specs.Lived.{Lived, Unmade}
+use Rattle.step_master.specs.Master.{FailsToPrepare}
+use Rattle.step_master.specs.declared.prepare_end.PrepareFault.{PrepareFault}
+use Rattle.calling_sequence.specs.declared.run_end.RunEnd.TheVariants as E
+use Rattle.step_master.specs.Standing.{standing}
+use Rattle.command_line.specs.declared.words.Options.{Options}
+use Rattle.system_model.specs.declared.system.Component.{Component}
+use Rattle.system_model.specs.declared.bound.Bound.{Bound}
+use Rattle.run_program.specs.declared.outcome.Outcome.{Outcome}
+use Rattle.run_program.specs.Facts.{RunFacts}
+use Rattle.run_program.specs.Happened.{scene}
+use Rattle.run_program.specs.Peers.{with_all_retired, with_all_started}
+use Rattle.run_program.specs.Runs.{Broke, IsEndOf, NamesOne, RunsPeers, Task, Went}
+use Rattle.run_program.proofs.Running.{account_of, fails, given_back, goes, lived_names, lived_news, new_peers, plan_within, unmade_names}
+use Rattle.run_program.proofs.run.run_peers.Goals as goal
+
+abbrev task_with : Options → Bound → List (List ℕ) → Task
+task_with options bound folders = record { plan = options.plan; host = options.host.now; bound = bound; folders = folders }
+
+pub prepare-requires-clause-peers : goal.prepare-requires-clause-peers
+prepare-requires-clause-peers g c κs within =
+    new_peers c.args.options.host.now c.args.folders.now c.args.system (map g.S.Link.Peer.view c.args.peers.items) c.requires.started
+    (length-map c.args.peers.items g.S.Link.Peer.view ∙ c.requires.each)
+
+pub retire_each-requires-after_bounds : goal.retire_each-requires-after_bounds
+retire_each-requires-after_bounds g c κs within =
+    let view = g.S.Link.Peer.view in
+    let olds = map view c.args.peers.items in
+    let news = map view c.close.result.items in
+    let peers = new_peers c.args.options.host.now c.args.folders.now c.args.system olds c.requires.started (length-map c.args.peers.items view ∙ c.requires.each) in
+    let account = account_of c.args.system c.args.bound c.args.options.plan olds news (g.O.Sink.view c.args.out.now) (g.O.Sink.view c.run-end.new.out) (standing view c.run-end.new.self) c.run-end.result in
+    let lived : Lived account = c.lives_of_peers.ensures.run account (standing view c.in-Ok.master) (standing view c.run-end.new.self) c.requires.runnable.sound c.requires.bound c.requires.counts peers c.in-Ok.ensures.ok c.run-end.ensures c.close.ensures refl in
+    let same : length c.close.result.items ≡ length c.args.peers.items = sym (length-map c.close.result.items view) ∙ lived_news account lived ∙ sym c.requires.each in
+    let room = c.requires.fewer in
+    omega (arith, same, room)
+
+pub report_end-requires : goal.report_end-requires
+report_end-requires g c =
+    let view = g.S.Link.Peer.view in
+    let olds = map view c.args.peers.items in
+    let news = map view c.close.result.items in
+    let peers = new_peers c.args.options.host.now c.args.folders.now c.args.system olds c.requires.started (length-map c.args.peers.items view ∙ c.requires.each) in
+    let account = account_of c.args.system c.args.bound c.args.options.plan olds news (g.O.Sink.view c.args.out.now) (g.O.Sink.view c.run-end.new.out) (standing view c.run-end.new.self) c.run-end.result in
+    let lived : Lived account = c.lives_of_peers.ensures.run account (standing view c.in-Ok.master) (standing view c.run-end.new.self) c.requires.runnable.sound c.requires.bound c.requires.counts peers c.in-Ok.ensures.ok c.run-end.ensures c.close.ensures refl in
+    subst (λ (n : ℕ). NamesOne n c.run-end.result) (sym (ap length c.requires.names ∙ length-map c.args.system.components (λ (x : Component). x.name))) (lived_names account lived)
+
+pub retire_each-requires-in-Err-after_bounds : goal.retire_each-requires-in-Err-after_bounds
+retire_each-requires-in-Err-after_bounds g c κs within =
+    let view = g.S.Link.Peer.view in
+    let olds = map view c.args.peers.items in
+    let news = map view c.in-Err.field-0.peers.items in
+    let peers = new_peers c.args.options.host.now c.args.folders.now c.args.system olds c.requires.started (length-map c.args.peers.items view ∙ c.requires.each) in
+    let same : length c.in-Err.field-0.peers.items ≡ length c.args.peers.items =
+    sym (length-map c.in-Err.field-0.peers.items view) ∙ given_back c.args.system olds news c.in-Err.field-0.fault c.requires.runnable.sound peers c.lives_of_peers.ensures.unmade c.in-Err.ensures.err
+    ∙ length-map c.args.peers.items view in
+    let room = c.requires.fewer in
+    omega (arith, same, room)
+
+pub report_end-requires-in-Bad : goal.report_end-requires-in-Bad
+report_end-requires-in-Bad g c =
+    let view = g.S.Link.Peer.view in
+    let olds = map view c.args.peers.items in
+    let news = map view c.in-Err.field-0.peers.items in
+    let peers = new_peers c.args.options.host.now c.args.folders.now c.args.system olds c.requires.started (length-map c.args.peers.items view ∙ c.requires.each) in
+    let unmade : Unmade c.args.system olds c.in-Bad.bad news =
+    c.lives_of_peers.ensures.unmade c.args.system olds news c.in-Bad.bad c.requires.runnable.sound peers (subst (λ (f : PrepareFault). FailsToPrepare c.args.system olds f news) c.in-Bad.is c.in-Err.ensures.err) in
+    subst (λ (n : ℕ). c.in-Bad.bad.component.0 < n) (sym (ap length c.requires.names ∙ length-map c.args.system.components (λ (x : Component). x.name))) (unmade_names c.args.system olds news c.in-Bad.bad unmade)
+
+pub returns-in-Ok : goal.returns-in-Ok
+returns-in-Ok g c before known told =
+    let view = g.S.Link.Peer.view in
+    let olds = map view c.args.peers.items in
+    let news = map view c.close.result.items in
+    let peers = new_peers c.args.options.host.now c.args.folders.now c.args.system olds c.requires.started (length-map c.args.peers.items view ∙ c.requires.each) in
+    let account = account_of c.args.system c.args.bound c.args.options.plan olds news (g.O.Sink.view c.args.out.now) (g.O.Sink.view c.run-end.new.out) (standing view c.run-end.new.self) c.run-end.result in
+    let lived : Lived account = c.lives_of_peers.ensures.run account (standing view c.in-Ok.master) (standing view c.run-end.new.self) c.requires.runnable.sound c.requires.bound c.requires.counts peers c.in-Ok.ensures.ok c.run-end.ensures c.close.ensures refl in
+    let task = task_with c.args.options c.args.bound c.args.folders.now in
+    let old = scene before (g.O.Sink.view c.args.out.now) in
+    let new = scene (g.S.Spawner.view c.retire_each.new.spawner) (g.O.Sink.view c.run-end.new.out) in
+    let runs : RunsPeers task c.args.system olds news before (g.S.Spawner.view c.retire_each.new.spawner) = record {
+      known = known;
+      each = length-map c.args.peers.items view ∙ c.requires.each;
+      are = c.requires.started;
+      told = c.retire_each.ensures ∙ ap (λ (s : SpawnerView). with_all_retired s news) (told ∙ ap (with_all_started before) (sym (length-map c.args.peers.items view)));
+    } in
+    let ended = c.report_end.ensures in
+    subst (λ (o : Outcome). RunFacts o task c.args.system old new) (sym ended.1) (
+      c.run-end.result,
+      subst (λ (names : List (List ℕ)). IsEndOf names c.run-end.result ended.0) c.requires.names ended.2,
+      Went (goes account task old new c.requires.runnable c.requires.bound (plan_within c.args.options.plan c.requires.within) refl refl refl refl runs lived c.lives_of_peers.ensures.over c.runs_of_machines.ensures.run c.runs_of_machines.ensures.trace),
+    )
+
+pub returns-in-Bad : goal.returns-in-Bad
+returns-in-Bad g c before known told =
+    let view = g.S.Link.Peer.view in
+    let olds = map view c.args.peers.items in
+    let news = map view c.in-Err.field-0.peers.items in
+    let task = task_with c.args.options c.args.bound c.args.folders.now in
+    let peers = new_peers c.args.options.host.now c.args.folders.now c.args.system olds c.requires.started (length-map c.args.peers.items view ∙ c.requires.each) in
+    let unmade : Unmade c.args.system olds c.in-Bad.bad news =
+    c.lives_of_peers.ensures.unmade c.args.system olds news c.in-Bad.bad c.requires.runnable.sound peers (subst (λ (f : PrepareFault). FailsToPrepare c.args.system olds f news) c.in-Bad.is c.in-Err.ensures.err) in
+    let out = g.O.Sink.view c.args.out.now in
+    let old = scene before out in
+    let new = scene (g.S.Spawner.view c.retire_each-in-Err.new.spawner) out in
+    let runs : RunsPeers task c.args.system olds news before (g.S.Spawner.view c.retire_each-in-Err.new.spawner) = record {
+      known = known;
+      each = length-map c.args.peers.items view ∙ c.requires.each;
+      are = c.requires.started;
+      told = c.retire_each-in-Err.ensures ∙ ap (λ (s : SpawnerView). with_all_retired s news) (told ∙ ap (with_all_started before) (sym (length-map c.args.peers.items view)));
+    } in
+    let ended = c.report_end-in-Bad.ensures in
+    subst (λ (o : Outcome). RunFacts o task c.args.system old new) (sym ended.1) (
+      E.Bad c.in-Bad.bad,
+      subst (λ (names : List (List ℕ)). IsEndOf names (E.Bad c.in-Bad.bad) ended.0) c.requires.names ended.2,
+      Broke c.in-Bad.bad refl (fails task c.args.system c.in-Bad.bad olds news old new c.requires.runnable runs unmade refl c.lives_of_peers.ensures.over c.runs_of_machines.ensures.unmade),
+    )

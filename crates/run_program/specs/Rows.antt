@@ -1,0 +1,474 @@
+-- When each status comes, and what stands then.
+use Rattle.std.specs.Prelude.{◌≡◌, ◌⊎◌, ℕ, ◌+◌, ◌<◌, ◌≤◌, true, List, [], ◌∷◌, ◌++◌, length, map, All, Contains, Some, None, IsSomeAnd, is_some, codes, slice_index_or}
+use Rattle.std.specs.List.{slice_get}
+use Rattle.sim_base.specs.Causes.{Rose}
+use Rattle.sim_base.specs.Sink.{with_piece}
+use Rattle.sim_base.specs.declared.numbers.CompId.{CompId}
+use Rattle.sim_base.specs.declared.numbers.PortId.{PortId}
+use Rattle.value_types.specs.declared.shape.Shape.{Shape}
+use Rattle.doc_tree.specs.declared.place.Place.{Place}
+use Rattle.doc_tree.specs.declared.rule.Rule.{Rule}
+use Rattle.fmi_calls.specs.KindFacts.{IsRunCall}
+use Rattle.fmu_peer.specs.declared.peer.Exchange.{Exchange}
+use Rattle.fmu_peer.specs.declared.ended.Why.{Why}
+use Rattle.fmu_peer.specs.declared.ended.Why.TheVariants.{Refused, Misreply, Link}
+use Rattle.fmu_peer.specs.Talk as T
+use Rattle.fmu_peer.specs.Answer.{IsLink, IsWhy}
+use Rattle.fmu_peer.specs.Machine.{Machine}
+use Rattle.fmu_peer.specs.View.{Origin, View}
+use Rattle.system_model.specs.declared.plan.EndKind.{EndKind}
+use Rattle.system_model.specs.declared.plan.EndKind.TheVariants.{Stop, Asked, Limit, Fixed, Fault}
+use Rattle.system_model.specs.declared.plan.Plan.{Plan}
+use Rattle.system_model.specs.declared.system.Component.{Component}
+use Rattle.system_model.specs.declared.system.System.{System}
+use Rattle.system_model.specs.Sound.{IsSound}
+use Rattle.system_model.specs.Text.{Instant}
+use Rattle.run_model.specs.Run.{Run}
+use Rattle.run_model.specs.Trace.{IsTrace}
+use Rattle.run_model.specs.Behaved.{WellBehaved}
+use Rattle.slot_calls.specs.declared.bad_answer.BadAnswer.{BadAnswer}
+use Rattle.calling_sequence.specs.declared.run_end.RunEnd.{RunEnd}
+use Rattle.calling_sequence.specs.declared.run_end.RunEnd.TheVariants as E
+use Rattle.calling_sequence.specs.Course.{trace_pieces}
+use Rattle.calling_sequence.specs.Puts.{CutsPiece, with_pieces}
+use Rattle.step_master.specs.Traced.{IsRunOf, LacksStepAt}
+use Rattle.bench_fmus.specs.declared.built_in.BuiltIn.{BuiltIn}
+use Rattle.bench_fmus.specs.BuiltInView.{built_in_view}
+use Rattle.built_in_laws.specs.BuiltInRuns.{IsBuiltIn}
+use Rattle.built_in_laws.specs.Clocks.{TellsTimings}
+use Rattle.command_line.specs.Line.{IsLine, Line, RunLine, run_in}
+use Rattle.run_program.specs.declared.outcome.StartCause.TheVariants.{Failed, Unknown}
+use Rattle.system_loading.specs.Assembly.{HaveSameParts}
+use Rattle.system_files.specs.declared.loaded.Loaded.{Loaded}
+use Rattle.system_files.specs.declared.named.FileFault.TheVariants.{Unread, Missing, TooBig, Broken}
+use Rattle.system_files.specs.Files.{Absent, Faulty, Long}
+use Rattle.system_files.specs.Loads.{FailsToRead, Loads, ReadsSome}
+use Rattle.system_files.specs.Order.{Comes, Fails, Finding, Found}
+use Rattle.run_program.specs.Facts.{Calm, FailsToTell, LoadsLine, TellsSize, search_for, task_of}
+use Rattle.run_program.specs.Happened.{Happened, Scene}
+use Rattle.run_program.specs.Peers.{AreKnown, IsFirstUnknown}
+use Rattle.run_program.specs.Message.{CutsShort, file_message, start_message, limit_message, fixed_message, bad_message, why_status}
+use Rattle.run_program.specs.Runs.{FailsToStart, HasRun, IsUnasked, RunsPeers, Task, names_of}
+
+-- ---- what err holds
+
+-- one put more with this line, and no other
+abbrev pub Says : Happened → List ℕ → Type 0
+Says h text = h.err_after ≡ with_piece h.err text
+
+-- nothing more
+abbrev pub IsSilent : Happened → Type 0
+IsSilent h = h.err_after ≡ h.err
+
+-- this line couldn't be put
+abbrev pub IsMute : Happened → List ℕ → Type 0
+IsMute h text = (h.status ≡ 10) × CutsShort text h.err h.err_after
+
+-- this status with this line, unless the line couldn't be put
+abbrev pub Answers : Happened → ℕ → List ℕ → Type 0
+Answers h status text = ((h.status ≡ status) × Says h text) ⊎ IsMute h text
+
+-- the line of want of memory
+abbrev pub memory_line : List ℕ
+memory_line = codes "memory\n"
+
+-- want of memory, or this status with this line
+abbrev pub AnswersOr11 : Happened → ℕ → List ℕ → Type 0
+AnswersOr11 h status text = Answers h 11 memory_line ⊎ Answers h status text
+
+-- ---- which files are read
+
+-- the words are a line, and this holds of it
+abbrev pub OnLine : Happened → (Line → Type 0) → Type 0
+OnLine h P = (line : Line) × IsLine h.words line × P line
+
+-- the words are no line
+abbrev pub IsNoLine : Happened → Type 0
+IsNoLine h = (line : Line) → IsLine h.words line → ⊥
+
+-- the folder tells its files, the order of reading comes to this, and no read failed
+pub record IsToFind (h : Happened) (line : Line) (finding : Finding) : Type 0 where
+  pub unfailed : h.new.folder.failed ≡ h.old.folder.failed
+  pub told : is_some h.old.folder.files ≡ true
+  pub asked : List (List ℕ)
+  pub comes : Comes (search_for line) h.old.folder asked finding
+
+-- the files are asked for in their order, each once: to an end, or to one whose read fails, which is answered, or until memory is wanting
+pub data ReadsFiles (h : Happened) (line : Line) : Type 0 where
+  Whole : (finding : Finding) → Loads (search_for line) finding h.old.folder h.new.folder →
+      ReadsFiles h line
+  Failing : (path : List ℕ) → FailsToRead (search_for line) path h.old.folder h.new.folder →
+      Answers h 3 (file_message path Unread) → ReadsFiles h line
+  Wanting : ReadsSome (search_for line) h.old.folder h.new.folder →
+      Answers h 11 memory_line → ReadsFiles h line
+
+-- without a line no file is asked for
+pub record ReadingRow (h : Happened) : Type 0 where
+  pub none : IsNoLine h → h.new.folder ≡ h.old.folder
+  pub some : (line : Line) → IsLine h.words line → ReadsFiles h line
+
+-- the line asks for a run of what was loaded
+pub record IsOfRun (h : Happened) (line : Line) : Type 0 where
+  pub asked : RunLine
+  pub is_asked : run_in line ≡ Some asked
+  pub loaded : Loaded
+  pub loads : LoadsLine line loaded h.old.folder h.new.folder
+
+-- ---- the statuses
+
+-- at the stop, or where a component asked for it
+abbrev pub IsFinished : RunEnd → Type 0
+IsFinished E.Stop = Unit {0}
+IsFinished (E.Asked point) = Unit {0}
+IsFinished (E.EventLimit point) = ⊥
+IsFinished (E.FixedStep component at end) = ⊥
+IsFinished (E.Bad bad) = ⊥
+IsFinished E.WriteFault = ⊥
+
+-- the run of the line's system ended so
+abbrev pub RunsTo : Happened → Line → RunEnd → Type 0
+RunsTo h line end =
+    (it : IsOfRun h line) × HasRun (task_of it.asked it.loaded) it.loaded.system end
+    h.old.run h.new.run
+
+-- the line asks for a check of what was loaded, and this holds of it
+abbrev pub OnCheck : Happened → Line → (Loaded → Scene → Scene → Type 0) → Type 0
+OnCheck h line P =
+    (loaded : Loaded) × (run_in line ≡ None) × LoadsLine line loaded h.old.folder h.new.folder ×
+    P loaded h.old.run h.new.run
+
+-- 0: the run came to its end, or the size of the system was told, and err holds what it held
+pub data HasEnded (h : Happened) (line : Line) : Type 0 where
+  Ended : (end : RunEnd) → IsFinished end → RunsTo h line end → IsSilent h → HasEnded h line
+  Told : OnCheck h line TellsSize → IsSilent h → HasEnded h line
+
+pub record EndRow (h : Happened) : Type 0 where
+  pub when : h.status ≡ 0 → OnLine h (HasEnded h)
+
+-- 2: exactly where the words are no line
+pub record WordsRow (h : Happened) : Type 0 where
+  pub when : h.status ≡ 2 → IsNoLine h × (h.new ≡ h.old) × Says h (codes "words\n")
+  pub exact : IsNoLine h → AnswersOr11 h 2 (codes "words\n")
+
+-- 3: `read` only where the read of that file failed and no other, `missing` and `big` exactly where the first file that isn't taken is so
+pub data LacksFile (h : Happened) (line : Line) : Type 0 where
+  IsUnread : (path : List ℕ) → FailsToRead (search_for line) path h.old.folder h.new.folder →
+      Says h (file_message path Unread) → LacksFile h line
+  IsMissing : (path : List ℕ) → Loads (search_for line) (Fails path Absent) h.old.folder
+      h.new.folder → Says h (file_message path Missing) → LacksFile h line
+  IsTooBig : (path : List ℕ) → Loads (search_for line) (Fails path Long) h.old.folder h.new.folder →
+      Says h (file_message path TooBig) → LacksFile h line
+
+pub record FileRow (h : Happened) : Type 0 where
+  pub when : h.status ≡ 3 → OnLine h (λ line. Calm h.old.run h.new.run × LacksFile h line)
+  pub missing : (line : Line) (path : List ℕ) → IsLine h.words line →
+      IsToFind h line (Fails path Absent) → AnswersOr11 h 3 (file_message path Missing)
+  pub big : (line : Line) (path : List ℕ) → IsLine h.words line →
+      IsToFind h line (Fails path Long) → AnswersOr11 h 3 (file_message path TooBig)
+
+-- 4: exactly where the files break a rule, the first of which is told with its file and place; of a loop the ports of one are told
+abbrev pub BreaksRule : Happened → Line → Type 0
+BreaksRule h line = (path : List ℕ) × (rule : Rule) × (place : Place) × (ports : List PortId)
+    × Loads (search_for line) (Fails path (Faulty rule place ports)) h.old.folder h.new.folder ×
+    Says h (file_message path (Broken rule place ports))
+
+-- the status is 4, with the line of this rule, or of a loop with the ports of one
+abbrev pub TellsRule : Happened → Line → List ℕ → Rule → Place → Type 0
+TellsRule h line path rule place =
+    (ports : List PortId) × IsToFind h line (Fails path (Faulty rule place ports)) ×
+    AnswersOr11 h 4 (file_message path (Broken rule place ports))
+
+pub record RuleRow (h : Happened) : Type 0 where
+  pub when : h.status ≡ 4 → OnLine h (λ line. Calm h.old.run h.new.run × BreaksRule h line)
+  pub exact : (line : Line) (path : List ℕ) (rule : Rule) (place : Place) (ports : List PortId) →
+      IsLine h.words line →
+      IsToFind h line (Fails path (Faulty rule place ports)) → TellsRule h line path rule place
+
+-- the run was broken off by an answer that isn't good, of the component with this name, and with its line
+pub record BreaksOffBy (h : Happened) (line : Line) (P : Why → Type 0) : Type 0 where
+  pub it : IsOfRun h line
+  pub bad : BadAnswer
+  pub so : P bad.why
+  pub name : List ℕ
+  pub named : slice_get (names_of it.loaded.system) bad.component.0 ≡ Some name
+  pub says : Says h (bad_message name bad.why)
+  pub run : HasRun (task_of it.asked it.loaded) it.loaded.system (E.Bad bad) h.old.run h.new.run
+
+-- why is the first answer of the talk's run that isn't good: the calls before it got good ones, and its own is none of the closing's
+pub record IsFirstBadOf (shape : Shape) (why : Why) (talk : List Exchange) : Type 0 where
+  pub front : List Exchange
+  pub last : Exchange
+  pub rest : List Exchange
+  pub is : talk ≡ front ++ last ∷ rest
+  pub good : T.AllGood shape front
+  pub bad : IsWhy shape why last
+  pub run_call : IsRunCall last.call
+
+-- these peers were taken back, each tells its talk, and no put on out failed
+pub record TellPeers (h : Happened) (peers : List View)
+    (talks : List (List Exchange)) : Type 0 where
+  pub retired : h.new.run.spawner.retired ≡ h.old.run.spawner.retired ++ peers
+  pub talks_are : map (λ (v : View). v.talk) peers ≡ map (λ (talk : List Exchange). Some talk) talks
+  pub quiet : Rose h.old.run.out.faults h.new.run.out.faults → ⊥
+
+-- of these peers the one at a place, of this name, had this first answer that isn't good, and those before it had none
+pub record IsLeastBadOf (peers : List View) (talks : List (List Exchange)) (name : List ℕ)
+    (why : Why) : Type 0 where
+  pub place : ℕ
+  pub peer : View
+  pub talk : List Exchange
+  pub here : slice_get peers place ≡ Some peer
+  pub told : slice_get talks place ≡ Some talk
+  pub named : IsSomeAnd peer.fixed.origin (λ (o : Origin). o.name ≡ name)
+  pub first : IsFirstBadOf peer.fixed.shape why talk
+  pub before : (k : ℕ) (v : View) (es : List Exchange) (other : Why) → k < place →
+      slice_get peers k ≡ Some v → slice_get talks k ≡ Some es →
+      IsFirstBadOf v.fixed.shape other es → ⊥
+
+-- the status and the line are those of the first answer that isn't good, of the least component
+abbrev pub DecidesBy : Happened → (Why → Type 0) → Type 0
+DecidesBy h P =
+    (peers : List View) (talks : List (List Exchange)) (name : List ℕ) (why : Why) → P why →
+    TellPeers h peers talks → IsLeastBadOf peers talks name why →
+    Answers h (why_status why) (bad_message name why)
+
+abbrev pub IsRefusedWhy : Why → Type 0
+IsRefusedWhy (Refused call status) = Unit {0}
+IsRefusedWhy (Misreply call reply) = ⊥
+IsRefusedWhy (Link call fault) = ⊥
+
+abbrev pub IsMisreplyWhy : Why → Type 0
+IsMisreplyWhy (Refused call status) = ⊥
+IsMisreplyWhy (Misreply call reply) = Unit {0}
+IsMisreplyWhy (Link call fault) = ⊥
+
+-- 5: `link` only where the spawner's count or the peer's rose, `unknown` exactly where the spawner doesn't know the identifier of a component, the first of which is named
+pub data LosesPeer (h : Happened) (line : Line) : Type 0 where
+  NotStarted : (it : IsOfRun h line) (name : List ℕ) →
+      FailsToStart (task_of it.asked it.loaded) it.loaded.system name Failed h.old.run h.new.run →
+      Rose h.old.run.spawner.faults h.new.run.spawner.faults →
+      Says h (start_message name Failed) → LosesPeer h line
+  NotKnown : (it : IsOfRun h line) (name : List ℕ) →
+      FailsToStart (task_of it.asked it.loaded) it.loaded.system name Unknown h.old.run h.new.run →
+      Says h (start_message name Unknown) → LosesPeer h line
+  NotAnswering : BreaksOffBy h line IsLink → LosesPeer h line
+
+pub record LinkRow (h : Happened) : Type 0 where
+  pub when : h.status ≡ 5 → OnLine h (LosesPeer h)
+  pub unknown : (line : Line) (asked : RunLine) (loaded : Loaded) (place : ℕ) (c : Component) →
+      IsLine h.words line → run_in line ≡ Some asked → IsToFind h line (Found loaded) →
+      IsFirstUnknown asked.host h.old.run.spawner loaded.system.components place c →
+      (Rose h.old.run.spawner.faults h.new.run.spawner.faults → ⊥) →
+      AnswersOr11 h 5 (start_message c.name Unknown)
+  pub lost : DecidesBy h IsLink
+
+-- 6: exactly where the first answer that isn't good is a refusal
+pub record RefusalRow (h : Happened) : Type 0 where
+  pub when : h.status ≡ 6 → OnLine h (λ line. BreaksOffBy h line IsRefusedWhy)
+  pub exact : DecidesBy h IsRefusedWhy
+
+-- 7: exactly where the first answer that isn't good is a misreply
+pub record MisreplyRow (h : Happened) : Type 0 where
+  pub when : h.status ≡ 7 → OnLine h (λ line. BreaksOffBy h line IsMisreplyWhy)
+  pub exact : DecidesBy h IsMisreplyWhy
+
+-- 8: the run ended at a point whose instants reach their limit, and with its line
+pub record ReachesLimit (h : Happened) (line : Line) : Type 0 where
+  pub it : IsOfRun h line
+  pub point : ℕ
+  pub says : Says h (limit_message point)
+  pub run : HasRun (task_of it.asked it.loaded) it.loaded.system (E.EventLimit point)
+      h.old.run h.new.run
+
+pub record LimitRow (h : Happened) : Type 0 where
+  pub when : h.status ≡ 8 → OnLine h (ReachesLimit h)
+
+-- 9: the run ended before a step whose size a component can't take, the least of those, and with its line
+pub record LacksSize (h : Happened) (line : Line) : Type 0 where
+  pub it : IsOfRun h line
+  pub component : CompId
+  pub at : ℕ
+  pub end : ℕ
+  pub name : List ℕ
+  pub named : slice_get (names_of it.loaded.system) component.0 ≡ Some name
+  pub says : Says h (fixed_message name at end)
+  pub run : HasRun (task_of it.asked it.loaded) it.loaded.system (E.FixedStep component at end)
+      h.old.run h.new.run
+
+pub record FixedRow (h : Happened) : Type 0 where
+  pub when : h.status ≡ 9 → OnLine h (LacksSize h)
+
+-- 10: only where a sink's count rose, and always where one is higher than before
+pub record WriteRow (h : Happened) : Type 0 where
+  pub when : h.status ≡ 10 → (Says h (codes "write\n") ×
+      Rose h.old.run.out.faults h.new.run.out.faults) ⊎ ((text : List ℕ) × IsMute h text)
+  pub higher : (h.old.run.out.faults < h.new.run.out.faults) ⊎
+      (h.err.faults < h.err_after.faults) → h.status ≡ 10
+
+-- each peer that was started was taken back, and none of them was called
+pub record IsUncalled (h : Happened) : Type 0 where
+  pub peers : List View
+  pub unasked : All IsUnasked peers
+  pub started : h.new.run.spawner.started ≡ h.old.run.spawner.started + length peers
+  pub retired : h.new.run.spawner.retired ≡ h.old.run.spawner.retired ++ peers
+
+-- and nothing was put
+pub record IsIdle (h : Happened) : Type 0 where
+  pub uncalled : IsUncalled h
+  pub out : h.new.run.out ≡ h.old.run.out
+
+-- 11: no read and no start failed, no peer was called, and nothing was put
+pub record MemoryRow (h : Happened) : Type 0 where
+  pub when : h.status ≡ 11 → IsIdle h × (h.new.run.spawner.faults ≡ h.old.run.spawner.faults) ×
+      (h.new.folder.failed ≡ h.old.folder.failed) × Says h memory_line
+
+-- the statuses that can come
+abbrev pub IsStatus : ℕ → Type 0
+IsStatus n = (n ≡ 0) ⊎ ((2 ≤ n) × (n ≤ 11))
+
+-- no other status comes, and err holds what it held or one line more, or a front of one
+pub record StatusRow (h : Happened) : Type 0 where
+  pub known : IsStatus h.status
+  pub line : IsSilent h ⊎ ((text : List ℕ) × (Says h text ⊎ IsMute h text))
+
+-- ---- the run
+
+-- status and line of a run's end: 8 with its line where instants reach their limit; 9 with its line where a step begins that a component can't make, the least of those, with the point that the step would go to; else 0
+abbrev pub ReportsEnd : Happened → Run → EndKind → ℕ → Type 0
+ReportsEnd h r Stop point = (h.status ≡ 0) × IsSilent h
+ReportsEnd h r Asked point = (h.status ≡ 0) × IsSilent h
+ReportsEnd h r Limit point = (h.status ≡ 8) × Says h (limit_message point)
+ReportsEnd h r Fixed point = (h.status ≡ 9) × (place : ℕ) × (name : List ℕ) × (bound : ℕ)
+    × (slice_get (names_of r.system) place ≡ Some name) × LacksStepAt r place point bound ×
+    Says h (fixed_message name point bound)
+ReportsEnd h r Fault point = ⊥
+
+-- out has the text of the one trace, one piece a put, and the status is that of its end; or the put of one of its pieces failed, out has those before it and a front of that, and the status is 10
+pub data WritesTrace (h : Happened) (r : Run) : Type 0 where
+  Whole : (is : List Instant) (kind : EndKind) (point : ℕ) → IsTrace r is kind point →
+      ReportsEnd h r kind point →
+      h.new.run.out ≡ with_pieces h.old.run.out (trace_pieces r.system r.plan is kind point) →
+      WritesTrace h r
+  Front : (is : List Instant) (kind : EndKind) (point : ℕ) (pieces : List (List ℕ)) (piece : List ℕ)
+      (rest : List (List ℕ)) → IsTrace r is kind point → h.status ≡ 10 →
+      trace_pieces r.system r.plan is kind point ≡ pieces ++ piece ∷ rest →
+      CutsPiece (with_pieces h.old.run.out pieces) piece h.new.run.out → WritesTrace h r
+
+-- the peers that were started, which keep their machines, and the trace where they tell machines that behave well and no call of them failed
+pub record Traces (h : Happened) (task : Task) (system : System) : Type 0 where
+  pub olds : List View
+  pub news : List View
+  pub peers : RunsPeers task system olds news h.old.run.spawner h.new.run.spawner
+  pub same : map (λ (v : View). v.fixed) news ≡ map (λ (v : View). v.fixed) olds
+  pub sound : IsSound system
+  pub writes : (r : Run) → IsRunOf system task.bound olds r → r.plan ≡ task.plan → WellBehaved r →
+      All (λ (v : View). v.faults ≡ 0) news → WritesTrace h r
+
+-- what is run is a system with the same components and ports, by the same host, in the same folders, with the same values of parameters
+pub record IsRunAs (loaded : Loaded) (asked : RunLine) (task : Task)
+    (system : System) : Type 0 where
+  pub plan_is : task.plan ≡ asked.plan
+  pub host_is : task.host ≡ asked.host
+  pub bound_is : task.bound ≡ loaded.bound
+  pub folders_are : task.folders ≡ loaded.folders
+  pub parts : HaveSameParts system loaded.system
+
+-- the trace of what the files say is written
+pub record TracesLoaded (h : Happened) (asked : RunLine) (loaded : Loaded) : Type 0 where
+  pub task : Task
+  pub system : System
+  pub same : IsRunAs loaded asked task system
+  pub traces : Traces h task system
+
+-- the trace: where the files say a system, the identifiers are known, and no read, start or put on err failed, or for want of memory nothing
+pub record TraceRow (h : Happened) : Type 0 where
+  pub when : (line : Line) (asked : RunLine) (loaded : Loaded) → IsLine h.words line →
+      run_in line ≡ Some asked → IsToFind h line (Found loaded) →
+      AreKnown asked.host h.old.run.spawner loaded.system.components →
+      (Rose h.old.run.spawner.faults h.new.run.spawner.faults → ⊥) →
+      (Rose h.err.faults h.err_after.faults → ⊥) →
+      ((h.status ≡ 11) × IsIdle h) ⊎ TracesLoaded h asked loaded
+
+-- ---- a check
+
+-- the line of the size, or a front of it where its put failed and the status is 10
+pub data WritesSize (h : Happened) (loaded : Loaded) : Type 0 where
+  Sized : (h.status ≡ 0) → TellsSize loaded h.old.run h.new.run → WritesSize h loaded
+  Cut : (h.status ≡ 10) → FailsToTell loaded h.old.run h.new.run → WritesSize h loaded
+
+-- the size: where the files say a system, and no read or put on err failed, or for want of memory nothing
+pub record CheckRow (h : Happened) : Type 0 where
+  pub when : (line : Line) (loaded : Loaded) → IsLine h.words line → run_in line ≡ None →
+      IsToFind h line (Found loaded) → (Rose h.err.faults h.err_after.faults → ⊥) →
+      ((h.status ≡ 11) × IsIdle h) ⊎ WritesSize h loaded
+
+-- ---- built-in machines
+
+-- the peers that were taken back are built-in machines, as are those of a spawner of these
+pub record IsOverBuiltIns (h : Happened) : Type 0 where
+  pub peers : List BuiltIn
+  pub told : h.new.run.spawner.retired ≡ map built_in_view peers
+
+-- each of them that is of a component's shape can tell what it is asked of the Clocks there, with the values that the component's parameters are bound to: of a sampler its interval is at least one count and its shift whole, of every other no Clock is a fixed one with supportsFraction
+abbrev pub TellTimings : {h : Happened} → IsOverBuiltIns h → Loaded → Type 0
+TellTimings b loaded =
+    (i : ℕ) (c : Component) (peer : BuiltIn) → slice_get loaded.system.components i ≡ Some c →
+    Contains b.peers peer → (built_in_view peer).fixed.shape ≡ c.shape →
+    TellsTimings peer.model c.shape (slice_index_or loaded.bound.components i [])
+
+-- each component has a built-in machine
+pub record HasBuiltIns (r : Run) : Type 0 where
+  pub count : length r.machines ≡ length r.system.components
+  pub each : (i : ℕ) (c : Component) (m : Machine) → slice_get r.system.components i ≡ Some c →
+      slice_get r.machines i ≡ Some m → IsBuiltIn c.shape m
+
+-- the trace of the system's built-in machines
+pub record TracesBuiltIns (h : Happened) (plan : Plan) (loaded : Loaded) : Type 0 where
+  pub run : Run
+  pub parts : HaveSameParts run.system loaded.system
+  pub plan_is : run.plan ≡ plan
+  pub bound_is : run.bound ≡ loaded.bound
+  pub built_in : HasBuiltIns run
+  pub sound : IsSound run.system
+  pub behaved : WellBehaved run
+  pub writes : WritesTrace h run
+
+-- the same trace over built-in machines, of which no premise says that they behave well but for what they are asked of Clocks
+pub record BuiltInRow (h : Happened) : Type 0 where
+  pub when : (b : IsOverBuiltIns h) (line : Line) (asked : RunLine) (loaded : Loaded) →
+      IsLine h.words line → run_in line ≡ Some asked → IsToFind h line (Found loaded) →
+      TellTimings b loaded →
+      AreKnown asked.host h.old.run.spawner loaded.system.components →
+      (Rose h.old.run.spawner.faults h.new.run.spawner.faults → ⊥) →
+      (Rose h.err.faults h.err_after.faults → ⊥) →
+      All (λ (v : View). v.faults ≡ 0) h.new.run.spawner.retired →
+      ((h.status ≡ 11) × IsIdle h) ⊎ TracesBuiltIns h asked.plan loaded
+
+-- each peer that was started was taken back once: uncalled, or behind a run in which its talk is legal, lean and closed, and puts and ends are those of the run; a check starts none, and puts the size
+pub data PeerRow (h : Happened) : Type 0 where
+  Idle : IsIdle h → PeerRow h
+  Checked : (line : Line) → IsLine h.words line → OnCheck h line TellsSize ⊎
+      OnCheck h line FailsToTell → PeerRow h
+  Ran : (line : Line) → IsLine h.words line → (end : RunEnd) → RunsTo h line end → PeerRow h
+
+-- ---- all of it
+
+-- what holds of each call of the program whose words don't ask for the check of a trace
+pub record KeepsSystemRows (h : Happened) : Type 0 where
+  pub ended : EndRow h
+  pub words : WordsRow h
+  pub file : FileRow h
+  pub rule : RuleRow h
+  pub link : LinkRow h
+  pub refusal : RefusalRow h
+  pub misreply : MisreplyRow h
+  pub limit : LimitRow h
+  pub fixed : FixedRow h
+  pub write : WriteRow h
+  pub memory : MemoryRow h
+  pub status : StatusRow h
+  pub reading : ReadingRow h
+  pub peer : PeerRow h
+  pub trace : TraceRow h
+  pub check : CheckRow h
+  pub built_in : BuiltInRow h

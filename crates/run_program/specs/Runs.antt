@@ -1,0 +1,151 @@
+-- A run of a system from the start of its peers until they are taken back (FMI 3.0, 4.2.1).
+use Rattle.std.specs.Prelude.{◌≡◌, ℕ, ◌<◌, false, List, [], map, length, take, All, Some, IfSome}
+use Rattle.std.specs.List.{slice_get}
+use Rattle.fmi_calls.specs.Next.{fresh}
+use Rattle.fmu_peer.specs.Answer.{IsLink}
+use Rattle.fmu_peer.specs.Start.{SpawnerView, with_failure}
+use Rattle.fmu_peer.specs.View.{View}
+use Rattle.system_model.specs.declared.bound.Bound.{Bound}
+use Rattle.system_model.specs.declared.plan.Plan.{Plan}
+use Rattle.system_model.specs.declared.system.Component.{Component}
+use Rattle.system_model.specs.declared.system.System.{System}
+use Rattle.system_model.specs.Sound.{IsSound}
+use Rattle.run_model.specs.Run.{Run}
+use Rattle.run_model.specs.Behaved.{WellBehaved}
+use Rattle.slot_calls.specs.declared.bad_answer.BadAnswer.{BadAnswer}
+use Rattle.calling_sequence.specs.declared.run_end.RunEnd.{RunEnd}
+use Rattle.calling_sequence.specs.declared.run_end.RunEnd.TheVariants as E
+use Rattle.step_master.specs.Lived.{Account, Lived, Unmade}
+use Rattle.step_master.specs.Lives.{AreOver}
+use Rattle.calling_sequence.specs.Systems.{IsBuilt}
+use Rattle.step_master.specs.Traced.{IsRunOf, PutsRun, SomeRose, TracesWell}
+use Rattle.run_program.specs.declared.outcome.StartCause.{StartCause}
+use Rattle.run_program.specs.declared.outcome.StartCause.TheVariants.{Failed, Unknown}
+use Rattle.run_program.specs.declared.outcome.End.{End}
+use Rattle.run_program.specs.declared.outcome.End.TheVariants as O
+use Rattle.run_program.specs.Happened.{Scene}
+use Rattle.system_files.specs.Loads.{IsNamed}
+use Rattle.run_program.specs.Peers.{AreKnown, AreStarted, with_all_retired, with_all_started}
+
+-- what is to be run: a plan, the host that the peers are started by, the values that parameters are bound to, and the folders in which the peers are started
+pub record Task : Type 0 where
+  pub plan : Plan
+  pub host : List ℕ
+  pub bound : Bound
+  pub folders : List (List ℕ)
+
+-- a system that can be run, with names and tokens within their limits
+pub record CanRun (system : System) : Type 0 where
+  pub sound : IsSound system
+  pub built : IsBuilt system
+  pub each : All IsNamed system.components
+
+-- so many folders as components
+abbrev pub HasFolders : List (List ℕ) → System → Type 0
+HasFolders folders system = length folders ≡ length system.components
+
+abbrev pub names_of : System → List (List ℕ)
+names_of system = map (λ (c : Component). c.name) system.components
+
+-- ---- peers that weren't asked
+
+-- a peer before its first call
+pub record IsUnasked (v : View) : Type 0 where
+  pub phase : v.phase ≡ fresh v.fixed.shape
+  pub talk : IfSome v.talk (λ es. es ≡ [])
+
+-- each peer that was started was taken back without a call, and nothing was put
+pub record TakesBack (task : Task) (system : System) (old new : Scene) : Type 0 where
+  pub peers : List View
+  pub are : AreStarted task.host task.folders system.components peers
+  pub told : new.spawner ≡ with_all_retired (with_all_started old.spawner (length peers)) peers
+  pub out : new.out ≡ old.out
+
+-- what a spawner tells of a component's peer that wasn't started
+abbrev pub NotesUnstarted : List ℕ → StartCause → Component → SpawnerView → SpawnerView → Type 0
+NotesUnstarted host Failed c old new = new ≡ with_failure old
+NotesUnstarted host Unknown c old new = (new ≡ old) × (old.knows host c.shape.identifier ≡ false)
+
+-- the peer of the component of this name wasn't started; those before it were, and were taken back without a call
+pub record FailsToStart (task : Task) (system : System) (name : List ℕ) (fault : StartCause)
+    (old new : Scene) : Type 0 where
+  pub place : ℕ
+  pub component : Component
+  pub here : slice_get system.components place ≡ Some component
+  pub name_is : name ≡ component.name
+  pub peers : List View
+  pub each : length peers ≡ place
+  pub are : AreStarted task.host task.folders system.components peers
+  pub known : AreKnown task.host old.spawner (take place system.components)
+  pub failed : SpawnerView
+  pub noted : NotesUnstarted task.host fault component (with_all_started old.spawner place) failed
+  pub told : new.spawner ≡ with_all_retired failed peers
+  pub out : new.out ≡ old.out
+
+-- ---- a run
+
+-- a peer was started for each component, and taken back at the end
+pub record RunsPeers (task : Task) (system : System) (olds news : List View)
+    (old new : SpawnerView) : Type 0 where
+  pub known : AreKnown task.host old system.components
+  pub each : length olds ≡ length system.components
+  pub are : AreStarted task.host task.folders system.components olds
+  pub told : new ≡ with_all_retired (with_all_started old (length olds)) news
+
+-- all instances were made, and the run went on to its end. Each peer that isn't spared behind a Fatal of its source is over. What it put is the trace of told machines, up to where it was broken off
+pub record Goes (task : Task) (system : System) (end : RunEnd) (old new : Scene) : Type 0 where
+  pub account : Account
+  pub system_is : account.system ≡ system
+  pub bound_is : account.bound ≡ task.bound
+  pub plan_is : account.plan ≡ task.plan
+  pub end_is : account.end ≡ end
+  pub before_is : account.before ≡ old.out
+  pub after_is : account.after ≡ new.out
+  pub peers : RunsPeers task system account.olds account.news old.spawner new.spawner
+  pub sound : IsSound system
+  pub lived : Lived account
+  pub over : AreOver lived.lives
+  pub so_far : (r : Run) → IsRunOf system task.bound account.olds r → r.plan ≡ task.plan →
+      PutsRun account r end
+  pub well : (r : Run) → IsRunOf system task.bound account.olds r → r.plan ≡ task.plan →
+      WellBehaved r → TracesWell account r end
+
+-- the answer to an Instantiate isn't good, and nothing was put; each peer that isn't spared is over
+pub record Fails (task : Task) (system : System) (bad : BadAnswer) (old new : Scene) : Type 0 where
+  pub olds : List View
+  pub news : List View
+  pub peers : RunsPeers task system olds news old.spawner new.spawner
+  pub sound : IsSound system
+  pub unmade : Unmade system olds bad news
+  pub over : AreOver unmade.lives
+  pub well : (r : Run) → IsRunOf system task.bound olds r → WellBehaved r →
+      IsLink bad.why × SomeRose olds news
+  pub out : new.out ≡ old.out
+
+-- a run with this end
+pub data HasRun (task : Task) (system : System) (end : RunEnd) (old new : Scene) : Type 0 where
+  Went : Goes task system end old new → HasRun task system end old new
+  Broke : (bad : BadAnswer) → end ≡ E.Bad bad → Fails task system bad old new →
+      HasRun task system end old new
+
+-- ---- its end
+
+-- a component of these is named by the end, if any is
+abbrev pub NamesOne : ℕ → RunEnd → Type 0
+NamesOne count E.Stop = Unit {0}
+NamesOne count (E.Asked point) = Unit {0}
+NamesOne count (E.EventLimit point) = Unit {0}
+NamesOne count (E.FixedStep component at end) = component.0 < count
+NamesOne count (E.Bad bad) = bad.component.0 < count
+NamesOne count E.WriteFault = Unit {0}
+
+-- the end of a run, with its component's name among these
+abbrev pub IsEndOf : List (List ℕ) → RunEnd → End → Type 0
+IsEndOf names E.Stop e = e ≡ O.Stop
+IsEndOf names (E.Asked point) e = e ≡ O.Asked
+IsEndOf names (E.EventLimit point) e = e ≡ O.EventLimit point
+IsEndOf names (E.FixedStep component at end) e =
+    (name : List ℕ) × (slice_get names component.0 ≡ Some name) × (e ≡ O.FixedStep name at end)
+IsEndOf names (E.Bad bad) e =
+    (name : List ℕ) × (slice_get names bad.component.0 ≡ Some name) × (e ≡ O.Bad name bad.why)
+IsEndOf names E.WriteFault e = e ≡ O.WriteFault

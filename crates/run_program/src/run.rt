@@ -1,0 +1,218 @@
+ghost use Rattle.std.specs.Prelude.{◌≡◌, ◌+◌, ◌<◌, ◌≤◌, length, map};
+ghost use Rattle.command_line.specs.Line.{IsWithin, Line, run_of, texts};
+ghost use Rattle.fmu_peer.specs.Start.{SpawnerView};
+ghost use Rattle.run_model.specs.Laws.{OneTrace};
+ghost use Rattle.sim_base.specs.Sink.{SinkView};
+ghost use Rattle.calling_sequence.specs.Plans.{CountsBy};
+ghost use Rattle.system_model.specs.Bounds.{BindsParameters};
+ghost use Rattle.system_model.specs.declared.system.System.{System};
+ghost use Rattle.run_program.specs.Facts.{CheckFacts, LineFacts, RunFacts, task_of};
+ghost use Rattle.run_program.specs.Requests.{IsRequestOf, KeepsCounts};
+ghost use Rattle.run_program.specs.Happened.{happened, scene, stage};
+ghost use Rattle.run_program.specs.Peers.{AreKnown, AreStarted, StartsUpTo, with_all_started};
+ghost use Rattle.run_program.specs.TraceCheck.{KeepsRows};
+ghost use Rattle.run_program.specs.Runs.{CanRun, HasFolders, Task, names_of};
+
+use crate::message::write_size;
+use crate::naming::Naming;
+use crate::outcome::StartCause;
+use crate::peers::{Unstarted, retire_each, start_each};
+use crate::refusing::refuse;
+use crate::report::Report;
+use crate::request::{SystemRequest, request_of};
+use crate::trace_verdict::check_trace;
+use built_in_laws::built_in_runs;
+use command_line::{Options, Request, WordsFault, read_words};
+use fmu_peer::{Spawner, StartFault};
+use run_model::one_trace;
+use sim_base::{Folder, Sink, Text};
+use std::alloc::Global;
+use std::thread::Threads;
+use step_master::{Master, PrepareEnd, PrepareFault, RunEnd, lives_of_peers, runs_of_machines};
+use system_files::{Loaded, load};
+use system_model::{Bound, System};
+
+/// Does what the words of a command line say, and answers the program's status.
+///
+/// `run DIR --resolution R --step H --stop T [--start S] [--max-iterations N] [--host PROGRAM]` reads the description of the
+/// system in a directory and those of its FMUs, runs them from their first calls to their closing, and puts the trace on
+/// `out`; `one` does so with the FMU that is described there. Each FMU is run by the host, or where none is given by the
+/// program itself. R, H, T and S are counts: R of them are one second, and the run goes from
+/// S, which is 0 where it isn't given, to T by steps of H. A point has at most N instants, and at most 100 where that isn't
+/// given. `check DIR --resolution R` puts the size of the system on `out`, and `trace-check DIR FILE` whether the trace in
+/// a file keeps the rules of that system. At each status but 0 and 1 one line is put on `err`.
+pub fn run_words<R: Threads + Sync, F: Folder, S: Spawner, O: Sink, E: Sink>(
+    rt: &R,
+    alloc: Global,
+    words: &[String],
+    folder: &mut F,
+    spawner: &mut S,
+    out: &mut O,
+    err: &mut E,
+) -> u8
+    ensures rows { KeepsRows (happened (texts words.now)
+        (stage (F.view folder.old) (S.view spawner.old) (O.view out.old))
+        (stage (F.view folder.new) (S.view spawner.new) (O.view out.new))
+        (E.view err.old) (E.view err.new) result) }
+    ensures one { OneTrace }
+{
+    one_trace();
+    built_in_runs();
+    match read_words(alloc, words) {
+        Ok(Request::System(line)) => {
+            run_request(rt, alloc, request_of(line), folder, spawner, out).put(err)
+        }
+        Ok(Request::TraceCheck(options)) => check_trace(alloc, options, folder, out, err),
+        Err(WordsFault::NoLine) => Report::words(alloc).put(err),
+        Err(WordsFault::Memory) => Report::memory(alloc).put(err),
+    }
+}
+
+// Loads what a request names, and runs it, or tells its size where no run is asked for.
+fn run_request<R: Threads + Sync, F: Folder, S: Spawner, O: Sink>(
+    rt: &R,
+    alloc: Global,
+    request: SystemRequest<'_>,
+    folder: &mut F,
+    spawner: &mut S,
+    out: &mut O,
+) -> Report
+    requires { KeepsCounts request }
+    ensures { (line : Line) → IsRequestOf line request.entry → LineFacts result.outcome line
+        (stage (F.view folder.old) (S.view spawner.old) (O.view out.old))
+        (stage (F.view folder.new) (S.view spawner.new) (O.view out.new)) }
+{
+    match load(
+        alloc,
+        request.subject,
+        request.directory,
+        request.resolution,
+        folder,
+    ) {
+        Ok(loaded) => match request.run {
+            Some(options) => run_system(rt, alloc, options, loaded, spawner, out),
+            None => tell_size(alloc, &loaded, out),
+        },
+        Err(end) => refuse(alloc, end),
+    }
+}
+
+// Tells the size of a system.
+fn tell_size<O: Sink>(alloc: Global, loaded: &Loaded, out: &mut O) -> Report
+    ensures { (spawner : SpawnerView) → CheckFacts result.outcome loaded.now
+        (scene spawner (O.view out.old)) (scene spawner (O.view out.new)) }
+{
+    let mut text = [0u8; 128];
+    let length = write_size(&loaded.system, loaded.bound.unreached, &mut text);
+    Report::of_check(alloc, out.put(&text[..length]).is_ok())
+}
+
+// Runs a system: starts its peers, and takes them back at the end.
+fn run_system<R: Threads + Sync, S: Spawner, O: Sink>(
+    rt: &R,
+    alloc: Global,
+    options: Options<'_>,
+    loaded: Loaded,
+    spawner: &mut S,
+    out: &mut O,
+) -> Report
+    requires within { IsWithin options.plan }
+    requires runnable { CanRun loaded.system }
+    requires bound { BindsParameters loaded.system loaded.bound }
+    requires counts { CountsBy loaded.system options.plan }
+    requires folders { HasFolders loaded.folders loaded.system }
+    ensures { RunFacts result.outcome (task_of (run_of options.entry) loaded) loaded.system
+        (scene (S.view spawner.old) (O.view out.old)) (scene (S.view spawner.new) (O.view out.new)) }
+{
+    let Loaded {
+        system,
+        bound,
+        folders,
+    } = loaded;
+    let folders = folders.as_slice();
+    let components = system.components.as_slice();
+    let Ok(naming) = Naming::new(alloc, components) else {
+        return Report::memory(alloc);
+    };
+    let Ok(room) = Vec::with_capacity(alloc, components.len()) else {
+        return Report::memory(alloc);
+    };
+    match start_each(alloc, options.host, folders, components, room, spawner) {
+        Ok(peers) => run_peers(
+            rt, alloc, options, system, bound, folders, naming, peers, spawner, out,
+        ),
+        Err(unstarted) => give_up(alloc, naming, unstarted, spawner),
+    }
+}
+
+// Where a peer wasn't started: takes back those before it.
+fn give_up<S: Spawner>(
+    alloc: Global,
+    naming: Naming,
+    unstarted: Unstarted<S::Link>,
+    spawner: &mut S,
+) -> Report
+    requires one { unstarted.component.0 < length naming.names.items }
+    requires fewer { length (S.view spawner.old).retired + length unstarted.peers.items ≤
+        (S.view spawner.old).started }
+    ensures { (task : Task) (system : System) (before : SpawnerView) (out : SinkView) → naming.names.items ≡ names_of system →
+        StartsUpTo task.host task.folders system.components unstarted.component.0 unstarted.fault (map S.Link.view unstarted.peers.items) before (S.view spawner.old) →
+        RunFacts result.outcome task system (scene before out) (scene (S.view spawner.new) out) }
+{
+    let Unstarted {
+        peers,
+        component,
+        fault,
+    } = unstarted;
+    retire_each(peers, spawner);
+    match fault {
+        StartFault::Failed => naming.report_start_fault(component, StartCause::Failed),
+        StartFault::Unknown => naming.report_start_fault(component, StartCause::Unknown),
+        StartFault::Memory => Report::memory(alloc),
+    }
+}
+
+// Runs the peers from their first calls to their closing, and takes them back.
+fn run_peers<R: Threads + Sync, S: Spawner, O: Sink>(
+    rt: &R,
+    alloc: Global,
+    options: Options<'_>,
+    system: System,
+    bound: Bound,
+    folders: &[Text],
+    naming: Naming,
+    peers: Vec<S::Link>,
+    spawner: &mut S,
+    out: &mut O,
+) -> Report
+    requires within { IsWithin options.plan }
+    requires runnable { CanRun system }
+    requires bound { BindsParameters system bound }
+    requires counts { CountsBy system options.plan }
+    requires names { naming.names.items ≡ names_of system }
+    requires each { length peers.items ≡ length system.components }
+    requires started { AreStarted options.host.now folders.now system.components
+        (map S.Link.view peers.items) }
+    requires fewer { length (S.view spawner.old).retired + length peers.items ≤
+        (S.view spawner.old).started }
+    ensures { (before : SpawnerView) → AreKnown options.entry.host.now before system.components → S.view spawner.old ≡ with_all_started before (length peers.items) →
+        RunFacts result.outcome (record { plan = options.entry.plan; host = options.entry.host.now; bound = bound; folders = folders.now }) system (scene before (O.view out.old)) (scene (S.view spawner.new) (O.view out.new)) }
+{
+    lives_of_peers();
+    runs_of_machines();
+    match Master::prepare(alloc, system, bound, peers, options.plan) {
+        Ok(master) => {
+            let mut master = master;
+            let end = master.run(rt, out);
+            retire_each(master.close(), spawner);
+            naming.report_end(end)
+        }
+        Err(PrepareEnd { peers, fault }) => {
+            retire_each(peers, spawner);
+            match fault {
+                PrepareFault::Memory => Report::memory(alloc),
+                PrepareFault::Bad(bad) => naming.report_end(RunEnd::Bad(bad)),
+            }
+        }
+    }
+}
