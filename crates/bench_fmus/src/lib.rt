@@ -6,15 +6,7 @@ mod bench;
 mod built_in;
 mod built_in_state;
 mod counter;
-#[cfg(test)]
-mod counter_tests;
-#[cfg(test)]
-mod driving;
-#[cfg(test)]
-mod event_tests;
 mod gain;
-#[cfg(test)]
-mod gain_tests;
 mod model;
 mod origin;
 mod relay;
@@ -25,8 +17,6 @@ mod script;
 mod scripts;
 mod settle;
 mod start_plan;
-#[cfg(test)]
-mod start_tests;
 mod timer;
 mod wrap;
 

@@ -78,13 +78,14 @@ fn make_script(
     ensures room { IfOk result (λ s. option_map (λ t. t.room) s.book.talk ≡
         Some (length answers.now + 1)) }
 {
-    let book = make_book(alloc, shape, answers)?;
+    // What is dear to let go is made last.
+    let given = Items::from_vec(answers.to_vec(alloc)?);
     let origin = Origin::from_texts(alloc, host, name, directory)?;
-    let answers = Items::from_vec(answers.to_vec(alloc)?);
+    let book = make_book(alloc, shape, answers)?;
     Ok(Script {
         book,
         origin,
-        answers,
+        answers: given,
     })
 }
 

@@ -82,21 +82,24 @@ fn end_child(mut child: Child, is_freed: bool) {
     let _ = child.wait();
 }
 
-// Starts a program with two words, and takes the ends of its pipes.
-fn start_program<R: Processes<Started = SystemProcess>>(
-    rt: &R,
+// A program with two words, and with pipes.
+fn host_command(
     alloc: Global,
     program: &str,
     directory: &str,
     resolution: u64,
-) -> io::Result<Started>
-    ensures { IfOk result (λ s. s.wire.faults ≡ 0) }
-{
+) -> io::Result<Command> {
     let mut digits = Buffer::new();
     let mut command = Command::new(alloc, program)?;
     command.arg(directory)?.arg(digits.format(resolution))?;
     command.stdin(Stdio::piped()).stdout(Stdio::piped());
-    let mut child = command.spawn(rt)?;
+    Ok(command)
+}
+
+// Takes the ends of a child's pipes.
+fn take_ends(mut child: Child) -> io::Result<Started>
+    ensures { IfOk result (λ s. s.wire.faults ≡ 0) }
+{
     match (child.stdout.take(), child.stdin.take()) {
         (Some(reader), Some(pipe)) => Ok(Started {
             wire: PipeWire::new(reader, ChildInput { pipe }),
@@ -107,6 +110,20 @@ fn start_program<R: Processes<Started = SystemProcess>>(
             Err(ErrorKind::BrokenPipe.into())
         }
     }
+}
+
+// Starts a program with two words, and takes the ends of its pipes.
+fn start_program<R: Processes<Started = SystemProcess>>(
+    rt: &R,
+    alloc: Global,
+    program: &str,
+    directory: &str,
+    resolution: u64,
+) -> io::Result<Started>
+    ensures { IfOk result (λ s. s.wire.faults ≡ 0) }
+{
+    let mut command = host_command(alloc, program, directory, resolution)?;
+    take_ends(command.spawn(rt)?)
 }
 
 fn start_fault(error: &io::Error) -> StartFault

@@ -5,8 +5,6 @@ mod child_fmu;
 mod hosts;
 mod link;
 mod pipe_wire;
-#[cfg(test)]
-mod tests;
 
 pub use child_fmu::ChildFmu;
 pub use hosts::Hosts;

@@ -6,8 +6,6 @@ mod digits;
 mod fraction;
 mod law;
 mod shortest;
-#[cfg(test)]
-mod tests;
 mod ticks;
 
 pub use decimal::from_decimal;

@@ -5,8 +5,6 @@ mod firsts;
 mod links;
 mod point;
 mod sources;
-#[cfg(test)]
-mod tests;
 
 pub use point::{Connection, Point};
 pub use sources::sources_of;

@@ -6,8 +6,6 @@ mod lists;
 mod loops;
 mod paths;
 mod sorting;
-#[cfg(test)]
-mod tests;
 
 pub use grouped::{GroupedNeeds, order_grouped};
 pub use lists::Lists;

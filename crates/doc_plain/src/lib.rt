@@ -4,7 +4,5 @@
 mod document;
 mod parts;
 mod tags;
-#[cfg(test)]
-mod tests;
 
 pub use document::is_document;

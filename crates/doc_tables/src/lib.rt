@@ -5,8 +5,6 @@ mod elements;
 mod names;
 mod refusals;
 mod scopes;
-#[cfg(test)]
-mod tests;
 
 pub use elements::{
     attribute, children, is_in_root, is_named, lacks, lacks_text, name, parent, text_of,

@@ -7,8 +7,6 @@ mod path;
 mod place;
 mod refusal;
 mod rule;
-#[cfg(test)]
-mod tests;
 mod tree;
 
 pub use builder::read_tree;

@@ -2,19 +2,11 @@
 #![tactic(auto)]
 
 mod call;
-#[cfg(test)]
-mod clock_tests;
 mod kind_facts;
 mod marks;
 mod next;
-#[cfg(test)]
-mod paths;
 mod permission;
 mod phase;
-#[cfg(test)]
-mod phase_tests;
-#[cfg(test)]
-mod reply_tests;
 mod worth;
 
 pub use call::{BadStatus, Call, Content, Grade, Interval, Kind, Reply, Status};

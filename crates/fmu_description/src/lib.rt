@@ -14,12 +14,8 @@ mod misread;
 mod names;
 mod places;
 mod reader;
-#[cfg(test)]
-mod reader_tests;
 mod rules;
 mod shape;
-#[cfg(test)]
-mod shape_tests;
 #[cfg(test)]
 mod tests;
 mod texts;

@@ -41,14 +41,15 @@ impl Instance {
         ensures phase { IfOk result (λ i. i.phase ≡ fresh shape.now) }
         ensures quiet { IfOk result (λ i. i.bad_replies ≡ 0) }
     {
+        // What is dear to let go is made last.
         Ok(Instance {
+            bad_replies: 0,
+            frame: vec![in alloc; 0; 24 + name.len() + shape.token.as_str().len()]?,
             host: Text::from_str(alloc, host)?,
             name: Text::from_str(alloc, name)?,
             directory: Text::from_str(alloc, directory)?,
-            shape: shape.copy(alloc)?,
             phase: Phase::fresh(alloc, shape)?,
-            frame: vec![in alloc; 0; 24 + name.len() + shape.token.as_str().len()]?,
-            bad_replies: 0,
+            shape: shape.copy(alloc)?,
         })
     }
 }

@@ -4,8 +4,6 @@
 mod instance;
 mod mem_wire;
 mod piped;
-#[cfg(test)]
-mod tests;
 mod wire;
 
 pub use instance::Instance;

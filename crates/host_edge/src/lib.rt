@@ -4,8 +4,6 @@
 mod files;
 mod in_streams;
 mod streams;
-#[cfg(test)]
-mod tests;
 
 pub use files::{HostFiles, OpenFiles, OpenedFile, OpenedFolder, ReaderFile, read_opened};
 pub use in_streams::{InStream, ReaderStream, StreamSource};

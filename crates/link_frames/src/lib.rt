@@ -9,8 +9,6 @@ mod layout;
 mod numbers;
 mod reply;
 mod taken;
-#[cfg(test)]
-mod tests;
 mod text;
 
 pub use call::{CallFrame, can_be_sent, frame_len, put_call, take_call};

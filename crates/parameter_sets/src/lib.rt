@@ -11,7 +11,5 @@ mod parameters;
 mod part;
 mod reader;
 mod rules;
-#[cfg(test)]
-mod tests;
 
 pub use reader::{read_mapping_in, read_ssm, read_ssv, read_values_in};

@@ -6,8 +6,6 @@ mod judgement;
 mod linear;
 mod ready;
 mod set;
-#[cfg(test)]
-mod tests;
 
 pub use change::{BooleanPair, Change, IntegerPair};
 pub use judgement::Judgement;

@@ -7,8 +7,6 @@ mod needs;
 mod orders;
 mod placed;
 mod roles;
-#[cfg(test)]
-mod tests;
 
 pub use orders::{OrderFault, Orders, order_system};
 pub use placed::are_placed;

@@ -10,8 +10,6 @@ mod path;
 mod read_book;
 mod sink;
 mod source;
-#[cfg(test)]
-mod tests;
 mod text;
 
 pub use escaping::{EscapedByte, escape, escaped_byte};

@@ -11,8 +11,6 @@ mod reader;
 mod rules;
 mod sorts;
 mod sources;
-#[cfg(test)]
-mod tests;
 mod tree;
 
 pub use indexed::MOST_COMPONENTS;

@@ -6,8 +6,6 @@ mod heap;
 mod schedule;
 mod sift;
 mod steps;
-#[cfg(test)]
-mod tests;
 
 pub use clock::{ClockState, TimeClock};
 pub use schedule::Schedule;

@@ -7,8 +7,6 @@ mod laws;
 mod ports;
 mod reading;
 mod sources;
-#[cfg(test)]
-mod tests;
 mod ticks;
 mod verdict;
 

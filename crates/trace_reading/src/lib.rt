@@ -11,8 +11,6 @@ mod numbers;
 mod ports;
 mod reading;
 mod rows;
-#[cfg(test)]
-mod tests;
 mod trace;
 
 pub use fault::TraceFault;

@@ -6,8 +6,6 @@ mod ending;
 mod header;
 mod instant;
 mod room;
-#[cfg(test)]
-mod tests;
 
 pub use ending::put_end;
 pub use header::put_header;

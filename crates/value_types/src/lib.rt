@@ -5,8 +5,6 @@ mod by_reference;
 mod joint;
 mod reading;
 mod shape;
-#[cfg(test)]
-mod tests;
 mod values;
 
 pub use by_reference::{ByReference, Referenced};

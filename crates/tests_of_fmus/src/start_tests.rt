@@ -1,0 +1,138 @@
+//! Starts of peers that fail: those of a list, those of unknown machines, and scripts and rooms that come to their end.
+use crate::driving::{INITIALIZE, INSTANTIATE, counter_shape, shape};
+use bench_fmus::{Bench, BuiltIn, Script, Scripts};
+use fmi_calls::{Call, Content, Reply, permitted};
+use fmu_peer::{Exchange, Peer, PeerFault, Spawner, StartFault};
+use sim_base::Items;
+use std::alloc::{AllocError, Global};
+use std::process::Abort;
+use std::test::Fail;
+use value_types::{PortType, Shape};
+
+fn length_of(talk: Option<&[Exchange]>) -> usize {
+    match talk {
+        Some(talk) => talk.len(),
+        None => 0,
+    }
+}
+
+fn start<S: Spawner>(
+    rt: &impl Abort,
+    alloc: Global,
+    spawner: &mut S,
+    shape: &Shape,
+) -> Result<S::Link, StartFault> {
+    assert!(rt; shape.token.as_str().len() <= 1 << 24);
+    spawner.start(alloc, "host", "c", "fmus/c", shape)
+}
+
+fn fails<S: Spawner>(
+    rt: &impl Abort,
+    alloc: Global,
+    spawner: &mut S,
+    shape: &Shape,
+    wanted: StartFault,
+) -> bool
+where
+    S::Link: Drop,
+{
+    match start(rt, alloc, spawner, shape) {
+        Ok(_) => false,
+        Err(fault) => fault == wanted,
+    }
+}
+
+fn ask<L: Peer>(rt: &impl Abort, peer: &mut L, call: Call) -> Result<Reply, PeerFault> {
+    assert!(rt; permitted(peer.shape(), peer.phase(), &call));
+    peer.call(&call)
+}
+
+// Whether a counter answers its first call, and fails at the second, which fills its room.
+fn fills_its_room(rt: &impl Abort, counter: &mut BuiltIn) -> bool {
+    let is_instantiated = ask(rt, counter, INSTANTIATE).is_ok();
+    let is_full = ask(rt, counter, INITIALIZE) == Err(PeerFault::Failed);
+    is_instantiated && is_full && length_of(counter.talk()) == 2
+}
+
+fn is_retired(rt: &impl Abort, bench: &mut Bench, counter: BuiltIn) -> bool {
+    assert!(rt; bench.retired_peers().len() < bench.retired.started);
+    bench.retire(counter);
+    bench.retired_peers().len() == 1
+}
+
+// Whether a bench starts a counter, and then fails by its list and at another machine.
+fn starts_one(
+    rt: &impl Abort,
+    alloc: Global,
+    bench: &mut Bench,
+    shape: &Shape,
+    other: &Shape,
+) -> bool {
+    match start(rt, alloc, bench, shape) {
+        Ok(mut counter) => {
+            fails(rt, alloc, bench, shape, StartFault::Failed)
+                && fails(rt, alloc, bench, other, StartFault::Unknown)
+                && fills_its_room(rt, &mut counter)
+                && is_retired(rt, bench, counter)
+        }
+        Err(_) => false,
+    }
+}
+
+#[test]
+fn a_full_room_fails_and_starts_fail_by_their_list(rt: HostRuntime) -> Result<(), Fail> {
+    let alloc = rt.alloc();
+    let failing = vec![in alloc; 1, 9]?;
+    let mut bench = Bench::new(alloc, Some(2), failing);
+    let shape = counter_shape(alloc, PortType::Int32, 1, None)?;
+    let other = self::shape(alloc, "gauge", Vec::new(alloc))?;
+    assert!(rt; starts_one(&rt, alloc, &mut bench, &shape, &other));
+    Ok(())
+}
+
+const WARNED: Result<Reply, PeerFault> = Ok(Reply::Done {
+    is_warning: true,
+    content: Content::Instantiate,
+});
+
+// Two scripts: one without answers, and one with one. The first start fails.
+fn scripts(alloc: Global) -> Result<Scripts, AllocError> {
+    let answers = vec![in alloc; WARNED]?;
+    let failing = vec![in alloc; 0]?;
+    let none = Items::from_vec(Vec::new(alloc));
+    let lists = vec![in alloc; none, Items::from_vec(answers)]?;
+    Ok(Scripts::new(alloc, lists, failing))
+}
+
+fn comes_to_its_end(rt: &impl Abort, script: &mut Script) -> bool {
+    let is_given = ask(rt, script, INSTANTIATE) == WARNED;
+    let is_at_its_end = ask(rt, script, INITIALIZE) == Err(PeerFault::Failed);
+    is_given && is_at_its_end && length_of(script.talk()) == 2
+}
+
+fn is_script_retired(rt: &impl Abort, scripts: &mut Scripts, script: Script) -> bool {
+    assert!(rt; scripts.retired_peers().len() < scripts.retired.started);
+    scripts.retire(script);
+    scripts.retired_peers().len() == 1
+}
+
+fn starts_second(rt: &impl Abort, alloc: Global, scripts: &mut Scripts, shape: &Shape) -> bool {
+    match start(rt, alloc, scripts, shape) {
+        Ok(mut script) => {
+            fails(rt, alloc, scripts, shape, StartFault::Failed)
+                && comes_to_its_end(rt, &mut script)
+                && is_script_retired(rt, scripts, script)
+        }
+        Err(_) => false,
+    }
+}
+
+#[test]
+fn a_script_gives_its_answers_and_then_fails(rt: HostRuntime) -> Result<(), Fail> {
+    let alloc = rt.alloc();
+    let shape = self::shape(alloc, "gauge", Vec::new(alloc))?;
+    let mut scripts = scripts(alloc)?;
+    assert!(rt; fails(&rt, alloc, &mut scripts, &shape, StartFault::Failed));
+    assert!(rt; starts_second(&rt, alloc, &mut scripts, &shape));
+    Ok(())
+}
