@@ -16,6 +16,7 @@ typedef void *fmi3Instance;
 typedef void *fmi3InstanceEnvironment;
 typedef void *fmi3FMUState;
 typedef uint32_t fmi3ValueReference;
+typedef float fmi3Float32;
 typedef double fmi3Float64;
 typedef int8_t fmi3Int8;
 typedef uint8_t fmi3UInt8;
@@ -86,6 +87,8 @@ FMI3_FUNCTION(fmi3Status, UpdateDiscreteStates, fmi3Instance instance, fmi3Boole
                   size_t nValueReferences, fmi3##type values[], size_t nValues) \
     FMI3_FUNCTION(fmi3Status, Set##type, fmi3Instance instance, const fmi3ValueReference valueReferences[], \
                   size_t nValueReferences, const fmi3##type values[], size_t nValues)
+FMI3_GET_AND_SET(Float32)
+FMI3_GET_AND_SET(Float64)
 FMI3_GET_AND_SET(Int8)
 FMI3_GET_AND_SET(UInt8)
 FMI3_GET_AND_SET(Int16)

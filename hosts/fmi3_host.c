@@ -1,19 +1,29 @@
 /*
  * A host that loads an FMU for Co-Simulation of FMI 3.0: it answers the calls of ssprun by the C functions of the FMU.
  *
- *     cc -std=c99 -O2 -o fmi3_host fmi3_host.c -ldl
+ *     cc -std=c99 -O2 -pthread -o fmi3_host fmi3_host.c -ldl
  *     fmi3_host DIR R
  *
- * DIR is an unpacked FMU. Its library is the one file of DIR/binaries/x86_64-linux whose name ends in `.so`; it is
- * loaded at Instantiate. A second has R counts. docs/HOST_PROTOCOL.md describes calls and replies, docs/HOSTS.md how to
- * use it.
+ * DIR is an unpacked FMU. Its library is the one file of DIR/binaries/x86_64-linux whose name ends in `.so`, of several
+ * the one that is named by the modelIdentifier of the description; it is loaded at Instantiate. A second has R counts.
+ * docs/HOST_PROTOCOL.md describes calls and replies, docs/HOSTS.md how to use it.
+ *
+ * Where there is a file DIR/reals.txt, the Int64 and Int32 variables whose references stand in it, one a line, hold the
+ * bits of a Float64 or a Float32: the FMU is asked for these, and set to them. `tools/ssp reals` writes such files.
  *
  * What doesn't work is told on standard error, and the call is answered with Error: no library or two of them, a
  * function that the library doesn't have, a time that is no count. What the FMU writes on standard output goes to
- * standard error. An FMU that crashes ends its host.
+ * standard error, line by line. An FMU that crashes ends its host.
+ *
+ *     FMI3_HOST_LOG=1         the FMU is to log
+ *     FMI3_HOST_SECONDS=N     where an answer takes longer than N seconds, 1 to 1,000,000, the host ends
+ *
+ * On Linux it ends with the thread that started it, also within a call of the FMU, and so does each child that the FMU
+ * forks with the thread that forked it.
  *
  * It ends with status 0 after FreeInstance and at the end of its input, 1 where its input is no frame or a reply can't
- * be written (where nobody reads them any more, SIGPIPE ends it before), and 2 where its words aren't DIR and R.
+ * be written (where nobody reads them any more, SIGPIPE ends it before) or an answer takes too long, and 2 where its
+ * words aren't DIR and R, or FMI3_HOST_SECONDS is no such number.
  *
  * Section numbers are those of FMI 3.0.
  */
@@ -24,10 +34,17 @@
 #include <dirent.h>
 #include <dlfcn.h>
 #include <fcntl.h>
+#include <poll.h>
+#include <pthread.h>
+#include <signal.h>
 #include <stdio.h>
 #include <stdlib.h>
 #include <string.h>
+#include <time.h>
 #include <unistd.h>
+#ifdef __linux__
+#include <sys/prctl.h>
+#endif
 
 /* ---- Calls and replies */
 
@@ -202,9 +219,9 @@ static fmi3Status complain(const char *what, const char *about)
     use(EnterInitializationMode) use(ExitInitializationMode) use(EnterEventMode) use(EnterStepMode) use(Terminate) \
     use(DoStep) use(UpdateDiscreteStates) \
     use(GetInt8) use(GetUInt8) use(GetInt16) use(GetUInt16) use(GetInt32) use(GetUInt32) use(GetInt64) use(GetUInt64) \
-    use(GetBoolean) \
+    use(GetBoolean) use(GetFloat32) use(GetFloat64) \
     use(SetInt8) use(SetUInt8) use(SetInt16) use(SetUInt16) use(SetInt32) use(SetUInt32) use(SetInt64) use(SetUInt64) \
-    use(SetBoolean) \
+    use(SetBoolean) use(SetFloat32) use(SetFloat64) \
     use(GetClock) use(SetClock) \
     use(GetIntervalDecimal) use(GetIntervalFraction) use(GetShiftDecimal) use(GetShiftFraction) \
     use(GetFMUState) use(SetFMUState) use(FreeFMUState)
@@ -230,7 +247,128 @@ static char *joined(const char *first, const char *second)
     return text;
 }
 
-/* The path of the one library (2.5: binaries of a platform), or NULL. */
+/* The whole file of the folder with this name, and a 0 behind it; NULL where it can't be read. */
+static char *read_whole(const char *file)
+{
+    char *path = joined(directory, file);
+    FILE *stream = path != NULL ? fopen(path, "rb") : NULL;
+    free(path);
+    if (stream == NULL)
+        return NULL;
+    char *text = NULL;
+    size_t length = 0, room = 4096;
+    for (;;) {
+        char *grown = realloc(text, room + 1);
+        if (grown == NULL)
+            break;
+        text = grown;
+        length += fread(text + length, 1, room - length, stream);
+        if (length < room)
+            break;
+        room *= 2;
+    }
+    bool is_read = text != NULL && length < room && !ferror(stream);
+    fclose(stream);
+    if (!is_read) {
+        free(text);
+        return NULL;
+    }
+    text[length] = '\0';
+    return text;
+}
+
+/* Where a piece of XML that begins here ends: a comment, a CDATA section, an instruction, or a tag; NULL if it doesn't. */
+static const char *behind(const char *piece)
+{
+    static const char *const limits[][2] = {{"<!--", "-->"}, {"<![CDATA[", "]]>"}, {"<?", "?>"}};
+    for (int i = 0; i < 3; i++) {
+        if (strncmp(piece, limits[i][0], strlen(limits[i][0])) == 0) {
+            const char *end = strstr(piece + strlen(limits[i][0]), limits[i][1]);
+            return end != NULL ? end + strlen(limits[i][1]) : NULL;
+        }
+    }
+    for (char quote = '\0'; *piece != '\0'; piece++) {
+        if (quote == '\0' && *piece == '>')
+            return piece + 1;
+        if (*piece == quote)
+            quote = '\0';
+        else if (quote == '\0' && (*piece == '"' || *piece == '\''))
+            quote = *piece;
+    }
+    return NULL;
+}
+
+/* The value of an attribute of a start tag, in memory of its own, or NULL. */
+static char *attribute_of(const char *tag, const char *end, const char *wanted)
+{
+    static const char spaces[] = " \t\r\n";
+    const char *place = tag + strcspn(tag, " \t\r\n/>");
+    for (;;) {
+        place += strspn(place, spaces);
+        size_t length = strcspn(place, " \t\r\n=/>");
+        const char *value = place + length;
+        value += strspn(value, spaces);
+        if (length == 0 || *value != '=')
+            return NULL;
+        value += 1 + strspn(value + 1, spaces);
+        const char *last = value < end && *value != '\0' ? strchr(value + 1, *value) : NULL;
+        if (last == NULL || last >= end)
+            return NULL;
+        if (length == strlen(wanted) && strncmp(place, wanted, length) == 0) {
+            size_t room = (size_t)(last - value);
+            char *text = malloc(room);
+            if (text != NULL)
+                snprintf(text, room, "%.*s", (int)(room - 1), value + 1);
+            return text;
+        }
+        place = last + 1;
+    }
+}
+
+/* The modelIdentifier of the first CoSimulation that stands directly in the root (2.4.1 and 4.4), or NULL. */
+static char *model_identifier(void)
+{
+    static const char name_of_element[] = "CoSimulation";
+    char *text = read_whole("/modelDescription.xml"), *identifier = NULL;
+    int depth = 0;
+    for (const char *tag = text; tag != NULL && (tag = strchr(tag, '<')) != NULL;) {
+        const char *end = behind(tag);
+        if (end == NULL)
+            break;
+        if (tag[1] == '/') {
+            depth--;
+        } else if (tag[1] != '!' && tag[1] != '?') {
+            const char *element = tag + 1;
+            size_t length = strcspn(element, " \t\r\n/>");
+            for (const char *colon; (colon = memchr(element, ':', length)) != NULL; element = colon + 1)
+                length -= (size_t)(colon + 1 - element);
+            if (depth == 1 && length == strlen(name_of_element) && strncmp(element, name_of_element, length) == 0) {
+                identifier = attribute_of(tag, end, "modelIdentifier");
+                break;
+            }
+            depth += end[-2] != '/';
+        }
+        tag = end;
+    }
+    free(text);
+    return identifier;
+}
+
+/* The path of the library of several that modelIdentifier names, or NULL. */
+static char *named_library(const char *folder)
+{
+    char *identifier = model_identifier();
+    char *file = identifier != NULL && strchr(identifier, '/') == NULL ? joined(identifier, ".so") : NULL;
+    char *path = file != NULL ? joined(folder, file) : NULL;
+    free(identifier);
+    free(file);
+    if (path == NULL || access(path, F_OK) == 0)
+        return path;
+    free(path);
+    return NULL;
+}
+
+/* The path of the library (2.5: binaries of a platform), or NULL. */
 static char *find_library(void)
 {
     static const char platform[] = "/binaries/x86_64-linux/";
@@ -248,12 +386,63 @@ static char *find_library(void)
     }
     if (entries != NULL)
         closedir(entries);
+    if (found > 1) {
+        free(path);
+        path = named_library(folder);
+    }
     free(folder);
-    if (found == 1)
-        return path;
-    complain(found == 0 ? "no library in " : "more than one library in ", platform + 1);
+    if (found == 0)
+        complain("no library in ", platform + 1);
+    else if (path == NULL)
+        complain("several libraries, none of them named by modelIdentifier, in ", platform + 1);
+    return path;
+}
+
+/* The references in DIR/reals.txt, in order. */
+static fmi3ValueReference *reals;
+static size_t real_count;
+
+static int compare_references(const void *first, const void *second)
+{
+    const fmi3ValueReference *one = first, *other = second;
+    return (*one > *other) - (*one < *other);
+}
+
+static bool is_real(fmi3ValueReference reference)
+{
+    return real_count > 0 &&
+        bsearch(&reference, reals, real_count, sizeof reference, compare_references) != NULL;
+}
+
+/* Reads DIR/reals.txt, if it is there: a reference a line, in digits. */
+static bool read_reals(void)
+{
+    char *path = joined(directory, "/reals.txt");
+    bool is_there = path == NULL || access(path, F_OK) == 0;
     free(path);
-    return NULL;
+    if (!is_there)
+        return true;
+    char *text = read_whole("/reals.txt");
+    reals = text != NULL ? malloc((strlen(text) / 2 + 1) * sizeof *reals) : NULL;
+    if (reals == NULL) {
+        free(text);
+        complain("can't read reals.txt", "");
+        return false;
+    }
+    for (const char *line = text; *line != '\0';) {
+        size_t digits = strspn(line, "0123456789");
+        unsigned long long reference = digits >= 1 && digits <= 10 ? strtoull(line, NULL, 10) : UINT64_MAX;
+        if (reference > UINT32_MAX || line[digits] != '\n') {
+            free(text);
+            complain("reals.txt has a line that is no value reference", "");
+            return false;
+        }
+        reals[real_count++] = (fmi3ValueReference)reference;
+        line += digits + 1;
+    }
+    free(text);
+    qsort(reals, real_count, sizeof *reals, compare_references);
+    return true;
 }
 
 static bool load_library(void)
@@ -300,17 +489,23 @@ static void log_message(fmi3InstanceEnvironment who, fmi3Status status, fmi3Stri
 {
     static const char *const words[] = {"OK", "Warning", "Discard", "Error", "Fatal"};
     const char *word = status >= fmi3OK && status <= fmi3Fatal ? words[status] : "?";
-    fprintf(stderr, "fmi3_host: %s: %s: %s: %s\n", (const char *)who, word, category, message);
+    fprintf(stderr, "fmi3_host: %s: %s: %s: %s: %s\n", directory, (const char *)who, word, category, message);
 }
 
-/* fmi3InstantiateCoSimulation (2.3): without a window, logging of its inside, and intermediate update. */
+static bool is_to_log(void)
+{
+    const char *word = getenv("FMI3_HOST_LOG");
+    return word != NULL && strcmp(word, "1") == 0;
+}
+
+/* fmi3InstantiateCoSimulation (2.3): without a window and intermediate update. */
 static fmi3Status instantiate(const struct call *call)
 {
     if (instance != NULL)
         return complain("there is an instance already", "");
     if (strlen(name) != call->first || strlen(token) != call->second)
         return complain("a name or token with a 0 in it can't be handed on", "");
-    if (!load_library())
+    if (!read_reals() || !load_library())
         return fmi3Error;
     NEEDS(InstantiateCoSimulation);
     char *root = realpath(directory, NULL);
@@ -318,7 +513,7 @@ static fmi3Status instantiate(const struct call *call)
     if (resources == NULL)
         return complain("can't name its resources", "");
     instance = fmu.InstantiateCoSimulation(
-        name, token, resources, fmi3False, fmi3False, (call->reference & EVENT_MODE_USED) != 0,
+        name, token, resources, fmi3False, is_to_log(), (call->reference & EVENT_MODE_USED) != 0,
         (call->reference & EARLY_RETURN_ALLOWED) != 0, NULL, 0, name, log_message, NULL);
     free(root);
     free(resources);
@@ -361,10 +556,53 @@ static fmi3Status update(struct reply *reply)
     return status;
 }
 
+/* fmi3GetFloat64 and fmi3GetFloat32 (2.2), as integers with their bits. */
+static fmi3Status get_real(int type, fmi3ValueReference reference, struct reply *reply)
+{
+    fmi3Status status;
+    if (type == INT64) {
+        fmi3Float64 value = 0.0;
+        NEEDS(GetFloat64);
+        status = fmu.GetFloat64(instance, &reference, 1, &value, 1);
+        memcpy(&reply->first, &value, sizeof value);
+    } else {
+        fmi3Float32 value = 0.0f;
+        fmi3Int32 bits;
+        NEEDS(GetFloat32);
+        status = fmu.GetFloat32(instance, &reference, 1, &value, 1);
+        memcpy(&bits, &value, sizeof value);
+        reply->first = (uint64_t)bits;
+    }
+    return status;
+}
+
+/* fmi3SetFloat64 and fmi3SetFloat32 (2.2). */
+static fmi3Status set_real(int type, fmi3ValueReference reference, uint64_t word)
+{
+    if (type == INT64) {
+        fmi3Float64 value;
+        NEEDS(SetFloat64);
+        memcpy(&value, &word, sizeof value);
+        return fmu.SetFloat64(instance, &reference, 1, &value, 1);
+    }
+    const fmi3Int32 bits = (fmi3Int32)word;
+    fmi3Float32 value;
+    NEEDS(SetFloat32);
+    memcpy(&value, &bits, sizeof value);
+    return fmu.SetFloat32(instance, &reference, 1, &value, 1);
+}
+
+static bool holds_real(int type, fmi3ValueReference reference)
+{
+    return (type == INT64 || type == INT32) && is_real(reference);
+}
+
 /* fmi3GetInt8 and its kin (2.2); an Enumeration is an Int64. A conversion to uint64_t extends a value by its sign. */
 static fmi3Status get(int type, fmi3ValueReference reference, struct reply *reply)
 {
     fmi3Status status = fmi3Error;
+    if (holds_real(type, reference))
+        return get_real(type, reference, reply);
     switch (type) {
 #define GET_OF(number, name) \
     case number: { \
@@ -381,6 +619,8 @@ static fmi3Status get(int type, fmi3ValueReference reference, struct reply *repl
 /* fmi3SetInt8 and its kin (2.2). */
 static fmi3Status set(int type, fmi3ValueReference reference, uint64_t word)
 {
+    if (holds_real(type, reference))
+        return set_real(type, reference, word);
     switch (type) {
 #define SET_OF(number, name) \
     case number: { \
@@ -528,6 +768,110 @@ static bool read_resolution(const char *word)
     return resolution >= 1 && resolution <= MOST_COUNTS;
 }
 
+/* In thousandths of a second: how long an answer may take, or 0 for ever; when the answer that is awaited is late, or 0. */
+static int64_t longest_answer;
+static int64_t late;
+static pthread_mutex_t late_lock = PTHREAD_MUTEX_INITIALIZER;
+
+static int64_t now(void)
+{
+    struct timespec time;
+    clock_gettime(CLOCK_MONOTONIC, &time);
+    return (int64_t)time.tv_sec * 1000 + time.tv_nsec / 1000000;
+}
+
+static void await_answer(bool is_awaited)
+{
+    if (longest_answer == 0)
+        return;
+    pthread_mutex_lock(&late_lock);
+    late = is_awaited ? now() + longest_answer : 0;
+    pthread_mutex_unlock(&late_lock);
+}
+
+/*
+ * A thread that ends the host where an answer is late. No answer is late sooner than the longest time from now on, so it
+ * may sleep for that long. Standard error is written to only where that doesn't wait.
+ */
+static void *watch(void *nothing)
+{
+    (void)nothing;
+    for (;;) {
+        pthread_mutex_lock(&late_lock);
+        int64_t left = late != 0 ? late - now() : longest_answer;
+        pthread_mutex_unlock(&late_lock);
+        if (left <= 0)
+            break;
+        poll(NULL, 0, (int)left);
+    }
+    char text[512];
+    struct pollfd errors = {STDERR_FILENO, POLLOUT, 0};
+    int length = snprintf(text, sizeof text, "fmi3_host: %.400s: no answer within %ld seconds\n", directory,
+                          (long)(longest_answer / 1000));
+    if (poll(&errors, 1, 0) == 1 && (errors.revents & POLLOUT) != 0 && write(STDERR_FILENO, text, (size_t)length) < 0)
+        _exit(1);
+    _exit(1);
+}
+
+/* FMI3_HOST_SECONDS: none, or a number of seconds in digits. The FMU's signals don't come to the thread that watches. */
+static bool start_watch(void)
+{
+    const char *word = getenv("FMI3_HOST_SECONDS");
+    if (word == NULL)
+        return true;
+    if (*word == '\0' || strspn(word, "0123456789") != strlen(word) || strlen(word) > 7)
+        return false;
+    long seconds_to_wait = strtol(word, NULL, 10);
+    if (seconds_to_wait < 1 || seconds_to_wait > 1000000)
+        return false;
+    longest_answer = (int64_t)seconds_to_wait * 1000;
+    sigset_t all, kept;
+    sigfillset(&all);
+    pthread_sigmask(SIG_SETMASK, &all, &kept);
+    pthread_t watcher;
+    bool is_started = pthread_create(&watcher, NULL, watch, NULL) == 0;
+    pthread_sigmask(SIG_SETMASK, &kept, NULL);
+    return is_started;
+}
+
+/* The descriptors of the two pipes. */
+static int frames[2];
+
+/* The process ends with the thread that started it. */
+static void end_with_parent(void)
+{
+#ifdef __linux__
+    prctl(PR_SET_PDEATHSIG, SIGKILL);
+#endif
+}
+
+/* Whether nobody reads the replies any more, as where the parent ended before this process was bound to it. */
+static bool is_left_alone(void)
+{
+    struct pollfd replies = {STDOUT_FILENO, 0, 0};
+    return poll(&replies, 1, 0) == 1 && (replies.revents & POLLERR) != 0;
+}
+
+/*
+ * A child that the FMU forks lets go of the pipes, else the master would wait for it where the FMU crashed; and it ends
+ * with the thread that forked it. One that was left before that is bound to another process.
+ */
+static pid_t forking;
+
+static void before_fork(void)
+{
+    forking = getpid();
+}
+
+static void in_child(void)
+{
+    close(frames[0]);
+    close(frames[1]);
+    end_with_parent();
+    if (getppid() != forking)
+        _exit(1);
+}
+
 /*
  * Frames go over copies of standard input and output, which the FMU's own children don't get. In their places stand an
  * empty input and standard error: so what the FMU prints can't stand among the replies.
@@ -543,7 +887,10 @@ static bool take_streams(FILE **calls, FILE **replies)
         return false;
     *calls = fdopen(in, "rb");
     *replies = fdopen(out, "wb");
-    return *calls != NULL && *replies != NULL;
+    frames[0] = in;
+    frames[1] = out;
+    setvbuf(stdout, NULL, _IOLBF, 0); /* a line that the FMU printed isn't lost in a crash */
+    return *calls != NULL && *replies != NULL && pthread_atfork(before_fork, NULL, in_child) == 0;
 }
 
 int main(int count, char **words)
@@ -553,6 +900,13 @@ int main(int count, char **words)
         return 2;
     }
     directory = words[1];
+    end_with_parent();
+    if (is_left_alone())
+        return 1;
+    if (!start_watch()) {
+        complain("FMI3_HOST_SECONDS is no number from 1 to 1000000", "");
+        return 2;
+    }
     FILE *calls, *replies;
     if (!take_streams(&calls, &replies)) {
         complain("can't set up its streams", "");
@@ -560,16 +914,18 @@ int main(int count, char **words)
     }
     for (struct call call;;) {
         switch (read_call(calls, &call)) {
-        case THE_END: return 0;
+        case THE_END: await_answer(true); return 0;
         case NO_FRAME: complain("the input is no frame", ""); return 1;
         case A_CALL: break;
         }
+        await_answer(true);
         struct reply reply = {fmi3OK, 0, 0, 0, 0};
         fmi3Status status = answer(&call, &reply);
         bool is_known = status >= fmi3OK && status <= fmi3Fatal;
         reply.status = is_known ? status : complain("a status that FMI doesn't have", "");
         if (!write_reply(replies, call.kind, &reply))
             return 1;
+        await_answer(call.kind == FREE_INSTANCE); /* its own end may take no longer either: the library may hang in it */
         if (call.kind == FREE_INSTANCE)
             return 0;
     }

@@ -1,0 +1,205 @@
+"""Systems with their FMUs, as the program reads them (docs/PROFILE.md): for tools, and without its rules.
+
+A file that isn't there, or isn't taken by the program, is told; what the program would refuse may give any answer here.
+"""
+import os
+
+from .common import DESCRIPTION, STRUCTURE, Told, parse_xml, read_file, read_xml
+
+INTEGERS = ("Int8", "UInt8", "Int16", "UInt16", "Int32", "UInt32", "Int64", "UInt64")
+TYPES = (*INTEGERS, "Boolean", "Enumeration", "Clock", "Float32", "Float64", "String", "Binary")
+# types that this profile never sets, reads or traces
+FOREIGN_TYPES = ("Float32", "Float64", "String", "Binary")
+CAUSALITIES = ("parameter", "calculatedParameter", "structuralParameter", "input", "output", "local", "independent")
+# the machines that are part of the program, by their model identifiers
+BUILT_IN = ("counter", "gain", "sampler", "alarm", "timer", "relay", "settle")
+
+
+class Variable:
+    """A variable of a description: its names are its own and those of its aliases."""
+
+    def __init__(self, element):
+        self.element, self.type = element, element.name
+        self.name = element.get("name", "")
+        self.names = [self.name, *(alias.get("name", "") for alias in element.named("Alias"))]
+        self.reference = element.get("valueReference", "")
+        self.causality = element.get("causality", "local")
+        self.clocks = element.get("clocks", "").split()
+        self.is_foreign = (
+            self.type in FOREIGN_TYPES
+            or (self.type == "Clock" and self.causality == "local")
+            or element.first("Dimension") is not None
+            or self.causality not in CAUSALITIES
+        )
+
+
+class Description:
+    """What a modelDescription.xml says."""
+
+    def __init__(self, path):
+        self.path, self.root = path, read_xml(path)
+        if self.root.name != "fmiModelDescription":
+            raise Told(f"{path}: the root is {self.root.name}, and no fmiModelDescription")
+        self.co_simulation = self.root.first("CoSimulation")
+        lists = self.root.named("ModelVariables")
+        self.variables = [Variable(child) for part in lists for child in part.children if child.name in TYPES]
+        foreign = {one.reference for one in self.variables if one.type == "Clock" and one.is_foreign}
+        for one in self.variables:
+            one.is_foreign = one.is_foreign or not foreign.isdisjoint(one.clocks)
+
+    def flag(self, name):
+        """A flag of the CoSimulation."""
+        return self.co_simulation is not None and self.co_simulation.get(name) in ("true", "1")
+
+    def variable(self, name):
+        """The variable of this name, or None."""
+        return next((one for one in self.variables if name in one.names), None)
+
+    def ports(self):
+        """The inputs and outputs that aren't foreign, in their order."""
+        return [one for one in self.variables if one.causality in ("input", "output") and not one.is_foreign]
+
+    def clocks(self):
+        """The Clocks that aren't local."""
+        return [one for one in self.variables if one.type == "Clock" and not one.is_foreign]
+
+
+class Component:
+    """An FMU of a system: its full name, its element (None for one FMU alone), the folder of its FMU, and its description."""
+
+    def __init__(self, name, element, folder, description):
+        self.name, self.element, self.folder, self.description = name, element, folder, description
+
+
+class Part:
+    """A System or a component of a system, with those around it, from the outermost System on."""
+
+    def __init__(self, element, around):
+        self.element, self.around = element, around
+
+    def name_below(self, outer):
+        """The names from below this System down to here, joined with dots."""
+        names = [part.element.get("name", "") for part in [*self.around, self]]
+        return ".".join(names[len(outer.around) + 1 :])
+
+
+class System:
+    """A system in a folder: its structure, its parts in the order of the document, and its components."""
+
+    def __init__(self, folder):
+        self.folder, self.path = folder, os.path.join(folder, STRUCTURE)
+        self.root = read_xml(self.path)
+        outer = self.root.first("System")
+        if self.root.name != "SystemStructureDescription" or outer is None:
+            raise Told(f"{self.path}: no SystemStructureDescription with a System")
+        self.parts, self.components, descriptions = [], [], {}
+        self.add(Part(outer, []))
+        for part in self.parts:
+            if part.element.name == "Component":
+                at = joined(folder, part.element.get("source", ""))
+                if at not in descriptions:
+                    descriptions[at] = Description(os.path.join(at, DESCRIPTION))
+                name = part.name_below(self.parts[0])
+                self.components.append(Component(name, part.element, at, descriptions[at]))
+                part.component = self.components[-1]
+
+    def add(self, part):
+        waiting = [part]
+        while waiting:
+            part = waiting.pop()
+            self.parts.append(part)
+            if part.element.name == "System":
+                inside = [child for elements in part.element.named("Elements") for child in elements.named("System", "Component")]
+                waiting.extend(Part(child, [*part.around, part]) for child in reversed(inside))
+
+    def ports(self):
+        """The components and variables of the ports, in the order of their numbers."""
+        return [(component, port) for component in self.components for port in component.description.ports()]
+
+
+class OneFmu:
+    """One FMU alone, as `one` runs it: a system of the component `fmu`."""
+
+    def __init__(self, folder):
+        self.folder, self.root = folder, None
+        self.components = [Component("fmu", None, folder, Description(os.path.join(folder, DESCRIPTION)))]
+
+    ports = System.ports
+
+
+def read_system(folder):
+    """The system in a folder, or the FMU where there is no structure."""
+    if os.path.exists(os.path.join(folder, STRUCTURE)):
+        return System(folder)
+    if os.path.exists(os.path.join(folder, DESCRIPTION)):
+        return OneFmu(folder)
+    raise Told(f"{folder}: neither {STRUCTURE} nor {DESCRIPTION} is there")
+
+
+def joined(folder, source):
+    """The path of a source below a folder, as the program makes it: without segments `.` and without one last empty one."""
+    parts = [part for part in source.split("/") if part != "."]
+    if parts and parts[-1] == "":
+        parts.pop()
+    if not parts or ".." in parts or "" in parts:
+        raise Told(f"the source `{source}` doesn't lead below the folder {folder} (rule 33)")
+    return os.path.join(folder, *parts)
+
+
+# ---- bindings
+
+
+class Binding:
+    """A ParameterBinding with the Parameters of its set, and the entries of its mapping (None where there is none)."""
+
+    def __init__(self, system, part, element):
+        self.part, self.element, self.prefix = part, element, element.get("prefix", "")
+        self.path, found = self.read(system, element, "ParameterValues", "ParameterSet")
+        lists = found.named("Parameters") if found else []
+        self.parameters = [child for inside in lists for child in inside.named("Parameter")]
+        mapping = element.first("ParameterMapping")
+        self.mapping_path, self.entries = None, None
+        if mapping is not None:
+            self.mapping_path, found = self.read(system, mapping, None, "ParameterMapping")
+            self.entries = found.named("MappingEntry") if found else []
+
+    def read(self, system, element, within, root):
+        """The file and the root of what an element names by its source, or has within."""
+        source = element.get("source")
+        if source is not None:
+            is_own = element.get("sourceBase") == "component" and self.part.element.name == "Component"
+            path = joined(self.part.component.folder if is_own else system.folder, source)
+            return path, parse_xml(read_file(path), path)
+        inside = element.first(within) if within else element
+        return system.path, inside.first(root) if inside else None
+
+    def given(self):
+        """Each name that is given a value, with the Parameter and the entry that give it."""
+        for parameter in self.parameters:
+            name = self.prefix + parameter.get("name", "")
+            if self.entries is None:
+                yield name, parameter, None
+            for entry in self.entries or []:
+                if entry.get("source") == name:
+                    yield entry.get("target", ""), parameter, entry
+
+
+def bindings(system):
+    """The bindings of a system in the order of the document."""
+    for part in system.parts:
+        for inside in part.element.named("ParameterBindings"):
+            for element in inside.named("ParameterBinding"):
+                yield Binding(system, part, element)
+
+
+def parameters_seen(system, part):
+    """What names lead to from a System or a component: the component and the variable of each parameter, also of foreign ones."""
+    found = {}
+    for other in system.parts:
+        if other.element.name == "Component" and (other is part or part in other.around):
+            front = "" if other is part else f"{other.name_below(part)}."
+            for variable in other.component.description.variables:
+                if variable.causality == "parameter":
+                    for name in variable.names:
+                        found.setdefault(front + name, (other.component, variable))
+    return found

@@ -1,0 +1,143 @@
+"""`ssp unpack FILE [DIR]`: an archive of a system (.ssp) or of an FMU (.fmu) as the folder that the program reads."""
+import os
+import shutil
+import stat
+import tempfile
+import zipfile
+import zlib
+
+from .common import DESCRIPTION, STRUCTURE, Told, one_line
+from .suggest import suggestion
+from .systems import read_system
+
+ABOUT = """Unpacks an archive of a system (.ssp) or of an FMU (.fmu) into DIR, which isn't there before or is empty; where it isn't
+given, it is the name of FILE without its ending. The FMUs in an archive of a system become folders that keep their names, so that
+no source has to be edited. Nothing is written outside DIR, and nothing is left of an archive that isn't whole. The last line is the
+command that runs it; `ssp suggest DIR` says how it is chosen."""
+
+
+def add_parser(subparsers):
+    parser = subparsers.add_parser("unpack", help="unpacks an .ssp or .fmu archive", description=ABOUT)
+    parser.add_argument("file", metavar="FILE", help="the archive")
+    parser.add_argument("folder", metavar="DIR", nargs="?", help="the folder to make")
+    return parser
+
+
+def run(args):
+    folder = args.folder or os.path.splitext(os.path.basename(args.file))[0]
+    if os.path.isdir(folder) and os.listdir(folder):
+        raise Told(f"{folder}: there is something in this folder: give another DIR")
+    if os.path.lexists(folder) and not os.path.isdir(folder):
+        raise Told(f"{folder} is there already, and is no folder: give another DIR")
+    above = os.path.dirname(os.path.abspath(folder))
+    if not os.path.isdir(above):
+        raise Told(f"{above}: there is no such folder to make {os.path.basename(folder)} in")
+    # beside DIR, so that it can be put into its place as a whole
+    with tempfile.TemporaryDirectory(prefix=".ssp-unpack-", dir=above) as room:
+        made = os.path.join(room, "made")
+        files, fmus = unpack(args.file, made)
+        os.rename(made, folder)
+    of_fmus = f", in folders of {counted(fmus, 'FMU')}" if fmus else ""
+    print(one_line(f"{folder}: {counted(files, 'file')}{of_fmus}"))
+    try:
+        _, command = suggestion(read_system(folder))
+    except (Told, OSError) as why:
+        print(one_line(f"No command is suggested: {why}"))
+    else:
+        print(one_line(command))
+
+
+def counted(number, what):
+    return f"{number} {what}{'' if number == 1 else 's'}"
+
+
+def unpack(path, made):
+    """Unpacks an archive of a system or of an FMU, and the FMUs in the former; gives the numbers of files and of FMUs."""
+    with opened(path, path) as archive:
+        names = names_in(archive, path)
+        if STRUCTURE in names:
+            files = extract(archive, made, path)
+            fmus = 0
+            for name in sorted(names):
+                if name.lower().endswith(".fmu"):
+                    fmus += 1
+                    files += unpack_fmu(os.path.join(made, name), f"{path}: {name}") - 1
+            return files, fmus
+        if DESCRIPTION in names:
+            return extract(archive, made, path), 0
+        raise Told(f"{path}: neither {STRUCTURE} nor {DESCRIPTION} is at its top{found_below(names)}")
+
+
+def found_below(names):
+    found = sorted(name for name in names if os.path.basename(name) in (STRUCTURE, DESCRIPTION))
+    return f", but {found[0]} is in it: pack what is in that folder" if found else ""
+
+
+def unpack_fmu(place, what):
+    """Puts a folder of the same name in the place of the archive of an FMU."""
+    packed = f"{place}.packed"
+    while os.path.lexists(packed):
+        packed += "_"
+    os.rename(place, packed)
+    with opened(packed, what) as archive:
+        if DESCRIPTION not in names_in(archive, what):
+            raise Told(f"{what}: {DESCRIPTION} isn't at its top")
+        files = extract(archive, place, what)
+    os.remove(packed)
+    return files
+
+
+def opened(path, what):
+    try:
+        return zipfile.ZipFile(path)
+    except (zipfile.BadZipFile, NotImplementedError, ValueError, UnicodeError) as error:
+        raise Told(f"{what}: no archive that can be read: {error}") from None
+
+
+def names_in(archive, what):
+    """The names of an archive's files. None leads out of the folder, none stands twice, and none is a link."""
+    names, folders = set(), set()
+    for info in archive.infolist():
+        name = info.orig_filename
+        parts = name.rstrip("/").split("/")
+        if any(part in ("", ".", "..") for part in parts) or "\\" in name or "\0" in name or ":" in parts[0]:
+            raise Told(f"{what}: the path `{name}` in it isn't taken: it may lead out of the folder")
+        if stat.S_ISLNK(info.external_attr >> 16):
+            raise Told(f"{what}: `{name}` in it is a link, which isn't taken")
+        if info.flag_bits & 1:
+            raise Told(f"{what}: `{name}` in it is encrypted")
+        if info.is_dir():
+            folders.add("/".join(parts))
+        elif name in names:
+            raise Told(f"{what}: the path `{name}` stands twice in it")
+        else:
+            names.add(name)
+        folders.update("/".join(parts[:count]) for count in range(1, len(parts)))
+    both = sorted(names & folders)
+    if both:
+        raise Told(f"{what}: `{both[0]}` in it is a file and a folder")
+    return names
+
+
+def extract(archive, to, what):
+    """Writes the files of an archive whose names are taken below a folder, and gives their number."""
+    infos = archive.infolist()
+    size = sum(info.file_size for info in infos)
+    if size > shutil.disk_usage(os.path.dirname(to)).free:
+        raise Told(f"{what}: there isn't room for the {size} bytes in it")
+    count = 0
+    for info in infos:
+        path = os.path.join(to, *info.orig_filename.rstrip("/").split("/"))
+        if info.is_dir():
+            os.makedirs(path, exist_ok=True)
+            continue
+        os.makedirs(os.path.dirname(path), exist_ok=True)
+        try:
+            with archive.open(info) as source, open(path, "xb") as file:
+                shutil.copyfileobj(source, file, 1 << 20)
+        except (zipfile.BadZipFile, zlib.error, NotImplementedError, RuntimeError, EOFError, ValueError) as error:
+            raise Told(f"{what}: `{info.orig_filename}` in it can't be read: {error}") from None
+        if (info.external_attr >> 16) & 0o111:
+            os.chmod(path, 0o755)
+        count += 1
+    return count
