@@ -15,7 +15,7 @@ use Rattle.parameter_values.specs.Ready.{IsReady}
 use Rattle.ssd_tree.specs.declared.tree.Binding.{Binding}
 use Rattle.ssd_tree.specs.declared.tree.SystemTree.{SystemTree}
 use Rattle.parameter_targets.specs.declared.target.Target.{Target}
-use Rattle.parameter_targets.specs.Named.{IsOwner}
+use Rattle.ssd_tree.specs.Named.{IsOwner}
 use Rattle.parameter_targets.specs.Scopes.{IsTarget, Sees}
 use Rattle.parameter_targets.proofs.ListLemmas.{contains_at}
 use Rattle.parameter_binding.specs.declared.sets.BindingSets.{BindingSets}

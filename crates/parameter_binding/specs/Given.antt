@@ -4,7 +4,7 @@ use Rattle.value_types.specs.declared.shape.Shape.{Shape}
 use Rattle.system_model.specs.Shapes.{IsSoundShape}
 use Rattle.ssd_tree.specs.declared.tree.SystemTree.{SystemTree}
 use Rattle.parameter_values.specs.Ranges.{AreInRange}
-use Rattle.parameter_targets.specs.Named.{IsNamedTree}
+use Rattle.ssd_tree.specs.Named.{IsNamedTree}
 use Rattle.parameter_binding.specs.declared.sets.BindingSets.{BindingSets}
 
 -- a sound shape for each component, and a set in range for each binding

@@ -8,7 +8,7 @@ ghost use Rattle.parameter_values.specs.Ranges.{IsInRange};
 ghost use Rattle.parameter_values.specs.Ready.{IsReady};
 ghost use Rattle.ssd_tree.specs.declared.tree.Binding.{Binding};
 ghost use Rattle.parameter_targets.specs.Chains.{AreChains};
-ghost use Rattle.parameter_targets.specs.Named.{IsOwner};
+ghost use Rattle.ssd_tree.specs.Named.{IsOwner};
 ghost use Rattle.parameter_targets.specs.Tables.{text_of};
 ghost use Rattle.parameter_binding.specs.declared.sets.BindingSets.{BindingSets};
 ghost use Rattle.parameter_binding.specs.Binds.{change_of};

@@ -7,7 +7,7 @@ use Rattle.std.proofs.lemmas.Option.{slice_get_within, slice_get-get_or}
 use Rattle.ssd_tree.specs.declared.tree.SystemPart.{SystemPart}
 use Rattle.ssd_tree.specs.declared.tree.ComponentPart.{ComponentPart}
 use Rattle.ssd_tree.specs.declared.tree.SystemTree.{SystemTree}
-use Rattle.parameter_targets.specs.Named.{IsNamedTree}
+use Rattle.ssd_tree.specs.Named.{IsNamedTree}
 use Rattle.parameter_targets.specs.Scopes.{IsDepth, AtTop, Below}
 use Rattle.parameter_targets.specs.Tables.{AreDepths}
 use Rattle.parameter_targets.proofs.ListLemmas.{contains_at, push_cases, read_at}

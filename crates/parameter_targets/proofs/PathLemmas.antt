@@ -5,8 +5,8 @@ use Rattle.std.proofs.lemmas.List.{append_cancel_left}
 use Rattle.std.proofs.lemmas.Option.{same_Some}
 use Rattle.ssd_tree.specs.declared.tree.SystemPart.{SystemPart}
 use Rattle.ssd_tree.specs.declared.tree.SystemTree.{SystemTree}
-use Rattle.parameter_targets.specs.Named.{BeginsWithScope}
-use Rattle.parameter_targets.specs.Scopes.{IsDepth, AtTop, Below, IsScope, Outermost, Inner, IsWithin, Same, Deeper}
+use Rattle.ssd_tree.specs.Named.{BeginsWithScope, Inner, IsScope, Outermost}
+use Rattle.parameter_targets.specs.Scopes.{IsDepth, AtTop, Below, IsWithin, Same, Deeper}
 use Rattle.parameter_targets.specs.Tables.{IsPathText}
 
 none_some : {A : Type 0} (x : A) → ◌≡◌ {A = Option A} None (Some x) → ⊥

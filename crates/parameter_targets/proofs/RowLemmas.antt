@@ -12,7 +12,7 @@ use Rattle.dependency_order.proofs.ListLemmas.{in_pushed, in_pushed_back}
 use Rattle.name_fronts.proofs.PushLemmas.{pushed_before, pushed_last}
 use Rattle.parameter_targets.specs.declared.paths.Path.{Path}
 use Rattle.parameter_targets.specs.declared.paths.Paths.{Paths}
-use Rattle.parameter_targets.specs.Named.{BeginsWithScope, IsInScope, IsNamedTree}
+use Rattle.ssd_tree.specs.Named.{BeginsWithScope, IsInScope, IsNamedTree}
 use Rattle.parameter_targets.specs.Scopes.{IsWithin, Same, Deeper}
 use Rattle.parameter_targets.specs.Tables.{AreRows, ArePaths, ArePathsBelow, IsPath, IsPathText, TellsPath}
 use Rattle.parameter_targets.proofs.ListLemmas.{contains_at, push_cases}

@@ -15,7 +15,7 @@ use Rattle.parameter_targets.specs.declared.paths.Path.{Path}
 use Rattle.parameter_targets.specs.declared.paths.Paths.{Paths}
 use Rattle.parameter_targets.specs.declared.target.Target.{Target}
 use Rattle.parameter_targets.specs.declared.targets.Targets.{Targets}
-use Rattle.parameter_targets.specs.Named.{IsNamedTree}
+use Rattle.ssd_tree.specs.Named.{IsNamedTree}
 use Rattle.parameter_targets.specs.Scopes.{IsTarget, Sees}
 use Rattle.parameter_targets.specs.Tables.{AreAllFronts, AreAllNames, AreNames, AreNear, AreTargets, IsNamed, IsNamedAt, IsNamedIn, IsSeenBelow, row_texts, path_text}
 use Rattle.parameter_targets.proofs.ListLemmas.{contains_at, element_at, place_of, push_cases, read_at}

@@ -1,4 +1,3 @@
 pub mod Scopes
-pub mod Named
 pub mod Chains
 pub mod Tables

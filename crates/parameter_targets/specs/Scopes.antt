@@ -1,5 +1,5 @@
 -- Which parameters a System or a Component sees, and under which names (SSP 1.0: ParameterBinding; the names of parameters in a system are hierarchical, element names and parameter name joined with dots).
-use Rattle.std.specs.Prelude.{◌≡◌, ◌⊎◌, ℕ, ◌+◌, true, List, [], ◌∷◌, ◌++◌, Some, None, is_some, slice_get, Contains}
+use Rattle.std.specs.Prelude.{◌≡◌, ◌⊎◌, ℕ, ◌+◌, true, List, ◌∷◌, ◌++◌, Some, None, is_some, slice_get, Contains}
 use Rattle.value_types.specs.declared.shape.Shape.{Shape}
 use Rattle.value_types.specs.declared.shape.Variable.{Variable}
 use Rattle.value_types.specs.Shape.{is_parameter}
@@ -8,6 +8,7 @@ use Rattle.ssd_tree.specs.declared.tree.Owner.TheVariants.{System, Component}
 use Rattle.ssd_tree.specs.declared.tree.SystemPart.{SystemPart}
 use Rattle.ssd_tree.specs.declared.tree.ComponentPart.{ComponentPart}
 use Rattle.ssd_tree.specs.declared.tree.SystemTree.{SystemTree}
+use Rattle.ssd_tree.specs.Named.{IsScope}
 use Rattle.parameter_targets.specs.declared.target.Target.{Target}
 
 -- ---- targets
@@ -31,14 +32,6 @@ pub data IsWithin (t : SystemTree) (outer : ℕ) : ℕ → Type 0 where
   Same : (s : ℕ) → s ≡ outer → IsWithin t outer s
   Deeper : (s above : ℕ) (part : SystemPart) → slice_get t.systems s ≡ Some part →
       part.parent ≡ Some above → IsWithin t outer above → IsWithin t outer s
-
--- the names of the Systems below the outermost, down to this one, each with a dot behind it
-pub data IsScope (t : SystemTree) : ℕ → List ℕ → Type 0 where
-  Outermost : (s : ℕ) (part : SystemPart) (scope : List ℕ) → slice_get t.systems s ≡ Some part →
-      part.parent ≡ None → scope ≡ [] → IsScope t s scope
-  Inner : (s outer : ℕ) (part : SystemPart) (above scope : List ℕ) →
-      slice_get t.systems s ≡ Some part → part.parent ≡ Some outer → IsScope t outer above →
-      scope ≡ above ++ (part.name ++ 46 ∷ []) → IsScope t s scope
 
 -- so many Systems stand around this one
 pub data IsDepth (t : SystemTree) : ℕ → ℕ → Type 0 where

@@ -12,8 +12,8 @@ use Rattle.parameter_targets.specs.declared.paths.Paths.{Paths}
 use Rattle.parameter_targets.specs.declared.target.Target.{Target}
 use Rattle.parameter_targets.specs.declared.targets.Targets.{Targets}
 use Rattle.parameter_targets.specs.Chains.{AreChains, FindsFrom}
-use Rattle.parameter_targets.specs.Named.{IsNamedTree}
-use Rattle.parameter_targets.specs.Scopes.{IsCalled, IsDepth, IsScope, IsWithin}
+use Rattle.ssd_tree.specs.Named.{IsNamedTree, IsScope}
+use Rattle.parameter_targets.specs.Scopes.{IsCalled, IsDepth, IsWithin}
 
 -- ---- the parameters of a component
 

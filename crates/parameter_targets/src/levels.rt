@@ -1,7 +1,7 @@
 //! The levels of Systems and Components.
 ghost use Rattle.std.specs.Prelude.{◌≡◌, ◌<◌, ◌≤◌, ℕ, IfOk, length, Some, slice_get};
 ghost use Rattle.ssd_tree.specs.declared.tree.SystemTree.{SystemTree};
-ghost use Rattle.parameter_targets.specs.Named.{IsNamedTree, IsOwner};
+ghost use Rattle.ssd_tree.specs.Named.{IsNamedTree, IsOwner};
 ghost use Rattle.parameter_targets.specs.Scopes.{IsLevel};
 ghost use Rattle.parameter_targets.specs.Tables.{AreDepths};
 

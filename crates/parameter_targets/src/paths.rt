@@ -2,7 +2,7 @@
 ghost use Rattle.std.specs.Prelude.{◌≡◌, ◌⊎◌, ◌↔◌, ◌<◌, ℕ, List, ◌++◌, ◌∷◌, Option, Some, IfOk, IfSome, IfNone, OnOk, length, slice_get};
 ghost use Rattle.ssd_tree.specs.declared.tree.SystemTree.{SystemTree};
 ghost use Rattle.ssd_tree.specs.declared.tree.ComponentPart.{ComponentPart};
-ghost use Rattle.parameter_targets.specs.Named.{IsNamedTree, BeginsWithScope};
+ghost use Rattle.ssd_tree.specs.Named.{IsNamedTree, BeginsWithScope};
 ghost use Rattle.parameter_targets.specs.Scopes.{IsWithin};
 ghost use Rattle.parameter_targets.specs.Tables.{ArePaths, AreRows, IsPath, IsPathText, TellsPath};
 

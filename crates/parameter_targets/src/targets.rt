@@ -2,7 +2,7 @@
 ghost use Rattle.std.specs.Prelude.{◌≡◌, ◌⊎◌, ◌↔◌, ◌<◌, IfOk, OnOk, Contains, length};
 ghost use Rattle.value_types.specs.declared.shape.Shape.{Shape};
 ghost use Rattle.parameter_targets.specs.declared.target.Target.{Target};
-ghost use Rattle.parameter_targets.specs.Named.{IsNamedTree, IsOwner};
+ghost use Rattle.ssd_tree.specs.Named.{IsNamedTree, IsOwner};
 ghost use Rattle.parameter_targets.specs.Scopes.{Sees};
 ghost use Rattle.parameter_targets.specs.Tables.{AreAllFronts, AreAllNames, AreNear, AreRows, AreTargets, IsNamedIn, IsSeenBelow, row_texts};
 

@@ -1,4 +1,5 @@
 pub mod Elements
+pub mod Named
 pub mod Listings
 pub mod Sources
 pub mod Ends

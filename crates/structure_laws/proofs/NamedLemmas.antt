@@ -19,8 +19,7 @@ use Rattle.ssd_tree.specs.Rules.{IsSound}
 use Rattle.ssd_tree.proofs.ElementLemmas.{holder_cases}
 use Rattle.ssd_tree.proofs.OneLemmas.{alone_in_root}
 use Rattle.structure_laws.proofs.NameLemmas.{each_beside}
-use Rattle.parameter_targets.specs.Named.{IsInScope, IsNamedTree, IsOwner}
-use Rattle.parameter_targets.specs.Scopes.{IsScope, Inner, Outermost}
+use Rattle.ssd_tree.specs.Named.{Inner, IsInScope, IsNamedTree, IsOwner, IsScope, Outermost}
 
 -- ---- lists side by side
 

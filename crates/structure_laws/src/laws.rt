@@ -4,7 +4,7 @@ ghost use Rattle.ssd_tree.specs.declared.tree.ComponentPart.{ComponentPart};
 ghost use Rattle.ssd_tree.specs.declared.tree.SystemTree.{SystemTree};
 ghost use Rattle.ssd_tree.specs.Parts.{Describes};
 ghost use Rattle.ssd_tree.specs.Rules.{IsSound};
-ghost use Rattle.parameter_targets.specs.Named.{IsNamedTree};
+ghost use Rattle.ssd_tree.specs.Named.{IsNamedTree};
 
 use doc_grammar::document_laws;
 

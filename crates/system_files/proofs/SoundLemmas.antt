@@ -25,7 +25,7 @@ use Rattle.parameter_binding.specs.declared.sets.BindingSets.{BindingSets}
 use Rattle.parameter_binding.specs.declared.sets.MappingOf.{MappingOf}
 use Rattle.parameter_binding.specs.Binds.{Triple, mapping_of}
 use Rattle.parameter_binding.specs.Rules as rules
-use Rattle.parameter_targets.specs.Named.{IsNamedTree}
+use Rattle.ssd_tree.specs.Named.{IsNamedTree}
 use Rattle.parameter_values.specs.Ranges.{AreInRange}
 use Rattle.parameter_values.specs.declared.set.Mapping.{Mapping}
 use Rattle.ssd_tree.specs.declared.tree.Binding.{Binding}

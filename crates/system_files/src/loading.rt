@@ -1,7 +1,7 @@
 //! The files of a system, read in their order.
 ghost use Rattle.std.specs.Prelude.{◌≡◌, ℕ, ◌≤◌, ◌^◌, All, IfErr, IfOk, length};
 ghost use Rattle.ssd_tree.specs.declared.tree.ComponentPart.{ComponentPart};
-ghost use Rattle.parameter_targets.specs.Named.{IsNamedTree};
+ghost use Rattle.ssd_tree.specs.Named.{IsNamedTree};
 ghost use Rattle.system_model.specs.declared.system.Component.{Component};
 ghost use Rattle.system_model.specs.Bounds.{BindsParameters};
 ghost use Rattle.system_model.specs.Sound.{IsSound};

@@ -5,8 +5,7 @@ use Rattle.std.proofs.lemmas.List.Elements.{All-cons, All-nil}
 use Rattle.ssd_tree.specs.declared.tree.Binding.{Binding}
 use Rattle.ssd_tree.specs.declared.tree.ComponentPart.{ComponentPart}
 use Rattle.ssd_tree.specs.declared.tree.SystemPart.{SystemPart}
-use Rattle.parameter_targets.specs.Named.{IsInScope, IsNamedTree, IsOwner}
-use Rattle.parameter_targets.specs.Scopes.{Outermost}
+use Rattle.ssd_tree.specs.Named.{IsInScope, IsNamedTree, IsOwner, Outermost}
 use Rattle.system_loading.specs.Outlines.{lone_name, lone_tree}
 
 abbrev lone_component : ComponentPart

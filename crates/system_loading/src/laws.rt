@@ -3,7 +3,7 @@ ghost use Rattle.std.specs.Prelude.{◌≡◌, ℕ, ◌≤◌, All, List, length
 ghost use Rattle.value_types.specs.declared.shape.Shape.{Shape};
 ghost use Rattle.system_model.specs.Shapes.{IsSoundShape};
 ghost use Rattle.flatten.specs.Given.{IsWhole};
-ghost use Rattle.parameter_targets.specs.Named.{IsNamedTree};
+ghost use Rattle.ssd_tree.specs.Named.{IsNamedTree};
 ghost use Rattle.ssd_tree.specs.declared.tree.ComponentPart.{ComponentPart};
 ghost use Rattle.system_loading.specs.declared.outline.Outline.{Outline};
 ghost use Rattle.system_loading.specs.Outlines.{lone_tree};

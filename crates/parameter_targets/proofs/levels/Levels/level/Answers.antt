@@ -1,5 +1,5 @@
 use Rattle.std.proofs.Common.{◌+◌, ◌<◌, ◌^◌, length, sym, subst, refl, arith, rules}
-use Rattle.parameter_targets.specs.Named.{IsOwner}
+use Rattle.ssd_tree.specs.Named.{IsOwner}
 use Rattle.parameter_targets.specs.Scopes.{IsLevel}
 use Rattle.parameter_targets.proofs.LevelLemmas.{depth_of_part, depth_read}
 use Rattle.parameter_targets.proofs.ListLemmas.{read_at}

@@ -1,6 +1,6 @@
 use Rattle.std.proofs.Common.{◌<◌, get_or, sym, ap, subst}
 use Rattle.ssd_tree.specs.declared.tree.SystemPart.{SystemPart}
-use Rattle.parameter_targets.specs.Named.{BeginsWithScope}
+use Rattle.ssd_tree.specs.Named.{BeginsWithScope}
 use Rattle.parameter_targets.specs.Tables.{IsPathText}
 use Rattle.parameter_targets.proofs.ListLemmas.{read_at}
 use Rattle.parameter_targets.proofs.RowLemmas.{IsPutting, ahead, ahead_smaller, begins_around, putting_more, putting_none}

@@ -1,16 +1,23 @@
 -- Trees of systems whose components have their full names (SSP 1.0, 5.3: elements of a System, and their hierarchical names).
-use Rattle.std.specs.Prelude.{◌≡◌, ℕ, ◌<◌, List, ◌++◌, length, All, Some, slice_get}
+use Rattle.std.specs.Prelude.{◌≡◌, ℕ, ◌<◌, List, [], ◌∷◌, ◌++◌, length, All, Some, None, slice_get}
 use Rattle.ssd_tree.specs.declared.tree.Owner.{Owner}
 use Rattle.ssd_tree.specs.declared.tree.Owner.TheVariants.{System, Component}
 use Rattle.ssd_tree.specs.declared.tree.Binding.{Binding}
 use Rattle.ssd_tree.specs.declared.tree.SystemPart.{SystemPart}
 use Rattle.ssd_tree.specs.declared.tree.ComponentPart.{ComponentPart}
 use Rattle.ssd_tree.specs.declared.tree.SystemTree.{SystemTree}
-use Rattle.parameter_targets.specs.Scopes.{IsScope}
 
 abbrev pub IsOwner : SystemTree → Owner → Type 0
 IsOwner t (System place) = place < length t.systems
 IsOwner t (Component place) = place < length t.components
+
+-- the names of the Systems below the outermost, down to this one, each with a dot behind it
+pub data IsScope (t : SystemTree) : ℕ → List ℕ → Type 0 where
+  Outermost : (s : ℕ) (part : SystemPart) (scope : List ℕ) → slice_get t.systems s ≡ Some part →
+      part.parent ≡ None → scope ≡ [] → IsScope t s scope
+  Inner : (s outer : ℕ) (part : SystemPart) (above scope : List ℕ) →
+      slice_get t.systems s ≡ Some part → part.parent ≡ Some outer → IsScope t outer above →
+      scope ≡ above ++ (part.name ++ 46 ∷ []) → IsScope t s scope
 
 -- the name begins with those of the Systems down to this one
 pub record BeginsWithScope (t : SystemTree) (s : ℕ) (name : List ℕ) : Type 0 where
