@@ -1,5 +1,5 @@
 /*
- * A counter's host that goes wrong once: `goes_wrong DIR R`, with HOW and K in its environment.
+ * A counter's host that goes wrong: `goes_wrong DIR R`, with HOW and K in its environment.
  *
  *     HOW=dies                  it is killed at its K-th call
  *     HOW=hangs_up              it closes its output at its K-th call, and goes on
@@ -7,9 +7,13 @@
  *     HOW=is_of_another_kind    its K-th reply is of the kind that follows the call's
  *     HOW=has_byte_3            byte 3 of its K-th reply is 1
  *     HOW=closes_its_input      it closes its input at its K-th call, answers it, and goes on
+ *     HOW=hangs                 it doesn't answer its K-th call, and goes on, as one that computes without end
+ *     HOW=ignores_its_end       it goes on at the end of its input
+ *     HOW=is_slow               each step takes a hundredth of a second
  *
  * "Goes on" is for ten minutes: then somebody else ends it. It serves all other calls, up to FreeInstance or the end of its
- * input. In the file that TOLD names it writes its id, and the number of the kind of each call that comes.
+ * input. With DEAF it ignores SIGINT, SIGTERM and SIGHUP. In the file that TOLD names it writes its id, and the number of the
+ * kind of each call that comes.
  */
 #define _POSIX_C_SOURCE 200809L
 
@@ -18,6 +22,7 @@
 #include <stdio.h>
 #include <stdlib.h>
 #include <string.h>
+#include <time.h>
 #include <unistd.h>
 
 enum { INSTANTIATE = 1, DO_STEP = 6, GET = 8, FREE_INSTANCE = 18, KINDS = 18, FRAME = 24, INC = 2 };
@@ -57,7 +62,8 @@ static void send_bytes(const unsigned char *bytes, size_t count)
 
 static void go_on(void)
 {
-    sleep(600);
+    for (unsigned rest = 600; rest > 0; rest = sleep(rest))
+        ;
     exit(1);
 }
 
@@ -69,7 +75,14 @@ int main(int count, char **words)
         return 2;
     fprintf(told, "%ld\n", (long)getpid());
     fflush(told);
-    long wrong = strtol(number, NULL, 10);
+    if (getenv("DEAF") != NULL) {
+        signal(SIGINT, SIG_IGN);
+        signal(SIGTERM, SIG_IGN);
+        signal(SIGHUP, SIG_IGN);
+    }
+    int is_slow = strcmp(how, "is_slow") == 0, ignores_end = strcmp(how, "ignores_its_end") == 0;
+    const struct timespec hundredth = {0, 10000000};
+    long wrong = is_slow || ignores_end ? 0 : strtol(number, NULL, 10);
     uint64_t value = 0;
     unsigned char call[FRAME];
     for (long k = 1; read_all(call, FRAME); k++) {
@@ -81,6 +94,8 @@ int main(int count, char **words)
         fflush(told);
         reply[0] = call[0];
         if (call[0] == DO_STEP) {
+            if (is_slow)
+                nanosleep(&hundredth, NULL);
             value += INC;
             put_number(reply, 8, number_at(call, 8) + number_at(call, 16));
         } else if (call[0] == GET) {
@@ -109,11 +124,15 @@ int main(int count, char **words)
             if (call[0] == FREE_INSTANCE)
                 return 0;
             go_on();
+        } else if (strcmp(how, "hangs") == 0) {
+            go_on();
         } else {
             return 2;
         }
         if (call[0] == FREE_INSTANCE)
             return 0;
     }
+    if (ignores_end)
+        go_on();
     return 0;
 }
