@@ -75,7 +75,8 @@ def escaped(letter):
 
 def unescaped(text):
     """A FILE or COMPONENT of the program's lines as it is: there `%` and two digits stand for a byte."""
-    return re.sub(rb"%([0-9A-F]{2})", lambda found: bytes([int(found[1], 16)]), os.fsencode(text)).decode("utf-8", "surrogateescape")
+    data = re.sub(rb"%([0-9A-F]{2})", lambda found: bytes([int(found[1], 16)]), text.encode("utf-8", "surrogateescape"))
+    return data.decode("utf-8", "surrogateescape")
 
 
 def in_shell(word):

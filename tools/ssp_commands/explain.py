@@ -99,8 +99,9 @@ def explanation(line):
     if refused:
         return refusal(*refused.groups())
     if verdict:
-        first = f"Line {verdict[1]} of the trace breaks rule {verdict[2]} of traces."
-        return [first, *paragraph(TRACE_RULES[verdict[2]]), *paragraph("docs/PROFILE.md has these rules (`What the check of a trace writes`).")]
+        line, rule = verdict.groups()
+        first = f"Line {line} of the trace breaks rule {rule} of traces."
+        return [first, *paragraph(f"{TRACE_RULES[rule]} docs/PROFILE.md has these rules (`What the check of a trace writes`).")]
     for form, meaning, advice in LINES:
         found = re.fullmatch(form, line)
         if found:
@@ -112,7 +113,8 @@ def explanation(line):
 
 
 def paragraph(text):
-    return textwrap.wrap(one_line(text), WIDTH, initial_indent="    ", subsequent_indent="    ", break_long_words=False, break_on_hyphens=False)
+    indents = {"initial_indent": "    ", "subsequent_indent": "    "}
+    return textwrap.wrap(one_line(text), WIDTH, break_long_words=False, break_on_hyphens=False, **indents)
 
 
 def hints(path):
@@ -129,7 +131,8 @@ def hints(path):
         more = " .." if len(found) > 12 else ""
         there = paragraph(f"In {above or 'this folder'} there are: {', '.join(found[:12])}{more}")
         if os.path.basename(path) == "SystemStructure.ssd" and "modelDescription.xml" in found:
-            there += paragraph(f"{above or '.'} is the folder of one FMU: `one` runs it; docs/PROFILE.md says how a trace of `one` is checked.")
+            of_one = "`one` runs it; docs/PROFILE.md says how a trace of `one` is checked."
+            there += paragraph(f"{above or '.'} is the folder of one FMU: {of_one}")
         return there
     return []
 

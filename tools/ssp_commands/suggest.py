@@ -2,7 +2,8 @@
 import os
 import re
 from fractions import Fraction
-from math import gcd, lcm
+from functools import reduce
+from math import gcd
 
 from .common import Told, in_shell, one_line
 from .systems import BUILT_IN, OneFmu, read_system
@@ -11,7 +12,7 @@ ABOUT = """Reads DefaultExperiment, fixedInternalStepSize and the intervals of C
 or the FMU in DIR, with a sentence for each choice: the resolution R is the least at which step, start, stop, intervals and shifts
 are whole numbers of counts. What nothing describes stands in the command by its letter, and is to be given."""
 MOST = 1 << 62
-NUMBER = re.compile(r"[+-]?(\d+(\.\d*)?|\.\d+)([eE][+-]?\d+)?")
+NUMBER = re.compile(r"[+-]?(\d+(\.\d*)?|\.\d+)([eE](?P<exponent>[+-]?\d+))?", re.ASCII)
 
 
 def add_parser(subparsers):
@@ -58,7 +59,8 @@ def number(element, name, path):
     text = element.get(name) if element is not None else None
     if text is None:
         return None
-    if not NUMBER.fullmatch(text.strip()) or len(text) > 400 or abs(int((re.findall(r"[eE]([+-]?\d+)", text) or ["0"])[0])) > 400:
+    found = NUMBER.fullmatch(text.strip())
+    if not found or len(text) > 400 or abs(int(found["exponent"] or 0)) > 400:
         raise Told(f"{path}:{element.line}:{element.column}: {name} is no number: {text}")
     return Fraction(text.strip())
 
@@ -108,23 +110,34 @@ class Experiment:
             return
         counter, resolution = element.get("intervalCounter", ""), element.get("resolution", "")
         if has_fraction and counter.isdecimal() and resolution.isdecimal() and int(resolution):
-            interval, shift = Fraction(int(counter), int(resolution)), Fraction(int(element.get("shiftCounter") or 0), int(resolution))
+            whole = element.get("shiftCounter", "0")
+            interval = Fraction(int(counter), int(resolution))
+            shift = Fraction(int(whole) if whole.isdecimal() else 0, int(resolution))
         else:
             interval, shift = number(element, "intervalDecimal", path), number(element, "shiftDecimal", path) or Fraction(0)
         if interval is not None and interval > 0:
             self.clocks.append((Said(interval, name), Said(shift, name)))
 
 
+def lcm(numbers):
+    """The least common multiple of numbers above 0."""
+    return reduce(lambda a, b: a * b // gcd(a, b), numbers, 1)
+
+
+def common_denominator(values):
+    return lcm(value.denominator for value in values)
+
+
 def whole_gcd(values):
     """The greatest time of which all these are whole multiples."""
-    bottom = lcm(*(value.denominator for value in values))
-    return Fraction(gcd(*(int(value * bottom) for value in values)), bottom)
+    bottom = common_denominator(values)
+    return Fraction(reduce(gcd, (int(value * bottom) for value in values)), bottom)
 
 
 def whole_lcm(values):
     """The least time that is a whole multiple of all these."""
-    bottom = gcd(*(value.denominator for value in values))
-    return Fraction(lcm(*(value.numerator for value in values)), bottom)
+    bottom = common_denominator(values)
+    return Fraction(lcm(int(value * bottom) for value in values), bottom)
 
 
 def choose_step(of):
@@ -170,17 +183,19 @@ def suggestion(system):
     times = [value for value in (step, start, stop) if value is not None]
     times += [said.value for pair in of.clocks for said in pair]
     described = [value for value in times if value]
-    resolution = lcm(*(value.denominator for value in described)) if described else None
+    resolution = common_denominator(described) if described else None
     sentences = [of_step, of_start, of_stop]
     if of.clocks:
         listed = ", ".join(f"{interval.whose} {seconds(interval.value)}" for interval, _ in of.clocks)
         sentences.append(f"Clocks: {listed}.")
     if of.asked:
-        sentences.append(f"Asked in the run: the intervals of {', '.join(of.asked)}; R has to be a multiple of their denominators too.")
+        asked = f"Asked in the run: the intervals of {', '.join(of.asked)}"
+        sentences.append(f"{asked}; R has to be a multiple of their denominators too.")
     if resolution is None:
         sentences.append("Resolution: nothing describes a time: give R, the counts a second; with 1000 a count is a millisecond.")
     elif max([resolution, *(value * resolution for value in described)]) > MOST:
-        sentences.append(f"Resolution: all these are whole counts first at more than 2^62 counts: give R, H and T that are near enough.")
+        fine = "Resolution: all these are whole counts first where there are more than 2^62 of them"
+        sentences.append(f"{fine}: give R, H and T that are near enough.")
         resolution = step = stop = None
         start = Fraction(0)
     else:
@@ -206,7 +221,8 @@ def warnings(of, step, start, stop):
         ticks = [said.value for pair in of.clocks for said in pair if said.value]
         fit = whole_gcd([step, *ticks])
         several = ", ".join(dict.fromkeys(off))
-        yield f"Ticks of {several} lie between two points, and {names} can't make a shorter step (status 9): with a step of {seconds(fit)} they are all on the grid."
+        why = f"Ticks of {several} lie between two points, and {names} can't make a shorter step (status 9)"
+        yield f"{why}: with a step of {seconds(fit)} they are all on the grid."
 
 
 def choose_host(system):

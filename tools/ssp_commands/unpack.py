@@ -100,7 +100,7 @@ def names_in(archive, what):
     for info in archive.infolist():
         name = info.orig_filename
         parts = name.rstrip("/").split("/")
-        if name.startswith("/") or any(part in ("", ".", "..") for part in parts) or any(mark in name for mark in "\\\0") or ":" in parts[0]:
+        if any(part in ("", ".", "..") for part in parts) or "\\" in name or "\0" in name or ":" in parts[0]:
             raise Told(f"{what}: the path `{name}` in it isn't taken: it may lead out of the folder")
         if stat.S_ISLNK(info.external_attr >> 16):
             raise Told(f"{what}: `{name}` in it is a link, which isn't taken")

@@ -2,9 +2,10 @@
 #
 #     LC_ALL=C awk -f words.awk -- WORD..
 #
-# Where they are one, the status is 0 and the numbers of the words that are DIR and FILE are written, counted from 1; else the first
-# thing that isn't as it should be, in one line, and the status is 2. That words are UTF-8 is seen elsewhere. The program reads its words by itself, and is proved to; this is for
-# the time before it is built, and to say what is wrong. .ci/script compares the two.
+# Where they are one, the status is 0 and the numbers of the words that are DIR and FILE are written, counted from 1; else the
+# first thing that isn't as it should be, in one line, and the status is 2. That words are UTF-8 is seen elsewhere. The program
+# reads its words by itself, and is proved to; this is for the time before it is built, and to say what is wrong. .ci/script
+# compares the two.
 BEGIN {
     most = "4611686018427387904"
     run = "resolution step stop start max-iterations host"
@@ -45,7 +46,7 @@ function fault(text) {
 
 # The positionals and options behind the command.
 function read_words(   i, word, name, at) {
-    about["DIR"] = "a directory that exists and isn't an option"
+    about["DIR"] = "the folder of the system, or of the FMU"
     about["FILE"] = "the file of a trace"
     for (i = 2; i < ARGC; i++) {
         word = ARGV[i]
@@ -59,10 +60,12 @@ function read_words(   i, word, name, at) {
         }
         name = substr(word, 3)
         at = index(name, "=")
-        if (at > 0) {
-            word = substr(name, at + 1)
-            name = substr(name, 1, at - 1)
-        } else {
+        word = substr(name, at + 1)
+        if (at > 0) name = substr(name, 1, at - 1)
+        if (index(" " options[command] " ", " " name " ") == 0 || name == "")
+            fault("`--" name "` is no option of `" command "`" \
+                (options[command] == "" ? ", which has none" : "; there are --" joined(options[command])))
+        if (at == 0) {
             if (++i >= ARGC) fault("--" name " has no value" (name in is ? ": " wanted(name) : ""))
             word = ARGV[i]
         }
@@ -71,14 +74,13 @@ function read_words(   i, word, name, at) {
 }
 
 function take(name, word) {
-    if (index(" " options[command] " ", " " name " ") == 0 || name == "")
-        fault("`--" name "` is no option of `" command "`" (options[command] == "" ? ", which has none" : "; there are --" joined(options[command])))
     if (name in value) fault("--" name " stands twice")
     value[name] = word
     if (word == "" || word ~ /^-/) fault("--" name " `" word "`: a value isn't empty and doesn't begin with -")
     if (!(name in is)) return
     if (word !~ /^(0|[1-9][0-9]*)$/ || is_less(word, least_of[name]) || is_less(most_of[name], word))
-        fault("--" name " " word ": " wanted(name))
+        fault("--" name " " word ": " wanted(name) \
+            (word ~ /^[0-9]*[.][0-9]+$/ ? "; with --resolution 1000, 10 counts are 0.01 s" : ""))
 }
 
 function wanted(name) {

@@ -1,7 +1,6 @@
 """`ssp follow`."""
 import subprocess
 import sys
-import time
 
 from helper import SSP, Case
 
