@@ -20,9 +20,11 @@ use Rattle.fmu_peer.proofs.OrderLemmas.{same_number, spared_from, spares_later}
 use Rattle.system_model.specs.declared.system.Component.{Component}
 use Rattle.step_master.specs.Lives.{IsLife, Life, any_fatal_closing, any_fatal_run, calls_in, member_in, shape_in, talk_in}
 use Rattle.slot_calls.specs.Log.{Has, Sent, Talks, part}
+use Rattle.slot_calls.specs.SavedStates.{IsParted, LeavesState, Talk}
 use Rattle.step_master.specs.Seats.{seat}
 use Rattle.step_master.specs.System.{IsNew}
 use Rattle.step_master.proofs.Leaving.{leaves_one}
+use Rattle.step_master.proofs.Parted.{Closes, is_parted, turn_closes, unsaved}
 use Rattle.slot_calls.proofs.Logs.{talks_fixed, talks_on}
 use Rattle.slot_calls.proofs.Replying.{replies_of}
 use Rattle.step_master.proofs.Talking.{counts_of, talk_is, talks_legal, talks_phase, turn_all, turn_talks}
@@ -96,25 +98,22 @@ closings_are i (c ∷ cs) [] ks b = absurd (let x = b.views in omega (arith, x))
 closings_are i (c ∷ cs) (v ∷ vs) [] b = absurd (let x = b.closings in omega (arith, x))
 closings_are i (c ∷ cs) (v ∷ vs) (k ∷ ks) b = ap (λ (l : List Closing). k ∷ l) (closings_are (i + 1) cs vs ks (beside_rest c cs v vs k ks b))
 
-pub map_map : {A B C : Type 0} (f : A → B) (g : B → C) (xs : List A) → map g (map f xs) ≡ map (λ x. g (f x)) xs
-map_map f g [] = refl
-map_map f g (x ∷ xs) = ap (λ ys. g (f x) ∷ ys) (map_map f g xs)
-
 -- ---- one row
 
 abbrev pub life_of : List Sent → Row → Life
 life_of log row = record { source = row.component.source.0; old = row.old; run = part row.number log; closing = row.closing.sent; new = row.closing.new.view }
 
--- a peer that was new had its part of the log, whose calls are needed ones of a run, and was closed
-pub record IsRow (log : List Sent) (row : Row) : Type 0 where
+-- a peer that was new had its part of the log, whose calls are needed ones of a run and leave a saved state as they may, and was closed
+pub record IsRow (talks : List Talk) (log : List Sent) (row : Row) : Type 0 where
   pub new : IsNew row.component.shape row.old
   pub has : Has (seat row.component row.old) (part row.number log) row.closing.old
   pub spared : Bool
   pub one : ClosesOne spared row.closing
   pub runs : All IsRunCall (calls_in (part row.number log))
   pub lean : IsLean (calls_in (part row.number log))
+  pub leaves : LeavesState talks row.old.fixed.shape (part row.number log)
 
-module _ (log : List Sent) (row : Row) (r : IsRow log row) where
+module _ (talks : List Talk) (log : List Sent) (row : Row) (r : IsRow talks log row) where
   abbrev life : Life
   life = life_of log row
 
@@ -145,7 +144,7 @@ module _ (log : List Sent) (row : Row) (r : IsRow log row) where
     fixed = talks_fixed row.old (talk_in life) life.new all_talks;
     run_calls = r.runs;
     lean = r.lean;
-    closing_calls = turn_all IsClosingCall _ mid life.closing life.new (closing_all r.spared row.closing.old.has_saved r.has.saved) r.one.turn;
+    closing_calls = turn_all IsClosingCall _ mid life.closing life.new (closing_all r.spared row.closing.old.has_saved (r.has.saved ∙ unsaved row.old.fixed.shape false life.run r.runs)) r.one.turn;
     legal = subst (λ (p : Phase). T.LegalFrom row.old.fixed.shape p (talk_in life)) first (talks_legal row.old (talk_in life) life.new all_talks);
     phase = talks_phase row.old (talk_in life) life.new all_talks ∙ ap (λ (p : Phase). T.phase_from row.old.fixed.shape p (talk_in life)) first;
     talk = talk_is row.old (talk_in life) life.new r.new.talk all_talks;
@@ -170,13 +169,18 @@ module _ (log : List Sent) (row : Row) (r : IsRow log row) where
   pub row_closed : ClosesOne false row.closing → T.Closed (shape_in life) (talk_in life)
   row_closed one =
       subst (λ (s : Shape). T.Closed s (talk_in life)) same_shape
-      (one.closed refl life.run (leaves_one (seat row.component row.old) life.run row.closing.old first r.has r.runs))
+      (one.closed refl life.run (leaves_one (seat row.component row.old) life.run row.closing.old first refl r.has r.runs r.leaves.last))
+
+  -- its run and its closing are told apart by the talks of all
+  pub row_parted : IsParted talks life.run life.closing
+  row_parted = is_parted talks row.old.fixed.shape life.run life.closing r.runs r.leaves
+      (subst (λ (b : Bool). Closes b life.closing) r.has.saved (turn_closes r.spared row.closing.old.has_saved mid life.closing life.new r.one.turn))
 
 -- ---- the siblings
 
-module _ (log : List Sent) where
+module _ (talks : List Talk) (log : List Sent) where
   abbrev pub AreRows : List Row → Type 0
-  AreRows rows = All (IsRow log) rows
+  AreRows rows = All (IsRow talks log) rows
 
   abbrev pub lives_of : List Row → List Life
   lives_of rows = map (life_of log) rows
@@ -188,16 +192,16 @@ module _ (log : List Sent) where
   spared_same source [] rs all = All-nil (IsSpared source)
   spared_same source (row ∷ rows) rs all =
       All-cons (IsSpared source) (member_in (life_of log row)) (map member_in (lives_of rows))
-      (λ same. All-head (IsSpared source) (member_of row.closing) (map member_of (closings_of rows)) all (same_source log row (All-head (IsRow log) row rows rs) ∙ same))
-      (spared_same source rows (All-tail (IsRow log) row rows rs) (All-tail (IsSpared source) (member_of row.closing) (map member_of (closings_of rows)) all))
+      (λ same. All-head (IsSpared source) (member_of row.closing) (map member_of (closings_of rows)) all (same_source talks log row (All-head (IsRow talks log) row rows rs) ∙ same))
+      (spared_same source rows (All-tail (IsRow talks log) row rows rs) (All-tail (IsSpared source) (member_of row.closing) (map member_of (closings_of rows)) all))
 
   later_same : (rows : List Row) → AreRows rows → SparesLater (map member_of (closings_of rows)) → SparesLater (map member_in (lives_of rows))
   later_same [] rs s = tt
   later_same (row ∷ rows) rs s =
-      let r = All-head (IsRow log) row rows rs in
-      let rest = All-tail (IsRow log) row rows rs in (
-        (λ fatal. subst (λ (n : ℕ). All (IsSpared n) (map member_in (lives_of rows))) (same_source log row r)
-            (spared_same row.closing.old.source rows rest (s.0 (ap (λ (x : Shape). any_fatal x row.closing.sent) (same_shape log row r) ∙ fatal)))),
+      let r = All-head (IsRow talks log) row rows rs in
+      let rest = All-tail (IsRow talks log) row rows rs in (
+        (λ fatal. subst (λ (n : ℕ). All (IsSpared n) (map member_in (lives_of rows))) (same_source talks log row r)
+            (spared_same row.closing.old.source rows rest (s.0 (ap (λ (x : Shape). any_fatal x row.closing.sent) (same_shape talks log row r) ∙ fatal)))),
         later_same rows rest s.1,
       )
 
@@ -223,19 +227,19 @@ module _ (log : List Sent) where
   lost_before : (source : ℕ) (rows : List Row) → AreRows rows → is_source_lost source (befores (closings_of rows)) ≡ any_fatal_run source (lives_of rows)
   lost_before source [] rs = refl
   lost_before source (row ∷ rows) rs =
-      let r = All-head (IsRow log) row rows rs in
-      ap₂ (λ (a b : Bool). a || b) (ap₂ (λ (f : Bool) (n : ℕ). f && n == source) (old_fatal log row r) (same_source log row r)) (lost_before source rows (All-tail (IsRow log) row rows rs))
+      let r = All-head (IsRow talks log) row rows rs in
+      ap₂ (λ (a b : Bool). a || b) (ap₂ (λ (f : Bool) (n : ℕ). f && n == source) (old_fatal talks log row r) (same_source talks log row r)) (lost_before source rows (All-tail (IsRow talks log) row rows rs))
 
   lost_after : (source : ℕ) (rows : List Row) → AreRows rows → is_source_lost source (afters (closings_of rows)) ≡ (any_fatal_run source (lives_of rows) || any_fatal_closing source (lives_of rows))
   lost_after source [] rs = refl
   lost_after source (row ∷ rows) rs =
-      let r = All-head (IsRow log) row rows rs in
+      let r = All-head (IsRow talks log) row rows rs in
       let l = life_of log row in
       let a = any_fatal (shape_in l) l.run in
       let b = any_fatal (shape_in l) l.closing in
       ap₂ (λ (x y : Bool). x || y)
-      (ap₂ (λ (f : Bool) (n : ℕ). f && n == source) (new_fatal log row r) (r.one.source ∙ same_source log row r) ∙ and_or a b (l.source == source))
-      (lost_after source rows (All-tail (IsRow log) row rows rs))
+      (ap₂ (λ (f : Bool) (n : ℕ). f && n == source) (new_fatal talks log row r) (r.one.source ∙ same_source talks log row r) ∙ and_or a b (l.source == source))
+      (lost_after source rows (All-tail (IsRow talks log) row rows rs))
       ∙ or_mix (a && l.source == source) (b && l.source == source) (any_fatal_run source (lives_of rows)) (any_fatal_closing source (lives_of rows))
 
   or_first : (a b : Bool) → a ≡ true → (a || b) ≡ true
@@ -259,7 +263,7 @@ module _ (log : List Sent) where
       All-cons (Spares (map member_in (lives_of all))) (member_in l) (map member_in (lives_of rows))
       (λ (fatal : any_fatal (shape_in l) l.run ≡ true). spared_same l.source all rs (spared_from l.source [] (closings_of all)
       (lost_before l.source all rs ∙ among l.source (or_first (any_fatal (shape_in l) l.run && l.source == l.source) (any_fatal_run l.source (lives_of rows)) (and_both _ _ fatal (same_number l.source)))) order))
-      (behind_run all rs order rows (All-tail (IsRow log) row rows mine) (λ source h. among source (or_second (any_fatal (shape_in l) l.run && l.source == source) (any_fatal_run source (lives_of rows)) h)))
+      (behind_run all rs order rows (All-tail (IsRow talks log) row rows mine) (λ source h. among source (or_second (any_fatal (shape_in l) l.run && l.source == source) (any_fatal_run source (lives_of rows)) h)))
 
   pub row_siblings : (rows : List Row) → AreRows rows → InOrder [] (closings_of rows) → Siblings (map member_in (lives_of rows))
   row_siblings rows rs order = record {
@@ -304,7 +308,7 @@ module _ (log : List Sent) where
       let closings : any_fatal_closing source (take k (lives_of rows)) ≡ any_fatal_closing source (lives_of front) = ap (any_fatal_closing source) (take-map (life_of log) k rows) in
       list_any-append (is_lost_of source) (afters (take k (closings_of rows))) (befores (drop k (closings_of rows)))
       ∙ ap₂ (λ (a b : Bool). a || b)
-      (ap (λ (l : List Closing). is_source_lost source (afters l)) (take-map (λ (r : Row). r.closing) k rows) ∙ lost_after source front (All-take (IsRow log) k rows rs))
-      (ap (λ (l : List Closing). is_source_lost source (befores l)) (drop-map (λ (r : Row). r.closing) k rows) ∙ lost_before source back (All-drop (IsRow log) k rows rs))
+      (ap (λ (l : List Closing). is_source_lost source (afters l)) (take-map (λ (r : Row). r.closing) k rows) ∙ lost_after source front (All-take (IsRow talks log) k rows rs))
+      (ap (λ (l : List Closing). is_source_lost source (befores l)) (drop-map (λ (r : Row). r.closing) k rows) ∙ lost_before source back (All-drop (IsRow talks log) k rows rs))
       ∙ or_none (any_fatal_run source (lives_of front)) (any_fatal_closing source (lives_of front)) (any_fatal_run source (lives_of back))
       (ap₂ (λ (a b : Bool). a || b) (sym runs) (sym closings) ∙ spare)

@@ -65,7 +65,7 @@ none_behind shape phase (e ∷ es) ended legal = absurd (none_permitted shape ph
 
 -- ---- an Instantiate that isn't good
 
-only_start : (shape : Shape) (call : Call) → Permitted shape (fresh shape) call → (event_mode early_return : Bool) × (call ≡ C.Instantiate event_mode early_return)
+pub only_start : (shape : Shape) (call : Call) → Permitted shape (fresh shape) call → (event_mode early_return : Bool) × (call ≡ C.Instantiate event_mode early_return)
 only_start shape (C.Instantiate event_mode early_return) p = (event_mode, early_return, refl)
 only_start shape (C.EnterInitialization start stop) p = absurd (let e = p.0 in cc)
 only_start shape C.ExitInitialization p = absurd (let e = p in cc)

@@ -23,6 +23,7 @@ use Rattle.calling_sequence.specs.declared.run_end.RunEnd.{RunEnd}
 use Rattle.calling_sequence.specs.declared.run_end.RunEnd.TheVariants as E
 use Rattle.slot_calls.specs.Replies.{RepliesBy}
 use Rattle.slot_calls.specs.Log.{Sent, part}
+use Rattle.slot_calls.specs.SavedStates.{IsParted, Talk}
 
 -- ---- one life
 
@@ -95,7 +96,11 @@ abbrev pub member_in : Life → Member
 member_in life =
     record { source = life.source; shape = shape_in life; run = life.run; closing = life.closing }
 
--- the lives of a system's peers, in the order of the components: each has its part of the log, those behind a Fatal of their source have no closing, and each other is closed; no Update follows another at one point that wasn't asked for
+abbrev pub talks_in : List Life → List Talk
+talks_in lives =
+    map (λ (l : Life). record { shape = shape_in l; exchanges = talk_in l }) lives
+
+-- the lives of a system's peers, in the order of the components: each has its part of the log, those behind a Fatal of their source have no closing, and each other is closed; no Update follows another at one point that wasn't asked for; which calls are the run's, and which the closing's, the talks of all tell
 pub record AreLives (system : System) (olds news : List View) (log : List Sent)
     (lives : List Life) : Type 0 where
   pub olds_are : map (λ (l : Life). l.old) lives ≡ olds
@@ -106,6 +111,7 @@ pub record AreLives (system : System) (olds news : List View) (log : List Sent)
   pub each : All IsLife lives
   pub siblings : Siblings (map member_in lives)
   pub updates : AreUpdatesNeeded (map (λ (l : Life). l.run) lives)
+  pub parted : All (λ (l : Life). IsParted (talks_in lives) l.run l.closing) lives
   pub closed : (k : ℕ) (life : Life) → slice_get lives k ≡ Some life →
       is_spared lives k life ≡ false → T.Closed (shape_in life) (talk_in life)
 
