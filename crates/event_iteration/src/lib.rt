@@ -10,6 +10,7 @@ mod intervals;
 mod reads;
 mod turn;
 mod updates;
+mod walk_laws;
 
 pub use clocks::{fix_clocks, schedule_of};
 pub use initialization::initialize;
@@ -18,3 +19,4 @@ pub use instants::instant;
 pub use intervals::ask_intervals;
 pub use reads::InitialReads;
 pub use updates::{Updated, update};
+pub use walk_laws::walk_calls;
