@@ -1,17 +1,15 @@
 -- The laws of a walk's log, for proofs of callers.
-use Rattle.std.proofs.Common.{ℕ, ◌<◌, Bool, true, false, List, [], Option, ℤ, sym, append-nil, arith, length}
-use Rattle.system_model.specs.declared.system.System.{System}
+use Rattle.std.proofs.Common.{◌<◌, Bool, true, false, arith}
 use Rattle.system_model.specs.Ports.{numbers}
 use Rattle.system_model.specs.Sound.{IsSound}
-use Rattle.slot_calls.specs.Log.{Sent}
 use Rattle.event_iteration.specs.Initialization.{initially}
 use Rattle.event_iteration.specs.Instants.{in_instant}
-use Rattle.event_iteration.specs.Intervals.{intervals, timing_calls}
+use Rattle.event_iteration.specs.Intervals.{intervals}
 use Rattle.event_iteration.specs.Settings.{before_step, port_order}
-use Rattle.event_iteration.specs.WalkCalls.{EachCallOnce, LastAloneIsBad, Span, has_events_at, initial_span, instant_span, interval_span, own, step_span, timing_span}
+use Rattle.event_iteration.specs.WalkCalls.{EachCallOnce, LastAloneIsBad, has_events_at, initial_span, instant_span, interval_span, step_span}
 use Rattle.event_iteration.proofs.Setting.{in_order}
 use Rattle.event_iteration.proofs.WalkAnswers as A
-use Rattle.event_iteration.proofs.WalkOnce.{timing_turned, turned_new, walk_new}
+use Rattle.event_iteration.proofs.WalkOnce.{timing_new, walk_new}
 use Rattle.event_iteration.proofs.WalkUses.{initially_asks, instant_asks, interval_asks, step_asks}
 
 -- each of these uses names a port
@@ -40,7 +38,7 @@ each_call_once system sound = record {
   step = λ values before log walks k.
       let e = has_events_at system k in
       walk_new system sound k (step_span e) (step_names e) (port_order system) (in_order system) (before_step values) (step_asks system sound k values) before log walks;
-  timing = λ k. turned_new system sound k timing_span (omega arith) (port_order system) (in_order system) (port_order system) [] (own k (timing_calls system)) (sym (append-nil (port_order system))) (timing_turned system sound k);
+  timing = λ k. timing_new system sound k;
 }
 
 pub last_alone_is_bad : LastAloneIsBad

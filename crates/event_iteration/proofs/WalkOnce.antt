@@ -26,6 +26,7 @@ use Rattle.event_iteration.specs.Intervals.{timing_calls, timing_calls_in, timin
 use Rattle.event_iteration.specs.Settings.{port_order}
 use Rattle.event_iteration.specs.Turns.{Rules, sent_of}
 use Rattle.event_iteration.specs.WalkCalls.{AreNew, Front, IsUse, Span, WalksBy, Whole, own, timing_span, use_in}
+use Rattle.event_iteration.proofs.Setting.{in_order}
 use Rattle.event_iteration.proofs.WalkUses.{AsksFor, IsOf, reference_in}
 
 -- ---- calls
@@ -153,7 +154,7 @@ module _ (system : System) (sound : IsSound system) (k : ℕ) (span : Span) (nam
         subst (NoneTwiceBehind seen) (sym calls_are) (twice_on seen first more here.0
         (turned_once (pre ++ p ∷ []) ps left more (is ∙ sym (append_assoc pre (p ∷ []) (ps ++ left))) rest (seen_behind seen first) here.1))
 
-    pub turned_new : (taken left : List ℕ) (calls : List Call) → order ≡ taken ++ left → Turned taken calls → AreNew span calls
+    turned_new : (taken left : List ℕ) (calls : List Call) → order ≡ taken ++ left → Turned taken calls → AreNew span calls
     turned_new taken left calls is t = record {
       names = names;
       uses = turned_uses taken calls t;
@@ -243,5 +244,6 @@ module _ (system : System) (sound : IsSound system) (k : ℕ) where
     timing_from (p + 1) ports (λ j x at. subst (λ (q : ℕ). slice_get system.ports q ≡ Some x) (omega arith) (there (suc j) x at)),
   )
 
-  pub timing_turned : Turned system sound k timing_span names (port_order system) (own k (timing_calls system))
-  timing_turned = timing_from 0 system.ports (λ j port at. subst (λ (q : ℕ). slice_get system.ports q ≡ Some port) (omega arith) at)
+  pub timing_new : AreNew timing_span (own k (timing_calls system))
+  timing_new = turned_new system sound k timing_span names (port_order system) (in_order system) (port_order system) [] (own k (timing_calls system)) (sym (append-nil (port_order system)))
+      (timing_from 0 system.ports (λ j port at. subst (λ (q : ℕ). slice_get system.ports q ≡ Some port) (omega arith) at))
