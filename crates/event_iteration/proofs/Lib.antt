@@ -33,3 +33,7 @@ pub mod ClockTicks
 pub mod Rooms
 pub mod Activity
 pub mod Ticking
+pub mod WalkAnswers
+pub mod WalkUses
+pub mod WalkOnce
+pub mod WalkLaws

@@ -11,6 +11,7 @@ mod laws;
 mod reads;
 mod turn;
 mod updates;
+mod walk_laws;
 
 pub use clocks::{fix_clocks, schedule_of};
 pub use initialization::initialize;
@@ -20,3 +21,4 @@ pub use intervals::ask_intervals;
 pub use laws::parts_of_machines;
 pub use reads::InitialReads;
 pub use updates::{Updated, update};
+pub use walk_laws::walk_calls;
