@@ -33,7 +33,6 @@ pub mod ClockTicks
 pub mod Rooms
 pub mod Activity
 pub mod Ticking
-pub mod WalkAnswers
 pub mod WalkUses
 pub mod WalkOnce
 pub mod WalkLaws
