@@ -1,0 +1,4 @@
+pub mod Calls
+pub mod Parts
+pub mod Course
+pub mod Ends
