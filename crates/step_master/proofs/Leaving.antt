@@ -28,7 +28,7 @@ use Rattle.fmu_peer.specs.CloseAll.{Instance, IsLeft, Stands}
 use Rattle.fmu_peer.specs.Mode.{is_over}
 use Rattle.fmu_peer.specs.Talk.{EndsKeeping, IsGood, LegalFrom, StartsBadly, next_by, phase_from}
 use Rattle.fmu_peer.specs.View.{View, Fixed}
-use Rattle.step_master.specs.Lives.{calls_in}
+use Rattle.course_laws.specs.Laws.{calls_in}
 use Rattle.slot_calls.specs.Log.{Has, Talks}
 use Rattle.slot_calls.specs.SavedStates.{IsGivenUp, if_good, saved_after, saved_by}
 use Rattle.slot_calls.proofs.Logs.{talks_fixed}

@@ -18,7 +18,8 @@ use Rattle.fmu_peer.specs.Talk as T
 use Rattle.fmu_peer.specs.View.{Fixed, View}
 use Rattle.fmu_peer.proofs.OrderLemmas.{same_number, spared_from, spares_later}
 use Rattle.system_model.specs.declared.system.Component.{Component}
-use Rattle.step_master.specs.Lives.{IsLife, Life, any_fatal_closing, any_fatal_run, calls_in, member_in, shape_in, talk_in}
+use Rattle.step_master.specs.Lives.{IsLife, Life, any_fatal_closing, any_fatal_run, member_in, shape_in, talk_in}
+use Rattle.course_laws.specs.Laws.{calls_in}
 use Rattle.slot_calls.specs.Log.{Has, Sent, Talks, part}
 use Rattle.slot_calls.specs.SavedStates.{IsParted, LeavesState, Talk}
 use Rattle.step_master.specs.Seats.{seat}

@@ -12,7 +12,7 @@ use Rattle.fmu_peer.specs.Close.{SendsInTurn, closing_calls}
 use Rattle.fmu_peer.specs.View.{View}
 use Rattle.slot_calls.specs.SavedStates.{IsEnding, IsGivenUp, IsOfClosing, IsParted, LeavesState, Talk, saved_after, saved_by}
 use Rattle.slot_calls.proofs.States.{saved_same}
-use Rattle.step_master.specs.Lives.{calls_in}
+use Rattle.course_laws.specs.Laws.{calls_in}
 use Rattle.step_master.proofs.Talking.{turn_all}
 
 -- ---- what a closing sends
@@ -60,12 +60,12 @@ module _ (talks : List Talk) (shape : Shape) (run closing : List Exchange) (runs
     here = run_at front rest e run is runs
 
     free : (more : List Exchange) → more ≡ rest → e.call ≡ C.Free → IsOfClosing talks front C.Free (rest ++ closing) → ⊥
-    free [] none frees o = by o.1 where
-      freed = leaves.freed front e (is ∙ ap (λ (l : List Exchange). front ++ e ∷ l) (sym none)) frees
-
-      by : _ → ⊥
-      by (inl apart) = apart freed.0
-      by (inr unstepped) = absurd (let same : true ≡ false = sym freed.1 ∙ unstepped in cc)
+    free [] none frees o =
+        let freed = leaves.freed front e (is ∙ ap (λ (l : List Exchange). front ++ e ∷ l) (sym none)) frees in
+        elim o.1 [
+          | inl apart ↦ apart freed.0
+          | inr unstepped ↦ absurd (let same : true ≡ false = sym freed.1 ∙ unstepped in cc)
+        ]
     free (x ∷ more) some frees o =
         none_ends x.call (All-head IsRunCall x.call (calls_in more) (All-tail IsRunCall e.call (calls_in (x ∷ more)) (subst (λ (l : List Exchange). All IsRunCall (e.call ∷ calls_in l)) (sym some) here)))
         (All-head (λ (y : Exchange). IsEnding y.call) x (more ++ closing) (subst (λ (l : List Exchange). All (λ (y : Exchange). IsEnding y.call) (l ++ closing)) (sym some) o.0))
@@ -87,15 +87,15 @@ module _ (talks : List Talk) (shape : Shape) (run closing : List Exchange) (runs
       (subst (λ (c : Call). IsOfClosing talks run c rest) (sym frees ∙ ap (λ (x : Exchange). x.call) (heads same))
       (by_calls rest (subst (λ (l : List Exchange). All IsEnding (calls_in l)) (rests same) all), leaves.held held))
     where
-      heads : {a b : Exchange} {as bs : List Exchange} → a ∷ as ≡ b ∷ bs → a ≡ b
+      heads : {a b : Exchange} {xs ys : List Exchange} → a ∷ xs ≡ b ∷ ys → a ≡ b
       heads h = cc
 
-      rests : {a b : Exchange} {as bs : List Exchange} → a ∷ as ≡ b ∷ bs → as ≡ bs
+      rests : {a b : Exchange} {xs ys : List Exchange} → a ∷ xs ≡ b ∷ ys → xs ≡ ys
       rests h = cc
   of_closing (Freeing held f more sent frees all) (x ∷ front) rest e is =
       ending_of_closing talks (run ++ x ∷ front) e.call rest (ending_at front rest e more (rests (sym sent ∙ is)) all)
     where
-      rests : {a b : Exchange} {as bs : List Exchange} → a ∷ as ≡ b ∷ bs → as ≡ bs
+      rests : {a b : Exchange} {xs ys : List Exchange} → a ∷ xs ≡ b ∷ ys → xs ≡ ys
       rests h = cc
 
   -- each call of the run is the run's, and each of the closing the closing's

@@ -1,13 +1,13 @@
 -- From the first call of each peer to its closing.
-use Rattle.std.proofs.Common.{◌≡◌, ℕ, zero, suc, ◌<◌, Bool, true, false, List, [], ◌∷◌, ◌++◌, Option, Some, None, Result, refl, sym, ap, ap₂, ◌∙◌, subst, arith, length, get_or, map, take, drop}
+use Rattle.std.proofs.Common.{◌≡◌, inl, inr, ℕ, zero, suc, ◌<◌, Bool, true, false, List, [], ◌∷◌, ◌++◌, Option, Some, None, Result, refl, sym, ap, ap₂, ◌∙◌, subst, arith, length, get_or, map, take, drop}
 use Rattle.std.specs.Prelude.{All, ◌||◌}
 use Rattle.std.specs.List.{list_any, slice_get}
 use Rattle.std.specs.Option.{option_map}
 use Rattle.std.specs.Result.{is_err}
-use Rattle.std.proofs.lemmas.List.{get_or_default, length-map, get_or-map, get_or-take, length-take}
+use Rattle.std.proofs.lemmas.List.{length-map, get_or-take, length-take}
 use Rattle.std.proofs.lemmas.List.Elements.{All-map}
 use Rattle.std.proofs.lemmas.List.Folds.{list_any-append}
-use Rattle.std.proofs.lemmas.Option.{get_or_from_slice_get, slice_get-get_or, slice_get-map, slice_get_within}
+use Rattle.std.proofs.lemmas.Option.{get_or_from_slice_get, same_Some, slice_get-get_or, slice_get-map, slice_get_within}
 use Rattle.std.proofs.lemmas.Simd.{map-map}
 use Rattle.sim_base.specs.Causes.{Rose}
 use Rattle.value_types.specs.declared.shape.Shape.{Shape}
@@ -29,17 +29,17 @@ use Rattle.system_model.specs.Bounds.{BindsParameters}
 use Rattle.system_model.specs.Sound.{IsSound}
 use Rattle.slot_calls.specs.declared.bad_answer.BadAnswer.{BadAnswer}
 use Rattle.slot_calls.specs.Log.{Has, Sent, Told, part}
-use Rattle.slot_calls.specs.SavedStates.{Talk}
+use Rattle.slot_calls.specs.SavedStates.{IsParted, Talk}
 use Rattle.slot_calls.specs.Stage.{shapes_of}
 use Rattle.slot_calls.proofs.Logs.{told_on}
 use Rattle.calling_sequence.specs.declared.run_end.RunEnd.{RunEnd}
 use Rattle.calling_sequence.specs.declared.run_end.RunEnd.TheVariants as E
 use Rattle.calling_sequence.specs.Ends.{EndsBy}
 use Rattle.calling_sequence.specs.Plans.{CountsBy}
-use Rattle.course_laws.specs.Laws.{AnswersAre, AreNeeded, AreTalks, EndsCome, FirstBadAnswer, IsFirstBadOf, NoCallTwice, TellsEnd, UpdatesAskedFor}
-use Rattle.course_laws.specs.Runs.{Comes, Unmade}
+use Rattle.course_laws.specs.Laws.{AnswersAre, AreNeeded, AreTalks, FirstBadAnswer, IsFirstBadOf, NoCallTwice, UpdatesAskedFor, calls_in}
+use Rattle.course_laws.specs.Runs.{Comes, EndsCome, IsBadOf, Unmade}
 use Rattle.step_master.specs.Lived.{Account, Lived, LivesAreOver, RunIsLived, UnmadeIsClosed}
-use Rattle.step_master.specs.Lives.{AreGood, AreLives, EndsLives, IsLeastBad, IsLife, Life, calls_in, is_spared, is_unanswered, shape_in, talk_in, talks_in}
+use Rattle.step_master.specs.Lives.{AreGood, AreLives, EndsLives, IsLeastBad, IsLife, Life, is_spared, is_unanswered, shape_in, talk_in, talks_in}
 use Rattle.step_master.specs.Master.{Closes, Prepares, Runs, Standing}
 use Rattle.step_master.specs.Seats.{seat, seated, views_of}
 use Rattle.step_master.specs.System.{ArePeersOf}
@@ -142,18 +142,17 @@ module _ (system : System) (olds : List View) (peers : ArePeersOf system olds) (
   run_at : (k : ℕ) (life : Life) → slice_get lives k ≡ Some life → life.run ≡ part k log
   run_at k life at = let u = run_is k life at in ap (λ (l : Life). l.run) u.2 ∙ ap (λ (n : ℕ). part n log) u.3
 
+  row_here : (k : ℕ) → k < length system.components → (row : Row) × (slice_get rows k ≡ Some row)
+  row_here k w = by rows refl where
+    by : (rs : List Row) → rs ≡ rows → (row : Row) × (slice_get rows k ≡ Some row)
+    by [] same = absurd (let e = ap length same in let f = len_rows in omega (arith, e, f, w))
+    by (r ∷ rs) same = (get_or rows k r, slice_get-get_or rows k r (let f = len_rows in omega (arith, f, w)))
+
   talk_at : (k : ℕ) (d : List Exchange) → k < length system.components → get_or (map (λ (l : Life). l.run) lives) k d ≡ part k log
   talk_at k d w =
-      let there : k < length lives = (let e = len_lives in omega (arith, e, w)) in
-      let first = lives in
-      let at = λ (l : Life). slice_get-get_or lives k l there in
-      by lives refl there
-    where
-      by : (ls : List Life) → ls ≡ lives → k < length ls → get_or (map (λ (l : Life). l.run) lives) k d ≡ part k log
-      by [] same there = absurd (omega (arith, there))
-      by (l ∷ ls) same there =
-          let inside : k < length lives = subst (λ (xs : List Life). k < length xs) same there in
-          get_or-map (λ (x : Life). x.run) lives k l d inside ∙ run_at k (get_or lives k l) (slice_get-get_or lives k l inside)
+      let x = row_here k w in
+      let at = mapped (life_of log) rows k x.0 x.1 in
+      get_or_from_slice_get (map (λ (l : Life). l.run) lives) k (life_of log x.0).run d (mapped (λ (l : Life). l.run) lives k (life_of log x.0) at) ∙ run_at k (life_of log x.0) at
 
   pub are_lives : AreLives system olds news log lives
   are_lives = record {
@@ -186,12 +185,6 @@ module _ (system : System) (olds : List View) (peers : ArePeersOf system olds) (
       ∙ sym (row_is k row at).new.shape_is in
       subst (λ (s : Shape). P s (part row.number log)) shape_is
       (subst (λ (n : ℕ). P (get_or (shapes_of system) k shape) (part n log)) (sym (r.number ∙ omega arith)) (h shape))
-
-  row_here : (k : ℕ) → k < length system.components → (row : Row) × (slice_get rows k ≡ Some row)
-  row_here k w = by rows refl (let e = len_rows in omega (arith, e, w)) where
-    by : (rs : List Row) → rs ≡ rows → k < length rows → (row : Row) × (slice_get rows k ≡ Some row)
-    by [] same inside = absurd (let e = ap length same in omega (arith, e, inside))
-    by (r ∷ rs) same inside = (get_or rows k r, slice_get-get_or rows k r inside)
 
   life_here : (k : ℕ) (d : Life) → k < length lives → (row : Row) × (slice_get rows k ≡ Some row) × (get_or lives k d ≡ life_of log row)
   life_here k d w =
@@ -244,7 +237,7 @@ module _ (system : System) (olds : List View) (peers : ArePeersOf system olds) (
   none_bad : (bad : Option BadAnswer) → bad ≡ None → AnswersAre (shapes_of system) bad log → AreGood lives
   none_bad bad none answers = good_lives (subst (λ (b : Option BadAnswer). AnswersAre (shapes_of system) b log) none answers)
 
-  pub ends_lives : (end : RunEnd) (bad : Option BadAnswer) → TellsEnd end bad → AnswersAre (shapes_of system) bad log → EndsLives end lives
+  pub ends_lives : (end : RunEnd) (bad : Option BadAnswer) → IsBadOf end bad → AnswersAre (shapes_of system) bad log → EndsLives end lives
   ends_lives E.Stop bad tells answers = none_bad bad tells answers
   ends_lives (E.Asked point) bad tells answers = none_bad bad tells answers
   ends_lives (E.EventLimit point) bad tells answers = none_bad bad tells answers
@@ -265,9 +258,9 @@ module _ (answers : FirstBadAnswer) (once : NoCallTwice) (asked_for : UpdatesAsk
       let log = prepares.log ++ runs.log in
       let told : Told log (seated a.system.components a.olds) done.instances =
       told_on (seated a.system.components a.olds) ready.instances done.instances prepares.log runs.log prepares.told runs.told in
-      let come = ends a.system a.bound a.plan prepares.log runs.log runs.is a.end a.before a.after prepares.answered text in
-      let needed = once a.system a.bound a.plan come.0 log sound binds come.1 in
-      let updates = λ (talks : List (List Exchange)) (are : AreTalks (length a.system.components) log talks). asked_for a.system a.bound a.plan come.0 log talks sound counts come.1 are in
+      let come = ends a.system a.bound a.plan prepares.log runs.log runs.is a.end a.before a.after binds counts prepares.answered text in
+      let needed = once a.system come.0 log sound come.2 in
+      let updates = λ (talks : List (List Exchange)) (are : AreTalks (length a.system.components) log talks). asked_for a.system come.0 log talks sound come.2 are in
       record {
         made = prepares.log;
         log = runs.log;
@@ -277,28 +270,21 @@ module _ (answers : FirstBadAnswer) (once : NoCallTwice) (asked_for : UpdatesAsk
         are = are_lives a.system a.olds peers log done.instances a.news told closes needed updates;
         text = text;
         counted = count ∙ runs.counted;
-        ends = ends_lives a.system a.olds peers log done.instances a.news told closes needed updates a.end come.0 come.2 (answers a.system a.bound a.plan come.0 log sound binds come.1);
+        ends = ends_lives a.system a.olds peers log done.instances a.news told closes needed updates a.end come.0 come.1 (answers a.system come.0 log sound come.2);
         machines = prepares.machines;
       }
 
-  -- no bound and no plan has a say before each instance was made
-  abbrev any_bound : Bound
-  any_bound = record { components = [] }
-
-  abbrev any_plan : Plan
-  any_plan = record { resolution = 0; start = 0; stop = 0; step = 0; limit = 0 }
-
   pub unmade_is_closed : UnmadeIsClosed
   unmade_is_closed system olds news bad sound peers u =
-      let come : Comes system any_bound any_plan (Some bad) u.log = Unmade bad u.log u.stops in
-      let needed = once system any_bound any_plan (Some bad) u.log sound come in
-      let updates = λ (talks : List (List Exchange)) (are : AreTalks (length system.components) u.log talks). asked_for system any_bound any_plan (Some bad) u.log talks sound come are in
+      let come : Comes system (Some bad) u.log = Unmade bad u.log u.stops in
+      let needed = once system (Some bad) u.log sound come in
+      let updates = λ (talks : List (List Exchange)) (are : AreTalks (length system.components) u.log talks). asked_for system (Some bad) u.log talks sound come are in
       record {
         log = u.log;
         lives = lives system olds peers u.log u.mids news u.told u.closes needed updates;
         stops = u.stops;
         are = are_lives system olds peers u.log u.mids news u.told u.closes needed updates;
-        least = bad_lives system olds peers u.log u.mids news u.told u.closes needed updates bad (answers system any_bound any_plan (Some bad) u.log sound come);
+        least = bad_lives system olds peers u.log u.mids news u.told u.closes needed updates bad (answers system (Some bad) u.log sound come);
       }
 
 -- ---- over

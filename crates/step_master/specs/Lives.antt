@@ -4,7 +4,6 @@ use Rattle.std.specs.List.{list_any, slice_get}
 use Rattle.std.specs.Result.{is_err}
 use Rattle.sim_base.specs.Causes.{Rose}
 use Rattle.value_types.specs.declared.shape.Shape.{Shape}
-use Rattle.fmi_calls.specs.declared.call.Call.{Call}
 use Rattle.fmi_calls.specs.KindFacts.{IsClosingCall, IsRunCall}
 use Rattle.fmi_calls.specs.declared.phase.InstanceState.TheVariants as P
 use Rattle.fmu_peer.specs.declared.peer.Exchange.{Exchange}
@@ -19,6 +18,7 @@ use Rattle.fmu_peer.specs.View.{View}
 use Rattle.system_model.specs.declared.system.Component.{Component}
 use Rattle.system_model.specs.declared.system.System.{System}
 use Rattle.slot_calls.specs.declared.bad_answer.BadAnswer.{BadAnswer}
+use Rattle.course_laws.specs.Laws.{calls_in}
 use Rattle.calling_sequence.specs.declared.run_end.RunEnd.{RunEnd}
 use Rattle.calling_sequence.specs.declared.run_end.RunEnd.TheVariants as E
 use Rattle.slot_calls.specs.Replies.{RepliesBy}
@@ -41,9 +41,6 @@ shape_in life = life.old.fixed.shape
 -- all of its exchanges
 abbrev pub talk_in : Life → List Exchange
 talk_in life = life.run ++ life.closing
-
-abbrev pub calls_in : List Exchange → List Call
-calls_in es = map (λ (e : Exchange). e.call) es
 
 -- a fault came in the reply's place
 abbrev pub is_unanswered : Exchange → Bool

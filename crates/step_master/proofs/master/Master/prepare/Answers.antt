@@ -38,7 +38,7 @@ returns-in-Ok-make-clause-ready g c =
         ready = record {
           may = record { sound = c.requires.sound; binds = c.requires.bound; plan = c.requires.plan; counts = c.requires.counts };
           few = subst (λ n. n ≤ 2 ^ 32) (sym (sym (length-map news (λ s. instance_in view s)) ∙ sym (length-map (instances view news) (λ (i : Instance). i.view.fixed.shape))
-              ∙ ap length fits ∙ length-map c.args.system.components.items (λ (x : Component). x.shape))) (components_few c.args.system c.requires.sound);
+              ∙ ap length fits ∙ length-map c.args.system.components (λ (x : Component). x.shape))) (components_few c.args.system c.requires.sound);
           shapes_are = fits;
           live = c.in-Ok-make.ensures.live;
           stand = c.in-Ok-make.ensures.made;
