@@ -1,7 +1,5 @@
 -- The run of a system by its plan, for any replies, part by part (FMI 3.0, 4.2.1: the calling sequence of Co-Simulation).
-use Rattle.std.specs.Prelude.{◌≡◌, ℕ, suc, ℤ, ◌-◌, ◌<◌, ◌==◌, ◌||◌, Bool, true, false, List, [], ◌∷◌, ◌++◌, Option, length}
-use Rattle.value_types.specs.declared.shape.Shape.{Shape}
-use Rattle.fmi_calls.specs.declared.call.Call.TheVariants as C
+use Rattle.std.specs.Prelude.{◌≡◌, ℕ, suc, ℤ, ◌==◌, ◌||◌, Bool, true, false, List, [], ◌∷◌, ◌++◌, Option, length}
 use Rattle.system_model.specs.declared.bound.Bound.{Bound}
 use Rattle.system_model.specs.declared.plan.Plan.{Plan}
 use Rattle.system_model.specs.declared.system.System.{System}
@@ -20,92 +18,118 @@ use Rattle.slot_calls.specs.Stage.{shapes_of}
 use Rattle.stage_course.specs.Calls.{IsStep, binding, entering, entering_event, entering_step, leaving, stepping}
 use Rattle.stage_course.specs.Parts.{Calls, Does, Part, Round, Walk}
 
--- the point and the number of an instant, the values that are known, and the timers of the Clocks
+-- ---- places
+
+-- a point, the number of an instant there, the values that are known, in the stored order, and the timers of the Clocks
 pub record Spot : Type 0 where
   pub t : ℕ
   pub n : ℕ
   pub values : List (Option ℤ)
   pub timers : List Timer
 
--- a step from there to a later point
+-- a step from there to another point
 pub record Way : Type 0 where
   pub s : Spot
   pub to : ℕ
-  pub later : s.t < to
 
 -- where a run stands between two parts
 pub data Place : Type 0 where
+  -- each instance was made; the bound parameters were set
   Made : Place
   Configured : Place
+  -- each is in Initialization Mode; its values were found; the fixed Clocks were asked, which tells these timers
   Entered : Place
   Found : Place
   Timed : (timers : List Timer) → Place
-  -- before an instant with these ticks, with the values of the one before
+  -- before an instant with these ticks, with the values of the instant before it
   Before : (s : Spot) (ticks : ℕ → Bool) → Place
+  -- its values were found; the countdown Clocks were asked, which tells the timers
   Read : (s : Spot) → Place
   Rearmed : (s : Spot) → Place
-  -- behind an instant, with what its Updates say
+  -- behind an instant: whether another is asked for at the point, and whether the end is
   Seen : (s : Spot) (again asked : Bool) → Place
-  -- on the way to a step
+  -- on the way to a step: the point is done; those with event mode are in Step Mode; the inputs of the others were set
   Leaving : (w : Way) → Place
   Left : (w : Way) → Place
   Departing : (w : Way) → Place
-  -- behind it
+  -- behind a step, at its end: whether one of the answers asks for the end
   Stepped : (s : Spot) (asked : Bool) → Place
 
-module _ (system : System) (bound : Bound) (plan : Plan) where
-  -- what is sent from there
-  abbrev pub part_at : Place → Part
-  part_at Made = Calls (binding bound)
-  part_at Configured = Calls (entering system plan)
-  part_at Entered = Walk (initially system) (no_values system) (numbers system.initial_order)
-  part_at Found = Calls (timing_calls system)
-  part_at (Timed timers) = Calls (leaving system)
-  part_at (Before s ticks) = Walk (in_instant ticks (s.n == 0)) s.values (numbers system.instant_order)
-  part_at (Read s) = Walk intervals s.values (port_order system)
-  part_at (Rearmed s) = Calls (updating (shapes_of system))
-  part_at (Seen s again asked) = Calls []
-  part_at (Leaving w) = Calls (entering_step system)
-  part_at (Left w) = Walk (before_step w.s.values) w.s.values (port_order system)
-  part_at (Departing w) = Round (stepping system w.s.t w.to)
-  part_at (Stepped s asked) = Calls (entering_event system)
+-- what is sent from there
+abbrev pub part_at : System → Bound → Plan → Place → Part
+part_at system bound plan Made = Calls (binding bound)
+part_at system bound plan Configured = Calls (entering system plan)
+part_at system bound plan Entered =
+    Walk (initially system) (no_values system) (numbers system.initial_order)
+part_at system bound plan Found = Calls (timing_calls system)
+part_at system bound plan (Timed timers) = Calls (leaving system)
+part_at system bound plan (Before s ticks) =
+    Walk (in_instant ticks (s.n == 0)) s.values (numbers system.instant_order)
+part_at system bound plan (Read s) = Walk intervals s.values (port_order system)
+part_at system bound plan (Rearmed s) = Calls (updating (shapes_of system))
+part_at system bound plan (Seen s again asked) = Calls []
+part_at system bound plan (Leaving w) = Calls (entering_step system)
+part_at system bound plan (Left w) = Walk (before_step w.s.values) w.s.values (port_order system)
+part_at system bound plan (Departing w) = Round (stepping system w.s.t w.to)
+part_at system bound plan (Stepped s asked) = Calls (entering_event system)
 
-  -- an instant begins there
-  pub record Begins (s : Spot) (ticks : ℕ → Bool) : Type 0 where
-    pub known : length s.values ≡ length system.ports
-    pub are_ticks : AreTicks system plan.start s.timers s.t s.n ticks
+-- ---- from place to place
 
-  -- where its good answers lead
-  pub data Leads : Place → List (Option ℤ) → List Sent → Place → Type 0 where
-    Binds : (values : List (Option ℤ)) (log : List Sent) → Leads Made values log Configured
-    Enters : (values : List (Option ℤ)) (log : List Sent) → Leads Configured values log Entered
-    Finds : (values : List (Option ℤ)) (log : List Sent) → Leads Entered values log Found
-    TimesOn : (values : List (Option ℤ)) (log : List Sent) (timers : List Timer) →
-        timers ≡ first_told plan.resolution system log → Leads Found values log (Timed timers)
-    Exits : (timers : List Timer) (values : List (Option ℤ)) (log : List Sent) (s : Spot) (ticks : ℕ → Bool) →
-        s ≡ record { t = plan.start; n = 0; values = no_values system; timers = timers } → Begins s ticks →
-        Leads (Timed timers) values log (Before s ticks)
-    ReadsOn : (s : Spot) (ticks : ℕ → Bool) (values : List (Option ℤ)) (log : List Sent) →
-        length values ≡ length system.ports → Leads (Before s ticks) values log (Read (record s { values = values }))
-    RearmsOn : (s : Spot) (values : List (Option ℤ)) (next : List Timer) (log : List Sent) →
-        Rearms system plan.resolution s.t s.values s.timers next log →
-        Leads (Read s) values log (Rearmed (record s { timers = next }))
-    Updates : (s : Spot) (values : List (Option ℤ)) (log : List Sent) (again asked : Bool) →
-        again ≡ ((updated_by log).again || is_some_armed s.t s.timers) → asked ≡ (updated_by log).asked →
-        Leads (Rearmed s) values log (Seen s again asked)
-    Again : (s : Spot) (values : List (Option ℤ)) (log : List Sent) (ticks : ℕ → Bool) →
-        (suc s.n == plan.limit) ≡ false → Begins (record s { n = suc s.n }) ticks →
-        Leads (Seen s true false) values log (Before (record s { n = suc s.n }) ticks)
-    GoesOn : (w : Way) (values : List (Option ℤ)) (log : List Sent) → IsStep system plan w.s.timers w.s.t w.to →
-        Leads (Seen w.s false false) values log (Leaving w)
-    Leaves : (w : Way) (values : List (Option ℤ)) (log : List Sent) → Leads (Leaving w) values log (Left w)
-    Sets : (w : Way) (values : List (Option ℤ)) (log : List Sent) → Leads (Left w) values log (Departing w)
-    StepsOn : (w : Way) (values : List (Option ℤ)) (log : List Sent) (asked : Bool) → asked ≡ any_asks_to_end log →
-        Leads (Departing w) values log (Stepped (record w.s { t = w.to; n = 0 }) asked)
-    Arrives : (s : Spot) (values : List (Option ℤ)) (log : List Sent) (ticks : ℕ → Bool) →
-        Begins (record s { n = 0 }) ticks → Leads (Stepped s false) values log (Before (record s { n = 0 }) ticks)
+-- an instant may begin there: each port has a place for its value, and the Clocks tick by their timers
+pub record Begins (system : System) (plan : Plan) (s : Spot) (ticks : ℕ → Bool) : Type 0 where
+  pub known : length s.values ≡ length system.ports
+  pub are_ticks : AreTicks system plan.start s.timers s.t s.n ticks
 
--- the instant that stands behind a part
+-- where a part's good answers lead: the values are those that a walk found, and the log is the part's
+pub data LeadsTo (system : System) (plan : Plan) : Place → List (Option ℤ) → List Sent → Place →
+    Type 0 where
+  Binds : (values : List (Option ℤ)) (log : List Sent) →
+      LeadsTo system plan Made values log Configured
+  Enters : (values : List (Option ℤ)) (log : List Sent) →
+      LeadsTo system plan Configured values log Entered
+  Finds : (values : List (Option ℤ)) (log : List Sent) →
+      LeadsTo system plan Entered values log Found
+  -- the timers of the Clocks before the first instant, by what the fixed ones answered
+  Times : (values : List (Option ℤ)) (log : List Sent) (timers : List Timer) →
+      timers ≡ first_told plan.resolution system log →
+      LeadsTo system plan Found values log (Timed timers)
+  -- the first instant, at the start, before which no port has a value
+  Exits : (timers : List Timer) (values : List (Option ℤ)) (log : List Sent) (s : Spot)
+      (ticks : ℕ → Bool) →
+      s ≡ record { t = plan.start; n = 0; values = no_values system; timers = timers } →
+      Begins system plan s ticks → LeadsTo system plan (Timed timers) values log (Before s ticks)
+  Reads : (s : Spot) (ticks : ℕ → Bool) (values : List (Option ℤ)) (log : List Sent) →
+      length values ≡ length system.ports →
+      LeadsTo system plan (Before s ticks) values log (Read (record s { values = values }))
+  Rearming : (s : Spot) (values : List (Option ℤ)) (next : List Timer) (log : List Sent) →
+      Rearms system plan.resolution s.t s.values s.timers next log →
+      LeadsTo system plan (Read s) values log (Rearmed (record s { timers = next }))
+  -- another instant is asked for by an Update, or by a Clock that is armed for the point
+  Updates : (s : Spot) (values : List (Option ℤ)) (log : List Sent) (again asked : Bool) →
+      again ≡ ((updated_by log).again || is_some_armed s.t s.timers) →
+      asked ≡ (updated_by log).asked →
+      LeadsTo system plan (Rearmed s) values log (Seen s again asked)
+  -- another instant at the point, of which there may be one more
+  Again : (s : Spot) (values : List (Option ℤ)) (log : List Sent) (ticks : ℕ → Bool) →
+      (suc s.n == plan.limit) ≡ false → Begins system plan (record s { n = suc s.n }) ticks →
+      LeadsTo system plan (Seen s true false) values log (Before (record s { n = suc s.n }) ticks)
+  -- the point is done, from which a step is to be made
+  GoesOn : (w : Way) (values : List (Option ℤ)) (log : List Sent) →
+      IsStep system plan w.s.timers w.s.t w.to →
+      LeadsTo system plan (Seen w.s false false) values log (Leaving w)
+  Leaves : (w : Way) (values : List (Option ℤ)) (log : List Sent) →
+      LeadsTo system plan (Leaving w) values log (Left w)
+  Sets : (w : Way) (values : List (Option ℤ)) (log : List Sent) →
+      LeadsTo system plan (Left w) values log (Departing w)
+  Steps : (w : Way) (values : List (Option ℤ)) (log : List Sent) (asked : Bool) →
+      asked ≡ any_asks_to_end log →
+      LeadsTo system plan (Departing w) values log
+      (Stepped (record w.s { t = w.to; n = 0 }) asked)
+  Arrives : (s : Spot) (values : List (Option ℤ)) (log : List Sent) (ticks : ℕ → Bool) →
+      Begins system plan (record s { n = 0 }) ticks →
+      LeadsTo system plan (Stepped s false) values log (Before (record s { n = 0 }) ticks)
+
+-- the instant that stands behind the part which leads there
 abbrev pub shown : Place → List Instant
 shown (Seen s again asked) = record { t = s.t; n = s.n; values = s.values } ∷ []
 shown Made = []
@@ -121,9 +145,12 @@ shown (Left w) = []
 shown (Departing w) = []
 shown (Stepped s asked) = []
 
--- by this log the run came to a place behind these instants
-pub data Course (system : System) (bound : Bound) (plan : Plan) : Place → List Sent → List Instant → Type 0 where
+-- by this log a run came to a place, behind these instants
+pub data Course (system : System) (bound : Bound) (plan : Plan) : Place → List Sent →
+    List Instant → Type 0 where
   AtFirst : Course system bound plan Made [] []
   On : (p q : Place) (values : List (Option ℤ)) (front more : List Sent) (is : List Instant) →
-      Course system bound plan p front is → Does system (part_at system bound plan p) values more →
-      Leads system bound plan p values more q → Course system bound plan q (front ++ more) (is ++ shown q)
+      Course system bound plan p front is →
+      Does system (part_at system bound plan p) values more →
+      LeadsTo system plan p values more q →
+      Course system bound plan q (front ++ more) (is ++ shown q)

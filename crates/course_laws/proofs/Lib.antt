@@ -1,0 +1,3 @@
+mod Goods
+mod RunEnds
+mod FirstBad
