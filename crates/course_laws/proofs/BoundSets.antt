@@ -13,7 +13,7 @@ use Rattle.system_model.specs.Bounds.{AreParameterValues, BindsParameters}
 use Rattle.run_model.specs.Initial.{set_call}
 use Rattle.event_iteration.specs.WalkCalls.{AreNew, IsUse, Span, own, use_in}
 use Rattle.event_iteration.proofs.WalkLaws.{use_kept}
-use Rattle.stage_course.specs.Calls.{binding}
+use Rattle.calling_sequence.specs.Calls.{binding}
 use Rattle.course_laws.proofs.OwnCalls.{own_binding}
 
 abbrev pub setting_span : Span

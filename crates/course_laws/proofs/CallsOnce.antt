@@ -23,10 +23,10 @@ use Rattle.slot_calls.specs.Stage.{IsAnswered, StopsAt, everyone, has_events, sh
 use Rattle.slot_calls.proofs.Parts.{other}
 use Rattle.event_iteration.specs.WalkCalls.{Front, UsesAre, WalksBy, Whole, has_events_at, initial_span, instant_span, interval_span, own, step_span, timing_span}
 use Rattle.event_iteration.proofs.WalkLaws.{each_call_once, own_append}
-use Rattle.stage_course.specs.Calls.{making}
-use Rattle.stage_course.specs.Course.{Again, Arrives, Before, Binds, Configured, Course, Departing, Entered, Enters, Exits, Finds, Found, GoesOn, LeadsTo, Leaves, Leaving, Left, Made, Place, Read, Reads, Rearmed, Rearming, Seen, Sets, Spot, Stepped, Steps, Timed, Times, Updates, Way, part_at}
-use Rattle.stage_course.specs.Parts.{Calls, Does, Falls, Part, Round, Walk}
-use Rattle.stage_course.proofs.Along.{along}
+use Rattle.calling_sequence.specs.Calls.{making}
+use Rattle.calling_sequence.specs.Course.{Again, Arrives, Before, Binds, Configured, Course, Departing, Entered, Enters, Exits, Finds, Found, GoesOn, LeadsTo, Leaves, Leaving, Left, Made, Place, Read, Reads, Rearmed, Rearming, Seen, Sets, Spot, Stepped, Steps, Timed, Times, Updates, Way, part_at}
+use Rattle.calling_sequence.specs.Parts.{Calls, Does, Falls, Part, Round, Walk}
+use Rattle.calling_sequence.proofs.Along.{along}
 use Rattle.course_laws.specs.Laws.{AreNeeded, NoCallTwice}
 use Rattle.course_laws.specs.Runs.{Comes, Falling, Stands, Unmade}
 use Rattle.course_laws.proofs.BoundSets.{binding_new, setting_span}

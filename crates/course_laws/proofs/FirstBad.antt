@@ -30,10 +30,10 @@ use Rattle.slot_calls.specs.Stage.{IsGoodOf, everyone, shapes_of, to_those}
 use Rattle.slot_calls.proofs.Parts.{those_within}
 use Rattle.event_iteration.specs.Intervals.{timing_calls, timing_calls_in, timing_calls_of}
 use Rattle.event_iteration.proofs.WalkLaws.{last_alone_is_bad}
-use Rattle.stage_course.specs.Calls.{binding, binding_from, making, sets_of}
-use Rattle.stage_course.specs.Course.{Before, Configured, Course, Departing, Entered, Found, Left, Leaving, Made, Place, Read, Rearmed, Seen, Stepped, Timed, part_at}
-use Rattle.stage_course.specs.Parts.{Calls, Does, EndsBadly, Falls, Part, Round, Walk}
-use Rattle.stage_course.proofs.Along.{along}
+use Rattle.calling_sequence.specs.Calls.{binding, binding_from, making, sets_of}
+use Rattle.calling_sequence.specs.Course.{Before, Configured, Course, Departing, Entered, Found, Left, Leaving, Made, Place, Read, Rearmed, Seen, Stepped, Timed, part_at}
+use Rattle.calling_sequence.specs.Parts.{Calls, Does, EndsBadly, Falls, Part, Round, Walk}
+use Rattle.calling_sequence.proofs.Along.{along}
 use Rattle.course_laws.specs.Laws.{FirstBadAnswer}
 use Rattle.course_laws.specs.Runs.{Falling, Stands, Unmade}
 use Rattle.course_laws.proofs.Goods.{AreInOrder, IsToOne, fails_badly, first_of_parts, good_part, in_order_from, stops_badly, walks_badly}

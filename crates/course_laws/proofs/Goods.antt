@@ -14,7 +14,7 @@ use Rattle.slot_calls.specs.Stage.{FailsIn, IsFirst, IsGoodOf, StopsAt, everyone
 use Rattle.slot_calls.proofs.Logs.{part_append}
 use Rattle.slot_calls.proofs.Parts.{other, same, skips, takes}
 use Rattle.event_iteration.specs.WalkCalls.{LastIsBad}
-use Rattle.stage_course.specs.Parts.{EndsBadly}
+use Rattle.calling_sequence.specs.Parts.{EndsBadly}
 use Rattle.course_laws.specs.Laws.{IsFirstBadOf}
 
 -- ---- the parts of a log

@@ -16,7 +16,7 @@ use Rattle.slot_calls.proofs.Logs.{askings_append}
 use Rattle.slot_calls.proofs.Parts.{other, same}
 use Rattle.event_iteration.specs.WalkCalls.{has_events_at, own}
 use Rattle.event_iteration.proofs.WalkLaws.{own_append}
-use Rattle.stage_course.specs.Calls.{binding, binding_from, sets_of}
+use Rattle.calling_sequence.specs.Calls.{binding, binding_from, sets_of}
 use Rattle.course_laws.specs.Laws.{calls_in}
 
 -- they are the calls of its part of the log

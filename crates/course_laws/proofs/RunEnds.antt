@@ -11,9 +11,9 @@ use Rattle.slot_calls.specs.Stage.{IsAnswered, shapes_of}
 use Rattle.calling_sequence.specs.declared.run_end.RunEnd.{RunEnd}
 use Rattle.calling_sequence.specs.declared.run_end.RunEnd.TheVariants as E
 use Rattle.calling_sequence.specs.Plans.{CountsBy}
-use Rattle.stage_course.specs.Calls.{making}
-use Rattle.stage_course.specs.Course.{AtFirst, Made, Place}
-use Rattle.stage_course.specs.Ends.{AtLimit, AtStop, Awaits, Badly, ByStep, ByUpdate, EndLine, EndsAt, Finishes, Header, Shown, Unfit, Well}
+use Rattle.calling_sequence.specs.Calls.{making}
+use Rattle.calling_sequence.specs.Course.{AtFirst, Made, Place}
+use Rattle.calling_sequence.specs.Ends.{AtLimit, AtStop, Awaits, Badly, ByStep, ByUpdate, EndLine, EndsAt, Finishes, Header, Shown, Unfit, Well}
 use Rattle.course_laws.specs.Runs.{Comes, EndsCome, Falling, TellsEnd, Stands}
 
 well : (system : System) (plan : Plan) (end : RunEnd) (p : Place) → EndsAt system plan end p → TellsEnd end None

@@ -12,10 +12,10 @@ use Rattle.slot_calls.specs.Stage.{IsAnswered, StopsAt, shapes_of}
 use Rattle.calling_sequence.specs.declared.run_end.RunEnd.{RunEnd}
 use Rattle.calling_sequence.specs.declared.run_end.RunEnd.TheVariants as E
 use Rattle.calling_sequence.specs.Plans.{CountsBy}
-use Rattle.stage_course.specs.Calls.{making}
-use Rattle.stage_course.specs.Course.{Course, Place, part_at}
-use Rattle.stage_course.specs.Ends.{EndsBy}
-use Rattle.stage_course.specs.Parts.{Falls}
+use Rattle.calling_sequence.specs.Calls.{making}
+use Rattle.calling_sequence.specs.Course.{Course, Place, part_at}
+use Rattle.calling_sequence.specs.Ends.{EndsBy}
+use Rattle.calling_sequence.specs.Parts.{Falls}
 
 -- the log of a run of a system that came to a bad answer, or to none so far: an instance couldn't be made; or all were made, and with these parameters and this plan the run stands at a place, or came from there to that answer
 pub data Comes (system : System) : Option BadAnswer → List Sent → Type 0 where
