@@ -163,10 +163,13 @@ module _ (shape : Shape) (p : Phase) (saved : Bool) (h : IsClosable shape p save
         let at : state_after_bad p.state call (bad_status_of reply) ≡ p.state = ap (state_after_bad p.state call) is ∙ stays p.state call m in
         let standing : IsStanding (state_after_bad p.state call (bad_status_of reply)) = subst IsStanding (sym at) h.state in
         elim (free_or_not call) [
-          | inl free ↦ inr (record {
-            frees = free;
-            discarded = ap Ok (discarded shape reply (ap (λ (c : Call). grade_of shape c reply) (sym free) ∙ g) is);
-          }, standing)
+          | inl free ↦ inr (
+            record {
+              frees = free;
+              discarded = ap Ok (discarded shape reply (ap (λ (c : Call). grade_of shape c reply) (sym free) ∙ g) is);
+            },
+            standing,
+          )
           | inr other ↦ inl (record {
             state = standing;
             kept = λ full. subst (λ (s : InstanceState). IsKept shape s (saved_by shape call (Ok reply) saved)) (sym at) (subst (IsKept shape p.state) (sym (unsaved call reply g other)) (h.kept full));
@@ -250,7 +253,7 @@ module _ (shape : Shape) where
         let start : e.call ≡ C.Instantiate a b = same ∙ is in
         elim (made a b e.result) [
           | inl closable ↦ inr (one_more _ _ e es (left_from (next_by shape (fresh shape) e) (saved_by shape e.call e.result false) es legal.1 (All-tail IsRunCall e.call (calls_in es) runs) (last_later e es last)
-          (subst (λ (c : Call). IsClosable shape (next_of shape (fresh shape) c (result_ok e.result)) (saved_by shape c e.result false)) (sym start) closable)))
+              (subst (λ (c : Call). IsClosable shape (next_of shape (fresh shape) c (result_ok e.result)) (saved_by shape c e.result false)) (sym start) closable)))
           | inr bad ↦ inl (record { first = e; rest = es; is = refl; bad = subst (λ (c : Call). IsGood shape (record { call = c; result = e.result }) → ⊥) (sym start) bad })
         ]
 

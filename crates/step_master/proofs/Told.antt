@@ -110,7 +110,7 @@ module _ (r : Run) (olds news : List View) (log : List Sent) (lives : List Life)
 
 -- ---- the laws, from those of a log
 
-module _ (a : Account) (r : Run) (sound : IsSound a.system) (built : IsBuilt a.system) (run : IsRunOf a.system a.bound a.olds r) (plan_is : r.plan ≡ a.plan) (lived : Lived a) where
+module _ (a : Account) (r : Run) (sound : IsSound a.system) (built : IsBuilt a.system) (plan : IsPlan a.plan) (run : IsRunOf a.system a.bound a.olds r) (plan_is : r.plan ≡ a.plan) (lived : Lived a) where
   own_lives : AreLives r.system a.olds a.news (lived.made ++ lived.log) lived.lives
   own_lives = subst (λ (s : System). AreLives s a.olds a.news (lived.made ++ lived.log) lived.lives) (sym run.system_is) lived.are
 
@@ -118,6 +118,7 @@ module _ (a : Account) (r : Run) (sound : IsSound a.system) (built : IsBuilt a.s
   own_run = record {
     sound = subst IsSound (sym run.system_is) sound;
     built = subst IsBuilt (sym run.system_is) built;
+    plan = subst IsPlan (sym plan_is) plan;
     machines = are_machines r a.olds a.news (lived.made ++ lived.log) lived.lives own_lives run.tell (subst (λ (s : System). TellTheirs s a.olds) (sym run.system_is) lived.machines);
     making = subst (λ (s : System). IsAnswered (shapes_of s) (making s) lived.made) (sym run.system_is) lived.making;
     replies = replies_of r a.olds a.news (lived.made ++ lived.log) lived.lives own_lives run.tell;
@@ -152,14 +153,14 @@ module _ (a : Account) (r : Run) (sound : IsSound a.system) (built : IsBuilt a.s
   traces E.WriteFault (inr cuts) = inr cuts
 
 pub told_run : RunByLog → ToldRun
-told_run law a r sound built plan run plan_is lived = law r lived.made lived.log lived.is a.end (output_of a) (own_run a r sound built run plan_is lived)
+told_run law a r sound built plan run plan_is lived = law r lived.made lived.log lived.is a.end (output_of a) (own_run a r sound built plan run plan_is lived)
 
 pub told_trace : TraceByLog → ToldTrace
 told_trace law a r sound built binds plan run plan_is well lived =
-    traces a r sound built run plan_is lived a.end
+    traces a r sound built plan run plan_is lived a.end
     (law r lived.made lived.log lived.is a.end (output_of a)
     (subst (λ (s : System). BindsParameters s r.bound) (sym run.system_is) (subst (BindsParameters a.system) (sym run.bound_is) binds))
-    (subst IsPlan (sym plan_is) plan) well (own_run a r sound built run plan_is lived))
+    well (own_run a r sound built plan run plan_is lived))
 
 pub told_unmade : UnmadeByLog → ToldUnmade
 told_unmade law system bound olds news bad r sound run well u = by (subst (λ (s : System). Unmade s olds bad news) (sym run.system_is) u) where

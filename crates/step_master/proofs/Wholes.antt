@@ -37,7 +37,7 @@ use Rattle.calling_sequence.specs.declared.run_end.RunEnd.TheVariants as E
 use Rattle.calling_sequence.specs.Ends.{EndsBy}
 use Rattle.calling_sequence.specs.Plans.{CountsBy}
 use Rattle.course_laws.specs.Laws.{AnswersAre, AreNeeded, AreTalks, FirstBadAnswer, IsFirstBadOf, NoCallTwice, UpdatesAskedFor, calls_in}
-use Rattle.course_laws.specs.Runs.{Comes, EndsCome, IsBadOf, Unmade}
+use Rattle.course_laws.specs.Runs.{Comes, EndsCome, TellsEnd, Unmade}
 use Rattle.step_master.specs.Lived.{Account, Lived, LivesAreOver, RunIsLived, UnmadeIsClosed}
 use Rattle.step_master.specs.Lives.{AreGood, AreLives, EndsLives, IsLeastBad, IsLife, Life, is_spared, is_unanswered, shape_in, talk_in, talks_in}
 use Rattle.step_master.specs.Master.{Closes, Prepares, Runs, Standing}
@@ -237,7 +237,7 @@ module _ (system : System) (olds : List View) (peers : ArePeersOf system olds) (
   none_bad : (bad : Option BadAnswer) → bad ≡ None → AnswersAre (shapes_of system) bad log → AreGood lives
   none_bad bad none answers = good_lives (subst (λ (b : Option BadAnswer). AnswersAre (shapes_of system) b log) none answers)
 
-  pub ends_lives : (end : RunEnd) (bad : Option BadAnswer) → IsBadOf end bad → AnswersAre (shapes_of system) bad log → EndsLives end lives
+  pub ends_lives : (end : RunEnd) (bad : Option BadAnswer) → TellsEnd end bad → AnswersAre (shapes_of system) bad log → EndsLives end lives
   ends_lives E.Stop bad tells answers = none_bad bad tells answers
   ends_lives (E.Asked point) bad tells answers = none_bad bad tells answers
   ends_lives (E.EventLimit point) bad tells answers = none_bad bad tells answers
