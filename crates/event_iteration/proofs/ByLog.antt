@@ -21,8 +21,8 @@ use Rattle.event_iteration.specs.Settings.{before_step, entered_step, port_order
 use Rattle.event_iteration.proofs.Departing.{depart_from, sets_by}
 use Rattle.event_iteration.proofs.Finding.{state_is, values_are}
 use Rattle.event_iteration.proofs.FindingInInstant.{solves, states_are}
-use Rattle.event_iteration.proofs.Fmus.{each_same}
-use Rattle.event_iteration.proofs.Stages.{AreAll, all_on, each_each, reads_stay}
+pub use Rattle.event_iteration.proofs.Fmus.{each_many, each_same, fmu_on}
+pub use Rattle.event_iteration.proofs.Stages.{AreAll, IsRead, all_on, each_each, fmu_of, reads_stay, replies_first, replies_then, stage_any, stage_states, stage_well, states_on}
 use Rattle.event_iteration.proofs.Timing.{first_timers_are, fixed_read, intervals_read, next_timers_are}
 use Rattle.event_iteration.proofs.Updating.{again_is, asked_is, states_updated}
 use Rattle.event_iteration.proofs.WalksBack.{finding_back, instant_back, setting_back, walked_to}
@@ -93,9 +93,9 @@ updates_by_log r s values log machines situation answered replies =
     (states_updated r s values log answered, again_is r s values log answered machines situation replies, asked_is r s values log answered machines situation replies)
 
 pub sets_by_log : SetsByLog
-sets_by_log r s log sound len told =
-    let walked = setting_back r.system sound s.before len (port_order r.system) [] (sym (append-nil (port_order r.system))) log told in
-    sets_by r sound s.before len s.before log walked (entered_step r s)
+sets_by_log r s values log sound len told =
+    let back = setting_back r.system sound s.before len (port_order r.system) [] (sym (append-nil (port_order r.system))) values log told in
+    sets_by r sound s.before len back.next log back.walked (entered_step r s)
     ∙ each_each (λ i c m y. if c.shape.has_event_mode then after m y C.EnterStep else y) (λ i c m y. if c.shape.has_event_mode then y else state_with r.system.ports s.before i m y) 0 r.system.components r.machines s.states
     ∙ each_same r s.states (λ i c m y. if c.shape.has_event_mode then (if c.shape.has_event_mode then after m y C.EnterStep else y) else state_with r.system.ports s.before i m (if c.shape.has_event_mode then after m y C.EnterStep else y))
     (λ i c m y. if c.shape.has_event_mode then after m y C.EnterStep else state_with r.system.ports s.before i m y)
