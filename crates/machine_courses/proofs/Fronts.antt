@@ -1,5 +1,5 @@
 -- The instants of a course of told machines: a front of their run, and with its end their trace.
-use Rattle.std.proofs.Common.{◌≡◌, ℕ, ℤ, List, [], ◌∷◌, ◌++◌, Option, refl, sym, ap, ◌∙◌, subst, append_assoc, append-nil}
+use Rattle.std.proofs.Common.{◌≡◌, ℕ, ℤ, List, [], ◌∷◌, ◌++◌, Option, refl, sym, ap, ◌∙◌, subst, append_assoc, append-nil, arith}
 use Rattle.std.specs.Prelude.{All}
 use Rattle.std.proofs.lemmas.List.Elements.{All-append, All-nil}
 use Rattle.fmu_peer.specs.Machine.{MachineState}
@@ -114,7 +114,7 @@ module _ (r : Run) (sound : IsSound r.system) (built : IsBuilt r.system) (plan :
 
   -- ---- the instants so far
 
-  none : (is : List Instant) → is ≡ [] → Front r is
+  pub none : (is : List Instant) → is ≡ [] → Front r is
   none is e =
       let W = solvable_initially r sound machines in
       Ahead (I.beginning r W.0) (AtFirst (I.beginning r W.0) is W.0 W.1 refl e) (record { begun = omega arith; ended = plan.ordered; below = plan.limit_above })

@@ -4,3 +4,4 @@ pub mod Following
 pub mod Parameters
 pub mod Rows
 pub mod Fronts
+pub mod RunLaw

@@ -1,9 +1,9 @@
-use Rattle.machine_courses.proofs.Fronts.{front_at}
+use Rattle.machine_courses.proofs.RunLaw.{run_by_log}
 use Rattle.machine_courses.proofs.laws.logs_of_machines.Goals as goal
 
 pub returns : goal.returns
 returns c = record {
-  run = ?;
+  run = run_by_log;
   trace = ?;
   unmade = ?;
 }
