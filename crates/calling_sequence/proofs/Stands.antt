@@ -30,9 +30,9 @@ use Rattle.event_iteration.specs.Instants.{IsRunning, in_instant}
 use Rattle.event_iteration.specs.Intervals.{intervals, timing_calls}
 use Rattle.event_iteration.specs.Settings.{before_step}
 use Rattle.event_iteration.specs.Updates.{answer_passes, any_answer, updated_by, updating}
-use Rattle.calling_sequence.specs.Place.{IsAt, IsDeparting, IsInitializing, IsSettled, IsStepping}
+use Rattle.calling_sequence.specs.Place.{IsAt, IsDeparting, IsInitializing, IsSettled, IsStepping, IsTaking}
 use Rattle.calling_sequence.proofs.Chains.{IsQuestion, IsSet, fits_on, keep_all, stage_passing}
-use Rattle.calling_sequence.proofs.Phases.{IsLast, IsTaking, asking_keeps, asking_runs, enter_event_leads, enter_event_stays, enter_step_leads, enter_step_stays, finding_keeps, running_keeps, set_keeps, taking_at, taking_keeps, timing_keeps, update_leads, update_settles, update_stays, update_stays_settled}
+use Rattle.calling_sequence.proofs.Phases.{IsLast, asking_keeps, asking_runs, enter_event_leads, enter_event_stays, enter_step_leads, enter_step_stays, finding_keeps, running_keeps, set_keeps, taking_at, taking_keeps, timing_keeps, update_leads, update_settles, update_stays, update_stays_settled}
 use Rattle.calling_sequence.proofs.Sizes.{there_is}
 use Rattle.calling_sequence.proofs.Walks.{IsGetOrSet, IsOfInstant, asking_goodly, finding_goodly, instant_goodly, setting_goodly, timing_goodly}
 
@@ -85,12 +85,12 @@ none_passes test (s ∷ log) h =
 
 -- what the calls to those with event mode leave
 module _ {A : Type 0} (f : A → Instance) (olds news : List A) where
-  updated_at : (t stop step : ℕ) (u : Updated) → Stage (updating (shapes (map f olds))) updated_by (map f olds) (map f news) (Ok u) → All (λ (a : A). IsTaking t stop step (f a).view) olds → All (λ (a : A). IsAt t stop step (f a).view) news
+  pub updated_at : (t stop step : ℕ) (u : Updated) → Stage (updating (shapes (map f olds))) updated_by (map f olds) (map f news) (Ok u) → All (λ (a : A). IsTaking t stop step (f a).view) olds → All (λ (a : A). IsAt t stop step (f a).view) news
   updated_at t stop step u s all =
       stage_those f has_events (λ shape. C.Update) olds news s.log s.told s.says.0 (IsTaking t stop step) (IsAt t stop step)
       (λ v w e p asked l is. update_leads t stop step v w e p l is) (update_stays t stop step) all
 
-  updated_settled : (t stop step : ℕ) (u : Updated) → Stage (updating (shapes (map f olds))) updated_by (map f olds) (map f news) (Ok u) → u.again ≡ false → All (λ (a : A). IsTaking t stop step (f a).view) olds →
+  pub updated_settled : (t stop step : ℕ) (u : Updated) → Stage (updating (shapes (map f olds))) updated_by (map f olds) (map f news) (Ok u) → u.again ≡ false → All (λ (a : A). IsTaking t stop step (f a).view) olds →
       All (λ (a : A). IsSettled t stop step (f a).view) news
   updated_settled t stop step u s last all =
       stage_passing f has_events (λ shape. C.Update) (IsTaking t stop step) (IsSettled t stop step) IsLast (update_settles t stop step) (update_stays_settled t stop step)
