@@ -1,57 +1,45 @@
 -- The first bad answer of a log, and of each instance's part of it.
-use Rattle.std.proofs.Common.{◌≡◌, ℕ, suc, ◌<◌, ◌≤◌, ◌==◌, Bool, true, false, List, [], ◌∷◌, ◌++◌, refl, sym, ap, ◌∙◌, subst, append_assoc, append-nil, arith, length, get_or}
+use Rattle.std.proofs.Common.{◌≡◌, ℕ, suc, ◌+◌, ◌<◌, ◌≤◌, ◌==◌, Bool, true, false, List, [], ◌∷◌, ◌++◌, refl, sym, ap, ◌∙◌, subst, append_assoc, append-nil, arith, length, get_or}
 use Rattle.std.specs.Prelude.{All, if◌then◌else◌}
 use Rattle.std.proofs.lemmas.Bool.Decides.{nat_tests}
 use Rattle.std.proofs.lemmas.List.Elements.{All-append, All-cons, All-head, All-nil, All-tail}
 use Rattle.value_types.specs.declared.shape.Shape.{Shape}
+use Rattle.fmi_calls.specs.declared.call.Call.{Call}
 use Rattle.fmu_peer.specs.declared.peer.Exchange.{Exchange}
 use Rattle.fmu_peer.specs.Answer.{IsFirstBad}
 use Rattle.fmu_peer.specs.Talk as T
 use Rattle.slot_calls.specs.declared.bad_answer.BadAnswer.{BadAnswer}
 use Rattle.slot_calls.specs.Log.{Asking, Sent, askings, part}
-use Rattle.slot_calls.specs.Stage.{FailsIn, IsFirst, IsGoodOf, StopsAt}
+use Rattle.slot_calls.specs.Stage.{FailsIn, IsFirst, IsGoodOf, StopsAt, everyone, to_those_from}
 use Rattle.slot_calls.proofs.Logs.{part_append}
 use Rattle.slot_calls.proofs.Parts.{other, same, skips, takes}
 use Rattle.event_iteration.specs.WalkCalls.{LastIsBad}
+use Rattle.calling_sequence.specs.Parts.{EndsBadly}
 use Rattle.course_laws.specs.Laws.{IsFirstBadOf}
-
--- the first bad answer of a log, of a component that is there: behind it the components up to that have no exchange
-pub record EndsBadly (ss : List Shape) (bad : BadAnswer) (log : List Sent) : Type 0 where
-  pub front : List Sent
-  pub last : Sent
-  pub back : List Sent
-  pub is : log ≡ front ++ last ∷ back
-  pub first : IsFirst ss bad front last
-  pub within : last.component < length ss
-  pub alone : (j : ℕ) → j ≤ last.component → part j back ≡ []
 
 -- ---- the parts of a log
 
 pub good_part : (ss : List Shape) (log : List Sent) → All (IsGoodOf ss) log → (k : ℕ) (d : Shape) → T.AllGood (get_or ss k d) (part k log)
 good_part ss [] all k d = All-nil (T.IsGood (get_or ss k d))
-good_part ss (s ∷ log) all k d = by (s.component == k) refl where
-  Good : Exchange → Type 0
-  Good = T.IsGood (get_or ss k d)
-
-  by : (b : Bool) → (s.component == k) ≡ b → All Good (if b then s.exchange ∷ part k log else part k log)
-  by true here =
-      All-cons Good s.exchange (part k log) (subst (λ (n : ℕ). T.IsGood (get_or ss n d) s.exchange) (let e : s.component ≡ k = grind (arith, nat_tests) in e) (All-head (IsGoodOf ss) s log all d))
-      (good_part ss log (All-tail (IsGoodOf ss) s log all) k d)
-  by false there = good_part ss log (All-tail (IsGoodOf ss) s log all) k d
+good_part ss (s ∷ log) all k d = by (good_part ss log (All-tail (IsGoodOf ss) s log all) k d) (s.component == k) refl where
+  by : T.AllGood (get_or ss k d) (part k log) → (b : Bool) → (s.component == k) ≡ b → T.AllGood (get_or ss k d) (if b then s.exchange ∷ part k log else part k log)
+  by rest true here =
+      All-cons (T.IsGood (get_or ss k d)) s.exchange (part k log) (subst (λ (n : ℕ). T.IsGood (get_or ss n d) s.exchange) (let e : s.component ≡ k = grind (arith, nat_tests) in e) (All-head (IsGoodOf ss) s log all d)) rest
+  by rest false there = rest
 
 module _ (ss : List Shape) (bad : BadAnswer) (log : List Sent) (b : EndsBadly ss bad log) where
   -- the part of its component ends with it
   part_here : part b.last.component log ≡ part b.last.component b.front ++ b.last.exchange ∷ []
   part_here =
       let k = b.last.component in
-      ap (part k) b.is ∙ part_append k b.front (b.last ∷ b.back)
+      ap (part k) b.log_is ∙ part_append k b.front (b.last ∷ b.back)
       ∙ ap (λ (es : List Exchange). part k b.front ++ es)
       (takes (k == k) b.last.exchange (part k b.back) (same k k refl) ∙ ap (λ (es : List Exchange). b.last.exchange ∷ es) (b.alone k (omega arith)))
 
   -- those of the components before it stand in front of it
   part_before : (j : ℕ) → j < b.last.component → part j log ≡ part j b.front
   part_before j before =
-      ap (part j) b.is ∙ part_append j b.front (b.last ∷ b.back)
+      ap (part j) b.log_is ∙ part_append j b.front (b.last ∷ b.back)
       ∙ ap (λ (es : List Exchange). part j b.front ++ es)
       (skips (b.last.component == j) b.last.exchange (part j b.back) (other b.last.component j (λ e. absurd (omega (arith, e, before)))) ∙ b.alone j (omega (arith, before)))
       ∙ append-nil (part j b.front)
@@ -87,6 +75,10 @@ alone_behind : (i : ℕ) (front : List Sent) (last : Sent) (back : List Sent) �
 alone_behind i [] last back (at, order) j w = none_before (suc last.component) j back order (omega (arith, w))
 alone_behind i (f ∷ front) last back (at, order) j w = alone_behind (suc f.component) front last back order j w
 
+pub in_order_from : (call : Shape → Call) (i j : ℕ) (ss : List Shape) → i ≤ j → AreInOrder i (to_those_from j everyone call ss)
+in_order_from call i j [] w = tt
+in_order_from call i j (s ∷ ss) w = (w, in_order_from call (suc j) (j + 1) ss (omega arith))
+
 -- ---- a part of a run
 
 -- the call is to one of so many
@@ -105,7 +97,7 @@ module _ (ss : List Shape) (bad : BadAnswer) (before log : List Sent) (good : Al
     front = before ++ front;
     last = last;
     back = back;
-    is = ap (λ (l : List Sent). before ++ l) is ∙ sym (append_assoc before front (last ∷ back));
+    log_is = ap (λ (l : List Sent). before ++ l) is ∙ sym (append_assoc before front (last ∷ back));
     first = record { good = All-append (IsGoodOf ss) before front good first.good; component = first.component; why = first.why };
     within = within;
     alone = alone;

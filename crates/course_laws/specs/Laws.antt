@@ -8,16 +8,11 @@ use Rattle.fmu_peer.specs.Answer.{IsFirstBad}
 use Rattle.fmu_peer.specs.Lean.{IsLean}
 use Rattle.fmu_peer.specs.Talk as T
 use Rattle.fmu_peer.specs.Updates.{AreUpdatesNeeded}
-use Rattle.system_model.specs.declared.bound.Bound.{Bound}
-use Rattle.system_model.specs.declared.plan.Plan.{Plan}
 use Rattle.system_model.specs.declared.system.System.{System}
-use Rattle.system_model.specs.Bounds.{BindsParameters}
 use Rattle.system_model.specs.Sound.{IsSound}
 use Rattle.slot_calls.specs.declared.bad_answer.BadAnswer.{BadAnswer}
 use Rattle.slot_calls.specs.Log.{Sent, part}
 use Rattle.slot_calls.specs.Stage.{shapes_of}
-use Rattle.calling_sequence.specs.Plans.{CountsBy}
-use Rattle.stage_course.specs.Calls.{calls_in}
 use Rattle.course_laws.specs.Runs.{Comes}
 
 -- ---- the first bad answer
@@ -38,11 +33,14 @@ AnswersAre shapes (Some bad) log = IsFirstBadOf shapes bad log
 
 abbrev pub FirstBadAnswer : Type 0
 FirstBadAnswer =
-    (system : System) (bound : Bound) (plan : Plan) (bad : Option BadAnswer) (log : List Sent) →
-    IsSound system → BindsParameters system bound → Comes system bound plan bad log →
+    (system : System) (bad : Option BadAnswer) (log : List Sent) → IsSound system →
+    Comes system bad log →
     AnswersAre (shapes_of system) bad log
 
 -- ---- no call twice
+
+abbrev pub calls_in : List Exchange → List Call
+calls_in es = map (λ (e : Exchange). e.call) es
 
 -- calls of a run, of which each is needed
 pub record AreNeeded (calls : List Call) : Type 0 where
@@ -51,8 +49,8 @@ pub record AreNeeded (calls : List Call) : Type 0 where
 
 abbrev pub NoCallTwice : Type 0
 NoCallTwice =
-    (system : System) (bound : Bound) (plan : Plan) (bad : Option BadAnswer) (log : List Sent) →
-    IsSound system → BindsParameters system bound → Comes system bound plan bad log →
+    (system : System) (bad : Option BadAnswer) (log : List Sent) → IsSound system →
+    Comes system bad log →
     (k : ℕ) → k < length system.components → AreNeeded (calls_in (part k log))
 
 -- ---- Updates
@@ -64,7 +62,7 @@ pub record AreTalks (n : ℕ) (log : List Sent) (talks : List (List Exchange)) :
 
 abbrev pub UpdatesAskedFor : Type 0
 UpdatesAskedFor =
-    (system : System) (bound : Bound) (plan : Plan) (bad : Option BadAnswer) (log : List Sent)
-    (talks : List (List Exchange)) → IsSound system → CountsBy system plan →
-    Comes system bound plan bad log → AreTalks (length system.components) log talks →
+    (system : System) (bad : Option BadAnswer) (log : List Sent)
+    (talks : List (List Exchange)) → IsSound system → Comes system bad log →
+    AreTalks (length system.components) log talks →
     AreUpdatesNeeded talks

@@ -1,4 +1,0 @@
-pub mod Calls
-pub mod Parts
-pub mod Course
-pub mod Ends
