@@ -96,7 +96,7 @@ module _ (r : Run) (sound : IsSound r.system) (built : IsBuilt r.system) (plan :
 
   pub stands : (p : Place) (log : List Sent) (is : List Instant) → Course r.system r.bound r.plan p log is → AreReplies r (I.instantiated r) log → Stands p log is
   stands p log is course = along r.system r.bound r.plan (λ q l js. AreReplies r first l → Stands q l js)
-      (λ replies. record { good = All-nil Good; at = (refl, reads_stay r first (made_all r machines) [] (All-nil (IsRead r first))) })
+      (λ replies. record { good = All-nil Good; at = (refl, reads_stay r first (made_all r machines) [] (All-nil IsRead)) })
       (λ q next values front more js course before does leads replies.
       let old = before (replies_first r first front more replies) in
       let behind = replies_then r first front more old.good replies in

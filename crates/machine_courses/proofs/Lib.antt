@@ -5,3 +5,8 @@ pub mod Parameters
 pub mod Rows
 pub mod Fronts
 pub mod RunLaw
+pub mod Lost
+pub mod Settings
+pub mod Initially
+pub mod Instants
+pub mod StepCalls

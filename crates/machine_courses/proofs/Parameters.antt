@@ -1,9 +1,15 @@
 -- The Sets of bound parameters: behind them told machines have these values.
-use Rattle.std.proofs.Common.{◌≡◌, ◌≢◌, ℕ, zero, suc, ◌+◌, ◌<◌, ◌==◌, Bool, true, false, List, [], ◌∷◌, ◌++◌, refl, sym, ap, ◌∙◌, append-nil, arith, get_or, map}
-use Rattle.std.specs.Prelude.{if◌then◌else◌}
+use Rattle.std.proofs.Common.{◌≡◌, ◌≢◌, ℕ, zero, suc, ◌+◌, ◌<◌, ◌==◌, Bool, true, false, List, [], ◌∷◌, ◌++◌, Some, refl, sym, ap, ◌∙◌, append-nil, arith, get_or, map}
+use Rattle.std.specs.Prelude.{All, if◌then◌else◌}
+use Rattle.std.specs.List.{AllZip, slice_get}
+use Rattle.std.proofs.lemmas.List.Elements.{All-append, All-cons, All-head, All-nil, All-tail}
 use Rattle.fmu_peer.specs.declared.peer.Exchange.{Exchange}
 use Rattle.fmu_peer.specs.Machine.{Machine, MachineState, after}
+use Rattle.system_model.specs.declared.bound.Bound.{Bound}
 use Rattle.system_model.specs.declared.bound.BoundValue.{BoundValue}
+use Rattle.system_model.specs.declared.system.Component.{Component}
+use Rattle.system_model.specs.declared.system.System.{System}
+use Rattle.system_model.specs.Bounds.{AreParameterValues, BindsParameters, IsParameterValue}
 use Rattle.run_model.specs.Initial as I
 use Rattle.run_model.specs.Initial.{set_call, with_bound}
 use Rattle.run_model.specs.Run.{Run}
@@ -53,3 +59,63 @@ module _ (m : Machine) (k : ℕ) where
 pub configured_states : (r : Run) (log : List Sent) → IsAnswered (shapes_of r.system) (binding r.bound) log → states_by r (I.instantiated r) log ≡ I.configured r
 configured_states r log answered =
     each_same r (I.instantiated r) (λ i c m s. state_by m s (part i log)) (λ i c m s. with_bound m (I.bound_values r i) s) (λ i c m s fmu. bound_from m i 0 i r.bound.components log s answered.calls_are (omega arith))
+
+-- ---- which calls these are
+
+module _ (P : Asking → Type 0) where
+  all_sets : (i : ℕ) (values : List BoundValue) → All (λ (b : BoundValue). P (record { component = i; call = set_call b })) values → All P (sets_of i values)
+  all_sets i [] all = All-nil P
+  all_sets i (b ∷ bs) all =
+      All-cons P (record { component = i; call = set_call b }) (sets_of i bs) (All-head (λ (x : BoundValue). P (record { component = i; call = set_call x })) b bs all)
+      (all_sets i bs (All-tail (λ (x : BoundValue). P (record { component = i; call = set_call x })) b bs all))
+
+-- a Set of a parameter of one of these components
+pub record IsParameterSet (k : ℕ) (cs : List Component) (a : Asking) : Type 0 where
+  pub value : BoundValue
+  pub place : ℕ
+  pub component : Component
+  pub call_is : a.call ≡ set_call value
+  pub at : a.component ≡ k + place
+  pub of : slice_get cs place ≡ Some component
+  pub is : IsParameterValue component.shape value
+
+one_later : (k : ℕ) (c : Component) (cs : List Component) (a : Asking) → IsParameterSet (k + 1) cs a → IsParameterSet k (c ∷ cs) a
+one_later k c cs a h = record {
+  value = h.value;
+  place = suc h.place;
+  component = h.component;
+  call_is = h.call_is;
+  at = let e = h.at in omega (arith, e);
+  of = h.of;
+  is = h.is;
+}
+
+all_from : (k : ℕ) (cs : List Component) (lists : List (List BoundValue)) → AllZip (λ (c : Component) (values : List BoundValue). AreParameterValues c.shape values) cs lists →
+    All (IsParameterSet k cs) (binding_from k lists)
+all_from k cs [] zip = All-nil (IsParameterSet k cs)
+all_from k [] (values ∷ lists) zip = absurd zip
+all_from k (c ∷ cs) (values ∷ lists) zip =
+    let more = all_from (k + 1) cs lists zip.1 in
+    All-append (IsParameterSet k (c ∷ cs)) (sets_of k values) (binding_from (k + 1) lists)
+    (all_sets (IsParameterSet k (c ∷ cs)) k values (λ i d w. record {
+      value = get_or values i d;
+      place = 0;
+      component = c;
+      call_is = refl;
+      at = omega arith;
+      of = refl;
+      is = zip.0.each i d w;
+    }))
+    (λ i d w. one_later k c cs (get_or (binding_from (k + 1) lists) i d) (more i d w))
+
+-- each is one of a parameter of its component
+pub binding_all : (system : System) (bound : Bound) → BindsParameters system bound → All (IsParameterSet 0 system.components) (binding bound)
+binding_all system bound binds = all_from 0 system.components bound.components binds
+
+-- what holds of calls that go on behind a log holds of one of its calls and of those in front of it
+pub amid_all : (P : Asking → Type 0) (front : List Sent) (last : Sent) (back : List Sent) (left : List Asking) → All P (askings (front ++ last ∷ back) ++ left) →
+    P (asking_of last) × All (λ (s : Sent). P (asking_of s)) front
+amid_all P [] last back left all = (all 0 (asking_of last) (omega arith), All-nil (λ (s : Sent). P (asking_of s)))
+amid_all P (f ∷ front) last back left all =
+    let more = amid_all P front last back left (All-tail P (asking_of f) (askings (front ++ last ∷ back) ++ left) all) in
+    (more.0, All-cons (λ (s : Sent). P (asking_of s)) f front (all 0 (asking_of f) (omega arith)) more.1)

@@ -60,7 +60,7 @@ module _ (r : Run) (more : List Sent) where
 
   -- a part that sends nothing
   stays : (ss : List MachineState) → AreAll r ss → IsAnswered (shapes_of r.system) [] more → states_by r ss more ≡ ss
-  stays ss all answered = ap (states_by r ss) (none_sent more answered.calls_are) ∙ reads_stay r ss all [] (All-nil (IsRead r ss))
+  stays ss all answered = ap (states_by r ss) (none_sent more answered.calls_are) ∙ reads_stay r ss all [] (All-nil IsRead)
 
   -- one call to those
   sends : (ss xs : List MachineState) → ss ≡ xs → (test : Shape → Bool) (call : Shape → Call) → IsAnswered (shapes_of r.system) (to_those test call (shapes_of r.system)) more →

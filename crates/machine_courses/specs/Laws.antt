@@ -46,6 +46,7 @@ TraceByLog =
 -- and none of them isn't made, but for a call that failed
 abbrev pub UnmadeByLog : Type 0
 UnmadeByLog =
-    (r : Run) (bad : BadAnswer) (log : List Sent) → AreMachines r → WellBehaved r →
+    (r : Run) (bad : BadAnswer) (log : List Sent) →
+    length r.machines ≡ length r.system.components → WellBehaved r →
     AreReplies r (first_states r) log → StopsAt (shapes_of r.system) (making r.system) bad log →
     IsLost (length r.system.components) log bad.why
