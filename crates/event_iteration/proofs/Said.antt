@@ -12,12 +12,12 @@ use Rattle.slot_calls.specs.Log.{Sent}
 use Rattle.event_iteration.specs.Explains.{all_said, call_at, said}
 use Rattle.event_iteration.specs.Turns.{Rules, sent_of}
 
-module _ (P : Sent → Type 0) where
-  all_front : (xs ys : List Sent) → All P (xs ++ ys) → All P xs
+module _ {X : Type 0} (P : X → Type 0) where
+  pub all_front : (xs ys : List X) → All P (xs ++ ys) → All P xs
   all_front [] ys all = All-nil P
   all_front (x ∷ xs) ys all = All-cons P x xs (All-head P x (xs ++ ys) all) (all_front xs ys (All-tail P x (xs ++ ys) all))
 
-  all_back : (xs ys : List Sent) → All P (xs ++ ys) → All P ys
+  all_back : (xs ys : List X) → All P (xs ++ ys) → All P ys
   all_back [] ys all = all
   all_back (x ∷ xs) ys all = all_back xs ys (All-tail P x (xs ++ ys) all)
 

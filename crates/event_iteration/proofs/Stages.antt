@@ -46,6 +46,22 @@ each_own k (c ∷ cs) [] ss a b = absurd (omega (arith, a))
 each_own k (c ∷ cs) (m ∷ ms) [] a b = absurd (omega (arith, b))
 each_own k (c ∷ cs) (m ∷ ms) (s ∷ ss) a b = ap (λ xs. s ∷ xs) (each_own (suc k) cs ms ss (omega (arith, a)) (omega (arith, b)))
 
+-- the call changes no machine
+abbrev pub Reads : Call → Type 0
+Reads call = (m : Machine) (z : MachineState) → after m z call ≡ z
+
+abbrev pub IsRead : Sent → Type 0
+IsRead s = Reads s.exchange.call
+
+pub reads_part : (i : ℕ) (m : Machine) (z : MachineState) (log : List Sent) → All IsRead log → state_by m z (part i log) ≡ z
+reads_part i m z log read = stays (part i log) (part_all ReadsIn i log (λ k d w here. read k d w)) where
+  ReadsIn : Exchange → Type 0
+  ReadsIn e = Reads e.call
+
+  stays : (es : List Exchange) → All ReadsIn es → state_by m z es ≡ z
+  stays [] reads = refl
+  stays (e ∷ es) reads = ap (λ (y : MachineState). state_by m y es) (All-head ReadsIn e es reads m z) ∙ stays es (All-tail ReadsIn e es reads)
+
 -- a machine and a state for each component
 pub record AreAll (r : Run) (ss : List MachineState) : Type 0 where
   pub machines : length r.machines ≡ length r.system.components
@@ -104,10 +120,6 @@ module _ (r : Run) (ss : List MachineState) where
       (replied_good m (get_or (shapes_of r.system) i c.shape) z s.exchange (part i log) (good c.shape)
       (subst (RepliesBy m z) (takes (i == i) s.exchange (part i log) (same i i refl)) (replies i c m z fmu))).0
 
-  -- the call changes no machine
-  abbrev pub IsRead : Sent → Type 0
-  IsRead s = (m : Machine) (z : MachineState) → after m z s.exchange.call ≡ z
-
   pub reads_shown : (log : List Sent) → All IsRead log → All Good log → AreReplies r ss log → All IsShown log
   reads_shown [] read good replies = All-nil IsShown
   reads_shown (s ∷ log) read good replies =
@@ -120,17 +132,10 @@ module _ (r : Run) (ss : List MachineState) where
           (replied_good m (get_or (shapes_of r.system) s.component c.shape) z s.exchange (part i log) (All-head Good s log good c.shape) (subst (RepliesBy m z) (takes (s.component == i) s.exchange (part i log) at) h)).1
       rest i c m z h false at = subst (RepliesBy m z) (skips (s.component == i) s.exchange (part i log) at) h
 
-  abbrev ReadsIn : Exchange → Type 0
-  ReadsIn e = (m : Machine) (z : MachineState) → after m z e.call ≡ z
-
   pub reads_stay : AreAll r ss → (log : List Sent) → All IsRead log → states_by r ss log ≡ ss
   reads_stay all log read =
-      each_same r ss (λ i c m z. state_by m z (part i log)) (λ i c m z. z) (λ i c m z fmu. stays m z (part i log) (part_all ReadsIn i log (λ k d w here. read k d w)))
+      each_same r ss (λ i c m z. state_by m z (part i log)) (λ i c m z. z) (λ i c m z fmu. reads_part i m z log read)
       ∙ each_own 0 r.system.components r.machines ss all.machines all.states
-    where
-      stays : (m : Machine) (z : MachineState) (es : List Exchange) → All ReadsIn es → state_by m z es ≡ z
-      stays m z [] reads = refl
-      stays m z (e ∷ es) reads = ap (λ (y : MachineState). state_by m y es) (All-head ReadsIn e es reads m z) ∙ stays m z es (All-tail ReadsIn e es reads)
 
 -- ---- one call to some
 

@@ -3,7 +3,7 @@ use Rattle.std.proofs.Common.{◌≡◌, ◌⊎◌, inl, inr, ℕ, suc, ◌+◌,
 use Rattle.std.specs.Prelude.{All, if◌then◌else◌, slice_get, unwrap_or}
 use Rattle.std.specs.Result.{result_ok}
 use Rattle.std.proofs.lemmas.List.Elements.{All-append, All-cons, All-head, All-nil, All-tail}
-use Rattle.std.proofs.lemmas.Option.{slice_get_within}
+use Rattle.std.proofs.lemmas.Option.{same_Some, slice_get_within}
 use Rattle.fmi_calls.specs.declared.call.Call.{Call}
 use Rattle.fmi_calls.specs.declared.call.Call.TheVariants as C
 use Rattle.fmi_calls.specs.declared.call.Interval.{Interval}
@@ -38,7 +38,7 @@ use Rattle.event_iteration.proofs.Fmus.{at_fmu-is, got}
 use Rattle.event_iteration.proofs.Rounds.{components_there}
 use Rattle.event_iteration.proofs.Said.{all_said_by, said_at, said_by}
 use Rattle.event_iteration.proofs.Setting.{in_order, port_number}
-use Rattle.event_iteration.proofs.Stages.{AreAll, IsRead, IsShown, fmu_of, reads_shown, reads_stay}
+use Rattle.event_iteration.proofs.Stages.{AreAll, IsRead, IsShown, Reads, fmu_of, reads_shown}
 use Rattle.event_iteration.proofs.WalkAnswers.{last_alone_is_bad}
 use Rattle.event_iteration.proofs.Walking.{call_at-is, said-is}
 
@@ -53,18 +53,21 @@ asked_once P i Output port reply h = All-nil (λ (s : Sent). P s.exchange.call)
 asked_once P i (ClockInput feed) port reply h = All-nil (λ (s : Sent). P s.exchange.call)
 asked_once P i ClockOutput port reply h = All-nil (λ (s : Sent). P s.exchange.call)
 
--- a question changes no machine
-abbrev Reads : Call → Type 0
-Reads call = (m : Machine) (z : MachineState) → after m z call ≡ z
+-- a question for an interval asks for one of a countdown Clock
+pub asked_interval : (role : Role) (port : Port) (call : Call) → asks_interval role port ≡ Some call → (role ≡ TimeClock Countdown) × (call ≡ C.GetInterval port.reference)
+asked_interval (TimeClock Countdown) port call h = (refl, sym (same_Some _ _ h))
+asked_interval (TimeClock (Periodic interval shift)) port call h = absurd (cc)
+asked_interval (TimeClock Answered) port call h = absurd (cc)
+asked_interval (Input feed) port call h = absurd (cc)
+asked_interval Output port call h = absurd (cc)
+asked_interval (ClockInput feed) port call h = absurd (cc)
+asked_interval ClockOutput port call h = absurd (cc)
 
-abbrev ReadsAll : List Sent → Type 0
-ReadsAll log = All (λ (s : Sent). Reads s.exchange.call) log
-
-pub intervals_read : (system : System) (before values : List (Option ℤ)) (taken : List ℕ) (log : List Sent) → Explains system intervals before taken values log → ReadsAll log
+pub intervals_read : (system : System) (before values : List (Option ℤ)) (taken : List ℕ) (log : List Sent) → Explains system intervals before taken values log → All IsRead log
 intervals_read system before values taken log e =
-    subst ReadsAll (sym e.log_is)
-    (all_said_by (λ (s : Sent). Reads s.exchange.call) system intervals values e.replies taken
-    (λ k d w. said_by (λ (s : Sent). Reads s.exchange.call) system intervals values e.replies _ (λ port c is of. asked_once Reads port.component.0 port.role port (e.replies _) (λ m z. refl))))
+    subst (All IsRead) (sym e.log_is)
+    (all_said_by IsRead system intervals values e.replies taken
+    (λ k d w. said_by IsRead system intervals values e.replies _ (λ port c is of. asked_once Reads port.component.0 port.role port (e.replies _) (λ m z. refl))))
 
 -- ---- countdown Clocks
 
@@ -157,7 +160,7 @@ module _ (system : System) where
   pub timings_are : All (IsTimingOf system) (timing_calls system)
   timings_are = timings_in system.ports (all_by_place Both system.ports (λ p port is. timing_of p port is port.role refl))
 
-  pub timings_read : (log : List Sent) → All (λ (s : Sent). IsTimingOf system (asking_of s)) log → ReadsAll log
+  pub timings_read : (log : List Sent) → All (λ (s : Sent). IsTimingOf system (asking_of s)) log → All IsRead log
   timings_read log all = λ k d w. reads (all k d w).call_is where
     reads : {call : Call} {reference : ℕ} → (call ≡ C.GetInterval reference) ⊎ (call ≡ C.GetShift reference) → Reads call
     reads (inl is) m z = ap (after m z) is
@@ -220,7 +223,7 @@ module _ (r : Run) (ss : List MachineState) (all : AreAll r ss) where
   first_from (port ∷ ports) there log calls shown = first_here port ports (All-head IsThere port ports there) (first_from ports (All-tail IsThere port ports there)) port.role log calls shown
 
   module _ (log : List Sent) (answered : IsAnswered (shapes_of r.system) (timing_calls r.system) log) where
-    pub fixed_read : ReadsAll log
+    pub fixed_read : All IsRead log
     fixed_read = timings_read r.system log (sent_all (IsTimingOf r.system) log (timing_calls r.system) answered.calls_are (timings_are r.system))
 
     -- the timers that the answers tell are those of the run

@@ -171,9 +171,8 @@ module _ (system : System) (sound : IsSound system) where
       (λ p m. there_at system sound p (sound.instant_order.only p m)) taken left is values log told
 
   -- of the Sets before a step
-  pub setting_back : (now : List (Option ℤ)) → length now ≡ length system.ports → (taken left : List ℕ) → port_order system ≡ taken ++ left → (log : List Sent) → Explains system (before_step now) now taken now log →
-      Walked system (before_step now) now taken now log
-  setting_back now len taken left is log told =
-      walked_to system (before_step now) now taken now log len
-      (walked_back (λ q. q < length system.ports) NoNeeds system (before_step now) (about_setting system now) now (port_order system) (in_order system) len
-      (λ p m. there_at system sound p ((in_order system).only p m)) taken left is now log told)
+  pub setting_back : (now : List (Option ℤ)) → length now ≡ length system.ports → (taken left : List ℕ) → port_order system ≡ taken ++ left → (values : List (Option ℤ)) (log : List Sent) → Explains system (before_step now) now taken values log →
+      IsWalked system (before_step now) now taken values log
+  setting_back now len taken left is values log told =
+      walked_back (λ q. q < length system.ports) NoNeeds system (before_step now) (about_setting system now) now (port_order system) (in_order system) len
+      (λ p m. there_at system sound p ((in_order system).only p m)) taken left is values log told

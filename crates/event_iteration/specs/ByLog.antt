@@ -82,7 +82,7 @@ UpdatesByLog =
 -- the Sets behind EnterStep lead to the states of its beginning
 abbrev pub SetsByLog : Type 0
 SetsByLog =
-    (r : Run) (s : Situation) (log : List Sent) → IsSound r.system →
+    (r : Run) (s : Situation) (values : List (Option ℤ)) (log : List Sent) → IsSound r.system →
     length s.before ≡ length r.system.ports →
-    Explains r.system (before_step s.before) s.before (port_order r.system) s.before log →
+    Explains r.system (before_step s.before) s.before (port_order r.system) values log →
     states_by r (entered_step r s) log ≡ departing r s

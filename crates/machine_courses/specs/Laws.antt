@@ -23,6 +23,7 @@ pub record IsRunOf (r : Run) (made log : List Sent) (is : List Instant) (end : R
     (o : Output) : Type 0 where
   pub sound : IsSound r.system
   pub built : IsBuilt r.system
+  pub plan : IsPlan r.plan
   pub machines : AreMachines r
   pub making : IsAnswered (shapes_of r.system) (making r.system) made
   pub replies : AreReplies r (first_states r) (made ++ log)
@@ -39,12 +40,13 @@ RunByLog =
 abbrev pub TraceByLog : Type 0
 TraceByLog =
     (r : Run) (made log : List Sent) (is : List Instant) (end : RunEnd) (o : Output) →
-    BindsParameters r.system r.bound → IsPlan r.plan → WellBehaved r →
+    BindsParameters r.system r.bound → WellBehaved r →
     IsRunOf r made log is end o → TracesWell r log o end
 
 -- and none of them isn't made, but for a call that failed
 abbrev pub UnmadeByLog : Type 0
 UnmadeByLog =
-    (r : Run) (bad : BadAnswer) (log : List Sent) → AreMachines r → WellBehaved r →
+    (r : Run) (bad : BadAnswer) (log : List Sent) →
+    length r.machines ≡ length r.system.components → WellBehaved r →
     AreReplies r (first_states r) log → StopsAt (shapes_of r.system) (making r.system) bad log →
     IsLost (length r.system.components) log bad.why
