@@ -1,3 +1,7 @@
+use Rattle.course_laws.proofs.UpdatesNeeded.{asks}
+use Rattle.course_laws.proofs.UpdateTables.{talks_needed}
+use Rattle.course_laws.proofs.UpdateMarks.{again_same}
+use Rattle.course_laws.proofs.ArmedClocks.{rearmed_armed}
 use Rattle.course_laws.proofs.CallsOnce.{no_call_twice}
 use Rattle.course_laws.proofs.FirstBad.{first_bad_answer}
 use Rattle.course_laws.proofs.RunEnds.{ends_come}
