@@ -6,3 +6,5 @@ pub mod Bindings
 pub mod Sizes
 pub mod Stands
 pub mod ScheduleSteps
+pub mod Onto
+pub mod Stages

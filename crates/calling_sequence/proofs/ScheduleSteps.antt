@@ -1,5 +1,5 @@
 -- The bound of a step by the schedule's next tick, and where the schedule stands behind the step.
-use Rattle.std.proofs.Common.{◌≡◌, ℕ, zero, suc, ◌+◌, ◌*◌, ◌<◌, ◌≤◌, Bool, true, false, List, [], ◌∷◌, Option, Some, None, refl, sym, ap, ◌∙◌, subst, arith, get_or, map}
+use Rattle.std.proofs.Common.{◌≡◌, ℕ, ℤ, length, zero, suc, ◌+◌, ◌*◌, ◌<◌, ◌≤◌, Bool, true, false, List, [], ◌∷◌, Option, Some, None, refl, sym, ap, ◌∙◌, subst, arith, get_or, map}
 use Rattle.std.specs.Prelude.{All, IsSomeAnd, ◌||◌, ◌==◌, min, nat_lt, slice_get}
 use Rattle.std.specs.List.{list_any}
 use Rattle.std.proofs.Math.Nat.{mul-le-mul_left}
@@ -14,8 +14,10 @@ use Rattle.system_model.specs.declared.system.System.{System}
 use Rattle.run_model.specs.Run.{Timer}
 use Rattle.run_model.specs.Steps.{AtTick, IsBound, IsMark, OnGrid, OnStop, SomeTicksAt}
 use Rattle.run_model.specs.Timers.{TicksAt as TimerTicksAt, is_armed_for}
-use Rattle.event_iteration.specs.Clocks.{IsNextFrom, StandsAt, timer_in, timers_in}
+use Rattle.event_iteration.proofs.ClockTicks.{are_ticks}
+use Rattle.event_iteration.specs.Clocks.{AreTicks, IsNextFrom, StandsAt, first_table, is_due_at, timer_in, timers_in}
 use Rattle.event_iteration.specs.Intervals.{is_some_armed}
+use Rattle.calling_sequence.specs.Course.{Begins}
 
 -- ---- one Clock
 
@@ -186,3 +188,16 @@ module _ (system : System) (plan : Plan) (table : Timetable) (t to : ℕ) (stand
         next_by k (get_or table.clocks k d) is (stands.next k d w) (none_armed_at t table.clocks none k (get_or table.clocks k d) is);
     within = let most : to ≤ plan.stop = b.least plan.stop before (OnStop refl) in omega (arith, most, stops);
   }
+
+-- ---- the schedule before a run, and the ticks of one that begins where the run does
+
+pub first_again : (system : System) (table : Timetable) (start stop : ℕ) → table ≡ first_table system start stop → table ≡ first_table system table.start table.stop
+first_again system table start stop is =
+    is ∙ ap (λ (a : ℕ). first_table system a stop) (sym (ap (λ (x : Timetable). x.start) is)) ∙ ap (λ (b : ℕ). first_table system table.start b) (sym (ap (λ (x : Timetable). x.stop) is))
+
+pub begins : (system : System) (plan : Plan) (table : Timetable) (t n : ℕ) (is_first : Bool) (values : List (Option ℤ)) → length values ≡ length system.ports → table.start ≡ plan.start → StandsAt system t is_first table → (n == 0) ≡ is_first →
+    Begins system plan (record { t = t; n = n; values = values; timers = timers_in table }) (is_due_at table t)
+begins system plan table t n is_first values known starts stands first = record {
+  known = known;
+  are_ticks = subst (λ (s : ℕ). AreTicks system s (timers_in table) t n (is_due_at table t)) starts (are_ticks system t is_first table stands n first);
+}
