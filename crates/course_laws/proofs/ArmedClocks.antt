@@ -167,7 +167,7 @@ countdown_or Output per_second t v reply timer old h = inr h
 countdown_or (ClockInput feed) per_second t v reply timer old h = inr h
 countdown_or ClockOutput per_second t v reply timer old h = inr h
 
-module _ (system : System) (sound : IsSound system) (per_second : ℕ) (above : 0 < per_second) (t : ℕ) (values : List (Option ℤ)) (olds news : List Timer) (log : List Sent) (rearms : Rearms system per_second t values olds news log) (armable : AreArmable system olds) where
+module _ (system : System) (sound : IsSound system) (per_second t : ℕ) (values : List (Option ℤ)) (olds news : List Timer) (log : List Sent) (rearms : Rearms system per_second t values olds news log) (armable : AreArmable system olds) where
   abbrev replies : ℕ → Option Reply
   replies = rearms.explains.replies
 
@@ -225,7 +225,7 @@ module _ (system : System) (sound : IsSound system) (per_second : ℕ) (above : 
       let b = all_said system intervals values replies order in
       ap (list_any f) (part_append i a b) ∙ list_any-append f (part i a) (part i b) ∙ or_right _ _ (among f i order j p at h)
 
-  module _ (taken : AreTaken system t values olds) (p : ℕ) (port : Port) (at : slice_get system.ports p ≡ Some port) (role : port.role ≡ TimeClock Countdown) where
+  module _ (above : (i : ℕ) (c : Component) → slice_get system.components i ≡ Some c → 0 < per_second) (taken : AreTaken system t values olds) (p : ℕ) (port : Port) (at : slice_get system.ports p ≡ Some port) (role : port.role ≡ TimeClock Countdown) where
     placed : Placed system p port
     placed = place_of system sound p port at
 
@@ -255,7 +255,7 @@ module _ (system : System) (sound : IsSound system) (per_second : ℕ) (above : 
     by_counts f is None same h = absurd (cc)
     by_counts f is (Some c) same h =
         let none : c ≡ 0 = (let e = once_same t (t + c) h in omega (arith, e)) in
-        told_here f is (counter_none f per_second above _ refl (same ∙ ap Some none))
+        told_here f is (counter_none f per_second (above port.component.0 placed.component placed.is.of) _ refl (same ∙ ap Some none))
 
     by_old : (b : Bool) → is_active (value values p) ≡ b → (old : Timer) → slice_get olds p ≡ Some old → Once t ≡ (if b then Never else old) → IsArmed system log
     by_old true active old old_at h = absurd (cc)
@@ -266,8 +266,8 @@ module _ (system : System) (sound : IsSound system) (per_second : ℕ) (above : 
     by_interval (Unchanged f) is old old_at h = by_old (is_active (value values p)) refl old old_at h
     by_interval (Changed f) is old old_at h = by_counts f is (counts_of f per_second) refl h
 
-  pub rearmed_armed : AreTaken system t values olds → is_some_armed t news ≡ true → IsArmed system log
-  rearmed_armed taken h =
+  pub rearmed_armed : ((i : ℕ) (c : Component) → slice_get system.components i ≡ Some c → 0 < per_second) → AreTaken system t values olds → is_some_armed t news ≡ true → IsArmed system log
+  rearmed_armed above taken h =
       let some = some_once t news h in
       let p = some.0 in
       let b = here_behind p (Once t) some.1 in
@@ -275,4 +275,4 @@ module _ (system : System) (sound : IsSound system) (per_second : ℕ) (above : 
       let is : Once t ≡ timer_behind (TimeClock Countdown) per_second t (value values p) (replies p) b.old =
       subst (λ (r : Role). Once t ≡ timer_behind r per_second t (value values p) (replies p) b.old) role
       (subst (λ (q : ℕ). Once t ≡ timer_behind b.port.role per_second t (value values q) (replies q) b.old) (let e : 0 + p ≡ p = omega arith in e) b.is) in
-      by_interval taken p b.port b.port_at role (interval_by (replies p)) refl b.old b.old_at is
+      by_interval above taken p b.port b.port_at role (interval_by (replies p)) refl b.old b.old_at is
