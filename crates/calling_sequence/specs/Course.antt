@@ -71,7 +71,8 @@ part_at system bound plan (Seen s again asked) = Calls []
 part_at system bound plan (Leaving w) = Calls (entering_step system)
 part_at system bound plan (Left w) = Walk (before_step w.s.values) w.s.values (port_order system)
 part_at system bound plan (Departing w) = Round (stepping system w.s.t w.to)
-part_at system bound plan (Stepped s asked) = Calls (entering_event system)
+part_at system bound plan (Stepped s true) = Calls []
+part_at system bound plan (Stepped s false) = Calls (entering_event system)
 
 -- ---- from place to place
 

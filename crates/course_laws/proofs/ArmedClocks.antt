@@ -1,5 +1,5 @@
 -- Where a Clock is armed for the point of an instant behind it, it was armed in that instant: its FMU answered a new interval of no length (FMI 3.0, 2.2.9: countdown Clocks).
-use Rattle.std.proofs.Common.{◌≡◌, ◌⊎◌, inl, inr, ℕ, zero, suc, ◌+◌, ◌*◌, ◌/◌, ◌%◌, ◌<◌, ◌==◌, ℤ, Bool, true, false, not, List, [], ◌∷◌, ◌++◌, Option, Some, None, Ok, Result, refl, sym, ap, ◌∙◌, subst, arith}
+use Rattle.std.proofs.Common.{◌≡◌, ◌⊎◌, inl, inr, ℕ, zero, suc, ◌+◌, ◌*◌, ◌/◌, ◌%◌, ◌<◌, ◌==◌, ℤ, Bool, true, false, not, List, [], ◌∷◌, Option, Some, None, Ok, Result, refl, sym, ap, ◌∙◌, subst, arith}
 use Rattle.std.specs.Prelude.{◌&&◌, ◌||◌, if◌then◌else◌}
 use Rattle.std.specs.List.{list_any, slice_get}
 use Rattle.std.specs.Option.{option_and_then, option_map_or}
@@ -39,7 +39,7 @@ use Rattle.slot_calls.proofs.Logs.{part_append, part_own}
 use Rattle.event_iteration.specs.Clocks.{AreTicks}
 use Rattle.event_iteration.specs.Explains.{Explains, all_said, call_at, said}
 use Rattle.event_iteration.specs.Instants.{in_instant, takes_in_instant, tick_value}
-use Rattle.event_iteration.specs.Intervals.{Rearms, asks_interval, first_told, first_told_by, first_told_in, interval_by, intervals, is_some_armed, log_behind, shift_by, timer_behind, timers_behind, timers_behind_from}
+use Rattle.event_iteration.specs.Intervals.{Rearms, asks_interval, first_told, first_told_by, first_told_in, interval_by, intervals, is_some_armed, log_behind, shift_by, timer_behind, timers_behind_from}
 use Rattle.event_iteration.specs.Settings.{port_order}
 use Rattle.event_iteration.specs.Turns.{sent_of}
 use Rattle.event_iteration.specs.WalkCalls.{has_events_at}

@@ -1,6 +1,6 @@
 -- The calls of one component along a run: each is one of a run, and none stands twice where it isn't needed.
 use Rattle.std.proofs.Common.{◌≡◌, ℕ, zero, suc, ◌-◌, ◌<◌, ◌≤◌, ◌==◌, Bool, true, false, List, [], ◌∷◌, ◌++◌, Option, Some, ℤ, refl, sym, ap, ◌∙◌, subst, append_assoc, append-nil, arith, length}
-use Rattle.std.specs.Prelude.{All, if◌then◌else◌}
+use Rattle.std.specs.Prelude.{if◌then◌else◌}
 use Rattle.std.specs.List.{slice_get}
 use Rattle.std.proofs.lemmas.List.Elements.{All-cons, All-nil}
 use Rattle.value_types.specs.declared.shape.Shape.{Shape}
@@ -24,7 +24,7 @@ use Rattle.slot_calls.proofs.Parts.{other}
 use Rattle.event_iteration.specs.WalkCalls.{Front, UsesAre, WalksBy, Whole, has_events_at, initial_span, instant_span, interval_span, own, step_span, timing_span}
 use Rattle.event_iteration.proofs.WalkLaws.{each_call_once, own_append}
 use Rattle.calling_sequence.specs.Calls.{making}
-use Rattle.calling_sequence.specs.Course.{Again, Arrives, Before, Binds, Configured, Course, Departing, Entered, Enters, Exits, Finds, Found, GoesOn, LeadsTo, Leaves, Leaving, Left, Made, Place, Read, Reads, Rearmed, Rearming, Seen, Sets, Spot, Stepped, Steps, Timed, Times, Updates, Way, part_at}
+use Rattle.calling_sequence.specs.Course.{Again, Arrives, Before, Binds, Configured, Course, Departing, Entered, Enters, Exits, Finds, Found, GoesOn, LeadsTo, Leaves, Leaving, Left, Made, Place, Read, Reads, Rearmed, Rearming, Seen, Sets, Spot, Stepped, Steps, Timed, Times, Updates, part_at}
 use Rattle.calling_sequence.specs.Parts.{Calls, Does, Falls, Part, Round, Walk}
 use Rattle.calling_sequence.proofs.Along.{along}
 use Rattle.course_laws.specs.Laws.{AreNeeded, NoCallTwice}
@@ -233,9 +233,13 @@ module _ (system : System) (sound : IsSound system) (k : ℕ) (c : Component) (o
         let m = limit stepped_kinds w.to 1 in
         let call = C.DoStep w.s.t (w.to - w.s.t) in
         to_all l m calls so call (called l m calls so call refl (λ once. differ_step l (w.to - w.s.t)) refl (NamesNone refl refl later))
-    adds (Stepped s asked) calls later so =
-        let l = limit_at e (Stepped s asked) in
-        let m = limit_behind e plan (Stepped s asked) in
+    adds (Stepped s true) calls later so =
+        let l = limit_at e (Stepped s true) in
+        let m = limit_behind e plan (Stepped s true) in
+        subst (IsSo m) (sym (append-nil calls)) (weaker l m calls so (more_seen l m stepped_at_point refl (stepped_seen e)))
+    adds (Stepped s false) calls later so =
+        let l = limit_at e (Stepped s false) in
+        let m = limit_behind e plan (Stepped s false) in
         to_events m calls C.EnterEvent
         (switched l m calls so e C.EnterEvent refl (λ once. differ_by l C.EnterEvent refl refl) refl (NamesNone refl refl tt) (λ none. more_seen l m stepped_at_point refl (stepped_seen e)))
 

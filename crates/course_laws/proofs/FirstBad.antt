@@ -1,5 +1,5 @@
 -- The answers of a run: all are good, or up to the first that isn't.
-use Rattle.std.proofs.Common.{ℕ, zero, suc, ◌+◌, ◌<◌, ◌≤◌, ◌≡◌, ℤ, Bool, List, [], ◌∷◌, ◌++◌, Option, Some, None, refl, sym, arith, length, subst, append_assoc}
+use Rattle.std.proofs.Common.{ℕ, suc, ◌+◌, ◌<◌, ◌≤◌, ◌≡◌, ℤ, Bool, true, false, List, [], ◌∷◌, ◌++◌, Option, Some, refl, arith, length, subst, append_assoc}
 use Rattle.std.specs.Prelude.{All}
 use Rattle.std.specs.List.{slice_get}
 use Rattle.std.proofs.lemmas.List.{length-map}
@@ -25,12 +25,12 @@ use Rattle.system_model.specs.Text.{Instant}
 use Rattle.system_model.proofs.SoundLemmas.{place_of}
 use Rattle.run_model.specs.Initial.{set_call}
 use Rattle.slot_calls.specs.declared.bad_answer.BadAnswer.{BadAnswer}
-use Rattle.slot_calls.specs.Log.{Asking, Sent}
+use Rattle.slot_calls.specs.Log.{Sent}
 use Rattle.slot_calls.specs.Stage.{IsGoodOf, everyone, shapes_of, to_those}
 use Rattle.slot_calls.proofs.Parts.{those_within}
-use Rattle.event_iteration.specs.Intervals.{timing_calls, timing_calls_in, timing_calls_of}
+use Rattle.event_iteration.specs.Intervals.{timing_calls_in, timing_calls_of}
 use Rattle.event_iteration.proofs.WalkLaws.{last_alone_is_bad}
-use Rattle.calling_sequence.specs.Calls.{binding, binding_from, making, sets_of}
+use Rattle.calling_sequence.specs.Calls.{binding_from, making, sets_of}
 use Rattle.calling_sequence.specs.Course.{Before, Configured, Course, Departing, Entered, Found, Left, Leaving, Made, Place, Read, Rearmed, Seen, Stepped, Timed, part_at}
 use Rattle.calling_sequence.specs.Parts.{Calls, Does, EndsBadly, Falls, Part, Round, Walk}
 use Rattle.calling_sequence.proofs.Along.{along}
@@ -113,7 +113,8 @@ module _ (system : System) where
     part_placed (Leaving w) = those _ _
     part_placed (Left w) = tt
     part_placed (Departing w) = (those _ _, in_order_from _ 0 0 ss (omega arith))
-    part_placed (Stepped s asked) = those _ _
+    part_placed (Stepped s true) = All-nil (IsToOne (length ss))
+    part_placed (Stepped s false) = those _ _
 
     course_good : (p : Place) (log : List Sent) (is : List Instant) → Course system bound plan p log is → Good log
     course_good = along system bound plan (λ p log is. Good log) (All-nil (IsGoodOf ss))

@@ -1,6 +1,6 @@
 -- The Updates along the course of a run, and the timers that its Clocks have there.
-use Rattle.std.proofs.Common.{◌≡◌, inl, inr, ℕ, suc, ◌<◌, ◌==◌, ℤ, Bool, true, false, List, [], ◌∷◌, ◌++◌, Option, Some, refl, sym, ap, ◌∙◌, subst, append_assoc, append-nil, arith, length}
-use Rattle.std.specs.Prelude.{All, ◌||◌, if◌then◌else◌}
+use Rattle.std.proofs.Common.{◌≡◌, ℕ, suc, ◌<◌, ◌==◌, ℤ, Bool, true, false, List, [], ◌∷◌, ◌++◌, Option, Some, refl, sym, ap, ◌∙◌, subst, append_assoc, append-nil, arith, length}
+use Rattle.std.specs.Prelude.{All, if◌then◌else◌}
 use Rattle.std.specs.List.{slice_get}
 use Rattle.std.proofs.lemmas.List.Elements.{All-cons, All-head, All-nil, All-tail, All-weaker}
 use Rattle.value_types.specs.declared.shape.Shape.{Shape}
@@ -15,17 +15,16 @@ use Rattle.system_model.specs.Bounds.{BindsParameters}
 use Rattle.system_model.specs.Sound.{IsSound}
 use Rattle.system_model.specs.Text.{Instant}
 use Rattle.system_model.proofs.Lists.{all_at}
-use Rattle.run_model.specs.Run.{Timer}
 use Rattle.slot_calls.specs.declared.bad_answer.BadAnswer.{BadAnswer}
 use Rattle.slot_calls.specs.Log.{Asking, Sent, askings}
-use Rattle.slot_calls.specs.Stage.{everyone, has_events, shapes_of, to_those, to_those_from}
+use Rattle.slot_calls.specs.Stage.{everyone, shapes_of, to_those}
 use Rattle.slot_calls.proofs.Parts.{those_calls}
 use Rattle.event_iteration.specs.Clocks.{AreTicks}
 use Rattle.event_iteration.specs.Intervals.{is_some_armed}
 use Rattle.event_iteration.specs.WalkCalls.{AreNew, Front, IsUse, Span, UsesAre, WalkUses, WalksBy, Whole, has_events_at, initial_span, instant_span, interval_span, own, step_span, use_in}
 use Rattle.event_iteration.proofs.WalkLaws.{each_call_once, own_append}
 use Rattle.calling_sequence.specs.Calls.{making}
-use Rattle.calling_sequence.specs.Course.{Again, Arrives, Before, Begins, Binds, Configured, Course, Departing, Entered, Enters, Exits, Finds, Found, GoesOn, LeadsTo, Leaves, Leaving, Left, Made, Place, Read, Reads, Rearmed, Rearming, Seen, Sets, Spot, Stepped, Steps, Timed, Times, Updates, Way, part_at}
+use Rattle.calling_sequence.specs.Course.{Again, Arrives, Before, Binds, Configured, Course, Departing, Entered, Enters, Exits, Finds, Found, GoesOn, LeadsTo, Leaves, Leaving, Left, Made, Place, Read, Reads, Rearmed, Rearming, Seen, Sets, Spot, Stepped, Steps, Timed, Times, Updates, part_at}
 use Rattle.calling_sequence.specs.Parts.{Calls, Does, Falls, Part, Round, Walk}
 use Rattle.calling_sequence.specs.Plans.{CountsBy}
 use Rattle.calling_sequence.proofs.Along.{along}
@@ -35,7 +34,7 @@ use Rattle.course_laws.proofs.ArmedClocks.{AreArmable, AreTaken, first_armable, 
 use Rattle.course_laws.proofs.BoundSets.{binding_new, setting_span}
 use Rattle.course_laws.proofs.Once.{front_all}
 use Rattle.course_laws.proofs.UpdateMarks.{IsNoUpdate, IsQuiet, quiet_no}
-use Rattle.course_laws.proofs.UpdateTables.{AreAskedFor, Table, marks_in, talks_needed}
+use Rattle.course_laws.proofs.UpdateTables.{AreAskedFor, marks_in, talks_needed}
 use Rattle.course_laws.proofs.UpdatesNeeded.{Asked, SomeArmed, Talks, Throughout, arm, asks, calm, leave, nothing_yet, quiet, still, still_asked, stopped, updated}
 
 -- ---- the calls of parts
@@ -107,7 +106,8 @@ module _ (system : System) (sound : IsSound system) (bound : Bound) (plan : Plan
   calls_are (Leaving w) = those system IsNoUpdate _ _ (λ s. tt)
   calls_are (Left w) = walk_quiet _ _ _ step_span (uses.step w.s.values)
   calls_are (Departing w) = those system IsQuiet _ _ (λ s. tt)
-  calls_are (Stepped s asked) = those system IsQuiet _ _ (λ s. tt)
+  calls_are (Stepped s true) = λ i. All-nil IsQuiet
+  calls_are (Stepped s false) = those system IsQuiet _ _ (λ s. tt)
 
   -- ---- the timers of the Clocks
 
