@@ -121,20 +121,10 @@ IsLater (Departing w) = w.s.t < w.to
 IsLater p = Unit {0}
 
 later_on : (system : System) (plan : Plan) (p q : Place) (values : List (Option ℤ)) (log : List Sent) → LeadsTo system plan p values log q → IsLater p → IsLater q
-later_on system plan _ _ _ _ (Binds values log) later = tt
-later_on system plan _ _ _ _ (Enters values log) later = tt
-later_on system plan _ _ _ _ (Finds values log) later = tt
-later_on system plan _ _ _ _ (Times values log timers is) later = tt
-later_on system plan _ _ _ _ (Exits timers values log s ticks is begins) later = tt
-later_on system plan _ _ _ _ (Reads s ticks values log places) later = tt
-later_on system plan _ _ _ _ (Rearming s values next log rearms) later = tt
-later_on system plan _ _ _ _ (Updates s values log again asked again_is asked_is) later = tt
-later_on system plan _ _ _ _ (Again s values log ticks below begins) later = tt
 later_on system plan _ _ _ _ (GoesOn w values log step) later = step.bound.bound.later
 later_on system plan _ _ _ _ (Leaves w values log) later = later
 later_on system plan _ _ _ _ (Sets w values log) later = later
-later_on system plan _ _ _ _ (Steps w values log asked is) later = tt
-later_on system plan _ _ _ _ (Arrives s values log ticks begins) later = tt
+later_on system plan _ _ _ _ leads later = tt
 
 -- ---- spans one behind the other
 
@@ -259,21 +249,10 @@ module _ (system : System) (sound : IsSound system) (k : ℕ) (c : Component) (o
     fallen (Walk rules before order) l calls a bad log (values, falls) = needed l (calls ++ mine log) (a log (Front bad values log falls))
 
     leads_so : (calls : List Call) (p q : Place) (values : List (Option ℤ)) (log : List Sent) → LeadsTo system plan p values log q → IsSo (limit_behind e plan p) calls → IsSo (limit_at e q) calls
-    leads_so calls _ _ _ _ (Binds values log) so = so
-    leads_so calls _ _ _ _ (Enters values log) so = so
-    leads_so calls _ _ _ _ (Finds values log) so = so
-    leads_so calls _ _ _ _ (Times values log timers is) so = so
     leads_so calls _ _ _ _ (Exits timers values log s ticks is begins) so = subst (λ (z : Spot). IsSo (limit_at e (Before z ticks)) calls) (sym is) so
-    leads_so calls _ _ _ _ (Reads s ticks values log places) so = so
-    leads_so calls _ _ _ _ (Rearming s values next log rearms) so = so
-    leads_so calls _ _ _ _ (Updates s values log again asked again_is asked_is) so = so
     leads_so calls _ _ _ _ (Again s values log ticks below begins) so =
         subst (λ (b : Bool). IsSo (limit point_kinds s.t (instant_span b e).from) calls) (sym (other (suc s.n) 0 (λ same. absurd (omega (arith, same))))) so
-    leads_so calls _ _ _ _ (GoesOn w values log step) so = so
-    leads_so calls _ _ _ _ (Leaves w values log) so = so
-    leads_so calls _ _ _ _ (Sets w values log) so = so
-    leads_so calls _ _ _ _ (Steps w values log asked is) so = so
-    leads_so calls _ _ _ _ (Arrives s values log ticks begins) so = so
+    leads_so calls _ _ _ _ leads so = so
 
     -- the calls that made it and those of a log
     abbrev upto : List Sent → List Call

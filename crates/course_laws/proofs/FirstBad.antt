@@ -53,12 +53,7 @@ module _ (n : ℕ) where
   timing_to_one (TimeClock Answered) port w =
       All-cons (IsToOne n) (record { component = port.component.0; call = C.GetInterval port.reference }) (record { component = port.component.0; call = C.GetShift port.reference } ∷ []) w
       (All-cons (IsToOne n) (record { component = port.component.0; call = C.GetShift port.reference }) [] w (All-nil (IsToOne n)))
-  timing_to_one (TimeClock (Periodic interval shift)) port w = All-nil (IsToOne n)
-  timing_to_one (TimeClock Countdown) port w = All-nil (IsToOne n)
-  timing_to_one (Input feed) port w = All-nil (IsToOne n)
-  timing_to_one Output port w = All-nil (IsToOne n)
-  timing_to_one (ClockInput feed) port w = All-nil (IsToOne n)
-  timing_to_one ClockOutput port w = All-nil (IsToOne n)
+  timing_to_one role port w = All-nil (IsToOne n)
 
   timings_to_one : (ports : List Port) → ((j : ℕ) (port : Port) → slice_get ports j ≡ Some port → port.component.0 < n) → All (IsToOne n) (timing_calls_in ports)
   timings_to_one [] inside = All-nil (IsToOne n)

@@ -131,20 +131,13 @@ module _ (system : System) (sound : IsSound system) (bound : Bound) (plan : Plan
       subst (λ (x : ℕ). 0 < x) (sym its ∙ mine) sound.components.above
 
   timers_on : (p q : Place) (values : List (Option ℤ)) (more : List Sent) → Does system (part_at system bound plan p) values more → LeadsTo system plan p values more q → TimersAt p → TimersAt q
-  timers_on _ _ _ _ does (Binds values log) at = tt
-  timers_on _ _ _ _ does (Enters values log) at = tt
-  timers_on _ _ _ _ does (Finds values log) at = tt
   timers_on _ _ _ _ does (Times values log timers is) at = subst (AreArmable system) (sym is) (first_armable system plan.resolution log)
   timers_on _ _ _ _ does (Exits timers values log s ticks is begins) at = (subst (λ (z : Spot). AreArmable system z.timers) (sym is) at, begins.are_ticks)
   timers_on _ _ _ _ does (Reads s ticks values log places) at = (at.0, instant_takes system sound plan.start s.t s.n s.timers ticks s.values values log at.1 does)
   timers_on _ _ _ _ does (Rearming s values next log rearms) at = rearmed_armable system sound plan.resolution s.t s.values s.timers next log rearms at.0
-  timers_on _ _ _ _ does (Updates s values log again asked again_is asked_is) at = at
   timers_on _ _ _ _ does (Again s values log ticks below begins) at = (at, begins.are_ticks)
-  timers_on _ _ _ _ does (GoesOn w values log step) at = at
-  timers_on _ _ _ _ does (Leaves w values log) at = at
-  timers_on _ _ _ _ does (Sets w values log) at = at
-  timers_on _ _ _ _ does (Steps w values log asked is) at = at
   timers_on _ _ _ _ does (Arrives s values log ticks begins) at = (at, begins.are_ticks)
+  timers_on _ _ _ _ does leads at = at
 
   -- ---- the Updates
 
