@@ -1,5 +1,5 @@
 -- Where a Clock is armed for the point of an instant behind it, it was armed in that instant: its FMU answered a new interval of no length (FMI 3.0, 2.2.9: countdown Clocks).
-use Rattle.std.proofs.Common.{◌≡◌, ◌⊎◌, inl, inr, ℕ, zero, suc, ◌+◌, ◌*◌, ◌/◌, ◌%◌, ◌<◌, ◌==◌, ℤ, Bool, true, false, not, List, [], ◌∷◌, ◌++◌, Option, Some, None, Ok, Result, refl, sym, ap, ◌∙◌, subst, arith}
+use Rattle.std.proofs.Common.{◌≡◌, ◌⊎◌, inl, inr, ℕ, zero, suc, ◌+◌, ◌*◌, ◌/◌, ◌%◌, ◌<◌, ◌==◌, ℤ, Bool, true, false, not, List, [], ◌∷◌, Option, Some, None, Ok, Result, refl, sym, ap, ◌∙◌, subst, arith}
 use Rattle.std.specs.Prelude.{◌&&◌, ◌||◌, if◌then◌else◌}
 use Rattle.std.specs.List.{list_any, slice_get}
 use Rattle.std.specs.Option.{option_and_then, option_map_or}
@@ -39,7 +39,7 @@ use Rattle.slot_calls.proofs.Logs.{part_append, part_own}
 use Rattle.event_iteration.specs.Clocks.{AreTicks}
 use Rattle.event_iteration.specs.Explains.{Explains, all_said, call_at, said}
 use Rattle.event_iteration.specs.Instants.{in_instant, takes_in_instant, tick_value}
-use Rattle.event_iteration.specs.Intervals.{Rearms, asks_interval, first_told, first_told_by, first_told_in, interval_by, intervals, is_some_armed, log_behind, shift_by, timer_behind, timers_behind, timers_behind_from}
+use Rattle.event_iteration.specs.Intervals.{Rearms, asks_interval, first_told, first_told_by, first_told_in, interval_by, intervals, is_some_armed, log_behind, shift_by, timer_behind, timers_behind_from}
 use Rattle.event_iteration.specs.Settings.{port_order}
 use Rattle.event_iteration.specs.Turns.{sent_of}
 use Rattle.event_iteration.specs.WalkCalls.{has_events_at}
@@ -67,9 +67,6 @@ AreArmable system timers = (p : ℕ) (port : Port) (point : ℕ) → slice_get s
 abbrev pub AreTaken : System → ℕ → List (Option ℤ) → List Timer → Type 0
 AreTaken system t values timers = (p : ℕ) (port : Port) → slice_get system.ports p ≡ Some port → port.role ≡ TimeClock Countdown → slice_get timers p ≡ Some (Once t) → is_active (value values p) ≡ true
 
-none_at : {X : Type 0} (p : ℕ) (x : X) → slice_get {X = X} [] p ≡ Some x → ⊥
-none_at p x h = absurd (none_some x h)
-
 -- ---- before the first instant none is armed
 
 periodic_not : (i s : Option ℕ) (point : ℕ) → periodic_of i s ≡ Once point → ⊥
@@ -86,15 +83,10 @@ told_not : (role : Role) (per_second : ℕ) (log : List Sent) (point : ℕ) → 
 told_not (TimeClock Answered) per_second (interval ∷ (shift ∷ log)) point h = fixed_not per_second (interval_by (reply_in interval.exchange)) (shift_by (reply_in shift.exchange)) point h
 told_not (TimeClock Answered) per_second (interval ∷ []) point h = absurd (cc)
 told_not (TimeClock Answered) per_second [] point h = absurd (cc)
-told_not (TimeClock (Periodic interval shift)) per_second log point h = absurd (cc)
-told_not (TimeClock Countdown) per_second log point h = absurd (cc)
-told_not (Input feed) per_second log point h = absurd (cc)
-told_not Output per_second log point h = absurd (cc)
-told_not (ClockInput feed) per_second log point h = absurd (cc)
-told_not ClockOutput per_second log point h = absurd (cc)
+told_not role per_second log point h = absurd (cc)
 
 first_not : (per_second : ℕ) (ports : List Port) (log : List Sent) (p point : ℕ) → slice_get (first_told_in per_second ports log) p ≡ Some (Once point) → ⊥
-first_not per_second [] log p point h = none_at p (Once point) h
+first_not per_second [] log p point h = absurd (cc)
 first_not per_second (port ∷ ports) log zero point h = told_not port.role per_second log point (same_Some _ _ h)
 first_not per_second (port ∷ ports) log (suc p) point h = first_not per_second ports (log_behind port.role log) p point h
 
@@ -114,6 +106,9 @@ instant_takes system sound start t n timers ticks before values log are explains
 
 -- ---- numbers
 
+is_equal : (a b : ℕ) → (a == b) ≡ true → a ≡ b
+is_equal a b h = grind (arith, nat_tests)
+
 -- no counts are no time
 none_of : (x r : ℕ) → x / r ≡ 0 → x % r ≡ 0 → x ≡ 0
 none_of x r q m = sym (div-add-mod x r) ∙ (let a : r * (x / r) ≡ r * 0 = ap (λ (y : ℕ). r * y) q in omega (arith, a, m))
@@ -122,24 +117,11 @@ positive : (per c : ℕ) → 0 < per → per * c ≡ 0 → c ≡ 0
 positive per zero h e = refl
 positive per (suc c) h e = absurd (omega (arith, h, e))
 
-is_equal : (a b : ℕ) → (a == b) ≡ true → a ≡ b
-is_equal a b h = grind (arith, nat_tests)
-
-is_zero : (c : ℕ) → c ≡ 0 → (c == 0) ≡ true
-is_zero c h = grind (arith, nat_tests)
-
-second_of : (a b : Bool) → (a && b) ≡ true → b ≡ true
-second_of true b h = h
-second_of false b h = absurd (cc)
-
--- the interval has no length
-counter_none : (f : Fraction) (per : ℕ) → 0 < per → (b : Bool) → (not (f.resolution == 0) && per * f.counter % f.resolution == 0) ≡ b → (if b then Some (per * f.counter / f.resolution) else None) ≡ Some 0 → f.counter ≡ 0
-counter_none f per above true test h =
-    positive per f.counter above (none_of (per * f.counter) f.resolution (same_Some _ _ h) (is_equal (per * f.counter % f.resolution) 0 (second_of (not (f.resolution == 0)) (per * f.counter % f.resolution == 0) test)))
-counter_none f per above false test h = absurd (cc)
-
-once_same : (a b : ℕ) → Once a ≡ Once b → a ≡ b
-once_same a b h = cc
+-- an interval of no counts has no length
+counter_none : (f : Fraction) (per : ℕ) → 0 < per → (a b : Bool) → (per * f.counter % f.resolution == 0) ≡ b → (if a && b then Some (per * f.counter / f.resolution) else None) ≡ Some 0 → f.counter ≡ 0
+counter_none f per above true true test h = positive per f.counter above (none_of (per * f.counter) f.resolution (same_Some _ _ h) (is_equal (per * f.counter % f.resolution) 0 test))
+counter_none f per above true false test h = absurd (cc)
+counter_none f per above false b test h = absurd (cc)
 
 -- ---- behind it
 
@@ -160,14 +142,9 @@ some_once t (Once point ∷ timers) h = by (point == t) refl h (some_once t time
 
 countdown_or : (role : Role) (per_second t : ℕ) (v : Option ℤ) (reply : Option Reply) (timer old : Timer) → timer ≡ timer_behind role per_second t v reply old → (role ≡ TimeClock Countdown) ⊎ (timer ≡ old)
 countdown_or (TimeClock Countdown) per_second t v reply timer old h = inl refl
-countdown_or (TimeClock (Periodic interval shift)) per_second t v reply timer old h = inr h
-countdown_or (TimeClock Answered) per_second t v reply timer old h = inr h
-countdown_or (Input feed) per_second t v reply timer old h = inr h
-countdown_or Output per_second t v reply timer old h = inr h
-countdown_or (ClockInput feed) per_second t v reply timer old h = inr h
-countdown_or ClockOutput per_second t v reply timer old h = inr h
+countdown_or role per_second t v reply timer old h = inr h
 
-module _ (system : System) (sound : IsSound system) (per_second : ℕ) (above : 0 < per_second) (t : ℕ) (values : List (Option ℤ)) (olds news : List Timer) (log : List Sent) (rearms : Rearms system per_second t values olds news log) (armable : AreArmable system olds) where
+module _ (system : System) (sound : IsSound system) (per_second t : ℕ) (values : List (Option ℤ)) (olds news : List Timer) (log : List Sent) (rearms : Rearms system per_second t values olds news log) (armable : AreArmable system olds) where
   abbrev replies : ℕ → Option Reply
   replies = rearms.explains.replies
 
@@ -180,8 +157,8 @@ module _ (system : System) (sound : IsSound system) (per_second : ℕ) (above : 
     is : timer ≡ timer_behind port.role per_second t (value values (p + j)) (replies (p + j)) old
 
   behind_at : (p : ℕ) (ports : List Port) (olds : List Timer) (j : ℕ) (timer : Timer) → slice_get (timers_behind_from per_second t values replies p ports olds) j ≡ Some timer → IsBehind p ports olds j timer
-  behind_at p [] olds j timer h = absurd (none_at j timer h)
-  behind_at p (port ∷ ports) [] j timer h = absurd (none_at j timer h)
+  behind_at p [] olds j timer h = absurd (cc)
+  behind_at p (port ∷ ports) [] j timer h = absurd (cc)
   behind_at p (port ∷ ports) (old ∷ olds) zero timer h = record {
     port = port;
     old = old;
@@ -215,7 +192,7 @@ module _ (system : System) (sound : IsSound system) (per_second : ℕ) (above : 
 
   -- what is said for one of the ports is among what is said for all
   among : (f : Exchange → Bool) (i : ℕ) (order : List ℕ) (j p : ℕ) → slice_get order j ≡ Some p → list_any f (part i (said system intervals values replies p)) ≡ true → list_any f (part i (all_said system intervals values replies order)) ≡ true
-  among f i [] j p at h = absurd (none_at j p at)
+  among f i [] j p at h = absurd (cc)
   among f i (q ∷ order) zero p at h =
       let a = said system intervals values replies q in
       let b = all_said system intervals values replies order in
@@ -225,7 +202,7 @@ module _ (system : System) (sound : IsSound system) (per_second : ℕ) (above : 
       let b = all_said system intervals values replies order in
       ap (list_any f) (part_append i a b) ∙ list_any-append f (part i a) (part i b) ∙ or_right _ _ (among f i order j p at h)
 
-  module _ (taken : AreTaken system t values olds) (p : ℕ) (port : Port) (at : slice_get system.ports p ≡ Some port) (role : port.role ≡ TimeClock Countdown) where
+  module _ (above : (i : ℕ) (c : Component) → slice_get system.components i ≡ Some c → 0 < per_second) (taken : AreTaken system t values olds) (p : ℕ) (port : Port) (at : slice_get system.ports p ≡ Some port) (role : port.role ≡ TimeClock Countdown) where
     placed : Placed system p port
     placed = place_of system sound p port at
 
@@ -244,7 +221,7 @@ module _ (system : System) (sound : IsSound system) (per_second : ℕ) (above : 
         let e : Exchange = record { call = C.GetInterval port.reference; result = Ok (R.Done told.0 (A.GetInterval (Changed f))) } in
         let i = port.component.0 in
         let here : list_any is_arming (part i (said system intervals values replies p)) ≡ true =
-        ap (λ (l : List Sent). list_any is_arming (part i l)) (said_here (R.Done told.0 (A.GetInterval (Changed f))) told.1) ∙ ap (list_any is_arming) (part_own i e) ∙ or_left (f.counter == 0) false (is_zero f.counter none) in
+        ap (λ (l : List Sent). list_any is_arming (part i l)) (said_here (R.Done told.0 (A.GetInterval (Changed f))) told.1) ∙ ap (list_any is_arming) (part_own i e) ∙ or_left (f.counter == 0) false (let zero : (f.counter == 0) ≡ true = grind (arith, nat_tests, none) in zero) in
         record {
           component = i;
           event = event;
@@ -254,8 +231,8 @@ module _ (system : System) (sound : IsSound system) (per_second : ℕ) (above : 
     by_counts : (f : Fraction) → interval_by (replies p) ≡ Changed f → (o : Option ℕ) → counts_of f per_second ≡ o → Once t ≡ armed_after t o → IsArmed system log
     by_counts f is None same h = absurd (cc)
     by_counts f is (Some c) same h =
-        let none : c ≡ 0 = (let e = once_same t (t + c) h in omega (arith, e)) in
-        told_here f is (counter_none f per_second above _ refl (same ∙ ap Some none))
+        let none : c ≡ 0 = (let e : t ≡ t + c = cc in omega (arith, e)) in
+        told_here f is (counter_none f per_second (above port.component.0 placed.component placed.is.of) _ _ refl (same ∙ ap Some none))
 
     by_old : (b : Bool) → is_active (value values p) ≡ b → (old : Timer) → slice_get olds p ≡ Some old → Once t ≡ (if b then Never else old) → IsArmed system log
     by_old true active old old_at h = absurd (cc)
@@ -266,8 +243,8 @@ module _ (system : System) (sound : IsSound system) (per_second : ℕ) (above : 
     by_interval (Unchanged f) is old old_at h = by_old (is_active (value values p)) refl old old_at h
     by_interval (Changed f) is old old_at h = by_counts f is (counts_of f per_second) refl h
 
-  pub rearmed_armed : AreTaken system t values olds → is_some_armed t news ≡ true → IsArmed system log
-  rearmed_armed taken h =
+  pub rearmed_armed : ((i : ℕ) (c : Component) → slice_get system.components i ≡ Some c → 0 < per_second) → AreTaken system t values olds → is_some_armed t news ≡ true → IsArmed system log
+  rearmed_armed above taken h =
       let some = some_once t news h in
       let p = some.0 in
       let b = here_behind p (Once t) some.1 in
@@ -275,4 +252,4 @@ module _ (system : System) (sound : IsSound system) (per_second : ℕ) (above : 
       let is : Once t ≡ timer_behind (TimeClock Countdown) per_second t (value values p) (replies p) b.old =
       subst (λ (r : Role). Once t ≡ timer_behind r per_second t (value values p) (replies p) b.old) role
       (subst (λ (q : ℕ). Once t ≡ timer_behind b.port.role per_second t (value values q) (replies q) b.old) (let e : 0 + p ≡ p = omega arith in e) b.is) in
-      by_interval taken p b.port b.port_at role (interval_by (replies p)) refl b.old b.old_at is
+      by_interval above taken p b.port b.port_at role (interval_by (replies p)) refl b.old b.old_at is

@@ -9,3 +9,4 @@ mod ArmedClocks
 mod UpdateMarks
 mod UpdateTables
 mod UpdatesNeeded
+mod UpdatesAlong

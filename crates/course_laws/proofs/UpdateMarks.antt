@@ -15,7 +15,6 @@ use Rattle.fmu_peer.specs.Updates as U
 use Rattle.fmu_peer.specs.Updates.{Stay, UpdateMark, marks_of, stay_behind, updates_from}
 use Rattle.run_model.specs.AfterInstant as F
 use Rattle.event_iteration.specs.Updates.{answer_passes}
-use Rattle.slot_calls.proofs.Parts.{first_same, rest_same}
 use Rattle.course_laws.specs.Laws.{calls_in}
 use Rattle.course_laws.proofs.ArmedClocks.{is_arming}
 
@@ -86,28 +85,24 @@ no_marks [] stay all = refl
 no_marks (e ∷ es) stay all =
     ap₂ ◌++◌ (no_mark e.call stay e.result (All-head IsNoUpdate e.call (calls_in es) all)) (no_marks es (stay_behind stay e.call e.result) (All-tail IsNoUpdate e.call (calls_in es) all))
 
+-- what each of such calls keeps, they keep together
+keep : (Q : Call → Type 0) (P : Stay → Type 0) → ((call : Call) (stay : Stay) (result : Result Reply PeerFault) → Q call → P stay → P (stay_behind stay call result)) → (es : List Exchange) (stay : Stay) → All Q (calls_in es) → P stay → P (stay_after stay es)
+keep Q P one [] stay all p = p
+keep Q P one (e ∷ es) stay all p = keep Q P one es (stay_behind stay e.call e.result) (All-tail Q e.call (calls_in es) all) (one e.call stay e.result (All-head Q e.call (calls_in es) all) p)
+
 pub quiet_stands : (es : List Exchange) (stay : Stay) → All IsQuiet (calls_in es) → (stay_after stay es).follows ≡ stay.follows
-quiet_stands [] stay all = refl
-quiet_stands (e ∷ es) stay all =
-    quiet_stands es (stay_behind stay e.call e.result) (All-tail IsQuiet e.call (calls_in es) all) ∙ quiet_follows e.call stay e.result (All-head IsQuiet e.call (calls_in es) all)
+quiet_stands es stay all = keep IsQuiet (λ (s : Stay). s.follows ≡ stay.follows) (λ call s result q p. quiet_follows call s result q ∙ p) es stay all refl
 
 -- without an Update none comes to stand before
 pub none_stands : (es : List Exchange) (stay : Stay) → All IsNoUpdate (calls_in es) → stay.follows ≡ false → (stay_after stay es).follows ≡ false
-none_stands [] stay all none = none
-none_stands (e ∷ es) stay all none =
-    none_stands es (stay_behind stay e.call e.result) (All-tail IsNoUpdate e.call (calls_in es) all) (none_follows e.call stay e.result (All-head IsNoUpdate e.call (calls_in es) all) none)
-
-arms_stay : (es : List Exchange) (stay : Stay) → All IsQuiet (calls_in es) → stay.arms ≡ true → (stay_after stay es).arms ≡ true
-arms_stay [] stay all armed = armed
-arms_stay (e ∷ es) stay all armed =
-    arms_stay es (stay_behind stay e.call e.result) (All-tail IsQuiet e.call (calls_in es) all) (quiet_arms e.call stay e.result (All-head IsQuiet e.call (calls_in es) all) armed)
+none_stands es stay all none = keep IsNoUpdate (λ (s : Stay). s.follows ≡ false) none_follows es stay all none
 
 -- a Clock that was armed stays so up to an Update
 pub arms_after : (es : List Exchange) (stay : Stay) → All IsQuiet (calls_in es) → list_any is_arming es ≡ true → (stay_after stay es).arms ≡ true
 arms_after [] stay all h = absurd (cc)
 arms_after (e ∷ es) stay all h = by (is_arming e) refl h (arms_after es (stay_behind stay e.call e.result) (All-tail IsQuiet e.call (calls_in es) all)) where
   by : (b : Bool) → is_arming e ≡ b → (b || list_any is_arming es) ≡ true → (list_any is_arming es ≡ true → (stay_after (stay_behind stay e.call e.result) es).arms ≡ true) → (stay_after (stay_behind stay e.call e.result) es).arms ≡ true
-  by true here h more = arms_stay es (stay_behind stay e.call e.result) (All-tail IsQuiet e.call (calls_in es) all) (arms_here e e.call refl stay here)
+  by true here h more = keep IsQuiet (λ (s : Stay). s.arms ≡ true) quiet_arms es (stay_behind stay e.call e.result) (All-tail IsQuiet e.call (calls_in es) all) (arms_here e e.call refl stay here)
   by false there h more = more h
 
 -- ---- one Update
@@ -122,8 +117,8 @@ pub data AtMost (has_event_mode : Bool) (es : List Exchange) : Type 0 where
 
 pub at_most : (b : Bool) (es : List Exchange) (left : List Call) → (if b then C.Update ∷ [] else []) ≡ calls_in es ++ left → AtMost b es
 at_most b [] left is = NoneOf refl
-at_most true (e ∷ []) left is = OneOf refl e refl (sym (first_same C.Update e.call [] left is))
-at_most true (e ∷ (f ∷ es)) left is = absurd (let wrong = rest_same C.Update e.call [] (f.call ∷ (calls_in es ++ left)) is in cc)
+at_most true (e ∷ []) left is = OneOf refl e refl (cc)
+at_most true (e ∷ (f ∷ es)) left is = absurd (cc)
 at_most false (e ∷ es) left is = absurd (cc)
 
 pub one_mark : (stay : Stay) (es : List Exchange) (e : Exchange) → es ≡ e ∷ [] → e.call ≡ C.Update → updates_from stay es ≡ mark_by stay e ∷ []
@@ -135,8 +130,8 @@ one_stands stay es e one is = ap (λ (l : List Exchange). (stay_after stay l).fo
 -- one call on the way into Step Mode
 pub left_stands : (stay : Stay) (b : Bool) (es : List Exchange) → stay.follows ≡ (if b then true else false) → calls_in es ≡ (if b then C.EnterStep ∷ [] else []) → (stay_after stay es).follows ≡ (if b then false else false)
 left_stands stay true [] is calls = absurd (cc)
-left_stands stay true (e ∷ []) is calls = ap (λ (c : Call). (stay_behind stay c e.result).follows) (first_same e.call C.EnterStep [] [] calls)
-left_stands stay true (e ∷ (f ∷ es)) is calls = absurd (let wrong = rest_same e.call C.EnterStep (f.call ∷ calls_in es) [] calls in cc)
+left_stands stay true (e ∷ []) is calls = ap (λ (c : Call). (stay_behind stay c e.result).follows) (let same : e.call ≡ C.EnterStep = cc in same)
+left_stands stay true (e ∷ (f ∷ es)) is calls = absurd (cc)
 left_stands stay false [] is calls = is
 left_stands stay false (e ∷ es) is calls = absurd (cc)
 

@@ -1,31 +1,26 @@
 -- The Updates along a run: each FMU with event mode has one in an instant, which follows another at the same point only where one of those asked for another, and none for the end.
-use Rattle.std.proofs.Common.{◌≡◌, inl, inr, ℕ, suc, ◌<◌, ◌==◌, ℤ, Bool, true, false, List, [], ◌∷◌, ◌++◌, Option, Some, None, refl, sym, ap, ◌∙◌, subst, append_assoc, append-nil, arith, length}
+use Rattle.std.proofs.Common.{◌≡◌, inl, inr, ℕ, suc, ◌<◌, ◌==◌, Bool, true, false, List, [], ◌∷◌, ◌++◌, Option, Some, None, refl, sym, ap, ◌∙◌, subst, append-nil, arith, length}
 use Rattle.std.specs.Prelude.{All, ◌||◌, if◌then◌else◌}
 use Rattle.std.specs.List.{list_any, slice_get}
 use Rattle.std.specs.Option.{option_map_or}
 use Rattle.std.proofs.lemmas.Bool.{or_left, or_right}
 use Rattle.std.proofs.lemmas.List.{length-append}
-use Rattle.std.proofs.lemmas.List.Elements.{All-append, All-cons, All-head, All-nil, All-tail, All-weaker}
+use Rattle.std.proofs.lemmas.List.Elements.{All-weaker}
 use Rattle.std.proofs.lemmas.Option.{slice_get_within}
 use Rattle.value_types.specs.declared.shape.Shape.{Shape}
 use Rattle.fmi_calls.specs.declared.call.Call.{Call}
 use Rattle.fmi_calls.specs.declared.call.Call.TheVariants as C
 use Rattle.fmu_peer.specs.declared.peer.Exchange.{Exchange}
-use Rattle.fmu_peer.specs.Mode.{instantiate_of}
 use Rattle.fmu_peer.specs.Updates as U
 use Rattle.fmu_peer.specs.Updates.{Stay, UpdateMark, no_stay, updates_from, updates_in}
-use Rattle.system_model.specs.declared.bound.Bound.{Bound}
-use Rattle.system_model.specs.declared.plan.Plan.{Plan}
 use Rattle.system_model.specs.declared.system.Component.{Component}
 use Rattle.system_model.specs.declared.system.System.{System}
-use Rattle.system_model.specs.Sound.{IsSound}
 use Rattle.run_model.specs.AfterInstant as F
 use Rattle.slot_calls.specs.declared.bad_answer.BadAnswer.{BadAnswer}
-use Rattle.slot_calls.specs.Log.{Asking, Sent, askings, part}
-use Rattle.slot_calls.specs.Stage.{StopsAt, has_events, shapes_of, to_those, to_those_from}
+use Rattle.slot_calls.specs.Log.{Sent, askings, part}
+use Rattle.slot_calls.specs.Stage.{StopsAt, has_events, shapes_of, to_those}
 use Rattle.slot_calls.proofs.Logs.{part_append}
-use Rattle.slot_calls.proofs.Parts.{same, takes, those_calls}
-use Rattle.event_iteration.specs.Intervals.{is_some_armed}
+use Rattle.slot_calls.proofs.Parts.{same, takes}
 use Rattle.event_iteration.specs.Updates.{answer_passes, updated_by, updating}
 use Rattle.event_iteration.specs.WalkCalls.{has_events_at, own}
 use Rattle.event_iteration.proofs.WalkLaws.{own_append}
