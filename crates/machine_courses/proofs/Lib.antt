@@ -10,3 +10,5 @@ pub mod Settings
 pub mod Initially
 pub mod Instants
 pub mod StepCalls
+pub mod Bounds
+pub mod Rest

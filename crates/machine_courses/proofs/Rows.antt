@@ -41,7 +41,7 @@ use Rattle.machine_courses.proofs.Steps.{after_step, arrived_is, asks_by_log, ke
 use Rattle.machine_courses.proofs.Parameters.{configured_states}
 
 -- where the limit isn't reached one more instant is below it
-below_more : (n limit : ℕ) → n < limit → (suc n == limit) ≡ false → suc n < limit
+pub below_more : (n limit : ℕ) → n < limit → (suc n == limit) ≡ false → suc n < limit
 below_more n limit below other = by (λ same. absurd (let wrong = other in grind (arith, same))) where
   by : (suc n ≡ limit → ⊥) → suc n < limit
   by h = omega (arith, below, h)

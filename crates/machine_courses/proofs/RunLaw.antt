@@ -1,5 +1,5 @@
 -- A log of told machines is their run, whatever they answer.
-use Rattle.std.proofs.Common.{◌≡◌, ℕ, Bool, true, false, ℤ, Option, List, [], ◌∷◌, ◌++◌, inl, inr, refl, sym, ap, ◌∙◌, subst, length}
+use Rattle.std.proofs.Common.{◌≡◌, ℕ, Bool, true, false, ℤ, Some, List, [], ◌∷◌, ◌++◌, inl, inr, refl, sym, ap, ◌∙◌, subst, length}
 use Rattle.std.specs.Prelude.{suc, ◌-◌, ◌==◌}
 use Rattle.fmu_peer.specs.Machine.{MachineState}
 use Rattle.fmu_peer.specs.Mode.{instantiate_of}
@@ -10,7 +10,7 @@ use Rattle.system_model.specs.Text.{Instant, end_text}
 use Rattle.run_model.specs.AfterInstant.{AtLimit, Done, Ended, Following, following}
 use Rattle.run_model.specs.Initial as I
 use Rattle.run_model.specs.Machines.{AreMachines}
-use Rattle.run_model.specs.Run.{Run, Timer}
+use Rattle.run_model.specs.Run.{Run, Situation, Timer}
 use Rattle.run_model.specs.Stepping as P
 use Rattle.run_model.specs.Stepping.{Ends}
 use Rattle.run_model.specs.Trace.{IsTrace, LeadsBy}
@@ -41,6 +41,49 @@ made_replies r made log making replies =
     subst (λ (ss : List MachineState). AreReplies r ss log) (stage_states r (I.first_states r) everyone instantiate_of made making) (replies_then r (I.first_states r) made log making.good replies)
 
 module _ (r : Run) (sound : IsSound r.system) (built : IsBuilt r.system) (plan : IsPlan r.plan) (machines : AreMachines r) where
+  -- behind an instant
+  module _ (s : Spot) (again asked : Bool) (is : List Instant) (ss : List MachineState) (x : Says r s again asked is ss) (kind : EndKind) (point : ℕ) where
+    ends_by : (f : Following) → by_answers asked again (suc s.n == r.plan.limit) ≡ f → LeadsBy f r x.sees.z s.values (Ends kind point) → IsTrace r is kind point
+    ends_by f e leads = trace_seen r s is x.sees kind point (leads_by r x.sees.z s.values f (Ends kind point) (follows r sound built plan machines s again asked is ss x ∙ e) leads)
+
+  module _ (s : Spot) (is : List Instant) (ss : List MachineState) (x : Says r s false false is ss) (component end : ℕ) (bound : IsBoundOf r.plan s.timers s.t end) (unfit : first_unfit r.system r.plan (end - s.t) ≡ Some component) where
+    abbrev z : Situation
+    z = over r s is x.sees
+
+    bound_here : IsBoundOf r.plan z.timers z.t end
+    bound_here = subst (λ (ts : List Timer). IsBoundOf r.plan ts z.t end) (sym x.sees.timers) (subst (λ (k : ℕ). IsBoundOf r.plan s.timers k end) (sym x.sees.at.point) bound)
+
+    lacks_here : P.LacksStep r z component end
+    lacks_here = lacks r built z (over_all r sound built plan machines s is x.sees) end bound_here component (ap (λ (k : ℕ). first_unfit r.system r.plan (end - k)) x.sees.at.point ∙ unfit)
+
+    lacks_at : LacksStepAt r component s.t end
+    lacks_at = record {
+      z = z;
+      departed = record {
+        s = x.sees.z;
+        values = s.values;
+        reached = reached_by r x.sees.z x.sees.earlier x.sees.at.came;
+        solves = x.sees.solves;
+        done = follows r sound built plan machines s false false is ss x;
+        is = refl;
+        before_stop = bound_here.before_stop;
+      };
+      point = x.sees.at.point;
+      lacks = lacks_here;
+    }
+
+  -- at the place where the run ends
+  pub trace_at : (end : RunEnd) (p : Place) → EndsAt r.system r.plan end p → (is : List Instant) (ss : List MachineState) → At r p is ss → IsTrace r is (kind_of_end end) (point_of r.plan p)
+  trace_at _ _ (AtStop s at) is ss x = ends_by s false false is ss x K.Stop s.t Done refl (P.AtStop (Ends K.Stop s.t) (x.sees.at.point ∙ at) (ap (Ends K.Stop) (sym x.sees.at.point)))
+  trace_at _ _ (ByUpdate s again) is ss x = ends_by s again true is ss x K.Asked s.t Ended refl (ap (Ends K.Asked) (sym x.sees.at.point))
+  trace_at _ _ (ByStep s) is ss x =
+      let g = x.goes in
+      trace_seen r x.w.s is g.sees K.Asked s.t
+      (leads_by r g.sees.z x.w.s.values Done (Ends K.Asked s.t) g.done (P.WhereAsked (Ends K.Asked s.t) (kept r (over r x.w.s is g.sees) x.w.to) x.w.to x.made (sym x.asked_is) (ap (Ends K.Asked) (sym x.point))))
+  trace_at _ _ (Limited s limit) is ss x = ends_by s true false is ss x K.Limit s.t AtLimit (ap (by_answers false true) limit) (ap (Ends K.Limit) (sym x.sees.at.point))
+  trace_at _ _ (Unfit s component end bound unfit) is ss x =
+      ends_by s false false is ss x K.Fixed s.t Done refl (P.WhereFixed (Ends K.Fixed s.t) component.0 end (lacks_here s is ss x component.0 end bound unfit) (ap (Ends K.Fixed) (sym x.sees.at.point)))
+
   module _ (o : Output) (is : List Instant) (counted : o.counted ≡ length is) where
     abbrev Put : EndKind → ℕ → Type 0
     Put kind point = o.after ≡ with_pieces o.before (trace_pieces r.system r.plan is kind point)
@@ -48,34 +91,13 @@ module _ (r : Run) (sound : IsSound r.system) (built : IsBuilt r.system) (plan :
     puts : (kind : EndKind) (point : ℕ) → Put kind point → IsTrace r is kind point → PutsTrace r o kind point
     puts kind point put trace = record { is = is; trace = trace; text = record { counted = counted; put = put } }
 
-    -- behind an instant
-    module _ (s : Spot) (again asked : Bool) (ss : List MachineState) (x : Says r s again asked is ss) (kind : EndKind) (point : ℕ) where
-      ends_by : (f : Following) → by_answers asked again (suc s.n == r.plan.limit) ≡ f → LeadsBy f r x.sees.z s.values (Ends kind point) → Put kind point → PutsTrace r o kind point
-      ends_by f e leads put = puts kind point put (trace_seen r s is x.sees kind point (leads_by r x.sees.z s.values f (Ends kind point) (follows r sound built plan machines s again asked is ss x ∙ e) leads))
-
-    -- at the place where the run ends
-    pub puts_at : (end : RunEnd) (p : Place) → EndsAt r.system r.plan end p → (ss : List MachineState) → At r p is ss → Put (kind_of_end end) (point_of r.plan p) → PutsRun r o end
-    puts_at _ _ (AtStop s at) ss x put =
-        ends_by s false false ss x K.Stop r.plan.stop Done refl (P.AtStop (Ends K.Stop r.plan.stop) (x.sees.at.point ∙ at) (ap (Ends K.Stop) (sym (x.sees.at.point ∙ at)))) (put ∙ ap (λ (n : ℕ). with_pieces o.before (trace_pieces r.system r.plan is K.Stop n)) at)
-    puts_at _ _ (ByUpdate s again) ss x put = ends_by s again true ss x K.Asked s.t Ended refl (ap (Ends K.Asked) (sym x.sees.at.point)) put
-    puts_at _ _ (ByStep s) ss x put =
-        let g = x.goes in
-        let u = over r x.w.s is g.sees in
-        puts K.Asked s.t put (trace_seen r x.w.s is g.sees K.Asked s.t
-        (leads_by r g.sees.z x.w.s.values Done (Ends K.Asked s.t) g.done (P.WhereAsked (Ends K.Asked s.t) (kept r u x.w.to) x.w.to x.made (sym x.asked_is) (ap (Ends K.Asked) (sym x.point)))))
-    puts_at _ _ (Limited s limit) ss x put = ends_by s true false ss x K.Limit s.t AtLimit (ap (by_answers false true) limit) (ap (Ends K.Limit) (sym x.sees.at.point)) put
+    puts_at : (end : RunEnd) (p : Place) → EndsAt r.system r.plan end p → (ss : List MachineState) → At r p is ss → Put (kind_of_end end) (point_of r.plan p) → PutsRun r o end
+    puts_at _ _ (AtStop s at) ss x put = subst (PutsTrace r o K.Stop) at (puts K.Stop s.t put (trace_at E.Stop (Seen s false false) (AtStop s at) is ss x))
+    puts_at _ _ (ByUpdate s again) ss x put = puts K.Asked s.t put (trace_at (E.Asked s.t) (Seen s again true) (ByUpdate s again) is ss x)
+    puts_at _ _ (ByStep s) ss x put = puts K.Asked s.t put (trace_at (E.Asked s.t) (Stepped s true) (ByStep s) is ss x)
+    puts_at _ _ (Limited s limit) ss x put = puts K.Limit s.t put (trace_at (E.EventLimit s.t) (Seen s true false) (Limited s limit) is ss x)
     puts_at _ _ (Unfit s component end bound unfit) ss x put =
-        let z = over r s is x.sees in
-        let own : IsBoundOf r.plan z.timers z.t end =
-        subst (λ (ts : List Timer). IsBoundOf r.plan ts z.t end) (sym x.sees.timers) (subst (λ (k : ℕ). IsBoundOf r.plan s.timers k end) (sym x.sees.at.point) bound) in
-        let lack = lacks r built z (over_all r sound built plan machines s is x.sees) end own component.0 (ap (λ (k : ℕ). first_unfit r.system r.plan (end - k)) x.sees.at.point ∙ unfit) in
-        let done : following r x.sees.z s.values ≡ Done = follows r sound built plan machines s false false is ss x in
-        (ends_by s false false ss x K.Fixed s.t Done refl (P.WhereFixed (Ends K.Fixed s.t) component.0 end lack (ap (Ends K.Fixed) (sym x.sees.at.point))) put, record {
-          z = z;
-          departed = record { s = x.sees.z; values = s.values; reached = reached_by r x.sees.z x.sees.earlier x.sees.at.came; solves = x.sees.solves; done = done; is = refl; before_stop = own.before_stop };
-          point = x.sees.at.point;
-          lacks = lack;
-        })
+        (puts K.Fixed s.t put (trace_at (E.FixedStep component s.t end) (Seen s false false) (Unfit s component end bound unfit) is ss x), lacks_at s is ss x component.0 end bound unfit)
 
   -- the instants so far
   pub front_finish : (end : RunEnd) (point : ℕ) (log : List Sent) (is : List Instant) → Finishes r.system r.bound r.plan end point log is → AreReplies r (I.instantiated r) log → Front r is

@@ -1,4 +1,4 @@
-use Rattle.machine_courses.proofs.Initially.{lost_finding}
+use Rattle.machine_courses.proofs.Rest.{whole}
 use Rattle.machine_courses.proofs.Instants.{lost_found}
 use Rattle.machine_courses.proofs.StepCalls.{lost_leaving}
 use Rattle.machine_courses.proofs.RunLaw.{run_by_log}
