@@ -67,21 +67,11 @@ mid_of shape p C.Terminate r may h = absurd (cc)
 mid_of shape p C.FreeInstance r may h = absurd (cc)
 mid_of shape p call r may h = tt
 
--- a bad answer to it leads there
-errs : (s : InstanceState) (call : Call) → IsMid call → state_after_bad s call Error ≡ P.Dead
-errs s (C.Instantiate event_mode early_return) m = absurd m
-errs s C.FreeInstance m = absurd m
-errs s call m = refl
-
-loses : (s : InstanceState) (call : Call) → IsMid call → state_after_bad s call Fatal ≡ P.Lost
-loses s (C.Instantiate event_mode early_return) m = absurd m
-loses s C.FreeInstance m = absurd m
-loses s call m = refl
-
-stays : (s : InstanceState) (call : Call) → IsMid call → state_after_bad s call Discard ≡ s
-stays s (C.Instantiate event_mode early_return) m = absurd m
-stays s C.FreeInstance m = absurd m
-stays s call m = refl
+-- a bad answer to it leads where one to any other does
+after_mid : (s : InstanceState) (call : Call) (status : BadStatus) → IsMid call → state_after_bad s call status ≡ state_after_bad s C.Save status
+after_mid s (C.Instantiate event_mode early_return) status m = absurd m
+after_mid s C.FreeInstance status m = absurd m
+after_mid s call status m = refl
 
 -- a Free that is refused with Discard has one reply
 free_or_not : (call : Call) → (call ≡ C.Free) ⊎ (call ≡ C.Free → ⊥)
@@ -104,16 +94,6 @@ discarded : (shape : Shape) (reply : Reply) → grade_of shape C.Free reply ≡ 
 discarded shape (R.Done is_warning content) grade status = absurd (never_refused (is_valid shape C.Free content) grade)
 discarded shape (R.Refused kind status) grade is = ap₂ R.Refused (free_kind kind (when_refused (same_kind kind K.Free) grade)) is
 
-gives : (saved : Bool) (g : Grade) → g ≡ G.Good → if_good g saved ≡ true
-gives saved G.Good e = refl
-gives saved G.Refused e = absurd (cc)
-gives saved G.Misreply e = absurd (cc)
-
-gives_none : (saved : Bool) (g : Grade) → g ≡ G.Refused → if_good g saved ≡ saved
-gives_none saved G.Refused e = refl
-gives_none saved G.Good e = absurd (cc)
-gives_none saved G.Misreply e = refl
-
 module _ (shape : Shape) (p : Phase) (saved : Bool) (h : IsClosable shape p saved) where
   -- in another state than Step Mode it keeps none
   none_in : (s : InstanceState) → p.state ≡ s → is_over s ≡ false → (s ≡ P.Step → ⊥) → p.slot.is_full ≡ true → ⊥
@@ -131,7 +111,7 @@ module _ (shape : Shape) (p : Phase) (saved : Bool) (h : IsClosable shape p save
     running_freed false = refl
   good_closable C.EnterEvent reply good m may = record { state = inr refl; kept = λ full. absurd (not_both may.2 full) }
   good_closable C.EnterStep reply good m may = record { state = inr refl; kept = λ full. absurd (none_in P.Event may.0 refl (λ e. cc) full) }
-  good_closable C.Save reply good m may = record { state = h.state; kept = λ full. inr (gives saved (grade_of shape C.Save reply) good, may.0, may.1) }
+  good_closable C.Save reply good m may = record { state = h.state; kept = λ full. inr (ap (λ (g : Grade). if_good g saved) good, may.0, may.1) }
   good_closable C.Free reply good m may = record { state = h.state; kept = λ full. absurd (cc) }
   good_closable C.Terminate reply good m may = absurd m
   good_closable C.FreeInstance reply good m may = absurd m
@@ -144,7 +124,7 @@ module _ (shape : Shape) (p : Phase) (saved : Bool) (h : IsClosable shape p save
 
   module _ (call : Call) (m : IsMid call) where
     unsaved : (call : Call) (reply : Reply) → grade_of shape call reply ≡ G.Refused → (call ≡ C.Free → ⊥) → saved_by shape call (Ok reply) saved ≡ saved
-    unsaved C.Save reply g other = gives_none saved (grade_of shape C.Save reply) g
+    unsaved C.Save reply refused other = ap (λ (g : Grade). if_good g saved) refused
     unsaved C.Free reply g other = absurd (other refl)
     unsaved call reply g other = refl
 
@@ -157,10 +137,10 @@ module _ (shape : Shape) (p : Phase) (saved : Bool) (h : IsClosable shape p save
     refused : (reply : Reply) (status : BadStatus) → bad_status_of reply ≡ status → grade_of shape call reply ≡ G.Refused →
         IsClosable shape (graded shape (counted p call) call reply G.Refused) (saved_by shape call (Ok reply) saved)
         ⊎ (IsGivenUp (record { call = call; result = Ok reply }) × IsStanding (graded shape (counted p call) call reply G.Refused).state)
-    refused reply Error is g = inl (dead _ _ (ap (state_after_bad p.state call) is ∙ errs p.state call m))
-    refused reply Fatal is g = inl (lost _ _ (ap (state_after_bad p.state call) is ∙ loses p.state call m))
+    refused reply Error is g = inl (dead _ _ (ap (state_after_bad p.state call) is ∙ after_mid p.state call Error m))
+    refused reply Fatal is g = inl (lost _ _ (ap (state_after_bad p.state call) is ∙ after_mid p.state call Fatal m))
     refused reply Discard is g =
-        let at : state_after_bad p.state call (bad_status_of reply) ≡ p.state = ap (state_after_bad p.state call) is ∙ stays p.state call m in
+        let at : state_after_bad p.state call (bad_status_of reply) ≡ p.state = ap (state_after_bad p.state call) is ∙ after_mid p.state call Discard m in
         let standing : IsStanding (state_after_bad p.state call (bad_status_of reply)) = subst IsStanding (sym at) h.state in
         elim (free_or_not call) [
           | inl free ↦ inr (
@@ -181,7 +161,7 @@ module _ (shape : Shape) (p : Phase) (saved : Bool) (h : IsClosable shape p save
         ⊎ (IsGivenUp (record { call = call; result = Ok reply }) × IsStanding (graded shape (counted p call) call reply g).state)
     by_grade reply G.Good is may = inl (good_closable call reply is m may)
     by_grade reply G.Refused is may = refused reply (bad_status_of reply) refl is
-    by_grade reply G.Misreply is may = inl (dead _ _ (errs p.state call m))
+    by_grade reply G.Misreply is may = inl (dead _ _ (after_mid p.state call Error m))
 
     next_closable : (result : Result Reply PeerFault) → Permitted shape p call → Behind call result
     next_closable (Err fault) may = inl (lost _ _ refl)
