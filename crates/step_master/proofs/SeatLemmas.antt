@@ -1,12 +1,13 @@
 -- Peers in the slots of their components.
 use Rattle.std.proofs.Common.{◌≡◌, ℕ, suc, ◌+◌, ◌<◌, false, List, [], ◌∷◌, ◌++◌, refl, sym, ap, ap₂, ◌∙◌, subst, append_assoc, arith, length, get_or, map, take, drop, drop-cons, add-one}
-use Rattle.std.specs.Prelude.{All}
+use Rattle.std.specs.Prelude.{All, IfSome, Some}
+use Rattle.std.specs.List.{slice_get}
 use Rattle.std.proofs.lemmas.List.{get_or-map, length-map, length-replicate, map-append}
 use Rattle.std.proofs.lemmas.List.Elements.{All-cons, All-nil}
 use Rattle.std.proofs.Math.Seq.{take-append_seam}
 use Rattle.fmi_calls.specs.declared.call.Call.{Call}
 use Rattle.fmi_calls.specs.declared.phase.Phase.{Phase}
-use Rattle.fmi_calls.specs.Next.{counted, entered}
+use Rattle.fmi_calls.specs.Next.{counted, entered, fresh}
 use Rattle.fmi_calls.specs.Permission.{none_marked}
 use Rattle.fmu_peer.specs.declared.peer.Exchange.{Exchange}
 use Rattle.fmu_peer.specs.CloseAll.{Closing, ClosesAll, InOrder, Instance, afters}
@@ -15,6 +16,7 @@ use Rattle.fmu_peer.specs.View.{Fixed, View}
 use Rattle.system_model.specs.declared.system.Component.{Component}
 use Rattle.calling_sequence.specs.Place.{IsMade, IsPlain}
 use Rattle.step_master.specs.Seats.{IsFresh, seat, seated, views_of}
+use Rattle.step_master.specs.System.{IsNew}
 use Rattle.slot_calls.proofs.Leading.{Led}
 use Rattle.calling_sequence.proofs.Phases.{unmarked_is}
 
@@ -43,6 +45,26 @@ views_seated [] [] e = refl
 views_seated [] (v ∷ vs) e = absurd (omega (arith, e))
 views_seated (c ∷ cs) [] e = absurd (omega (arith, e))
 views_seated (c ∷ cs) (v ∷ vs) e = ap (λ (l : List View). v ∷ l) (views_seated cs vs (omega (arith, e)))
+
+-- an instance before its first call
+pub record IsSeat (i : Instance) : Type 0 where
+  pub first : i.view.phase ≡ fresh i.view.fixed.shape
+  pub untold : IfSome i.view.talk (λ es. es ≡ [])
+  pub unsaved : i.has_saved ≡ false
+  pub calm : i.is_fatal ≡ false
+
+pub are_seats : (cs : List Component) (vs : List View) → length vs ≡ length cs → ((i : ℕ) (c : Component) (v : View) → slice_get cs i ≡ Some c → slice_get vs i ≡ Some v → IsNew c.shape v) → All IsSeat (seated cs vs)
+are_seats [] vs e h = All-nil IsSeat
+are_seats (c ∷ cs) [] e h = absurd (omega (arith, e))
+are_seats (c ∷ cs) (v ∷ vs) e h =
+    let new = h 0 c v refl refl in
+    All-cons IsSeat (seat c v) (seated cs vs) (record { first = new.phase ∙ ap fresh (sym new.shape_is); untold = new.talk; unsaved = refl; calm = refl })
+    (are_seats cs vs (omega (arith, e)) (λ i d w at_d at_w. h (suc i) d w at_d at_w))
+
+pub sources_seated : (cs : List Component) (vs : List View) → length vs ≡ length cs → map (λ (i : Instance). i.source) (seated cs vs) ≡ map (λ (c : Component). c.source.0) cs
+sources_seated [] vs e = refl
+sources_seated (c ∷ cs) [] e = absurd (omega (arith, e))
+sources_seated (c ∷ cs) (v ∷ vs) e = ap (λ (l : List ℕ). c.source.0 ∷ l) (sources_seated cs vs (omega (arith, e)))
 
 pub length_seated : (cs : List Component) (vs : List View) → length cs ≡ length vs → length (seated cs vs) ≡ length vs
 length_seated cs vs e = sym (length-map (seated cs vs) (λ (i : Instance). i.view)) ∙ ap length (views_seated cs vs (sym e))

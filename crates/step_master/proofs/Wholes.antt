@@ -30,7 +30,7 @@ use Rattle.system_model.specs.Sound.{IsSound}
 use Rattle.slot_calls.specs.declared.bad_answer.BadAnswer.{BadAnswer}
 use Rattle.slot_calls.specs.Log.{Has, Sent, Told, part}
 use Rattle.slot_calls.specs.SavedStates.{IsParted, Talk}
-use Rattle.slot_calls.specs.Stage.{shapes_of}
+use Rattle.slot_calls.specs.Stage.{shapes, shapes_of}
 use Rattle.slot_calls.proofs.Logs.{told_on}
 use Rattle.calling_sequence.specs.declared.run_end.RunEnd.{RunEnd}
 use Rattle.calling_sequence.specs.declared.run_end.RunEnd.TheVariants as E
@@ -41,18 +41,13 @@ use Rattle.course_laws.specs.Runs.{Comes, EndsCome, TellsEnd, Unmade}
 use Rattle.step_master.specs.Lived.{Account, Lived, LivesAreOver, RunIsLived, UnmadeIsClosed}
 use Rattle.step_master.specs.Lives.{AreGood, AreLives, EndsLives, IsLeastBad, IsLife, Life, is_spared, is_unanswered, shape_in, talk_in, talks_in}
 use Rattle.step_master.specs.Master.{Closes, Prepares, Runs, Standing}
-use Rattle.step_master.specs.Seats.{seat, seated, views_of}
+use Rattle.step_master.specs.Seats.{seated, views_of}
 use Rattle.step_master.specs.System.{ArePeersOf}
-use Rattle.step_master.proofs.Living.{Beside, IsRow, Row, at_turn, closings_are, components_are, is_life, life_of, olds_are, one_each, row_at, row_closed, row_parted, row_siblings, rows_from, turn_open}
+use Rattle.step_master.proofs.Living.{IsRow, Row, at_turn, closings_are, is_life, life_of, one_each, row_at, row_closed, row_parted, row_siblings, rows_from, seats_are, turn_open}
 use Rattle.step_master.proofs.Over.{closed_over}
 use Rattle.step_master.proofs.Parted.{leaves_none}
-use Rattle.step_master.proofs.SeatLemmas.{length_seated}
-
-seated_at : (cs : List Component) (vs : List View) (n : ℕ) (c : Component) (v : View) (d : Instance) → slice_get cs n ≡ Some c → slice_get vs n ≡ Some v → get_or (seated cs vs) n d ≡ seat c v
-seated_at [] vs n c v d at_c at_v = absurd (cc)
-seated_at (x ∷ cs) [] n c v d at_c at_v = absurd (cc)
-seated_at (x ∷ cs) (y ∷ vs) zero c v d at_c at_v = ap₂ seat (same_Some x c at_c) (same_Some y v at_v)
-seated_at (x ∷ cs) (y ∷ vs) (suc n) c v d at_c at_v = seated_at cs vs n c v d at_c at_v
+use Rattle.step_master.proofs.Prepared.{seated_shapes}
+use Rattle.step_master.proofs.SeatLemmas.{IsSeat, are_seats, length_seated, sources_seated, views_seated}
 
 -- what a mapped list has at a place
 unmapped : {A B : Type 0} (f : A → B) (xs : List A) (k : ℕ) (y : B) → slice_get (map f xs) k ≡ Some y → (x : A) × (slice_get xs k ≡ Some x) × (y ≡ f x)
@@ -69,14 +64,17 @@ module _ (system : System) (olds : List View) (peers : ArePeersOf system olds) (
   abbrev closings : List Closing
   closings = closes.closes.closings
 
-  seats_len : length (seated system.components olds) ≡ length system.components
-  seats_len = length_seated system.components olds (sym peers.len) ∙ peers.len
+  abbrev seats : List Instance
+  seats = seated system.components olds
 
-  beside : Beside system.components olds closings
-  beside = record { views = peers.len; closings = sym (length-map closings (λ (c : Closing). c.old)) ∙ sym (ap length closes.closes.old_is) ∙ told.len ∙ seats_len }
+  len_seats : length seats ≡ length system.components
+  len_seats = length_seated system.components olds (sym peers.len) ∙ peers.len
+
+  beside : length closings ≡ length seats
+  beside = sym (length-map closings (λ (c : Closing). c.old)) ∙ sym (ap length closes.closes.old_is) ∙ told.len
 
   abbrev rows : List Row
-  rows = rows_from 0 system.components olds closings
+  rows = rows_from 0 seats closings
 
   abbrev pub lives : List Life
   lives = map (life_of log) rows
@@ -86,39 +84,38 @@ module _ (system : System) (olds : List View) (peers : ArePeersOf system olds) (
 
   row_is : (n : ℕ) (row : Row) → slice_get rows n ≡ Some row → IsRow talks log row
   row_is n row at =
-      let r = row_at 0 system.components olds closings n row at in
+      let r = row_at 0 seats closings n row at in
       let number : n ≡ row.number = (let e = r.number in omega (arith, e)) in
-      let inside = slice_get_within system.components n row.component r.component in
+      let inside = slice_get_within seats n row.seat r.seat in
       let d = row.closing.old in
       let mid : get_or mids n d ≡ d = ap (λ (l : List Instance). get_or l n d) closes.closes.old_is
       ∙ get_or_from_slice_get (befores closings) n d d (mapped (λ (c : Closing). c.old) closings n row.closing r.closing) in
-      let has : Has (seat row.component row.old) (part n log) d =
-      subst (λ (i : Instance). Has i (part n log) d) (seated_at system.components olds n row.component row.old d r.component r.old)
-      (subst (λ (i : Instance). Has (get_or (seated system.components olds) n d) (part n log) i) mid (told.each n d (let e = seats_len in omega (arith, e, inside)))) in
+      let has : Has row.seat (part n log) d =
+      subst (λ (i : Instance). Has i (part n log) d) (get_or_from_slice_get seats n row.seat d r.seat) (subst (λ (i : Instance). Has (get_or seats n d) (part n log) i) mid (told.each n d inside)) in
       let one : (b : Bool) × ClosesOne b row.closing =
       subst (λ (c : Closing). (b : Bool) × ClosesOne b c) (get_or_from_slice_get closings n row.closing row.closing r.closing)
       (one_each talks log [] closings closes.closes.order n row.closing (slice_get_within closings n row.closing r.closing)) in
-      let need : AreNeeded (calls_in (part row.number log)) = subst (λ (k : ℕ). AreNeeded (calls_in (part k log))) number (needed n inside) in
+      let need : AreNeeded (calls_in (part row.number log)) = subst (λ (k : ℕ). AreNeeded (calls_in (part k log))) number (needed n (let e = len_seats in omega (arith, e, inside))) in
       record {
-        new = peers.each n row.component row.old r.component r.old;
-        has = subst (λ (k : ℕ). Has (seat row.component row.old) (part k log) d) number has;
+        new = subst IsSeat (get_or_from_slice_get seats n row.seat row.seat r.seat) (are_seats system.components olds peers.len peers.each n row.seat inside);
+        has = subst (λ (k : ℕ). Has row.seat (part k log) d) number has;
         spared = one.0;
         one = one.1;
         runs = need.runs;
         lean = need.lean;
-        leaves = leaves_none talks row.old.fixed.shape (part row.number log) need.runs;
+        leaves = leaves_none talks row.seat.view.fixed.shape (part row.number log) need.runs;
       }
 
   all_rows : All (IsRow talks log) rows
   all_rows = λ k d w. row_is k (get_or rows k d) (slice_get-get_or rows k d w)
 
   order : InOrder [] (map (λ (r : Row). r.closing) rows)
-  order = subst (InOrder []) (sym (closings_are 0 system.components olds closings beside)) closes.closes.order
+  order = subst (InOrder []) (sym (closings_are 0 seats closings beside)) closes.closes.order
 
   run_is : (k : ℕ) (life : Life) → slice_get lives k ≡ Some life → (row : Row) × (slice_get rows k ≡ Some row) × (life ≡ life_of log row) × (row.number ≡ k)
   run_is k life at =
       let u = unmapped (life_of log) rows k life at in
-      (u.0, u.1, u.2, (let r = row_at 0 system.components olds closings k u.0 u.1 in r.number ∙ omega arith))
+      (u.0, u.1, u.2, (let r = row_at 0 seats closings k u.0 u.1 in r.number ∙ omega arith))
 
   closed_at : (k : ℕ) (life : Life) → slice_get lives k ≡ Some life → is_spared lives k life ≡ false → T.Closed (shape_in life) (talk_in life)
   closed_at k life at spare =
@@ -129,12 +126,12 @@ module _ (system : System) (olds : List View) (peers : ArePeersOf system olds) (
       let turn = at_turn talks log [] cs k row.closing order (mapped (λ (x : Row). x.closing) rows k row u.1) in
       let mine : is_spared lives k (life_of log row) ≡ false = ap (is_spared lives k) (sym u.2) ∙ spare in
       let open_turn : is_source_lost row.closing.old.source (afters (take k cs) ++ befores (drop k cs)) ≡ false =
-      ap (λ (n : ℕ). is_source_lost n (afters (take k cs) ++ befores (drop k cs))) r.has.source ∙ turn_open talks log rows all_rows k row.component.source.0 mine in
+      ap (λ (n : ℕ). is_source_lost n (afters (take k cs) ++ befores (drop k cs))) r.has.source ∙ turn_open talks log rows all_rows k row.seat.source mine in
       subst (λ (l : Life). T.Closed (shape_in l) (talk_in l)) (sym u.2)
       (row_closed talks log row r (subst (λ (b : Bool). ClosesOne b row.closing) open_turn turn))
 
   len_rows : length rows ≡ length system.components
-  len_rows = sym (length-map rows (λ (r : Row). r.component)) ∙ ap length (components_are 0 system.components olds closings beside)
+  len_rows = sym (length-map rows (λ (r : Row). r.seat)) ∙ ap length (seats_are 0 seats closings beside) ∙ len_seats
 
   len_lives : length lives ≡ length system.components
   len_lives = length-map rows (life_of log) ∙ len_rows
@@ -156,15 +153,17 @@ module _ (system : System) (olds : List View) (peers : ArePeersOf system olds) (
 
   pub are_lives : AreLives system olds news log lives
   are_lives = record {
-    olds_are = map-map (λ (l : Life). l.old) (life_of log) rows ∙ olds_are 0 system.components olds closings beside;
+    olds_are = map-map (λ (l : Life). l.old) (life_of log) rows
+        ∙ sym (map-map (λ (i : Instance). i.view) (λ (r : Row). r.seat) rows)
+        ∙ ap views_of (seats_are 0 seats closings beside) ∙ views_seated system.components olds peers.len;
     news_are = map-map (λ (l : Life). l.new) (life_of log) rows
         ∙ sym (map-map (λ (c : Closing). c.new.view) (λ (r : Row). r.closing) rows)
-        ∙ ap (map (λ (c : Closing). c.new.view)) (closings_are 0 system.components olds closings beside)
+        ∙ ap (map (λ (c : Closing). c.new.view)) (closings_are 0 seats closings beside)
         ∙ sym (map-map (λ (i : Instance). i.view) (λ (c : Closing). c.new) closings)
         ∙ ap views_of (sym closes.closes.new_is) ∙ sym closes.news_are;
     sources_are = map-map (λ (l : Life). l.source) (life_of log) rows
-        ∙ sym (map-map (λ (c : Component). c.source.0) (λ (r : Row). r.component) rows)
-        ∙ ap (map (λ (c : Component). c.source.0)) (components_are 0 system.components olds closings beside);
+        ∙ sym (map-map (λ (i : Instance). i.source) (λ (r : Row). r.seat) rows)
+        ∙ ap (map (λ (i : Instance). i.source)) (seats_are 0 seats closings beside) ∙ sources_seated system.components olds peers.len;
     runs_are = run_at;
     each = All-map IsLife (life_of log) rows (λ k d w. is_life talks log (get_or rows k d) (all_rows k d w));
     siblings = row_siblings talks log rows all_rows order;
@@ -178,11 +177,11 @@ module _ (system : System) (olds : List View) (peers : ArePeersOf system olds) (
   -- the run of a place, by what holds of its part for its shape
   run_by : (P : Shape → List Exchange → Type 0) (k : ℕ) (row : Row) → slice_get rows k ≡ Some row → ((d : Shape) → P (get_or (shapes_of system) k d) (part k log)) → P (shape_in (life_of log row)) (life_of log row).run
   run_by P k row at h =
-      let r = row_at 0 system.components olds closings k row at in
+      let r = row_at 0 seats closings k row at in
       let shape = shape_in (life_of log row) in
       let shape_is : get_or (shapes_of system) k shape ≡ shape =
-      get_or_from_slice_get (shapes_of system) k row.component.shape shape (mapped (λ (c : Component). c.shape) system.components k row.component r.component)
-      ∙ sym (row_is k row at).new.shape_is in
+      ap (λ (l : List Shape). get_or l k shape) (sym (seated_shapes system olds peers))
+      ∙ get_or_from_slice_get (shapes seats) k shape shape (mapped (λ (i : Instance). i.view.fixed.shape) seats k row.seat r.seat) in
       subst (λ (s : Shape). P s (part row.number log)) shape_is
       (subst (λ (n : ℕ). P (get_or (shapes_of system) k shape) (part n log)) (sym (r.number ∙ omega arith)) (h shape))
 
