@@ -8,3 +8,4 @@ pub mod Stands
 pub mod ScheduleSteps
 pub mod Onto
 pub mod Stages
+pub mod Ways

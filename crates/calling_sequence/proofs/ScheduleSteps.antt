@@ -17,7 +17,12 @@ use Rattle.run_model.specs.Timers.{TicksAt as TimerTicksAt, is_armed_for}
 use Rattle.event_iteration.proofs.ClockTicks.{are_ticks}
 use Rattle.event_iteration.specs.Clocks.{AreTicks, IsNextFrom, StandsAt, first_table, is_due_at, timer_in, timers_in}
 use Rattle.event_iteration.specs.Intervals.{is_some_armed}
+use Rattle.calling_sequence.specs.declared.buffers.Buffers.{Buffers}
+use Rattle.calling_sequence.specs.declared.experiment.Experiment.{Experiment}
+use Rattle.calling_sequence.specs.Calls.{IsBoundOf}
 use Rattle.calling_sequence.specs.Course.{Begins}
+use Rattle.calling_sequence.specs.Plans.{IsPlan}
+use Rattle.calling_sequence.specs.Ready.{AreTimed}
 
 -- ---- one Clock
 
@@ -200,4 +205,17 @@ pub begins : (system : System) (plan : Plan) (table : Timetable) (t n : ℕ) (is
 begins system plan table t n is_first values known starts stands first = record {
   known = known;
   are_ticks = subst (λ (s : ℕ). AreTicks system s (timers_in table) t n (is_due_at table t)) starts (are_ticks system t is_first table stands n first);
+}
+
+-- the buffers at the end of a step to its bound
+pub timed_behind : (e : Experiment) (t n to : ℕ) (b : Buffers) → IsPlan e.plan → AreTimed e t (n + 1) false b → is_some_armed t (timers_in b.schedule) ≡ false → IsBoundOf e.plan (timers_in b.schedule) t to → AreTimed e to 0 true b
+timed_behind e t n to b plan h none bound = record {
+  starts = h.starts;
+  stops = h.stops;
+  stands = stands_behind e.system e.plan b.schedule t to h.stands none h.starts h.stops bound.before_stop bound.bound;
+  places = h.places;
+  fitting = h.fitting;
+  holds = h.holds;
+  limited = omega arith;
+  few = let few = h.few in let limited = h.limited in let limit = plan.limit_within in let later = bound.bound.later in omega (arith, few, limited, limit, later);
 }

@@ -33,6 +33,7 @@ pub(crate) fn take<L: Peer, O: Sink>(
     ensures timed { OnOk result (AreTimed experiment.now t (n + 1) false buffers.new) }
     ensures unarmed { IfOk result (λ u. u.again ≡ false →
         is_some_armed t (timers_in buffers.new.schedule) ≡ false) }
+    ensures text { length buffers.new.text.items ≡ length buffers.old.text.items }
     ensures puts { Puts experiment.now (before_instant t n buffers.old)
         (λ u. seen t n buffers.new u) (instances L.view slots.old) (instances L.view slots.new)
         (O.view out.old) (O.view out.new) buffers.old.instants buffers.new.instants result }
@@ -72,6 +73,7 @@ fn find<L: Peer>(
     ensures timed { AreTimed experiment.now t n (n == 0) buffers.new }
     ensures ticks { OnOk result (TellsTicks experiment.now.system buffers.new.schedule t
         buffers.new.values.items) }
+    ensures text { length buffers.new.text.items ≡ length buffers.old.text.items }
     ensures goes { Goes experiment.now (before_instant t n buffers.old)
         (λ x. Read (spot t n buffers.new)) (instances L.view slots.old)
         (instances L.view slots.new) buffers.old.instants buffers.new.instants result }
@@ -102,6 +104,7 @@ fn ask<L: Peer>(
     ensures timed { OnOk result (AreTimed experiment.now t n false buffers.new) }
     ensures armed { IfOk result (λ armed.
         armed ≡ is_some_armed t (timers_in buffers.new.schedule)) }
+    ensures text { length buffers.new.text.items ≡ length buffers.old.text.items }
     ensures goes { Goes experiment.now (Read (spot t n buffers.old))
         (λ armed. Rearmed (spot t n buffers.new)) (instances L.view slots.old)
         (instances L.view slots.new) buffers.old.instants buffers.new.instants result }
@@ -137,6 +140,7 @@ fn show<L: Peer, O: Sink>(
     ensures timed { OnOk result (AreTimed experiment.now t (n + 1) false buffers.new) }
     ensures unarmed { IfOk result (λ u. u.again ≡ false →
         is_some_armed t (timers_in buffers.new.schedule) ≡ false) }
+    ensures text { length buffers.new.text.items ≡ length buffers.old.text.items }
     ensures puts { Puts experiment.now (Rearmed (spot t n buffers.old))
         (λ u. seen t n buffers.new u) (instances L.view slots.old) (instances L.view slots.new)
         (O.view out.old) (O.view out.new) buffers.old.instants buffers.new.instants result }

@@ -1,4 +1,4 @@
-use Rattle.std.proofs.Common.{◌≤◌, ◌<◌, ◌-◌, ◌+◌, ◌*◌}
+use Rattle.std.proofs.Common.{◌≡◌, ◌≤◌, ◌<◌, ◌-◌, ◌+◌, ◌*◌, length}
 use Rattle.std.specs.Prelude.{◌==◌}
 use Rattle.slot_calls.specs.Slots.{instances}
 use Rattle.calling_sequence.specs.Course.{Made}
@@ -15,6 +15,7 @@ invariant-instants g l =
       timed : AreTimed l.experiment l.t l.n (l.n == 0) l.buffers;
       begun : l.experiment.plan.start ≤ l.t;
       below : l.n < l.experiment.plan.limit;
+      text : length l.buffers.text.items ≡ length l.fn.buffers.text.items;
       onward : Onward l.experiment Made (before_instant l.t l.n l.buffers) (instances view l.fn.slots) (instances view l.slots) (g.O.Sink.view l.fn.out) (g.O.Sink.view l.out) l.fn.buffers.instants l.buffers.instants;
     }
 
