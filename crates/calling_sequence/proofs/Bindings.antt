@@ -32,7 +32,7 @@ use Rattle.slot_calls.proofs.Answered.{one_log, shape_of, stage_cut, stage_cut_l
 use Rattle.slot_calls.proofs.Leading.{Led, led}
 use Rattle.slot_calls.proofs.Turns.{shape_there, turn_answered, turn_stops, turn_told}
 use Rattle.event_iteration.proofs.Permits.{value_type}
-use Rattle.calling_sequence.specs.Course.{binding_from, sets_of}
+use Rattle.calling_sequence.specs.Calls.{binding_from, sets_of}
 use Rattle.calling_sequence.specs.Place.{IsMade, IsPlain}
 use Rattle.calling_sequence.proofs.Chains.{IsSet}
 use Rattle.calling_sequence.proofs.Phases.{room_on, set_leads}

@@ -1,3 +1,4 @@
+pub mod Along
 pub mod Chains
 pub mod Walks
 pub mod Phases
@@ -5,6 +6,6 @@ pub mod Bindings
 pub mod Sizes
 pub mod Stands
 pub mod ScheduleSteps
-pub mod Courses
-pub mod Initializing
-pub mod Endings
+pub mod Onto
+pub mod Stages
+pub mod Ways

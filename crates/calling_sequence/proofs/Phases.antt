@@ -31,7 +31,7 @@ use Rattle.run_model.specs.AfterInstant.{asks_again}
 use Rattle.event_iteration.specs.Instants.{BeginsInstant, IsRunning}
 use Rattle.event_iteration.specs.Settings.{IsUnset}
 use Rattle.event_iteration.specs.Updates.{answer_passes}
-use Rattle.calling_sequence.specs.Place.{HasRoom, IsAt, IsDeparting, IsInInstant, IsInitializing, IsMade, IsPlain, IsSettled, IsStepping, IsThere, TakesSize}
+use Rattle.calling_sequence.specs.Place.{CanStep, HasRoom, IsAt, IsDeparting, IsInInstant, IsInitializing, IsMade, IsPlain, IsSettled, IsStepping, IsTaking, IsThere, TakesSize}
 use Rattle.calling_sequence.proofs.Chains.{IsGet, IsOfClock, IsQuestion, IsSet}
 use Rattle.calling_sequence.proofs.Walks.{IsGetOrSet, IsOfInstant}
 
@@ -170,11 +170,6 @@ exit_leads start stop step v w e h l is =
     }
 
 -- ---- in an instant
-
--- before the Updates of an instant: without event mode no input is set since the last step
-pub record IsTaking (t stop step : ℕ) (v : View) : Type 0 where
-  pub in_instant : IsInInstant t stop step v
-  pub unset : v.fixed.shape.has_event_mode ≡ false → none_marked v.phase.marks ≡ true
 
 running_on : (v w : View) → w.fixed ≡ v.fixed → w.phase.state ≡ v.phase.state → IsRunning v → IsRunning w
 running_on v w fixed state h = state ∙ h ∙ ap (λ (f : Fixed). running_state f.shape) (sym fixed)
@@ -324,11 +319,6 @@ good_step_end shape at size (R.Refused kind status) early good = absurd (refused
 sized_next : (step size : ℕ) (shape : Shape) (o : Option ℕ) → IfSome o (λ n. TakesSize step n shape) → TakesSize step size shape → TakesSize step (unwrap_or o size) shape
 sized_next step size shape None h takes = takes
 sized_next step size shape (Some n) h takes = h
-
--- an instance at a point takes the step to another
-pub record CanStep (t b stop step : ℕ) (v : View) : Type 0 where
-  pub departing : IsDeparting t stop step v
-  pub takes : TakesSize step (b - t) v.fixed.shape
 
 pub step_leads : (t b stop step : ℕ) → t < b → (v w : View) (e : Exchange) → CanStep t b stop step v → Led v e w → e.call ≡ C.DoStep t (b - t) → IsStepping b stop step w
 step_leads t b stop step later v w e can l is =

@@ -10,11 +10,10 @@ use Rattle.fmu_peer.specs.CloseAll.{Instance}
 use Rattle.system_model.specs.declared.plan.Plan.{Plan}
 use Rattle.system_model.specs.declared.system.Component.{Component}
 use Rattle.system_model.specs.declared.system.System.{System}
-use Rattle.calling_sequence.specs.Course.{first_unfit}
-use Rattle.calling_sequence.specs.Place.{IsDeparting, TakesSize}
+use Rattle.calling_sequence.specs.Calls.{first_unfit}
+use Rattle.calling_sequence.specs.Place.{CanStep, IsDeparting, TakesSize}
 use Rattle.slot_calls.specs.Stage.{shapes, shapes_of}
 use Rattle.slot_calls.proofs.Answered.{map_at, shape_of}
-use Rattle.calling_sequence.proofs.Phases.{CanStep}
 
 -- an element at a place
 pub there_is : {A : Type 0} (xs : List A) (i : ℕ) → i < length xs → (x : A) × (x ≡ get_or xs i x)

@@ -1,7 +1,11 @@
 pub mod Plans
 pub mod Systems
 pub mod Place
+pub mod Calls
+pub mod Parts
 pub mod Course
 pub mod Puts
 pub mod Ends
-pub mod Steps
+pub mod Ready
+pub mod Here
+pub mod Goes

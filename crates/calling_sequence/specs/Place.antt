@@ -1,5 +1,5 @@
 -- Where the instances of a run stand (FMI 3.0, 4.2.1).
-use Rattle.std.specs.Prelude.{◌≡◌, ℕ, ◌||◌, ◌==◌, true, false, None, IfSome, IsTrue, length}
+use Rattle.std.specs.Prelude.{◌≡◌, ℕ, ◌-◌, ◌||◌, ◌==◌, true, false, None, IfSome, IsTrue, length}
 use Rattle.value_types.specs.declared.shape.Shape.{Shape}
 use Rattle.fmi_calls.specs.Next.{running_state}
 use Rattle.fmi_calls.specs.Permission.{none_marked}
@@ -55,6 +55,11 @@ pub record IsInInstant (t stop step : ℕ) (v : View) : Type 0 where
   pub there : IsThere t stop step v
   pub state : v.phase.state ≡ running_state v.fixed.shape
 
+-- the same before its Updates: without event mode no input is set since the last step
+pub record IsTaking (t stop step : ℕ) (v : View) : Type 0 where
+  pub in_instant : IsInInstant t stop step v
+  pub unset : v.fixed.shape.has_event_mode ≡ false → none_marked v.phase.marks ≡ true
+
 -- the same at the beginning of an instant, and behind its Updates: no input is set in it, or since the last step
 pub record IsAt (t stop step : ℕ) (v : View) : Type 0 where
   pub in_instant : IsInInstant t stop step v
@@ -74,3 +79,8 @@ pub record IsDeparting (t stop step : ℕ) (v : View) : Type 0 where
 pub record IsStepping (t stop step : ℕ) (v : View) : Type 0 where
   pub departing : IsDeparting t stop step v
   pub unset : none_marked v.phase.marks ≡ true
+
+-- there before a step to another point, whose size its FMU takes
+pub record CanStep (t to stop step : ℕ) (v : View) : Type 0 where
+  pub departing : IsDeparting t stop step v
+  pub takes : TakesSize step (to - t) v.fixed.shape

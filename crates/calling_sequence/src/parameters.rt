@@ -5,7 +5,7 @@ ghost use Rattle.system_model.specs.Bounds.{AreParameterValues, IsParameterValue
 ghost use Rattle.run_model.specs.Initial.{set_call};
 ghost use Rattle.slot_calls.specs.Slots.{LiveSlot, Stands, instances};
 ghost use Rattle.slot_calls.specs.Stage.{Stage, nothing, shapes};
-ghost use Rattle.calling_sequence.specs.Course.{binding, sets_of};
+ghost use Rattle.calling_sequence.specs.Calls.{binding, sets_of};
 ghost use Rattle.calling_sequence.specs.Place.{IsMade};
 
 use crate::BadAnswer;

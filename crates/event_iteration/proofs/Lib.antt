@@ -9,14 +9,20 @@ pub mod Loops
 pub mod Turning
 pub mod Rounds
 pub mod Fmus
+pub mod Stages
 pub mod Finding
 pub mod Clearing
 pub mod Marking
 pub mod InInstant
 pub mod FindingInInstant
 pub mod Setting
+pub mod WalksBack
+pub mod WalkAnswers
+pub mod Said
+pub mod Timing
 pub mod Departing
 pub mod Updating
+pub mod ByLog
 pub mod Asking
 pub mod Answering
 pub mod Places
@@ -27,3 +33,6 @@ pub mod ClockTicks
 pub mod Rooms
 pub mod Activity
 pub mod Ticking
+pub mod WalkUses
+pub mod WalkOnce
+pub mod WalkLaws

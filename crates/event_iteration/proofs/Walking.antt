@@ -111,7 +111,7 @@ all_said-same system rules V W a b (x ∷ pre) h =
     contains_tail : (x q : ℕ) (xs : List ℕ) → Contains xs q → Contains (x ∷ xs) q
     contains_tail x q xs m = Contains-append_right (x ∷ []) xs q m
 
-call_at-is : (system : System) (rules : Rules) (V : List (Option ℤ)) (p : ℕ) (port : Port) (c : Component) → slice_get system.components port.component.0 ≡ Some c → call_at system rules V p port ≡ rules.asks p port c V
+pub call_at-is : (system : System) (rules : Rules) (V : List (Option ℤ)) (p : ℕ) (port : Port) (c : Component) → slice_get system.components port.component.0 ≡ Some c → call_at system rules V p port ≡ rules.asks p port c V
 call_at-is system rules V p port c of = ap (λ o. option_and_then (λ (x : Component). rules.asks p port x V) o) of
 
 -- V and W agree at what p needs
@@ -126,7 +126,7 @@ call_at-alike NeedsOf system rules about V W p port is h = (elim (slice_get syst
       | Some c ↦ about.asks_same p port c V W is h
     ])
 
-said-is : (system : System) (rules : Rules) (V : List (Option ℤ)) (a : ℕ → Option Reply) (p : ℕ) (port : Port) → slice_get system.ports p ≡ Some port →
+pub said-is : (system : System) (rules : Rules) (V : List (Option ℤ)) (a : ℕ → Option Reply) (p : ℕ) (port : Port) → slice_get system.ports p ≡ Some port →
     said system rules V a p ≡ sent_of port.component.0 (call_at system rules V p port) (a p)
 said-is system rules V a p port is = ap (λ o. option_map_or (λ (x : Port). sent_of x.component.0 (call_at system rules V p x) (a p)) o []) is
 

@@ -8,3 +8,5 @@ pub mod Settings
 pub mod Clocks
 pub mod Intervals
 pub mod Questions
+pub mod WalkCalls
+pub mod ByLog

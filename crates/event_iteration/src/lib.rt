@@ -7,14 +7,18 @@ mod initialization;
 mod inputs;
 mod instants;
 mod intervals;
+mod laws;
 mod reads;
 mod turn;
 mod updates;
+mod walk_laws;
 
 pub use clocks::{fix_clocks, schedule_of};
 pub use initialization::initialize;
 pub use inputs::set_inputs;
 pub use instants::instant;
 pub use intervals::ask_intervals;
+pub use laws::parts_of_machines;
 pub use reads::InitialReads;
 pub use updates::{Updated, update};
+pub use walk_laws::walk_calls;

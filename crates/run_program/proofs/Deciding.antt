@@ -1,13 +1,13 @@
 -- The first answer that isn't good, of the least component, decides status and line.
-use Rattle.std.proofs.Common.{◌≡◌, ◌⊎◌, inl, inr, ℕ, ◌<◌, List, [], ◌∷◌, ◌++◌, Option, Some, IfSome, sym, ap, ◌∙◌, subst, append_assoc, map, take}
-use Rattle.std.specs.Prelude.{All, IsSomeAnd}
+use Rattle.std.proofs.Common.{◌≡◌, ◌⊎◌, inl, inr, ℕ, ◌<◌, List, [], ◌∷◌, ◌++◌, Option, Some, IfSome, refl, sym, ap, ap₂, ◌∙◌, subst, append_assoc, map, take}
+use Rattle.std.specs.Prelude.{All, IsSomeAnd, unwrap_or}
 use Rattle.std.specs.List.{slice_get}
-use Rattle.std.proofs.lemmas.List.{append_cancel_left, map-append}
+use Rattle.std.proofs.lemmas.List.{append_cancel_left}
+use Rattle.std.proofs.lemmas.List.Elements.{All-head, All-tail}
 use Rattle.std.proofs.lemmas.Option.{same_Some, slice_get-map}
 use Rattle.std.specs.Option.{option_map}
 use Rattle.sim_base.specs.Causes.{Rose}
 use Rattle.value_types.specs.declared.shape.Shape.{Shape}
-use Rattle.fmi_calls.specs.KindFacts.{IsRunCall}
 use Rattle.fmu_peer.specs.declared.ended.Why.{Why}
 use Rattle.fmu_peer.specs.declared.peer.Exchange.{Exchange}
 use Rattle.fmu_peer.specs.Answer.{IsFirstBad, IsWhy}
@@ -19,17 +19,18 @@ use Rattle.system_model.specs.declared.system.System.{System}
 use Rattle.slot_calls.specs.declared.bad_answer.BadAnswer.{BadAnswer}
 use Rattle.calling_sequence.specs.declared.run_end.RunEnd.{RunEnd}
 use Rattle.calling_sequence.specs.declared.run_end.RunEnd.TheVariants as E
-use Rattle.step_master.specs.Lives.{AreGood, AreLives, EndsLives, IsLeastBad, IsLife, Life, calls_in, shape_in, talk_in}
+use Rattle.step_master.specs.Lives.{AreGood, AreLives, EndsLives, IsLeastBad, IsLife, Life, shape_in, talk_in, talks_in}
+use Rattle.slot_calls.specs.SavedStates.{IsParted, Talk}
 use Rattle.slot_calls.specs.Log.{Sent}
 use Rattle.run_program.specs.declared.outcome.Outcome.{Outcome}
 use Rattle.run_program.specs.declared.outcome.End.{End}
 use Rattle.run_program.specs.Message.{Reports, bad_message, end_message, end_status, why_status}
 use Rattle.run_program.specs.Facts.{task_of}
 use Rattle.run_program.specs.Happened.{Happened, Scene}
-use Rattle.run_program.specs.Rows.{Answers, IsFirstBadOf, IsLeastBadOf, IsUncalled, TellPeers}
+use Rattle.run_program.specs.Rows.{Answers, IsFirstBadOf, IsLeastBadOf, IsUncalled, TellPeers, talks_of}
 use Rattle.run_program.specs.Runs.{Broke, HasRun, IsEndOf, IsUnasked, RunsPeers, Task, Went, names_of}
 use Rattle.run_program.proofs.Exactly.{answers}
-use Rattle.run_program.proofs.FirstBad.{at_middle, in_run, no_bad, one_bad}
+use Rattle.run_program.proofs.FirstBad.{in_run, no_bad, one_bad}
 use Rattle.run_program.proofs.Outs.{TellsOut, tells_out}
 use Rattle.run_program.proofs.PeerLemmas.{all_got, compare, mapped_at, slice_get-take_front, started_at}
 use Rattle.run_program.proofs.Runs.{HasRunOne, ran_put}
@@ -80,13 +81,14 @@ talk_there peers talks k v same here =
 -- ---- a peer
 
 -- the life of a peer that tells its talk
-record Found (lives : List Life) (olds : List View) (k : ℕ) (v : View) (talk : List Exchange) : Type 0 where
+record Found (talks : List Talk) (lives : List Life) (olds : List View) (k : ℕ) (v : View) (talk : List Exchange) : Type 0 where
   life : Life
   here : slice_get lives k ≡ Some life
   is : IsLife life
   old : slice_get olds k ≡ Some life.old
   new : life.new ≡ v
   talk_is : talk ≡ life.run ++ life.closing
+  parted : IsParted talks life.run life.closing
 
 told_talk : (life : Life) (v : View) (talk : List Exchange) → life.new ≡ v → v.talk ≡ Some talk → IfSome life.new.talk (λ (es : List Exchange). es ≡ talk_in life) → talk ≡ talk_in life
 told_talk life v talk same told h =
@@ -99,9 +101,31 @@ talk_at peers talks k v talk same here there =
     (sym (ap (option_map (λ (x : View). x.talk)) here) ∙ sym (slice_get-map (λ (x : View). x.talk) peers k) ∙ ap (λ xs. slice_get xs k) same
     ∙ slice_get-map (λ (es : List Exchange). Some es) talks k ∙ ap (option_map (λ (es : List Exchange). Some es)) there)
 
+-- the talks that peers tell are those of their lives
+whole_talk : (life : Life) (talk : List Exchange) → IsLife life → life.new.talk ≡ Some talk → unwrap_or life.new.talk [] ≡ talk_in life
+whole_talk life talk is told = ap (λ (o : Option (List Exchange)). unwrap_or o []) told ∙ told_talk life life.new talk refl told is.talk
+
+told_life : (life : Life) (talk : List Exchange) → IsLife life → life.new.talk ≡ Some talk → record { shape = life.new.fixed.shape; exchanges = unwrap_or life.new.talk [] } ≡ record { shape = shape_in life; exchanges = talk_in life }
+told_life life talk is told = ap₂ talk_record (ap (λ (f : Fixed). f.shape) is.fixed) (whole_talk life talk is told) where
+  talk_record : Shape → List Exchange → Talk
+  talk_record shape exchanges = record { shape = shape; exchanges = exchanges }
+
+talks_same : (lives : List Life) (talks : List (List Exchange)) → All IsLife lives → map (λ (v : View). v.talk) (map (λ (l : Life). l.new) lives) ≡ map (λ (es : List Exchange). Some es) talks →
+    talks_of (map (λ (l : Life). l.new) lives) ≡ talks_in lives
+talks_same [] talks each same = refl
+talks_same (l ∷ lives) [] each same = absurd (cc)
+talks_same (l ∷ lives) (es ∷ talks) each same =
+    ap₂ ◌∷◌ (told_life l es (All-head IsLife l lives each) (first same)) (talks_same lives talks (All-tail IsLife l lives each) (rest same))
+  where
+    first : {a b : Option (List Exchange)} {xs ys : List (Option (List Exchange))} → a ∷ xs ≡ b ∷ ys → a ≡ b
+    first h = cc
+
+    rest : {a b : Option (List Exchange)} {xs ys : List (Option (List Exchange))} → a ∷ xs ≡ b ∷ ys → xs ≡ ys
+    rest h = cc
+
 module _ (task : Task) (system : System) (end : RunEnd) (old new : Scene) (l : Lives task system end old new) where
   found : (talks : List (List Exchange)) (k : ℕ) (v : View) (talk : List Exchange) → map (λ (x : View). x.talk) l.news ≡ map (λ (es : List Exchange). Some es) talks →
-      slice_get l.news k ≡ Some v → slice_get talks k ≡ Some talk → Found l.lives l.olds k v talk
+      slice_get l.news k ≡ Some v → slice_get talks k ≡ Some talk → Found (talks_of l.news) l.lives l.olds k v talk
   found talks k v talk same here there =
       let at = mapped_at (λ (x : Life). x.new) l.lives k v (ap (λ xs. slice_get xs k) l.are.news_are ∙ here) in
       let life : Life = at.0 in
@@ -113,38 +137,41 @@ module _ (task : Task) (system : System) (end : RunEnd) (old new : Scene) (l : L
         old = ap (λ xs. slice_get xs k) (sym l.are.olds_are) ∙ slice_get-map (λ (x : Life). x.old) l.lives k ∙ ap (option_map (λ (x : Life). x.old)) at.1;
         new = at.2;
         talk_is = told_talk life v talk at.2 (talk_at l.news talks k v talk same here there) is.talk;
+        parted = all_got (λ (x : Life). IsParted (talks_of l.news) x.run x.closing) l.lives k life
+            (subst (λ (ts : List Talk). All (λ (x : Life). IsParted ts x.run x.closing) l.lives)
+            (sym (talks_same l.lives talks l.are.each (ap (map (λ (x : View). x.talk)) l.are.news_are ∙ same)) ∙ ap talks_of l.are.news_are) l.are.parted) at.1;
       }
 
   -- a first bad answer that the peer tells is one of its run
-  bad_in : (k : ℕ) (v : View) (talk : List Exchange) (why : Why) (f : Found l.lives l.olds k v talk) → (b : IsFirstBadOf v.fixed.shape why talk) →
+  bad_in : (k : ℕ) (v : View) (talk : List Exchange) (why : Why) (f : Found (talks_of l.news) l.lives l.olds k v talk) → (b : IsFirstBadOf (talks_of l.news) v.fixed.shape why talk) →
       (rest : List Exchange) × (f.life.run ≡ b.front ++ b.last ∷ rest)
-  bad_in k v talk why f b = in_run f.life.run f.life.closing talk b.front b.rest b.last f.talk_is f.is.closing_calls b.is b.run_call
+  bad_in k v talk why f b = in_run (talks_of l.news) f.life.run f.life.closing talk b.front b.rest b.last f.talk_is f.parted b.is b.of_run
 
-  shape_same : (k : ℕ) (v : View) (talk : List Exchange) (f : Found l.lives l.olds k v talk) → v.fixed.shape ≡ f.life.old.fixed.shape
+  shape_same : (k : ℕ) (v : View) (talk : List Exchange) (f : Found (talks_of l.news) l.lives l.olds k v talk) → v.fixed.shape ≡ f.life.old.fixed.shape
   shape_same k v talk f = ap (λ (x : Fixed). x.shape) (sym (ap (λ (x : View). x.fixed) f.new) ∙ f.is.fixed)
 
   -- its name is that of its component
-  name_is : (k : ℕ) (v : View) (talk : List Exchange) (name : List ℕ) (f : Found l.lives l.olds k v talk) → IsSomeAnd v.fixed.origin (λ (o : Origin). o.name ≡ name) → slice_get (names_of system) k ≡ Some name
+  name_is : (k : ℕ) (v : View) (talk : List Exchange) (name : List ℕ) (f : Found (talks_of l.news) l.lives l.olds k v talk) → IsSomeAnd v.fixed.origin (λ (o : Origin). o.name ≡ name) → slice_get (names_of system) k ≡ Some name
   name_is k v talk name f h =
       let s = started_at task.host task.folders system.components l.olds k f.life.old l.peers.are f.old in
       let origin = ap (λ (x : Fixed). x.origin) (sym (ap (λ (x : View). x.fixed) f.new) ∙ f.is.fixed) ∙ s.2.1.origin in
       let same : s.0.name ≡ name = subst (λ (o : Option Origin). IsSomeAnd o (λ (x : Origin). x.name ≡ name)) origin h in
       slice_get-map (λ (c : Component). c.name) system.components k ∙ ap (option_map (λ (c : Component). c.name)) s.1 ∙ ap Some same
 
-  bad_here : (k : ℕ) (v : View) (talk : List Exchange) (why : Why) (f : Found l.lives l.olds k v talk) → (b : IsFirstBadOf v.fixed.shape why talk) → IsWhy f.life.old.fixed.shape why b.last
+  bad_here : (k : ℕ) (v : View) (talk : List Exchange) (why : Why) (f : Found (talks_of l.news) l.lives l.olds k v talk) → (b : IsFirstBadOf (talks_of l.news) v.fixed.shape why talk) → IsWhy f.life.old.fixed.shape why b.last
   bad_here k v talk why f b = subst (λ (s : Shape). IsWhy s why b.last) (shape_same k v talk f) b.bad
 
-  front_here : (k : ℕ) (v : View) (talk : List Exchange) (why : Why) (f : Found l.lives l.olds k v talk) → (b : IsFirstBadOf v.fixed.shape why talk) → T.AllGood f.life.old.fixed.shape b.front
+  front_here : (k : ℕ) (v : View) (talk : List Exchange) (why : Why) (f : Found (talks_of l.news) l.lives l.olds k v talk) → (b : IsFirstBadOf (talks_of l.news) v.fixed.shape why talk) → T.AllGood f.life.old.fixed.shape b.front
   front_here k v talk why f b = subst (λ (s : Shape). T.AllGood s b.front) (shape_same k v talk f) b.good
 
   -- where the run's answers are good there is none
-  good_none : {A : Type 0} (k : ℕ) (v : View) (talk : List Exchange) (why : Why) (f : Found l.lives l.olds k v talk) → IsFirstBadOf v.fixed.shape why talk → T.AllGood f.life.old.fixed.shape f.life.run → A
+  good_none : {A : Type 0} (k : ℕ) (v : View) (talk : List Exchange) (why : Why) (f : Found (talks_of l.news) l.lives l.olds k v talk) → IsFirstBadOf (talks_of l.news) v.fixed.shape why talk → T.AllGood f.life.old.fixed.shape f.life.run → A
   good_none k v talk why f b good =
       let r = bad_in k v talk why f b in
       no_bad f.life.old.fixed.shape f.life.run why b.front r.0 b.last good r.1 (bad_here k v talk why f b)
 
   -- the peer of the least bad answer tells it
-  tells_bad : (talks : List (List Exchange)) (bad : BadAnswer) (least : IsLeastBad bad l.lives) (v : View) (talk : List Exchange) → (f : Found l.lives l.olds bad.component.0 v talk) → IsFirstBadOf v.fixed.shape bad.why talk
+  tells_bad : (talks : List (List Exchange)) (bad : BadAnswer) (least : IsLeastBad bad l.lives) (v : View) (talk : List Exchange) → (f : Found (talks_of l.news) l.lives l.olds bad.component.0 v talk) → IsFirstBadOf (talks_of l.news) v.fixed.shape bad.why talk
   tells_bad talks bad least v talk f =
       let same : least.life ≡ f.life = same_Some least.life f.life (sym least.here ∙ f.here) in
       let first : IsFirstBad f.life.old.fixed.shape bad.why f.life.run = subst (λ (x : Life). IsFirstBad x.old.fixed.shape bad.why x.run) same least.first in
@@ -156,17 +183,12 @@ module _ (task : Task) (system : System) (end : RunEnd) (old new : Scene) (l : L
         is = f.talk_is ∙ ap (λ (es : List Exchange). es ++ f.life.closing) first.is ∙ append_assoc first.front (first.last ∷ []) f.life.closing;
         good = back (λ s. T.AllGood s first.front) first.good;
         bad = back (λ s. IsWhy s bad.why first.last) first.bad;
-        run_call = last_call f.life.run first.front first.last first.is f.is.run_calls;
+        of_run = f.parted.of_run first.front [] first.last first.is;
       }
-    where
-      last_call : (run front : List Exchange) (last : Exchange) → run ≡ front ++ last ∷ [] → All IsRunCall (calls_in run) → IsRunCall last.call
-      last_call run front last is all =
-          at_middle IsRunCall (calls_in front) last.call []
-          (subst (All IsRunCall) (map-append (λ (e : Exchange). e.call) front (last ∷ [])) (subst (λ (es : List Exchange). All IsRunCall (calls_in es)) is all))
 
   -- of two answers that aren't good the one is the other
   module _ (talks : List (List Exchange)) (told : map (λ (x : View). x.talk) l.news ≡ map (λ (es : List Exchange). Some es) talks) (name : List ℕ) (why : Why) (b : IsLeastBadOf l.news talks name why) where
-    mine : Found l.lives l.olds b.place b.peer b.talk
+    mine : Found (talks_of l.news) l.lives l.olds b.place b.peer b.talk
     mine = found talks b.place b.peer b.talk told b.here b.told
 
     pub all_good : {A : Type 0} → AreGood l.lives → A

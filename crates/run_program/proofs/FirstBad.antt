@@ -1,16 +1,13 @@
 -- The first answer of a run that isn't good.
 use Rattle.std.proofs.Common.{◌≡◌, true, false, ◌⊎◌, inl, inr, List, [], ◌∷◌, ◌++◌, refl, sym, ap, ◌∙◌, subst, arith}
 use Rattle.std.specs.Prelude.{All, MatchResult, Result, Ok, Err}
-use Rattle.std.proofs.lemmas.List.{map-append}
 use Rattle.std.proofs.lemmas.List.Elements.{All-head, All-tail}
 use Rattle.std.proofs.lemmas.Grind.{common_steps}
 use Rattle.value_types.specs.declared.shape.Shape.{Shape}
-use Rattle.fmi_calls.specs.KindFacts.{IsRunCall, IsClosingCall}
 use Rattle.fmi_calls.specs.Kinds.{bad_status_of}
 use Rattle.fmi_calls.specs.Worth.{grade_of}
 use Rattle.fmi_calls.specs.declared.call.BadStatus.{BadStatus}
 use Rattle.fmi_calls.specs.declared.call.Call.{Call}
-use Rattle.fmi_calls.specs.declared.call.Call.TheVariants as C
 use Rattle.fmi_calls.specs.declared.call.Grade.{Grade}
 use Rattle.fmi_calls.specs.declared.call.Grade.TheVariants as G
 use Rattle.fmi_calls.specs.declared.call.Reply.{Reply}
@@ -20,7 +17,7 @@ use Rattle.fmu_peer.specs.declared.peer.Exchange.{Exchange}
 use Rattle.fmu_peer.specs.declared.peer.PeerFault.{PeerFault}
 use Rattle.fmu_peer.specs.Answer.{IsWhy, IsFirstBad}
 use Rattle.fmu_peer.specs.Talk as T
-use Rattle.step_master.specs.Lives.{calls_in}
+use Rattle.slot_calls.specs.SavedStates.{IsOfClosing, IsParted, Talk}
 
 good_at : (shape : Shape) (e : Exchange) (call : Call) (reply : Reply) → e.call ≡ call → e.result ≡ Ok reply → T.IsGood shape e → grade_of shape call reply ≡ G.Good
 good_at shape e call reply c r good =
@@ -62,49 +59,19 @@ parted (y ∷ a) b [] d x e = inl (a, ap (λ w. w ∷ a) (heads y x (a ++ b) d e
 parted (y ∷ a) b (z ∷ c) d x e = parted_under y z a b c d x (heads y z (a ++ b) (c ++ x ∷ d) e) (parted a b c d x (tails y z (a ++ b) (c ++ x ∷ d) e))
 
 -- what holds of each holds of one in the middle
-pub at_middle : {X : Type 0} (P : X → Type 0) (a : List X) (x : X) (b : List X) → All P (a ++ x ∷ b) → P x
+at_middle : {X : Type 0} (P : X → Type 0) (a : List X) (x : X) (b : List X) → All P (a ++ x ∷ b) → P x
 at_middle P [] x b h = All-head P x b h
 at_middle P (y ∷ a) x b h = at_middle P a x b (All-tail P y (a ++ x ∷ b) h)
 
--- no call of the closing is one of the run
-untrue : {A : Type 0} → false ≡ true → A
-untrue e = absurd (apart e)
-  where
-    apart : false ≡ true → ⊥
-    apart e = cc
-
-closing_is_no_run : (c : Call) → IsClosingCall c → IsRunCall c → ⊥
-closing_is_no_run (C.Instantiate event_mode early_return) h k = untrue h
-closing_is_no_run (C.EnterInitialization start stop) h k = untrue h
-closing_is_no_run C.ExitInitialization h k = untrue h
-closing_is_no_run C.EnterEvent h k = untrue h
-closing_is_no_run C.EnterStep h k = untrue h
-closing_is_no_run (C.DoStep at size) h k = untrue h
-closing_is_no_run C.Update h k = untrue h
-closing_is_no_run (C.Get kind reference) h k = untrue h
-closing_is_no_run (C.Set kind reference value) h k = untrue h
-closing_is_no_run (C.GetClock reference) h k = untrue h
-closing_is_no_run (C.SetClock reference) h k = untrue h
-closing_is_no_run (C.GetInterval reference) h k = untrue h
-closing_is_no_run (C.GetShift reference) h k = untrue h
-closing_is_no_run C.Save h k = untrue h
-closing_is_no_run C.Restore h k = untrue h
-closing_is_no_run C.Free h k = untrue h
-closing_is_no_run C.Terminate h k = untrue k
-closing_is_no_run C.FreeInstance h k = untrue k
-
--- an exchange of a talk whose call is one of a run stands in the run
-pub in_run : (run closing talk front rest : List Exchange) (last : Exchange) → talk ≡ run ++ closing → All IsClosingCall (calls_in closing) → talk ≡ front ++ last ∷ rest → IsRunCall last.call →
+-- an exchange of a talk that is none of the closing's stands in the run
+pub in_run : (talks : List Talk) (run closing talk front rest : List Exchange) (last : Exchange) → talk ≡ run ++ closing → IsParted talks run closing → talk ≡ front ++ last ∷ rest → (IsOfClosing talks front last.call rest → ⊥) →
     (after : List Exchange) × (run ≡ front ++ last ∷ after)
-in_run run closing talk front rest last parts closing_calls is run_call = choose (parted run closing front rest last (sym parts ∙ is))
+in_run talks run closing talk front rest last parts apart is of_run = choose (parted run closing front rest last (sym parts ∙ is))
   where
     choose : ((after : List Exchange) × (run ≡ front ++ last ∷ after)) ⊎ ((more : List Exchange) × (front ≡ run ++ more) × (closing ≡ more ++ last ∷ rest)) →
         (after : List Exchange) × (run ≡ front ++ last ∷ after)
     choose (inl h) = h
-    choose (inr h) =
-        let there : All IsClosingCall (calls_in (h.0 ++ last ∷ rest)) = subst (λ (es : List Exchange). All IsClosingCall (calls_in es)) h.2 closing_calls in
-        let calls : All IsClosingCall (calls_in h.0 ++ last.call ∷ calls_in rest) = subst (All IsClosingCall) (map-append (λ (e : Exchange). e.call) h.0 (last ∷ rest)) there in
-        absurd (closing_is_no_run last.call (at_middle IsClosingCall (calls_in h.0) last.call (calls_in rest) calls) run_call)
+    choose (inr h) = absurd (of_run (subst (λ (es : List Exchange). IsOfClosing talks es last.call rest) (sym h.1) (apart.of_closing h.0 rest last h.2)))
 
 -- a run of good answers has none that isn't
 pub no_bad : {A : Type 0} (shape : Shape) (run : List Exchange) (why : Why) (front rest : List Exchange) (last : Exchange) → T.AllGood shape run → run ≡ front ++ last ∷ rest → IsWhy shape why last → A

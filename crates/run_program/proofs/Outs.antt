@@ -8,8 +8,7 @@ use Rattle.system_model.specs.declared.system.System.{System}
 use Rattle.system_model.specs.Text.{Instant}
 use Rattle.calling_sequence.specs.declared.run_end.RunEnd.{RunEnd}
 use Rattle.calling_sequence.specs.declared.run_end.RunEnd.TheVariants as E
-use Rattle.calling_sequence.specs.Course.{kind_of_end, trace_pieces}
-use Rattle.calling_sequence.specs.Ends.{EndsBy, PutsWhole}
+use Rattle.calling_sequence.specs.Ends.{EndsBy, PutsWhole, kind_of_end, trace_pieces}
 use Rattle.slot_calls.specs.Log.{Sent}
 use Rattle.calling_sequence.specs.Puts.{CutsPiece, with_pieces}
 use Rattle.run_program.specs.Happened.{Scene}

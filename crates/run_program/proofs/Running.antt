@@ -5,6 +5,7 @@ use Rattle.std.proofs.lemmas.List.{length-map}
 use Rattle.std.proofs.lemmas.List.Quantifiers.{position-Some}
 use Rattle.std.proofs.lemmas.Option.{none-some as none_some, same_Some, slice_get_within}
 use Rattle.sim_base.specs.Sink.{SinkView}
+use Rattle.sim_base.specs.declared.numbers.CompId.{CompId}
 use Rattle.fmi_calls.specs.Next.{fresh}
 use Rattle.fmu_peer.specs.View.{View}
 use Rattle.system_model.specs.declared.bound.Bound.{Bound}
@@ -14,8 +15,9 @@ use Rattle.system_model.specs.declared.system.System.{System}
 use Rattle.slot_calls.specs.declared.bad_answer.BadAnswer.{BadAnswer}
 use Rattle.calling_sequence.specs.declared.run_end.RunEnd.{RunEnd}
 use Rattle.calling_sequence.specs.declared.run_end.RunEnd.TheVariants as E
-use Rattle.calling_sequence.specs.Course.{first_unfit}
-use Rattle.calling_sequence.specs.Ends.{EndsBy}
+use Rattle.calling_sequence.specs.Calls.{first_unfit}
+use Rattle.calling_sequence.specs.Course.{Place}
+use Rattle.calling_sequence.specs.Ends.{EndsAt, EndsBy, Finishes, Unfit, Well}
 use Rattle.step_master.specs.declared.prepare_end.PrepareFault.{PrepareFault}
 use Rattle.step_master.specs.declared.prepare_end.PrepareFault.TheVariants as F
 use Rattle.step_master.specs.Lived.{Account, Lived, LivesAreOver, Unmade, UnmadeIsClosed}
@@ -71,6 +73,13 @@ unfit_within system plan size k is = by (size == plan.step) is
     placed [] h = absurd (none_some k h)
     placed (c ∷ cs) h = (position-Some (λ (d : Component). not d.shape.has_variable_steps) (c ∷ cs) k c h).0
 
+at_unfit : (system : System) (plan : Plan) (component : CompId) (at end : ℕ) (p : Place) → EndsAt system plan (E.FixedStep component at end) p → first_unfit system plan (end - at) ≡ Some component.0
+at_unfit system plan _ _ _ _ (Unfit s component end bound unfit) = unfit
+
+finished_unfit : (system : System) (bound : Bound) (plan : Plan) (point : ℕ) (component : CompId) (at end : ℕ) (log : List Sent) (is : _) → Finishes system bound plan (E.FixedStep component at end) point log is →
+    first_unfit system plan (end - at) ≡ Some component.0
+finished_unfit system bound plan _ component at end _ _ (Well p _ log is course ends) = at_unfit system plan component at end p ends
+
 lives_count : (system : System) (olds news : List View) (log : List Sent) (lives : List Life) → AreLives system olds news log lives → length lives ≡ length system.components
 lives_count system olds news log lives are =
     sym (length-map lives (λ (l : Life). l.source)) ∙ ap (λ (xs : List ℕ). length xs) are.sources_are ∙ length-map system.components (λ (c : Component). c.source.0)
@@ -80,7 +89,7 @@ ends_named : (system : System) (bound : Bound) (plan : Plan) (olds news : List V
 ends_named system bound plan olds news log run lives is E.Stop before after are ends by = tt
 ends_named system bound plan olds news log run lives is (E.Asked point) before after are ends by = tt
 ends_named system bound plan olds news log run lives is (E.EventLimit point) before after are ends by = tt
-ends_named system bound plan olds news log run lives is (E.FixedStep component at end) before after are ends by = unfit_within system plan (end - at) component.0 by.1.1.unfit
+ends_named system bound plan olds news log run lives is (E.FixedStep component at end) before after are ends by = unfit_within system plan (end - at) component.0 (finished_unfit system bound plan by.0 component at end run is by.1)
 ends_named system bound plan olds news log run lives is (E.Bad bad) before after are ends by =
     subst (λ (n : ℕ). bad.component.0 < n) (lives_count system olds news log lives are) (slice_get_within lives bad.component.0 ends.life ends.here)
 ends_named system bound plan olds news log run lives is E.WriteFault before after are ends by = tt

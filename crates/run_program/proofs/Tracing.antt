@@ -14,13 +14,13 @@ use Rattle.system_model.specs.declared.system.System.{System}
 use Rattle.run_model.specs.Run.{Run}
 use Rattle.calling_sequence.specs.declared.run_end.RunEnd.{RunEnd}
 use Rattle.calling_sequence.specs.declared.run_end.RunEnd.TheVariants as E
-use Rattle.calling_sequence.specs.Course.{trace_pieces}
-use Rattle.calling_sequence.specs.Ends.{EndsBy}
+use Rattle.calling_sequence.specs.Ends.{EndsBy, trace_pieces}
 use Rattle.step_master.specs.Lived.{Account}
 use Rattle.step_master.specs.Lives.{AreLives, IsLife, Life}
 use Rattle.slot_calls.specs.Log.{Sent}
 use Rattle.calling_sequence.specs.Puts.{CutsPiece, with_pieces}
-use Rattle.step_master.specs.Traced.{CutsTrace, PutsTrace, SomeRose, TracesWell}
+use Rattle.machine_courses.specs.Outcomes.{CutsTrace, PutsTrace}
+use Rattle.step_master.specs.Traced.{SomeRose, TracesWell, output_of}
 use Rattle.command_line.specs.Line.{Line, RunLine, run_in}
 use Rattle.run_program.specs.declared.outcome.Outcome.{Outcome}
 use Rattle.run_program.specs.declared.outcome.Outcome.TheVariants.{Words, Memory, File, Start, Ran, Checked, Untold}
@@ -61,21 +61,18 @@ put_line : (text : List ℕ) (w : ℕ) (h : Happened) → Reports (Some text) w 
 put_line text w h (inl p) quiet = p
 put_line text w h (inr p) quiet = absurd (quiet (cut_short_rose text h.err h.err_after p.1))
 
-module _ (h : Happened) (task : Task) (system : System) (quiet : Rose h.err.faults h.err_after.faults → ⊥) (r : Run) (of : r.system ≡ system) (planned : r.plan ≡ task.plan) where
+module _ (h : Happened) (task : Task) (system : System) (quiet : Rose h.err.faults h.err_after.faults → ⊥) (r : Run) (of : r.system ≡ system) where
   -- the whole text
-  whole : (a : Account) (kind : EndKind) (point : ℕ) → a.system ≡ system → a.plan ≡ task.plan → a.before ≡ h.old.run.out → a.after ≡ h.new.run.out → PutsTrace a r kind point → ReportsEnd h r kind point → WritesTrace h r
-  whole a kind point s p b n t ends =
+  whole : (a : Account) (kind : EndKind) (point : ℕ) → a.before ≡ h.old.run.out → a.after ≡ h.new.run.out → PutsTrace r (output_of a) kind point → ReportsEnd h r kind point → WritesTrace h r
+  whole a kind point b n t ends =
       Whole t.is kind point t.trace
       ends
-      (sym n ∙ t.text.put ∙ ap (λ (v : SinkView). with_pieces v (trace_pieces a.system a.plan t.is kind point)) b
-      ∙ ap (λ (x : System). with_pieces h.old.run.out (trace_pieces x a.plan t.is kind point)) (s ∙ sym of)
-      ∙ ap (λ (x : Plan). with_pieces h.old.run.out (trace_pieces r.system x t.is kind point)) (p ∙ sym planned))
+      (sym n ∙ t.text.put ∙ ap (λ (v : SinkView). with_pieces v (trace_pieces r.system r.plan t.is kind point)) b)
 
   -- a front of it
-  front : (a : Account) → a.system ≡ system → a.plan ≡ task.plan → a.before ≡ h.old.run.out → a.after ≡ h.new.run.out → CutsTrace a r → h.status ≡ 10 → WritesTrace h r
-  front a s p b n t status =
-      Front t.is t.kind t.point t.pieces t.piece t.rest t.trace status
-      (sym (ap (λ (x : System). trace_pieces x a.plan t.is t.kind t.point) (s ∙ sym of) ∙ ap (λ (x : Plan). trace_pieces r.system x t.is t.kind t.point) (p ∙ sym planned)) ∙ t.are)
+  front : (a : Account) → a.before ≡ h.old.run.out → a.after ≡ h.new.run.out → CutsTrace r (output_of a) → h.status ≡ 10 → WritesTrace h r
+  front a b n t status =
+      Front t.is t.kind t.point t.pieces t.piece t.rest t.trace status t.are
       (subst (λ (v : SinkView). CutsPiece (with_pieces v t.pieces) t.piece h.new.run.out) b (subst (CutsPiece (with_pieces a.before t.pieces) t.piece) n t.cut))
 
   -- by the end
@@ -83,18 +80,18 @@ module _ (h : Happened) (task : Task) (system : System) (quiet : Rose h.err.faul
       All (λ (v : View). v.faults ≡ 0) g.account.news → TracesWell g.account r end → EndsBy g.account.system g.account.bound g.account.plan g.lived.log g.lived.is end g.account.before g.account.after → WritesTrace h r
   ended E.Stop e g named p none t by =
       let put : Reports (end_message O.Stop) (end_status O.Stop) h.status h.err h.err_after = subst (λ (x : End). Reports (end_message x) (end_status x) h.status h.err h.err_after) named p in
-      whole g.account K.Stop g.account.plan.stop g.system_is g.plan_is g.before_is g.after_is t put
+      whole g.account K.Stop r.plan.stop g.before_is g.after_is t put
   ended (E.Asked point) e g named p none t by =
       let put : Reports (end_message O.Asked) (end_status O.Asked) h.status h.err h.err_after = subst (λ (x : End). Reports (end_message x) (end_status x) h.status h.err h.err_after) named p in
-      whole g.account K.Asked point g.system_is g.plan_is g.before_is g.after_is t put
+      whole g.account K.Asked point g.before_is g.after_is t put
   ended (E.EventLimit point) e g named p none t by =
       let put : Reports (Some (limit_message point)) 8 h.status h.err h.err_after = subst (λ (x : End). Reports (end_message x) (end_status x) h.status h.err h.err_after) named p in
-      whole g.account K.Limit point g.system_is g.plan_is g.before_is g.after_is t (put_line (limit_message point) 8 h put quiet)
+      whole g.account K.Limit point g.before_is g.after_is t (put_line (limit_message point) 8 h put quiet)
   ended (E.FixedStep component at end) e g named p none t by =
       let put : Reports (Some (fixed_message named.0 at end)) 9 h.status h.err h.err_after = subst (λ (x : End). Reports (end_message x) (end_status x) h.status h.err h.err_after) named.2 p in
       let said = put_line (fixed_message named.0 at end) 9 h put quiet in
       let name : slice_get (names_of r.system) component.0 ≡ Some named.0 = subst (λ (x : System). slice_get (names_of x) component.0 ≡ Some named.0) (sym of) named.1 in
-      whole g.account K.Fixed at g.system_is g.plan_is g.before_is g.after_is t.0 (said.0, component.0, named.0, end, name, t.1, said.1)
+      whole g.account K.Fixed at g.before_is g.after_is t.0 (said.0, component.0, named.0, end, name, t.1, said.1)
   ended (E.Bad bad) e g named p none t by = none_rose g.account.olds g.account.news none t.1
   ended E.WriteFault e g named p none t by = choose t
     where
@@ -102,9 +99,9 @@ module _ (h : Happened) (task : Task) (system : System) (quiet : Rose h.err.faul
       status (inl q) = q.0
       status (inr q) = q.0
 
-      choose : SomeRose g.account.olds g.account.news ⊎ CutsTrace g.account r → WritesTrace h r
+      choose : SomeRose g.account.olds g.account.news ⊎ CutsTrace r (output_of g.account) → WritesTrace h r
       choose (inl some) = none_rose g.account.olds g.account.news none some
-      choose (inr cut) = front g.account g.system_is g.plan_is g.before_is g.after_is cut (status (subst (λ (x : End). Reports (end_message x) (end_status x) h.status h.err h.err_after) named p))
+      choose (inr cut) = front g.account g.before_is g.after_is cut (status (subst (λ (x : End). Reports (end_message x) (end_status x) h.status h.err h.err_after) named p))
 
 -- a peer keeps what stays through its life
 lives_same : (system : System) (olds news : List View) (log : List Sent) (lives : List Life) → AreLives system olds news log lives → map (λ (v : View). v.fixed) news ≡ map (λ (v : View). v.fixed) olds
@@ -125,7 +122,7 @@ run_traces end e task system h named (Went g) p quiet = record {
   peers = g.peers;
   same = lives_same g.account.system g.account.olds g.account.news (g.lived.made ++ g.lived.log) g.lived.lives g.lived.are;
   sound = g.sound;
-  writes = λ r of planned well none. ended h task system quiet r of.system_is planned end e g named p none (g.well r of planned well)
+  writes = λ r of planned well none. ended h task system quiet r of.system_is end e g named p none (g.well r of planned well)
       (subst (λ (x : RunEnd). EndsBy g.account.system g.account.bound g.account.plan g.lived.log g.lived.is x g.account.before g.account.after) g.end_is g.lived.text);
 }
 run_traces end e task system h named (Broke bad is f) p quiet = record {

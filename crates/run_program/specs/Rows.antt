@@ -1,5 +1,5 @@
 -- When each status comes, and what stands then.
-use Rattle.std.specs.Prelude.{◌≡◌, ◌⊎◌, ℕ, ◌+◌, ◌<◌, ◌≤◌, true, List, [], ◌∷◌, ◌++◌, length, map, All, Contains, Some, None, IsSomeAnd, is_some, codes, slice_index_or}
+use Rattle.std.specs.Prelude.{◌≡◌, ◌⊎◌, ℕ, ◌+◌, ◌<◌, ◌≤◌, true, List, [], ◌∷◌, ◌++◌, length, map, All, Contains, Some, None, IsSomeAnd, is_some, codes, slice_index_or, unwrap_or}
 use Rattle.std.specs.List.{slice_get}
 use Rattle.sim_base.specs.Causes.{Rose}
 use Rattle.sim_base.specs.Sink.{with_piece}
@@ -8,7 +8,6 @@ use Rattle.sim_base.specs.declared.numbers.PortId.{PortId}
 use Rattle.value_types.specs.declared.shape.Shape.{Shape}
 use Rattle.doc_tree.specs.declared.place.Place.{Place}
 use Rattle.doc_tree.specs.declared.rule.Rule.{Rule}
-use Rattle.fmi_calls.specs.KindFacts.{IsRunCall}
 use Rattle.fmu_peer.specs.declared.peer.Exchange.{Exchange}
 use Rattle.fmu_peer.specs.declared.ended.Why.{Why}
 use Rattle.fmu_peer.specs.declared.ended.Why.TheVariants.{Refused, Misreply, Link}
@@ -29,9 +28,11 @@ use Rattle.run_model.specs.Behaved.{WellBehaved}
 use Rattle.slot_calls.specs.declared.bad_answer.BadAnswer.{BadAnswer}
 use Rattle.calling_sequence.specs.declared.run_end.RunEnd.{RunEnd}
 use Rattle.calling_sequence.specs.declared.run_end.RunEnd.TheVariants as E
-use Rattle.calling_sequence.specs.Course.{trace_pieces}
+use Rattle.calling_sequence.specs.Ends.{trace_pieces}
 use Rattle.calling_sequence.specs.Puts.{CutsPiece, with_pieces}
-use Rattle.step_master.specs.Traced.{IsRunOf, LacksStepAt}
+use Rattle.machine_courses.specs.Fronts.{LacksStepAt}
+use Rattle.slot_calls.specs.SavedStates.{IsOfClosing, Talk}
+use Rattle.step_master.specs.Traced.{IsRunOf}
 use Rattle.bench_fmus.specs.declared.built_in.BuiltIn.{BuiltIn}
 use Rattle.bench_fmus.specs.BuiltInView.{built_in_view}
 use Rattle.built_in_laws.specs.BuiltInRuns.{IsBuiltIn}
@@ -194,15 +195,23 @@ pub record BreaksOffBy (h : Happened) (line : Line) (P : Why → Type 0) : Type 
   pub says : Says h (bad_message name bad.why)
   pub run : HasRun (task_of it.asked it.loaded) it.loaded.system (E.Bad bad) h.old.run h.new.run
 
--- why is the first answer of the talk's run that isn't good: the calls before it got good ones, and its own is none of the closing's
-pub record IsFirstBadOf (shape : Shape) (why : Why) (talk : List Exchange) : Type 0 where
+-- the talks that these peers tell
+abbrev pub talks_of : List View → List Talk
+talks_of peers = map (λ (v : View). record {
+  shape = v.fixed.shape;
+  exchanges = unwrap_or v.talk [];
+}) peers
+
+-- why is the first answer of the talk's run that isn't good: the calls before it got good ones, and its own is none of the closing's, among the talks of all
+pub record IsFirstBadOf (talks : List Talk) (shape : Shape) (why : Why)
+    (talk : List Exchange) : Type 0 where
   pub front : List Exchange
   pub last : Exchange
   pub rest : List Exchange
   pub is : talk ≡ front ++ last ∷ rest
   pub good : T.AllGood shape front
   pub bad : IsWhy shape why last
-  pub run_call : IsRunCall last.call
+  pub of_run : IsOfClosing talks front last.call rest → ⊥
 
 -- these peers were taken back, each tells its talk, and no put on out failed
 pub record TellPeers (h : Happened) (peers : List View)
@@ -220,10 +229,10 @@ pub record IsLeastBadOf (peers : List View) (talks : List (List Exchange)) (name
   pub here : slice_get peers place ≡ Some peer
   pub told : slice_get talks place ≡ Some talk
   pub named : IsSomeAnd peer.fixed.origin (λ (o : Origin). o.name ≡ name)
-  pub first : IsFirstBadOf peer.fixed.shape why talk
+  pub first : IsFirstBadOf (talks_of peers) peer.fixed.shape why talk
   pub before : (k : ℕ) (v : View) (es : List Exchange) (other : Why) → k < place →
       slice_get peers k ≡ Some v → slice_get talks k ≡ Some es →
-      IsFirstBadOf v.fixed.shape other es → ⊥
+      IsFirstBadOf (talks_of peers) v.fixed.shape other es → ⊥
 
 -- the status and the line are those of the first answer that isn't good, of the least component
 abbrev pub DecidesBy : Happened → (Why → Type 0) → Type 0

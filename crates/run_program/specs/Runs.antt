@@ -18,7 +18,8 @@ use Rattle.calling_sequence.specs.declared.run_end.RunEnd.TheVariants as E
 use Rattle.step_master.specs.Lived.{Account, Lived, Unmade}
 use Rattle.step_master.specs.Lives.{AreOver}
 use Rattle.calling_sequence.specs.Systems.{IsBuilt}
-use Rattle.step_master.specs.Traced.{IsRunOf, PutsRun, SomeRose, TracesWell}
+use Rattle.machine_courses.specs.Outcomes.{PutsRun}
+use Rattle.step_master.specs.Traced.{IsRunOf, SomeRose, TracesWell, output_of}
 use Rattle.run_program.specs.declared.outcome.StartCause.{StartCause}
 use Rattle.run_program.specs.declared.outcome.StartCause.TheVariants.{Failed, Unknown}
 use Rattle.run_program.specs.declared.outcome.End.{End}
@@ -106,7 +107,7 @@ pub record Goes (task : Task) (system : System) (end : RunEnd) (old new : Scene)
   pub lived : Lived account
   pub over : AreOver lived.lives
   pub so_far : (r : Run) → IsRunOf system task.bound account.olds r → r.plan ≡ task.plan →
-      PutsRun account r end
+      PutsRun r (output_of account) end
   pub well : (r : Run) → IsRunOf system task.bound account.olds r → r.plan ≡ task.plan →
       WellBehaved r → TracesWell account r end
 

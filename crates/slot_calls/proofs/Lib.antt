@@ -1,3 +1,4 @@
+pub mod States
 pub mod Logs
 pub mod Answered
 pub mod Leading

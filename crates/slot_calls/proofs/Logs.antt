@@ -8,6 +8,8 @@ use Rattle.fmu_peer.specs.Close.{any_fatal, is_fatal_answer}
 use Rattle.fmu_peer.specs.CloseAll.{Instance}
 use Rattle.fmu_peer.specs.View.{View, Fixed}
 use Rattle.slot_calls.specs.Log.{Talks, Has, Sent, Told, part, askings, asking_of}
+use Rattle.slot_calls.specs.SavedStates.{saved_after}
+use Rattle.slot_calls.proofs.States.{saved_on}
 
 -- ---- one instance
 
@@ -34,7 +36,8 @@ pub has_on : (a : Instance) (es : List Exchange) (b : Instance) (fs : List Excha
 has_on a es b fs c h k = record {
   talks = talks_on a.view es b.view fs c.view h.talks k.talks;
   source = k.source ∙ h.source;
-  saved = k.saved ∙ h.saved;
+  saved = k.saved ∙ ap (λ (f : Fixed). saved_after f.shape b.has_saved fs) (talks_fixed a.view es b.view h.talks)
+      ∙ ap (λ (x : Bool). saved_after a.view.fixed.shape x fs) h.saved ∙ sym (saved_on a.view.fixed.shape a.has_saved es fs);
   fatal = k.fatal ∙ ap (λ (x : Bool). x || any_fatal b.view.fixed.shape fs) h.fatal
       ∙ ap (λ (f : Fixed). (a.is_fatal || any_fatal a.view.fixed.shape es) || any_fatal f.shape fs) (talks_fixed a.view es b.view h.talks)
       ∙ or_assoc a.is_fatal (any_fatal a.view.fixed.shape es) (any_fatal a.view.fixed.shape fs)

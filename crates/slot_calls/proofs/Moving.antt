@@ -15,6 +15,7 @@ use Rattle.fmi_calls.specs.declared.call.Reply.TheVariants as R
 use Rattle.fmi_calls.specs.declared.call.Grade.{Grade}
 use Rattle.fmi_calls.specs.declared.call.Grade.TheVariants as G
 use Rattle.fmi_calls.specs.declared.phase.Phase.{Phase}
+use Rattle.fmi_calls.specs.KindFacts.{keeps_state}
 use Rattle.fmi_calls.specs.Next.{graded, counted, entered}
 use Rattle.fmi_calls.specs.Permission.{Permitted}
 use Rattle.fmi_calls.specs.Worth.{grade_of}
@@ -31,7 +32,10 @@ use Rattle.fmu_peer.specs.View.{View}
 use Rattle.run_model.specs.Stepping.{is_terminating}
 use Rattle.slot_calls.specs.Carried.{reply_in, with_some}
 use Rattle.slot_calls.specs.Log.{One, Worth}
-use Rattle.slot_calls.specs.Slots.{Moves, Called, IsLive, is_fatal_result}
+use Rattle.slot_calls.specs.Slots.{Moves, Called, IsLive, is_fatal_result, call_of, keeps_mode}
+use Rattle.slot_calls.specs.declared.ask.Ask.{Ask}
+use Rattle.slot_calls.specs.declared.ask.Ask.TheVariants as Asks
+use Rattle.slot_calls.proofs.States.{saved_same}
 
 -- the phase after a good answer
 pub phase_by_good : (old new : View) (call : Call) (reply : Reply) → Answered old call reply new → new.phase ≡ entered old.fixed.shape (counted old.phase call) call reply
@@ -140,16 +144,31 @@ pub fatal_some : {A : Type 0} (r : Result A Why) → is_fatal_result (with_some 
 fatal_some (Ok x) = refl
 fatal_some (Err why) = refl
 
+-- the calls that are sent to a slot keep no state
+pub mode_keeps : (call : Call) → keeps_mode call ≡ true → keeps_state call ≡ false
+mode_keeps C.Save mode = absurd (cc)
+mode_keeps C.Restore mode = absurd (cc)
+mode_keeps C.Free mode = absurd (cc)
+mode_keeps call mode = refl
+
+pub ask_keeps : (ask : Ask) (shape : Shape) → keeps_state (call_of ask shape) ≡ false
+ask_keeps Asks.Instantiate shape = refl
+ask_keeps (Asks.EnterInitialization start stop) shape = refl
+ask_keeps Asks.ExitInitialization shape = refl
+ask_keeps Asks.EnterEvent shape = refl
+ask_keeps Asks.EnterStep shape = refl
+ask_keeps (Asks.DoStep at size) shape = refl
+
 -- a slot that is marked by its result, from what it holds
 pub one_moved : {L T : Type 0} {g : _} (view : L → View) (old new : Slot L g) (call : Call) (value : Exchange → T) (r : Result T Why) → Moves view old.held call value new.held r →
-    new.source.0 ≡ old.source.0 → is_some new.saved ≡ is_some old.saved → new.is_fatal ≡ (old.is_fatal || is_fatal_result r) → One call value (instance_in view old) (instance_in view new) r
-one_moved view old new call value r moves source saved fatal = record {
+    new.source.0 ≡ old.source.0 → is_some new.saved ≡ is_some old.saved → keeps_state call ≡ false → new.is_fatal ≡ (old.is_fatal || is_fatal_result r) → One call value (instance_in view old) (instance_in view new) r
+one_moved view old new call value r moves source saved keeps fatal = record {
   exchange = moves.called.exchange;
   is = moves.called.is;
   has = record {
     talks = moves.called.talks;
     source = source;
-    saved = saved;
+    saved = saved ∙ sym (saved_same (view (peer_in old.held)).fixed.shape moves.called.exchange.call moves.called.exchange.result (is_some old.saved) (ap keeps_state moves.called.is ∙ keeps));
     fatal = fatal ∙ ap (λ (b : Bool). old.is_fatal || b) (fatal_one (view (peer_in old.held)).fixed.shape value moves.called.exchange r moves.called.worth);
   };
   worth = moves.called.worth;

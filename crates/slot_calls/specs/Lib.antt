@@ -1,3 +1,4 @@
+pub mod SavedStates
 pub mod Log
 pub mod Stage
 pub mod Rounds

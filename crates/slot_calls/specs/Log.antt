@@ -10,6 +10,7 @@ use Rattle.fmu_peer.specs.Close.{any_fatal}
 use Rattle.fmu_peer.specs.CloseAll.{Instance}
 use Rattle.fmu_peer.specs.Talk.{IsGood}
 use Rattle.fmu_peer.specs.View.{View, Asked}
+use Rattle.slot_calls.specs.SavedStates.{saved_after}
 
 -- ---- one instance
 
@@ -24,7 +25,7 @@ Talks old (e ∷ es) new =
 pub record Has (old : Instance) (es : List Exchange) (new : Instance) : Type 0 where
   pub talks : Talks old.view es new.view
   pub source : new.source ≡ old.source
-  pub saved : new.has_saved ≡ old.has_saved
+  pub saved : new.has_saved ≡ saved_after old.view.fixed.shape old.has_saved es
   pub fatal : new.is_fatal ≡ (old.is_fatal || any_fatal old.view.fixed.shape es)
 
 -- what the answer of one exchange is to the caller: a value that a good one carries, or why it isn't good

@@ -10,5 +10,5 @@ mod stage;
 pub use advancing::advance;
 pub use ask::Ask;
 pub use bad_answer::BadAnswer;
-pub use sending::{read, send, value_in};
+pub use sending::{send, value_in};
 pub use stage::{each, round};

@@ -1,15 +1,14 @@
-ghost use Rattle.std.specs.Prelude.{◌≡◌, OnOk, IfOk, IsTrue};
+ghost use Rattle.std.specs.Prelude.{◌≡◌, OnOk, IsTrue};
 ghost use Rattle.fmi_calls.specs.Permission.{Permitted};
 ghost use Rattle.fmu_peer.specs.CloseAll.{instance_in, peer_in};
 ghost use Rattle.run_model.specs.Equations.{value_in};
-ghost use Rattle.slot_calls.specs.Carried.{IsWide, get_of, reply_in, value_of, with_some};
+ghost use Rattle.slot_calls.specs.Carried.{IsWide, reply_in, with_some};
 ghost use Rattle.slot_calls.specs.Log.{One};
 ghost use Rattle.slot_calls.specs.Slots.{Called, IsLive, Moves, keeps_mode, reads_or_sets};
 
 use crate::advancing::is_fatal;
 use fmi_calls::{Call, Content, Reply};
 use fmu_peer::{Eventing, Fmu, Held, Mode, Peer, Slot, Why};
-use system_model::Port;
 use value_types::{PortType, from_word};
 
 /// Sends a call that reads or sets a variable or a Clock, or an Update, to the FMU in a slot.
@@ -79,26 +78,6 @@ fn send_to<L: Peer, M: Mode>(fmu: &mut Fmu<L, M>, call: Call) -> Result<Reply, W
         Call::GetInterval { reference } => fmu.interval(reference),
         Call::GetShift { reference } => fmu.shift(reference),
         _ => unreachable!(),
-    }
-}
-
-/// Reads an output of the FMU in a slot.
-pub fn read<L: Peer>(slot: &mut Slot<L>, port: &Port) -> Result<Option<i128>, Why>
-    requires live { IsLive L.view slot.old.held }
-    requires permitted { Permitted (L.view (peer_in slot.old.held)).fixed.shape
-        (L.view (peer_in slot.old.held)).phase (get_of port.now) }
-    ensures live { OnOk result (IsLive L.view slot.new.held) }
-    ensures one { One (get_of port.now) value_of (instance_in L.view slot.old)
-        (instance_in L.view slot.new) result }
-    ensures wide { IfOk result IsWide }
-{
-    let call = Call::Get {
-        kind: port.kind,
-        reference: port.reference,
-    };
-    match send(slot, call) {
-        Ok(reply) => Ok(value_in(port.kind, &reply)),
-        Err(why) => Err(why),
     }
 }
 

@@ -5,11 +5,11 @@ use Rattle.std.specs.List.{slice_get}
 use Rattle.std.proofs.lemmas.List.{append-nil, map-append, take-append-drop, take-map, drop-map}
 use Rattle.std.proofs.lemmas.List.Elements.{All-nil, All-cons, All-head, All-tail, All-take, All-drop}
 use Rattle.std.proofs.lemmas.List.Folds.{list_any-append}
+use Rattle.std.proofs.lemmas.Option.{same_Some}
 use Rattle.value_types.specs.declared.shape.Shape.{Shape}
 use Rattle.fmi_calls.specs.declared.call.Call.TheVariants as C
 use Rattle.fmi_calls.specs.declared.phase.Phase.{Phase}
 use Rattle.fmi_calls.specs.KindFacts.{IsClosingCall, IsRunCall}
-use Rattle.fmi_calls.specs.Next.{fresh}
 use Rattle.fmu_peer.specs.Close.{any_fatal, closing_calls}
 use Rattle.fmu_peer.specs.CloseAll.{ClosesOne, Closing, InOrder, Instance, afters, befores, is_source_lost, member_of}
 use Rattle.fmu_peer.specs.Lean.{IsLean}
@@ -17,121 +17,88 @@ use Rattle.fmu_peer.specs.Siblings.{IsSpared, Member, Siblings, SparesLater}
 use Rattle.fmu_peer.specs.Talk as T
 use Rattle.fmu_peer.specs.View.{Fixed, View}
 use Rattle.fmu_peer.proofs.OrderLemmas.{same_number, spared_from, spares_later}
-use Rattle.system_model.specs.declared.system.Component.{Component}
-use Rattle.step_master.specs.Lives.{IsLife, Life, any_fatal_closing, any_fatal_run, calls_in, member_in, shape_in, talk_in}
+use Rattle.step_master.specs.Lives.{IsLife, Life, any_fatal_closing, any_fatal_run, member_in, shape_in, talk_in}
+use Rattle.course_laws.specs.Laws.{calls_in}
 use Rattle.slot_calls.specs.Log.{Has, Sent, Talks, part}
-use Rattle.step_master.specs.Seats.{seat}
-use Rattle.step_master.specs.System.{IsNew}
+use Rattle.slot_calls.specs.SavedStates.{IsParted, LeavesState, Talk, saved_after}
 use Rattle.step_master.proofs.Leaving.{leaves_one}
+use Rattle.step_master.proofs.Parted.{Closes, is_parted, turn_closes, unsaved}
 use Rattle.slot_calls.proofs.Logs.{talks_fixed, talks_on}
 use Rattle.slot_calls.proofs.Replying.{replies_of}
+use Rattle.step_master.proofs.SeatLemmas.{IsSeat}
 use Rattle.step_master.proofs.Talking.{counts_of, talk_is, talks_legal, talks_phase, turn_all, turn_talks}
 
 -- ---- lists side by side
 
--- a component by its number, its peer before the first call, and its closing
+-- the number of a component, its peer's instance before the first call, and its closing
 pub record Row : Type 0 where
   pub number : ℕ
-  pub component : Component
-  pub old : View
+  pub seat : Instance
   pub closing : Closing
 
-abbrev pub rows_from : ℕ → List Component → List View → List Closing → List Row
-rows_from i (c ∷ cs) (v ∷ vs) (k ∷ ks) = record { number = i; component = c; old = v; closing = k } ∷ rows_from (i + 1) cs vs ks
-rows_from i [] vs ks = []
-rows_from i (c ∷ cs) [] ks = []
-rows_from i (c ∷ cs) (v ∷ vs) [] = []
-
--- three lists of one length
-pub record Beside (cs : List Component) (vs : List View) (ks : List Closing) : Type 0 where
-  pub views : length vs ≡ length cs
-  pub closings : length ks ≡ length cs
-
-beside_rest : (c : Component) (cs : List Component) (v : View) (vs : List View) (k : Closing) (ks : List Closing) → Beside (c ∷ cs) (v ∷ vs) (k ∷ ks) → Beside cs vs ks
-beside_rest c cs v vs k ks b = let x = b.views in let y = b.closings in record { views = omega (arith, x); closings = omega (arith, y) }
+abbrev pub rows_from : ℕ → List Instance → List Closing → List Row
+rows_from i (s ∷ ss) (k ∷ ks) = record { number = i; seat = s; closing = k } ∷ rows_from (i + 1) ss ks
+rows_from i [] ks = []
+rows_from i (s ∷ ss) [] = []
 
 -- what a row has of the lists
-pub record IsRowOf (i : ℕ) (cs : List Component) (vs : List View) (ks : List Closing) (n : ℕ) (row : Row) : Type 0 where
+pub record IsRowOf (i : ℕ) (ss : List Instance) (ks : List Closing) (n : ℕ) (row : Row) : Type 0 where
   pub number : row.number ≡ i + n
-  pub component : slice_get cs n ≡ Some row.component
-  pub old : slice_get vs n ≡ Some row.old
+  pub seat : slice_get ss n ≡ Some row.seat
   pub closing : slice_get ks n ≡ Some row.closing
 
-none_in : (n : ℕ) (row : Row) → slice_get {X = Row} [] n ≡ Some row → ⊥
-none_in n row is = absurd (cc)
-
-pub row_at : (i : ℕ) (cs : List Component) (vs : List View) (ks : List Closing) (n : ℕ) (row : Row) → slice_get (rows_from i cs vs ks) n ≡ Some row → IsRowOf i cs vs ks n row
-row_at i (c ∷ cs) (v ∷ vs) (k ∷ ks) zero row is =
-    let same : record { number = i; component = c; old = v; closing = k } ≡ row = unsome is in record {
+pub row_at : (i : ℕ) (ss : List Instance) (ks : List Closing) (n : ℕ) (row : Row) → slice_get (rows_from i ss ks) n ≡ Some row → IsRowOf i ss ks n row
+row_at i (s ∷ ss) (k ∷ ks) zero row is =
+    let same : record { number = i; seat = s; closing = k } ≡ row = same_Some _ row is in record {
       number = ap (λ (r : Row). r.number) (sym same) ∙ omega arith;
-      component = ap (λ (r : Row). Some r.component) same;
-      old = ap (λ (r : Row). Some r.old) same;
+      seat = ap (λ (r : Row). Some r.seat) same;
       closing = ap (λ (r : Row). Some r.closing) same;
-    } where
-      unsome : {a b : Row} → Some a ≡ Some b → a ≡ b
-      unsome h = cc
-row_at i (c ∷ cs) (v ∷ vs) (k ∷ ks) (suc n) row is =
-    let r = row_at (i + 1) cs vs ks n row is in record { number = r.number ∙ omega arith; component = r.component; old = r.old; closing = r.closing }
-row_at i [] vs ks n row is = absurd (none_in n row is)
-row_at i (c ∷ cs) [] ks n row is = absurd (none_in n row is)
-row_at i (c ∷ cs) (v ∷ vs) [] n row is = absurd (none_in n row is)
+    }
+row_at i (s ∷ ss) (k ∷ ks) (suc n) row is = let r = row_at (i + 1) ss ks n row is in record { number = r.number ∙ omega arith; seat = r.seat; closing = r.closing }
+row_at i [] ks n row is = absurd (cc)
+row_at i (s ∷ ss) [] n row is = absurd (cc)
 
-pub components_are : (i : ℕ) (cs : List Component) (vs : List View) (ks : List Closing) → Beside cs vs ks → map (λ (r : Row). r.component) (rows_from i cs vs ks) ≡ cs
-components_are i [] vs ks b = refl
-components_are i (c ∷ cs) [] ks b = absurd (let x = b.views in omega (arith, x))
-components_are i (c ∷ cs) (v ∷ vs) [] b = absurd (let x = b.closings in omega (arith, x))
-components_are i (c ∷ cs) (v ∷ vs) (k ∷ ks) b = ap (λ (l : List Component). c ∷ l) (components_are (i + 1) cs vs ks (beside_rest c cs v vs k ks b))
+pub seats_are : (i : ℕ) (ss : List Instance) (ks : List Closing) → length ks ≡ length ss → map (λ (r : Row). r.seat) (rows_from i ss ks) ≡ ss
+seats_are i [] ks e = refl
+seats_are i (s ∷ ss) [] e = absurd (omega (arith, e))
+seats_are i (s ∷ ss) (k ∷ ks) e = ap (λ (l : List Instance). s ∷ l) (seats_are (i + 1) ss ks (omega (arith, e)))
 
-pub olds_are : (i : ℕ) (cs : List Component) (vs : List View) (ks : List Closing) → Beside cs vs ks → map (λ (r : Row). r.old) (rows_from i cs vs ks) ≡ vs
-olds_are i [] [] ks b = refl
-olds_are i [] (v ∷ vs) ks b = absurd (let x = b.views in omega (arith, x))
-olds_are i (c ∷ cs) [] ks b = absurd (let x = b.views in omega (arith, x))
-olds_are i (c ∷ cs) (v ∷ vs) [] b = absurd (let x = b.closings in omega (arith, x))
-olds_are i (c ∷ cs) (v ∷ vs) (k ∷ ks) b = ap (λ (l : List View). v ∷ l) (olds_are (i + 1) cs vs ks (beside_rest c cs v vs k ks b))
-
-pub closings_are : (i : ℕ) (cs : List Component) (vs : List View) (ks : List Closing) → Beside cs vs ks → map (λ (r : Row). r.closing) (rows_from i cs vs ks) ≡ ks
-closings_are i [] vs [] b = refl
-closings_are i [] vs (k ∷ ks) b = absurd (let x = b.closings in omega (arith, x))
-closings_are i (c ∷ cs) [] ks b = absurd (let x = b.views in omega (arith, x))
-closings_are i (c ∷ cs) (v ∷ vs) [] b = absurd (let x = b.closings in omega (arith, x))
-closings_are i (c ∷ cs) (v ∷ vs) (k ∷ ks) b = ap (λ (l : List Closing). k ∷ l) (closings_are (i + 1) cs vs ks (beside_rest c cs v vs k ks b))
-
-pub map_map : {A B C : Type 0} (f : A → B) (g : B → C) (xs : List A) → map g (map f xs) ≡ map (λ x. g (f x)) xs
-map_map f g [] = refl
-map_map f g (x ∷ xs) = ap (λ ys. g (f x) ∷ ys) (map_map f g xs)
+pub closings_are : (i : ℕ) (ss : List Instance) (ks : List Closing) → length ks ≡ length ss → map (λ (r : Row). r.closing) (rows_from i ss ks) ≡ ks
+closings_are i [] [] e = refl
+closings_are i [] (k ∷ ks) e = absurd (omega (arith, e))
+closings_are i (s ∷ ss) [] e = absurd (omega (arith, e))
+closings_are i (s ∷ ss) (k ∷ ks) e = ap (λ (l : List Closing). k ∷ l) (closings_are (i + 1) ss ks (omega (arith, e)))
 
 -- ---- one row
 
 abbrev pub life_of : List Sent → Row → Life
-life_of log row = record { source = row.component.source.0; old = row.old; run = part row.number log; closing = row.closing.sent; new = row.closing.new.view }
+life_of log row = record { source = row.seat.source; old = row.seat.view; run = part row.number log; closing = row.closing.sent; new = row.closing.new.view }
 
--- a peer that was new had its part of the log, whose calls are needed ones of a run, and was closed
-pub record IsRow (log : List Sent) (row : Row) : Type 0 where
-  pub new : IsNew row.component.shape row.old
-  pub has : Has (seat row.component row.old) (part row.number log) row.closing.old
+-- a peer that was new had its part of the log, whose calls are needed ones of a run and leave a saved state as they may, and was closed
+pub record IsRow (talks : List Talk) (log : List Sent) (row : Row) : Type 0 where
+  pub new : IsSeat row.seat
+  pub has : Has row.seat (part row.number log) row.closing.old
   pub spared : Bool
   pub one : ClosesOne spared row.closing
   pub runs : All IsRunCall (calls_in (part row.number log))
   pub lean : IsLean (calls_in (part row.number log))
+  pub leaves : LeavesState talks row.seat.view.fixed.shape (part row.number log)
 
-module _ (log : List Sent) (row : Row) (r : IsRow log row) where
+module _ (talks : List Talk) (log : List Sent) (row : Row) (r : IsRow talks log row) where
   abbrev life : Life
   life = life_of log row
 
   abbrev mid : View
   mid = row.closing.old.view
 
-  mid_fixed : mid.fixed ≡ row.old.fixed
-  mid_fixed = talks_fixed row.old life.run mid r.has.talks
-
-  first : row.old.phase ≡ fresh row.old.fixed.shape
-  first = r.new.phase ∙ ap fresh (sym r.new.shape_is)
+  mid_fixed : mid.fixed ≡ row.seat.view.fixed
+  mid_fixed = talks_fixed row.seat.view life.run mid r.has.talks
 
   closing_talks : Talks mid life.closing life.new
   closing_talks = turn_talks _ mid life.closing life.new r.one.turn
 
-  all_talks : Talks row.old (talk_in life) life.new
-  all_talks = talks_on row.old life.run mid life.closing life.new r.has.talks closing_talks
+  all_talks : Talks row.seat.view (talk_in life) life.new
+  all_talks = talks_on row.seat.view life.run mid life.closing life.new r.has.talks closing_talks
 
   closing_all : (b saved : Bool) → saved ≡ false → All IsClosingCall (if b then [] else closing_calls saved)
   closing_all true saved h = All-nil IsClosingCall
@@ -142,15 +109,15 @@ module _ (log : List Sent) (row : Row) (r : IsRow log row) where
 
   pub is_life : IsLife life
   is_life = record {
-    fixed = talks_fixed row.old (talk_in life) life.new all_talks;
+    fixed = talks_fixed row.seat.view (talk_in life) life.new all_talks;
     run_calls = r.runs;
     lean = r.lean;
-    closing_calls = turn_all IsClosingCall _ mid life.closing life.new (closing_all r.spared row.closing.old.has_saved r.has.saved) r.one.turn;
-    legal = subst (λ (p : Phase). T.LegalFrom row.old.fixed.shape p (talk_in life)) first (talks_legal row.old (talk_in life) life.new all_talks);
-    phase = talks_phase row.old (talk_in life) life.new all_talks ∙ ap (λ (p : Phase). T.phase_from row.old.fixed.shape p (talk_in life)) first;
-    talk = talk_is row.old (talk_in life) life.new r.new.talk all_talks;
-    counts = counts_of row.old (talk_in life) life.new all_talks;
-    replies = λ m s machine state. replies_of m row.old (talk_in life) life.new all_talks s machine state;
+    closing_calls = turn_all IsClosingCall _ mid life.closing life.new (closing_all r.spared row.closing.old.has_saved (r.has.saved ∙ unsaved row.seat.view.fixed.shape row.seat.has_saved life.run r.runs ∙ r.new.unsaved)) r.one.turn;
+    legal = subst (λ (p : Phase). T.LegalFrom row.seat.view.fixed.shape p (talk_in life)) r.new.first (talks_legal row.seat.view (talk_in life) life.new all_talks);
+    phase = talks_phase row.seat.view (talk_in life) life.new all_talks ∙ ap (λ (p : Phase). T.phase_from row.seat.view.fixed.shape p (talk_in life)) r.new.first;
+    talk = talk_is row.seat.view (talk_in life) life.new r.new.untold all_talks;
+    counts = counts_of row.seat.view (talk_in life) life.new all_talks;
+    replies = λ m s machine state. replies_of m row.seat.view (talk_in life) life.new all_talks s machine state;
   }
 
   pub same_source : row.closing.old.source ≡ life.source
@@ -161,7 +128,7 @@ module _ (log : List Sent) (row : Row) (r : IsRow log row) where
 
   -- an answer of the run by Fatal is known
   pub old_fatal : row.closing.old.is_fatal ≡ any_fatal (shape_in life) life.run
-  old_fatal = r.has.fatal
+  old_fatal = r.has.fatal ∙ ap (λ (b : Bool). b || any_fatal (shape_in life) life.run) r.new.calm
 
   pub new_fatal : row.closing.new.is_fatal ≡ (any_fatal (shape_in life) life.run || any_fatal (shape_in life) life.closing)
   new_fatal = r.one.fatal ∙ ap₂ (λ (a b : Bool). a || b) old_fatal (ap (λ (s : Shape). any_fatal s life.closing) same_shape)
@@ -170,13 +137,18 @@ module _ (log : List Sent) (row : Row) (r : IsRow log row) where
   pub row_closed : ClosesOne false row.closing → T.Closed (shape_in life) (talk_in life)
   row_closed one =
       subst (λ (s : Shape). T.Closed s (talk_in life)) same_shape
-      (one.closed refl life.run (leaves_one (seat row.component row.old) life.run row.closing.old first r.has r.runs))
+      (one.closed refl life.run (leaves_one row.seat life.run row.closing.old r.new.first r.new.unsaved r.has r.runs r.leaves.last))
+
+  -- its run and its closing are told apart by the talks of all
+  pub row_parted : IsParted talks life.run life.closing
+  row_parted = is_parted talks row.seat.view.fixed.shape life.run life.closing r.runs r.leaves
+      (subst (λ (b : Bool). Closes b life.closing) (r.has.saved ∙ ap (λ (b : Bool). saved_after row.seat.view.fixed.shape b life.run) r.new.unsaved) (turn_closes r.spared row.closing.old.has_saved mid life.closing life.new r.one.turn))
 
 -- ---- the siblings
 
-module _ (log : List Sent) where
+module _ (talks : List Talk) (log : List Sent) where
   abbrev pub AreRows : List Row → Type 0
-  AreRows rows = All (IsRow log) rows
+  AreRows rows = All (IsRow talks log) rows
 
   abbrev pub lives_of : List Row → List Life
   lives_of rows = map (life_of log) rows
@@ -188,16 +160,16 @@ module _ (log : List Sent) where
   spared_same source [] rs all = All-nil (IsSpared source)
   spared_same source (row ∷ rows) rs all =
       All-cons (IsSpared source) (member_in (life_of log row)) (map member_in (lives_of rows))
-      (λ same. All-head (IsSpared source) (member_of row.closing) (map member_of (closings_of rows)) all (same_source log row (All-head (IsRow log) row rows rs) ∙ same))
-      (spared_same source rows (All-tail (IsRow log) row rows rs) (All-tail (IsSpared source) (member_of row.closing) (map member_of (closings_of rows)) all))
+      (λ same. All-head (IsSpared source) (member_of row.closing) (map member_of (closings_of rows)) all (same_source talks log row (All-head (IsRow talks log) row rows rs) ∙ same))
+      (spared_same source rows (All-tail (IsRow talks log) row rows rs) (All-tail (IsSpared source) (member_of row.closing) (map member_of (closings_of rows)) all))
 
   later_same : (rows : List Row) → AreRows rows → SparesLater (map member_of (closings_of rows)) → SparesLater (map member_in (lives_of rows))
   later_same [] rs s = tt
   later_same (row ∷ rows) rs s =
-      let r = All-head (IsRow log) row rows rs in
-      let rest = All-tail (IsRow log) row rows rs in (
-        (λ fatal. subst (λ (n : ℕ). All (IsSpared n) (map member_in (lives_of rows))) (same_source log row r)
-            (spared_same row.closing.old.source rows rest (s.0 (ap (λ (x : Shape). any_fatal x row.closing.sent) (same_shape log row r) ∙ fatal)))),
+      let r = All-head (IsRow talks log) row rows rs in
+      let rest = All-tail (IsRow talks log) row rows rs in (
+        (λ fatal. subst (λ (n : ℕ). All (IsSpared n) (map member_in (lives_of rows))) (same_source talks log row r)
+            (spared_same row.closing.old.source rows rest (s.0 (ap (λ (x : Shape). any_fatal x row.closing.sent) (same_shape talks log row r) ∙ fatal)))),
         later_same rows rest s.1,
       )
 
@@ -223,19 +195,19 @@ module _ (log : List Sent) where
   lost_before : (source : ℕ) (rows : List Row) → AreRows rows → is_source_lost source (befores (closings_of rows)) ≡ any_fatal_run source (lives_of rows)
   lost_before source [] rs = refl
   lost_before source (row ∷ rows) rs =
-      let r = All-head (IsRow log) row rows rs in
-      ap₂ (λ (a b : Bool). a || b) (ap₂ (λ (f : Bool) (n : ℕ). f && n == source) (old_fatal log row r) (same_source log row r)) (lost_before source rows (All-tail (IsRow log) row rows rs))
+      let r = All-head (IsRow talks log) row rows rs in
+      ap₂ (λ (a b : Bool). a || b) (ap₂ (λ (f : Bool) (n : ℕ). f && n == source) (old_fatal talks log row r) (same_source talks log row r)) (lost_before source rows (All-tail (IsRow talks log) row rows rs))
 
   lost_after : (source : ℕ) (rows : List Row) → AreRows rows → is_source_lost source (afters (closings_of rows)) ≡ (any_fatal_run source (lives_of rows) || any_fatal_closing source (lives_of rows))
   lost_after source [] rs = refl
   lost_after source (row ∷ rows) rs =
-      let r = All-head (IsRow log) row rows rs in
+      let r = All-head (IsRow talks log) row rows rs in
       let l = life_of log row in
       let a = any_fatal (shape_in l) l.run in
       let b = any_fatal (shape_in l) l.closing in
       ap₂ (λ (x y : Bool). x || y)
-      (ap₂ (λ (f : Bool) (n : ℕ). f && n == source) (new_fatal log row r) (r.one.source ∙ same_source log row r) ∙ and_or a b (l.source == source))
-      (lost_after source rows (All-tail (IsRow log) row rows rs))
+      (ap₂ (λ (f : Bool) (n : ℕ). f && n == source) (new_fatal talks log row r) (r.one.source ∙ same_source talks log row r) ∙ and_or a b (l.source == source))
+      (lost_after source rows (All-tail (IsRow talks log) row rows rs))
       ∙ or_mix (a && l.source == source) (b && l.source == source) (any_fatal_run source (lives_of rows)) (any_fatal_closing source (lives_of rows))
 
   or_first : (a b : Bool) → a ≡ true → (a || b) ≡ true
@@ -259,7 +231,7 @@ module _ (log : List Sent) where
       All-cons (Spares (map member_in (lives_of all))) (member_in l) (map member_in (lives_of rows))
       (λ (fatal : any_fatal (shape_in l) l.run ≡ true). spared_same l.source all rs (spared_from l.source [] (closings_of all)
       (lost_before l.source all rs ∙ among l.source (or_first (any_fatal (shape_in l) l.run && l.source == l.source) (any_fatal_run l.source (lives_of rows)) (and_both _ _ fatal (same_number l.source)))) order))
-      (behind_run all rs order rows (All-tail (IsRow log) row rows mine) (λ source h. among source (or_second (any_fatal (shape_in l) l.run && l.source == source) (any_fatal_run source (lives_of rows)) h)))
+      (behind_run all rs order rows (All-tail (IsRow talks log) row rows mine) (λ source h. among source (or_second (any_fatal (shape_in l) l.run && l.source == source) (any_fatal_run source (lives_of rows)) h)))
 
   pub row_siblings : (rows : List Row) → AreRows rows → InOrder [] (closings_of rows) → Siblings (map member_in (lives_of rows))
   row_siblings rows rs order = record {
@@ -304,7 +276,7 @@ module _ (log : List Sent) where
       let closings : any_fatal_closing source (take k (lives_of rows)) ≡ any_fatal_closing source (lives_of front) = ap (any_fatal_closing source) (take-map (life_of log) k rows) in
       list_any-append (is_lost_of source) (afters (take k (closings_of rows))) (befores (drop k (closings_of rows)))
       ∙ ap₂ (λ (a b : Bool). a || b)
-      (ap (λ (l : List Closing). is_source_lost source (afters l)) (take-map (λ (r : Row). r.closing) k rows) ∙ lost_after source front (All-take (IsRow log) k rows rs))
-      (ap (λ (l : List Closing). is_source_lost source (befores l)) (drop-map (λ (r : Row). r.closing) k rows) ∙ lost_before source back (All-drop (IsRow log) k rows rs))
+      (ap (λ (l : List Closing). is_source_lost source (afters l)) (take-map (λ (r : Row). r.closing) k rows) ∙ lost_after source front (All-take (IsRow talks log) k rows rs))
+      (ap (λ (l : List Closing). is_source_lost source (befores l)) (drop-map (λ (r : Row). r.closing) k rows) ∙ lost_before source back (All-drop (IsRow talks log) k rows rs))
       ∙ or_none (any_fatal_run source (lives_of front)) (any_fatal_closing source (lives_of front)) (any_fatal_run source (lives_of back))
       (ap₂ (λ (a b : Bool). a || b) (sym runs) (sym closings) ∙ spare)

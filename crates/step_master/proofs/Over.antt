@@ -29,61 +29,52 @@ use Rattle.step_master.specs.Lives.{Freed, IsLife, IsOver, Keeping, Life, LostHe
 abbrev IsEnded : InstanceState → Type 0
 IsEnded state = (state ≡ P.Gone) ⊎ (state ≡ P.Lost)
 
--- ---- no call is permitted of an instance that is gone or lost
+-- ---- no call is permitted of an instance that is gone or lost, and of one that isn't made none but the one that makes it
 
-none_passes : (test : InstanceState → Bool) (state : InstanceState) → IsEnded state → test P.Gone ≡ false → test P.Lost ≡ false → test state ≡ true → ⊥
-none_passes test state (inl gone) a b h = absurd (let k : true ≡ false = sym h ∙ ap test gone ∙ a in cc)
-none_passes test state (inr lost) a b h = absurd (let k : true ≡ false = sym h ∙ ap test lost ∙ b in cc)
+abbrev IsUnmade : InstanceState → Type 0
+IsUnmade state = (state ≡ P.Fresh) ⊎ IsEnded state
 
-other : (state wanted : InstanceState) → IsEnded state → state ≡ wanted → (P.Gone ≡ wanted → ⊥) → (P.Lost ≡ wanted → ⊥) → ⊥
-other state wanted (inl gone) is a b = a (sym gone ∙ is)
-other state wanted (inr lost) is a b = b (sym lost ∙ is)
+unpassed : (test : InstanceState → Bool) (state : InstanceState) → IsUnmade state → test P.Fresh ≡ false → test P.Gone ≡ false → test P.Lost ≡ false → test state ≡ true → ⊥
+unpassed test state (inl fresh) a b c h = absurd (let k : true ≡ false = sym h ∙ ap test fresh ∙ a in cc)
+unpassed test state (inr (inl gone)) a b c h = absurd (let k : true ≡ false = sym h ∙ ap test gone ∙ b in cc)
+unpassed test state (inr (inr lost)) a b c h = absurd (let k : true ≡ false = sym h ∙ ap test lost ∙ c in cc)
+
+-- it stands in no other state
+elsewhere : (state wanted : InstanceState) → IsUnmade state → state ≡ wanted → (P.Fresh ≡ wanted → ⊥) → (P.Gone ≡ wanted → ⊥) → (P.Lost ≡ wanted → ⊥) → ⊥
+elsewhere state wanted (inl fresh) is a b c = a (sym fresh ∙ is)
+elsewhere state wanted (inr (inl gone)) is a b c = b (sym gone ∙ is)
+elsewhere state wanted (inr (inr lost)) is a b c = c (sym lost ∙ is)
+
+makes : (shape : Shape) (phase : Phase) (call : Call) → IsUnmade phase.state → Permitted shape phase call → (event_mode early_return : Bool) × (call ≡ C.Instantiate event_mode early_return)
+makes shape phase (C.Instantiate event_mode early_return) un p = (event_mode, early_return, refl)
+makes shape phase (C.EnterInitialization start stop) un p = absurd (elsewhere phase.state P.Instantiated un p.0 (λ e. cc) (λ e. cc) (λ e. cc))
+makes shape phase C.ExitInitialization un p = absurd (elsewhere phase.state P.Initialization un p (λ e. cc) (λ e. cc) (λ e. cc))
+makes shape phase (C.Get kind reference) un p = absurd (unpassed (λ s. can_be_read s shape phase.marks phase.active reference) phase.state un refl refl refl p.0)
+makes shape phase (C.Set kind reference value) un p = absurd (unpassed (λ s. can_be_set s shape phase.marks phase.active reference) phase.state un refl refl refl p.0)
+makes shape phase C.Terminate un p = absurd (unpassed is_running phase.state un refl refl refl p.0)
+makes shape phase C.FreeInstance un p = absurd (unpassed (λ s. can_be_freed s phase.slot.is_full) phase.state un refl refl refl p)
+makes shape phase C.EnterStep un p = absurd (elsewhere phase.state P.Event un p.0 (λ e. cc) (λ e. cc) (λ e. cc))
+makes shape phase C.Update un p = absurd (elsewhere phase.state P.Event un p (λ e. cc) (λ e. cc) (λ e. cc))
+makes shape phase (C.GetClock reference) un p = absurd (unpassed (λ s. can_be_ticked is_output_clock s shape phase.marks reference) phase.state un refl refl refl p)
+makes shape phase (C.SetClock reference) un p = absurd (unpassed (λ s. can_be_ticked is_input_clock s shape phase.marks reference) phase.state un refl refl refl p)
+makes shape phase (C.GetInterval reference) un p = absurd (unpassed (λ s. has_interval s shape reference) phase.state un refl refl refl p)
+makes shape phase (C.GetShift reference) un p = absurd (unpassed (λ s. has_shift s shape reference) phase.state un refl refl refl p)
+makes shape phase call un p = absurd (elsewhere phase.state P.Step un p.0 (λ e. cc) (λ e. cc) (λ e. cc))
+
+pub only_start : (shape : Shape) (call : Call) → Permitted shape (fresh shape) call → (event_mode early_return : Bool) × (call ≡ C.Instantiate event_mode early_return)
+only_start shape call p = makes shape (fresh shape) call (inl refl) p
 
 none_permitted : (shape : Shape) (phase : Phase) (call : Call) → IsEnded phase.state → Permitted shape phase call → ⊥
-none_permitted shape phase (C.Instantiate event_mode early_return) ended p = other phase.state P.Fresh ended p.0 (λ e. cc) (λ e. cc)
-none_permitted shape phase (C.EnterInitialization start stop) ended p = other phase.state P.Instantiated ended p.0 (λ e. cc) (λ e. cc)
-none_permitted shape phase C.ExitInitialization ended p = other phase.state P.Initialization ended p (λ e. cc) (λ e. cc)
-none_permitted shape phase (C.DoStep at size) ended p = other phase.state P.Step ended p.0 (λ e. cc) (λ e. cc)
-none_permitted shape phase (C.Get kind reference) ended p = none_passes (λ s. can_be_read s shape phase.marks phase.active reference) phase.state ended refl refl p.0
-none_permitted shape phase (C.Set kind reference value) ended p = none_passes (λ s. can_be_set s shape phase.marks phase.active reference) phase.state ended refl refl p.0
-none_permitted shape phase C.Save ended p = other phase.state P.Step ended p.0 (λ e. cc) (λ e. cc)
-none_permitted shape phase C.Restore ended p = other phase.state P.Step ended p.0 (λ e. cc) (λ e. cc)
-none_permitted shape phase C.Free ended p = other phase.state P.Step ended p.0 (λ e. cc) (λ e. cc)
-none_permitted shape phase C.Terminate ended p = none_passes is_running phase.state ended refl refl p.0
-none_permitted shape phase C.FreeInstance ended p = none_passes (λ s. can_be_freed s phase.slot.is_full) phase.state ended refl refl p
-none_permitted shape phase C.EnterEvent ended p = other phase.state P.Step ended p.0 (λ e. cc) (λ e. cc)
-none_permitted shape phase C.EnterStep ended p = other phase.state P.Event ended p.0 (λ e. cc) (λ e. cc)
-none_permitted shape phase C.Update ended p = other phase.state P.Event ended p (λ e. cc) (λ e. cc)
-none_permitted shape phase (C.GetClock reference) ended p = none_passes (λ s. can_be_ticked is_output_clock s shape phase.marks reference) phase.state ended refl refl p
-none_permitted shape phase (C.SetClock reference) ended p = none_passes (λ s. can_be_ticked is_input_clock s shape phase.marks reference) phase.state ended refl refl p
-none_permitted shape phase (C.GetInterval reference) ended p = none_passes (λ s. has_interval s shape reference) phase.state ended refl refl p
-none_permitted shape phase (C.GetShift reference) ended p = none_passes (λ s. has_shift s shape reference) phase.state ended refl refl p
+none_permitted shape phase call ended p = by (makes shape phase call (inr ended) p) ended where
+  by : ((event_mode early_return : Bool) × (call ≡ C.Instantiate event_mode early_return)) → IsEnded phase.state → ⊥
+  by (event_mode, early_return, is) (inl gone) = absurd (let e : P.Gone ≡ P.Fresh = sym gone ∙ (subst (Permitted shape phase) is p).0 in cc)
+  by (event_mode, early_return, is) (inr lost) = absurd (let e : P.Lost ≡ P.Fresh = sym lost ∙ (subst (Permitted shape phase) is p).0 in cc)
 
 none_behind : (shape : Shape) (phase : Phase) (es : List Exchange) → IsEnded phase.state → LegalFrom shape phase es → es ≡ []
 none_behind shape phase [] ended legal = refl
 none_behind shape phase (e ∷ es) ended legal = absurd (none_permitted shape phase e.call ended legal.0)
 
 -- ---- an Instantiate that isn't good
-
-only_start : (shape : Shape) (call : Call) → Permitted shape (fresh shape) call → (event_mode early_return : Bool) × (call ≡ C.Instantiate event_mode early_return)
-only_start shape (C.Instantiate event_mode early_return) p = (event_mode, early_return, refl)
-only_start shape (C.EnterInitialization start stop) p = absurd (let e = p.0 in cc)
-only_start shape C.ExitInitialization p = absurd (let e = p in cc)
-only_start shape (C.DoStep at size) p = absurd (let e = p.0 in cc)
-only_start shape (C.Get kind reference) p = absurd (let e = p.0 in cc)
-only_start shape (C.Set kind reference value) p = absurd (let e = p.0 in cc)
-only_start shape C.Save p = absurd (let e = p.0 in cc)
-only_start shape C.Restore p = absurd (let e = p.0 in cc)
-only_start shape C.Free p = absurd (let e = p.0 in cc)
-only_start shape C.Terminate p = absurd (let e = p.0 in cc)
-only_start shape C.FreeInstance p = absurd (cc)
-only_start shape C.EnterEvent p = absurd (let e = p.0 in cc)
-only_start shape C.EnterStep p = absurd (let e = p.0 in cc)
-only_start shape C.Update p = absurd (let e = p in cc)
-only_start shape (C.GetClock reference) p = absurd (cc)
-only_start shape (C.SetClock reference) p = absurd (cc)
-only_start shape (C.GetInterval reference) p = absurd (cc)
-only_start shape (C.GetShift reference) p = absurd (cc)
 
 bad_start : (shape : Shape) (phase : Phase) (a b : Bool) (reply : Reply) (g : Grade) → (g ≡ G.Good → ⊥) → IsEnded (graded shape phase (C.Instantiate a b) reply g).state
 bad_start shape phase a b reply G.Good bad = absurd (bad refl)

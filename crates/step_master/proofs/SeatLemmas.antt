@@ -1,12 +1,13 @@
 -- Peers in the slots of their components.
 use Rattle.std.proofs.Common.{◌≡◌, ℕ, suc, ◌+◌, ◌<◌, false, List, [], ◌∷◌, ◌++◌, refl, sym, ap, ap₂, ◌∙◌, subst, append_assoc, arith, length, get_or, map, take, drop, drop-cons, add-one}
-use Rattle.std.specs.Prelude.{All}
-use Rattle.std.proofs.lemmas.List.{get_or_default, length-map, length-replicate, map-append}
+use Rattle.std.specs.Prelude.{All, IfSome, Some}
+use Rattle.std.specs.List.{slice_get}
+use Rattle.std.proofs.lemmas.List.{get_or-map, length-map, length-replicate, map-append}
 use Rattle.std.proofs.lemmas.List.Elements.{All-cons, All-nil}
 use Rattle.std.proofs.Math.Seq.{take-append_seam}
 use Rattle.fmi_calls.specs.declared.call.Call.{Call}
 use Rattle.fmi_calls.specs.declared.phase.Phase.{Phase}
-use Rattle.fmi_calls.specs.Next.{counted, entered}
+use Rattle.fmi_calls.specs.Next.{counted, entered, fresh}
 use Rattle.fmi_calls.specs.Permission.{none_marked}
 use Rattle.fmu_peer.specs.declared.peer.Exchange.{Exchange}
 use Rattle.fmu_peer.specs.CloseAll.{Closing, ClosesAll, InOrder, Instance, afters}
@@ -15,7 +16,7 @@ use Rattle.fmu_peer.specs.View.{Fixed, View}
 use Rattle.system_model.specs.declared.system.Component.{Component}
 use Rattle.calling_sequence.specs.Place.{IsMade, IsPlain}
 use Rattle.step_master.specs.Seats.{IsFresh, seat, seated, views_of}
-use Rattle.slot_calls.proofs.Answered.{map_at}
+use Rattle.step_master.specs.System.{IsNew}
 use Rattle.slot_calls.proofs.Leading.{Led}
 use Rattle.calling_sequence.proofs.Phases.{unmarked_is}
 
@@ -39,11 +40,40 @@ seats_more f view whole slots more cs n m left rest p c s given is next w at pus
     ∙ ap (λ ds. map f slots ++ seated ds (map view (p ∷ rest))) (sym (next_at cs n c w at))
     ∙ ap (λ l. map f slots ++ seated (drop n cs) (map view l)) (sym is) ∙ given
 
+pub views_seated : (cs : List Component) (vs : List View) → length vs ≡ length cs → views_of (seated cs vs) ≡ vs
+views_seated [] [] e = refl
+views_seated [] (v ∷ vs) e = absurd (omega (arith, e))
+views_seated (c ∷ cs) [] e = absurd (omega (arith, e))
+views_seated (c ∷ cs) (v ∷ vs) e = ap (λ (l : List View). v ∷ l) (views_seated cs vs (omega (arith, e)))
+
+-- an instance before its first call
+pub record IsSeat (i : Instance) : Type 0 where
+  pub first : i.view.phase ≡ fresh i.view.fixed.shape
+  pub untold : IfSome i.view.talk (λ es. es ≡ [])
+  pub unsaved : i.has_saved ≡ false
+  pub calm : i.is_fatal ≡ false
+
+pub are_seats : (cs : List Component) (vs : List View) → length vs ≡ length cs → ((i : ℕ) (c : Component) (v : View) → slice_get cs i ≡ Some c → slice_get vs i ≡ Some v → IsNew c.shape v) → All IsSeat (seated cs vs)
+are_seats [] vs e h = All-nil IsSeat
+are_seats (c ∷ cs) [] e h = absurd (omega (arith, e))
+are_seats (c ∷ cs) (v ∷ vs) e h =
+    let new = h 0 c v refl refl in
+    All-cons IsSeat (seat c v) (seated cs vs) (record { first = new.phase ∙ ap fresh (sym new.shape_is); untold = new.talk; unsaved = refl; calm = refl })
+    (are_seats cs vs (omega (arith, e)) (λ i d w at_d at_w. h (suc i) d w at_d at_w))
+
+pub sources_seated : (cs : List Component) (vs : List View) → length vs ≡ length cs → map (λ (i : Instance). i.source) (seated cs vs) ≡ map (λ (c : Component). c.source.0) cs
+sources_seated [] vs e = refl
+sources_seated (c ∷ cs) [] e = absurd (omega (arith, e))
+sources_seated (c ∷ cs) (v ∷ vs) e = ap (λ (l : List ℕ). c.source.0 ∷ l) (sources_seated cs vs (omega (arith, e)))
+
 pub length_seated : (cs : List Component) (vs : List View) → length cs ≡ length vs → length (seated cs vs) ≡ length vs
-length_seated [] [] e = refl
-length_seated [] (v ∷ vs) e = absurd (omega (arith, e))
-length_seated (c ∷ cs) [] e = absurd (omega (arith, e))
-length_seated (c ∷ cs) (v ∷ vs) e = ap suc (length_seated cs vs (omega (arith, e)))
+length_seated cs vs e = sym (length-map (seated cs vs) (λ (i : Instance). i.view)) ∙ ap length (views_seated cs vs (sym e))
+
+-- what holds of each value holds of what has it
+pub all_under : {A B : Type 0} (f : A → B) (P : B → Type 0) (xs : List A) (ys : List B) → map f xs ≡ ys → All P ys → All (λ (x : A). P (f x)) xs
+all_under f P xs ys same all = λ k d w.
+    let m = length-map xs f in
+    subst P (get_or-map f xs k d (f d) w) (subst (All P) (sym same) all k (f d) (omega (arith, m, w)))
 
 -- ---- closing
 
@@ -58,11 +88,7 @@ spent_in_order closed (c ∷ cs) order = All-cons (λ (i : Instance). i.has_save
 module _ {S : Type 0} (f : S → Instance) (olds : List Instance) (slots : List S) (closes : ClosesAll olds (map f slots)) where
   -- no closed instance keeps a state
   pub spent_all : All (λ (s : S). (f s).has_saved ≡ false) slots
-  spent_all = λ k d w.
-      let m = length-map slots f in
-      let all : All (λ (i : Instance). i.has_saved ≡ false) (map f slots) = subst (All (λ (i : Instance). i.has_saved ≡ false)) (sym closes.new_is) (spent_in_order [] closes.closings closes.order) in
-      let x = get_or slots k d in
-      subst (λ (i : Instance). i.has_saved ≡ false) (sym (map_at f slots k x (f x) w (get_or_default slots k d x w))) (all k (f x) (omega (arith, m, w)))
+  spent_all = all_under f (λ (i : Instance). i.has_saved ≡ false) slots (afters closes.closings) closes.new_is (spent_in_order [] closes.closings closes.order)
 
 -- the views of peers
 pub views_same : {S L : Type 0} (view : L → View) (peer : S → L) (f : S → Instance) → ((s : S) → (f s).view ≡ view (peer s)) → (slots : List S) → map view (map peer slots) ≡ views_of (map f slots)

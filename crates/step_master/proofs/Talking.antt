@@ -14,7 +14,8 @@ use Rattle.fmu_peer.specs.declared.peer.PeerFault.{PeerFault}
 use Rattle.fmu_peer.specs.Close.{SendsInTurn}
 use Rattle.fmu_peer.specs.Talk.{LegalFrom, phase_from}
 use Rattle.fmu_peer.specs.View.{View, Fixed, talked}
-use Rattle.step_master.specs.Lives.{Counts, calls_in, is_unanswered}
+use Rattle.step_master.specs.Lives.{Counts, is_unanswered}
+use Rattle.course_laws.specs.Laws.{calls_in}
 use Rattle.slot_calls.specs.Log.{Talks}
 
 -- ---- phase and permission

@@ -1,7 +1,6 @@
 pub mod System
 pub mod Seats
 pub mod Master
-pub mod Kept
 pub mod Standing
 pub mod Lives
 pub mod Lived

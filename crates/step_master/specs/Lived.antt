@@ -10,11 +10,12 @@ use Rattle.system_model.specs.Sound.{IsSound}
 use Rattle.system_model.specs.Text.{Instant}
 use Rattle.slot_calls.specs.declared.bad_answer.BadAnswer.{BadAnswer}
 use Rattle.calling_sequence.specs.declared.run_end.RunEnd.{RunEnd}
+use Rattle.calling_sequence.specs.Calls.{making}
 use Rattle.calling_sequence.specs.Ends.{EndsBy}
 use Rattle.calling_sequence.specs.Plans.{CountsBy}
 use Rattle.step_master.specs.Lives.{AreLives, AreOver, EndsLives, IsLeastBad, Life}
 use Rattle.slot_calls.specs.Log.{Sent}
-use Rattle.step_master.specs.Master.{Closes, IsUnmade, Prepares, Runs, Standing, making}
+use Rattle.step_master.specs.Master.{Closes, IsUnmade, Prepares, Runs, Standing}
 use Rattle.slot_calls.specs.Stage.{IsAnswered, StopsAt, shapes_of}
 use Rattle.step_master.specs.System.{ArePeersOf, TellTheirs}
 

@@ -4,7 +4,6 @@ use Rattle.std.specs.List.{list_any, slice_get}
 use Rattle.std.specs.Result.{is_err}
 use Rattle.sim_base.specs.Causes.{Rose}
 use Rattle.value_types.specs.declared.shape.Shape.{Shape}
-use Rattle.fmi_calls.specs.declared.call.Call.{Call}
 use Rattle.fmi_calls.specs.KindFacts.{IsClosingCall, IsRunCall}
 use Rattle.fmi_calls.specs.declared.phase.InstanceState.TheVariants as P
 use Rattle.fmu_peer.specs.declared.peer.Exchange.{Exchange}
@@ -19,10 +18,12 @@ use Rattle.fmu_peer.specs.View.{View}
 use Rattle.system_model.specs.declared.system.Component.{Component}
 use Rattle.system_model.specs.declared.system.System.{System}
 use Rattle.slot_calls.specs.declared.bad_answer.BadAnswer.{BadAnswer}
+use Rattle.course_laws.specs.Laws.{calls_in}
 use Rattle.calling_sequence.specs.declared.run_end.RunEnd.{RunEnd}
 use Rattle.calling_sequence.specs.declared.run_end.RunEnd.TheVariants as E
 use Rattle.slot_calls.specs.Replies.{RepliesBy}
 use Rattle.slot_calls.specs.Log.{Sent, part}
+use Rattle.slot_calls.specs.SavedStates.{IsParted, Talk}
 
 -- ---- one life
 
@@ -40,9 +41,6 @@ shape_in life = life.old.fixed.shape
 -- all of its exchanges
 abbrev pub talk_in : Life → List Exchange
 talk_in life = life.run ++ life.closing
-
-abbrev pub calls_in : List Exchange → List Call
-calls_in es = map (λ (e : Exchange). e.call) es
 
 -- a fault came in the reply's place
 abbrev pub is_unanswered : Exchange → Bool
@@ -95,7 +93,11 @@ abbrev pub member_in : Life → Member
 member_in life =
     record { source = life.source; shape = shape_in life; run = life.run; closing = life.closing }
 
--- the lives of a system's peers, in the order of the components: each has its part of the log, those behind a Fatal of their source have no closing, and each other is closed; no Update follows another at one point that wasn't asked for
+abbrev pub talks_in : List Life → List Talk
+talks_in lives =
+    map (λ (l : Life). record { shape = shape_in l; exchanges = talk_in l }) lives
+
+-- the lives of a system's peers, in the order of the components: each has its part of the log, those behind a Fatal of their source have no closing, and each other is closed; no Update follows another at one point that wasn't asked for; which calls are the run's, and which the closing's, the talks of all tell
 pub record AreLives (system : System) (olds news : List View) (log : List Sent)
     (lives : List Life) : Type 0 where
   pub olds_are : map (λ (l : Life). l.old) lives ≡ olds
@@ -106,6 +108,7 @@ pub record AreLives (system : System) (olds news : List View) (log : List Sent)
   pub each : All IsLife lives
   pub siblings : Siblings (map member_in lives)
   pub updates : AreUpdatesNeeded (map (λ (l : Life). l.run) lives)
+  pub parted : All (λ (l : Life). IsParted (talks_in lives) l.run l.closing) lives
   pub closed : (k : ℕ) (life : Life) → slice_get lives k ≡ Some life →
       is_spared lives k life ≡ false → T.Closed (shape_in life) (talk_in life)
 

@@ -2,7 +2,6 @@
 use Rattle.std.specs.Prelude.{◌≡◌, ℕ, Bool, true, false, List, length}
 use Rattle.sim_base.specs.Sink.{SinkView}
 use Rattle.fmu_peer.specs.CloseAll.{ClosesAll, Instance}
-use Rattle.fmu_peer.specs.Mode.{instantiate_of}
 use Rattle.fmu_peer.specs.View.{View}
 use Rattle.system_model.specs.declared.bound.Bound.{Bound}
 use Rattle.system_model.specs.declared.plan.Plan.{Plan}
@@ -12,10 +11,11 @@ use Rattle.slot_calls.specs.declared.bad_answer.BadAnswer.{BadAnswer}
 use Rattle.step_master.specs.declared.prepare_end.PrepareFault.{PrepareFault}
 use Rattle.step_master.specs.declared.prepare_end.PrepareFault.TheVariants as F
 use Rattle.calling_sequence.specs.declared.run_end.RunEnd.{RunEnd}
+use Rattle.calling_sequence.specs.Calls.{making}
 use Rattle.calling_sequence.specs.Ends.{EndsBy}
-use Rattle.slot_calls.specs.Log.{Asking, Sent, Told}
+use Rattle.slot_calls.specs.Log.{Sent, Told}
 use Rattle.step_master.specs.Seats.{seated, views_of}
-use Rattle.slot_calls.specs.Stage.{IsAnswered, StopsAt, shapes_of, to_each}
+use Rattle.slot_calls.specs.Stage.{IsAnswered, StopsAt, shapes_of}
 use Rattle.step_master.specs.System.{TellTheirs}
 
 -- what it runs, with which values of the parameters, its instances in the order of the components, whether it was run, and how many instants it put
@@ -36,10 +36,6 @@ pub record Closes (olds : List Instance) (news : List View) : Type 0 where
   pub news_are : news ≡ views_of ends
 
 -- ---- preparing
-
--- each instance is made
-abbrev pub making : System → List Asking
-making system = to_each instantiate_of (shapes_of system)
 
 -- each instance was made, and nothing else was sent; what the peers tell are machines of their shapes
 pub record Prepares (system : System) (bound : Bound) (plan : Plan) (views : List View)

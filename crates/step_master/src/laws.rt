@@ -1,6 +1,9 @@
 ghost use Rattle.step_master.specs.Lived.{LivesAreOver, RunIsLived, UnmadeIsClosed};
 ghost use Rattle.step_master.specs.Traced.{ToldRun, ToldTrace, ToldUnmade};
 
+use course_laws::calls_of_runs;
+use machine_courses::logs_of_machines;
+
 /// Laws: of a system that was prepared, run and closed, and of one that couldn't be prepared, the talk of each peer is
 /// legal, lean and closed, an Update follows another at one point only where one was asked for or a Clock was armed for the
 /// point, the end is told by the first bad answer of the least component, and each peer that isn't spared behind a Fatal of
@@ -10,7 +13,9 @@ pub fn lives_of_peers()
     ensures run { RunIsLived }
     ensures unmade { UnmadeIsClosed }
     ensures over { LivesAreOver }
-{}
+{
+    calls_of_runs();
+}
 
 /// Laws: where the peers tell machines, the instants that were put are those of their run, and where the machines behave
 /// well, the text is that of their trace, but for a call or a put that failed.
@@ -18,4 +23,6 @@ pub fn runs_of_machines()
     ensures run { ToldRun }
     ensures trace { ToldTrace }
     ensures unmade { ToldUnmade }
-{}
+{
+    logs_of_machines();
+}

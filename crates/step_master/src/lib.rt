@@ -4,7 +4,6 @@
 mod laws;
 mod master;
 mod prepare_end;
-mod room;
 mod seats;
 mod taking;
 

@@ -5,10 +5,9 @@ ghost use Rattle.calling_sequence.specs.Plans.{CountsBy, IsPlan};
 ghost use Rattle.calling_sequence.specs.Systems.{IsBuilt};
 ghost use Rattle.step_master.specs.System.{ArePeersOf};
 
-use crate::room::Room;
 use crate::seats::Seats;
 use crate::{PrepareEnd, PrepareFault, RunEnd};
-use calling_sequence::run_slots;
+use calling_sequence::{Buffers, Experiment, run_slots};
 use fmu_peer::Peer;
 use sim_base::Sink;
 use std::alloc::Global;
@@ -17,12 +16,9 @@ use system_model::{Bound, Plan, System};
 
 /// The FMUs of a system with all memory of their run. It can't be let go: it is closed.
 pub struct Master<L: Peer> {
-    system: System,
-    bound: Bound,
-    plan: Plan,
+    experiment: Experiment,
     seats: Seats<L>,
-    room: Room,
-    instants: u128,
+    buffers: Buffers,
     was_run: bool,
 }
 
@@ -51,21 +47,23 @@ impl<L: Peer> Master<L> {
         ensures err { IfErr result (λ end. FailsToPrepare system (map L.view peers.items) end.fault
             (map L.view end.peers.items)) }
     {
-        let Ok(room) = Room::new(alloc, &system, &plan) else {
+        let experiment = Experiment {
+            system,
+            bound,
+            plan,
+        };
+        let Ok(buffers) = Buffers::new(alloc, &experiment) else {
             return Err(PrepareEnd {
                 peers,
                 fault: PrepareFault::Memory,
             });
         };
-        match Seats::new(alloc, system.components.as_slice(), peers) {
+        match Seats::new(alloc, experiment.system.components.as_slice(), peers) {
             Ok(mut seats) => match seats.make() {
                 Ok(()) => Ok(Master {
-                    system,
-                    bound,
-                    plan,
+                    experiment,
                     seats,
-                    room,
-                    instants: 0,
+                    buffers,
                     was_run: false,
                 }),
                 Err(bad) => Err(PrepareEnd {
@@ -93,14 +91,8 @@ impl<L: Peer> Master<L> {
         self.was_run = true;
         run_slots(
             &mut self.seats.slots,
-            &self.system,
-            &self.bound,
-            &self.plan,
-            &self.room.reads,
-            &mut self.room.schedule,
-            &mut self.room.values,
-            &mut self.room.text,
-            &mut self.instants,
+            &self.experiment,
+            &mut self.buffers,
             out,
         )
     }
@@ -111,12 +103,9 @@ impl<L: Peer> Master<L> {
         ensures { Closes (standing L.view self).instances (map L.view result.items) }
     {
         let Master {
-            system: _,
-            bound: _,
-            plan: _,
+            experiment: _,
             seats,
-            room: _,
-            instants: _,
+            buffers: _,
             was_run: _,
         } = self;
         seats.close()
@@ -124,9 +113,9 @@ impl<L: Peer> Master<L> {
 
     /// The number of instants that were put.
     pub fn instants(&self) -> u128
-        ensures { result ≡ self.now.instants }
+        ensures { result ≡ self.now.buffers.instants }
     {
-        self.instants
+        self.buffers.instants
     }
 
     /// Whether it was run.

@@ -11,7 +11,7 @@ use Rattle.slot_calls.specs.Stage.{Stage, nothing}
 use Rattle.slot_calls.proofs.Answered.{answered_none, shapes_same}
 use Rattle.slot_calls.proofs.Logs.{told_none}
 use Rattle.slot_calls.specs.Stage.{shapes}
-use Rattle.calling_sequence.specs.Course.{binding_from, sets_of}
+use Rattle.calling_sequence.specs.Calls.{binding_from, sets_of}
 use Rattle.calling_sequence.proofs.Bindings.{binding_cut, binding_on, slots_length, values_at}
 use Rattle.std.proofs.lemmas.List.{take_all}
 use Rattle.calling_sequence.proofs.parameters.set_parameters.Goals as goal

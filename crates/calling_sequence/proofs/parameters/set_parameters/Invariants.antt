@@ -2,7 +2,7 @@ use Rattle.std.proofs.Common.{Ok, take}
 use Rattle.std.specs.Prelude.{All}
 use Rattle.slot_calls.specs.Slots.{LiveSlot, Stands, instances}
 use Rattle.slot_calls.specs.Stage.{Stage, nothing}
-use Rattle.calling_sequence.specs.Course.{binding_from}
+use Rattle.calling_sequence.specs.Calls.{binding_from}
 use Rattle.calling_sequence.specs.Place.{IsMade}
 use Rattle.calling_sequence.proofs.parameters.set_parameters.Given as goal
 

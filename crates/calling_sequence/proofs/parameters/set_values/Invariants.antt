@@ -3,7 +3,7 @@ use Rattle.std.specs.Prelude.{All}
 use Rattle.slot_calls.specs.Log.{Sent, Told}
 use Rattle.slot_calls.specs.Slots.{LiveSlot, Stands, instances}
 use Rattle.slot_calls.specs.Stage.{IsAnswered, shapes}
-use Rattle.calling_sequence.specs.Course.{sets_of}
+use Rattle.calling_sequence.specs.Calls.{sets_of}
 use Rattle.calling_sequence.specs.Place.{IsMade}
 use Rattle.calling_sequence.proofs.parameters.set_values.Given as goal
 

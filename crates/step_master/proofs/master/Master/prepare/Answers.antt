@@ -1,4 +1,6 @@
-use Rattle.std.proofs.Common.{◌≤◌, ◌^◌, List, refl, sym, ap, ◌∙◌, subst, map}
+use Rattle.std.proofs.Common.{◌≤◌, ◌^◌, List, refl, sym, ap, ◌∙◌, subst, map, length}
+use Rattle.std.proofs.lemmas.List.{length-map}
+use Rattle.system_model.specs.declared.system.Component.{Component}
 use Rattle.fmu_peer.specs.CloseAll.{Instance, instance_in}
 use Rattle.fmu_peer.specs.Mode.{instantiate_of}
 use Rattle.value_types.specs.declared.shape.Shape.{Shape}
@@ -8,7 +10,6 @@ use Rattle.slot_calls.specs.Slots.{instances}
 use Rattle.slot_calls.specs.Stage.{IsAnswered, StopsAt, shapes, to_each}
 use Rattle.slot_calls.proofs.Answered.{shapes_same}
 use Rattle.step_master.proofs.Prepared.{components_few, peers_fresh, seated_shapes, slots_fresh, slots_length, tell_theirs}
-use Rattle.calling_sequence.proofs.Sizes.{same_length}
 use Rattle.step_master.proofs.master.Master.prepare.Goals as goal
 
 pub new-requires-2-clause-fresh : goal.new-requires-2-clause-fresh
@@ -33,17 +34,17 @@ returns-in-Ok-make-clause-ready g c =
     let fits = shapes_same stage.log _ (instances view news) stage.told ∙ ap shapes same ∙ seated_shapes c.args.system (map view c.args.peers.items) c.requires.peers in
     record {
       unrun = refl;
-      sound = c.requires.sound;
-      built = c.requires.built;
-      binds = c.requires.bound;
-      plan = c.requires.plan;
-      slots = record {
-        few = subst (λ n. n ≤ 2 ^ 32) (sym (same_length (λ s. instance_in view s) news c.args.system c.args.plan fits)) (components_few c.args.system c.requires.sound);
-        shapes_are = fits;
+      begins = record {
+        ready = record {
+          may = record { sound = c.requires.sound; binds = c.requires.bound; plan = c.requires.plan; counts = c.requires.counts };
+          few = subst (λ n. n ≤ 2 ^ 32) (sym (sym (length-map news (λ s. instance_in view s)) ∙ sym (length-map (instances view news) (λ (i : Instance). i.view.fixed.shape))
+              ∙ ap length fits ∙ length-map c.args.system.components (λ (x : Component). x.shape))) (components_few c.args.system c.requires.sound);
+          shapes_are = fits;
+          live = c.in-Ok-make.ensures.live;
+          stand = c.in-Ok-make.ensures.made;
+        };
+        fresh = c.in-Ok.ensures;
       };
-      counts = c.requires.counts;
-      room = c.in-Ok.ensures;
-      made = record { live = c.in-Ok-make.ensures.live; made = c.in-Ok-make.ensures.made; none = refl };
     }
 
 pub returns-in-Ok-make-clause-ok : goal.returns-in-Ok-make-clause-ok

@@ -1,0 +1,72 @@
+-- The calls of a run, in their order, and the steps between its points (FMI 3.0, 4.2.1: the calling sequence of Co-Simulation).
+use Rattle.std.specs.Prelude.{◌≡◌, ℕ, ◌+◌, ◌-◌, ◌<◌, ◌==◌, not, if◌then◌else◌, List, [], ◌∷◌, ◌++◌, map, Option, None, position}
+use Rattle.value_types.specs.declared.shape.Shape.{Shape}
+use Rattle.fmi_calls.specs.declared.call.Call.TheVariants as C
+use Rattle.fmu_peer.specs.Mode.{instantiate_of}
+use Rattle.system_model.specs.declared.bound.Bound.{Bound}
+use Rattle.system_model.specs.declared.bound.BoundValue.{BoundValue}
+use Rattle.system_model.specs.declared.plan.Plan.{Plan}
+use Rattle.system_model.specs.declared.system.Component.{Component}
+use Rattle.system_model.specs.declared.system.System.{System}
+use Rattle.run_model.specs.Initial.{set_call}
+use Rattle.run_model.specs.Run.{Timer}
+use Rattle.run_model.specs.Steps.{IsBound}
+use Rattle.slot_calls.specs.Log.{Asking}
+use Rattle.slot_calls.specs.Stage.{has_events, shapes_of, to_each, to_those}
+
+-- ---- the calls, in their order
+
+-- the Sets of one component's bound parameters
+abbrev pub sets_of : ℕ → List BoundValue → List Asking
+sets_of i values = map (λ (b : BoundValue). record { component = i; call = set_call b }) values
+
+-- those of the components from the i-th on
+abbrev pub binding_from : ℕ → List (List BoundValue) → List Asking
+binding_from i [] = []
+binding_from i (values ∷ lists) = sets_of i values ++ binding_from (i + 1) lists
+
+-- each bound parameter is set, component by component
+abbrev pub binding : Bound → List Asking
+binding bound = binding_from 0 bound.components
+
+-- each instance is made
+abbrev pub making : System → List Asking
+making system = to_each instantiate_of (shapes_of system)
+
+-- each enters Initialization Mode, between the start and the stop of the plan
+abbrev pub entering : System → Plan → List Asking
+entering system plan =
+    to_each (λ (shape : Shape). C.EnterInitialization plan.start plan.stop) (shapes_of system)
+
+-- and leaves it
+abbrev pub leaving : System → List Asking
+leaving system = to_each (λ (shape : Shape). C.ExitInitialization) (shapes_of system)
+
+-- those with event mode leave Event Mode before a step, and enter it behind one
+abbrev pub entering_step : System → List Asking
+entering_step system = to_those has_events (λ (shape : Shape). C.EnterStep) (shapes_of system)
+
+abbrev pub entering_event : System → List Asking
+entering_event system = to_those has_events (λ (shape : Shape). C.EnterEvent) (shapes_of system)
+
+-- each steps from one point to another
+abbrev pub stepping : System → ℕ → ℕ → List Asking
+stepping system from to = to_each (λ (shape : Shape). C.DoStep from (to - from)) (shapes_of system)
+
+-- ---- steps
+
+-- the least component that takes no step of this size: without variable steps an FMU takes that of the plan alone
+abbrev pub first_unfit : System → Plan → ℕ → Option ℕ
+first_unfit system plan size =
+    if size == plan.step then None
+    else position (λ (c : Component). not c.shape.has_variable_steps) system.components
+
+-- a step before the stop goes from one point to its bound, the next grid point, tick or the stop
+pub record IsBoundOf (plan : Plan) (timers : List Timer) (from to : ℕ) : Type 0 where
+  pub before_stop : from < plan.stop
+  pub bound : IsBound plan timers from to
+
+-- and each takes a step of its size
+pub record IsStep (system : System) (plan : Plan) (timers : List Timer) (from to : ℕ) : Type 0 where
+  pub bound : IsBoundOf plan timers from to
+  pub fit : first_unfit system plan (to - from) ≡ None

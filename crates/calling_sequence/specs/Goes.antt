@@ -1,0 +1,83 @@
+-- What a stage of a run is to it: it leads the run from one place to the next, or to an end.
+use Rattle.std.specs.Prelude.{ℕ, List, Result, Ok, Err}
+use Rattle.sim_base.specs.Sink.{SinkView}
+use Rattle.fmu_peer.specs.CloseAll.{Instance}
+use Rattle.event_iteration.specs.Clocks.{is_due_at, timers_in}
+use Rattle.event_iteration.specs.declared.updates.Updated.{Updated}
+use Rattle.slot_calls.specs.declared.bad_answer.BadAnswer.{BadAnswer}
+use Rattle.calling_sequence.specs.declared.experiment.Experiment.{Experiment}
+use Rattle.calling_sequence.specs.declared.buffers.Buffers.{Buffers}
+use Rattle.calling_sequence.specs.declared.ending.Break.{Break}
+use Rattle.calling_sequence.specs.declared.ending.Break.TheVariants as B
+use Rattle.calling_sequence.specs.declared.ending.Ending.{Ending}
+use Rattle.calling_sequence.specs.declared.run_end.RunEnd.TheVariants as E
+use Rattle.calling_sequence.specs.Course.{Before, Place, Seen, Spot, Timed, Way}
+use Rattle.calling_sequence.specs.Ends.{RunsSlots, point_of}
+use Rattle.calling_sequence.specs.Here.{Follows, Here}
+
+-- ---- places, by what the code holds
+
+abbrev pub spot : (t n : ℕ) → Buffers → Spot
+spot t n b = record { t = t; n = n; values = b.values.items; timers = timers_in b.schedule }
+
+abbrev pub timed : Buffers → Place
+timed b = Timed (timers_in b.schedule)
+
+abbrev pub before_instant : (t n : ℕ) → Buffers → Place
+before_instant t n b = Before (spot t n b) (is_due_at b.schedule t)
+
+abbrev pub seen : (t n : ℕ) → Buffers → Updated → Place
+seen t n b u = Seen (spot t n b) u.again u.asked
+
+abbrev pub way : (t n : ℕ) → Buffers → (to : ℕ) → Way
+way t n b to = record { s = spot t n b; to = to }
+
+-- ---- stages
+
+-- whatever the run was before: where it stands at the one place, it comes to the other
+abbrev pub Onward : Experiment → (p q : Place) → (mids news : List Instance) →
+    (present after : SinkView) → (count counted : ℕ) → Type 0
+Onward e p q mids news present after count counted =
+    (olds : List Instance) (before : SinkView) → Here e olds before p mids present count →
+    Here e olds before q news after counted
+
+-- it comes to this end
+abbrev pub Comes : Experiment → Place → Ending → (mids news : List Instance) →
+    (present after : SinkView) → (count counted : ℕ) → Type 0
+Comes e p ending mids news present after count counted =
+    (olds : List Instance) (before : SinkView) → Here e olds before p mids present count →
+    Follows e olds before ending news after counted
+
+-- a stage that puts nothing: from the one place to the other, which its value tells, or to the end by a bad answer
+abbrev pub Goes : {T : Type 0} → Experiment → Place → (T → Place) → (mids news : List Instance) →
+    (count counted : ℕ) → Result T BadAnswer → Type 0
+Goes e p q mids news count counted (Ok x) =
+    (v : SinkView) → Onward e p (q x) mids news v v count counted
+Goes e p q mids news count counted (Err bad) =
+    (v : SinkView) →
+    Comes e p (record { end = E.Bad bad; point = point_of e.plan p }) mids news v v count counted
+
+-- the run breaks off so
+abbrev pub Breaks : Experiment → Place → (mids news : List Instance) → (present after : SinkView) →
+    (count counted : ℕ) → Break → Type 0
+Breaks e p mids news present after count counted (B.Ends ending) =
+    Comes e p ending mids news present after count counted
+Breaks e p mids news present after count counted B.Write =
+    (olds : List Instance) (before : SinkView) → Here e olds before p mids present count →
+    RunsSlots e.system e.bound e.plan olds news before after counted E.WriteFault
+
+-- a stage that may put instants
+abbrev pub Puts : {T : Type 0} → Experiment → Place → (T → Place) → (mids news : List Instance) →
+    (present after : SinkView) → (count counted : ℕ) → Result T Break → Type 0
+Puts e p q mids news present after count counted (Ok x) =
+    Onward e p (q x) mids news present after count counted
+Puts e p q mids news present after count counted (Err b) =
+    Breaks e p mids news present after count counted b
+
+-- and one that leads to the end
+abbrev pub Arrives : Experiment → Place → (mids news : List Instance) → (present after : SinkView) →
+    (count counted : ℕ) → Result Ending Break → Type 0
+Arrives e p mids news present after count counted (Ok ending) =
+    Comes e p ending mids news present after count counted
+Arrives e p mids news present after count counted (Err b) =
+    Breaks e p mids news present after count counted b

@@ -1,0 +1,38 @@
+-- What a run sends in one go, and how it goes (FMI 3.0, 2.2.3: status returned by functions).
+use Rattle.std.specs.Prelude.{◌≡◌, ℕ, ◌≤◌, ◌<◌, ℤ, List, [], ◌∷◌, ◌++◌, Option, length}
+use Rattle.value_types.specs.declared.shape.Shape.{Shape}
+use Rattle.system_model.specs.declared.system.System.{System}
+use Rattle.slot_calls.specs.declared.bad_answer.BadAnswer.{BadAnswer}
+use Rattle.slot_calls.specs.Log.{Asking, Sent, part}
+use Rattle.slot_calls.specs.Stage.{FailsIn, IsAnswered, IsFirst, StopsAt, shapes_of}
+use Rattle.event_iteration.specs.Explains.{Explains, ExplainsUntil}
+use Rattle.event_iteration.specs.Turns.{Rules}
+
+-- calls up to the first bad answer, calls that are all sent whatever is answered, or a walk through ports, from the values before it
+pub data Part : Type 0 where
+  Calls : (calls : List Asking) → Part
+  Round : (calls : List Asking) → Part
+  Walk : (rules : Rules) (before : List (Option ℤ)) (order : List ℕ) → Part
+
+-- by this log the part was done, and each answer is good; these are the values that a walk found
+abbrev pub Does : System → Part → List (Option ℤ) → List Sent → Type 0
+Does system (Calls calls) values log = IsAnswered (shapes_of system) calls log
+Does system (Round calls) values log = IsAnswered (shapes_of system) calls log
+Does system (Walk rules before order) values log = Explains system rules before order values log
+
+-- by this log the part came to this bad answer
+abbrev pub Falls : System → Part → BadAnswer → List Sent → Type 0
+Falls system (Calls calls) bad log = StopsAt (shapes_of system) calls bad log
+Falls system (Round calls) bad log = FailsIn (shapes_of system) calls bad log
+Falls system (Walk rules before order) bad log =
+    (values : List (Option ℤ)) × ExplainsUntil system rules before order bad values log
+
+-- the first bad answer of a log: behind it the instances up to that have no exchange
+pub record EndsBadly (shapes : List Shape) (bad : BadAnswer) (log : List Sent) : Type 0 where
+  pub front : List Sent
+  pub last : Sent
+  pub back : List Sent
+  pub log_is : log ≡ front ++ last ∷ back
+  pub first : IsFirst shapes bad front last
+  pub within : last.component < length shapes
+  pub alone : (j : ℕ) → j ≤ last.component → part j back ≡ []

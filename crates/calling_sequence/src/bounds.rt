@@ -1,0 +1,81 @@
+ghost use Rattle.std.specs.Prelude.{◌≡◌, ◌≤◌, ◌<◌, ◌^◌, ℕ, None, [], false, IfNone, IfSome, All, length, not, option_map, position};
+ghost use Rattle.run_model.specs.Steps.{IsBound};
+ghost use Rattle.event_iteration.specs.Clocks.{IsNextFrom, timers_in};
+ghost use Rattle.event_iteration.specs.Intervals.{is_some_armed};
+ghost use Rattle.tick_schedule.specs.Timetable.{TicksAt};
+ghost use Rattle.calling_sequence.specs.Calls.{first_unfit};
+ghost use Rattle.calling_sequence.specs.Plans.{IsPlan};
+
+use sim_base::CompId;
+use std::marker::Brand;
+use std::sync::ledger::{Blank, Ledger};
+use system_model::{Component, Plan, System};
+use tick_schedule::{Schedule, Steps};
+
+/// The bound of the step from a point before the stop that is done, in counts: the next grid point, the next tick or the stop.
+pub(crate) fn next_bound(plan: &Plan, schedule: &Schedule, t: u64) -> u64
+    requires plan { IsPlan plan.now }
+    requires begun { plan.now.start ≤ t }
+    requires before { t < plan.now.stop }
+    requires table { (schedule.now.start ≡ plan.now.start) × (schedule.now.stop ≡ plan.now.stop) }
+    requires next { All (IsNextFrom schedule.now.start t false) schedule.now.clocks }
+    requires done { is_some_armed t (timers_in schedule.now) ≡ false }
+    ensures { IsBound plan.now (timers_in schedule.now) t result }
+{
+    let mark = next_mark(plan, t);
+    match next_tick::<Brand>(schedule, t, Blank::new(1)) {
+        Some(tick) => mark.min(tick),
+        None => mark,
+    }
+}
+
+// The bound where no Clock ticks: the next grid point or the stop.
+fn next_mark(plan: &Plan, t: u64) -> u64
+    requires plan { IsPlan plan.now }
+    requires begun { plan.now.start ≤ t }
+    requires before { t < plan.now.stop }
+    ensures { IsBound plan.now [] t result }
+{
+    let steps = (t - plan.start) / plan.step + 1;
+    let grid = plan.start + steps * plan.step;
+    plan.stop.min(grid)
+}
+
+// The next tick behind a point, up to the stop.
+fn next_tick<K: Ledger>(schedule: &Schedule, t: u64, blank: Blank) -> Option<u64>
+    requires name { blank.name ≡ K.name }
+    requires parts { blank.parts ≡ K.parts }
+    requires some { 0 < blank.parts }
+    requires none_up_to { (clock point : ℕ) → TicksAt schedule.now clock point → t < point }
+    ensures due { IfSome result (λ point. (clock : ℕ) × TicksAt schedule.now clock point) }
+    ensures after { IfSome result (λ point. t < point) }
+    ensures least { IfSome result (λ point. (clock other : ℕ) → TicksAt schedule.now clock other →
+        point ≤ other) }
+    ensures none { IfNone result ((clock point : ℕ) → TicksAt schedule.now clock point → ⊥) }
+{
+    schedule.next_after(t, &mut Steps::<K>::new(blank))
+}
+
+/// The least component that takes no step of this size.
+pub(crate) fn first_unfit(system: &System, plan: &Plan, size: u64) -> Option<CompId>
+    requires { length system.now.components ≤ 2 ^ 32 }
+    ensures { option_map (λ c. c.0) result ≡ first_unfit system.now plan.now size }
+{
+    if size == plan.step {
+        return None;
+    }
+    match first_unvaried(system.components.as_slice()) {
+        Some(place) => Some(CompId(place as u32)),
+        None => None,
+    }
+}
+
+// The place of the first component without variable steps.
+fn first_unvaried(components: &[Component]) -> Option<usize>
+    ensures place { result ≡ position (λ c. not c.shape.has_variable_steps) components.now }
+    ensures within { IfSome result (λ place. place < length components.now) }
+{
+    components
+        .iter()
+        .position(|component| !component.shape.has_variable_steps)
+}

@@ -1,0 +1,43 @@
+ghost use Rattle.std.specs.Prelude.{IfOk};
+ghost use Rattle.calling_sequence.specs.Plans.{IsPlan};
+ghost use Rattle.calling_sequence.specs.Ready.{AreFresh};
+ghost use Rattle.system_model.specs.Sound.{IsSound};
+
+use crate::Experiment;
+use event_iteration::{InitialReads, schedule_of};
+use std::alloc::{AllocError, Global};
+use tick_schedule::Schedule;
+use trace_text::room_for;
+
+/// All memory of a run: which outputs Initialization Mode reads, when Clocks tick, a place for the value of each port, room
+/// for the longest text of a trace, and the number of instants that were put.
+#[derive(Drop)]
+pub struct Buffers {
+    pub reads: InitialReads,
+    pub schedule: Schedule,
+    pub values: Vec<Option<i128>>,
+    pub text: Vec<u8>,
+    pub instants: u128,
+}
+
+impl Buffers {
+    /// Those of a run that hasn't begun. It fails where memory is wanting.
+    pub fn new(alloc: Global, experiment: &Experiment) -> Result<Buffers, AllocError>
+        requires sound { IsSound experiment.now.system }
+        requires plan { IsPlan experiment.now.plan }
+        ensures { IfOk result (AreFresh experiment.now) }
+    {
+        let system = &experiment.system;
+        let plan = &experiment.plan;
+        let Some(bytes) = room_for(system) else {
+            return Err(AllocError);
+        };
+        Ok(Buffers {
+            reads: InitialReads::of(alloc, system)?,
+            schedule: schedule_of(alloc, system, plan.start, plan.stop)?,
+            values: vec![in alloc; None; system.ports.len()]?,
+            text: vec![in alloc; 0u8; bytes]?,
+            instants: 0,
+        })
+    }
+}

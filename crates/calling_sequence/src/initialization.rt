@@ -1,0 +1,158 @@
+ghost use Rattle.std.specs.Prelude.{◌≡◌, ◌≤◌, ℕ, None, OnOk, true, length, replicate};
+ghost use Rattle.event_iteration.specs.Initialization.{AreReads};
+ghost use Rattle.event_iteration.specs.Clocks.{first_table};
+ghost use Rattle.run_model.specs.Machines.{AreFitting};
+ghost use Rattle.slot_calls.specs.Slots.{instances};
+ghost use Rattle.calling_sequence.specs.Course.{Configured, Entered, Found, Made};
+ghost use Rattle.calling_sequence.specs.Goes.{Goes, before_instant, timed};
+ghost use Rattle.calling_sequence.specs.Place.{IsAt, IsInitializing, IsMade};
+ghost use Rattle.calling_sequence.specs.Ready.{AreFresh, AreTimed, Ready};
+
+use crate::parameters::set_parameters;
+use crate::{BadAnswer, Buffers, Experiment};
+use event_iteration::fix_clocks;
+use fmu_peer::{Peer, Slot};
+use slot_calls::{Ask, each};
+
+/// Sets the bound parameters, leads each FMU through Initialization Mode, where it finds the values and asks each fixed Clock
+/// for interval and shift, and takes the values away: before the first instant no port has one.
+pub(crate) fn initialize<L: Peer>(
+    slots: &mut [Slot<L>],
+    experiment: &Experiment,
+    buffers: &mut Buffers,
+) -> Result<(), BadAnswer>
+    requires ready { Ready L.view experiment.now (λ stop step. IsMade) slots.old }
+    requires fresh { AreFresh experiment.now buffers.old }
+    ensures ready { OnOk result
+        (Ready L.view experiment.now (IsAt experiment.now.plan.start) slots.new) }
+    ensures timed { OnOk result
+        (AreTimed experiment.now experiment.now.plan.start 0 true buffers.new) }
+    ensures text { length buffers.new.text.items ≡ length buffers.old.text.items }
+    ensures goes { Goes experiment.now Made
+        (λ x. before_instant experiment.now.plan.start 0 buffers.new) (instances L.view slots.old)
+        (instances L.view slots.new) buffers.old.instants buffers.new.instants result }
+{
+    match configure(slots, experiment) {
+        Ok(()) => {}
+        Err(bad) => return Err(bad),
+    }
+    match enter(slots, experiment) {
+        Ok(()) => {}
+        Err(bad) => return Err(bad),
+    }
+    match find(slots, experiment, buffers) {
+        Ok(()) => {}
+        Err(bad) => return Err(bad),
+    }
+    match ask(slots, experiment, buffers) {
+        Ok(()) => {}
+        Err(bad) => return Err(bad),
+    }
+    exit(slots, experiment, buffers)
+}
+
+// Sets each bound parameter.
+fn configure<L: Peer>(slots: &mut [Slot<L>], experiment: &Experiment) -> Result<(), BadAnswer>
+    requires { Ready L.view experiment.now (λ stop step. IsMade) slots.old }
+    ensures ready { OnOk result (Ready L.view experiment.now (λ stop step. IsMade) slots.new) }
+    ensures goes { (count : ℕ) → Goes experiment.now Made (λ x. Configured)
+        (instances L.view slots.old) (instances L.view slots.new) count count result }
+{
+    set_parameters(slots, &experiment.bound)
+}
+
+// Leads each FMU into Initialization Mode.
+fn enter<L: Peer>(slots: &mut [Slot<L>], experiment: &Experiment) -> Result<(), BadAnswer>
+    requires { Ready L.view experiment.now (λ stop step. IsMade) slots.old }
+    ensures ready { OnOk result (Ready L.view experiment.now
+        (λ stop step. IsInitializing experiment.now.plan.start stop) slots.new) }
+    ensures goes { (count : ℕ) → Goes experiment.now Configured (λ x. Entered)
+        (instances L.view slots.old) (instances L.view slots.new) count count result }
+{
+    each(
+        slots,
+        Ask::EnterInitialization {
+            start: experiment.plan.start,
+            stop: experiment.plan.stop,
+        },
+    )
+}
+
+// Finds the values of Initialization Mode.
+fn find<L: Peer>(
+    slots: &mut [Slot<L>],
+    experiment: &Experiment,
+    buffers: &mut Buffers,
+) -> Result<(), BadAnswer>
+    requires ready { Ready L.view experiment.now
+        (λ stop step. IsInitializing experiment.now.plan.start stop) slots.old }
+    requires fresh { AreFresh experiment.now buffers.old }
+    ensures ready { OnOk result (Ready L.view experiment.now
+        (λ stop step. IsInitializing experiment.now.plan.start stop) slots.new) }
+    ensures fresh { AreFresh experiment.now buffers.new }
+    ensures fitting { AreFitting experiment.now.system buffers.new.values.items }
+    ensures text { length buffers.new.text.items ≡ length buffers.old.text.items }
+    ensures goes { Goes experiment.now Entered (λ x. Found) (instances L.view slots.old)
+        (instances L.view slots.new) buffers.old.instants buffers.new.instants result }
+{
+    event_iteration::initialize(
+        slots,
+        &experiment.system,
+        &buffers.reads,
+        &mut buffers.values,
+    )
+}
+
+// Asks each fixed Clock for its interval and its shift.
+fn ask<L: Peer>(
+    slots: &mut [Slot<L>],
+    experiment: &Experiment,
+    buffers: &mut Buffers,
+) -> Result<(), BadAnswer>
+    requires ready { Ready L.view experiment.now
+        (λ stop step. IsInitializing experiment.now.plan.start stop) slots.old }
+    requires fresh { AreFresh experiment.now buffers.old }
+    requires fitting { AreFitting experiment.now.system buffers.old.values.items }
+    ensures ready { OnOk result (Ready L.view experiment.now
+        (λ stop step. IsInitializing experiment.now.plan.start stop) slots.new) }
+    ensures timed { OnOk result
+        (AreTimed experiment.now experiment.now.plan.start 0 true buffers.new) }
+    ensures text { length buffers.new.text.items ≡ length buffers.old.text.items }
+    ensures goes { Goes experiment.now Found (λ x. timed buffers.new) (instances L.view slots.old)
+        (instances L.view slots.new) buffers.old.instants buffers.new.instants result }
+{
+    fix_clocks(
+        slots,
+        &experiment.system,
+        &mut buffers.schedule,
+        experiment.plan.resolution,
+    )
+}
+
+// Leads each FMU out of Initialization Mode, and takes the values away.
+fn exit<L: Peer>(
+    slots: &mut [Slot<L>],
+    experiment: &Experiment,
+    buffers: &mut Buffers,
+) -> Result<(), BadAnswer>
+    requires ready { Ready L.view experiment.now
+        (λ stop step. IsInitializing experiment.now.plan.start stop) slots.old }
+    requires timed { AreTimed experiment.now experiment.now.plan.start 0 true buffers.old }
+    ensures ready { OnOk result
+        (Ready L.view experiment.now (IsAt experiment.now.plan.start) slots.new) }
+    ensures timed { AreTimed experiment.now experiment.now.plan.start 0 true buffers.new }
+    ensures text { length buffers.new.text.items ≡ length buffers.old.text.items }
+    ensures goes { Goes experiment.now (timed buffers.old)
+        (λ x. before_instant experiment.now.plan.start 0 buffers.new) (instances L.view slots.old)
+        (instances L.view slots.new) buffers.old.instants buffers.new.instants result }
+{
+    clear(&mut buffers.values);
+    each(slots, Ask::ExitInitialization)
+}
+
+// Takes the values away.
+fn clear(values: &mut [Option<i128>])
+    ensures { values.new ≡ replicate (length values.old) None }
+{
+    values.fill(None);
+}

@@ -1,0 +1,180 @@
+ghost use Rattle.std.specs.Prelude.{◌≡◌, ◌==◌, ◌<◌, ◌^◌, ◌+◌, ◌||◌, ℕ, false, OnOk, IfOk, All, length};
+ghost use Rattle.event_iteration.specs.Clocks.{timers_in};
+ghost use Rattle.event_iteration.specs.Intervals.{TellsTicks, is_some_armed};
+ghost use Rattle.slot_calls.specs.Slots.{instances};
+ghost use Rattle.calling_sequence.specs.Course.{Read, Rearmed};
+ghost use Rattle.calling_sequence.specs.Goes.{Goes, Puts, before_instant, seen, spot};
+ghost use Rattle.calling_sequence.specs.Place.{IsAt, IsSettled, IsTaking};
+ghost use Rattle.calling_sequence.specs.Ready.{AreTimed, Ready};
+
+use crate::text::put_values;
+use crate::{BadAnswer, Break, Buffers, Ending, Experiment, RunEnd};
+use event_iteration::{Updated, ask_intervals, instant, update};
+use fmu_peer::{Peer, Slot};
+use sim_base::Sink;
+
+/// Takes the n-th instant at a point, up to the first answer that isn't good: it finds the values from those of the instant
+/// before, asks each countdown Clock for its interval and each FMU with event mode for what follows, and puts the instant. It
+/// is told whether another follows at the point, by an Update or by a Clock that is armed for it.
+pub(crate) fn take<L: Peer, O: Sink>(
+    slots: &mut [Slot<L>],
+    experiment: &Experiment,
+    buffers: &mut Buffers,
+    t: u64,
+    n: u64,
+    out: &mut O,
+) -> Result<Updated, Break>
+    requires ready { Ready L.view experiment.now (IsAt t) slots.old }
+    requires timed { AreTimed experiment.now t n (n == 0) buffers.old }
+    requires below { n < experiment.now.plan.limit }
+    ensures ready { OnOk result (Ready L.view experiment.now (IsAt t) slots.new) }
+    ensures settled { IfOk result (λ u. u.again ≡ false →
+        Ready L.view experiment.now (IsSettled t) slots.new) }
+    ensures timed { OnOk result (AreTimed experiment.now t (n + 1) false buffers.new) }
+    ensures unarmed { IfOk result (λ u. u.again ≡ false →
+        is_some_armed t (timers_in buffers.new.schedule) ≡ false) }
+    ensures text { length buffers.new.text.items ≡ length buffers.old.text.items }
+    ensures puts { Puts experiment.now (before_instant t n buffers.old)
+        (λ u. seen t n buffers.new u) (instances L.view slots.old) (instances L.view slots.new)
+        (O.view out.old) (O.view out.new) buffers.old.instants buffers.new.instants result }
+{
+    match find(slots, experiment, buffers, t, n) {
+        Ok(()) => {}
+        Err(bad) => {
+            return Err(Break::Ends(Ending {
+                end: RunEnd::Bad(bad),
+                point: t,
+            }));
+        }
+    }
+    let is_armed = match ask(slots, experiment, buffers, t, n) {
+        Ok(is_armed) => is_armed,
+        Err(bad) => {
+            return Err(Break::Ends(Ending {
+                end: RunEnd::Bad(bad),
+                point: t,
+            }));
+        }
+    };
+    show(slots, experiment, buffers, t, n, is_armed, out)
+}
+
+// Finds the values of the instant.
+fn find<L: Peer>(
+    slots: &mut [Slot<L>],
+    experiment: &Experiment,
+    buffers: &mut Buffers,
+    t: u64,
+    n: u64,
+) -> Result<(), BadAnswer>
+    requires ready { Ready L.view experiment.now (IsAt t) slots.old }
+    requires timed { AreTimed experiment.now t n (n == 0) buffers.old }
+    ensures ready { OnOk result (Ready L.view experiment.now (IsTaking t) slots.new) }
+    ensures timed { AreTimed experiment.now t n (n == 0) buffers.new }
+    ensures ticks { OnOk result (TellsTicks experiment.now.system buffers.new.schedule t
+        buffers.new.values.items) }
+    ensures text { length buffers.new.text.items ≡ length buffers.old.text.items }
+    ensures goes { Goes experiment.now (before_instant t n buffers.old)
+        (λ x. Read (spot t n buffers.new)) (instances L.view slots.old)
+        (instances L.view slots.new) buffers.old.instants buffers.new.instants result }
+{
+    instant(
+        slots,
+        &experiment.system,
+        &buffers.schedule,
+        t,
+        n == 0,
+        &mut buffers.values,
+    )
+}
+
+// Asks each countdown Clock for its interval, and tells whether a Clock is armed for the point.
+fn ask<L: Peer>(
+    slots: &mut [Slot<L>],
+    experiment: &Experiment,
+    buffers: &mut Buffers,
+    t: u64,
+    n: u64,
+) -> Result<bool, BadAnswer>
+    requires ready { Ready L.view experiment.now (IsTaking t) slots.old }
+    requires timed { AreTimed experiment.now t n (n == 0) buffers.old }
+    requires ticks { TellsTicks experiment.now.system buffers.old.schedule t
+        buffers.old.values.items }
+    ensures ready { OnOk result (Ready L.view experiment.now (IsTaking t) slots.new) }
+    ensures timed { OnOk result (AreTimed experiment.now t n false buffers.new) }
+    ensures armed { IfOk result (λ armed.
+        armed ≡ is_some_armed t (timers_in buffers.new.schedule)) }
+    ensures text { length buffers.new.text.items ≡ length buffers.old.text.items }
+    ensures goes { Goes experiment.now (Read (spot t n buffers.old))
+        (λ armed. Rearmed (spot t n buffers.new)) (instances L.view slots.old)
+        (instances L.view slots.new) buffers.old.instants buffers.new.instants result }
+{
+    ask_intervals(
+        slots,
+        &experiment.system,
+        &mut buffers.schedule,
+        experiment.plan.resolution,
+        n == 0,
+        &buffers.values,
+        t,
+    )
+}
+
+// Asks each FMU with event mode for what follows, and puts the instant.
+fn show<L: Peer, O: Sink>(
+    slots: &mut [Slot<L>],
+    experiment: &Experiment,
+    buffers: &mut Buffers,
+    t: u64,
+    n: u64,
+    is_armed: bool,
+    out: &mut O,
+) -> Result<Updated, Break>
+    requires ready { Ready L.view experiment.now (IsTaking t) slots.old }
+    requires timed { AreTimed experiment.now t n false buffers.old }
+    requires armed { is_armed ≡ is_some_armed t (timers_in buffers.old.schedule) }
+    requires below { n < experiment.now.plan.limit }
+    ensures ready { OnOk result (Ready L.view experiment.now (IsAt t) slots.new) }
+    ensures settled { IfOk result (λ u. u.again ≡ false →
+        Ready L.view experiment.now (IsSettled t) slots.new) }
+    ensures timed { OnOk result (AreTimed experiment.now t (n + 1) false buffers.new) }
+    ensures unarmed { IfOk result (λ u. u.again ≡ false →
+        is_some_armed t (timers_in buffers.new.schedule) ≡ false) }
+    ensures text { length buffers.new.text.items ≡ length buffers.old.text.items }
+    ensures puts { Puts experiment.now (Rearmed (spot t n buffers.old))
+        (λ u. seen t n buffers.new u) (instances L.view slots.old) (instances L.view slots.new)
+        (O.view out.old) (O.view out.new) buffers.old.instants buffers.new.instants result }
+{
+    let updated = match update(slots, &experiment.system) {
+        Ok(updated) => updated,
+        Err(bad) => {
+            return Err(Break::Ends(Ending {
+                end: RunEnd::Bad(bad),
+                point: t,
+            }));
+        }
+    };
+    match put_values(
+        &experiment.system,
+        t,
+        n,
+        &buffers.values,
+        &mut buffers.text,
+        &mut buffers.instants,
+        out,
+    ) {
+        Ok(()) => Ok(with_armed(updated, is_armed)),
+        Err(_) => Err(Break::Write),
+    }
+}
+
+// What is told behind an instant, with the Clocks that are armed for the point.
+fn with_armed(updated: Updated, is_armed: bool) -> Updated
+    ensures again { result.again ≡ (updated.again || is_armed) }
+    ensures asked { result.asked ≡ updated.asked }
+{
+    Updated {
+        again: updated.again || is_armed,
+        asked: updated.asked,
+    }
+}

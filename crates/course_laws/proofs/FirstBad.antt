@@ -1,0 +1,126 @@
+-- The answers of a run: all are good, or up to the first that isn't.
+use Rattle.std.proofs.Common.{ℕ, suc, ◌+◌, ◌<◌, ◌≤◌, ◌≡◌, ℤ, Bool, true, false, List, [], ◌∷◌, ◌++◌, Option, Some, refl, arith, length, subst, append_assoc}
+use Rattle.std.specs.Prelude.{All}
+use Rattle.std.specs.List.{slice_get}
+use Rattle.std.proofs.lemmas.List.{length-map}
+use Rattle.std.proofs.lemmas.List.Elements.{All-append, All-cons, All-nil}
+use Rattle.std.proofs.lemmas.Option.{slice_get_within}
+use Rattle.std.proofs.lemmas.Slice.Zip.{AllZip-long}
+use Rattle.value_types.specs.declared.shape.Shape.{Shape}
+use Rattle.fmi_calls.specs.declared.call.Call.{Call}
+use Rattle.fmi_calls.specs.declared.call.Call.TheVariants as C
+use Rattle.fmu_peer.specs.Mode.{instantiate_of}
+use Rattle.system_model.specs.declared.bound.Bound.{Bound}
+use Rattle.system_model.specs.declared.bound.BoundValue.{BoundValue}
+use Rattle.system_model.specs.declared.plan.Plan.{Plan}
+use Rattle.system_model.specs.declared.system.Component.{Component}
+use Rattle.system_model.specs.declared.system.Port.{Port}
+use Rattle.system_model.specs.declared.system.Role.{Role}
+use Rattle.system_model.specs.declared.system.Role.TheVariants.{TimeClock}
+use Rattle.system_model.specs.declared.system.System.{System}
+use Rattle.system_model.specs.declared.system.Timing.TheVariants.{Answered}
+use Rattle.system_model.specs.Bounds.{AreParameterValues, BindsParameters}
+use Rattle.system_model.specs.Sound.{IsSound}
+use Rattle.system_model.specs.Text.{Instant}
+use Rattle.system_model.proofs.SoundLemmas.{place_of}
+use Rattle.run_model.specs.Initial.{set_call}
+use Rattle.slot_calls.specs.declared.bad_answer.BadAnswer.{BadAnswer}
+use Rattle.slot_calls.specs.Log.{Sent}
+use Rattle.slot_calls.specs.Stage.{IsGoodOf, everyone, shapes_of, to_those}
+use Rattle.slot_calls.proofs.Parts.{those_within}
+use Rattle.event_iteration.specs.Intervals.{timing_calls_in, timing_calls_of}
+use Rattle.event_iteration.proofs.WalkLaws.{last_alone_is_bad}
+use Rattle.calling_sequence.specs.Calls.{binding_from, making, sets_of}
+use Rattle.calling_sequence.specs.Course.{Before, Configured, Course, Departing, Entered, Found, Left, Leaving, Made, Place, Read, Rearmed, Seen, Stepped, Timed, part_at}
+use Rattle.calling_sequence.specs.Parts.{Calls, Does, EndsBadly, Falls, Part, Round, Walk}
+use Rattle.calling_sequence.proofs.Along.{along}
+use Rattle.course_laws.specs.Laws.{FirstBadAnswer}
+use Rattle.course_laws.specs.Runs.{Falling, Stands, Unmade}
+use Rattle.course_laws.proofs.Goods.{AreInOrder, IsToOne, fails_badly, first_of_parts, good_part, in_order_from, stops_badly, walks_badly}
+
+-- ---- calls to components that are there
+
+module _ (n : ℕ) where
+  sets_to_one : (i : ℕ) (values : List BoundValue) → i < n → All (IsToOne n) (sets_of i values)
+  sets_to_one i [] w = All-nil (IsToOne n)
+  sets_to_one i (b ∷ values) w = All-cons (IsToOne n) (record { component = i; call = set_call b }) (sets_of i values) w (sets_to_one i values w)
+
+  binding_to_one : (i : ℕ) (lists : List (List BoundValue)) → i + length lists ≤ n → All (IsToOne n) (binding_from i lists)
+  binding_to_one i [] w = All-nil (IsToOne n)
+  binding_to_one i (values ∷ lists) w = All-append (IsToOne n) (sets_of i values) (binding_from (i + 1) lists) (sets_to_one i values (omega (arith, w))) (binding_to_one (i + 1) lists (omega (arith, w)))
+
+  timing_to_one : (role : Role) (port : Port) → port.component.0 < n → All (IsToOne n) (timing_calls_of role port)
+  timing_to_one (TimeClock Answered) port w =
+      All-cons (IsToOne n) (record { component = port.component.0; call = C.GetInterval port.reference }) (record { component = port.component.0; call = C.GetShift port.reference } ∷ []) w
+      (All-cons (IsToOne n) (record { component = port.component.0; call = C.GetShift port.reference }) [] w (All-nil (IsToOne n)))
+  timing_to_one role port w = All-nil (IsToOne n)
+
+  timings_to_one : (ports : List Port) → ((j : ℕ) (port : Port) → slice_get ports j ≡ Some port → port.component.0 < n) → All (IsToOne n) (timing_calls_in ports)
+  timings_to_one [] inside = All-nil (IsToOne n)
+  timings_to_one (port ∷ ports) inside =
+      All-append (IsToOne n) (timing_calls_of port.role port) (timing_calls_in ports) (timing_to_one port.role port (inside 0 port refl)) (timings_to_one ports (λ j x at. inside (suc j) x at))
+
+module _ (system : System) where
+  abbrev ss : List Shape
+  ss = shapes_of system
+
+  shapes_len : length ss ≡ length system.components
+  shapes_len = length-map system.components (λ (c : Component). c.shape)
+
+  abbrev Good : List Sent → Type 0
+  Good log = All (IsGoodOf ss) log
+
+  -- what is sent is to components that are there, in a round one behind the other
+  abbrev IsPlaced : Part → Type 0
+  IsPlaced (Calls calls) = All (IsToOne (length ss)) calls
+  IsPlaced (Round calls) = All (IsToOne (length ss)) calls × AreInOrder 0 calls
+  IsPlaced (Walk rules before order) = Unit {0}
+
+  those : (test : Shape → Bool) (call : Shape → Call) → All (IsToOne (length ss)) (to_those test call ss)
+  those test call = those_within test call (length ss) 0 ss (omega arith)
+
+  part_good : (part : Part) (values : List (Option ℤ)) (log : List Sent) → Does system part values log → Good log
+  part_good (Calls calls) values log does = does.good
+  part_good (Round calls) values log does = does.good
+  part_good (Walk rules before order) values log does = (last_alone_is_bad system rules before order values log).good does
+
+  part_badly : (part : Part) (bad : BadAnswer) (front more : List Sent) → IsPlaced part → Good front → Falls system part bad more → EndsBadly ss bad (front ++ more)
+  part_badly (Calls calls) bad front more placed good falls = stops_badly ss bad front more good calls placed falls
+  part_badly (Round calls) bad front more placed good falls = fails_badly ss bad front more good calls placed.0 placed.1 falls
+  part_badly (Walk rules before order) bad front more placed good (values, falls) = walks_badly ss bad front more good ((last_alone_is_bad system rules before order values more).bad bad falls)
+
+  module _ (bound : Bound) (plan : Plan) (sound : IsSound system) (binds : BindsParameters system bound) where
+    part_placed : (p : Place) → IsPlaced (part_at system bound plan p)
+    part_placed Made = binding_to_one (length ss) 0 bound.components
+        (let a = AllZip-long (λ (c : Component) (values : List BoundValue). AreParameterValues c.shape values) system.components bound.components binds in let b = shapes_len in omega (arith, a, b))
+    part_placed Configured = those _ _
+    part_placed Entered = tt
+    part_placed Found = timings_to_one (length ss) system.ports (λ j port at.
+        let placed = place_of system sound j port at in
+        let w = slice_get_within system.components port.component.0 placed.component placed.is.of in
+        let e = shapes_len in
+        omega (arith, w, e))
+    part_placed (Timed timers) = those _ _
+    part_placed (Before s ticks) = tt
+    part_placed (Read s) = tt
+    part_placed (Rearmed s) = those _ _
+    part_placed (Seen s again asked) = All-nil (IsToOne (length ss))
+    part_placed (Leaving w) = those _ _
+    part_placed (Left w) = tt
+    part_placed (Departing w) = (those _ _, in_order_from _ 0 0 ss (omega arith))
+    part_placed (Stepped s true) = All-nil (IsToOne (length ss))
+    part_placed (Stepped s false) = those _ _
+
+    course_good : (p : Place) (log : List Sent) (is : List Instant) → Course system bound plan p log is → Good log
+    course_good = along system bound plan (λ p log is. Good log) (All-nil (IsGoodOf ss))
+        (λ p q values front more is course good does leads. All-append (IsGoodOf ss) front more good (part_good (part_at system bound plan p) values more does))
+
+pub first_bad_answer : FirstBadAnswer
+first_bad_answer system _ _ sound (Unmade bad log stops) =
+    first_of_parts (shapes_of system) bad log (stops_badly (shapes_of system) bad [] log (All-nil (IsGoodOf (shapes_of system))) (making system) (those system everyone instantiate_of) stops)
+first_bad_answer system _ _ sound (Stands bound plan p made log is binds counts answered course) =
+    good_part (shapes_of system) (made ++ log) (All-append (IsGoodOf (shapes_of system)) made log answered.good (course_good system bound plan sound binds p log is course))
+first_bad_answer system _ _ sound (Falling bound plan p bad made front more is binds counts answered course falls) =
+    first_of_parts (shapes_of system) bad (made ++ (front ++ more)) (subst (EndsBadly (shapes_of system) bad) (append_assoc made front more)
+    (part_badly system (part_at system bound plan p) bad (made ++ front) more (part_placed system bound plan sound binds p)
+    (All-append (IsGoodOf (shapes_of system)) made front answered.good (course_good system bound plan sound binds p front is course)) falls))

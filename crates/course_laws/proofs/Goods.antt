@@ -1,0 +1,118 @@
+-- The first bad answer of a log, and of each instance's part of it.
+use Rattle.std.proofs.Common.{◌≡◌, ℕ, suc, ◌+◌, ◌<◌, ◌≤◌, ◌==◌, Bool, true, false, List, [], ◌∷◌, ◌++◌, refl, sym, ap, ◌∙◌, subst, append_assoc, append-nil, arith, length, get_or}
+use Rattle.std.specs.Prelude.{All, if◌then◌else◌}
+use Rattle.std.proofs.lemmas.Bool.Decides.{nat_tests}
+use Rattle.std.proofs.lemmas.List.Elements.{All-append, All-cons, All-head, All-nil, All-tail}
+use Rattle.value_types.specs.declared.shape.Shape.{Shape}
+use Rattle.fmi_calls.specs.declared.call.Call.{Call}
+use Rattle.fmu_peer.specs.declared.peer.Exchange.{Exchange}
+use Rattle.fmu_peer.specs.Answer.{IsFirstBad}
+use Rattle.fmu_peer.specs.Talk as T
+use Rattle.slot_calls.specs.declared.bad_answer.BadAnswer.{BadAnswer}
+use Rattle.slot_calls.specs.Log.{Asking, Sent, askings, part}
+use Rattle.slot_calls.specs.Stage.{FailsIn, IsFirst, IsGoodOf, StopsAt, everyone, to_those_from}
+use Rattle.slot_calls.proofs.Logs.{part_append}
+use Rattle.slot_calls.proofs.Parts.{other, same, skips, takes}
+use Rattle.event_iteration.specs.WalkCalls.{LastIsBad}
+use Rattle.calling_sequence.specs.Parts.{EndsBadly}
+use Rattle.course_laws.specs.Laws.{IsFirstBadOf}
+
+-- ---- the parts of a log
+
+pub good_part : (ss : List Shape) (log : List Sent) → All (IsGoodOf ss) log → (k : ℕ) (d : Shape) → T.AllGood (get_or ss k d) (part k log)
+good_part ss [] all k d = All-nil (T.IsGood (get_or ss k d))
+good_part ss (s ∷ log) all k d = by (good_part ss log (All-tail (IsGoodOf ss) s log all) k d) (s.component == k) refl where
+  by : T.AllGood (get_or ss k d) (part k log) → (b : Bool) → (s.component == k) ≡ b → T.AllGood (get_or ss k d) (if b then s.exchange ∷ part k log else part k log)
+  by rest true here =
+      All-cons (T.IsGood (get_or ss k d)) s.exchange (part k log) (subst (λ (n : ℕ). T.IsGood (get_or ss n d) s.exchange) (let e : s.component ≡ k = grind (arith, nat_tests) in e) (All-head (IsGoodOf ss) s log all d)) rest
+  by rest false there = rest
+
+module _ (ss : List Shape) (bad : BadAnswer) (log : List Sent) (b : EndsBadly ss bad log) where
+  -- the part of its component ends with it
+  part_here : part b.last.component log ≡ part b.last.component b.front ++ b.last.exchange ∷ []
+  part_here =
+      let k = b.last.component in
+      ap (part k) b.log_is ∙ part_append k b.front (b.last ∷ b.back)
+      ∙ ap (λ (es : List Exchange). part k b.front ++ es)
+      (takes (k == k) b.last.exchange (part k b.back) (same k k refl) ∙ ap (λ (es : List Exchange). b.last.exchange ∷ es) (b.alone k (omega arith)))
+
+  -- those of the components before it stand in front of it
+  part_before : (j : ℕ) → j < b.last.component → part j log ≡ part j b.front
+  part_before j before =
+      ap (part j) b.log_is ∙ part_append j b.front (b.last ∷ b.back)
+      ∙ ap (λ (es : List Exchange). part j b.front ++ es)
+      (skips (b.last.component == j) b.last.exchange (part j b.back) (other b.last.component j (λ e. absurd (omega (arith, e, before)))) ∙ b.alone j (omega (arith, before)))
+      ∙ append-nil (part j b.front)
+
+  pub first_of_parts : IsFirstBadOf ss bad log
+  first_of_parts =
+      let at = b.first.component in
+      record {
+        within = subst (λ (n : ℕ). n < length ss) at b.within;
+        first = λ d. subst (λ (n : ℕ). IsFirstBad (get_or ss n d) bad.why (part n log)) at (record {
+          front = part b.last.component b.front;
+          last = b.last.exchange;
+          is = part_here;
+          good = good_part ss b.front b.first.good b.last.component d;
+          bad = b.first.why d;
+        });
+        before = λ j d w. subst (T.AllGood (get_or ss j d)) (sym (part_before j (omega (arith, at, w)))) (good_part ss b.front b.first.good j d);
+      }
+
+-- ---- calls in the order of the components
+
+-- each is to one of those from the i-th on, and behind those before it
+abbrev pub AreInOrder : ℕ → List Asking → Type 0
+AreInOrder i [] = Unit {0}
+AreInOrder i (a ∷ calls) = (i ≤ a.component) × AreInOrder (suc a.component) calls
+
+none_before : (i j : ℕ) (log : List Sent) → AreInOrder i (askings log) → j < i → part j log ≡ []
+none_before i j [] order w = refl
+none_before i j (s ∷ log) (at, order) w =
+    skips (s.component == j) s.exchange (part j log) (other s.component j (λ e. absurd (omega (arith, e, at, w)))) ∙ none_before (suc s.component) j log order (omega (arith, at, w))
+
+alone_behind : (i : ℕ) (front : List Sent) (last : Sent) (back : List Sent) → AreInOrder i (askings (front ++ last ∷ back)) → (j : ℕ) → j ≤ last.component → part j back ≡ []
+alone_behind i [] last back (at, order) j w = none_before (suc last.component) j back order (omega (arith, w))
+alone_behind i (f ∷ front) last back (at, order) j w = alone_behind (suc f.component) front last back order j w
+
+pub in_order_from : (call : Shape → Call) (i j : ℕ) (ss : List Shape) → i ≤ j → AreInOrder i (to_those_from j everyone call ss)
+in_order_from call i j [] w = tt
+in_order_from call i j (s ∷ ss) w = (w, in_order_from call (suc j) (j + 1) ss (omega arith))
+
+-- ---- a part of a run
+
+-- the call is to one of so many
+abbrev pub IsToOne : ℕ → Asking → Type 0
+IsToOne n a = a.component < n
+
+-- so is one in their midst
+amid : (n : ℕ) (front : List Sent) (last : Sent) (back : List Sent) (left : List Asking) → All (IsToOne n) (askings (front ++ last ∷ back) ++ left) → last.component < n
+amid n [] last back left all = All-head (IsToOne n) _ _ all
+amid n (f ∷ front) last back left all = amid n front last back left (All-tail (IsToOne n) _ _ all)
+
+module _ (ss : List Shape) (bad : BadAnswer) (before log : List Sent) (good : All (IsGoodOf ss) before) where
+  -- behind good answers
+  behind : (front : List Sent) (last : Sent) (back : List Sent) → log ≡ front ++ last ∷ back → IsFirst ss bad front last → last.component < length ss → ((j : ℕ) → j ≤ last.component → part j back ≡ []) → EndsBadly ss bad (before ++ log)
+  behind front last back is first within alone = record {
+    front = before ++ front;
+    last = last;
+    back = back;
+    log_is = ap (λ (l : List Sent). before ++ l) is ∙ sym (append_assoc before front (last ∷ back));
+    first = record { good = All-append (IsGoodOf ss) before front good first.good; component = first.component; why = first.why };
+    within = within;
+    alone = alone;
+  }
+
+  pub stops_badly : (calls : List Asking) → All (IsToOne (length ss)) calls → StopsAt ss calls bad log → EndsBadly ss bad (before ++ log)
+  stops_badly calls to s = behind s.front s.last [] s.log_is s.first
+      (amid (length ss) s.front s.last [] s.left (subst (λ (l : List Sent). All (IsToOne (length ss)) (askings l ++ s.left)) s.log_is (subst (All (IsToOne (length ss))) s.calls_are to))) (λ j w. refl)
+
+  pub fails_badly : (calls : List Asking) → All (IsToOne (length ss)) calls → AreInOrder 0 calls → FailsIn ss calls bad log → EndsBadly ss bad (before ++ log)
+  fails_badly calls to order f =
+      let is : calls ≡ askings (f.front ++ f.last ∷ f.back) = sym f.calls_are ∙ ap askings f.log_is in
+      behind f.front f.last f.back f.log_is f.first
+      (amid (length ss) f.front f.last f.back [] (subst (All (IsToOne (length ss))) (is ∙ sym (append-nil (askings (f.front ++ f.last ∷ f.back)))) to))
+      (alone_behind 0 f.front f.last f.back (subst (AreInOrder 0) is order))
+
+  pub walks_badly : LastIsBad ss bad log → EndsBadly ss bad (before ++ log)
+  walks_badly l = behind l.front l.last [] l.log_is l.first l.within (λ j w. refl)

@@ -1,0 +1,12 @@
+mod Goods
+mod RunEnds
+mod FirstBad
+mod OwnCalls
+mod BoundSets
+mod Once
+mod CallsOnce
+mod ArmedClocks
+mod UpdateMarks
+mod UpdateTables
+mod UpdatesNeeded
+mod UpdatesAlong

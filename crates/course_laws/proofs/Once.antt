@@ -1,0 +1,143 @@
+-- Calls of one component one behind the other, of which none stands twice where it isn't needed.
+use Rattle.std.proofs.Common.{◌≡◌, ℕ, ◌<◌, ◌≤◌, Bool, true, false, List, [], ◌∷◌, ◌++◌, refl, sym, ap, ◌∙◌, subst, append_assoc, append-nil, arith}
+use Rattle.std.specs.Prelude.{All, if◌then◌else◌}
+use Rattle.std.proofs.lemmas.List.Elements.{All-append, All-cons, All-head, All-nil, All-tail, All-weaker}
+use Rattle.fmi_calls.specs.declared.call.Call.{Call}
+use Rattle.fmi_calls.specs.declared.call.Call.TheVariants as C
+use Rattle.fmi_calls.specs.declared.call.Kind.{Kind}
+use Rattle.fmi_calls.specs.KindFacts.{IsRunCall, may_repeat, moves_on}
+use Rattle.fmi_calls.specs.Kinds.{kind_of}
+use Rattle.fmu_peer.specs.Lean.{NoneTwiceBehind, StepsFall, seen_after, without_value}
+use Rattle.event_iteration.specs.WalkCalls.{AreNew, IsUse, Span, use_in}
+use Rattle.event_iteration.proofs.WalkLaws.{Differ, seen_behind, twice_on, use_kept, use_stays}
+use Rattle.course_laws.specs.Laws.{AreNeeded}
+
+-- ---- lists
+
+seen_append : (seen a b : List Call) → seen_behind seen (a ++ b) ≡ seen_behind (seen_behind seen a) b
+seen_append seen [] b = refl
+seen_append seen (c ∷ a) b = seen_append (seen_after seen c) a b
+
+twice_front : (seen a b : List Call) → NoneTwiceBehind seen (a ++ b) → NoneTwiceBehind seen a
+twice_front seen [] b h = tt
+twice_front seen (c ∷ a) b h = (h.0, twice_front (seen_after seen c) a b h.1)
+
+-- calls that leave the FMU where it is are seen beside those before them
+seen_staying : (P : Call → Type 0) (cs seen : List Call) → All (λ (c : Call). moves_on c ≡ false) cs → All P cs → All P seen → All P (seen_behind seen cs)
+seen_staying P [] seen stay mine all = all
+seen_staying P (c ∷ cs) seen stay mine all =
+    seen_staying P cs (seen_after seen c) (All-tail (λ (d : Call). moves_on d ≡ false) c cs stay) (All-tail P c cs mine)
+    (subst (All P) (sym (ap (λ (b : Bool). if b then c ∷ [] else c ∷ seen) (All-head (λ (d : Call). moves_on d ≡ false) c cs stay))) (All-cons P c seen (All-head P c cs mine) all))
+
+pub front_all : (P : Call → Type 0) (a b : List Call) → All P (a ++ b) → All P a
+front_all P [] b all = All-nil P
+front_all P (c ∷ a) b all = All-cons P c a (All-head P c (a ++ b) all) (front_all P a b (All-tail P c (a ++ b) all))
+
+-- a run saves no state
+steps_fall : (cs : List Call) → All IsRunCall cs → StepsFall cs
+steps_fall [] all = tt
+steps_fall (C.Save ∷ cs) all = absurd (let wrong = All-head IsRunCall C.Save cs all in cc)
+steps_fall (c ∷ cs) all = steps_fall cs (All-tail IsRunCall c cs all)
+
+-- ---- what stands since the last call that moved the FMU on
+
+-- of which kinds the calls are that name no port, before which point the steps, and below which use the others
+pub record Limit : Type 0 where
+  pub kinds : Kind → Bool
+  pub t : ℕ
+  pub below : ℕ
+
+abbrev pub IsBefore : ℕ → Call → Type 0
+IsBefore t (C.DoStep at size) = at < t
+IsBefore t call = Unit {0}
+
+pub data IsSeen (l : Limit) (c : Call) : Type 0 where
+  NamesNone : use_in c ≡ 0 → l.kinds (kind_of c) ≡ true → IsBefore l.t c → IsSeen l c
+  NamesPort : 0 < use_in c → use_in c < l.below → IsSeen l c
+
+-- calls of a run, none of which stands twice where it isn't needed; these hold of those since the last that moved the FMU on
+pub record IsSo (l : Limit) (calls : List Call) : Type 0 where
+  pub runs : All IsRunCall calls
+  pub once : NoneTwiceBehind [] calls
+  pub seen : All (IsSeen l) (seen_behind [] calls)
+
+pub needed_front : (l : Limit) (front log left : List Call) → IsSo l (front ++ (log ++ left)) → AreNeeded (front ++ log)
+needed_front l front log left so =
+    let same : front ++ (log ++ left) ≡ (front ++ log) ++ left = sym (append_assoc front log left) in
+    let runs : All IsRunCall (front ++ log) = front_all IsRunCall (front ++ log) left (subst (All IsRunCall) same so.runs) in
+    record { runs = runs; lean = (twice_front [] (front ++ log) left (subst (NoneTwiceBehind []) same so.once), steps_fall (front ++ log) runs) }
+
+pub needed : (l : Limit) (calls : List Call) → IsSo l calls → AreNeeded calls
+needed l calls so = record { runs = so.runs; lean = (so.once, steps_fall calls so.runs) }
+
+kind_kept : (c : Call) → kind_of (without_value c) ≡ kind_of c
+kind_kept (C.Set kind reference x) = refl
+kind_kept c = refl
+
+-- a call of another kind, which names no port
+pub differ_by : (l : Limit) (call : Call) → use_in call ≡ 0 → l.kinds (kind_of call) ≡ false → (c : Call) → IsSeen l c → Differ c call
+differ_by l call none other c (NamesNone u is before) e =
+    let same : kind_of c ≡ kind_of call = sym (kind_kept c) ∙ ap kind_of e ∙ kind_kept call in
+    absurd (let wrong : true ≡ false = sym is ∙ ap l.kinds same ∙ other in cc)
+differ_by l call none other c (NamesPort u less) e = absurd (let same : use_in c ≡ use_in call = sym (use_kept c) ∙ ap use_in e ∙ use_kept call in omega (arith, u, same, none))
+
+-- an earlier step
+at_of : (a b x y : ℕ) → C.DoStep a x ≡ C.DoStep b y → a ≡ b
+at_of a b x y e = cc
+
+step_before : (t size : ℕ) (c : Call) → IsBefore t c → Differ c (C.DoStep t size)
+step_before t size (C.DoStep at other) before e = absurd (let same = at_of at t other size e in omega (arith, same, before))
+step_before t size c before e = absurd (cc)
+
+pub differ_step : (l : Limit) (size : ℕ) (c : Call) → IsSeen l c → Differ c (C.DoStep l.t size)
+differ_step l size c (NamesNone u is before) e = step_before l.t size c before e
+differ_step l size c (NamesPort u less) e = absurd (let same : use_in c ≡ 0 = sym (use_kept c) ∙ ap use_in e in omega (arith, u, same))
+
+use_runs : (c : Call) → 0 < use_in c → IsRunCall c
+use_runs (C.Get kind reference) h = refl
+use_runs (C.Set kind reference x) h = refl
+use_runs (C.GetClock reference) h = refl
+use_runs (C.SetClock reference) h = refl
+use_runs (C.GetInterval reference) h = refl
+use_runs (C.GetShift reference) h = refl
+use_runs c h = absurd (omega (arith, h))
+
+-- ---- one part behind others
+
+module _ (l m : Limit) (calls : List Call) (so : IsSo l calls) where
+  pub weaker : ((c : Call) → IsSeen l c → IsSeen m c) → IsSo m calls
+  weaker h = record { runs = so.runs; once = so.once; seen = All-weaker (IsSeen l) (IsSeen m) h (seen_behind [] calls) so.seen }
+
+  -- one call that moves on
+  pub called : (call : Call) → IsRunCall call → (may_repeat call ≡ false → (c : Call) → IsSeen l c → Differ c call) → moves_on call ≡ true → IsSeen m call → IsSo m (calls ++ call ∷ [])
+  called call run other moves is = record {
+    runs = All-append IsRunCall calls (call ∷ []) so.runs (All-cons IsRunCall call [] run (All-nil IsRunCall));
+    once = twice_on [] calls (call ∷ []) so.once ((λ once. All-weaker (IsSeen l) (λ (c : Call). Differ c call) (other once) (seen_behind [] calls) so.seen), tt);
+    seen = subst (All (IsSeen m)) (sym (seen_append [] calls (call ∷ []) ∙ ap (λ (b : Bool). if b then call ∷ [] else call ∷ seen_behind [] calls) moves)) (All-cons (IsSeen m) call [] is (All-nil (IsSeen m)));
+  }
+
+  -- or none
+  pub switched : (b : Bool) (call : Call) → IsRunCall call → (may_repeat call ≡ false → (c : Call) → IsSeen l c → Differ c call) → moves_on call ≡ true → IsSeen m call → (b ≡ false → (c : Call) → IsSeen l c → IsSeen m c) →
+      IsSo m (calls ++ (if b then call ∷ [] else []))
+  switched true call run other moves is h = called call run other moves is
+  switched false call run other moves is h = subst (IsSo m) (sym (append-nil calls)) (weaker (h refl))
+
+-- calls that name ports
+pub named : (l : Limit) (span : Span) (calls cs : List Call) → IsSo l calls → l.below ≤ span.from → span.from ≤ span.below → AreNew span cs → IsSo (record l { below = span.below }) (calls ++ cs)
+named l span calls cs so low high new = record {
+  runs = All-append IsRunCall calls cs so.runs (All-weaker (IsUse span) IsRunCall (λ c u. use_runs c (above c u)) cs new.uses);
+  once = twice_on [] calls cs so.once (new.once (seen_behind [] calls) (All-weaker (IsSeen l) (λ (c : Call). use_in c < span.from) early (seen_behind [] calls) so.seen));
+  seen = subst (All (IsSeen (record l { below = span.below }))) (sym (seen_append [] calls cs))
+      (seen_staying (IsSeen (record l { below = span.below })) cs (seen_behind [] calls) (All-weaker (IsUse span) (λ (c : Call). moves_on c ≡ false) (λ c u. use_stays c (above c u)) cs new.uses)
+      (All-weaker (IsUse span) (IsSeen (record l { below = span.below })) (λ c u. NamesPort (above c u) u.below) cs new.uses) (All-weaker (IsSeen l) (IsSeen (record l { below = span.below })) later (seen_behind [] calls) so.seen));
+} where
+  above : (c : Call) → IsUse span c → 0 < use_in c
+  above c u = let n = new.names in let f = u.from in omega (arith, n, f)
+
+  early : (c : Call) → IsSeen l c → use_in c < span.from
+  early c (NamesNone u is before) = let n = new.names in omega (arith, u, n)
+  early c (NamesPort u less) = omega (arith, less, low)
+
+  later : (c : Call) → IsSeen l c → IsSeen (record l { below = span.below }) c
+  later c (NamesNone u is before) = NamesNone u is before
+  later c (NamesPort u less) = NamesPort u (omega (arith, less, low, high))

@@ -1,0 +1,13 @@
+use Rattle.course_laws.proofs.CallsOnce.{no_call_twice}
+use Rattle.course_laws.proofs.FirstBad.{first_bad_answer}
+use Rattle.course_laws.proofs.RunEnds.{ends_come}
+use Rattle.course_laws.proofs.UpdatesAlong.{updates_asked_for}
+use Rattle.course_laws.proofs.laws.calls_of_runs.Goals as goal
+
+pub returns : goal.returns
+returns c = record {
+  ends = ends_come;
+  answers = first_bad_answer;
+  once = no_call_twice;
+  updates = updates_asked_for;
+}

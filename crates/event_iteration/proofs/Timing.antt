@@ -1,0 +1,231 @@
+-- The questions for the intervals of Clocks: by what told machines answer, their timers are those of the run.
+use Rattle.std.proofs.Common.{◌≡◌, ◌⊎◌, inl, inr, ℕ, suc, ◌+◌, ◌<◌, ℤ, List, [], ◌∷◌, ◌++◌, Option, Some, None, Result, Ok, refl, sym, ap, ap₂, ◌∙◌, subst, arith, length, map}
+use Rattle.std.specs.Prelude.{All, if◌then◌else◌, slice_get, unwrap_or}
+use Rattle.std.specs.Result.{result_ok}
+use Rattle.std.proofs.lemmas.List.Elements.{All-append, All-cons, All-head, All-nil, All-tail}
+use Rattle.std.proofs.lemmas.Option.{same_Some, slice_get_within}
+use Rattle.fmi_calls.specs.declared.call.Call.{Call}
+use Rattle.fmi_calls.specs.declared.call.Call.TheVariants as C
+use Rattle.fmi_calls.specs.declared.call.Interval.{Interval}
+use Rattle.fmi_calls.specs.declared.call.Interval.TheVariants.{NotYetKnown}
+use Rattle.fmi_calls.specs.declared.call.Reply.{Reply}
+use Rattle.fmu_peer.specs.declared.peer.Exchange.{Exchange}
+use Rattle.fmu_peer.specs.declared.peer.PeerFault.{PeerFault}
+use Rattle.fmu_peer.specs.Machine.{Machine, MachineState, after}
+use Rattle.system_model.specs.declared.system.Component.{Component}
+use Rattle.system_model.specs.declared.system.Port.{Port}
+use Rattle.system_model.specs.declared.system.Role.{Role}
+use Rattle.system_model.specs.declared.system.Role.TheVariants.{Input, Output, ClockInput, ClockOutput, TimeClock}
+use Rattle.system_model.specs.declared.system.Timing.TheVariants.{Periodic, Answered, Countdown}
+use Rattle.system_model.specs.declared.system.System.{System}
+use Rattle.system_model.specs.Sound.{IsSound}
+use Rattle.system_model.proofs.Lists.{all_by_place}
+use Rattle.system_model.proofs.SoundLemmas.{place_of}
+use Rattle.run_model.specs.AfterInstant.{next_timer, next_timers, next_timers_from, written}
+use Rattle.run_model.specs.Initial.{asked_timer, first_timer, first_timers, interval_in, shift_in}
+use Rattle.run_model.specs.Inputs.{is_active}
+use Rattle.run_model.specs.Run.{IsFmu, Run, Situation, Timer, Every, Never, at_fmu, value}
+use Rattle.run_model.specs.Timers.{answered, fixed}
+use Rattle.slot_calls.specs.Log.{Asking, Sent, asking_of, askings}
+use Rattle.slot_calls.specs.Replies.{AreReplies, states_by}
+use Rattle.slot_calls.specs.Stage.{IsAnswered, shapes_of}
+use Rattle.slot_calls.proofs.Parts.{first_same, rest_same, sent_all}
+use Rattle.event_iteration.specs.Explains.{Explains, all_said, said}
+use Rattle.event_iteration.specs.Intervals.{Rearms, asks_interval, first_told, first_told_by, first_told_in, interval_by, intervals, log_behind, shift_by, timer_behind, timers_behind_from, timing_calls, timing_calls_in, timing_calls_of}
+use Rattle.event_iteration.specs.Settings.{port_order}
+use Rattle.event_iteration.specs.Turns.{IsPaired, sent_of}
+use Rattle.event_iteration.proofs.Fmus.{at_fmu-is, got}
+use Rattle.event_iteration.proofs.Rounds.{components_there}
+use Rattle.event_iteration.proofs.Said.{all_said_by, said_at, said_by}
+use Rattle.event_iteration.proofs.Setting.{in_order, port_number}
+use Rattle.event_iteration.proofs.Stages.{AreAll, IsRead, IsShown, Reads, fmu_of, reads_shown}
+use Rattle.event_iteration.proofs.WalkAnswers.{last_alone_is_bad}
+use Rattle.event_iteration.proofs.Walking.{call_at-is, said-is}
+
+-- what holds of a question for an interval holds of that of a port, if there is one
+asked_once : (P : Call → Type 0) (i : ℕ) (role : Role) (port : Port) (reply : Option Reply) → P (C.GetInterval port.reference) → All (λ (s : Sent). P s.exchange.call) (sent_of i (asks_interval role port) reply)
+asked_once P i (TimeClock Countdown) port None h = All-nil (λ (s : Sent). P s.exchange.call)
+asked_once P i (TimeClock Countdown) port (Some reply) h = All-cons (λ (s : Sent). P s.exchange.call) _ [] h (All-nil (λ (s : Sent). P s.exchange.call))
+asked_once P i (TimeClock (Periodic interval shift)) port reply h = All-nil (λ (s : Sent). P s.exchange.call)
+asked_once P i (TimeClock Answered) port reply h = All-nil (λ (s : Sent). P s.exchange.call)
+asked_once P i (Input feed) port reply h = All-nil (λ (s : Sent). P s.exchange.call)
+asked_once P i Output port reply h = All-nil (λ (s : Sent). P s.exchange.call)
+asked_once P i (ClockInput feed) port reply h = All-nil (λ (s : Sent). P s.exchange.call)
+asked_once P i ClockOutput port reply h = All-nil (λ (s : Sent). P s.exchange.call)
+
+-- a question for an interval asks for one of a countdown Clock
+pub asked_interval : (role : Role) (port : Port) (call : Call) → asks_interval role port ≡ Some call → (role ≡ TimeClock Countdown) × (call ≡ C.GetInterval port.reference)
+asked_interval (TimeClock Countdown) port call h = (refl, sym (same_Some _ _ h))
+asked_interval (TimeClock (Periodic interval shift)) port call h = absurd (cc)
+asked_interval (TimeClock Answered) port call h = absurd (cc)
+asked_interval (Input feed) port call h = absurd (cc)
+asked_interval Output port call h = absurd (cc)
+asked_interval (ClockInput feed) port call h = absurd (cc)
+asked_interval ClockOutput port call h = absurd (cc)
+
+pub intervals_read : (system : System) (before values : List (Option ℤ)) (taken : List ℕ) (log : List Sent) → Explains system intervals before taken values log → All IsRead log
+intervals_read system before values taken log e =
+    subst (All IsRead) (sym e.log_is)
+    (all_said_by IsRead system intervals values e.replies taken
+    (λ k d w. said_by IsRead system intervals values e.replies _ (λ port c is of. asked_once Reads port.component.0 port.role port (e.replies _) (λ m z. refl))))
+
+-- ---- countdown Clocks
+
+module _ (r : Run) (sound : IsSound r.system) (s : Situation) (values : List (Option ℤ)) (all : AreAll r (written r s values)) (next : List Timer) (log : List Sent) (rearms : Rearms r.system r.plan.resolution s.t values s.timers next log)
+    (replies : AreReplies r (written r s values) log) where
+  abbrev ss : List MachineState
+  ss = written r s values
+
+  abbrev e : Explains r.system intervals values (port_order r.system) values log
+  e = rearms.explains
+
+  shown : All (IsShown r ss) log
+  shown = reads_shown r ss log (intervals_read r.system values values (port_order r.system) log e) ((last_alone_is_bad r.system intervals values (port_order r.system) values log).good e) replies
+
+  abbrev shown_interval : Port → Interval
+  shown_interval port = unwrap_or (at_fmu r ss port.component.0 (λ c m z. Some (interval_in (m.look z (C.GetInterval port.reference))))) NotYetKnown
+
+  -- a countdown Clock's reply is the machine's
+  interval_shown : (p : ℕ) (port : Port) → slice_get r.system.ports p ≡ Some port → port.role ≡ TimeClock Countdown → interval_by (e.replies p) ≡ shown_interval port
+  interval_shown p port is down =
+      let within = slice_get_within r.system.ports p port is in
+      let placed = place_of r.system sound p port is in
+      let c = placed.component in
+      let of = placed.is.of in
+      let asks : asks_interval port.role port ≡ Some (C.GetInterval port.reference) = ap (λ (x : Role). asks_interval x port) down in
+      by (e.replies p) c (subst (λ (k : Option Call). IsPaired c.shape k (e.replies p)) asks (e.paired p port c is of ((in_order r.system).each p within)))
+      (subst (All (IsShown r ss)) (said-is r.system intervals values e.replies p port is ∙ ap (λ k. sent_of port.component.0 k (e.replies p)) (call_at-is r.system intervals values p port c of ∙ asks))
+      (said_at (IsShown r ss) r.system intervals values e.replies (port_order r.system) p p (port_number r.system p within) (subst (All (IsShown r ss)) e.log_is shown)))
+      c of
+    where
+      by : (o : Option Reply) (c : Component) → IsPaired c.shape (Some (C.GetInterval port.reference)) o → All (IsShown r ss) (sent_of port.component.0 (Some (C.GetInterval port.reference)) o) → (d : Component) → slice_get r.system.components port.component.0 ≡ Some d → interval_by o ≡ shown_interval port
+      by None c paired told d of = absurd paired
+      by (Some x) c paired told d of =
+          let fmu = fmu_of r ss all port.component.0 d of in
+          let its : ◌≡◌ {A = Result Reply PeerFault} (Ok x) (Ok (fmu.0.look fmu.1 (C.GetInterval port.reference))) = All-head (IsShown r ss) _ [] told d fmu.0 fmu.1 fmu.2 in
+          let own : x ≡ fmu.0.look fmu.1 (C.GetInterval port.reference) = (cc) in
+          ap interval_in own ∙ sym (ap (λ (o : Option Interval). unwrap_or o NotYetKnown) (at_fmu-is r ss port.component.0 d fmu.0 fmu.1 (λ b n z. Some (interval_in (n.look z (C.GetInterval port.reference)))) fmu.2))
+
+  -- so the timers behind the instant are the run's
+  timers_from : (p : ℕ) (ports : List Port) (olds : List Timer) → ((q : ℕ) (port : Port) → slice_get ports q ≡ Some port → slice_get r.system.ports (p + q) ≡ Some port) →
+      timers_behind_from r.plan.resolution s.t values e.replies p ports olds ≡ next_timers_from r s values p ports olds
+  timers_from p [] olds h = refl
+  timers_from p (x ∷ ports) [] h = refl
+  timers_from p (x ∷ ports) (y ∷ olds) h =
+      ap₂ ◌∷◌ (by x.role (λ down. interval_shown p x (let place : p ≡ p + 0 = omega arith in ap (slice_get r.system.ports) place ∙ h 0 x refl) down))
+      (timers_from (suc p) ports olds (λ q port is. let place : suc p + q ≡ p + suc q = omega arith in ap (slice_get r.system.ports) place ∙ h (suc q) port is))
+    where
+      by : (role : Role) → (role ≡ TimeClock Countdown → interval_by (e.replies p) ≡ shown_interval x) → timer_behind role r.plan.resolution s.t (value values p) (e.replies p) y ≡ next_timer role r s values p x y
+      by (TimeClock Countdown) own = ap (λ (i : Interval). answered r.plan.resolution s.t i (if is_active (value values p) then Never else y)) (own refl)
+      by (TimeClock (Periodic interval shift)) own = refl
+      by (TimeClock Answered) own = refl
+      by (Input feed) own = refl
+      by Output own = refl
+      by (ClockInput feed) own = refl
+      by ClockOutput own = refl
+
+  pub next_timers_are : next ≡ next_timers r s values
+  next_timers_are = rearms.timers_are ∙ timers_from 0 r.system.ports s.timers (λ q port is. let place : 0 + q ≡ q = omega arith in ap (slice_get r.system.ports) place ∙ is)
+
+-- ---- fixed Clocks
+
+-- a question about a fixed Clock
+pub record IsTimingOf (system : System) (a : Asking) : Type 0 where
+  pub p : ℕ
+  pub port : Port
+  pub is : slice_get system.ports p ≡ Some port
+  pub answered : port.role ≡ TimeClock Answered
+  pub at : a.component ≡ port.component.0
+  pub call_is : (a.call ≡ C.GetInterval port.reference) ⊎ (a.call ≡ C.GetShift port.reference)
+
+module _ (system : System) where
+  abbrev Both : Port → Type 0
+  Both port = All (IsTimingOf system) (timing_calls_of port.role port)
+
+  timing_of : (p : ℕ) (port : Port) → slice_get system.ports p ≡ Some port → (role : Role) → port.role ≡ role → All (IsTimingOf system) (timing_calls_of role port)
+  timing_of p port is (TimeClock Answered) same =
+      let two : IsTimingOf system (record { component = port.component.0; call = C.GetShift port.reference }) = record { p = p; port = port; is = is; answered = same; at = refl; call_is = inr refl } in
+      All-cons (IsTimingOf system) _ (record { component = port.component.0; call = C.GetShift port.reference } ∷ []) (record { p = p; port = port; is = is; answered = same; at = refl; call_is = inl refl }) (All-cons (IsTimingOf system) _ [] two (All-nil (IsTimingOf system)))
+  timing_of p port is (TimeClock (Periodic interval shift)) same = All-nil (IsTimingOf system)
+  timing_of p port is (TimeClock Countdown) same = All-nil (IsTimingOf system)
+  timing_of p port is (Input feed) same = All-nil (IsTimingOf system)
+  timing_of p port is Output same = All-nil (IsTimingOf system)
+  timing_of p port is (ClockInput feed) same = All-nil (IsTimingOf system)
+  timing_of p port is ClockOutput same = All-nil (IsTimingOf system)
+
+  timings_in : (ports : List Port) → All Both ports → All (IsTimingOf system) (timing_calls_in ports)
+  timings_in [] all = All-nil (IsTimingOf system)
+  timings_in (port ∷ ports) all = All-append (IsTimingOf system) (timing_calls_of port.role port) (timing_calls_in ports) (All-head Both port ports all) (timings_in ports (All-tail Both port ports all))
+
+  pub timings_are : All (IsTimingOf system) (timing_calls system)
+  timings_are = timings_in system.ports (all_by_place Both system.ports (λ p port is. timing_of p port is port.role refl))
+
+  pub timings_read : (log : List Sent) → All (λ (s : Sent). IsTimingOf system (asking_of s)) log → All IsRead log
+  timings_read log all = λ k d w. reads (all k d w).call_is where
+    reads : {call : Call} {reference : ℕ} → (call ≡ C.GetInterval reference) ⊎ (call ≡ C.GetShift reference) → Reads call
+    reads (inl is) m z = ap (after m z) is
+    reads (inr is) m z = ap (after m z) is
+
+module _ (r : Run) (ss : List MachineState) (all : AreAll r ss) where
+  -- what the log tells of these ports is what the machines show
+  abbrev TellsOf : List Port → Type 0
+  TellsOf ports = (log : List Sent) → askings log ≡ timing_calls_in ports → All (IsShown r ss) log → first_told_in r.plan.resolution ports log ≡ map (λ (port : Port). first_timer port.role r ss port) ports
+
+  module _ (port : Port) (ports : List Port) (there : port.component.0 < length r.system.components) (more : TellsOf ports) where
+    abbrev interval : Asking
+    interval = record { component = port.component.0; call = C.GetInterval port.reference }
+
+    abbrev shift : Asking
+    shift = record { component = port.component.0; call = C.GetShift port.reference }
+
+    abbrev own : (c : Component) × (slice_get r.system.components port.component.0 ≡ Some c)
+    own = got r.system.components port.component.0 there
+
+    abbrev fmu : (m : Machine) × (z : MachineState) × IsFmu r ss port.component.0 own.0 m z
+    fmu = fmu_of r ss all port.component.0 own.0 own.1
+
+    shown_here : (s : Sent) (a : Asking) → asking_of s ≡ a → a.component ≡ port.component.0 → IsShown r ss s → s.exchange.result ≡ Ok (fmu.0.look fmu.1 a.call)
+    shown_here s a is at told =
+        told own.0 fmu.0 fmu.1 (subst (λ (i : ℕ). IsFmu r ss i own.0 fmu.0 fmu.1) (sym (ap (λ (x : Asking). x.component) is ∙ at)) fmu.2) ∙ ap (λ (x : Asking). Ok (fmu.0.look fmu.1 x.call)) is
+
+    abbrev first_in : List Timer
+    first_in = map (λ (x : Port). first_timer x.role r ss x) ports
+
+    answered_here : (a b : Sent) (log : List Sent) → askings (a ∷ (b ∷ log)) ≡ interval ∷ (shift ∷ timing_calls_in ports) → All (IsShown r ss) (a ∷ (b ∷ log)) →
+        first_told_by (TimeClock Answered) r.plan.resolution (a ∷ (b ∷ log)) ∷ first_told_in r.plan.resolution ports log ≡ first_timer (TimeClock Answered) r ss port ∷ first_in
+    answered_here a b log calls shown =
+        let behind = rest_same (asking_of a) interval (askings (b ∷ log)) (shift ∷ timing_calls_in ports) calls in
+        let later = All-tail (IsShown r ss) a (b ∷ log) shown in
+        let first = shown_here a interval (first_same (asking_of a) interval (askings (b ∷ log)) (shift ∷ timing_calls_in ports) calls) refl (All-head (IsShown r ss) a (b ∷ log) shown) in
+        let second = shown_here b shift (first_same (asking_of b) shift (askings log) (timing_calls_in ports) behind) refl (All-head (IsShown r ss) b log later) in
+        ap₂ ◌∷◌
+        (ap₂ (λ (x y : Result Reply PeerFault). fixed r.plan.resolution (interval_by (result_ok x)) (shift_by (result_ok y))) first second
+        ∙ sym (ap (λ (o : Option Timer). unwrap_or o Never) (at_fmu-is r ss port.component.0 own.0 fmu.0 fmu.1 (λ c m z. Some (asked_timer r port m z)) fmu.2)))
+        (more log (rest_same (asking_of b) shift (askings log) (timing_calls_in ports) behind) (All-tail (IsShown r ss) b log later))
+
+    first_here : (role : Role) (log : List Sent) → askings log ≡ timing_calls_of role port ++ timing_calls_in ports → All (IsShown r ss) log →
+        first_told_by role r.plan.resolution log ∷ first_told_in r.plan.resolution ports (log_behind role log) ≡ first_timer role r ss port ∷ first_in
+    first_here (TimeClock Answered) [] calls shown = absurd (cc)
+    first_here (TimeClock Answered) (a ∷ []) calls shown = absurd (let rest = rest_same (asking_of a) interval [] (shift ∷ timing_calls_in ports) calls in cc)
+    first_here (TimeClock Answered) (a ∷ (b ∷ log)) calls shown = answered_here a b log calls shown
+    first_here (TimeClock (Periodic interval shift)) log calls shown = ap (λ xs. Every interval shift ∷ xs) (more log calls shown)
+    first_here (TimeClock Countdown) log calls shown = ap (λ xs. Never ∷ xs) (more log calls shown)
+    first_here (Input feed) log calls shown = ap (λ xs. Never ∷ xs) (more log calls shown)
+    first_here Output log calls shown = ap (λ xs. Never ∷ xs) (more log calls shown)
+    first_here (ClockInput feed) log calls shown = ap (λ xs. Never ∷ xs) (more log calls shown)
+    first_here ClockOutput log calls shown = ap (λ xs. Never ∷ xs) (more log calls shown)
+
+  abbrev IsThere : Port → Type 0
+  IsThere port = port.component.0 < length r.system.components
+
+  first_from : (ports : List Port) → All IsThere ports → TellsOf ports
+  first_from [] there log calls shown = refl
+  first_from (port ∷ ports) there log calls shown = first_here port ports (All-head IsThere port ports there) (first_from ports (All-tail IsThere port ports there)) port.role log calls shown
+
+  module _ (log : List Sent) (answered : IsAnswered (shapes_of r.system) (timing_calls r.system) log) where
+    pub fixed_read : All IsRead log
+    fixed_read = timings_read r.system log (sent_all (IsTimingOf r.system) log (timing_calls r.system) answered.calls_are (timings_are r.system))
+
+    -- the timers that the answers tell are those of the run
+    pub first_timers_are : IsSound r.system → AreReplies r ss log → first_told r.plan.resolution r.system log ≡ first_timers r ss
+    first_timers_are sound replies = first_from r.system.ports (components_there r.system sound) log answered.calls_are (reads_shown r ss log fixed_read answered.good replies)

@@ -1,0 +1,244 @@
+-- The calls of one FMU in a walk through the ports: none stands twice.
+use Rattle.std.proofs.Common.{◌≡◌, ◌⊎◌, inl, inr, ℕ, suc, ◌+◌, ◌<◌, ◌==◌, length, ℤ, Bool, true, false, List, [], ◌∷◌, ◌++◌, Option, Some, None, Contains, refl, sym, ap, ◌∙◌, subst, append_assoc, append-nil, arith}
+use Rattle.std.specs.Prelude.{All, if◌then◌else◌}
+use Rattle.std.specs.List.{range_with_len, slice_get}
+use Rattle.std.specs.Option.{option_and_then, option_map_or}
+use Rattle.std.proofs.lemmas.Bool.Decides.{nat_tests}
+use Rattle.std.proofs.lemmas.List.Elements.{All-append, All-cons, All-nil, All-weaker, Contains-append_left, Contains-push}
+use Rattle.fmi_calls.specs.declared.call.Call.{Call}
+use Rattle.fmi_calls.specs.declared.call.Call.TheVariants as C
+use Rattle.fmi_calls.specs.declared.call.Reply.{Reply}
+use Rattle.fmi_calls.specs.KindFacts.{moves_on}
+use Rattle.fmu_peer.specs.Lean.{IsNew, NoneTwiceBehind, seen_after, without_value}
+use Rattle.system_model.specs.declared.system.Component.{Component}
+use Rattle.system_model.specs.declared.system.Port.{Port}
+use Rattle.system_model.specs.declared.system.Role.{Role}
+use Rattle.system_model.specs.declared.system.Role.TheVariants.{Input, Output, ClockInput, ClockOutput, TimeClock}
+use Rattle.system_model.specs.declared.system.System.{System}
+use Rattle.system_model.specs.declared.system.Timing.TheVariants.{Periodic, Answered, Countdown}
+use Rattle.system_model.specs.Orders.{IsOrder}
+use Rattle.system_model.specs.Sound.{IsSound}
+use Rattle.system_model.proofs.SoundLemmas as S
+use Rattle.slot_calls.specs.Log.{Asking, Sent, asking_of, askings}
+use Rattle.slot_calls.proofs.Logs.{askings_append}
+use Rattle.event_iteration.specs.Explains.{Explains, all_said, call_at, said}
+use Rattle.event_iteration.specs.Intervals.{timing_calls, timing_calls_in, timing_calls_of}
+use Rattle.event_iteration.specs.Settings.{port_order}
+use Rattle.event_iteration.specs.Turns.{Rules, sent_of}
+use Rattle.event_iteration.specs.WalkCalls.{AreNew, Front, IsUse, Span, WalksBy, Whole, own, timing_span, use_in}
+use Rattle.event_iteration.proofs.Setting.{in_order}
+use Rattle.event_iteration.proofs.WalkUses.{AsksFor, IsOf, reference_in}
+
+-- ---- calls
+
+if_on : (b : Bool) (c : Call) (cs ds : List Call) → (if b then c ∷ (cs ++ ds) else cs ++ ds) ≡ (if b then c ∷ cs else cs) ++ ds
+if_on true c cs ds = refl
+if_on false c cs ds = refl
+
+pub own_append : (k : ℕ) (xs ys : List Asking) → own k (xs ++ ys) ≡ own k xs ++ own k ys
+own_append k [] ys = refl
+own_append k (a ∷ xs) ys = ap (λ (cs : List Call). if a.component == k then a.call ∷ cs else cs) (own_append k xs ys) ∙ if_on (a.component == k) a.call (own k xs) (own k ys)
+
+-- whatever a Set's value is
+pub use_kept : (c : Call) → use_in (without_value c) ≡ use_in c
+use_kept (C.Set kind reference x) = refl
+use_kept c = refl
+
+reference_kept : (c : Call) → reference_in (without_value c) ≡ reference_in c
+reference_kept (C.Set kind reference x) = refl
+reference_kept c = refl
+
+-- a call that names a port leaves the FMU where it is
+pub use_stays : (c : Call) → 0 < use_in c → moves_on c ≡ false
+use_stays (C.Get kind reference) h = refl
+use_stays (C.Set kind reference x) h = refl
+use_stays (C.GetClock reference) h = refl
+use_stays (C.SetClock reference) h = refl
+use_stays (C.GetInterval reference) h = refl
+use_stays (C.GetShift reference) h = refl
+use_stays c h = absurd (omega (arith, h))
+
+-- two calls that differ but for the value of a Set
+abbrev pub Differ : Call → Call → Type 0
+Differ c d = without_value c ≡ without_value d → ⊥
+
+abbrev pub seen_behind : List Call → List Call → List Call
+seen_behind seen [] = seen
+seen_behind seen (c ∷ cs) = seen_behind (seen_after seen c) cs
+
+pub twice_on : (seen a b : List Call) → NoneTwiceBehind seen a → NoneTwiceBehind (seen_behind seen a) b → NoneTwiceBehind seen (a ++ b)
+twice_on seen [] b h k = k
+twice_on seen (c ∷ a) b h k = (h.0, twice_on (seen_after seen c) a b h.1 k)
+
+-- ---- the calls of turns
+
+module _ (system : System) (sound : IsSound system) (k : ℕ) (span : Span) (names : 0 < span.from) where
+  -- a call of the FMU for the port at this place
+  record IsAt (p : ℕ) (call : Call) : Type 0 where
+    port : Port
+    is : slice_get system.ports p ≡ Some port
+    here : port.component.0 ≡ k
+    of : IsOf span port call
+
+  -- its calls for a port: none, one, or two that differ
+  data OfPort (p : ℕ) (calls : List Call) : Type 0 where
+    NoneHere : calls ≡ [] → OfPort p calls
+    OneHere : (c : Call) → IsAt p c → calls ≡ c ∷ [] → OfPort p calls
+    TwoHere : (c d : Call) → IsAt p c → IsAt p d → Differ c d → calls ≡ c ∷ d ∷ [] → OfPort p calls
+
+  -- those for several, in their order
+  abbrev Turned : List ℕ → List Call → Type 0
+  Turned [] calls = calls ≡ []
+  Turned (p ∷ ps) calls = (first : List Call) × (more : List Call) × (calls ≡ first ++ more) × OfPort p first × Turned ps more
+
+  turned_on : (ps qs : List ℕ) (a b : List Call) → Turned ps a → Turned qs b → Turned (ps ++ qs) (a ++ b)
+  turned_on [] qs a b t u = subst (λ (l : List Call). Turned qs (l ++ b)) (sym t) u
+  turned_on (p ∷ ps) qs a b (first, more, is, mine, rest) u = (first, more ++ b, ap (λ (l : List Call). l ++ b) is ∙ append_assoc first more b, mine, turned_on ps qs more b rest u)
+
+  -- ---- none stands twice
+
+  abbrev Uses : Call → Type 0
+  Uses = IsUse span
+
+  port_uses : (p : ℕ) (calls : List Call) → OfPort p calls → All Uses calls
+  port_uses p calls (NoneHere e) = subst (All Uses) (sym e) (All-nil Uses)
+  port_uses p calls (OneHere c at e) = subst (All Uses) (sym e) (All-cons Uses c [] at.of.is_use (All-nil Uses))
+  port_uses p calls (TwoHere c d at there differ e) = subst (All Uses) (sym e) (All-cons Uses c (d ∷ []) at.of.is_use (All-cons Uses d [] there.of.is_use (All-nil Uses)))
+
+  turned_uses : (ps : List ℕ) (calls : List Call) → Turned ps calls → All Uses calls
+  turned_uses [] calls t = subst (All Uses) (sym t) (All-nil Uses)
+  turned_uses (p ∷ ps) calls (first, more, is, mine, rest) = subst (All Uses) (sym is) (All-append Uses first more (port_uses p first mine) (turned_uses ps more rest))
+
+  -- a call of an earlier use, or for a port that was taken
+  abbrev IsOld : List ℕ → Call → Type 0
+  IsOld pre c = (use_in c < span.from) ⊎ ((q : ℕ) × Contains pre q × IsAt q c)
+
+  older : (pre : List ℕ) (p : ℕ) (seen : List Call) → All (IsOld pre) seen → All (IsOld (pre ++ p ∷ [])) seen
+  older pre p seen all = All-weaker (IsOld pre) (IsOld (pre ++ p ∷ [])) more seen all where
+    more : (c : Call) → IsOld pre c → IsOld (pre ++ p ∷ []) c
+    more c (inl early) = inl early
+    more c (inr (q, m, at)) = inr (q, Contains-append_left pre (p ∷ []) q m, at)
+
+  module _ (pre : List ℕ) (p : ℕ) (fresh : Contains pre p → ⊥) where
+    is_new : (call : Call) → IsAt p call → (seen : List Call) → All (IsOld pre) seen → IsNew call seen
+    is_new call at seen all = All-weaker (IsOld pre) (λ (c : Call). Differ c call) differ seen all where
+      differ : (c : Call) → IsOld pre c → Differ c call
+      differ c (inl early) e = absurd (let same : use_in c ≡ use_in call = sym (use_kept c) ∙ ap use_in e ∙ use_kept call in let u = at.of.is_use.from in omega (arith, early, same, u))
+      differ c (inr (q, m, b)) e =
+          let same : reference_in c ≡ reference_in call = sym (reference_kept c) ∙ ap reference_in e ∙ reference_kept call in
+          fresh (subst (Contains pre) (S.own system sound q p b.port at.port b.is at.is (b.here ∙ sym at.here) (sym b.of.names ∙ same ∙ at.of.names)) m)
+
+    seen_one : (call : Call) → IsAt p call → (seen : List Call) → seen_after seen call ≡ call ∷ seen
+    seen_one call at seen = ap (λ (b : Bool). if b then call ∷ [] else call ∷ seen) (use_stays call (let u = at.of.is_use.from in omega (arith, names, u)))
+
+    old_one : (call : Call) → IsAt p call → (seen : List Call) → All (IsOld (pre ++ p ∷ [])) seen → All (IsOld (pre ++ p ∷ [])) (seen_after seen call)
+    old_one call at seen all = subst (All (IsOld (pre ++ p ∷ []))) (sym (seen_one call at seen)) (All-cons (IsOld (pre ++ p ∷ [])) call seen (inr (p, Contains-push pre p, at)) all)
+
+    -- what the calls of one turn leave
+    abbrev Leaves : List Call → List Call → Type 0
+    Leaves seen calls = NoneTwiceBehind seen calls × All (IsOld (pre ++ p ∷ [])) (seen_behind seen calls)
+
+    port_once : (calls : List Call) → OfPort p calls → (seen : List Call) → All (IsOld pre) seen → Leaves seen calls
+    port_once calls (NoneHere e) seen all = subst (Leaves seen) (sym e) (tt, older pre p seen all)
+    port_once calls (OneHere c at e) seen all = subst (Leaves seen) (sym e) (((λ once. is_new c at seen all), tt), old_one c at seen (older pre p seen all))
+    port_once calls (TwoHere c d at there differ e) seen all = subst (Leaves seen) (sym e) (
+      ((λ once. is_new c at seen all), ((λ once. subst (IsNew d) (sym (seen_one c at seen)) (All-cons (λ (x : Call). Differ x d) c seen differ (is_new d there seen all))), tt)),
+      old_one d there (seen_after seen c) (old_one c at seen (older pre p seen all)),
+    )
+
+  module _ {IsAmong : ℕ → Type 0} {NeedsOf : ℕ → ℕ → Type 0} (order : List ℕ) (ordered : IsOrder IsAmong NeedsOf order) where
+    turned_once : (pre ps left : List ℕ) (calls : List Call) → order ≡ pre ++ (ps ++ left) → Turned ps calls → (seen : List Call) → All (IsOld pre) seen → NoneTwiceBehind seen calls
+    turned_once pre [] left calls is t seen all = subst (NoneTwiceBehind seen) (sym t) tt
+    turned_once pre (p ∷ ps) left calls is (first, more, calls_are, of, rest) seen all =
+        let here = port_once pre p (ordered.once pre (ps ++ left) p is) first of seen all in
+        subst (NoneTwiceBehind seen) (sym calls_are) (twice_on seen first more here.0
+        (turned_once (pre ++ p ∷ []) ps left more (is ∙ sym (append_assoc pre (p ∷ []) (ps ++ left))) rest (seen_behind seen first) here.1))
+
+    turned_new : (taken left : List ℕ) (calls : List Call) → order ≡ taken ++ left → Turned taken calls → AreNew span calls
+    turned_new taken left calls is t = record {
+      names = names;
+      uses = turned_uses taken calls t;
+      once = λ seen early. turned_once [] taken left calls is t seen (All-weaker (λ (c : Call). use_in c < span.from) (IsOld []) (λ c e. inl e) seen early);
+    }
+
+    -- ---- of a walk
+
+    module _ (rules : Rules) (asks : AsksFor system k span rules) (before : List (Option ℤ)) where
+      of_own : (p : ℕ) (port : Port) → slice_get system.ports p ≡ Some port → (c : Component) → slice_get system.components port.component.0 ≡ Some c → (values : List (Option ℤ)) (call : Call) → rules.asks p port c values ≡ Some call →
+          (b : Bool) → (port.component.0 == k) ≡ b → OfPort p (if b then call ∷ [] else [])
+      of_own p port at c of values call is false same = NoneHere refl
+      of_own p port at c of values call is true same =
+          let here : port.component.0 ≡ k = grind (arith, nat_tests) in
+          OneHere call (record { port = port; is = at; here = here; of = asks p port c values call at here (ap (slice_get system.components) (sym here) ∙ of) is }) refl
+
+      said_turned : (values : List (Option ℤ)) (replies : ℕ → Option Reply) (p : ℕ) → OfPort p (own k (askings (said system rules values replies p)))
+      said_turned values replies p = of_port (slice_get system.ports p) refl where
+        of_call : (port : Port) → slice_get system.ports p ≡ Some port → (c : Component) → slice_get system.components port.component.0 ≡ Some c → (call : Option Call) → rules.asks p port c values ≡ call → (reply : Option Reply) →
+            OfPort p (own k (askings (sent_of port.component.0 call reply)))
+        of_call port at c of None is reply = NoneHere refl
+        of_call port at c of (Some call) is None = NoneHere refl
+        of_call port at c of (Some call) is (Some reply) = of_own p port at c of values call is (port.component.0 == k) refl
+
+        of_component : (port : Port) → slice_get system.ports p ≡ Some port → (o : Option Component) → slice_get system.components port.component.0 ≡ o →
+            OfPort p (own k (askings (sent_of port.component.0 (option_and_then (λ (c : Component). rules.asks p port c values) o) (replies p))))
+        of_component port at None of = NoneHere refl
+        of_component port at (Some c) of = of_call port at c of (rules.asks p port c values) refl (replies p)
+
+        of_port : (o : Option Port) → slice_get system.ports p ≡ o → OfPort p (own k (askings (option_map_or (λ (port : Port). sent_of port.component.0 (call_at system rules values p port) (replies p)) o [])))
+        of_port None at = NoneHere refl
+        of_port (Some port) at = of_component port at (slice_get system.components port.component.0) refl
+
+      all_turned : (values : List (Option ℤ)) (replies : ℕ → Option Reply) (ps : List ℕ) → Turned ps (own k (askings (all_said system rules values replies ps)))
+      all_turned values replies [] = refl
+      all_turned values replies (p ∷ ps) =
+          let a = said system rules values replies p in
+          let b = all_said system rules values replies ps in
+          (own k (askings a), own k (askings b), ap (own k) (askings_append a b) ∙ own_append k (askings a) (askings b), said_turned values replies p, all_turned values replies ps)
+
+      explains_turned : (taken : List ℕ) (values : List (Option ℤ)) (log : List Sent) → Explains system rules before taken values log → Turned taken (own k (askings log))
+      explains_turned taken values log e = subst (λ (l : List Sent). Turned taken (own k (askings l))) (sym e.log_is) (all_turned values e.replies taken)
+
+      pub walk_new : (log : List Sent) → WalksBy system rules before order log → AreNew span (own k (askings log))
+      walk_new log (Whole values _ e) = turned_new order [] (own k (askings log)) (sym (append-nil order)) (explains_turned order values log e)
+      walk_new log (Front bad values _ u) =
+          let s = u.stops in
+          let mine = own k (askings u.front) in
+          let its = own k (asking_of u.last ∷ []) in
+          let last : OfPort u.p its =
+          subst (λ (n : ℕ). OfPort u.p (own k (record { component = n; call = u.last.exchange.call } ∷ []))) (sym s.sent_to) (of_own u.p s.port s.is s.component s.of values u.last.exchange.call s.asks (s.port.component.0 == k) refl) in
+          turned_new (u.taken ++ u.p ∷ []) u.rest (own k (askings log)) (u.order_is ∙ sym (append_assoc u.taken (u.p ∷ []) u.rest))
+          (subst (Turned (u.taken ++ u.p ∷ [])) (sym (ap (λ (l : List Sent). own k (askings l)) u.log_is ∙ ap (own k) (askings_append u.front (u.last ∷ [])) ∙ own_append k (askings u.front) (asking_of u.last ∷ [])))
+          (turned_on u.taken (u.p ∷ []) mine its (explains_turned u.taken values u.front u.told) (its, [], sym (append-nil its), last, refl)))
+
+-- ---- the timing of fixed Clocks
+
+module _ (system : System) (sound : IsSound system) (k : ℕ) where
+  abbrev names : 0 < timing_span.from
+  names = omega arith
+
+  timing_two : (p : ℕ) (port : Port) → slice_get system.ports p ≡ Some port → (b : Bool) → (port.component.0 == k) ≡ b →
+      OfPort system sound k timing_span names p (if b then C.GetInterval port.reference ∷ (if b then C.GetShift port.reference ∷ [] else []) else (if b then C.GetShift port.reference ∷ [] else []))
+  timing_two p port at true same =
+      let here : port.component.0 ≡ k = grind (arith, nat_tests) in
+      TwoHere (C.GetInterval port.reference) (C.GetShift port.reference)
+      (record { port = port; is = at; here = here; of = record { names = refl; is_use = record { from = omega arith; below = omega arith } } })
+      (record { port = port; is = at; here = here; of = record { names = refl; is_use = record { from = omega arith; below = omega arith } } }) (λ e. absurd (cc)) refl
+  timing_two p port at false same = NoneHere refl
+
+  timing_of : (p : ℕ) (port : Port) → slice_get system.ports p ≡ Some port → (role : Role) → OfPort system sound k timing_span names p (own k (timing_calls_of role port))
+  timing_of p port at (TimeClock Answered) = timing_two p port at (port.component.0 == k) refl
+  timing_of p port at role = NoneHere refl
+
+  timing_from : (p : ℕ) (ports : List Port) → ((j : ℕ) (port : Port) → slice_get ports j ≡ Some port → slice_get system.ports (p + j) ≡ Some port) → Turned system sound k timing_span names (range_with_len p (length ports)) (own k (timing_calls_in ports))
+  timing_from p [] there = refl
+  timing_from p (port ∷ ports) there = (
+    own k (timing_calls_of port.role port),
+    own k (timing_calls_in ports),
+    own_append k (timing_calls_of port.role port) (timing_calls_in ports),
+    timing_of p port (subst (λ (q : ℕ). slice_get system.ports q ≡ Some port) (omega arith) (there 0 port refl)) port.role,
+    timing_from (p + 1) ports (λ j x at. subst (λ (q : ℕ). slice_get system.ports q ≡ Some x) (omega arith) (there (suc j) x at)),
+  )
+
+  pub timing_new : AreNew timing_span (own k (timing_calls system))
+  timing_new = turned_new system sound k timing_span names (port_order system) (in_order system) (port_order system) [] (own k (timing_calls system)) (sym (append-nil (port_order system)))
+      (timing_from 0 system.ports (λ j port at. subst (λ (q : ℕ). slice_get system.ports q ≡ Some port) (omega arith) at))

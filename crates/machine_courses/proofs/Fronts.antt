@@ -1,0 +1,144 @@
+-- The instants of a course of told machines: a front of their run, and with its end their trace.
+use Rattle.std.proofs.Common.{◌≡◌, ℕ, ℤ, List, [], ◌∷◌, ◌++◌, Option, refl, sym, ap, ◌∙◌, subst, append_assoc, append-nil, arith}
+use Rattle.std.specs.Prelude.{All}
+use Rattle.std.proofs.lemmas.List.Elements.{All-append, All-nil}
+use Rattle.fmu_peer.specs.Machine.{MachineState}
+use Rattle.system_model.specs.declared.plan.EndKind.{EndKind}
+use Rattle.system_model.specs.Sound.{IsSound}
+use Rattle.system_model.specs.Text.{Instant}
+use Rattle.run_model.specs.Equations.{Solves}
+use Rattle.run_model.specs.Initial as I
+use Rattle.run_model.specs.Machines.{AreMachines}
+use Rattle.run_model.specs.Run.{Run, Situation}
+use Rattle.run_model.specs.Stepping.{Ends}
+use Rattle.run_model.specs.Trace.{Continues, Further, IsTrace, Last, Leads, Runs, instant_of}
+use Rattle.run_model.proofs.InitiallySolvable.{solvable_initially}
+use Rattle.slot_calls.specs.Log.{Sent}
+use Rattle.slot_calls.specs.Replies.{AreReplies, states_by}
+use Rattle.slot_calls.specs.Stage.{IsGoodOf, shapes_of}
+use Rattle.event_iteration.proofs.ByLog.{IsRead, made_all, reads_stay, replies_first, replies_then, states_on}
+use Rattle.event_iteration.proofs.WalkLaws.{last_alone_is_bad}
+use Rattle.calling_sequence.specs.Course.{Before, Configured, Course, Departing, Entered, Found, Left, Leaving, LeadsTo, Made, Place, Read, Rearmed, Seen, Spot, Stepped, Timed, part_at, shown}
+use Rattle.calling_sequence.specs.Parts.{Calls, Does, Part, Round, Walk}
+use Rattle.calling_sequence.specs.Plans.{IsPlan}
+use Rattle.calling_sequence.specs.Systems.{IsBuilt}
+use Rattle.calling_sequence.proofs.Along.{along}
+use Rattle.machine_courses.specs.Fronts as S
+use Rattle.machine_courses.specs.Fronts.{AtFirst, Behind, CameTo, IsFront, Onward}
+use Rattle.machine_courses.proofs.Places.{At, IsSpotOf, IsWithin, Sees}
+use Rattle.machine_courses.proofs.Rows.{row}
+
+-- ---- lists
+
+-- all but the last
+abbrev front_of : {A : Type 0} → List A → List A
+front_of [] = []
+front_of (x ∷ []) = []
+front_of (x ∷ (y ∷ ys)) = x ∷ front_of (y ∷ ys)
+
+front_is : {A : Type 0} (xs : List A) (x : A) → front_of (xs ++ x ∷ []) ≡ xs
+front_is [] x = refl
+front_is (y ∷ []) x = refl
+front_is (y ∷ (z ∷ zs)) x = ap (λ (l : List _). y ∷ l) (front_is (z ∷ zs) x)
+
+same_front : {A : Type 0} (xs ys : List A) (x y : A) → xs ++ x ∷ [] ≡ ys ++ y ∷ [] → xs ≡ ys
+same_front xs ys x y e = sym (front_is xs x) ∙ ap front_of e ∙ front_is ys y
+
+none_behind : {A : Type 0} (xs : List A) (x : A) → xs ++ x ∷ [] ≡ [] → ⊥
+none_behind [] x e = absurd (cc)
+none_behind (y ∷ ys) x e = absurd (cc)
+
+-- ---- fronts
+
+-- without its last instant
+pub front_before : (r : Run) (is : List Instant) (i : Instant) → IsFront r (is ++ i ∷ []) → IsFront r is
+front_before r is i (S.Before s came) = by s (is ++ i ∷ []) came refl where
+  by : (z : Situation) (js : List Instant) → CameTo r z js → js ≡ is ++ i ∷ [] → IsFront r is
+  by _ _ (AtFirst z js initial solves begins none) e = absurd (none_behind is i (sym e ∙ none))
+  by _ _ (Onward z js before values earlier came solves leads js_is) e =
+      S.Before before (subst (CameTo r before) (sym (same_front is earlier i (instant_of before values) (sym e ∙ js_is))) came)
+front_before r is i (Behind s values earlier came solves e) = S.Before s (subst (CameTo r s) (sym (same_front is earlier i (instant_of s values) e)) came)
+
+-- the run so far, whose points are within those of the plan: before an instant, or behind one
+pub data Front (r : Run) (is : List Instant) : Type 0 where
+  Ahead : (z : Situation) → CameTo r z is → IsWithin r.plan z.t z.n → Front r is
+  Past : (z : Situation) (values : List (Option ℤ)) (earlier : List Instant) → CameTo r z earlier → IsWithin r.plan z.t z.n → Solves r z values → is ≡ earlier ++ instant_of z values ∷ [] → Front r is
+
+pub is_front : (r : Run) (is : List Instant) → Front r is → IsFront r is
+is_front r is (Ahead z came within) = S.Before z came
+is_front r is (Past z values earlier came within solves is_is) = Behind z values earlier came solves is_is
+
+-- a trace is a front and what continues it
+pub traced_on : (r : Run) (kind : EndKind) (end : ℕ) (s : Situation) (earlier rest : List Instant) → CameTo r s earlier → Continues r s rest kind end → IsTrace r (earlier ++ rest) kind end
+traced_on r kind end _ _ rest (AtFirst s is initial solves begins none) on =
+    subst (λ (xs : List Instant). IsTrace r (xs ++ rest) kind end) (sym none) (Runs initial solves (subst (λ (z : Situation). Continues r z rest kind end) begins on))
+traced_on r kind end _ _ rest (Onward s is before values earlier came solves leads is_is) on =
+    let more = traced_on r kind end before earlier (instant_of before values ∷ rest) came (Further before values (instant_of before values ∷ rest) kind end s rest solves leads refl on) in
+    subst (λ (xs : List Instant). IsTrace r xs kind end) (sym (append_assoc earlier (instant_of before values ∷ []) rest) ∙ ap (λ (xs : List Instant). xs ++ rest) (sym is_is)) more
+
+pub trace_seen : (r : Run) (s : Spot) (is : List Instant) (x : Sees r s is) (kind : EndKind) (end : ℕ) → Leads r x.z s.values (Ends kind end) → IsTrace r is kind end
+trace_seen r s is x kind end leads =
+    subst (λ (xs : List Instant). IsTrace r xs kind end) (sym x.is_is)
+    (traced_on r kind end x.z x.earlier (instant_of x.z s.values ∷ []) x.at.came (Last x.z s.values (instant_of x.z s.values ∷ []) kind end x.solves leads refl))
+
+module _ (r : Run) (sound : IsSound r.system) (built : IsBuilt r.system) (plan : IsPlan r.plan) (machines : AreMachines r) where
+  -- ---- all along
+
+  -- the log is good, and leads the machines there
+  pub record Stands (p : Place) (log : List Sent) (is : List Instant) : Type 0 where
+    pub good : All (IsGoodOf (shapes_of r.system)) log
+    pub at : At r p is (states_by r (I.instantiated r) log)
+
+  does_good : (part : Part) (values : List (Option ℤ)) (log : List Sent) → Does r.system part values log → All (IsGoodOf (shapes_of r.system)) log
+  does_good (Calls calls) values log does = does.good
+  does_good (Round calls) values log does = does.good
+  does_good (Walk rules before order) values log does = (last_alone_is_bad r.system rules before order values log).good does
+
+  pub stands : (p : Place) (log : List Sent) (is : List Instant) → Course r.system r.bound r.plan p log is → AreReplies r (I.instantiated r) log → Stands p log is
+  stands p log is course = along r.system r.bound r.plan (λ q l js. AreReplies r first l → Stands q l js)
+      (λ replies. record { good = All-nil Good; at = (refl, reads_stay r first (made_all r machines) [] (All-nil IsRead)) })
+      (λ q next values front more js course before does leads replies.
+      let old = before (replies_first r first front more replies) in
+      let behind = replies_then r first front more old.good replies in
+      record {
+        good = All-append Good front more old.good (does_good (part_at r.system r.bound r.plan q) values more does);
+        at = subst (At r next (js ++ shown next)) (sym (states_on r first front more)) (row r sound built plan machines q next values more leads js (states_by r first front) old.at does behind);
+      })
+      p log is course
+    where
+      first : List MachineState
+      first = I.instantiated r
+
+      Good : Sent → Type 0
+      Good = IsGoodOf (shapes_of r.system)
+
+  -- ---- the instants so far
+
+  pub none : (is : List Instant) → is ≡ [] → Front r is
+  none is e =
+      let W = solvable_initially r sound machines in
+      Ahead (I.beginning r W.0) (AtFirst (I.beginning r W.0) is W.0 W.1 refl e) (record { begun = omega arith; ended = plan.ordered; below = plan.limit_above })
+
+  here : (s : Spot) (is : List Instant) (z : Situation) → IsSpotOf r s is z → IsWithin r.plan z.t z.n
+  here s is z at = subst (λ (t : ℕ). IsWithin r.plan t z.n) (sym at.point) (subst (IsWithin r.plan s.t) (sym at.number) at.within)
+
+  ahead : (s : Spot) (is : List Instant) (z : Situation) → IsSpotOf r s is z → Front r is
+  ahead s is z at = Ahead z at.came (here s is z at)
+
+  past : (s : Spot) (is : List Instant) → Sees r s is → Front r is
+  past s is x = Past x.z s.values x.earlier x.at.came (here s x.earlier x.z x.at) x.solves x.is_is
+
+  pub front_at : (p : Place) (is : List Instant) (ss : List MachineState) → At r p is ss → Front r is
+  front_at Made is ss at = none is at.0
+  front_at Configured is ss at = none is at.0
+  front_at Entered is ss at = none is at.0
+  front_at Found is ss at = none is at.0
+  front_at (Timed timers) is ss at = none is at.0
+  front_at (Before s ticks) is ss c = ahead s is c.z c.at
+  front_at (Read s) is ss (f, timers) = ahead s is f.z f.at
+  front_at (Rearmed s) is ss (f, timers) = ahead s is f.z f.at
+  front_at (Seen s again asked) is ss x = past s is x.sees
+  front_at (Leaving w) is ss (g, at) = past w.s is g.sees
+  front_at (Left w) is ss (g, at) = past w.s is g.sees
+  front_at (Departing w) is ss (g, at) = past w.s is g.sees
+  front_at (Stepped s asked) is ss x = past x.w.s is x.goes.sees

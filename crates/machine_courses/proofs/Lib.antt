@@ -1,0 +1,14 @@
+pub mod Steps
+pub mod Places
+pub mod Following
+pub mod Parameters
+pub mod Rows
+pub mod Fronts
+pub mod RunLaw
+pub mod Lost
+pub mod Settings
+pub mod Initially
+pub mod Instants
+pub mod StepCalls
+pub mod Bounds
+pub mod Rest

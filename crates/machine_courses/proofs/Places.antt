@@ -1,0 +1,106 @@
+-- Where a run of told machines stands at each place of its course: the situation that their run came to, and their states.
+use Rattle.std.proofs.Common.{◌≡◌, ℕ, ◌<◌, ◌≤◌, ℤ, Bool, List, [], ◌∷◌, ◌++◌, Option, length}
+use Rattle.fmu_peer.specs.Machine.{MachineState}
+use Rattle.system_model.specs.declared.plan.Plan.{Plan}
+use Rattle.system_model.specs.Text.{Instant}
+use Rattle.run_model.specs.AfterInstant.{Done, any_update, asks_for_end, following, goes_again, next_timers, updated, written}
+use Rattle.run_model.specs.Equations.{Solves}
+use Rattle.run_model.specs.Initial.{SolvesInitially, configured, first_timers, initialized, initializing, instantiated}
+use Rattle.run_model.specs.Run.{Run, Situation}
+use Rattle.run_model.specs.Stepping as P
+use Rattle.run_model.specs.Stepping.{asks_to_end, departing}
+use Rattle.run_model.specs.Trace.{instant_of}
+use Rattle.event_iteration.specs.Settings.{entered_step}
+use Rattle.calling_sequence.specs.Calls.{IsStep}
+use Rattle.calling_sequence.specs.Course.{Before, Begins, Configured, Departing, Entered, Found, Left, Leaving, Made, Place, Read, Rearmed, Seen, Spot, Stepped, Timed, Way}
+use Rattle.machine_courses.specs.Fronts.{CameTo}
+use Rattle.machine_courses.proofs.Steps.{after_step, kept}
+
+-- a point between start and stop, and an instant below the limit of those there
+pub record IsWithin (plan : Plan) (t n : ℕ) : Type 0 where
+  pub begun : plan.start ≤ t
+  pub ended : t ≤ plan.stop
+  pub below : n < plan.limit
+
+module _ (r : Run) where
+  -- the spot is that of a situation to which the run came
+  pub record IsSpotOf (s : Spot) (is : List Instant) (z : Situation) : Type 0 where
+    pub came : CameTo r z is
+    pub point : z.t ≡ s.t
+    pub number : z.n ≡ s.n
+    pub within : IsWithin r.plan s.t s.n
+
+  -- before an instant
+  pub record Comes (s : Spot) (ticks : ℕ → Bool) (is : List Instant) (ss : List MachineState) : Type 0 where
+    pub z : Situation
+    pub at : IsSpotOf s is z
+    pub values : z.before ≡ s.values
+    pub timers : z.timers ≡ s.timers
+    pub begins : Begins r.system r.plan s ticks
+    pub states : ss ≡ z.states
+
+  -- in an instant whose values are found
+  pub record Finds (s : Spot) (is : List Instant) (ss : List MachineState) : Type 0 where
+    pub z : Situation
+    pub at : IsSpotOf s is z
+    pub solves : Solves r z s.values
+    pub states : ss ≡ written r z s.values
+
+  -- behind an instant, which is the last of these
+  pub record Sees (s : Spot) (is : List Instant) : Type 0 where
+    pub z : Situation
+    pub earlier : List Instant
+    pub at : IsSpotOf s earlier z
+    pub solves : Solves r z s.values
+    pub timers : next_timers r z s.values ≡ s.timers
+    pub is_is : is ≡ earlier ++ instant_of z s.values ∷ []
+
+  -- where it leads
+  abbrev pub over : (s : Spot) (is : List Instant) → Sees s is → Situation
+  over s is x = updated r x.z s.values
+
+  -- with what its Updates say
+  pub record Says (s : Spot) (again asked : Bool) (is : List Instant) (ss : List MachineState) : Type 0 where
+    pub sees : Sees s is
+    pub again_is : again ≡ goes_again r sees.z s.values
+    pub asked_is : asked ≡ any_update asks_for_end r sees.z s.values
+    pub states : ss ≡ (over s is sees).states
+
+  -- the point is done with it, and a step fits
+  pub record Goes (w : Way) (is : List Instant) : Type 0 where
+    pub sees : Sees w.s is
+    pub done : following r sees.z w.s.values ≡ Done
+    pub step : IsStep r.system r.plan (over w.s is sees).timers (over w.s is sees).t w.to
+
+  -- the step was made
+  pub record Steps (s : Spot) (asked : Bool) (is : List Instant) (ss : List MachineState) : Type 0 where
+    pub w : Way
+    pub goes : Goes w is
+    pub point : w.to ≡ s.t
+    pub values : w.s.values ≡ s.values
+    pub timers : w.s.timers ≡ s.timers
+    pub made : P.IsStep r (over w.s is goes.sees) (kept r (over w.s is goes.sees) w.to) w.to
+    pub asked_is : asked ≡ asks_to_end r (over w.s is goes.sees) (kept r (over w.s is goes.sees) w.to)
+    pub states : ss ≡ after_step r (over w.s is goes.sees) w.to
+
+  -- in Initialization Mode, with its values written
+  pub record Initializes (ss : List MachineState) : Type 0 where
+    pub initial : List (Option ℤ)
+    pub solves : SolvesInitially r initial
+    pub states : ss ≡ initialized r initial
+
+  -- at each place
+  abbrev pub At : Place → List Instant → List MachineState → Type 0
+  At Made is ss = (is ≡ []) × (ss ≡ instantiated r)
+  At Configured is ss = (is ≡ []) × (ss ≡ configured r)
+  At Entered is ss = (is ≡ []) × (ss ≡ initializing r)
+  At Found is ss = (is ≡ []) × Initializes ss
+  At (Timed timers) is ss = (is ≡ []) × (i : Initializes ss) × (timers ≡ first_timers r (initialized r i.initial))
+  At (Before s ticks) is ss = Comes s ticks is ss
+  At (Read s) is ss = (f : Finds s is ss) × (f.z.timers ≡ s.timers)
+  At (Rearmed s) is ss = (f : Finds s is ss) × (next_timers r f.z s.values ≡ s.timers)
+  At (Seen s again asked) is ss = Says s again asked is ss
+  At (Leaving w) is ss = (g : Goes w is) × (ss ≡ (over w.s is g.sees).states)
+  At (Left w) is ss = (g : Goes w is) × (ss ≡ entered_step r (over w.s is g.sees))
+  At (Departing w) is ss = (g : Goes w is) × (ss ≡ departing r (over w.s is g.sees))
+  At (Stepped s asked) is ss = Steps s asked is ss

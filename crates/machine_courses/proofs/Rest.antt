@@ -1,0 +1,142 @@
+-- Of machines that behave well a trace goes on from each situation that their run comes to.
+use Rattle.std.proofs.Common.{◌≡◌, ℕ, zero, suc, ◌+◌, ◌-◌, ◌<◌, ◌≤◌, ℤ, Bool, true, false, nat_lt, List, [], ◌∷◌, ◌++◌, Option, Some, None, refl, sym, ap, ◌∙◌, subst, append_assoc, arith}
+use Rattle.std.specs.Prelude.{◌==◌}
+use Rattle.std.proofs.lemmas.Bool.Decides.{nat_tests}
+use Rattle.system_model.specs.declared.plan.EndKind.{EndKind}
+use Rattle.system_model.specs.declared.plan.EndKind.TheVariants as K
+use Rattle.system_model.specs.Sound.{IsSound}
+use Rattle.system_model.specs.Text.{Instant}
+use Rattle.run_model.specs.AfterInstant as F
+use Rattle.run_model.specs.AfterInstant.{Again, AtLimit, Done, Ended, any_update, asks_for_end, following, updated}
+use Rattle.run_model.specs.Behaved as B
+use Rattle.run_model.specs.Behaved.{Reached, WellBehaved}
+use Rattle.run_model.specs.Equations.{Solves}
+use Rattle.run_model.specs.Machines.{AreMachines}
+use Rattle.run_model.specs.Run.{Run, Situation}
+use Rattle.run_model.specs.Stepping as P
+use Rattle.run_model.specs.Stepping.{Ends, GoesOn, asks_to_end, stepped}
+use Rattle.run_model.specs.Steps.{OnStop}
+use Rattle.run_model.specs.Trace.{Continues, Further, IsTrace, Last, Leads, instant_of}
+use Rattle.run_model.proofs.AlongRun.{situation_reached}
+use Rattle.event_iteration.proofs.ByLog.{AreAll, updated_all}
+use Rattle.calling_sequence.specs.Calls.{IsBoundOf, IsStep, first_unfit}
+use Rattle.calling_sequence.specs.Plans.{IsPlan}
+use Rattle.calling_sequence.specs.Systems.{IsBuilt}
+use Rattle.machine_courses.proofs.Bounds.{bound_exists}
+use Rattle.machine_courses.proofs.Following.{by_answers, leads_by, reached_by}
+use Rattle.machine_courses.proofs.Fronts.{Ahead, Front, Past, traced_on}
+use Rattle.machine_courses.proofs.Instants.{solution}
+use Rattle.machine_courses.proofs.Places.{IsWithin}
+use Rattle.machine_courses.proofs.Rows.{below_more}
+use Rattle.machine_courses.proofs.StepCalls.{steps_well}
+use Rattle.machine_courses.proofs.Steps.{kept, lacks, step_made}
+
+same_place : (t stop : ℕ) → nat_lt t stop ≡ false → t ≤ stop → t ≡ stop
+same_place t stop e within = grind (arith, nat_tests)
+
+less_place : (t stop : ℕ) → nat_lt t stop ≡ true → t < stop
+less_place t stop e = grind (arith, nat_tests)
+
+-- the rest of a trace from a situation on, behind the instant with these values
+record Rest (r : Run) (z : Situation) (V : List (Option ℤ)) : Type 0 where
+  kind : EndKind
+  end : ℕ
+  rest : List Instant
+  on : Continues r z (instant_of z V ∷ rest) kind end
+
+module _ (r : Run) (sound : IsSound r.system) (built : IsBuilt r.system) (plan : IsPlan r.plan) (machines : AreMachines r) (well : WellBehaved r) where
+  -- from each situation that is so a trace goes on
+  abbrev GoesOnWhere : (Situation → Type 0) → Type 0
+  GoesOnWhere So = (z : Situation) → So z → Reached r z → IsWithin r.plan z.t z.n → (V : List (Option ℤ)) → Solves r z V → Rest r z V
+
+  -- from an instant, where one goes on from each at a later point
+  module _ (z : Situation) (onward : GoesOnWhere (λ y. z.t < y.t)) (reached : Reached r z) (within : IsWithin r.plan z.t z.n) (V : List (Option ℤ)) (solves : Solves r z V) where
+    abbrev u : Situation
+    u = updated r z V
+
+    all : AreAll r u.states
+    all = updated_all r machines z (situation_reached sound machines reached) V
+
+    last : (kind : EndKind) (end : ℕ) → Leads r z V (Ends kind end) → Rest r z V
+    last kind end leads = record { kind = kind; end = end; rest = []; on = Last z V _ kind end solves leads refl }
+
+    further : (next : Situation) → Leads r z V (GoesOn next) → ((Reached r next) → (W : List (Option ℤ)) → Solves r next W → Rest r next W) → Rest r z V
+    further next leads goes =
+        let there = B.Onward z V next reached solves leads in
+        let W = solution r sound machines next there in
+        let more = goes there W.0 W.1 in
+        record { kind = more.kind; end = more.end; rest = instant_of next W.0 ∷ more.rest; on = Further z V _ more.kind more.end next (instant_of next W.0 ∷ more.rest) solves leads refl more.on }
+
+    -- the point is done
+    module _ (done : following r z V ≡ Done) where
+      departs : (next : P.Next) → P.Departs r u next → Leads r z V next
+      departs next d = leads_by r z V Done next done d
+
+      module _ (to : ℕ) (bound : IsBoundOf r.plan u.timers z.t to) where
+        made : first_unfit r.system r.plan (to - z.t) ≡ None → P.IsStep r u (kept r u to) to
+        made fit =
+            let step : IsStep r.system r.plan u.timers u.t to = record { bound = bound; fit = fit } in
+            step_made r built u all to step
+            (steps_well r sound built machines well u all (record { s = z; values = V; reached = reached; solves = solves; done = done; is = refl; before_stop = bound.before_stop }) to step)
+
+        by_answer : (a : Bool) → first_unfit r.system r.plan (to - z.t) ≡ None → asks_to_end r u (kept r u to) ≡ a → Rest r z V
+        by_answer true fit asks = last K.Asked to (departs (Ends K.Asked to) (P.WhereAsked _ (kept r u to) to (made fit) asks refl))
+        by_answer false fit asks =
+            let next = stepped r u (kept r u to) to in
+            let begun = within.begun in
+            let later = bound.bound.later in
+            further next (departs (GoesOn next) (P.ByStep _ (kept r u to) to (made fit) asks refl))
+            (λ there W solved. onward next later there (record { begun = omega (arith, begun, later); ended = bound.bound.least r.plan.stop bound.before_stop (OnStop refl); below = plan.limit_above }) W solved)
+
+        by_size : (o : Option ℕ) → first_unfit r.system r.plan (to - z.t) ≡ o → Rest r z V
+        by_size None fit = by_answer (asks_to_end r u (kept r u to)) fit refl
+        by_size (Some i) unfit = last K.Fixed z.t (departs (Ends K.Fixed z.t) (P.WhereFixed _ i to (lacks r built u all to bound i unfit) refl))
+
+      by_place : (c : Bool) → nat_lt z.t r.plan.stop ≡ c → Rest r z V
+      by_place false e = last K.Stop z.t (departs (Ends K.Stop z.t) (P.AtStop _ (same_place z.t r.plan.stop e within.ended) refl))
+      by_place true e =
+          let before = less_place z.t r.plan.stop e in
+          let bound = bound_exists r u.timers z.t before in
+          by_size bound.0 (record { before_stop = before; bound = bound.1 }) (first_unfit r.system r.plan (bound.0 - z.t)) refl
+
+    -- or another instant is asked for
+    by_following : (Reached r u → IsWithin r.plan u.t u.n → (W : List (Option ℤ)) → Solves r u W → Rest r u W) → (asked goes limited : Bool) → (suc z.n == r.plan.limit) ≡ limited → following r z V ≡ by_answers asked goes limited → Rest r z V
+    by_following again true goes limited l e = last K.Asked z.t (leads_by r z V Ended (Ends K.Asked z.t) e refl)
+    by_following again false false limited l e = by_place e (nat_lt z.t r.plan.stop) refl
+    by_following again false true true l e = last K.Limit z.t (leads_by r z V AtLimit (Ends K.Limit z.t) e refl)
+    by_following again false true false l e =
+        further u (leads_by r z V Again (GoesOn u) e refl) (λ there W solved. again there (record { begun = within.begun; ended = within.ended; below = below_more z.n r.plan.limit within.below l }) W solved)
+
+  goes_again : (more : ℕ) (z : Situation) → r.plan.limit ≤ z.n + more → GoesOnWhere (λ y. z.t < y.t) → Reached r z → IsWithin r.plan z.t z.n → (V : List (Option ℤ)) → Solves r z V → Rest r z V
+  goes_again zero z enough onward reached within V solves = absurd (let below = within.below in omega (arith, enough, below))
+  goes_again (suc more) z enough onward reached within V solves =
+      by_following z onward reached within V solves (λ there inside W solved. goes_again more (updated r z V) (omega (arith, enough)) onward there inside W solved)
+      (any_update asks_for_end r z V) (F.goes_again r z V) (suc z.n == r.plan.limit) refl refl
+
+  goes_on : (left : ℕ) → GoesOnWhere (λ z. r.plan.stop ≤ z.t + left)
+  goes_on zero z enough reached within V solves =
+      goes_again r.plan.limit z (omega arith) (λ y later there inside W solved. absurd (let ended = inside.ended in omega (arith, enough, ended, later))) reached within V solves
+  goes_on (suc left) z enough reached within V solves =
+      goes_again r.plan.limit z (omega arith) (λ y later there inside W solved. goes_on left y (omega (arith, enough, later)) there inside W solved) reached within V solves
+
+  -- a trace behind these instants
+  pub record Whole (front : List Instant) : Type 0 where
+    pub kind : EndKind
+    pub point : ℕ
+    pub rest : List Instant
+    pub trace : IsTrace r (front ++ rest) kind point
+
+  pub whole : (is : List Instant) → Front r is → Whole is
+  whole is (Ahead z came within) =
+      let V = solution r sound machines z (reached_by r z is came) in
+      let more = goes_on r.plan.stop z (omega arith) (reached_by r z is came) within V.0 V.1 in
+      record { kind = more.kind; point = more.end; rest = instant_of z V.0 ∷ more.rest; trace = traced_on r more.kind more.end z is (instant_of z V.0 ∷ more.rest) came more.on }
+  whole is (Past z V earlier came within solves is_is) =
+      let more = goes_on r.plan.stop z (omega arith) (reached_by r z earlier came) within V solves in
+      record {
+        kind = more.kind;
+        point = more.end;
+        rest = more.rest;
+        trace = subst (λ (xs : List Instant). IsTrace r xs more.kind more.end) (sym (append_assoc earlier (instant_of z V ∷ []) more.rest) ∙ ap (λ (xs : List Instant). xs ++ more.rest) (sym is_is))
+            (traced_on r more.kind more.end z earlier (instant_of z V ∷ more.rest) came more.on);
+      }

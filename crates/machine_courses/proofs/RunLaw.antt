@@ -1,0 +1,143 @@
+-- A log of told machines is their run, whatever they answer.
+use Rattle.std.proofs.Common.{◌≡◌, ℕ, Bool, true, false, ℤ, Some, List, [], ◌∷◌, ◌++◌, inl, inr, refl, sym, ap, ◌∙◌, subst, length}
+use Rattle.std.specs.Prelude.{suc, ◌-◌, ◌==◌}
+use Rattle.fmu_peer.specs.Machine.{MachineState}
+use Rattle.fmu_peer.specs.Mode.{instantiate_of}
+use Rattle.system_model.specs.declared.plan.EndKind.{EndKind}
+use Rattle.system_model.specs.declared.plan.EndKind.TheVariants as K
+use Rattle.system_model.specs.Sound.{IsSound}
+use Rattle.system_model.specs.Text.{Instant, end_text}
+use Rattle.run_model.specs.AfterInstant.{AtLimit, Done, Ended, Following, following}
+use Rattle.run_model.specs.Initial as I
+use Rattle.run_model.specs.Machines.{AreMachines}
+use Rattle.run_model.specs.Run.{Run, Situation, Timer}
+use Rattle.run_model.specs.Stepping as P
+use Rattle.run_model.specs.Stepping.{Ends}
+use Rattle.run_model.specs.Trace.{IsTrace, LeadsBy}
+use Rattle.slot_calls.specs.Log.{Sent}
+use Rattle.slot_calls.specs.Replies.{AreReplies, states_by}
+use Rattle.slot_calls.specs.Stage.{IsAnswered, everyone, shapes_of}
+use Rattle.event_iteration.proofs.ByLog.{replies_first, replies_then, stage_states}
+use Rattle.calling_sequence.specs.declared.run_end.RunEnd.{RunEnd}
+use Rattle.calling_sequence.specs.declared.run_end.RunEnd.TheVariants as E
+use Rattle.calling_sequence.specs.Calls.{IsBoundOf, first_unfit, making}
+use Rattle.calling_sequence.specs.Course.{Course, Place, Seen, Spot, Stepped}
+use Rattle.calling_sequence.specs.Ends.{AtLimit as Limited, AtStop, Awaits, Badly, ByStep, ByUpdate, EndLine, EndsAt, EndsBy, Finishes, Header, Shown, Unfit, Well, kind_of_end, point_of, text_of, trace_pieces}
+use Rattle.calling_sequence.specs.Plans.{IsPlan}
+use Rattle.calling_sequence.specs.Puts.{CutsPiece, with_pieces}
+use Rattle.calling_sequence.specs.Systems.{IsBuilt}
+use Rattle.machine_courses.specs.Fronts.{IsFront, LacksStepAt}
+use Rattle.machine_courses.specs.Laws.{IsRunOf, RunByLog}
+use Rattle.machine_courses.specs.Outcomes.{CutsFront, Output, PutsRun, PutsTrace}
+use Rattle.machine_courses.proofs.Following.{by_answers, leads_by, reached_by}
+use Rattle.machine_courses.proofs.Fronts.{Front, front_at, front_before, is_front, none, stands, trace_seen}
+use Rattle.machine_courses.proofs.Places.{At, Says, over}
+use Rattle.machine_courses.proofs.Rows.{follows, over_all}
+use Rattle.machine_courses.proofs.Steps.{kept, lacks}
+
+-- once each was made
+pub made_replies : (r : Run) (made log : List Sent) → IsAnswered (shapes_of r.system) (making r.system) made → AreReplies r (I.first_states r) (made ++ log) → AreReplies r (I.instantiated r) log
+made_replies r made log making replies =
+    subst (λ (ss : List MachineState). AreReplies r ss log) (stage_states r (I.first_states r) everyone instantiate_of made making) (replies_then r (I.first_states r) made log making.good replies)
+
+module _ (r : Run) (sound : IsSound r.system) (built : IsBuilt r.system) (plan : IsPlan r.plan) (machines : AreMachines r) where
+  -- behind an instant
+  module _ (s : Spot) (again asked : Bool) (is : List Instant) (ss : List MachineState) (x : Says r s again asked is ss) (kind : EndKind) (point : ℕ) where
+    ends_by : (f : Following) → by_answers asked again (suc s.n == r.plan.limit) ≡ f → LeadsBy f r x.sees.z s.values (Ends kind point) → IsTrace r is kind point
+    ends_by f e leads = trace_seen r s is x.sees kind point (leads_by r x.sees.z s.values f (Ends kind point) (follows r sound built plan machines s again asked is ss x ∙ e) leads)
+
+  module _ (s : Spot) (is : List Instant) (ss : List MachineState) (x : Says r s false false is ss) (component end : ℕ) (bound : IsBoundOf r.plan s.timers s.t end) (unfit : first_unfit r.system r.plan (end - s.t) ≡ Some component) where
+    abbrev z : Situation
+    z = over r s is x.sees
+
+    bound_here : IsBoundOf r.plan z.timers z.t end
+    bound_here = subst (λ (ts : List Timer). IsBoundOf r.plan ts z.t end) (sym x.sees.timers) (subst (λ (k : ℕ). IsBoundOf r.plan s.timers k end) (sym x.sees.at.point) bound)
+
+    lacks_here : P.LacksStep r z component end
+    lacks_here = lacks r built z (over_all r sound built plan machines s is x.sees) end bound_here component (ap (λ (k : ℕ). first_unfit r.system r.plan (end - k)) x.sees.at.point ∙ unfit)
+
+    lacks_at : LacksStepAt r component s.t end
+    lacks_at = record {
+      z = z;
+      departed = record {
+        s = x.sees.z;
+        values = s.values;
+        reached = reached_by r x.sees.z x.sees.earlier x.sees.at.came;
+        solves = x.sees.solves;
+        done = follows r sound built plan machines s false false is ss x;
+        is = refl;
+        before_stop = bound_here.before_stop;
+      };
+      point = x.sees.at.point;
+      lacks = lacks_here;
+    }
+
+  -- at the place where the run ends
+  pub trace_at : (end : RunEnd) (p : Place) → EndsAt r.system r.plan end p → (is : List Instant) (ss : List MachineState) → At r p is ss → IsTrace r is (kind_of_end end) (point_of r.plan p)
+  trace_at _ _ (AtStop s at) is ss x = ends_by s false false is ss x K.Stop s.t Done refl (P.AtStop (Ends K.Stop s.t) (x.sees.at.point ∙ at) (ap (Ends K.Stop) (sym x.sees.at.point)))
+  trace_at _ _ (ByUpdate s again) is ss x = ends_by s again true is ss x K.Asked s.t Ended refl (ap (Ends K.Asked) (sym x.sees.at.point))
+  trace_at _ _ (ByStep s) is ss x =
+      let g = x.goes in
+      trace_seen r x.w.s is g.sees K.Asked s.t
+      (leads_by r g.sees.z x.w.s.values Done (Ends K.Asked s.t) g.done (P.WhereAsked (Ends K.Asked s.t) (kept r (over r x.w.s is g.sees) x.w.to) x.w.to x.made (sym x.asked_is) (ap (Ends K.Asked) (sym x.point))))
+  trace_at _ _ (Limited s limit) is ss x = ends_by s true false is ss x K.Limit s.t AtLimit (ap (by_answers false true) limit) (ap (Ends K.Limit) (sym x.sees.at.point))
+  trace_at _ _ (Unfit s component end bound unfit) is ss x =
+      ends_by s false false is ss x K.Fixed s.t Done refl (P.WhereFixed (Ends K.Fixed s.t) component.0 end (lacks_here s is ss x component.0 end bound unfit) (ap (Ends K.Fixed) (sym x.sees.at.point)))
+
+  module _ (o : Output) (is : List Instant) (counted : o.counted ≡ length is) where
+    abbrev Put : EndKind → ℕ → Type 0
+    Put kind point = o.after ≡ with_pieces o.before (trace_pieces r.system r.plan is kind point)
+
+    puts : (kind : EndKind) (point : ℕ) → Put kind point → IsTrace r is kind point → PutsTrace r o kind point
+    puts kind point put trace = record { is = is; trace = trace; text = record { counted = counted; put = put } }
+
+    puts_at : (end : RunEnd) (p : Place) → EndsAt r.system r.plan end p → (ss : List MachineState) → At r p is ss → Put (kind_of_end end) (point_of r.plan p) → PutsRun r o end
+    puts_at _ _ (AtStop s at) ss x put = subst (PutsTrace r o K.Stop) at (puts K.Stop s.t put (trace_at E.Stop (Seen s false false) (AtStop s at) is ss x))
+    puts_at _ _ (ByUpdate s again) ss x put = puts K.Asked s.t put (trace_at (E.Asked s.t) (Seen s again true) (ByUpdate s again) is ss x)
+    puts_at _ _ (ByStep s) ss x put = puts K.Asked s.t put (trace_at (E.Asked s.t) (Stepped s true) (ByStep s) is ss x)
+    puts_at _ _ (Limited s limit) ss x put = puts K.Limit s.t put (trace_at (E.EventLimit s.t) (Seen s true false) (Limited s limit) is ss x)
+    puts_at _ _ (Unfit s component end bound unfit) ss x put =
+        (puts K.Fixed s.t put (trace_at (E.FixedStep component s.t end) (Seen s false false) (Unfit s component end bound unfit) is ss x), lacks_at s is ss x component.0 end bound unfit)
+
+  -- the instants so far
+  pub front_finish : (end : RunEnd) (point : ℕ) (log : List Sent) (is : List Instant) → Finishes r.system r.bound r.plan end point log is → AreReplies r (I.instantiated r) log → Front r is
+  front_finish _ _ _ _ (Well p end log is course ends) replies =
+      front_at r sound built plan machines p is (states_by r (I.instantiated r) log) (stands r sound built plan machines p log is course replies).at
+  front_finish _ _ _ _ (Badly p bad front more is course falls) replies =
+      front_at r sound built plan machines p is (states_by r (I.instantiated r) front) (stands r sound built plan machines p front is course (replies_first r (I.instantiated r) front more replies)).at
+
+  module _ (o : Output) where
+    puts_whole : (end : RunEnd) (point : ℕ) (log : List Sent) (is : List Instant) → Finishes r.system r.bound r.plan end point log is → AreReplies r (I.instantiated r) log → o.counted ≡ length is →
+        o.after ≡ with_pieces o.before (trace_pieces r.system r.plan is (kind_of_end end) point) → PutsRun r o end
+    puts_whole _ _ _ _ (Well p end log is course ends) replies counted put =
+        puts_at o is counted end p ends (states_by r (I.instantiated r) log) (stands r sound built plan machines p log is course replies).at put
+    puts_whole _ _ _ _ (Badly p bad front more is course falls) replies counted put = record {
+      is = is;
+      point = point_of r.plan p;
+      front = is_front r is (front_finish (E.Bad bad) (point_of r.plan p) (front ++ more) is (Badly p bad front more is course falls) replies);
+      text = record { counted = counted; put = put };
+    }
+
+    cut_by : (log : List Sent) (is : List Instant) (pieces : List (List ℕ)) (piece : List ℕ) → Awaits r.system r.bound r.plan log is pieces piece → AreReplies r (I.instantiated r) log → o.counted ≡ length is →
+        CutsPiece (with_pieces o.before pieces) piece o.after → CutsFront r o
+    cut_by _ _ _ _ Header replies counted cut = record { is = []; front = is_front r [] (none r sound built plan machines [] refl); counted = counted; cut = inl cut }
+    cut_by _ _ _ _ (Shown p log is i shows course) replies counted cut =
+        let all = is_front r (is ++ i ∷ []) (front_at r sound built plan machines p (is ++ i ∷ []) (states_by r (I.instantiated r) log) (stands r sound built plan machines p log (is ++ i ∷ []) course replies).at) in
+        record { is = is; front = front_before r is i all; counted = counted; cut = inr (text_of i, inl (i, all, refl), cut) }
+    cut_by _ _ _ _ (EndLine end point log is finishes) replies counted cut = record {
+      is = is;
+      front = is_front r is (front_finish end point log is finishes replies);
+      counted = counted;
+      cut = inr (end_text (kind_of_end end) point, inr (kind_of_end end, point, refl), cut);
+    }
+
+    pub puts_run : (end : RunEnd) (log : List Sent) (is : List Instant) → EndsBy r.system r.bound r.plan log is end o.before o.after → AreReplies r (I.instantiated r) log → o.counted ≡ length is → PutsRun r o end
+    puts_run E.Stop log is (point, f, put) replies counted = puts_whole E.Stop point log is f replies counted put
+    puts_run (E.Asked at) log is (point, f, put) replies counted = puts_whole (E.Asked at) point log is f replies counted put
+    puts_run (E.EventLimit at) log is (point, f, put) replies counted = puts_whole (E.EventLimit at) point log is f replies counted put
+    puts_run (E.FixedStep component at end) log is (point, f, put) replies counted = puts_whole (E.FixedStep component at end) point log is f replies counted put
+    puts_run (E.Bad bad) log is (point, f, put) replies counted = puts_whole (E.Bad bad) point log is f replies counted put
+    puts_run E.WriteFault log is w replies counted = cut_by log is w.pieces w.piece w.awaits replies counted w.cuts
+
+pub run_by_log : RunByLog
+run_by_log r made log is end o c = puts_run r c.sound c.built c.plan c.machines o end log is c.ends (made_replies r made log c.making c.replies) c.counted

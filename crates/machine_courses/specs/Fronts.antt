@@ -1,0 +1,32 @@
+-- The run of a system's machines so far (FMI 3.0, 2.1.5: super-dense time).
+use Rattle.std.specs.Prelude.{◌≡◌, ℕ, ℤ, List, [], ◌∷◌, ◌++◌, Option}
+use Rattle.system_model.specs.Text.{Instant}
+use Rattle.run_model.specs.Behaved.{Departed}
+use Rattle.run_model.specs.Equations.{Solves}
+use Rattle.run_model.specs.Initial.{SolvesInitially, beginning}
+use Rattle.run_model.specs.Run.{Run, Situation}
+use Rattle.run_model.specs.Stepping.{GoesOn, LacksStep}
+use Rattle.run_model.specs.Trace.{Leads, instant_of}
+
+-- the run comes to this situation behind these instants
+pub data CameTo (r : Run) : Situation → List Instant → Type 0 where
+  AtFirst : (s : Situation) (is : List Instant) (initial : List (Option ℤ)) →
+      SolvesInitially r initial → s ≡ beginning r initial → is ≡ [] → CameTo r s is
+  Onward : (s : Situation) (is : List Instant) (before : Situation) (values : List (Option ℤ))
+      (earlier : List Instant) →
+      CameTo r before earlier → Solves r before values → Leads r before values (GoesOn s) →
+      is ≡ earlier ++ instant_of before values ∷ [] → CameTo r s is
+
+-- the run begins with these instants, whatever is behind the last
+pub data IsFront (r : Run) (is : List Instant) : Type 0 where
+  Before : (s : Situation) → CameTo r s is → IsFront r is
+  Behind : (s : Situation) (values : List (Option ℤ)) (earlier : List Instant) →
+      CameTo r s earlier → Solves r s values →
+      is ≡ earlier ++ instant_of s values ∷ [] → IsFront r is
+
+-- the run stands at a point that is done, and the component, the least of those, can't take the step that would go from it to the end
+pub record LacksStepAt (r : Run) (component at end : ℕ) : Type 0 where
+  pub z : Situation
+  pub departed : Departed r z
+  pub point : z.t ≡ at
+  pub lacks : LacksStep r z component end

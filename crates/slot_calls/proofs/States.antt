@@ -1,0 +1,20 @@
+-- Which saved state is held behind a list of exchanges.
+use Rattle.std.proofs.Common.{◌≡◌, Bool, false, List, [], ◌∷◌, ◌++◌, Result, refl}
+use Rattle.value_types.specs.declared.shape.Shape.{Shape}
+use Rattle.fmi_calls.specs.declared.call.Call.{Call}
+use Rattle.fmi_calls.specs.declared.call.Call.TheVariants as C
+use Rattle.fmi_calls.specs.declared.call.Reply.{Reply}
+use Rattle.fmi_calls.specs.KindFacts.{keeps_state}
+use Rattle.fmu_peer.specs.declared.peer.Exchange.{Exchange}
+use Rattle.fmu_peer.specs.declared.peer.PeerFault.{PeerFault}
+use Rattle.slot_calls.specs.SavedStates.{saved_after, saved_by}
+
+pub saved_on : (shape : Shape) (saved : Bool) (es fs : List Exchange) → saved_after shape saved (es ++ fs) ≡ saved_after shape (saved_after shape saved es) fs
+saved_on shape saved [] fs = refl
+saved_on shape saved (e ∷ es) fs = saved_on shape (saved_by shape e.call e.result saved) es fs
+
+-- a call that keeps no state leaves it
+pub saved_same : (shape : Shape) (call : Call) (result : Result Reply PeerFault) (saved : Bool) → keeps_state call ≡ false → saved_by shape call result saved ≡ saved
+saved_same shape C.Save result saved none = absurd (cc)
+saved_same shape C.Free result saved none = absurd (cc)
+saved_same shape call result saved none = refl

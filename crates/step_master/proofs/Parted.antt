@@ -1,0 +1,129 @@
+-- Whose a call is, by the talks of all, is told by its place: it stands in the run or in the closing.
+use Rattle.std.proofs.Common.{◌≡◌, ◌⊎◌, inl, inr, Bool, true, false, List, [], ◌∷◌, ◌++◌, Result, refl, sym, ap, ◌∙◌, subst}
+use Rattle.std.specs.Prelude.{All, if◌then◌else◌}
+use Rattle.std.proofs.lemmas.List.{append-nil}
+use Rattle.std.proofs.lemmas.List.Elements.{All-cons, All-head, All-nil, All-tail}
+use Rattle.value_types.specs.declared.shape.Shape.{Shape}
+use Rattle.fmi_calls.specs.declared.call.Call.{Call}
+use Rattle.fmi_calls.specs.declared.call.Call.TheVariants as C
+use Rattle.fmi_calls.specs.KindFacts.{IsRunCall, keeps_state}
+use Rattle.fmu_peer.specs.declared.peer.Exchange.{Exchange}
+use Rattle.fmu_peer.specs.Close.{SendsInTurn, closing_calls}
+use Rattle.fmu_peer.specs.View.{View}
+use Rattle.slot_calls.specs.SavedStates.{IsEnding, IsGivenUp, IsOfClosing, IsParted, LeavesState, Talk, saved_after, saved_by}
+use Rattle.slot_calls.proofs.States.{saved_same}
+use Rattle.course_laws.specs.Laws.{calls_in}
+use Rattle.step_master.proofs.Talking.{turn_all}
+
+-- ---- what a closing sends
+
+-- a Free first, where a state is still held, and calls that end the instance
+pub data Closes (saved : Bool) (sent : List Exchange) : Type 0 where
+  Plainly : All IsEnding (calls_in sent) → Closes saved sent
+  Freeing : saved ≡ true → (e : Exchange) (rest : List Exchange) → sent ≡ e ∷ rest → e.call ≡ C.Free → All IsEnding (calls_in rest) → Closes saved sent
+
+all_ending : All IsEnding (closing_calls false)
+all_ending = All-cons IsEnding C.Terminate (C.FreeInstance ∷ []) tt (All-cons IsEnding C.FreeInstance [] tt (All-nil IsEnding))
+
+pub turn_closes : (spared saved : Bool) (v : View) (sent : List Exchange) (w : View) → SendsInTurn (if spared then [] else closing_calls saved) v sent w → Closes saved sent
+turn_closes true saved v sent w turn = Plainly (turn_all IsEnding [] v sent w (All-nil IsEnding) turn)
+turn_closes false false v sent w turn = Plainly (turn_all IsEnding (closing_calls false) v sent w all_ending turn)
+turn_closes false true v sent w (inl (may, (result, rest, mid, is, asked, more))) =
+    Freeing refl (record { call = C.Free; result = result }) rest is refl (turn_all IsEnding (closing_calls false) mid rest w all_ending more)
+turn_closes false true v sent w (inr (never, more)) = Plainly (turn_all IsEnding (closing_calls false) v sent w all_ending more)
+
+-- ---- whose each is
+
+ending_of_closing : (talks : List Talk) (front : List Exchange) (call : Call) (rest : List Exchange) → IsEnding call → IsOfClosing talks front call rest
+ending_of_closing talks front C.Free rest ends = absurd ends
+ending_of_closing talks front call rest ends = ends
+
+not_free : (talks : List Talk) (front : List Exchange) (call : Call) (rest : List Exchange) → IsRunCall call → (call ≡ C.Free → IsOfClosing talks front C.Free rest → ⊥) → IsOfClosing talks front call rest → ⊥
+not_free talks front C.Free rest run h o = h refl o
+not_free talks front C.Terminate rest run h o = absurd (cc)
+not_free talks front C.FreeInstance rest run h o = absurd (cc)
+not_free talks front call rest run h o = o
+
+none_ends : (call : Call) → IsRunCall call → IsEnding call → ⊥
+none_ends C.Terminate run ends = absurd (cc)
+none_ends C.FreeInstance run ends = absurd (cc)
+none_ends call run ends = ends
+
+run_at : (front rest : List Exchange) (e : Exchange) (all : List Exchange) → all ≡ front ++ e ∷ rest → All IsRunCall (calls_in all) → All IsRunCall (e.call ∷ calls_in rest)
+run_at [] rest e all is rs = subst (λ (l : List Exchange). All IsRunCall (calls_in l)) is rs
+run_at (x ∷ front) rest e all is rs = run_at front rest e (front ++ e ∷ rest) refl (All-tail IsRunCall x.call (calls_in (front ++ e ∷ rest)) (subst (λ (l : List Exchange). All IsRunCall (calls_in l)) is rs))
+
+module _ (talks : List Talk) (shape : Shape) (run closing : List Exchange) (runs : All IsRunCall (calls_in run)) (leaves : LeavesState talks shape run) where
+  of_run : (front rest : List Exchange) (e : Exchange) → run ≡ front ++ e ∷ rest → IsOfClosing talks front e.call (rest ++ closing) → ⊥
+  of_run front rest e is = not_free talks front e.call (rest ++ closing) (All-head IsRunCall e.call (calls_in rest) here) (free rest refl) where
+    here : All IsRunCall (e.call ∷ calls_in rest)
+    here = run_at front rest e run is runs
+
+    free : (more : List Exchange) → more ≡ rest → e.call ≡ C.Free → IsOfClosing talks front C.Free (rest ++ closing) → ⊥
+    free [] none frees o =
+        let freed = leaves.freed front e (is ∙ ap (λ (l : List Exchange). front ++ e ∷ l) (sym none)) frees in
+        elim o.1 [
+          | inl apart ↦ apart freed.0
+          | inr unstepped ↦ absurd (let same : true ≡ false = sym freed.1 ∙ unstepped in cc)
+        ]
+    free (x ∷ more) some frees o =
+        none_ends x.call (All-head IsRunCall x.call (calls_in more) (All-tail IsRunCall e.call (calls_in (x ∷ more)) (subst (λ (l : List Exchange). All IsRunCall (e.call ∷ calls_in l)) (sym some) here)))
+        (All-head (λ (y : Exchange). IsEnding y.call) x (more ++ closing) (subst (λ (l : List Exchange). All (λ (y : Exchange). IsEnding y.call) (l ++ closing)) (sym some) o.0))
+
+  -- what holds of the calls holds of the exchanges
+  by_calls : (es : List Exchange) → All IsEnding (calls_in es) → All (λ (e : Exchange). IsEnding e.call) es
+  by_calls [] all = All-nil (λ (e : Exchange). IsEnding e.call)
+  by_calls (e ∷ es) all = All-cons (λ (x : Exchange). IsEnding x.call) e es (All-head IsEnding e.call (calls_in es) all) (by_calls es (All-tail IsEnding e.call (calls_in es) all))
+
+  ending_at : (front rest : List Exchange) (e : Exchange) (all : List Exchange) → all ≡ front ++ e ∷ rest → All IsEnding (calls_in all) → IsEnding e.call
+  ending_at [] rest e all is es = All-head IsEnding e.call (calls_in rest) (subst (λ (l : List Exchange). All IsEnding (calls_in l)) is es)
+  ending_at (x ∷ front) rest e all is es = ending_at front rest e (front ++ e ∷ rest) refl (All-tail IsEnding x.call (calls_in (front ++ e ∷ rest)) (subst (λ (l : List Exchange). All IsEnding (calls_in l)) is es))
+
+  of_closing : Closes (saved_after shape false run) closing → (front rest : List Exchange) (e : Exchange) → closing ≡ front ++ e ∷ rest → IsOfClosing talks (run ++ front) e.call rest
+  of_closing (Plainly all) front rest e is = ending_of_closing talks (run ++ front) e.call rest (ending_at front rest e closing is all)
+  of_closing (Freeing held f more sent frees all) [] rest e is =
+      let same : f ∷ more ≡ e ∷ rest = sym sent ∙ is in
+      subst (λ (l : List Exchange). IsOfClosing talks l e.call rest) (sym (append-nil run))
+      (subst (λ (c : Call). IsOfClosing talks run c rest) (sym frees ∙ ap (λ (x : Exchange). x.call) (heads same))
+      (by_calls rest (subst (λ (l : List Exchange). All IsEnding (calls_in l)) (rests same) all), leaves.held held))
+    where
+      heads : {a b : Exchange} {xs ys : List Exchange} → a ∷ xs ≡ b ∷ ys → a ≡ b
+      heads h = cc
+
+      rests : {a b : Exchange} {xs ys : List Exchange} → a ∷ xs ≡ b ∷ ys → xs ≡ ys
+      rests h = cc
+  of_closing (Freeing held f more sent frees all) (x ∷ front) rest e is =
+      ending_of_closing talks (run ++ x ∷ front) e.call rest (ending_at front rest e more (rests (sym sent ∙ is)) all)
+    where
+      rests : {a b : Exchange} {xs ys : List Exchange} → a ∷ xs ≡ b ∷ ys → xs ≡ ys
+      rests h = cc
+
+  -- each call of the run is the run's, and each of the closing the closing's
+  pub is_parted : Closes (saved_after shape false run) closing → IsParted talks run closing
+  is_parted closes = record { of_run = of_run; of_closing = of_closing closes }
+
+-- ---- a run that saves no state
+
+no_state : (call : Call) → IsRunCall call → keeps_state call ≡ false
+no_state C.Save run = absurd (cc)
+no_state C.Restore run = absurd (cc)
+no_state C.Free run = absurd (cc)
+no_state call run = refl
+
+pub unsaved : (shape : Shape) (saved : Bool) (run : List Exchange) → All IsRunCall (calls_in run) → saved_after shape saved run ≡ saved
+unsaved shape saved [] runs = refl
+unsaved shape saved (e ∷ es) runs =
+    unsaved shape (saved_by shape e.call e.result saved) es (All-tail IsRunCall e.call (calls_in es) runs)
+    ∙ saved_same shape e.call e.result saved (no_state e.call (All-head IsRunCall e.call (calls_in es) runs))
+
+pub leaves_none : (talks : List Talk) (shape : Shape) (run : List Exchange) → All IsRunCall (calls_in run) → LeavesState talks shape run
+leaves_none talks shape run runs = record {
+  held = λ held. absurd (let none = unsaved shape false run runs in let same : true ≡ false = sym held ∙ none in cc);
+  freed = λ front e is frees. absurd (frees_none front [] e is frees);
+  last = λ front rest e is given. absurd (frees_none front rest e is given.frees);
+} where
+  frees_none : (front rest : List Exchange) (e : Exchange) → run ≡ front ++ e ∷ rest → e.call ≡ C.Free → ⊥
+  frees_none front rest e is frees =
+      let here = All-head IsRunCall e.call (calls_in rest) (run_at front rest e run is runs) in
+      let none : keeps_state C.Free ≡ false = ap keeps_state (sym frees) ∙ no_state e.call here in
+      absurd (cc)
