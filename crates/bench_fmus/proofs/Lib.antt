@@ -1,6 +1,7 @@
-pub mod WrapLemmas
-pub mod ValueLemmas
-pub mod ClockLemmas
-pub mod PeerLemmas
-pub mod BuiltInLemmas
-pub mod ScriptLemmas
+pub mod CallerLemmas
+mod WrapLemmas
+mod ValueLemmas
+mod ClockLemmas
+mod PeerLemmas
+mod BuiltInLemmas
+mod ScriptLemmas

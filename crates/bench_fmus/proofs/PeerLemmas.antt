@@ -11,7 +11,7 @@ use Rattle.fmi_calls.specs.declared.call.Reply.{Reply}
 use Rattle.fmu_peer.specs.declared.peer.PeerFault.{PeerFault}
 use Rattle.fmu_peer.specs.declared.talk_room.TalkRoom.{TalkRoom}
 use Rattle.fmu_peer.specs.Machine.{IsInPhase, IsMachineOf, Machine, MachineState, after}
-use Rattle.fmu_peer.proofs.MachineLemmas.{in_phase_after, in_phase_lost}
+use Rattle.fmu_peer.proofs.CallerLemmas.{in_phase_after, in_phase_lost}
 use Rattle.fmu_peer.specs.View.{talked, AnswersAs}
 use Rattle.bench_fmus.specs.Told.{talk_in}
 

@@ -9,7 +9,7 @@ use Rattle.std.proofs.lemmas.List.Sums.{prefix_len-le-length}
 use Rattle.std.proofs.lemmas.Option.{slice_get-map, get_or_from_slice_get, same_Some}
 use Rattle.value_types.specs.Shape.{place_of}
 use Rattle.value_types.specs.declared.shape.Variable.{Variable}
-use Rattle.value_types.proofs.IndexLemmas.{placed_within}
+use Rattle.value_types.proofs.CallerLemmas.{placed_within}
 use Rattle.fmu_peer.specs.Machine.{written}
 use Rattle.bench_fmus.specs.BuiltIn.{spread, value_of}
 use Rattle.bench_fmus.specs.Laws.{none_within}

@@ -10,7 +10,7 @@ use Rattle.value_types.specs.Shape.{AgreeFor, is_at, is_declared, is_input, is_u
 use Rattle.value_types.specs.declared.shape.Causality.TheVariants.{Output}
 use Rattle.value_types.specs.declared.shape.Variable.{Variable}
 use Rattle.value_types.specs.declared.shape.Shape.{Shape}
-use Rattle.value_types.proofs.IndexLemmas.{find_placed, placed_within}
+use Rattle.value_types.proofs.CallerLemmas.{find_placed, placed_within}
 use Rattle.fmi_calls.specs.declared.call.Call.{Call}
 use Rattle.fmi_calls.specs.declared.call.Call.TheVariants as C
 use Rattle.fmi_calls.specs.declared.call.Content.TheVariants as A

@@ -14,8 +14,7 @@ use Rattle.system_model.specs.declared.system.Component.{Component}
 use Rattle.system_model.specs.Ports.{is_output_role}
 use Rattle.system_model.specs.Shapes.{IsSoundShape}
 use Rattle.system_model.specs.Sound.{IsSound}
-use Rattle.system_model.proofs.Lists.{all_at, true_false}
-use Rattle.system_model.proofs.SoundLemmas.{Placed, is_input_of, place_of}
+use Rattle.system_model.proofs.CallerLemmas.{all_at, true_false, Placed, is_input_of, place_of}
 use Rattle.run_model.specs.Run.{Run, Situation, each}
 use Rattle.run_model.specs.Inputs.{is_under, state_with, under, written_at_port}
 use Rattle.run_model.specs.Initial as I
@@ -25,9 +24,8 @@ use Rattle.run_model.specs.Stepping as P
 use Rattle.run_model.specs.Stepping.{AtStop, ByStep, Departs, GoesOn, Next, WhereAsked, WhereFixed}
 use Rattle.run_model.specs.Trace.{LeadsBy}
 use Rattle.run_model.specs.Behaved as B
-use Rattle.run_model.proofs.Alike.{Found, found_at, written_at-output}
-use Rattle.run_model.proofs.OneTrace.{ends_or_goes, situation_of}
-use Rattle.run_model.proofs.States as S
+use Rattle.run_model.proofs.CallerLemmas.{Found, found_at, written_at-output, ends_or_goes, situation_of}
+use Rattle.run_model.proofs.CallerLemmas as S
 use Rattle.built_in_laws.specs.Clocks.{IsNoInput}
 use Rattle.built_in_laws.proofs.Keeping.{configured_is, kept_unticked, kept_written}
 use Rattle.built_in_laws.proofs.Timings.{AreSet}

@@ -21,7 +21,7 @@ use Rattle.run_model.specs.Behaved as B
 use Rattle.run_model.specs.Behaved.{IsAnsweredWell}
 use Rattle.run_model.specs.Initial.{bound_values, initialized}
 use Rattle.run_model.specs.Run.{IsFmu, Run, Situation}
-use Rattle.run_model.proofs.Behaves.{IsOwn, own_port, shift_call, timed_behaves, timing_of}
+use Rattle.run_model.proofs.CallerLemmas.{IsOwn, own_port, shift_call, timed_behaves, timing_of}
 use Rattle.built_in_laws.specs.BuiltInRuns.{BuiltInsAnswerWell, BuiltInsBehaveWell, IsBuiltIn, IsBuiltInOf}
 use Rattle.built_in_laws.proofs.AlongRun as R
 use Rattle.built_in_laws.proofs.Timings.{AreSet, countdown_right, interval_right, shift_right}

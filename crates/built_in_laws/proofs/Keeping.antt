@@ -9,16 +9,15 @@ use Rattle.std.proofs.lemmas.Option.{slice_get-get_or, slice_get-map, slice_get_
 use Rattle.value_types.specs.Shape.{is_clock, is_input, place_of, variable_at}
 use Rattle.value_types.specs.declared.shape.Variable.{Variable}
 use Rattle.value_types.specs.declared.shape.Shape.{Shape}
-use Rattle.value_types.proofs.IndexLemmas.{find_missing, find_placed, placed_within}
+use Rattle.value_types.proofs.CallerLemmas.{find_missing, find_placed, placed_within}
 use Rattle.fmu_peer.specs.Machine.{MachineState, all_written, is_input_clock, written, zero_at}
 use Rattle.bench_fmus.specs.BuiltIn.{Behaviour, first_state, machine_of, start_of, value_of}
 use Rattle.bench_fmus.specs.Laws.{none_within}
-use Rattle.bench_fmus.proofs.ValueLemmas.{placed, value_of_found}
+use Rattle.bench_fmus.proofs.CallerLemmas.{placed, value_of_found}
 use Rattle.system_model.specs.declared.bound.BoundValue.{BoundValue}
-use Rattle.system_model.proofs.Lists.{found_under, true_false}
+use Rattle.system_model.proofs.CallerLemmas.{found_under, true_false}
 use Rattle.run_model.specs.Initial.{with_bound}
-use Rattle.run_model.proofs.States.{written-length}
-use Rattle.run_model.proofs.Written.{all_written-get}
+use Rattle.run_model.proofs.CallerLemmas.{written-length, all_written-get}
 use Rattle.built_in_laws.specs.Clocks.{IsNoInput, last_bound, value_set}
 
 abbrev references_of : List Variable → List ℕ

@@ -17,7 +17,7 @@ use Rattle.bench_fmus.specs.Alarm.{rung_at}
 use Rattle.bench_fmus.specs.BuiltIn.{Behaviour, step_content, value_of}
 use Rattle.bench_fmus.specs.Models.{behaviour_of}
 use Rattle.bench_fmus.specs.Wrapping.{wrapped, wrapped_between}
-use Rattle.bench_fmus.proofs.WrapLemmas.{HasSize}
+use Rattle.bench_fmus.proofs.CallerLemmas.{HasSize}
 
 -- ---- words
 

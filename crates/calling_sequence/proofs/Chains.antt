@@ -14,10 +14,8 @@ use Rattle.fmu_peer.specs.Talk.{IsGood}
 use Rattle.fmu_peer.specs.View.{View, Fixed}
 use Rattle.slot_calls.specs.Log.{Sent, Has, Talks, Told, part}
 use Rattle.slot_calls.specs.Stage.{IsAnswered, IsGoodOf, shapes, shapes_of, to_those}
-use Rattle.slot_calls.proofs.Leading.{Led, led}
-use Rattle.slot_calls.proofs.Answered.{shape_of, shapes_same, map_at}
+use Rattle.slot_calls.proofs.CallerLemmas.{Led, led, shape_of, shapes_same, map_at, part_asked, part_unasked}
 use Rattle.system_model.specs.declared.system.System.{System}
-use Rattle.slot_calls.proofs.Parts.{part_asked, part_unasked}
 
 -- a log leaves the shapes those of the components
 pub fits_on : (system : System) (log : List Sent) (olds mids : List Instance) → shapes olds ≡ shapes_of system → Told log olds mids → shapes mids ≡ shapes_of system

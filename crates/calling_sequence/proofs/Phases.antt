@@ -25,8 +25,8 @@ use Rattle.fmi_calls.specs.Permission.{Permitted, can_be_ticked, is_input_clock,
 use Rattle.fmi_calls.specs.Worth.{grade_of}
 use Rattle.fmu_peer.specs.declared.peer.Exchange.{Exchange}
 use Rattle.fmu_peer.specs.View.{View, Fixed}
-use Rattle.slot_calls.proofs.Leading.{Led}
-use Rattle.system_model.proofs.Lists.{true_false}
+use Rattle.slot_calls.proofs.CallerLemmas.{Led}
+use Rattle.system_model.proofs.CallerLemmas.{true_false}
 use Rattle.run_model.specs.AfterInstant.{asks_again}
 use Rattle.event_iteration.specs.Instants.{BeginsInstant, IsRunning}
 use Rattle.event_iteration.specs.Settings.{IsUnset}

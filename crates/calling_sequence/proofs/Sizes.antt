@@ -13,7 +13,7 @@ use Rattle.system_model.specs.declared.system.System.{System}
 use Rattle.calling_sequence.specs.Calls.{first_unfit}
 use Rattle.calling_sequence.specs.Place.{CanStep, IsDeparting, TakesSize}
 use Rattle.slot_calls.specs.Stage.{shapes, shapes_of}
-use Rattle.slot_calls.proofs.Answered.{map_at, shape_of}
+use Rattle.slot_calls.proofs.CallerLemmas.{map_at, shape_of}
 
 -- an element at a place
 pub there_is : {A : Type 0} (xs : List A) (i : ℕ) → i < length xs → (x : A) × (x ≡ get_or xs i x)

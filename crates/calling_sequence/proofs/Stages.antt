@@ -23,8 +23,7 @@ use Rattle.slot_calls.specs.Log.{Asking, Sent, Told}
 use Rattle.slot_calls.specs.Slots.{LiveSlot, Stands, instances}
 use Rattle.slot_calls.specs.Stage.{FailsIn, IsAnswered, Stage, StopsAt, shapes, shapes_of, to_each, to_those}
 use Rattle.slot_calls.specs.Stage.{Round as RoundOf}
-use Rattle.slot_calls.proofs.Leading.{Led}
-use Rattle.slot_calls.proofs.Parts.{stage_all, stage_those}
+use Rattle.slot_calls.proofs.CallerLemmas.{Led, stage_all, stage_those}
 use Rattle.calling_sequence.specs.declared.experiment.Experiment.{Experiment}
 use Rattle.calling_sequence.specs.Course.{Found, LeadsTo, Place, Read, Rearmed, Rearming, Seen, Spot, Timed, Times, Updates, part_at, shown}
 use Rattle.calling_sequence.specs.Ends.{RunsSlots, point_of}

@@ -22,7 +22,7 @@ use Rattle.slot_calls.specs.declared.bad_answer.BadAnswer.{BadAnswer}
 use Rattle.slot_calls.specs.Carried.{IsWide}
 use Rattle.slot_calls.specs.Log.{Sent, Told}
 use Rattle.slot_calls.specs.Stage.{IsAnswered, Stage, has_events, nothing, shapes, shapes_of, to_those}
-use Rattle.slot_calls.proofs.Parts.{stage_those}
+use Rattle.slot_calls.proofs.CallerLemmas.{stage_those}
 use Rattle.event_iteration.specs.declared.updates.Updated.{Updated}
 use Rattle.event_iteration.specs.Explains.{Explains, Walks}
 use Rattle.event_iteration.specs.Initialization.{initially, no_values}

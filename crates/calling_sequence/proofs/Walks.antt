@@ -24,7 +24,7 @@ use Rattle.run_model.specs.Inputs.{is_active, is_present}
 use Rattle.run_model.specs.Run.{value}
 use Rattle.slot_calls.specs.Log.{Asking, Sent}
 use Rattle.slot_calls.specs.Stage.{IsAnswered, shapes_of}
-use Rattle.slot_calls.proofs.Parts.{sent_all}
+use Rattle.slot_calls.proofs.CallerLemmas.{sent_all}
 use Rattle.event_iteration.specs.Explains.{Explains, all_said, call_at, said}
 use Rattle.event_iteration.specs.Initialization.{asks_initially, initially, is_set_from_feed}
 use Rattle.event_iteration.specs.Instants.{asks_in_instant, in_instant, is_read_in_instant}

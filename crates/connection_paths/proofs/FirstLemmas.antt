@@ -7,7 +7,7 @@ use Rattle.std.proofs.lemmas.List.{take_more, take_all, length_push, get_or_push
 use Rattle.std.proofs.lemmas.List.Elements.{Contains-push, Contains-push_cases, Contains-append_left, Contains-get_or}
 use Rattle.std.proofs.lemmas.Option.{slice_get_within, same_Some}
 use Rattle.dependency_order.specs.Graph.{Needs}
-use Rattle.dependency_order.proofs.ListLemmas.{in_pushed, in_pushed_back}
+use Rattle.dependency_order.proofs.CallerLemmas.{in_pushed, in_pushed_back}
 use Rattle.connection_paths.specs.declared.point.Point.{Point}
 use Rattle.connection_paths.specs.declared.point.Point.TheVariants.{Variable, OfSystem}
 use Rattle.connection_paths.specs.declared.point.Connection.{Connection}

@@ -28,14 +28,14 @@ use Rattle.system_model.specs.declared.system.System.{System}
 use Rattle.system_model.specs.declared.system.Timing.TheVariants.{Answered, Countdown}
 use Rattle.system_model.specs.Ports.{is_clock_role, numbers}
 use Rattle.system_model.specs.Sound.{IsSound}
-use Rattle.system_model.proofs.SoundLemmas.{Placed, events_of, place_of}
+use Rattle.system_model.proofs.CallerLemmas.{Placed, events_of, place_of}
 use Rattle.run_model.specs.Equations.{timer_of}
 use Rattle.run_model.specs.Inputs.{is_active}
 use Rattle.run_model.specs.Run.{Every, Never, Once, Timer, value}
 use Rattle.run_model.specs.Timers.{IsDue, answered, armed_after, fixed, periodic_of}
 use Rattle.slot_calls.specs.Carried.{reply_in}
 use Rattle.slot_calls.specs.Log.{Sent, part}
-use Rattle.slot_calls.proofs.Logs.{part_append, part_own}
+use Rattle.slot_calls.proofs.CallerLemmas.{part_append, part_own}
 use Rattle.event_iteration.specs.Clocks.{AreTicks}
 use Rattle.event_iteration.specs.Explains.{Explains, all_said, call_at, said}
 use Rattle.event_iteration.specs.Instants.{in_instant, takes_in_instant, tick_value}

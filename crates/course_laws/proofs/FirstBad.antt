@@ -22,12 +22,12 @@ use Rattle.system_model.specs.declared.system.Timing.TheVariants.{Answered}
 use Rattle.system_model.specs.Bounds.{AreParameterValues, BindsParameters}
 use Rattle.system_model.specs.Sound.{IsSound}
 use Rattle.system_model.specs.Text.{Instant}
-use Rattle.system_model.proofs.SoundLemmas.{place_of}
+use Rattle.system_model.proofs.CallerLemmas.{place_of}
 use Rattle.run_model.specs.Initial.{set_call}
 use Rattle.slot_calls.specs.declared.bad_answer.BadAnswer.{BadAnswer}
 use Rattle.slot_calls.specs.Log.{Sent}
 use Rattle.slot_calls.specs.Stage.{IsGoodOf, everyone, shapes_of, to_those}
-use Rattle.slot_calls.proofs.Parts.{those_within}
+use Rattle.slot_calls.proofs.CallerLemmas.{those_within}
 use Rattle.event_iteration.specs.Intervals.{timing_calls_in, timing_calls_of}
 use Rattle.event_iteration.proofs.WalkLaws.{last_alone_is_bad}
 use Rattle.calling_sequence.specs.Calls.{binding_from, making, sets_of}

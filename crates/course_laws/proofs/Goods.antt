@@ -11,8 +11,7 @@ use Rattle.fmu_peer.specs.Talk as T
 use Rattle.slot_calls.specs.declared.bad_answer.BadAnswer.{BadAnswer}
 use Rattle.slot_calls.specs.Log.{Asking, Sent, askings, part}
 use Rattle.slot_calls.specs.Stage.{FailsIn, IsFirst, IsGoodOf, StopsAt, everyone, to_those_from}
-use Rattle.slot_calls.proofs.Logs.{part_append}
-use Rattle.slot_calls.proofs.Parts.{other, same, skips, takes}
+use Rattle.slot_calls.proofs.CallerLemmas.{part_append, other, same, skips, takes}
 use Rattle.event_iteration.specs.WalkCalls.{LastIsBad}
 use Rattle.calling_sequence.specs.Parts.{EndsBadly}
 use Rattle.course_laws.specs.Laws.{IsFirstBadOf}

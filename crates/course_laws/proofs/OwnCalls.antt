@@ -11,8 +11,7 @@ use Rattle.system_model.specs.declared.system.System.{System}
 use Rattle.run_model.specs.Initial.{set_call}
 use Rattle.slot_calls.specs.Log.{Asking, Sent, askings, part}
 use Rattle.slot_calls.specs.Stage.{has_events, shapes_of, to_those, to_those_from}
-use Rattle.slot_calls.proofs.Logs.{askings_append}
-use Rattle.slot_calls.proofs.Parts.{other, same}
+use Rattle.slot_calls.proofs.CallerLemmas.{askings_append, other, same}
 use Rattle.event_iteration.specs.WalkCalls.{has_events_at, own}
 use Rattle.event_iteration.proofs.WalkLaws.{own_append}
 use Rattle.calling_sequence.specs.Calls.{binding_from, sets_of}

@@ -14,11 +14,11 @@ use Rattle.system_model.specs.declared.system.System.{System}
 use Rattle.system_model.specs.Bounds.{BindsParameters}
 use Rattle.system_model.specs.Sound.{IsSound}
 use Rattle.system_model.specs.Text.{Instant}
-use Rattle.system_model.proofs.Lists.{all_at}
+use Rattle.system_model.proofs.CallerLemmas.{all_at}
 use Rattle.slot_calls.specs.declared.bad_answer.BadAnswer.{BadAnswer}
 use Rattle.slot_calls.specs.Log.{Asking, Sent, askings}
 use Rattle.slot_calls.specs.Stage.{everyone, shapes_of, to_those}
-use Rattle.slot_calls.proofs.Parts.{those_calls}
+use Rattle.slot_calls.proofs.CallerLemmas.{those_calls}
 use Rattle.event_iteration.specs.Clocks.{AreTicks}
 use Rattle.event_iteration.specs.Intervals.{is_some_armed}
 use Rattle.event_iteration.specs.WalkCalls.{AreNew, Front, IsUse, Span, UsesAre, WalkUses, WalksBy, Whole, has_events_at, initial_span, instant_span, interval_span, own, step_span, use_in}

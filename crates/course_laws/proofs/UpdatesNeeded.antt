@@ -19,8 +19,7 @@ use Rattle.run_model.specs.AfterInstant as F
 use Rattle.slot_calls.specs.declared.bad_answer.BadAnswer.{BadAnswer}
 use Rattle.slot_calls.specs.Log.{Sent, askings, part}
 use Rattle.slot_calls.specs.Stage.{StopsAt, has_events, shapes_of, to_those}
-use Rattle.slot_calls.proofs.Logs.{part_append}
-use Rattle.slot_calls.proofs.Parts.{same, takes}
+use Rattle.slot_calls.proofs.CallerLemmas.{part_append, same, takes}
 use Rattle.event_iteration.specs.Updates.{answer_passes, updated_by, updating}
 use Rattle.event_iteration.specs.WalkCalls.{has_events_at, own}
 use Rattle.event_iteration.proofs.WalkLaws.{own_append}

@@ -1,11 +1,12 @@
-pub mod ListLemmas
-pub mod FilterLemmas
-pub mod OrderLemmas
-pub mod LoopLemmas
-pub mod SortLemmas
-pub mod FindLemmas
-pub mod ExamineLemmas
-pub mod ReleaseLemmas
-pub mod SpreadLemmas
-pub mod SourceLemmas
-pub mod GroupLemmas
+pub mod CallerLemmas
+mod ListLemmas
+mod FilterLemmas
+mod OrderLemmas
+mod LoopLemmas
+mod SortLemmas
+mod FindLemmas
+mod ExamineLemmas
+mod ReleaseLemmas
+mod SpreadLemmas
+mod SourceLemmas
+mod GroupLemmas

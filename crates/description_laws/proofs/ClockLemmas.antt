@@ -23,10 +23,9 @@ use Rattle.fmu_description.specs.Elements.{is_variable, reference_of, causality_
 use Rattle.fmu_description.specs.Clocks.{IsTimed, IsInterval, ByCounters, ByDecimal, counter_of, is_by_counters, variability_of}
 use Rattle.fmu_description.specs.Rules.{IsSound, HasInterval, IsWhole, NeedsInterval}
 use Rattle.fmu_description.specs.Description.{Describes, IsShiftTold, IsTimedAt, IsTiming, IsTimingOf, IsTold, IsVariable}
-use Rattle.fmu_description.proofs.SoundLemmas.{one_variable, timed_at, key_of}
-use Rattle.fmu_description.proofs.StepLemmas.{source}
+use Rattle.fmu_description.proofs.CallerLemmas.{one_variable, timed_at, key_of, source}
 use Rattle.system_model.specs.Shapes.{IsSoundClock, MayTick, is_described}
-use Rattle.system_model.proofs.Lists.{all_by_place, true_false}
+use Rattle.system_model.proofs.CallerLemmas.{all_by_place, true_false}
 use Rattle.description_laws.proofs.Keys.{both, keyed}
 use Rattle.description_laws.proofs.Zips.{zipped}
 

@@ -2,7 +2,7 @@
 use Rattle.std.proofs.Common.{◌≡◌, Bool, true, false, ◌&&◌, Option, Some, refl, sym}
 use Rattle.std.proofs.lemmas.Option.{none-some as none_some}
 use Rattle.doc_tables.specs.Elements.{key_if}
-use Rattle.system_model.proofs.Lists.{true_false}
+use Rattle.system_model.proofs.CallerLemmas.{true_false}
 
 pub both : (a b : Bool) → (a && b) ≡ true → (a ≡ true) × (b ≡ true)
 both true b e = (refl, e)

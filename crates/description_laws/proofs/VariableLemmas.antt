@@ -23,10 +23,9 @@ use Rattle.fmu_description.specs.Elements.{is_variable, is_clock as is_clock_ele
 use Rattle.fmu_description.specs.Clocks.{IsForeign, ByClock, clocks_of}
 use Rattle.fmu_description.specs.Rules.{IsSound}
 use Rattle.fmu_description.specs.Description.{Describes, IsKind, IsStart, IsVariable}
-use Rattle.fmu_description.proofs.DistinctLemmas.{references_distinct}
-use Rattle.fmu_description.proofs.TableLemmas.{is_variable_within}
+use Rattle.fmu_description.proofs.CallerLemmas.{references_distinct, is_variable_within}
 use Rattle.system_model.specs.Shapes.{HasSoundVariables, HasNames, HasFittingStart, NamesClocks}
-use Rattle.system_model.proofs.Lists.{Partner, all_by_place, at_contains, filtered_partner, found_under, true_false}
+use Rattle.system_model.proofs.CallerLemmas.{Partner, all_by_place, at_contains, filtered_partner, found_under, true_false}
 use Rattle.description_laws.proofs.Keys.{both, keyed}
 use Rattle.description_laws.proofs.Zips.{beside_passing}
 

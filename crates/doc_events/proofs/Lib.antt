@@ -1,4 +1,5 @@
-pub mod Names
-pub mod Steps
-pub mod CommonPrefix
-pub mod Told
+pub mod CallerLemmas
+mod Names
+mod Steps
+mod CommonPrefix
+mod Told

@@ -12,9 +12,7 @@ use Rattle.doc_grammar.specs.Faults.{IsDocument, IsBroken, IsFault, judged}
 use Rattle.doc_grammar.specs.declared.reasons.Why.{Why}
 use Rattle.doc_grammar.specs.declared.reasons.Rule.{Rule}
 use Rattle.doc_grammar.specs.declared.reasons.Rule.TheVariants.{NotUtf8, Malformed, Doctype, TooDeep, AttributeTwice}
-use Rattle.doc_grammar.proofs.Prefix.{lead_lead}
-use Rattle.doc_grammar.proofs.Lift.{strip}
-use Rattle.doc_grammar.proofs.Judging.{judged_fault, end_fault, end_document}
+use Rattle.doc_grammar.proofs.CallerLemmas.{lead_lead, strip, judged_fault, end_fault, end_document}
 use Rattle.doc_events.specs.declared.state.State.{State}
 use Rattle.doc_events.specs.declared.state.Reader.{Reader}
 use Rattle.doc_events.specs.declared.state.Token.{Token}

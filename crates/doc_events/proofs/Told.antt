@@ -4,7 +4,7 @@ use Rattle.doc_grammar.specs.Grammar.{strict, Event}
 use Rattle.doc_grammar.specs.Faults.{IsDocument, IsFault, IsBroken, judged}
 use Rattle.doc_grammar.specs.declared.reasons.Rule.{Rule}
 use Rattle.doc_grammar.specs.declared.reasons.Rule.TheVariants.{NotUtf8, Malformed, Doctype, TooDeep, AttributeTwice}
-use Rattle.doc_grammar.proofs.Encoded.{document_utf8}
+use Rattle.doc_grammar.proofs.CallerLemmas.{document_utf8}
 use Rattle.doc_events.specs.Answers.{refused, PlaceFits, Faults}
 use Rattle.doc_events.specs.View.{Stops}
 use Rattle.doc_events.proofs.Steps.{broken_within, broken_fault}

@@ -1,20 +1,21 @@
-pub mod Classes
-pub mod Rest
-pub mod Backward
-pub mod Forward
-pub mod Finish
-pub mod Sanity
-pub mod Prefix
-pub mod Bytes
-pub mod Lift
-pub mod OneFault
-pub mod Keeps
-pub mod Tells
-pub mod Alike
-pub mod Limits
-pub mod Cuts
-pub mod Judging
-pub mod Encoded
-pub mod Built
-pub mod Sizes
-pub mod Bounded
+pub mod CallerLemmas
+mod Classes
+mod Rest
+mod Backward
+mod Forward
+mod Finish
+mod Sanity
+mod Prefix
+mod Bytes
+mod Lift
+mod OneFault
+mod Keeps
+mod Tells
+mod Alike
+mod Limits
+mod Cuts
+mod Judging
+mod Encoded
+mod Built
+mod Sizes
+mod Bounded

@@ -1,4 +1,5 @@
-pub mod TableLemmas
-pub mod ScopeLemmas
-pub mod ViolationLemmas
-pub mod AnswerLemmas
+pub mod CallerLemmas
+mod TableLemmas
+mod ScopeLemmas
+mod ViolationLemmas
+mod AnswerLemmas

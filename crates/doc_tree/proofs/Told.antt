@@ -5,9 +5,8 @@ use Rattle.doc_grammar.specs.Grammar.{Event}
 use Rattle.doc_grammar.specs.Faults.{IsFault}
 use Rattle.doc_grammar.specs.Nodes.{Node, Denotes, nodes_of, nodes_behind}
 use Rattle.doc_grammar.specs.declared.reasons.Rule.{Rule}
-use Rattle.doc_grammar.proofs.Judging.{one_tree}
-use Rattle.doc_grammar.proofs.OneFault.{one_fault}
-use Rattle.doc_events.proofs.Told.{no_document}
+use Rattle.doc_grammar.proofs.CallerLemmas.{one_tree, one_fault}
+use Rattle.doc_events.proofs.CallerLemmas.{no_document}
 use Rattle.doc_events.specs.declared.error.DocError.{DocError}
 use Rattle.doc_events.specs.declared.error.DocError.TheVariants.{At, Memory}
 use Rattle.doc_events.specs.Answers.{Faults}

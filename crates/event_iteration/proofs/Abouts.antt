@@ -12,8 +12,7 @@ use Rattle.system_model.specs.Needs.{NeedsInitially, InitiallyByFeed, is_unclock
 use Rattle.system_model.specs.Ports.{source_of}
 use Rattle.run_model.specs.Run.{value}
 use Rattle.run_model.specs.Equations.{fed}
-use Rattle.run_model.proofs.Alike.{both}
-use Rattle.run_model.proofs.Initially.{unclocked_at-is}
+use Rattle.run_model.proofs.CallerLemmas.{both, unclocked_at-is}
 use Rattle.event_iteration.specs.Initialization.{asks_initially, initially, is_set_from_feed, takes_initially}
 use Rattle.event_iteration.proofs.Walking.{AreAbout}
 

@@ -20,10 +20,10 @@ use Rattle.fmu_peer.specs.declared.peer.Exchange.{Exchange}
 use Rattle.fmu_peer.specs.declared.peer.PeerFault.{PeerFault}
 use Rattle.fmu_peer.specs.Talk.{IsGood}
 use Rattle.fmu_peer.specs.View.{Fixed, View}
-use Rattle.system_model.proofs.Lists.{contains_at, true_false}
+use Rattle.system_model.proofs.CallerLemmas.{contains_at, true_false}
 use Rattle.slot_calls.specs.Log.{Talks}
 use Rattle.slot_calls.specs.Slots.{reads_or_sets}
-use Rattle.slot_calls.proofs.Leading.{led}
+use Rattle.slot_calls.proofs.CallerLemmas.{led}
 use Rattle.event_iteration.proofs.Permits.{IsQuietOf}
 use Rattle.event_iteration.proofs.Rooms.{length-marked}
 

@@ -39,8 +39,7 @@ use Rattle.system_model.specs.declared.system.Timing.{Timing}
 use Rattle.system_model.specs.declared.system.Timing.TheVariants.{Periodic, Answered, Countdown}
 use Rattle.system_model.specs.Ports.{is_clock_role}
 use Rattle.system_model.specs.Sound.{IsRole, IsSound, IsTiming}
-use Rattle.system_model.proofs.Lists.{true_false}
-use Rattle.system_model.proofs.SoundLemmas.{Placed, events_of, place_of}
+use Rattle.system_model.proofs.CallerLemmas.{true_false, Placed, events_of, place_of}
 use Rattle.run_model.specs.Initial.{interval_in, shift_in}
 use Rattle.run_model.specs.Run.{Every}
 use Rattle.run_model.specs.Timers.{fixed, periodic_of}

@@ -13,16 +13,13 @@ use Rattle.fmi_calls.specs.declared.phase.Phase.{Phase}
 use Rattle.fmi_calls.specs.Next.{counted, entered}
 use Rattle.fmi_calls.specs.Permission.{Permitted}
 use Rattle.fmu_peer.specs.CloseAll.{Instance}
-use Rattle.system_model.proofs.Lists.{true_false}
+use Rattle.system_model.proofs.CallerLemmas.{true_false}
 use Rattle.slot_calls.specs.declared.bad_answer.BadAnswer.{BadAnswer}
 use Rattle.slot_calls.specs.Carried.{reply_in}
 use Rattle.slot_calls.specs.Log.{One}
 use Rattle.slot_calls.specs.Slots.{keeps_mode}
 use Rattle.slot_calls.specs.Stage.{Stage, shapes}
-use Rattle.slot_calls.proofs.Answered.{answered_none, map_at, one_log, shape_of}
-use Rattle.slot_calls.proofs.Leading.{Led, led}
-use Rattle.slot_calls.proofs.Logs.{told_none}
-use Rattle.slot_calls.proofs.Turns.{turn_answered, turn_stops, turn_told}
+use Rattle.slot_calls.proofs.CallerLemmas.{answered_none, map_at, one_log, shape_of, Led, led, told_none, turn_answered, turn_stops, turn_told}
 use Rattle.event_iteration.specs.Questions.{MayTell, first_reply, may_tell, modes}
 use Rattle.event_iteration.proofs.Taking.{instance_at}
 

@@ -15,7 +15,7 @@ use Rattle.run_model.specs.Inputs.{state_with, state_written, written_at_port}
 use Rattle.run_model.specs.Walk.{only_at}
 use Rattle.run_model.specs.Machines.{AreMachines, IsSituation}
 use Rattle.run_model.specs.Run.{IsFmu, Run, Situation, value}
-use Rattle.run_model.proofs.InitiallySolvable.{solvable_initially}
+use Rattle.run_model.proofs.CallerLemmas.{solvable_initially}
 use Rattle.slot_calls.specs.Log.{Sent, part}
 use Rattle.slot_calls.specs.Replies.{AreReplies, state_by}
 use Rattle.event_iteration.specs.ByLog.{FixedByLog, InitialByLog, InstantByLog, IntervalsByLog, SetsByLog, UpdatesByLog}

@@ -7,7 +7,7 @@ use Rattle.std.proofs.lemmas.Option.{same_Some, slice_get_within}
 use Rattle.system_model.specs.declared.system.System.{System}
 use Rattle.system_model.specs.Ports.{numbers}
 use Rattle.system_model.specs.Sound.{IsSound}
-use Rattle.system_model.proofs.Lists.{all_at, at_contains, true_false}
+use Rattle.system_model.proofs.CallerLemmas.{all_at, at_contains, true_false}
 use Rattle.tick_schedule.specs.declared.clock.ClockState.{ClockState}
 use Rattle.tick_schedule.specs.declared.clock.ClockState.TheVariants as S
 use Rattle.tick_schedule.specs.Timetable.{IsToTick, TicksAt, Timetable}

@@ -9,8 +9,7 @@ use Rattle.system_model.specs.declared.system.System.{System}
 use Rattle.system_model.specs.Needs.{is_unclocked}
 use Rattle.system_model.specs.Ports.{is_clock_role, numbers}
 use Rattle.system_model.specs.Sound.{IsSound}
-use Rattle.system_model.proofs.Lists.{at_contains, true_false}
-use Rattle.system_model.proofs.SoundLemmas.{clock_at, events_of, place_of}
+use Rattle.system_model.proofs.CallerLemmas.{at_contains, true_false, clock_at, events_of, place_of}
 use Rattle.run_model.specs.Inputs.{is_present}
 
 -- a port without Clocks is none, and has none

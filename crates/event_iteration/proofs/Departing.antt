@@ -14,18 +14,15 @@ use Rattle.system_model.specs.declared.system.Port.{Port}
 use Rattle.system_model.specs.declared.system.System.{System}
 use Rattle.system_model.specs.Ports.{is_clock_role}
 use Rattle.system_model.specs.Sound.{IsSound}
-use Rattle.system_model.proofs.Lists.{true_false}
+use Rattle.system_model.proofs.CallerLemmas.{true_false}
 use Rattle.run_model.specs.Run.{Run, Situation, each, value}
 use Rattle.run_model.specs.Inputs.{state_with, state_written, written_at_port, written_by}
 use Rattle.run_model.specs.Stepping.{departing}
 use Rattle.run_model.specs.Walk.{is_taken, only_at, write_if}
-use Rattle.run_model.proofs.Alike.{written_at-is}
-use Rattle.run_model.proofs.Midst.{keeps_beside, nothing_at_first, taken-is, writes_at_port}
-use Rattle.run_model.proofs.States.{fmu_before}
+use Rattle.run_model.proofs.CallerLemmas.{written_at-is, keeps_beside, nothing_at_first, taken-is, writes_at_port, fmu_before}
 use Rattle.slot_calls.specs.Log.{Sent, Told, part}
 use Rattle.slot_calls.specs.Replies.{state_by, states_by}
-use Rattle.slot_calls.proofs.Logs.{part_append}
-use Rattle.slot_calls.proofs.Replying.{state_by_append}
+use Rattle.slot_calls.proofs.CallerLemmas.{part_append, state_by_append}
 use Rattle.event_iteration.specs.Machines.{AreAt}
 use Rattle.event_iteration.specs.Settings.{DepartsForMachines, before_step, entered_step, port_order, sets_to}
 use Rattle.event_iteration.specs.Turns.{Turn, Walked}

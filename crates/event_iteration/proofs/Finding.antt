@@ -18,7 +18,7 @@ use Rattle.system_model.specs.declared.system.System.{System}
 use Rattle.system_model.specs.Needs.{InitiallyByFeed, NeedsInitially, is_unclocked, is_unclocked_at}
 use Rattle.system_model.specs.Ports.{is_output_role, numbers, source_of}
 use Rattle.system_model.specs.Sound.{IsSound}
-use Rattle.system_model.proofs.Lists.{true_false}
+use Rattle.system_model.proofs.CallerLemmas.{true_false}
 use Rattle.run_model.specs.Run.{IsFmu, Run, at_fmu, value}
 use Rattle.run_model.specs.Inputs.{state_with, state_written, written_at_port, written_by}
 use Rattle.run_model.specs.Equations.{fed, shown, value_in}
@@ -26,17 +26,11 @@ use Rattle.run_model.specs.Initial as I
 use Rattle.run_model.specs.Initial.{SolvesInitially, initial_value, initialized, initializing, is_read}
 use Rattle.run_model.specs.Machines.{AreMachines}
 use Rattle.run_model.specs.Walk.{only_at, write_if}
-use Rattle.run_model.proofs.Alike.{both, written_at-is}
-use Rattle.run_model.proofs.Initially.{none_outside, unclocked_at-is, written_none}
-use Rattle.run_model.proofs.InitiallySolvable.{solvable_initially}
-use Rattle.run_model.proofs.Midst.{all_at_last_initially, keeps_beside, looks_initially, nothing_at_first, writes_at_port}
-use Rattle.run_model.proofs.States.{fmu_before}
-use Rattle.run_model.proofs.Unique.{none_in, push_cases}
+use Rattle.run_model.proofs.CallerLemmas.{both, written_at-is, none_outside, unclocked_at-is, written_none, solvable_initially, all_at_last_initially, keeps_beside, looks_initially, nothing_at_first, writes_at_port, fmu_before, none_in, push_cases}
 use Rattle.slot_calls.specs.Log.{Sent, Told, part}
 use Rattle.slot_calls.specs.Replies.{AreReplies, RepliesBy, state_by}
 use Rattle.slot_calls.specs.Stage.{IsGoodOf, shapes_of}
-use Rattle.slot_calls.proofs.Logs.{part_append}
-use Rattle.slot_calls.proofs.Replying.{replies_back, replies_front, state_by_append}
+use Rattle.slot_calls.proofs.CallerLemmas.{part_append, replies_back, replies_front, state_by_append}
 use Rattle.event_iteration.specs.Initialization.{asks_initially, initially, is_set_from_feed, no_values, seen, takes_initially}
 use Rattle.event_iteration.specs.Machines.{AreAt, SolvesForMachines}
 use Rattle.event_iteration.specs.Turns.{IsPaired, Turn, Walked}

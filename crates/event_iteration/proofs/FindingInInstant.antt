@@ -20,7 +20,7 @@ use Rattle.system_model.specs.declared.system.System.{System}
 use Rattle.system_model.specs.Needs.{ByFeed, Needs}
 use Rattle.system_model.specs.Ports.{is_clock_role, is_output_role, numbers, source_of}
 use Rattle.system_model.specs.Sound.{IsSound}
-use Rattle.system_model.proofs.Lists.{true_false}
+use Rattle.system_model.proofs.CallerLemmas.{true_false}
 use Rattle.run_model.specs.Run.{IsFmu, Run, Situation, at_fmu, value}
 use Rattle.run_model.specs.AfterInstant.{written}
 use Rattle.run_model.specs.Equations.{IsTickValue, Solves, SolvesAt, fed, output_value, shown, ticking, timer_of, value_in}
@@ -28,17 +28,11 @@ use Rattle.run_model.specs.Inputs.{is_active, is_present, state_with, state_writ
 use Rattle.run_model.specs.Machines.{AreMachines, IsSituation}
 use Rattle.run_model.specs.Walk.{only_at, write_if}
 use Rattle.run_model.specs.Timers.{IsDue}
-use Rattle.run_model.proofs.Alike.{present_alike, written_at-is}
-use Rattle.run_model.proofs.Decided.{decided}
-use Rattle.run_model.proofs.Midst.{all_at_last, keeps_beside, looks_in_midst, nothing_at_first, writes_at_port}
-use Rattle.run_model.proofs.Solvable.{solvable}
-use Rattle.run_model.proofs.States.{fmu_before}
-use Rattle.run_model.proofs.Unique.{none_in, push_cases}
+use Rattle.run_model.proofs.CallerLemmas.{present_alike, written_at-is, decided, all_at_last, keeps_beside, looks_in_midst, nothing_at_first, writes_at_port, solvable, fmu_before, none_in, push_cases}
 use Rattle.slot_calls.specs.Log.{Sent, Told, part}
 use Rattle.slot_calls.specs.Replies.{AreReplies, RepliesBy, state_by, states_by}
 use Rattle.slot_calls.specs.Stage.{IsGoodOf, shapes_of}
-use Rattle.slot_calls.proofs.Logs.{part_append}
-use Rattle.slot_calls.proofs.Replying.{replies_back, replies_front, state_by_append}
+use Rattle.slot_calls.proofs.CallerLemmas.{part_append, replies_back, replies_front, state_by_append}
 use Rattle.tick_schedule.specs.Timetable.{Timetable}
 use Rattle.event_iteration.specs.Clocks.{AreTicks, StandsAt, is_due_at, timers_in}
 use Rattle.event_iteration.specs.Explains.{Explains}

@@ -18,7 +18,7 @@ use Rattle.system_model.specs.declared.system.Role.TheVariants.{Input, Output, C
 use Rattle.system_model.specs.declared.system.Timing.TheVariants.{Periodic, Answered, Countdown}
 use Rattle.system_model.specs.declared.system.Port.{Port}
 use Rattle.system_model.specs.declared.system.System.{System}
-use Rattle.system_model.proofs.Lists.{all_by_place, true_false}
+use Rattle.system_model.proofs.CallerLemmas.{all_by_place, true_false}
 use Rattle.tick_schedule.specs.declared.clock.ClockState.{ClockState}
 use Rattle.tick_schedule.specs.declared.clock.ClockState.TheVariants as S
 use Rattle.tick_schedule.specs.Timetable.{Timetable}
@@ -32,10 +32,7 @@ use Rattle.slot_calls.specs.declared.bad_answer.BadAnswer.{BadAnswer}
 use Rattle.slot_calls.specs.Log.{Asking, Sent, Told, asking_of, askings, part}
 use Rattle.slot_calls.specs.Replies.{RepliesBy}
 use Rattle.slot_calls.specs.Stage.{IsAnswered, IsGoodOf, Stage, StopsAt, shapes, shapes_of}
-use Rattle.slot_calls.proofs.Answered.{answered_none, answered_on, shapes_same, stops_front, stops_on}
-use Rattle.slot_calls.proofs.Logs.{told_none, told_on}
-use Rattle.slot_calls.proofs.Parts.{same, sent_all, takes}
-use Rattle.slot_calls.proofs.Replying.{replied_good}
+use Rattle.slot_calls.proofs.CallerLemmas.{answered_none, answered_on, shapes_same, stops_front, stops_on, told_none, told_on, same, sent_all, takes, replied_good}
 use Rattle.event_iteration.specs.Clocks.{IsNextFrom, StandsAt, first_place, first_table, timer_in, timers_in}
 use Rattle.event_iteration.specs.Intervals.{Fixes, FixesForMachines, first_told_by, first_told_in, log_behind, timing_calls, timing_calls_in, timing_calls_of, told_timer}
 use Rattle.event_iteration.specs.Machines.{AreAt}

@@ -19,8 +19,7 @@ use Rattle.run_model.specs.Run.{IsFmu, Run, at_fmu, each, each_from}
 use Rattle.slot_calls.specs.Log.{Sent, Talks, Told, part}
 use Rattle.slot_calls.specs.Replies.{AreReplies, state_by}
 use Rattle.slot_calls.specs.Stage.{IsGoodOf, shapes_of}
-use Rattle.slot_calls.proofs.Logs.{part_other, part_own, talks_fixed}
-use Rattle.slot_calls.proofs.Replying.{replies_of}
+use Rattle.slot_calls.proofs.CallerLemmas.{part_other, part_own, talks_fixed, replies_of}
 use Rattle.event_iteration.specs.Machines.{AreAt}
 use Rattle.event_iteration.specs.Turns.{IsPaired, sent_of}
 use Rattle.event_iteration.proofs.Parts.{good_in_part}

@@ -38,20 +38,16 @@ use Rattle.system_model.specs.declared.system.System.{System}
 use Rattle.system_model.specs.Needs.{ByClock, ByFeed, Needs}
 use Rattle.system_model.specs.Ports.{is_clock_role, is_output_role, numbers, source_of}
 use Rattle.system_model.specs.Sound.{IsSound}
-use Rattle.system_model.proofs.Lists.{all_by_place, at_contains, true_false}
-use Rattle.system_model.proofs.SoundLemmas.{clock_at, clock_type_of, events_of, is_input_of, is_output_of, kind_of_clock, place_of}
+use Rattle.system_model.proofs.CallerLemmas.{all_by_place, at_contains, true_false, clock_at, clock_type_of, events_of, is_input_of, is_output_of, kind_of_clock, place_of}
 use Rattle.run_model.specs.Run.{value}
 use Rattle.run_model.specs.Equations.{fed, value_in}
 use Rattle.run_model.specs.Inputs.{is_active, is_present}
 use Rattle.run_model.specs.Machines.{AreFitting}
-use Rattle.run_model.proofs.Alike.{present_alike}
-use Rattle.run_model.proofs.AlongRun.{reply_fits}
-use Rattle.run_model.proofs.Unique.{none_in, push_cases}
+use Rattle.run_model.proofs.CallerLemmas.{present_alike, reply_fits, none_in, push_cases}
 use Rattle.slot_calls.specs.declared.bad_answer.BadAnswer.{BadAnswer}
 use Rattle.slot_calls.specs.Log.{Sent, Told, part}
 use Rattle.slot_calls.specs.Stage.{shapes, shapes_of}
-use Rattle.slot_calls.proofs.Answered.{shapes_same}
-use Rattle.slot_calls.proofs.Logs.{part_append}
+use Rattle.slot_calls.proofs.CallerLemmas.{shapes_same, part_append}
 use Rattle.event_iteration.specs.Instants.{BeginsInstant, HasPlacedClocks, asks_in_instant, in_instant, seen_or, takes_in_instant}
 use Rattle.event_iteration.specs.Turns.{IsPaired, MayAsk, MayTurn, TakesTurn, Turn, Walked}
 use Rattle.event_iteration.proofs.Activity.{active_by, active_by-append, active_keeps, any_from, any_some, length-active, marked_here, talks_active}

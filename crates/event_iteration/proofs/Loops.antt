@@ -8,7 +8,7 @@ use Rattle.system_model.specs.declared.system.System.{System}
 use Rattle.system_model.specs.Orders.{IsOrder}
 use Rattle.slot_calls.specs.declared.bad_answer.BadAnswer.{BadAnswer}
 use Rattle.slot_calls.specs.Log.{Sent, Told}
-use Rattle.slot_calls.proofs.Logs.{told_on}
+use Rattle.slot_calls.proofs.CallerLemmas.{told_on}
 use Rattle.event_iteration.specs.Explains.{ExplainsUntil, Walks}
 use Rattle.event_iteration.specs.Turns.{Rules, TakesTurn, Walked, Went}
 use Rattle.event_iteration.proofs.Walking.{AreAbout, explained}

@@ -23,9 +23,9 @@ use Rattle.fmi_calls.specs.Permission.{is_marked, none_marked}
 use Rattle.fmu_peer.specs.declared.peer.Exchange.{Exchange}
 use Rattle.fmu_peer.specs.Talk as T
 use Rattle.fmu_peer.specs.View.{Fixed, View}
-use Rattle.system_model.proofs.Lists.{true_false}
+use Rattle.system_model.proofs.CallerLemmas.{true_false}
 use Rattle.slot_calls.specs.Log.{Talks}
-use Rattle.slot_calls.proofs.Leading.{led}
+use Rattle.slot_calls.proofs.CallerLemmas.{led}
 
 -- ---- places
 

@@ -35,19 +35,16 @@ use Rattle.system_model.specs.declared.system.System.{System}
 use Rattle.system_model.specs.Needs.{is_unclocked, is_unclocked_at}
 use Rattle.system_model.specs.Ports.{is_clock_role, is_output_role, source_of}
 use Rattle.system_model.specs.Sound.{IsSound}
-use Rattle.system_model.proofs.SoundLemmas.{Placed, clock_type_of, is_input_of, is_output_of, place_of, source_at}
+use Rattle.system_model.proofs.CallerLemmas.{Placed, clock_type_of, is_input_of, is_output_of, place_of, source_at}
 use Rattle.run_model.specs.Run.{value}
 use Rattle.run_model.specs.Equations.{fed}
 use Rattle.run_model.specs.Initial.{is_read}
 use Rattle.run_model.specs.Machines.{AreFitting}
-use Rattle.run_model.proofs.Alike.{both}
-use Rattle.run_model.proofs.AlongRun.{reply_fits}
-use Rattle.run_model.proofs.Initially.{read_unclocked, unclocked_at-is}
+use Rattle.run_model.proofs.CallerLemmas.{both, reply_fits, read_unclocked, unclocked_at-is}
 use Rattle.slot_calls.specs.Log.{Sent, Talks, Told, part}
 use Rattle.slot_calls.specs.Slots.{reads_or_sets}
 use Rattle.slot_calls.specs.Stage.{IsGoodOf, shapes, shapes_of}
-use Rattle.slot_calls.proofs.Answered.{map_at, shape_of}
-use Rattle.slot_calls.proofs.Leading.{led}
+use Rattle.slot_calls.proofs.CallerLemmas.{map_at, shape_of, led}
 use Rattle.event_iteration.specs.Initialization.{IsInitializing, asks_initially, initially, is_set_from_feed, seen, takes_initially}
 use Rattle.event_iteration.specs.Turns.{IsPaired, MayAsk, Walked, Begun, Went, sent_of}
 use Rattle.event_iteration.proofs.Clockless.{unclocked_parts}

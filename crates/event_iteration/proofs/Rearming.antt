@@ -31,8 +31,7 @@ use Rattle.system_model.specs.declared.system.Timing.TheVariants.{Periodic, Answ
 use Rattle.system_model.specs.declared.system.Port.{Port}
 use Rattle.system_model.specs.declared.system.System.{System}
 use Rattle.system_model.specs.Sound.{IsRole, IsSound, IsTiming}
-use Rattle.system_model.proofs.Lists.{all_at, all_by_place, true_false}
-use Rattle.system_model.proofs.SoundLemmas.{Placed, place_of}
+use Rattle.system_model.proofs.CallerLemmas.{all_at, all_by_place, true_false, Placed, place_of}
 use Rattle.tick_schedule.specs.declared.clock.ClockState.{ClockState}
 use Rattle.tick_schedule.specs.Timetable.{Timetable, with_clock}
 use Rattle.run_model.specs.AfterInstant.{next_timer, next_timers_from, written}
@@ -41,13 +40,11 @@ use Rattle.run_model.specs.Inputs.{is_active, state_with}
 use Rattle.run_model.specs.Run.{Run, Situation, Timer, Never, at_fmu, value}
 use Rattle.run_model.specs.Timers.{answered, is_armed_for}
 use Rattle.slot_calls.specs.declared.bad_answer.BadAnswer.{BadAnswer}
-use Rattle.run_model.proofs.Unique.{none_in}
+use Rattle.run_model.proofs.CallerLemmas.{none_in}
 use Rattle.slot_calls.specs.Log.{Asking, Sent, Told, askings, part}
 use Rattle.slot_calls.specs.Replies.{RepliesBy}
 use Rattle.slot_calls.specs.Stage.{IsGoodOf, Stage, StopsAt, shapes, shapes_of}
-use Rattle.slot_calls.proofs.Answered.{shape_of}
-use Rattle.slot_calls.proofs.Logs.{told_none, told_on}
-use Rattle.slot_calls.proofs.Replying.{replied_good}
+use Rattle.slot_calls.proofs.CallerLemmas.{shape_of, told_none, told_on, replied_good}
 use Rattle.event_iteration.specs.Clocks.{IsNextFrom, IsPlaceOf, StandsAt, is_due_in, timer_in, timers_in}
 use Rattle.event_iteration.specs.Explains.{Explains, all_said}
 use Rattle.event_iteration.specs.Instants.{IsRunning}

@@ -15,13 +15,12 @@ use Rattle.system_model.specs.declared.system.System.{System}
 use Rattle.system_model.specs.Needs.{is_unclocked, is_unclocked_at}
 use Rattle.system_model.specs.Ports.{numbers, source_of}
 use Rattle.system_model.specs.Sound.{IsSound}
-use Rattle.system_model.proofs.Lists.{all_by_place, at_contains, true_false}
-use Rattle.system_model.proofs.SoundLemmas.{place_of, source_at}
+use Rattle.system_model.proofs.CallerLemmas.{all_by_place, at_contains, true_false, place_of, source_at}
 use Rattle.run_model.specs.Machines.{AreFitting}
 use Rattle.slot_calls.specs.declared.bad_answer.BadAnswer.{BadAnswer}
 use Rattle.slot_calls.specs.Log.{Sent, Told}
 use Rattle.slot_calls.specs.Stage.{shapes, shapes_of}
-use Rattle.slot_calls.proofs.Answered.{map_at, shape_of, shapes_same}
+use Rattle.slot_calls.proofs.CallerLemmas.{map_at, shape_of, shapes_same}
 use Rattle.event_iteration.specs.Initialization.{AreReads, IsInitializing, IsPlaced, initially, no_values}
 use Rattle.event_iteration.specs.Turns.{MayTurn, TakesTurn, Walked}
 use Rattle.event_iteration.proofs.Permits.{Keeps, keeps, may_ask, still}

@@ -20,13 +20,13 @@ use Rattle.system_model.specs.declared.system.System.{System}
 use Rattle.system_model.specs.Orders.{IsOrder}
 use Rattle.system_model.specs.Ports.{is_clock_role, is_output_role}
 use Rattle.system_model.specs.Sound.{IsSound}
-use Rattle.system_model.proofs.OrderLemmas.{order_by_number}
+use Rattle.system_model.proofs.CallerLemmas.{order_by_number}
 use Rattle.run_model.specs.Run.{value}
 use Rattle.run_model.specs.Machines.{AreFitting}
 use Rattle.slot_calls.specs.declared.bad_answer.BadAnswer.{BadAnswer}
 use Rattle.slot_calls.specs.Log.{Sent, Told}
 use Rattle.slot_calls.specs.Stage.{shapes, shapes_of}
-use Rattle.slot_calls.proofs.Answered.{shapes_same}
+use Rattle.slot_calls.proofs.CallerLemmas.{shapes_same}
 use Rattle.event_iteration.specs.Settings.{IsUnset, before_step, port_order, sets_to}
 use Rattle.event_iteration.specs.Turns.{MayAsk, MayTurn, TakesTurn, Walked}
 use Rattle.event_iteration.proofs.Loops.{split_order}

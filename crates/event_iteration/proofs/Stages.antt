@@ -19,13 +19,11 @@ use Rattle.fmu_peer.specs.Talk as T
 use Rattle.system_model.specs.declared.system.Component.{Component}
 use Rattle.run_model.specs.Behaved.{IsAnsweredWell}
 use Rattle.run_model.specs.Run.{IsFmu, Run, each, each_from}
-use Rattle.run_model.proofs.States.{fmu_before}
+use Rattle.run_model.proofs.CallerLemmas.{fmu_before}
 use Rattle.slot_calls.specs.Log.{Asking, Sent, Told, asking_of, askings, part}
 use Rattle.slot_calls.specs.Replies.{AreReplies, RepliesBy, state_by, states_by}
 use Rattle.slot_calls.specs.Stage.{IsAnswered, IsGoodOf, shapes_of, to_those, to_those_from}
-use Rattle.slot_calls.proofs.Logs.{part_append}
-use Rattle.slot_calls.proofs.Parts.{PartIs, first_same, none_before, part_asked, part_unasked, rest_same, same, skips, takes}
-use Rattle.slot_calls.proofs.Replying.{replied_good, replies_back, replies_front, state_by_append}
+use Rattle.slot_calls.proofs.CallerLemmas.{part_append, PartIs, first_same, none_before, part_asked, part_unasked, rest_same, same, skips, takes, replied_good, replies_back, replies_front, state_by_append}
 use Rattle.event_iteration.specs.Machines.{AreAt}
 use Rattle.event_iteration.proofs.Fmus.{each_many, each_same, got, told_at}
 use Rattle.event_iteration.proofs.Parts.{good_in_part, part_all}

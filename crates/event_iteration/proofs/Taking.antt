@@ -18,14 +18,13 @@ use Rattle.fmu_peer.specs.CloseAll.{Instance}
 use Rattle.system_model.specs.declared.system.Component.{Component}
 use Rattle.system_model.specs.declared.system.Port.{Port}
 use Rattle.system_model.specs.declared.system.System.{System}
-use Rattle.system_model.proofs.Lists.{all_at}
+use Rattle.system_model.proofs.CallerLemmas.{all_at}
 use Rattle.run_model.specs.Run.{value}
 use Rattle.slot_calls.specs.declared.bad_answer.BadAnswer.{BadAnswer}
 use Rattle.slot_calls.specs.Carried.{reply_in}
 use Rattle.slot_calls.specs.Log.{One, Told}
 use Rattle.slot_calls.specs.Stage.{shapes, shapes_of}
-use Rattle.slot_calls.proofs.Answered.{map_at, one_log, shape_of}
-use Rattle.slot_calls.proofs.Logs.{told_none, told_one}
+use Rattle.slot_calls.proofs.CallerLemmas.{map_at, one_log, shape_of, told_none, told_one}
 use Rattle.event_iteration.specs.Turns.{AsksIf, IsPaired, Rules, TakesTurn, sent_of}
 
 -- the port at a place, or another thing

@@ -19,8 +19,7 @@ use Rattle.system_model.specs.declared.system.Role.TheVariants.{Input, Output, C
 use Rattle.system_model.specs.declared.system.Timing.TheVariants.{Periodic, Answered, Countdown}
 use Rattle.system_model.specs.declared.system.System.{System}
 use Rattle.system_model.specs.Sound.{IsSound}
-use Rattle.system_model.proofs.Lists.{all_by_place}
-use Rattle.system_model.proofs.SoundLemmas.{place_of}
+use Rattle.system_model.proofs.CallerLemmas.{all_by_place, place_of}
 use Rattle.run_model.specs.AfterInstant.{next_timer, next_timers, next_timers_from, written}
 use Rattle.run_model.specs.Initial.{asked_timer, first_timer, first_timers, interval_in, shift_in}
 use Rattle.run_model.specs.Inputs.{is_active}
@@ -29,7 +28,7 @@ use Rattle.run_model.specs.Timers.{answered, fixed}
 use Rattle.slot_calls.specs.Log.{Asking, Sent, asking_of, askings}
 use Rattle.slot_calls.specs.Replies.{AreReplies, states_by}
 use Rattle.slot_calls.specs.Stage.{IsAnswered, shapes_of}
-use Rattle.slot_calls.proofs.Parts.{first_same, rest_same, sent_all}
+use Rattle.slot_calls.proofs.CallerLemmas.{first_same, rest_same, sent_all}
 use Rattle.event_iteration.specs.Explains.{Explains, all_said, said}
 use Rattle.event_iteration.specs.Intervals.{Rearms, asks_interval, first_told, first_told_by, first_told_in, interval_by, intervals, log_behind, shift_by, timer_behind, timers_behind_from, timing_calls, timing_calls_in, timing_calls_of}
 use Rattle.event_iteration.specs.Settings.{port_order}

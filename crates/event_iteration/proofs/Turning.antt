@@ -17,13 +17,13 @@ use Rattle.system_model.specs.declared.system.Component.{Component}
 use Rattle.system_model.specs.declared.system.Port.{Port}
 use Rattle.system_model.specs.declared.system.System.{System}
 use Rattle.system_model.specs.Sound.{IsSound}
-use Rattle.system_model.proofs.SoundLemmas.{own}
+use Rattle.system_model.proofs.CallerLemmas.{own}
 use Rattle.run_model.specs.Run.{value}
 use Rattle.run_model.specs.Machines.{AreFitting}
 use Rattle.slot_calls.specs.Log.{Sent, Talks, Told, part}
 use Rattle.slot_calls.specs.Slots.{reads_or_sets}
 use Rattle.slot_calls.specs.Stage.{IsGoodOf, shapes, shapes_of}
-use Rattle.slot_calls.proofs.Answered.{map_at, shape_of, shapes_same}
+use Rattle.slot_calls.proofs.CallerLemmas.{map_at, shape_of, shapes_same}
 use Rattle.event_iteration.specs.Turns.{Begun, IsPaired, Rules, Turn, Walked, Went, sent_of}
 use Rattle.event_iteration.proofs.Marks.{ByClock, ByGet, BySet, IsClockCall, IsGet, Passes, gets_leave, passes_beside}
 use Rattle.event_iteration.proofs.Parts.{part_all}

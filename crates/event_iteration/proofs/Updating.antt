@@ -21,13 +21,11 @@ use Rattle.system_model.specs.declared.system.System.{System}
 use Rattle.run_model.specs.AfterInstant.{any_update, asks_again, asks_for_end, updated, written}
 use Rattle.run_model.specs.Machines.{AreMachines, IsSituation}
 use Rattle.run_model.specs.Run.{IsFmu, Run, Situation, each_from}
-use Rattle.run_model.proofs.States.{fmu_before}
+use Rattle.run_model.proofs.CallerLemmas.{fmu_before}
 use Rattle.slot_calls.specs.Log.{Asking, Sent, Told, asking_of, askings, part}
 use Rattle.slot_calls.specs.Replies.{AreReplies, RepliesBy, state_by, states_by}
 use Rattle.slot_calls.specs.Stage.{IsAnswered, has_events, shapes, shapes_of, to_those_from}
-use Rattle.slot_calls.proofs.Answered.{one_log, shape_of, shapes_same}
-use Rattle.slot_calls.proofs.Parts.{PartIs, first_same, other, part_asked, part_unasked, rest_same, same, skips, takes}
-use Rattle.slot_calls.proofs.Replying.{replied_good}
+use Rattle.slot_calls.proofs.CallerLemmas.{one_log, shape_of, shapes_same, PartIs, first_same, other, part_asked, part_unasked, rest_same, same, skips, takes, replied_good}
 use Rattle.event_iteration.specs.Instants.{IsRunning}
 use Rattle.event_iteration.specs.Updates.{LeadsForMachines, answer_passes, any_answer, updated_by, updating}
 use Rattle.event_iteration.specs.declared.updates.Updated.{Updated}

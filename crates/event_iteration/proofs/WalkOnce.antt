@@ -18,9 +18,9 @@ use Rattle.system_model.specs.declared.system.System.{System}
 use Rattle.system_model.specs.declared.system.Timing.TheVariants.{Periodic, Answered, Countdown}
 use Rattle.system_model.specs.Orders.{IsOrder}
 use Rattle.system_model.specs.Sound.{IsSound}
-use Rattle.system_model.proofs.SoundLemmas as S
+use Rattle.system_model.proofs.CallerLemmas as S
 use Rattle.slot_calls.specs.Log.{Asking, Sent, asking_of, askings}
-use Rattle.slot_calls.proofs.Logs.{askings_append}
+use Rattle.slot_calls.proofs.CallerLemmas.{askings_append}
 use Rattle.event_iteration.specs.Explains.{Explains, all_said, call_at, said}
 use Rattle.event_iteration.specs.Intervals.{timing_calls, timing_calls_in, timing_calls_of}
 use Rattle.event_iteration.specs.Settings.{port_order}

@@ -14,7 +14,7 @@ use Rattle.system_model.specs.declared.system.System.{System}
 use Rattle.system_model.specs.declared.system.Timing.TheVariants.{Periodic, Answered, Countdown}
 use Rattle.system_model.specs.Ports.{is_clock_role}
 use Rattle.system_model.specs.Sound.{IsSound}
-use Rattle.system_model.proofs.SoundLemmas.{events_of, place_of}
+use Rattle.system_model.proofs.CallerLemmas.{events_of, place_of}
 use Rattle.run_model.specs.Equations.{fed}
 use Rattle.run_model.specs.Initial.{is_read}
 use Rattle.run_model.specs.Inputs.{is_active, is_present}

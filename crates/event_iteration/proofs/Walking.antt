@@ -11,10 +11,9 @@ use Rattle.system_model.specs.declared.system.Component.{Component}
 use Rattle.system_model.specs.declared.system.Port.{Port}
 use Rattle.system_model.specs.declared.system.System.{System}
 use Rattle.system_model.specs.Orders.{IsOrder}
-use Rattle.system_model.proofs.OrderLemmas.{IsOrderFrom, order_from}
+use Rattle.system_model.proofs.CallerLemmas.{IsOrderFrom, order_from}
 use Rattle.run_model.specs.Run.{value}
-use Rattle.run_model.proofs.Decided.{same_number}
-use Rattle.run_model.proofs.Unique.{IsClosed, closed-push, none_in, push_cases}
+use Rattle.run_model.proofs.CallerLemmas.{same_number, IsClosed, closed-push, none_in, push_cases}
 use Rattle.slot_calls.specs.Log.{Sent}
 use Rattle.event_iteration.specs.Turns.{IsPaired, Rules, Turn, Walked, Begun, Went, sent_of}
 use Rattle.event_iteration.specs.Explains.{Explains, all_said, call_at, said}

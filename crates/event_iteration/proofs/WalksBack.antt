@@ -12,12 +12,10 @@ use Rattle.system_model.specs.Needs.{Needs, NeedsInitially, is_unclocked_at}
 use Rattle.system_model.specs.Orders.{IsOrder}
 use Rattle.system_model.specs.Ports.{numbers}
 use Rattle.system_model.specs.Sound.{IsSound}
-use Rattle.system_model.proofs.Lists.{true_false}
-use Rattle.system_model.proofs.SoundLemmas.{place_of}
+use Rattle.system_model.proofs.CallerLemmas.{true_false, place_of}
 use Rattle.run_model.specs.Run.{value}
 use Rattle.run_model.specs.Walk.{is_taken}
-use Rattle.run_model.proofs.Midst.{is-taken, taken-is}
-use Rattle.run_model.proofs.Unique.{none_in, push_cases}
+use Rattle.run_model.proofs.CallerLemmas.{is-taken, taken-is, none_in, push_cases}
 use Rattle.slot_calls.specs.Log.{Sent}
 use Rattle.event_iteration.specs.Explains.{Explains, all_said, said}
 use Rattle.event_iteration.specs.Initialization.{initially, no_values}

@@ -10,8 +10,7 @@ use Rattle.doc_tree.specs.declared.rule.Rule.{Rule}
 use Rattle.doc_tree.specs.declared.rule.Rule.TheVariants.{Document, Description, Unbuilt, System as OfSystem, Flattening, Loop, TooManyPorts, Parameters}
 use Rattle.doc_tree.specs.declared.rule.FlatteningRule.TheVariants as f
 use Rattle.doc_tables.specs.Answers.{IsRefusal, Refuses}
-use Rattle.doc_tables.proofs.AnswerLemmas.{refuses}
-use Rattle.doc_tables.proofs.ViolationLemmas.{none_sound}
+use Rattle.doc_tables.proofs.CallerLemmas.{refuses, none_sound}
 use Rattle.system_model.specs.declared.system.Component.{Component}
 use Rattle.system_model.specs.declared.system.Port.{Port}
 use Rattle.system_model.specs.declared.system.System.{System}

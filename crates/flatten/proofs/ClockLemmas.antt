@@ -6,7 +6,7 @@ use Rattle.std.specs.Option.{option_map_or}
 use Rattle.std.proofs.lemmas.List.Elements.{All-get_or}
 use Rattle.std.proofs.lemmas.Option.{get_or_from_slice_get}
 use Rattle.value_types.specs.Shape.{is_at, is_clock, is_clock_type, is_input, is_output, is_port, place_of, timing_at}
-use Rattle.value_types.proofs.IndexLemmas.{find_missing, find_placed}
+use Rattle.value_types.proofs.CallerLemmas.{find_missing, find_placed}
 use Rattle.value_types.specs.declared.values.PortType.{PortType}
 use Rattle.value_types.specs.declared.shape.Causality.{Causality}
 use Rattle.value_types.specs.declared.shape.Causality.TheVariants as c
@@ -15,7 +15,7 @@ use Rattle.value_types.specs.declared.shape.IntervalVariability.TheVariants.{Con
 use Rattle.value_types.specs.declared.shape.Variable.{Variable}
 use Rattle.value_types.specs.declared.shape.Shape.{Shape}
 use Rattle.system_model.specs.Shapes.{IsSoundShape, IsSoundClock, MayTick}
-use Rattle.system_model.proofs.Lists.{all_at, at_contains, found_at, true_false}
+use Rattle.system_model.proofs.CallerLemmas.{all_at, at_contains, found_at, true_false}
 use Rattle.sim_base.specs.declared.numbers.PortId.{PortId}
 use Rattle.flatten.specs.Indexed.{all_variables, begin_of}
 use Rattle.flatten.specs.Ports.{ArePortNumbers, IsPortUnder, port_number}

@@ -7,7 +7,7 @@ use Rattle.std.proofs.lemmas.List.{length-map}
 use Rattle.std.proofs.lemmas.Option.{slice_get_within, slice_get_past, same_Some}
 use Rattle.value_types.specs.declared.shape.Variable.{Variable}
 use Rattle.value_types.specs.declared.shape.Shape.{Shape}
-use Rattle.value_types.proofs.IndexLemmas.{placed_within}
+use Rattle.value_types.proofs.CallerLemmas.{placed_within}
 use Rattle.connection_paths.specs.declared.point.Point as paths
 use Rattle.connection_paths.specs.declared.point.Point.TheVariants.{Variable as Numbered, OfSystem}
 use Rattle.connection_paths.specs.Paths as numbers

@@ -13,7 +13,7 @@ use Rattle.value_types.specs.declared.shape.Shape.{Shape}
 use Rattle.system_model.specs.declared.system.Feed.{Feed}
 use Rattle.doc_tree.specs.declared.rule.Rule.TheVariants.{Flattening}
 use Rattle.doc_tree.specs.declared.rule.FlatteningRule.TheVariants.{EndTwice}
-use Rattle.dependency_order.proofs.SourceLemmas.{source_alone}
+use Rattle.dependency_order.proofs.CallerLemmas.{source_alone}
 use Rattle.connection_paths.specs.declared.point.Point as paths
 use Rattle.connection_paths.specs.declared.point.Connection as joints
 use Rattle.connection_paths.specs.Paths as numbers_of

@@ -14,8 +14,7 @@ use Rattle.value_types.specs.declared.shape.Shape.{Shape}
 use Rattle.system_model.specs.declared.system.Component.{Component}
 use Rattle.system_model.specs.Ports.{Label, label_at, labels_from}
 use Rattle.system_model.specs.Shapes.{IsSoundShape}
-use Rattle.system_model.proofs.Lists.{all_at, all_by_place, true_false}
-use Rattle.system_model.proofs.Labels.{AreApart, labels_apart}
+use Rattle.system_model.proofs.CallerLemmas.{all_at, all_by_place, true_false, AreApart, labels_apart}
 use Rattle.flatten.specs.Indexed.{all_variables, begin_of}
 use Rattle.sim_base.specs.declared.numbers.PortId.{PortId}
 use Rattle.flatten.specs.Ports.{labels_in, port_number}

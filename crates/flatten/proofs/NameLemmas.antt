@@ -12,7 +12,7 @@ use Rattle.std.proofs.lemmas.Slice.Eq.{bytes_eq-Decides}
 use Rattle.doc_tables.specs.Places.{found_in}
 use Rattle.doc_tables.specs.Tables.{Finds, IsTable}
 use Rattle.doc_tables.specs.declared.scopes.ScopedPlaces.{ScopedPlaces}
-use Rattle.doc_tables.proofs.TableLemmas.{IsWithin}
+use Rattle.doc_tables.proofs.CallerLemmas.{IsWithin}
 use Rattle.ssd_tree.specs.declared.tree.Owner.{Owner}
 use Rattle.ssd_tree.specs.declared.tree.Owner.TheVariants.{System, Component}
 use Rattle.ssd_tree.specs.declared.tree.Connector.{Connector}

@@ -22,8 +22,7 @@ use Rattle.system_model.specs.declared.system.Role.TheVariants.{Input, Output, C
 use Rattle.system_model.specs.Ports.{Label, label_of, source_of}
 use Rattle.system_model.specs.Shapes.{IsSoundShape}
 use Rattle.system_model.specs.Sound.{HasSoundPorts, IsRole, IsUnder}
-use Rattle.system_model.proofs.Lists.{all_at, found_under}
-use Rattle.system_model.proofs.Labels.{IsLabel, labelled}
+use Rattle.system_model.proofs.CallerLemmas.{all_at, found_under, IsLabel, labelled}
 use Rattle.port_orders.specs.Outcome.{unordered}
 use Rattle.ssd_tree.specs.declared.tree.SystemTree.{SystemTree}
 use Rattle.flatten.specs.declared.ports.PortTable.{PortTable}

@@ -14,7 +14,7 @@ use Rattle.value_types.specs.declared.shape.Variable.{Variable}
 use Rattle.value_types.specs.declared.shape.Shape.{Shape}
 use Rattle.system_model.specs.Shapes.{IsSoundShape, IsSoundClock, IsWhole, is_described}
 use Rattle.system_model.specs.Sound.{IsPeriodic}
-use Rattle.system_model.proofs.Lists.{absent_from, contains_at, true_false}
+use Rattle.system_model.proofs.CallerLemmas.{absent_from, contains_at, true_false}
 
 pub some_at : {X : Type 0} (o : Option X) (P : X → Type 0) (x : X) → o ≡ Some x → P x → IsSomeAnd o P
 some_at o P x e h = subst (λ z. IsSomeAnd z P) (sym e) h

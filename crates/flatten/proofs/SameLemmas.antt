@@ -29,9 +29,7 @@ use Rattle.system_model.specs.Needs.{DependsOn, Needs, NeedsInitially, ByFeed, B
 use Rattle.system_model.specs.Ports.{Label, label_of, labels_from, numbers, source_of}
 use Rattle.system_model.specs.Shapes.{is_described}
 use Rattle.system_model.specs.Sound.{IsRole, IsTiming, IsUnder}
-use Rattle.system_model.proofs.Lists.{true_false}
-use Rattle.system_model.proofs.Labels.{labels_apart}
-use Rattle.system_model.proofs.SoundLemmas.{Placed}
+use Rattle.system_model.proofs.CallerLemmas.{true_false, labels_apart, Placed}
 use Rattle.port_orders.specs.Outcome.{HasLoop, HasOrders, OfInitialization, OfInstants}
 use Rattle.ssd_tree.specs.declared.tree.ComponentPart.{ComponentPart}
 use Rattle.ssd_tree.specs.declared.tree.SystemTree.{SystemTree}

@@ -27,9 +27,7 @@ use Rattle.system_model.specs.declared.system.System.{System}
 use Rattle.system_model.specs.Ports.{label_of, labels_from, source_of, is_output_role}
 use Rattle.system_model.specs.Shapes.{IsSoundShape}
 use Rattle.system_model.specs.Sound.{HasSoundComponents, HasSoundFeeds, HasSoundPorts, IsFeed, IsPort, IsRole, IsSound, IsUnder}
-use Rattle.system_model.proofs.Lists.{all_at, all_by_place, found_under}
-use Rattle.system_model.proofs.Labels.{Labels, label_found}
-use Rattle.system_model.proofs.SoundLemmas.{Placed}
+use Rattle.system_model.proofs.CallerLemmas.{all_at, all_by_place, found_under, Labels, label_found, Placed}
 use Rattle.port_orders.specs.Outcome.{unordered}
 use Rattle.port_orders.specs.Placed.{ArePlaced, IsPlaced}
 use Rattle.ssd_tree.specs.declared.tree.ComponentPart.{ComponentPart}

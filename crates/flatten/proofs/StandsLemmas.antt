@@ -10,7 +10,7 @@ use Rattle.std.proofs.lemmas.Option.{slice_get_within, get_or_from_slice_get, sa
 use Rattle.value_types.specs.Shape.{variable_at}
 use Rattle.value_types.specs.declared.shape.Variable.{Variable}
 use Rattle.value_types.specs.declared.shape.Shape.{Shape}
-use Rattle.value_types.proofs.IndexLemmas.{find_placed, find_missing, placed_within, position_first}
+use Rattle.value_types.proofs.CallerLemmas.{find_placed, find_missing, placed_within, position_first}
 use Rattle.system_model.specs.Shapes.{IsSoundShape}
 use Rattle.connection_paths.specs.declared.point.Point as paths
 use Rattle.connection_paths.specs.declared.point.Point.TheVariants.{Variable as Numbered, OfSystem}

@@ -20,7 +20,7 @@ use Rattle.ssd_tree.specs.declared.tree.SystemTree.{SystemTree}
 use Rattle.ssd_tree.specs.Elements.{IsComponent, IsSystem, Outermost}
 use Rattle.ssd_tree.specs.Parts.{Describes, InInner, InOutermost, IsComponentPart, IsConnectionPart, IsConnectorPart, IsFullName, PartNodes, owner_node}
 use Rattle.ssd_tree.specs.Rules.{IsSound, system_count}
-use Rattle.system_model.proofs.Lists.{all_by_place, at_contains, contains_at, true_false}
+use Rattle.system_model.proofs.CallerLemmas.{all_by_place, at_contains, contains_at, true_false}
 use Rattle.flatten.specs.Given.{IsOwner, IsWhole}
 use Rattle.flatten.proofs.LabelLemmas.{count_cons, element_there}
 

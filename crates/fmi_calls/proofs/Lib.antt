@@ -1,2 +1,3 @@
+pub mod CallerLemmas
 mod MarkLemmas
-pub mod KindLemmas
+mod KindLemmas

@@ -1,11 +1,12 @@
-pub mod SoundLemmas
-pub mod StepLemmas
-pub mod KindLemmas
-pub mod OneLemmas
-pub mod TableLemmas
-pub mod TextLemmas
-pub mod MarkLemmas
-pub mod FollowLemmas
+pub mod CallerLemmas
+mod SoundLemmas
+mod StepLemmas
+mod KindLemmas
+mod OneLemmas
+mod TableLemmas
+mod TextLemmas
+mod MarkLemmas
+mod FollowLemmas
 mod IntervalLemmas
 mod MisreadLemmas
 mod PastLemmas
@@ -13,4 +14,4 @@ mod RuleLemmas
 mod TableUse
 mod NameLemmas
 mod PlaceLemmas
-pub mod DistinctLemmas
+mod DistinctLemmas

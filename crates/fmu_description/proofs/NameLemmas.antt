@@ -17,7 +17,7 @@ use Rattle.std.proofs.lemmas.Map.Text.{is_eq-slice_cmp}
 use Rattle.std.proofs.lemmas.Slice.Eq.{bytes_eq-Decides}
 use Rattle.std.proofs.lemmas.Grind.{common_steps}
 use Rattle.doc_tables.specs.Tables.{IsRepeated}
-use Rattle.doc_tables.proofs.TableLemmas.{IsWithin}
+use Rattle.doc_tables.proofs.CallerLemmas.{IsWithin}
 use Rattle.fmu_description.specs.Names.{AreNamed, AreNamedBelow, IsBehind, IsBehindAt, Named, StandsBehind, named_cmp}
 
 -- ---- the list

@@ -14,9 +14,9 @@ use Rattle.std.proofs.lemmas.List.Sorted.{sorted_far, ranks_by, All-permutation,
 use Rattle.std.proofs.lemmas.Option.{slice_get_within, slice_get-get_or, slice_get_past, get_or_from_slice_get}
 use Rattle.std.proofs.lemmas.Grind.{common_steps}
 use Rattle.value_types.specs.Index.{entry_cmp}
-use Rattle.value_types.proofs.IndexLemmas.{rising}
+use Rattle.value_types.proofs.CallerLemmas.{rising}
 use Rattle.doc_tables.specs.Tables.{Finds, IsTable}
-use Rattle.doc_tables.proofs.TableLemmas.{IsWithin}
+use Rattle.doc_tables.proofs.CallerLemmas.{IsWithin}
 use Rattle.fmu_description.specs.Places.{AreListed, AreListedBelow, found}
 
 -- ---- the list

@@ -1,7 +1,7 @@
 -- Elements past the end, which are of no sort and have no key.
 use Rattle.std.proofs.Common.{◌≡◌, ◌⊎◌, ℕ, ◌<◌, true, List, length, inl, inr}
 use Rattle.doc_grammar.specs.Nodes.{Node}
-use Rattle.doc_tables.proofs.TableLemmas.{IsWithin, is_in_within, and_right, or_cases, key_if_true}
+use Rattle.doc_tables.proofs.CallerLemmas.{IsWithin, is_in_within, and_right, or_cases, key_if_true}
 use Rattle.fmu_description.specs.Elements.{is_variable_list, is_structure, is_variable, is_alias, is_co_simulation, variable_key, clock_key, output_key, initial_key, name_key}
 use Rattle.doc_tables.specs.Elements.{is_root}
 

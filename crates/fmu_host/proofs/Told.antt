@@ -7,7 +7,7 @@ use Rattle.bench_fmus.specs.declared.model.Model.{Model}
 use Rattle.host_serving.specs.declared.serving.ServeEnd.{ServeEnd}
 use Rattle.host_serving.specs.Serving.{HasServed, Scene, scene}
 use Rattle.host_serving.specs.Told.{MayKeepTo, Tells}
-use Rattle.host_serving.proofs.ToldLemmas.{served_as_told}
+use Rattle.host_serving.proofs.CallerLemmas.{served_as_told}
 use Rattle.fmu_host.specs.declared.hosting.HostEnd.{HostEnd}
 use Rattle.fmu_host.specs.Facts.{ServesShape, first_view}
 use Rattle.fmu_host.specs.Happened.{Happened}

@@ -7,7 +7,7 @@ use Rattle.link_frames.specs.Reply.{IsReplyFrame, head_of_reply}
 use Rattle.link_frames.specs.Taking.{Gets, Takes}
 use Rattle.link_frames.specs.declared.taken.Taken.{Taken}
 use Rattle.link_frames.specs.declared.taken.Taken.TheVariants.{Got, NeedMore, Bad}
-use Rattle.link_frames.proofs.HeadLemmas.{head_length}
+use Rattle.link_frames.proofs.CallerLemmas.{head_length}
 use Rattle.fmu_link.specs.Exchange.{IsNoReply}
 
 -- a reply frame has 24 bytes

@@ -1,5 +1,6 @@
-pub mod TalkLemmas
-pub mod MachineLemmas
-pub mod CloseLemmas
-pub mod OrderLemmas
-pub mod ShutLemmas
+pub mod CallerLemmas
+mod TalkLemmas
+mod MachineLemmas
+mod CloseLemmas
+mod OrderLemmas
+mod ShutLemmas

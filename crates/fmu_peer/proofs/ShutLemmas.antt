@@ -21,7 +21,7 @@ use Rattle.fmi_calls.specs.Permission.{Permitted, can_be_freed, is_running}
 use Rattle.fmi_calls.specs.Worth.{grade_of, is_valid}
 use Rattle.fmi_calls.specs.Next.{fresh, graded, counted, state_after_bad}
 use Rattle.fmi_calls.specs.Kinds.{bad_status_of}
-use Rattle.fmi_calls.proofs.KindLemmas.{same_kind-is}
+use Rattle.fmi_calls.proofs.CallerLemmas.{same_kind-is}
 use Rattle.fmu_peer.specs.declared.peer.Exchange.{Exchange}
 use Rattle.fmu_peer.specs.declared.peer.PeerFault.{PeerFault}
 use Rattle.fmu_peer.specs.Close.{SendsInTurn, closing_calls}

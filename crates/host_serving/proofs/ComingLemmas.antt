@@ -8,7 +8,7 @@ use Rattle.sim_base.specs.Source.{SourceView}
 use Rattle.link_frames.specs.declared.call.CallFrame.{CallFrame}
 use Rattle.link_frames.specs.Call.{IsCallFrame}
 use Rattle.link_frames.specs.Taking.{Breaks, Gets, IsFront}
-use Rattle.link_frames.proofs.CallLemmas.{call_single}
+use Rattle.link_frames.proofs.CallerLemmas.{call_single}
 use Rattle.host_serving.specs.Frames.{IsNoFrame, IsRoom, Takes, TakesCall}
 use Rattle.host_serving.proofs.HeadLemmas.{frame_long}
 

@@ -1,5 +1,6 @@
-pub mod FrameLemmas
-pub mod HeadLemmas
-pub mod ComingLemmas
-pub mod ServingLemmas
-pub mod ToldLemmas
+pub mod CallerLemmas
+mod FrameLemmas
+mod HeadLemmas
+mod ComingLemmas
+mod ServingLemmas
+mod ToldLemmas

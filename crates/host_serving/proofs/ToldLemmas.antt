@@ -16,8 +16,7 @@ use Rattle.link_frames.specs.Taking.{Begins, Breaks, Gets, IsFront}
 use Rattle.link_frames.specs.declared.call.CallFrame.{CallFrame}
 use Rattle.link_frames.specs.declared.taken.Taken.{Taken}
 use Rattle.link_frames.specs.declared.taken.Taken.TheVariants.{Got, NeedMore, Bad}
-use Rattle.link_frames.proofs.CallLemmas.{call_single}
-use Rattle.link_frames.proofs.TakingLemmas.{only_one}
+use Rattle.link_frames.proofs.CallerLemmas.{call_single, only_one}
 use Rattle.fmu_peer.specs.Machine.{Machine, MachineState, after}
 use Rattle.fmu_peer.specs.View.{AnswersAs}
 use Rattle.host_serving.specs.declared.serving.ServeEnd.{ServeEnd}

@@ -1,14 +1,15 @@
-pub mod TakingLemmas
-pub mod SpanLemmas
-pub mod FieldLemmas
-pub mod BehindLemmas
-pub mod RowLemmas
-pub mod NumbersLemmas
-pub mod HeadLemmas
-pub mod MapLemmas
-pub mod ReplyLemmas
-pub mod CharLemmas
-pub mod TextLemmas
-pub mod WordLemmas
-pub mod CallLemmas
-pub mod ListLemmas
+pub mod CallerLemmas
+mod TakingLemmas
+mod SpanLemmas
+mod FieldLemmas
+mod BehindLemmas
+mod RowLemmas
+mod NumbersLemmas
+mod HeadLemmas
+mod MapLemmas
+mod ReplyLemmas
+mod CharLemmas
+mod TextLemmas
+mod WordLemmas
+mod CallLemmas
+mod ListLemmas

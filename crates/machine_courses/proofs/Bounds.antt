@@ -7,7 +7,7 @@ use Rattle.system_model.specs.declared.plan.Plan.{Plan}
 use Rattle.run_model.specs.Run.{Every, Never, Once, Run, Timer}
 use Rattle.run_model.specs.Steps.{AtTick, IsBound, IsGridPoint, IsMark, OnGrid, OnStop, SomeTicksAt}
 use Rattle.run_model.specs.Timers.{TicksAt}
-use Rattle.run_model.proofs.Decided.{decided, same_number}
+use Rattle.run_model.proofs.CallerLemmas.{decided, same_number}
 
 abbrev Known : Type 0 → Type 0
 Known A = A ⊎ (A → ⊥)

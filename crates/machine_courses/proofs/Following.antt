@@ -11,7 +11,7 @@ use Rattle.run_model.specs.Run.{Run, Situation}
 use Rattle.run_model.specs.Stepping as P
 use Rattle.run_model.specs.Stepping.{Next}
 use Rattle.run_model.specs.Trace.{Leads, LeadsBy, instant_of}
-use Rattle.run_model.proofs.AlongRun.{situation_reached}
+use Rattle.run_model.proofs.CallerLemmas.{situation_reached}
 use Rattle.calling_sequence.specs.Course.{Spot}
 use Rattle.machine_courses.specs.Fronts.{AtFirst, CameTo, Onward}
 

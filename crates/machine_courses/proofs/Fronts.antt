@@ -12,7 +12,7 @@ use Rattle.run_model.specs.Machines.{AreMachines}
 use Rattle.run_model.specs.Run.{Run, Situation}
 use Rattle.run_model.specs.Stepping.{Ends}
 use Rattle.run_model.specs.Trace.{Continues, Further, IsTrace, Last, Leads, Runs, instant_of}
-use Rattle.run_model.proofs.InitiallySolvable.{solvable_initially}
+use Rattle.run_model.proofs.CallerLemmas.{solvable_initially}
 use Rattle.slot_calls.specs.Log.{Sent}
 use Rattle.slot_calls.specs.Replies.{AreReplies, states_by}
 use Rattle.slot_calls.specs.Stage.{IsGoodOf, shapes_of}

@@ -18,7 +18,7 @@ use Rattle.system_model.specs.Bounds.{BindsParameters, IsParameterValue}
 use Rattle.system_model.specs.Needs.{InitiallyByFeed, is_unclocked, is_unclocked_at}
 use Rattle.system_model.specs.Ports.{is_clock_role, is_output_role, numbers, source_of}
 use Rattle.system_model.specs.Sound.{IsSound}
-use Rattle.system_model.proofs.SoundLemmas.{place_of}
+use Rattle.system_model.proofs.CallerLemmas.{place_of}
 use Rattle.run_model.specs.Behaved.{AnswersInitially, AnswersWell, IsAnsweredWell, WellBehaved}
 use Rattle.run_model.specs.Equations.{fed}
 use Rattle.run_model.specs.Initial as I
@@ -26,11 +26,7 @@ use Rattle.run_model.specs.Initial.{SolvesInitially, is_read}
 use Rattle.run_model.specs.Inputs.{state_with}
 use Rattle.run_model.specs.Machines.{AreMachines}
 use Rattle.run_model.specs.Run.{IsFmu, Run, value}
-use Rattle.run_model.proofs.Alike.{both}
-use Rattle.run_model.proofs.AlongRun.{initial_values_fit}
-use Rattle.run_model.proofs.Initially.{unclocked_at-is}
-use Rattle.run_model.proofs.InitiallySolvable.{solvable_initially}
-use Rattle.run_model.proofs.Midst.{looks_initially}
+use Rattle.run_model.proofs.CallerLemmas.{both, initial_values_fit, unclocked_at-is, solvable_initially, looks_initially}
 use Rattle.slot_calls.specs.declared.bad_answer.BadAnswer.{BadAnswer}
 use Rattle.slot_calls.specs.Log.{Asking, Sent, asking_of, askings, part}
 use Rattle.slot_calls.specs.Replies.{AreReplies, state_by}

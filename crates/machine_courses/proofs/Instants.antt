@@ -17,7 +17,7 @@ use Rattle.system_model.specs.declared.system.Role.TheVariants.{Input, Output, C
 use Rattle.system_model.specs.Needs.{ByFeed, Needs}
 use Rattle.system_model.specs.Ports.{is_clock_role, is_output_role, numbers, source_of}
 use Rattle.system_model.specs.Sound.{IsSound}
-use Rattle.system_model.proofs.SoundLemmas.{events_of, place_of}
+use Rattle.system_model.proofs.CallerLemmas.{events_of, place_of}
 use Rattle.run_model.specs.AfterInstant as F
 use Rattle.run_model.specs.Behaved.{AnswersAt, AnswersWell, BehavesInInstant, IsAnsweredWell, Reached, WellBehaved}
 use Rattle.run_model.specs.Equations.{Solves, fed}
@@ -25,11 +25,7 @@ use Rattle.run_model.specs.Inputs.{is_active, is_present, state_with, state_writ
 use Rattle.run_model.specs.Machines.{AreMachines, IsSituation}
 use Rattle.run_model.specs.Run.{IsFmu, Run, Situation, value}
 use Rattle.run_model.specs.Walk.{only_at}
-use Rattle.run_model.proofs.Alike.{both, present_alike}
-use Rattle.run_model.proofs.AlongRun.{situation_reached, values_fit}
-use Rattle.run_model.proofs.Decided.{decided}
-use Rattle.run_model.proofs.Midst.{looks_in_midst}
-use Rattle.run_model.proofs.Solvable.{solvable}
+use Rattle.run_model.proofs.CallerLemmas.{both, present_alike, situation_reached, values_fit, decided, looks_in_midst, solvable}
 use Rattle.slot_calls.specs.declared.bad_answer.BadAnswer.{BadAnswer}
 use Rattle.slot_calls.specs.Log.{Sent, part}
 use Rattle.slot_calls.specs.Replies.{AreReplies, state_by}

@@ -16,7 +16,7 @@ use Rattle.run_model.specs.Run.{Run}
 use Rattle.slot_calls.specs.Log.{Asking, Sent, asking_of, askings, part}
 use Rattle.slot_calls.specs.Replies.{state_by, states_by}
 use Rattle.slot_calls.specs.Stage.{IsAnswered, shapes_of}
-use Rattle.slot_calls.proofs.Parts.{first_same, other, rest_same, same, skips, takes}
+use Rattle.slot_calls.proofs.CallerLemmas.{first_same, other, rest_same, same, skips, takes}
 use Rattle.event_iteration.proofs.ByLog.{each_same}
 use Rattle.calling_sequence.specs.Calls.{binding, binding_from, sets_of}
 

@@ -17,7 +17,7 @@ use Rattle.run_model.specs.Stepping as P
 use Rattle.run_model.specs.Stepping.{Ends, GoesOn, asks_to_end, stepped}
 use Rattle.run_model.specs.Steps.{OnStop}
 use Rattle.run_model.specs.Trace.{Continues, Further, IsTrace, Last, Leads, instant_of}
-use Rattle.run_model.proofs.AlongRun.{situation_reached}
+use Rattle.run_model.proofs.CallerLemmas.{situation_reached}
 use Rattle.event_iteration.proofs.ByLog.{AreAll, updated_all}
 use Rattle.calling_sequence.specs.Calls.{IsBoundOf, IsStep, first_unfit}
 use Rattle.calling_sequence.specs.Plans.{IsPlan}

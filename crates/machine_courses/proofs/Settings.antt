@@ -21,15 +21,14 @@ use Rattle.system_model.specs.declared.system.Port.{Port}
 use Rattle.system_model.specs.Bounds.{IsParameterValue}
 use Rattle.system_model.specs.Ports.{is_clock_role, is_output_role}
 use Rattle.system_model.specs.Sound.{IsSound}
-use Rattle.system_model.proofs.Lists.{true_false}
-use Rattle.system_model.proofs.SoundLemmas.{Placed, clock_type_of, events_of, is_input_of, place_of}
+use Rattle.system_model.proofs.CallerLemmas.{true_false, Placed, clock_type_of, events_of, is_input_of, place_of}
 use Rattle.run_model.specs.Behaved.{Configuring, Eventing, Initializing, IsSetting, Stepping}
 use Rattle.run_model.specs.Initial.{set_call}
 use Rattle.run_model.specs.Run.{Run}
 use Rattle.slot_calls.specs.Log.{Sent, askings, part}
 use Rattle.slot_calls.specs.Replies.{state_by}
 use Rattle.slot_calls.specs.Slots.{reads_or_sets}
-use Rattle.slot_calls.proofs.Logs.{part_append}
+use Rattle.slot_calls.proofs.CallerLemmas.{part_append}
 use Rattle.event_iteration.specs.WalkCalls.{AreNew, IsUse, Span, own, use_in}
 use Rattle.event_iteration.proofs.ByLog.{all_front, value_type}
 
@@ -153,4 +152,3 @@ module _ (r : Run) (sound : IsSound r.system) (p : ℕ) (port : Port) (at : slic
 
   pub sets_stepping : c.shape.has_event_mode ≡ false → IsSetting Stepping c.shape (C.Set port.kind port.reference x)
   sets_stepping none = (set_type, fit, set_by (λ (v : Variable). c.shape.has_event_mode ≡ false) none)
-

@@ -13,8 +13,7 @@ use Rattle.run_model.specs.Machines.{AreFitting, AreMachines}
 use Rattle.run_model.specs.Run.{IsFmu, Run, Situation}
 use Rattle.run_model.specs.Stepping as P
 use Rattle.run_model.specs.Stepping.{asks_to_end, departing}
-use Rattle.run_model.proofs.AlongRun.{situation_reached, values_fit}
-use Rattle.run_model.proofs.States.{fmu_before}
+use Rattle.run_model.proofs.CallerLemmas.{situation_reached, values_fit, fmu_before}
 use Rattle.slot_calls.specs.declared.bad_answer.BadAnswer.{BadAnswer}
 use Rattle.slot_calls.specs.Log.{Sent, part}
 use Rattle.slot_calls.specs.Replies.{AreReplies, state_by}

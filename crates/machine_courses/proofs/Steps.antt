@@ -6,11 +6,11 @@ use Rattle.std.proofs.lemmas.List.Elements.{All-cons, All-head, All-map, All-nil
 use Rattle.std.proofs.lemmas.Option.{none-some as none_some, slice_get_within}
 use Rattle.std.proofs.lemmas.Bool.Decides.{nat_tests}
 use Rattle.value_types.specs.declared.shape.Shape.{Shape}
-use Rattle.value_types.proofs.IndexLemmas.{position-map}
+use Rattle.value_types.proofs.CallerLemmas.{position-map}
 use Rattle.fmi_calls.specs.declared.call.Call.TheVariants as C
 use Rattle.fmu_peer.specs.Machine.{Machine, MachineState, after}
 use Rattle.system_model.specs.declared.system.Component.{Component}
-use Rattle.system_model.proofs.Lists.{all_at}
+use Rattle.system_model.proofs.CallerLemmas.{all_at}
 use Rattle.run_model.specs.Run.{IsFmu, Run, Situation, each, each_from}
 use Rattle.run_model.specs.Behaved as B
 use Rattle.run_model.specs.Behaved.{AnswersWell}

@@ -1,4 +1,5 @@
-pub mod OrderLemmas
-pub mod PushLemmas
-pub mod SortLemmas
-pub mod StepLemmas
+pub mod CallerLemmas
+mod OrderLemmas
+mod PushLemmas
+mod SortLemmas
+mod StepLemmas

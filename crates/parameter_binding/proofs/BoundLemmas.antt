@@ -15,9 +15,9 @@ use Rattle.doc_tree.specs.Rules.{parameter_number}
 use Rattle.system_model.specs.declared.bound.Bound.{Bound}
 use Rattle.system_model.specs.declared.bound.BoundValue.{BoundValue}
 use Rattle.ssd_tree.specs.declared.tree.SystemTree.{SystemTree}
-use Rattle.ssd_tree.proofs.ListingLemmas.{listing_no, listing_none, listing_yes}
+use Rattle.ssd_tree.proofs.CallerLemmas.{listing_no, listing_none, listing_yes}
 use Rattle.parameter_targets.specs.declared.target.Target.{Target}
-use Rattle.parameter_targets.proofs.ListLemmas.{push_cases}
+use Rattle.parameter_targets.proofs.CallerLemmas.{push_cases}
 use Rattle.parameter_binding.specs.declared.fault.Fault.{Fault}
 use Rattle.parameter_binding.specs.declared.gathered.Gathered.{Gathered}
 use Rattle.parameter_binding.specs.declared.sets.BindingSets.{BindingSets}

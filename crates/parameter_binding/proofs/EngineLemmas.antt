@@ -20,9 +20,9 @@ use Rattle.system_model.specs.declared.bound.Bound.{Bound}
 use Rattle.system_model.specs.declared.bound.BoundValue.{BoundValue}
 use Rattle.system_model.specs.Bounds.{AreParameterValues, IsParameterValue}
 use Rattle.system_model.specs.Shapes.{IsSoundClock, IsSoundShape, MayTick}
-use Rattle.system_model.proofs.Lists.{all_by_place, filtered_partner, found_under}
+use Rattle.system_model.proofs.CallerLemmas.{all_by_place, filtered_partner, found_under}
 use Rattle.ssd_tree.specs.declared.tree.SystemTree.{SystemTree}
-use Rattle.parameter_targets.proofs.ListLemmas.{contains_at, element_at}
+use Rattle.parameter_targets.proofs.CallerLemmas.{contains_at, element_at}
 use Rattle.parameter_binding.specs.declared.gathered.Gathered.{Gathered}
 use Rattle.parameter_binding.specs.declared.sets.BindingSets.{BindingSets}
 use Rattle.parameter_binding.specs.Binds.{IsLater, target_at}

@@ -11,7 +11,7 @@ use Rattle.ssd_tree.specs.declared.tree.Binding.{Binding}
 use Rattle.ssd_tree.specs.declared.tree.SystemTree.{SystemTree}
 use Rattle.parameter_targets.specs.declared.target.Target.{Target}
 use Rattle.parameter_targets.specs.Scopes.{Sees}
-use Rattle.parameter_targets.proofs.ListLemmas.{contains_at, push_cases}
+use Rattle.parameter_targets.proofs.CallerLemmas.{contains_at, push_cases}
 use Rattle.parameter_binding.specs.declared.fault.Fault.{Fault}
 use Rattle.parameter_binding.specs.declared.gathered.Gathered.{Gathered}
 use Rattle.parameter_binding.specs.declared.sets.BindingSets.{BindingSets}

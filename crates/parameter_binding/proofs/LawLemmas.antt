@@ -14,11 +14,10 @@ use Rattle.ssd_tree.specs.declared.tree.Owner.{Owner}
 use Rattle.ssd_tree.specs.declared.tree.Owner.TheVariants as owner
 use Rattle.ssd_tree.specs.declared.tree.ComponentPart.{ComponentPart}
 use Rattle.ssd_tree.specs.declared.tree.SystemTree.{SystemTree}
-use Rattle.ssd_tree.proofs.ListingLemmas.{one_listing}
+use Rattle.ssd_tree.proofs.CallerLemmas.{one_listing}
 use Rattle.parameter_targets.specs.declared.target.Target.{Target}
 use Rattle.parameter_targets.specs.Scopes.{IsDepth, IsLevel}
-use Rattle.parameter_targets.proofs.ListLemmas.{contains_at, place_of}
-use Rattle.parameter_targets.proofs.PathLemmas.{depth_once}
+use Rattle.parameter_targets.proofs.CallerLemmas.{contains_at, place_of, depth_once}
 use Rattle.parameter_binding.specs.declared.sets.BindingSets.{BindingSets}
 use Rattle.parameter_binding.specs.Binds.{AreBound, AreBoundOf, Beats, Binds, HasLevel, IsBoundAt, IsCandidate, IsLater, IsReached, ListsUnreached, Reaches, Triple, Wins, target_at}
 use Rattle.parameter_binding.proofs.OnceLemmas.{candidate_once, gives_once, target_once}

@@ -17,7 +17,7 @@ use Rattle.ssd_tree.specs.declared.tree.SystemTree.{SystemTree}
 use Rattle.parameter_targets.specs.declared.target.Target.{Target}
 use Rattle.ssd_tree.specs.Named.{IsOwner}
 use Rattle.parameter_targets.specs.Scopes.{IsTarget, Sees}
-use Rattle.parameter_targets.proofs.ListLemmas.{contains_at}
+use Rattle.parameter_targets.proofs.CallerLemmas.{contains_at}
 use Rattle.parameter_binding.specs.declared.sets.BindingSets.{BindingSets}
 use Rattle.parameter_binding.specs.declared.sets.MappingOf.{MappingOf}
 use Rattle.parameter_binding.specs.declared.visit.Visit.{Visit}

@@ -21,7 +21,7 @@ use Rattle.ssd_tree.specs.declared.tree.ComponentPart.{ComponentPart}
 use Rattle.ssd_tree.specs.declared.tree.SystemTree.{SystemTree}
 use Rattle.parameter_targets.specs.declared.target.Target.{Target}
 use Rattle.parameter_targets.specs.Scopes.{IsDepth, IsLevel, IsTarget, Sees}
-use Rattle.parameter_targets.proofs.PathLemmas.{depth_once}
+use Rattle.parameter_targets.proofs.CallerLemmas.{depth_once}
 use Rattle.parameter_binding.specs.declared.sets.BindingSets.{BindingSets}
 use Rattle.parameter_binding.specs.declared.visit.Visit.{Visit}
 use Rattle.parameter_binding.specs.declared.winners.Best.{Best}

@@ -6,7 +6,7 @@ use Rattle.doc_tree.specs.declared.refusal.Refusal.{Refusal}
 use Rattle.doc_tree.specs.declared.rule.ParameterRule.{ParameterRule}
 use Rattle.doc_tree.specs.declared.rule.Rule.TheVariants.{Parameters}
 use Rattle.doc_tables.specs.Answers.{IsRefusal, Refuses}
-use Rattle.doc_tables.proofs.AnswerLemmas as w
+use Rattle.doc_tables.proofs.CallerLemmas as w
 use Rattle.parameter_values.specs.declared.set.Mapping.{Mapping}
 use Rattle.parameter_values.specs.declared.set.ParameterSet.{ParameterSet}
 use Rattle.parameter_sets.specs.Answers.{MappingFaults, SetFaults}

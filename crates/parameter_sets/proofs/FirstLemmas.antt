@@ -5,7 +5,7 @@ use Rattle.doc_tree.specs.declared.rule.ParameterRule.{ParameterRule}
 use Rattle.doc_tree.specs.declared.rule.ParameterRule.TheVariants as r
 use Rattle.doc_tree.specs.Rules.{parameter_number}
 use Rattle.doc_tables.specs.Violations.{IsFirstViolation, IsSound}
-use Rattle.doc_tables.proofs.ViolationLemmas.{AreApart}
+use Rattle.doc_tables.proofs.CallerLemmas.{AreApart}
 use Rattle.parameter_sets.specs.Least.{Breach, FindsLeast, earlier}
 
 -- ---- numbers

@@ -1,7 +1,8 @@
-pub mod ListLemmas
-pub mod ChainLemmas
-pub mod NameLemmas
-pub mod PathLemmas
-pub mod RowLemmas
-pub mod LevelLemmas
-pub mod TargetLemmas
+pub mod CallerLemmas
+mod ListLemmas
+mod ChainLemmas
+mod NameLemmas
+mod PathLemmas
+mod RowLemmas
+mod LevelLemmas
+mod TargetLemmas

@@ -8,9 +8,7 @@ use Rattle.dependency_order.specs.Answers.{IsLeastLoop}
 use Rattle.dependency_order.specs.Graph as graph
 use Rattle.dependency_order.specs.Grouped.{NeedsGrouped}
 use Rattle.dependency_order.specs.Paths.{IsMarked}
-use Rattle.dependency_order.proofs.FilterLemmas.{order_filtered, filter_back}
-use Rattle.dependency_order.proofs.LoopLemmas.{loop_no_order}
-use Rattle.dependency_order.proofs.SortLemmas.{marked_within}
+use Rattle.dependency_order.proofs.CallerLemmas.{order_filtered, filter_back, loop_no_order, marked_within}
 use Rattle.system_model.specs.declared.system.Component.{Component}
 use Rattle.system_model.specs.declared.system.Port.{Port}
 use Rattle.system_model.specs.Orders.{IsOrder}

@@ -9,7 +9,7 @@ use Rattle.std.proofs.lemmas.List.Elements.{All-nil, Contains-push, Contains-pus
 use Rattle.sim_base.specs.declared.numbers.PortId.{PortId}
 use Rattle.dependency_order.specs.Graph.{AreBelow, Needs}
 use Rattle.dependency_order.specs.Paths.{IsMarked}
-use Rattle.dependency_order.proofs.ListLemmas.{in_pushed, in_pushed_back, in_same, list_below}
+use Rattle.dependency_order.proofs.CallerLemmas.{in_pushed, in_pushed_back, in_same, list_below}
 use Rattle.system_model.specs.declared.system.Component.{Component}
 use Rattle.value_types.specs.declared.shape.Knowns.TheVariants.{Listed}
 use Rattle.system_model.specs.declared.system.Role.{Role}

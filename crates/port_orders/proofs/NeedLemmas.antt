@@ -8,7 +8,7 @@ use Rattle.std.proofs.lemmas.List.Elements.{All-contains, All-map}
 use Rattle.std.proofs.lemmas.List.{length-map}
 use Rattle.std.proofs.lemmas.List.Folds.{Any-from_list_any, list_any_at}
 use Rattle.std.proofs.lemmas.Option.{same_Some, none-some as none_some, slice_get-map, slice_get_within, unwrap_or-slice_get}
-use Rattle.value_types.proofs.IndexLemmas.{find_missing, find_placed, placed_within}
+use Rattle.value_types.proofs.CallerLemmas.{find_missing, find_placed, placed_within}
 use Rattle.value_types.specs.Shape.{dependency_at, is_declared, is_input_port, is_known, place_of, variable_at}
 use Rattle.value_types.specs.declared.shape.Dependency.{Dependency}
 use Rattle.value_types.specs.declared.shape.Knowns.{Knowns}
@@ -19,8 +19,8 @@ use Rattle.sim_base.specs.declared.numbers.PortId.{PortId}
 use Rattle.dependency_order.specs.declared.grouped.GroupedNeeds.{GroupedNeeds}
 use Rattle.dependency_order.specs.Grouped.{IsGrouped, NeedsGrouped}
 use Rattle.dependency_order.specs.Paths.{IsMarked}
-use Rattle.dependency_order.proofs.SortLemmas.{marked_within}
-use Rattle.system_model.proofs.Lists.{all_at, found_at}
+use Rattle.dependency_order.proofs.CallerLemmas.{marked_within}
+use Rattle.system_model.proofs.CallerLemmas.{all_at, found_at}
 use Rattle.system_model.specs.declared.system.Component.{Component}
 use Rattle.system_model.specs.declared.system.Port.{Port}
 use Rattle.system_model.specs.declared.system.System.{System}

@@ -9,13 +9,13 @@ use Rattle.std.proofs.lemmas.List.Elements.{Contains-push}
 use Rattle.std.proofs.lemmas.Option.{same_Some, none-some as none_some}
 use Rattle.dependency_order.specs.Graph.{Needs}
 use Rattle.dependency_order.specs.Paths.{IsMarked}
-use Rattle.dependency_order.proofs.ListLemmas.{in_pushed, in_pushed_back, in_same, contains_none}
+use Rattle.dependency_order.proofs.CallerLemmas.{in_pushed, in_pushed_back, in_same, contains_none}
 use Rattle.value_types.specs.Shape.{place_of}
-use Rattle.value_types.proofs.IndexLemmas.{placed_within}
+use Rattle.value_types.proofs.CallerLemmas.{placed_within}
 use Rattle.value_types.specs.declared.shape.Variable.{Variable}
 use Rattle.system_model.specs.declared.system.Component.{Component}
 use Rattle.system_model.specs.declared.system.Port.{Port}
-use Rattle.system_model.proofs.Lists.{all_at}
+use Rattle.system_model.proofs.CallerLemmas.{all_at}
 use Rattle.port_orders.specs.Placed.{ArePlaced, IsPlaced}
 use Rattle.port_orders.specs.Gathered.{AreInputs, AreTables, IsInputOf, IsPortAt, is_input_in, place_in}
 

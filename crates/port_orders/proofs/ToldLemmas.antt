@@ -7,7 +7,7 @@ use Rattle.value_types.specs.declared.shape.Knowns.{Knowns}
 use Rattle.value_types.specs.declared.shape.Knowns.TheVariants.{AllInputs, Listed}
 use Rattle.dependency_order.specs.Graph.{AreBelow, Needs}
 use Rattle.dependency_order.specs.Paths.{IsMarked}
-use Rattle.dependency_order.proofs.ListLemmas.{contains_none}
+use Rattle.dependency_order.proofs.CallerLemmas.{contains_none}
 use Rattle.system_model.specs.declared.system.Component.{Component}
 use Rattle.system_model.specs.declared.system.Port.{Port}
 use Rattle.system_model.specs.Ports.{numbers, source_of}

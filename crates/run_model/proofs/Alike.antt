@@ -22,8 +22,7 @@ use Rattle.system_model.specs.declared.system.System.{System}
 use Rattle.system_model.specs.Ports.{numbers, is_output_role, is_clock_role}
 use Rattle.system_model.specs.Needs.{DependsOn, Needs, ByClock, ByDependency}
 use Rattle.system_model.specs.Sound.{IsSound}
-use Rattle.system_model.proofs.Lists.{at_contains, found_under, true_false}
-use Rattle.system_model.proofs.SoundLemmas.{Placed, place_of, is_output_of, is_input_of, events_of}
+use Rattle.system_model.proofs.CallerLemmas.{at_contains, found_under, true_false, Placed, place_of, is_output_of, is_input_of, events_of}
 use Rattle.run_model.specs.Run.{Run, Situation, IsFmu, value, at_fmu}
 use Rattle.run_model.specs.Inputs.{is_active, is_present, written_by, written_at_port, under, is_under, state_written, state_with}
 use Rattle.run_model.specs.Equations.{output_value, shown, ticking, value_in}

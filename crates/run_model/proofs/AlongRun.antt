@@ -19,8 +19,7 @@ use Rattle.system_model.specs.declared.system.Port.{Port}
 use Rattle.system_model.specs.Ports.{is_output_role, is_clock_role, source_of}
 use Rattle.system_model.specs.Needs.{is_unclocked, is_unclocked_at}
 use Rattle.system_model.specs.Sound.{IsSound}
-use Rattle.system_model.proofs.Lists.{true_false}
-use Rattle.system_model.proofs.SoundLemmas.{place_of, kind_of_clock, source_at}
+use Rattle.system_model.proofs.CallerLemmas.{true_false, place_of, kind_of_clock, source_at}
 use Rattle.run_model.specs.Run.{Run, Situation, Timer, value, each, each_from, at_fmu}
 use Rattle.run_model.specs.Inputs.{is_present, state_with}
 use Rattle.run_model.specs.Timers.{IsDue}

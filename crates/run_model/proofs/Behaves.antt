@@ -22,8 +22,7 @@ use Rattle.system_model.specs.declared.system.Timing.TheVariants.{Periodic, Answ
 use Rattle.system_model.specs.declared.system.Port.{Port}
 use Rattle.system_model.specs.Ports.{is_clock_role, is_output_role}
 use Rattle.system_model.specs.Sound.{IsSound, IsRole, IsTiming}
-use Rattle.system_model.proofs.Lists.{true_false}
-use Rattle.system_model.proofs.SoundLemmas.{Placed, place_of, is_output_of, clock_type_of}
+use Rattle.system_model.proofs.CallerLemmas.{true_false, Placed, place_of, is_output_of, clock_type_of}
 use Rattle.run_model.specs.Run.{Run, Situation}
 use Rattle.run_model.specs.Initial as I
 use Rattle.run_model.specs.Equations.{Solves}

@@ -1,7 +1,7 @@
 -- Whether a Clock ticks can be told.
 use Rattle.std.proofs.Common.{◌≡◌, ℕ, true, false, refl, sym, ◌∙◌, ap, inl, inr, arith, ◌⊎◌, ◌+◌, ◌-◌, ◌*◌}
 use Rattle.std.proofs.Math.Nat.{zero-mod, div-add-mod', add-mul-mod_self_right}
-use Rattle.system_model.proofs.Lists.{true_false}
+use Rattle.system_model.proofs.CallerLemmas.{true_false}
 use Rattle.std.specs.Prelude.{◌%◌, ◌/◌, ◌==◌}
 use Rattle.std.proofs.lemmas.Bool.{cases_lt}
 use Rattle.std.proofs.lemmas.Bool.Decides.{nat_tests}

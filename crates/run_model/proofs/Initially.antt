@@ -16,9 +16,7 @@ use Rattle.system_model.specs.declared.system.System.{System}
 use Rattle.system_model.specs.Ports.{numbers, is_clock_role, is_output_role, source_of}
 use Rattle.system_model.specs.Needs.{DependsOn, NeedsInitially, InitiallyByFeed, InitiallyByDependency, is_unclocked, is_unclocked_at}
 use Rattle.system_model.specs.Sound.{IsSound}
-use Rattle.system_model.proofs.Lists.{true_false}
-use Rattle.system_model.proofs.OrderLemmas.{order_from}
-use Rattle.system_model.proofs.SoundLemmas.{place_of}
+use Rattle.system_model.proofs.CallerLemmas.{true_false, order_from, place_of}
 use Rattle.run_model.specs.Run.{Run, value, at_fmu}
 use Rattle.run_model.specs.Inputs.{is_active, is_present, written_by, written_at_port, state_with}
 use Rattle.run_model.specs.Equations.{fed, shown, value_in}

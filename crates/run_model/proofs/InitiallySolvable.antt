@@ -8,7 +8,7 @@ use Rattle.system_model.specs.declared.system.Port.{Port}
 use Rattle.system_model.specs.Ports.{numbers}
 use Rattle.system_model.specs.Needs.{NeedsInitially, is_unclocked, is_unclocked_at}
 use Rattle.system_model.specs.Sound.{IsSound}
-use Rattle.system_model.proofs.OrderLemmas.{IsOrderFrom, order_from}
+use Rattle.system_model.proofs.CallerLemmas.{IsOrderFrom, order_from}
 use Rattle.run_model.specs.Run.{Run, value}
 use Rattle.run_model.specs.Initial.{SolvesInitially, initial_value}
 use Rattle.run_model.specs.Machines.{AreMachines}

@@ -1,13 +1,14 @@
-pub mod Written
-pub mod Alike
-pub mod Unique
-pub mod Solvable
-pub mod Decided
-pub mod States
-pub mod Initially
-pub mod InitiallySolvable
-pub mod StepsOnce
-pub mod OneTrace
-pub mod Midst
-pub mod AlongRun
-pub mod Behaves
+pub mod CallerLemmas
+mod Written
+mod Alike
+mod Unique
+mod Solvable
+mod Decided
+mod States
+mod Initially
+mod InitiallySolvable
+mod StepsOnce
+mod OneTrace
+mod Midst
+mod AlongRun
+mod Behaves

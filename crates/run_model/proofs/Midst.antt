@@ -13,8 +13,7 @@ use Rattle.system_model.specs.declared.system.System.{System}
 use Rattle.system_model.specs.Ports.{numbers, is_output_role}
 use Rattle.system_model.specs.Needs.{ByDependency, InitiallyByDependency, is_unclocked}
 use Rattle.system_model.specs.Sound.{IsSound}
-use Rattle.system_model.proofs.Lists.{contains_at, at_contains, true_false}
-use Rattle.system_model.proofs.SoundLemmas.{own, place_of}
+use Rattle.system_model.proofs.CallerLemmas.{contains_at, at_contains, true_false, own, place_of}
 use Rattle.run_model.specs.Run.{Run, value}
 use Rattle.run_model.specs.Inputs.{under, is_under, state_written, written_by, written_at_port}
 use Rattle.run_model.specs.Initial.{SolvesInitially}

@@ -11,7 +11,7 @@ use Rattle.run_model.specs.Stepping.{Next, Ends, GoesOn, Departs, AtStop, WhereA
 use Rattle.run_model.specs.Trace.{Leads, LeadsBy, Continues, Last, Further, IsTrace, Runs, instant_of}
 use Rattle.system_model.specs.Sound.{IsSound}
 use Rattle.run_model.specs.Machines.{AreMachines, AreStates}
-use Rattle.system_model.proofs.Lists.{true_false}
+use Rattle.system_model.proofs.CallerLemmas.{true_false}
 use Rattle.run_model.proofs.Unique.{solves_same}
 use Rattle.run_model.proofs.Initially.{solves_initially_same}
 use Rattle.run_model.proofs.States.{states_beginning, states_updated, states_stepped}

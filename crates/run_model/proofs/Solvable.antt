@@ -9,7 +9,7 @@ use Rattle.system_model.specs.declared.system.Port.{Port}
 use Rattle.system_model.specs.Ports.{numbers}
 use Rattle.system_model.specs.Needs.{Needs}
 use Rattle.system_model.specs.Sound.{IsSound}
-use Rattle.system_model.proofs.OrderLemmas.{IsOrderFrom, order_from}
+use Rattle.system_model.proofs.CallerLemmas.{IsOrderFrom, order_from}
 use Rattle.run_model.specs.Run.{Run, Situation, value, at_fmu}
 use Rattle.run_model.specs.Inputs.{is_present, state_with}
 use Rattle.run_model.specs.Timers.{IsDue}

@@ -10,7 +10,7 @@ use Rattle.system_model.specs.declared.system.Port.{Port}
 use Rattle.system_model.specs.Ports.{numbers, is_output_role, is_clock_role, source_of}
 use Rattle.system_model.specs.Needs.{Needs, ByFeed}
 use Rattle.system_model.specs.Sound.{IsSound}
-use Rattle.system_model.proofs.OrderLemmas.{IsOrderFrom, order_from}
+use Rattle.system_model.proofs.CallerLemmas.{IsOrderFrom, order_from}
 use Rattle.run_model.specs.Run.{Run, Situation, value}
 use Rattle.run_model.specs.Inputs.{is_present}
 use Rattle.run_model.specs.Equations.{Solves, SolvesAt, IsTickValue, fed}

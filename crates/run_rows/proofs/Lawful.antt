@@ -15,7 +15,7 @@ use Rattle.fmi_calls.specs.declared.call.Call.TheVariants as C
 use Rattle.fmi_calls.specs.declared.call.Reply.TheVariants.{Done}
 use Rattle.fmu_peer.specs.Machine.{MachineState, Machine, IsLawful, IsMachineOf, changes_mode}
 use Rattle.system_model.specs.declared.system.Component.{Component}
-use Rattle.system_model.proofs.Lists.{found_at, all_at}
+use Rattle.system_model.proofs.CallerLemmas.{found_at, all_at}
 use Rattle.run_model.specs.Run.{Run}
 use Rattle.run_model.specs.Machines.{AreMachines}
 use Rattle.run_rows.specs.Machines.{Behaviour, machine_of, at, behind, seen, gain_content, gain, sampler}

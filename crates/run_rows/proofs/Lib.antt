@@ -1,22 +1,23 @@
-pub mod Tests
-pub mod ShapeTests
-pub mod SystemTests
-pub mod OrderTests
-pub mod Sound
-pub mod Lawful
-pub mod MachinesOf
-pub mod Worked
-pub mod Tools
-pub mod TimerTrace
-pub mod LimitTrace
-pub mod EventsTrace
-pub mod StepsTrace
-pub mod SamplersTrace
-pub mod RelayedTrace
-pub mod GainsTrace
-pub mod TicksTrace
-pub mod CountedTrace
-pub mod CallsTrace
-pub mod FixedTrace
-pub mod AlarmedTrace
-pub mod QuietLemmas
+pub mod CallerLemmas
+mod Tests
+mod ShapeTests
+mod SystemTests
+mod OrderTests
+mod Sound
+mod Lawful
+mod MachinesOf
+mod Worked
+mod Tools
+mod TimerTrace
+mod LimitTrace
+mod EventsTrace
+mod StepsTrace
+mod SamplersTrace
+mod RelayedTrace
+mod GainsTrace
+mod TicksTrace
+mod CountedTrace
+mod CallsTrace
+mod FixedTrace
+mod AlarmedTrace
+mod QuietLemmas

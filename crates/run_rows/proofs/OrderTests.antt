@@ -16,7 +16,7 @@ use Rattle.system_model.specs.Ports.{numbers, source_of, is_output_role, label_o
 use Rattle.system_model.specs.Needs.{DependsOn, Needs, ByFeed, ByClock, ByDependency, NeedsInitially, InitiallyByFeed, InitiallyByDependency, is_unclocked, is_unclocked_at}
 use Rattle.system_model.specs.Orders.{IsOrder}
 use Rattle.system_model.specs.Sound.{IsSound}
-use Rattle.system_model.proofs.OrderLemmas.{IsOrderFrom, order_by}
+use Rattle.system_model.proofs.CallerLemmas.{IsOrderFrom, order_by}
 use Rattle.run_rows.proofs.Tests.{true_false, left, right, implies, implied, holds, parts, every, all_by, if_some}
 use Rattle.run_rows.proofs.SystemTests.{component_parts, components_by, is_sound_port, ports_by, is_fed, feeds_by}
 

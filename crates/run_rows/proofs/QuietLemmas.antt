@@ -18,12 +18,12 @@ use Rattle.fmu_peer.specs.Machine.{Machine, IsMachineOf}
 use Rattle.system_model.specs.declared.system.Component.{Component}
 use Rattle.run_model.specs.Behaved.{WellBehaved}
 use Rattle.run_model.specs.AlwaysWell.{AlwaysWell, RunSends, IsAskedFixed}
-use Rattle.run_model.proofs.Behaves.{always_behaves}
+use Rattle.run_model.proofs.CallerLemmas.{always_behaves}
 use Rattle.run_rows.specs.Machines.{machine_of, quiet}
 use Rattle.run_rows.specs.Quiet.{QuietAnswersWell, quiet_run}
 use Rattle.run_rows.specs.Relayed.{counter_shape, relay_shape, sampler_shape}
 use Rattle.run_rows.specs.Parts.{component_of}
-use Rattle.system_model.proofs.Lists.{all_at, found_at}
+use Rattle.system_model.proofs.CallerLemmas.{all_at, found_at}
 use Rattle.run_rows.proofs.Lawful.{each_is, is_machine}
 use Rattle.run_rows.proofs.SystemTests.{is_fixed}
 use Rattle.run_rows.proofs.Tests.{true_false, every, all_by}

@@ -25,7 +25,7 @@ use Rattle.system_model.specs.declared.system.System.{System}
 use Rattle.system_model.specs.Ports.{source_of, is_output_role, label_of, labels_from}
 use Rattle.system_model.specs.Shapes.{IsSoundShape, is_described}
 use Rattle.system_model.specs.Sound.{IsPort, IsRole, IsTiming, IsUnder, IsFeed, HasSoundComponents, HasSoundPorts, HasSoundFeeds}
-use Rattle.system_model.proofs.Lists.{all_at, all_by_place}
+use Rattle.system_model.proofs.CallerLemmas.{all_at, all_by_place}
 use Rattle.run_rows.proofs.Tests.{true_false, left, right, holds, parts, every, all_by, zips, zip_by, if_some, is_some_and, is_some_and_by, are_counts, counts_by}
 use Rattle.run_rows.proofs.ShapeTests.{input_by, output_by, is_sound_shape, shape_by}
 

@@ -6,7 +6,7 @@ use Rattle.system_model.specs.declared.plan.EndKind.{EndKind}
 use Rattle.run_model.specs.Run.{Run}
 use Rattle.run_model.specs.Machines.{AreMachines}
 use Rattle.run_model.specs.Trace.{IsTrace}
-use Rattle.run_model.proofs.OneTrace.{trace_same}
+use Rattle.run_model.proofs.CallerLemmas.{trace_same}
 use Rattle.run_rows.specs.Row.{HasTrace}
 
 pub worked : (r : Run) (instants : List Instant) (kind : EndKind) (end : ℕ) → IsSound r.system → AreMachines r → IsTrace r instants kind end → HasTrace r instants kind end

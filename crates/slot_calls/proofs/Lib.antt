@@ -1,8 +1,9 @@
-pub mod States
-pub mod Logs
-pub mod Answered
-pub mod Leading
-pub mod Turns
-pub mod Moving
-pub mod Replying
-pub mod Parts
+pub mod CallerLemmas
+mod States
+mod Logs
+mod Answered
+mod Leading
+mod Turns
+mod Moving
+mod Replying
+mod Parts

@@ -8,7 +8,7 @@ use Rattle.std.proofs.lemmas.Slice.Eq.{bytes_eq-Decides}
 use Rattle.doc_grammar.specs.Nodes.{Node}
 use Rattle.doc_tables.specs.Elements.{name_of, is_named, attribute, parent, is_in, is_root, key_if, unless_empty}
 use Rattle.doc_tables.specs.Tables.{IsFirstWith}
-use Rattle.doc_tables.proofs.TableLemmas.{IsWithin}
+use Rattle.doc_tables.proofs.CallerLemmas.{IsWithin}
 use Rattle.ssd_tree.specs.Elements.{holder, both, element_key, connector_key, mapping_key, IsSystem, Outermost, Inner, IsComponent, IsPart, IsOfPart, IsOfSystem}
 
 -- ---- elements past the end

@@ -1,8 +1,9 @@
-pub mod ListingLemmas
-pub mod ElementLemmas
-pub mod SourceLemmas
-pub mod OneLemmas
-pub mod EndLemmas
-pub mod RuleLemmas
-pub mod PartLemmas
-pub mod ReadLemmas
+pub mod CallerLemmas
+mod ListingLemmas
+mod ElementLemmas
+mod SourceLemmas
+mod OneLemmas
+mod EndLemmas
+mod RuleLemmas
+mod PartLemmas
+mod ReadLemmas

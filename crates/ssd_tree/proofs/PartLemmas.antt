@@ -11,7 +11,7 @@ use Rattle.doc_grammar.specs.Nodes.{Node}
 use Rattle.doc_tree.specs.declared.rule.SystemRule.TheVariants as r
 use Rattle.doc_tables.specs.Elements.{attribute, children, parent, is_named, text_of, unless_empty, Lacks}
 use Rattle.doc_tables.specs.Tables.{Finds, IsFirstWith}
-use Rattle.doc_tables.proofs.TableLemmas.{or_cases, key_if_true}
+use Rattle.doc_tables.proofs.CallerLemmas.{or_cases, key_if_true}
 use Rattle.ssd_tree.specs.Elements.{first_child, has_child, holder, both, element_key, mapping_key, kind_of, IsSystem, Outermost, Inner, IsComponent, IsPart, IsOfPart, IsConnector, IsConnection, IsBinding, IsMappingOf}
 use Rattle.ssd_tree.specs.Listings.{IsListing}
 use Rattle.ssd_tree.specs.Ends.{IsPartNamed, IsEnd}

@@ -6,7 +6,7 @@ use Rattle.doc_tree.specs.declared.refusal.Refusal.{Refusal}
 use Rattle.doc_tree.specs.declared.rule.SystemRule.{SystemRule}
 use Rattle.doc_tree.specs.declared.rule.Rule.TheVariants.{System}
 use Rattle.doc_tables.specs.Answers.{IsRefusal, Refuses}
-use Rattle.doc_tables.proofs.AnswerLemmas as w
+use Rattle.doc_tables.proofs.CallerLemmas as w
 use Rattle.ssd_tree.specs.declared.tree.SystemTree.{SystemTree}
 use Rattle.ssd_tree.specs.Answers.{Faults}
 use Rattle.ssd_tree.specs.Rules.{Violates, IsFirstViolation, IsSound}

@@ -8,7 +8,7 @@ use Rattle.doc_tree.specs.declared.rule.SystemRule.{SystemRule}
 use Rattle.doc_tree.specs.declared.rule.SystemRule.TheVariants as r
 use Rattle.doc_tree.specs.declared.rule.TheConstants.{SYSTEM_RULES}
 use Rattle.doc_tree.specs.Rules.{system_number}
-use Rattle.doc_tables.proofs.ViolationLemmas.{AreApart, IsListed}
+use Rattle.doc_tables.proofs.CallerLemmas.{AreApart, IsListed}
 use Rattle.doc_tables.specs.Elements.{parent}
 use Rattle.ssd_tree.specs.Elements.{IsComponent, IsMappingOf, IsPart}
 use Rattle.ssd_tree.specs.Listings.{IsListing}

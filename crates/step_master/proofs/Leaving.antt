@@ -31,7 +31,7 @@ use Rattle.fmu_peer.specs.View.{View, Fixed}
 use Rattle.course_laws.specs.Laws.{calls_in}
 use Rattle.slot_calls.specs.Log.{Has, Talks}
 use Rattle.slot_calls.specs.SavedStates.{IsGivenUp, if_good, saved_after, saved_by}
-use Rattle.slot_calls.proofs.Logs.{talks_fixed}
+use Rattle.slot_calls.proofs.CallerLemmas.{talks_fixed}
 use Rattle.step_master.proofs.Over.{only_start}
 use Rattle.step_master.proofs.Talking.{talks_legal, talks_phase}
 

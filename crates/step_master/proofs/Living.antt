@@ -16,15 +16,14 @@ use Rattle.fmu_peer.specs.Lean.{IsLean}
 use Rattle.fmu_peer.specs.Siblings.{IsSpared, Member, Siblings, SparesLater}
 use Rattle.fmu_peer.specs.Talk as T
 use Rattle.fmu_peer.specs.View.{Fixed, View}
-use Rattle.fmu_peer.proofs.OrderLemmas.{same_number, spared_from, spares_later}
+use Rattle.fmu_peer.proofs.CallerLemmas.{same_number, spared_from, spares_later}
 use Rattle.step_master.specs.Lives.{IsLife, Life, any_fatal_closing, any_fatal_run, member_in, shape_in, talk_in}
 use Rattle.course_laws.specs.Laws.{calls_in}
 use Rattle.slot_calls.specs.Log.{Has, Sent, Talks, part}
 use Rattle.slot_calls.specs.SavedStates.{IsParted, LeavesState, Talk, saved_after}
 use Rattle.step_master.proofs.Leaving.{leaves_one}
 use Rattle.step_master.proofs.Parted.{Closes, is_parted, turn_closes, unsaved}
-use Rattle.slot_calls.proofs.Logs.{talks_fixed, talks_on}
-use Rattle.slot_calls.proofs.Replying.{replies_of}
+use Rattle.slot_calls.proofs.CallerLemmas.{talks_fixed, talks_on, replies_of}
 use Rattle.step_master.proofs.SeatLemmas.{IsSeat}
 use Rattle.step_master.proofs.Talking.{counts_of, talk_is, talks_legal, talks_phase, turn_all, turn_talks}
 

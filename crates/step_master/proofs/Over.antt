@@ -22,7 +22,7 @@ use Rattle.fmi_calls.specs.Worth.{grade_of}
 use Rattle.fmu_peer.specs.declared.peer.Exchange.{Exchange}
 use Rattle.fmu_peer.specs.declared.peer.PeerFault.{PeerFault}
 use Rattle.fmu_peer.specs.Talk.{Closed, EndsFreed, EndsKeeping, IsGood, Legal, LegalFrom, StartsBadly, next_by, phase_after, phase_from}
-use Rattle.fmu_peer.proofs.TalkLemmas.{phase_from-append}
+use Rattle.fmu_peer.proofs.CallerLemmas.{phase_from-append}
 use Rattle.step_master.specs.Lives.{Freed, IsLife, IsOver, Keeping, Life, LostHere, Unasked, shape_in, talk_in}
 
 -- gone, or lost

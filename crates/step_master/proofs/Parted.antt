@@ -11,7 +11,7 @@ use Rattle.fmu_peer.specs.declared.peer.Exchange.{Exchange}
 use Rattle.fmu_peer.specs.Close.{SendsInTurn, closing_calls}
 use Rattle.fmu_peer.specs.View.{View}
 use Rattle.slot_calls.specs.SavedStates.{IsEnding, IsGivenUp, IsOfClosing, IsParted, LeavesState, Talk, saved_after, saved_by}
-use Rattle.slot_calls.proofs.States.{saved_same}
+use Rattle.slot_calls.proofs.CallerLemmas.{saved_same}
 use Rattle.course_laws.specs.Laws.{calls_in}
 use Rattle.step_master.proofs.Talking.{turn_all}
 

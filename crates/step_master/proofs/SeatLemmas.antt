@@ -17,7 +17,7 @@ use Rattle.system_model.specs.declared.system.Component.{Component}
 use Rattle.calling_sequence.specs.Place.{IsMade, IsPlain}
 use Rattle.step_master.specs.Seats.{IsFresh, seat, seated, views_of}
 use Rattle.step_master.specs.System.{IsNew}
-use Rattle.slot_calls.proofs.Leading.{Led}
+use Rattle.slot_calls.proofs.CallerLemmas.{Led}
 use Rattle.calling_sequence.proofs.Phases.{unmarked_is}
 
 -- one more is given, and one fewer is left

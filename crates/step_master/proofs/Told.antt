@@ -25,9 +25,7 @@ use Rattle.slot_calls.specs.declared.bad_answer.BadAnswer.{BadAnswer}
 use Rattle.slot_calls.specs.Log.{Sent, part}
 use Rattle.slot_calls.specs.Replies.{AreReplies, RepliesBy}
 use Rattle.slot_calls.specs.Stage.{IsAnswered, shapes_of}
-use Rattle.slot_calls.proofs.Logs.{part_append}
-use Rattle.slot_calls.proofs.Parts.{same, takes}
-use Rattle.slot_calls.proofs.Replying.{replies_front}
+use Rattle.slot_calls.proofs.CallerLemmas.{part_append, same, takes, replies_front}
 use Rattle.calling_sequence.specs.declared.run_end.RunEnd.{RunEnd}
 use Rattle.calling_sequence.specs.declared.run_end.RunEnd.TheVariants as E
 use Rattle.calling_sequence.specs.Calls.{making}

@@ -31,7 +31,7 @@ use Rattle.slot_calls.specs.declared.bad_answer.BadAnswer.{BadAnswer}
 use Rattle.slot_calls.specs.Log.{Has, Sent, Told, part}
 use Rattle.slot_calls.specs.SavedStates.{IsParted, Talk}
 use Rattle.slot_calls.specs.Stage.{shapes, shapes_of}
-use Rattle.slot_calls.proofs.Logs.{told_on}
+use Rattle.slot_calls.proofs.CallerLemmas.{told_on}
 use Rattle.calling_sequence.specs.declared.run_end.RunEnd.{RunEnd}
 use Rattle.calling_sequence.specs.declared.run_end.RunEnd.TheVariants as E
 use Rattle.calling_sequence.specs.Ends.{EndsBy}

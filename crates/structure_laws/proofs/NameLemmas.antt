@@ -15,7 +15,7 @@ use Rattle.ssd_tree.specs.declared.tree.ComponentPart.{ComponentPart}
 use Rattle.ssd_tree.specs.declared.tree.SystemTree.{SystemTree}
 use Rattle.ssd_tree.specs.Elements.{holder}
 use Rattle.ssd_tree.specs.Parts.{Describes, InInner, InOutermost, IsComponentPart, IsFullName}
-use Rattle.ssd_tree.proofs.ElementLemmas.{holder_cases}
+use Rattle.ssd_tree.proofs.CallerLemmas.{holder_cases}
 use Rattle.structure_laws.proofs.Order.{order}
 use Rattle.structure_laws.proofs.Weights.{all_within, value_bytes, weight}
 

@@ -16,8 +16,7 @@ use Rattle.ssd_tree.specs.declared.tree.SystemTree.{SystemTree}
 use Rattle.ssd_tree.specs.Elements.{holder}
 use Rattle.ssd_tree.specs.Parts.{Describes, InInner, InOutermost, IsBindingPart, IsComponentPart, IsFullName, IsPlaceOf, IsSystemPart, owner_node}
 use Rattle.ssd_tree.specs.Rules.{IsSound}
-use Rattle.ssd_tree.proofs.ElementLemmas.{holder_cases}
-use Rattle.ssd_tree.proofs.OneLemmas.{alone_in_root}
+use Rattle.ssd_tree.proofs.CallerLemmas.{holder_cases, alone_in_root}
 use Rattle.structure_laws.proofs.NameLemmas.{each_beside}
 use Rattle.ssd_tree.specs.Named.{Inner, IsInScope, IsNamedTree, IsOwner, IsScope, Outermost}
 

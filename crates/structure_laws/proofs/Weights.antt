@@ -5,7 +5,7 @@ use Rattle.std.specs.Str.{encode_utf8_all}
 use Rattle.doc_grammar.specs.Grammar.{strict, quote_char, Piece, print_value, value_of, Attr, print_attr, print_attrs, attr_of, Pair, Tag, print_tag, Content, done, char, reference, comment, instruction, section, empty, element, print, Event, events, Body, Unmarked, Document}
 use Rattle.doc_grammar.specs.Nodes.{is_kept, kept_if, kept, Node, nodes_of, Denotes, tag_node, count, nodes_under}
 use Rattle.doc_grammar.specs.Laws.{Ordered}
-use Rattle.doc_grammar.proofs.Sizes.{size, size_cons, Takes, past_char, past, past_reference, value_size, past_end, past_comment, past_instruction, past_section, past_declaration}
+use Rattle.doc_grammar.proofs.CallerLemmas.{size, size_cons, Takes, past_char, past, past_reference, value_size, past_end, past_comment, past_instruction, past_section, past_declaration}
 
 -- how many bytes the values of a tag's attributes have
 abbrev pub value_bytes : List Pair → ℕ

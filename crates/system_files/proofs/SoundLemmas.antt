@@ -12,7 +12,7 @@ use Rattle.value_types.specs.declared.shape.Shape.{Shape}
 use Rattle.system_model.specs.Shapes.{IsSoundShape}
 use Rattle.system_model.specs.declared.system.Component.{Component}
 use Rattle.system_model.specs.declared.system.System.{System}
-use Rattle.system_model.proofs.Lists.{all_at, all_by_place}
+use Rattle.system_model.proofs.CallerLemmas.{all_at, all_by_place}
 use Rattle.doc_tree.specs.declared.place.Place.{Place}
 use Rattle.doc_tree.specs.declared.rule.Rule.{Rule}
 use Rattle.ssd_tree.specs.declared.tree.ComponentPart.{ComponentPart}

@@ -1,6 +1,7 @@
-pub mod Lists
-pub mod Labels
-pub mod SoundLemmas
-pub mod OrderLemmas
-pub mod OutputsSound
-pub mod ExampleSound
+pub mod CallerLemmas
+mod Lists
+mod Labels
+mod SoundLemmas
+mod OrderLemmas
+mod OutputsSound
+mod ExampleSound

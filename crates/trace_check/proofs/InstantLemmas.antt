@@ -4,7 +4,7 @@ use Rattle.std.specs.Prelude.{IfNone, IfSome, is_some}
 use Rattle.std.proofs.lemmas.Bool.{cases_lt}
 use Rattle.system_model.specs.Text.{Instant}
 use Rattle.system_model.specs.declared.system.System.{System}
-use Rattle.system_model.proofs.Lists.{all_at, contains_at}
+use Rattle.system_model.proofs.CallerLemmas.{all_at, contains_at}
 use Rattle.trace_reading.specs.declared.trace.Trace.{Trace}
 use Rattle.trace_reading.specs.Form.{value_lines_from}
 use Rattle.trace_check.specs.declared.ticks.ConstantClock.{ConstantClock}

@@ -11,8 +11,7 @@ use Rattle.system_model.specs.declared.system.Role.TheVariants.{Input, Output, C
 use Rattle.system_model.specs.declared.system.System.{System}
 use Rattle.system_model.specs.declared.system.Timing.TheVariants.{Periodic, Answered, Countdown}
 use Rattle.system_model.specs.Sound.{IsRole, IsSound, IsTiming}
-use Rattle.system_model.proofs.Lists.{all_by_place}
-use Rattle.system_model.proofs.SoundLemmas.{place_of}
+use Rattle.system_model.proofs.CallerLemmas.{all_by_place, place_of}
 use Rattle.trace_reading.specs.declared.trace.Trace.{Trace}
 use Rattle.trace_check.specs.Rules.{IsFirst}
 use Rattle.trace_check.specs.Ticks.{HasLimits, HasLimitedClocks}

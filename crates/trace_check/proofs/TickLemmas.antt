@@ -14,8 +14,8 @@ use Rattle.system_model.specs.declared.system.Port.{Port}
 use Rattle.system_model.specs.declared.system.Role.TheVariants.{TimeClock}
 use Rattle.system_model.specs.declared.system.Timing.TheVariants.{Periodic}
 use Rattle.system_model.specs.declared.system.System.{System}
-use Rattle.system_model.proofs.Lists.{all_at, all_by_place, at_contains, true_false}
-use Rattle.trace_reading.proofs.ListLemmas.{unsome}
+use Rattle.system_model.proofs.CallerLemmas.{all_at, all_by_place, at_contains, true_false}
+use Rattle.trace_reading.proofs.CallerLemmas.{unsome}
 use Rattle.trace_check.specs.declared.ticks.ConstantClock.{ConstantClock}
 use Rattle.trace_check.specs.Instants.{value}
 use Rattle.trace_check.specs.Values.{is_active}

@@ -11,14 +11,14 @@ use Rattle.value_types.specs.declared.values.PortType.{PortType}
 use Rattle.system_model.specs.Text.{Instant}
 use Rattle.system_model.specs.declared.plan.EndKind.TheVariants.{Stop}
 use Rattle.system_model.specs.declared.system.System.{System}
-use Rattle.system_model.proofs.Lists.{true_false}
+use Rattle.system_model.proofs.CallerLemmas.{true_false}
 use Rattle.trace_reading.specs.declared.trace.Trace.{Trace}
 use Rattle.trace_reading.specs.declared.trace.TraceLine.{TraceLine}
 use Rattle.trace_reading.specs.declared.trace.TraceLine.TheVariants.{At}
 use Rattle.trace_reading.specs.declared.trace.TracePort.{TracePort}
 use Rattle.trace_reading.specs.Form.{IsInstant, IsTrace, MayHave, instant_lines, kinds_of, value_lines_from}
 use Rattle.trace_reading.specs.Written.{ports_told}
-use Rattle.trace_reading.proofs.ListLemmas.{heads, tails, unsome}
+use Rattle.trace_reading.proofs.CallerLemmas.{heads, tails, unsome}
 use Rattle.trace_check.specs.Instants.{AreInstantsOf, Reaches, end_line_number, last_time, line_behind}
 use Rattle.trace_check.specs.Rules.{Breaks, BreaksIn, IsFirst, KeepsRules}
 use Rattle.trace_check.specs.Rules.Breaks.{AtPort, InInstant, AtEnd}

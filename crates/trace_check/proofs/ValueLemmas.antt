@@ -5,7 +5,7 @@ use Rattle.std.proofs.lemmas.List.{take_all, length-replicate}
 use Rattle.trace_reading.specs.declared.trace.TraceLine.{TraceLine}
 use Rattle.trace_reading.specs.declared.trace.TraceLine.TheVariants.{Value}
 use Rattle.trace_reading.specs.Form.{value_lines_from}
-use Rattle.trace_reading.proofs.ListLemmas.{heads, tails}
+use Rattle.trace_reading.proofs.CallerLemmas.{heads, tails}
 use Rattle.trace_check.specs.Steps.{BeginsNoValue}
 
 -- of all values some are read, and the lines left are those of the others and of what stands behind

@@ -10,7 +10,7 @@ use Rattle.system_model.specs.declared.plan.EndKind.{EndKind}
 use Rattle.system_model.specs.declared.plan.EndKind.TheVariants as K
 use Rattle.system_model.specs.declared.system.Component.{Component}
 use Rattle.system_model.specs.declared.system.Port.{Port}
-use Rattle.system_model.proofs.Lists.{true_false}
+use Rattle.system_model.proofs.CallerLemmas.{true_false}
 use Rattle.run_model.specs.Run.{Every, Run, Situation, each, each_from, value}
 use Rattle.run_model.specs.Equations.{Solves}
 use Rattle.run_model.specs.Initial as I

@@ -7,7 +7,7 @@ use Rattle.system_model.specs.Text.{Instant}
 use Rattle.trace_reading.specs.declared.trace.TraceLine.{TraceLine}
 use Rattle.trace_reading.specs.declared.trace.TraceLine.TheVariants.{At, Value}
 use Rattle.trace_reading.specs.Form.{IsInstant, MayHave, instant_lines, value_lines_from}
-use Rattle.trace_reading.proofs.ListLemmas.{heads, tails}
+use Rattle.trace_reading.proofs.CallerLemmas.{heads, tails}
 
 -- the lines begin with none of a value
 abbrev BeginNone : List TraceLine → Type 0

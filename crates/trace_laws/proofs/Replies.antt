@@ -14,7 +14,7 @@ use Rattle.fmi_calls.specs.Kinds.{kind_of}
 use Rattle.fmi_calls.specs.KindFacts.{same_kind}
 use Rattle.fmi_calls.specs.Next.{end_of}
 use Rattle.fmi_calls.specs.Worth.{grade_of, is_step_end}
-use Rattle.system_model.proofs.Lists.{true_false}
+use Rattle.system_model.proofs.CallerLemmas.{true_false}
 use Rattle.run_model.specs.Equations.{value_in}
 
 is_good : (b : Bool) → (if b then G.Good else G.Misreply) ≡ G.Good → b ≡ true

@@ -5,13 +5,13 @@ use Rattle.std.specs.List.{AllByRecursion}
 use Rattle.std.proofs.lemmas.Bool.{eq-eqb}
 use Rattle.fmu_peer.specs.Machine.{Machine, MachineState}
 use Rattle.system_model.specs.declared.system.Component.{Component}
-use Rattle.system_model.proofs.Lists.{true_false}
+use Rattle.system_model.proofs.CallerLemmas.{true_false}
 use Rattle.run_model.specs.Run.{Run, Situation, Timer}
 use Rattle.run_model.specs.Timers.{TicksAt}
 use Rattle.run_model.specs.Steps.{Agree, AllMeet, AskedAgain, AskedFirst, AskedLater, AtTick, Falls, IsAsked, IsBound, MayAsk, MayAskAgain, OnStop, OthersMeet, Stepper, fallen_bound, is_other, least_or, met, others}
 use Rattle.run_model.specs.Stepping.{IsStep, departing, end_in, step_to, steppers}
 use Rattle.run_model.specs.Behaved.{BehavesInStep}
-use Rattle.run_model.proofs.States.{each-get}
+use Rattle.run_model.proofs.CallerLemmas.{each-get}
 use Rattle.trace_laws.proofs.Replies.{IsBetween, step_end}
 
 -- ---- the least of some numbers

@@ -1,17 +1,18 @@
-pub mod ListLemmas
-pub mod LineLemmas
-pub mod NameLemmas
-pub mod WalkLemmas
-pub mod ClockLemmas
-pub mod FitLemmas
-pub mod BodyLemmas
-pub mod FaultLemmas
-pub mod ShortLemmas
-pub mod BeginLemmas
-pub mod TextLemmas
-pub mod PortLemmas
-pub mod TraceLemmas
-pub mod FirstLemmas
-pub mod TableLemmas
-pub mod WrittenLemmas
-pub mod SizeLemmas
+pub mod CallerLemmas
+mod ListLemmas
+mod LineLemmas
+mod NameLemmas
+mod WalkLemmas
+mod ClockLemmas
+mod FitLemmas
+mod BodyLemmas
+mod FaultLemmas
+mod ShortLemmas
+mod BeginLemmas
+mod TextLemmas
+mod PortLemmas
+mod TraceLemmas
+mod FirstLemmas
+mod TableLemmas
+mod WrittenLemmas
+mod SizeLemmas

@@ -1,2 +1,3 @@
+pub mod CallerLemmas
 mod ValueLemmas
-pub mod IndexLemmas
+mod IndexLemmas

@@ -13,7 +13,7 @@ use Rattle.system_model.specs.Sound.{IsSound}
 use Rattle.fmu_peer.specs.View.{View}
 use Rattle.calling_sequence.specs.Systems.{IsBuilt}
 use Rattle.step_master.specs.System.{ArePeersOf, IsNew}
-use Rattle.run_rows.proofs.OrderTests.{sound_by}
+use Rattle.run_rows.proofs.CallerLemmas.{sound_by}
 use Rattle.worked_rows.specs.Chain.{chain, gain_on}
 use Rattle.worked_rows.specs.Trio.{component}
 

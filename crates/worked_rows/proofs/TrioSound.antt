@@ -22,8 +22,7 @@ use Rattle.system_model.specs.declared.system.System.{System}
 use Rattle.system_model.specs.Shapes.{HasFittingStart, HasNames, IsSoundShape, NamesClocks}
 use Rattle.system_model.specs.Outputs.{HasOutputsAlone, IsOfOutputs}
 use Rattle.system_model.specs.Sound.{IsSound}
-use Rattle.system_model.proofs.Lists.{true_false}
-use Rattle.system_model.proofs.OutputsSound.{outputs_sound}
+use Rattle.system_model.proofs.CallerLemmas.{true_false, outputs_sound}
 use Rattle.fmu_peer.specs.View.{View}
 use Rattle.calling_sequence.specs.Systems.{IsBuilt}
 use Rattle.step_master.specs.System.{ArePeersOf, IsNew}

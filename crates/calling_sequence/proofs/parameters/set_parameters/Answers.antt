@@ -8,8 +8,7 @@ use Rattle.system_model.specs.declared.bound.BoundValue.{BoundValue}
 use Rattle.slot_calls.specs.Log.{Asking}
 use Rattle.slot_calls.specs.Slots.{instances}
 use Rattle.slot_calls.specs.Stage.{Stage, nothing}
-use Rattle.slot_calls.proofs.Answered.{answered_none, shapes_same}
-use Rattle.slot_calls.proofs.Logs.{told_none}
+use Rattle.slot_calls.proofs.CallerLemmas.{answered_none, shapes_same, told_none}
 use Rattle.slot_calls.specs.Stage.{shapes}
 use Rattle.calling_sequence.specs.Calls.{binding_from, sets_of}
 use Rattle.calling_sequence.proofs.Bindings.{binding_cut, binding_on, slots_length, values_at}

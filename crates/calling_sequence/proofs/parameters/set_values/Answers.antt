@@ -4,8 +4,7 @@ use Rattle.std.proofs.lemmas.List.Elements.{All-get_or, All-set}
 use Rattle.fmu_peer.specs.CloseAll.{instance_in}
 use Rattle.slot_calls.specs.Slots.{LiveSlot, Stands, instances}
 use Rattle.slot_calls.specs.Stage.{shapes}
-use Rattle.slot_calls.proofs.Answered.{answered_none, one_log}
-use Rattle.slot_calls.proofs.Logs.{told_none}
+use Rattle.slot_calls.proofs.CallerLemmas.{answered_none, one_log, told_none}
 use Rattle.calling_sequence.specs.Place.{IsMade}
 use Rattle.calling_sequence.proofs.Bindings.{may_set_there, set_answered, set_badly, set_made, set_told, sets_all}
 use Rattle.calling_sequence.proofs.parameters.set_values.Goals as goal

@@ -1,7 +1,7 @@
 use Rattle.std.proofs.Common.{[], ap, length, subst, sym, ◌∙◌}
 use Rattle.std.proofs.lemmas.List.{with_items_is}
 use Rattle.trace_text.specs.Room.{HoldsEach}
-use Rattle.slot_calls.proofs.Logs.{told_none}
+use Rattle.slot_calls.proofs.CallerLemmas.{told_none}
 use Rattle.slot_calls.specs.Slots.{instances}
 use Rattle.calling_sequence.specs.Course.{AtFirst, Made}
 use Rattle.calling_sequence.specs.Ends.{Header, header_of}

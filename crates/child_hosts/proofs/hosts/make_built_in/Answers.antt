@@ -2,7 +2,7 @@ use Rattle.std.proofs.Common.{◌≡◌, [], Option, ap, subst, sym, ◌∙◌}
 use Rattle.std.specs.Prelude.{IfSome}
 use Rattle.fmu_peer.specs.declared.talk_room.TalkRoom.{TalkRoom}
 use Rattle.bench_fmus.specs.Told.{origin_in}
-use Rattle.bench_fmus.proofs.BuiltInLemmas.{is_started}
+use Rattle.bench_fmus.proofs.CallerLemmas.{is_started}
 use Rattle.child_hosts.proofs.hosts.make_built_in.Goals as goal
 
 pub returns-clause-fresh : goal.returns-clause-fresh

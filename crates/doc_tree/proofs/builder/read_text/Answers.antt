@@ -5,8 +5,7 @@ use Rattle.doc_grammar.specs.Machine.{step}
 use Rattle.doc_grammar.specs.Nodes.{nodes_behind}
 use Rattle.doc_events.specs.View.{state_of, events_at}
 use Rattle.doc_events.specs.Answers.{Faults}
-use Rattle.doc_events.proofs.Steps.{moved, step_text, step_place, whole_text, ended, early, slice_left, slice_fault}
-use Rattle.doc_events.proofs.Told.{refused_fits, refused_fault}
+use Rattle.doc_events.proofs.CallerLemmas.{moved, step_text, step_place, whole_text, ended, early, slice_left, slice_fault, refused_fits, refused_fault}
 use Rattle.doc_tree.proofs.Told.{built_tree, built_more}
 use Rattle.doc_tree.proofs.builder.read_text.Goals as goal
 

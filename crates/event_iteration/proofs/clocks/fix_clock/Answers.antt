@@ -17,14 +17,13 @@ use Rattle.system_model.specs.declared.system.Role.TheVariants.{TimeClock}
 use Rattle.system_model.specs.declared.system.System.{System}
 use Rattle.system_model.specs.declared.system.Timing.TheVariants.{Answered}
 use Rattle.system_model.specs.Sound.{IsSound}
-use Rattle.system_model.proofs.Lists.{all_at}
-use Rattle.system_model.proofs.SoundLemmas.{Placed, place_of}
+use Rattle.system_model.proofs.CallerLemmas.{all_at, Placed, place_of}
 use Rattle.run_model.specs.Initial.{interval_in, shift_in}
 use Rattle.run_model.specs.Run.{Timer}
 use Rattle.run_model.specs.Timers.{fixed}
 use Rattle.slot_calls.specs.Slots.{instances}
 use Rattle.slot_calls.specs.Stage.{Stage, shapes, shapes_of}
-use Rattle.slot_calls.proofs.Answered.{shapes_same}
+use Rattle.slot_calls.proofs.CallerLemmas.{shapes_same}
 use Rattle.event_iteration.specs.Clocks.{first_place}
 use Rattle.event_iteration.specs.Questions.{FixesPort, IsEntered, first_reply, is_asked, modes}
 use Rattle.event_iteration.proofs.Answering.{asked_role, fixed_variability, interval_known, may_interval, may_shift, one_answer, shift_known}

@@ -4,9 +4,8 @@ use Rattle.std.proofs.lemmas.List.Elements.{All-map}
 use Rattle.fmi_calls.specs.declared.phase.InstanceState.{InstanceState}
 use Rattle.fmi_calls.specs.declared.phase.InstanceState.TheVariants as P
 use Rattle.fmu_peer.specs.CloseAll.{Instance, instance_in}
-use Rattle.system_model.proofs.Lists.{all_at}
-use Rattle.system_model.proofs.SoundLemmas.{place_of}
-use Rattle.slot_calls.proofs.Answered.{shapes_same}
+use Rattle.system_model.proofs.CallerLemmas.{all_at, place_of}
+use Rattle.slot_calls.proofs.CallerLemmas.{shapes_same}
 use Rattle.event_iteration.specs.Initialization.{IsInitializing}
 use Rattle.event_iteration.specs.Questions.{modes}
 use Rattle.event_iteration.proofs.Fixing.{fixing_all, fixing_machines, fixing_more, fixing_none, fixing_stands, fixing_until}

@@ -11,8 +11,7 @@ use Rattle.system_model.specs.declared.system.Role.TheVariants.{Input, Output, C
 use Rattle.system_model.specs.declared.system.System.{System}
 use Rattle.system_model.specs.declared.system.Timing.TheVariants.{Periodic, Answered, Countdown}
 use Rattle.system_model.specs.Sound.{IsPeriodic, IsRole, IsSound}
-use Rattle.system_model.proofs.Lists.{all_by_place}
-use Rattle.system_model.proofs.SoundLemmas.{place_of}
+use Rattle.system_model.proofs.CallerLemmas.{all_by_place, place_of}
 use Rattle.tick_schedule.specs.declared.clock.ClockState.{ClockState}
 use Rattle.tick_schedule.specs.Timetable.{IsSoundClock, Timetable, first_state}
 use Rattle.event_iteration.specs.Clocks.{first_clock, first_place}

@@ -2,7 +2,7 @@ use Rattle.std.proofs.Common.{◌≡◌, true, [], ◌++◌, ap, ◌∙◌, subs
 use Rattle.fmu_peer.specs.CloseAll.{Instance, instance_in}
 use Rattle.system_model.specs.Needs.{NeedsInitially, is_unclocked_at}
 use Rattle.system_model.specs.Ports.{numbers}
-use Rattle.slot_calls.proofs.Logs.{told_none, told_on}
+use Rattle.slot_calls.proofs.CallerLemmas.{told_none, told_on}
 use Rattle.event_iteration.specs.Initialization.{IsInitializing, initially, no_values}
 use Rattle.event_iteration.specs.Turns.{Begun, Walked}
 use Rattle.event_iteration.proofs.Abouts.{about_initially}

@@ -1,6 +1,6 @@
 use Rattle.std.proofs.Common.{◌<◌, [], ◌++◌, map, subst, refl, arith, length}
 use Rattle.fmu_peer.specs.CloseAll.{Instance, instance_in}
-use Rattle.slot_calls.proofs.Logs.{told_none, told_on}
+use Rattle.slot_calls.proofs.CallerLemmas.{told_none, told_on}
 use Rattle.event_iteration.specs.Settings.{IsUnset, before_step, port_order}
 use Rattle.event_iteration.specs.Turns.{Begun, Walked}
 use Rattle.event_iteration.proofs.Departing.{departs_for_machines}

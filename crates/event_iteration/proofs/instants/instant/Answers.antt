@@ -2,7 +2,7 @@ use Rattle.std.proofs.Common.{◌<◌, [], ◌++◌, subst, refl, sym, length, m
 use Rattle.fmu_peer.specs.CloseAll.{Instance, instance_in}
 use Rattle.system_model.specs.Needs.{Needs}
 use Rattle.system_model.specs.Ports.{numbers}
-use Rattle.slot_calls.proofs.Logs.{told_none, told_on}
+use Rattle.slot_calls.proofs.CallerLemmas.{told_none, told_on}
 use Rattle.event_iteration.specs.Clocks.{is_due_at}
 use Rattle.event_iteration.specs.Instants.{BeginsInstant, in_instant}
 use Rattle.event_iteration.specs.Turns.{Begun, Walked}

@@ -1,7 +1,7 @@
 use Rattle.std.proofs.Common.{sym, ◌∙◌, arith, map}
 use Rattle.std.proofs.lemmas.Option.{slice_get_within}
 use Rattle.fmu_peer.specs.CloseAll.{instance_in}
-use Rattle.system_model.proofs.SoundLemmas.{place_of}
+use Rattle.system_model.proofs.CallerLemmas.{place_of}
 use Rattle.event_iteration.proofs.Answering.{countdown_role, may_countdown}
 use Rattle.event_iteration.proofs.Rearming.{asks_badly, asks_nothing, asks_well}
 use Rattle.event_iteration.proofs.Taking.{port_at, slots_many}

@@ -4,7 +4,7 @@ use Rattle.fmu_peer.specs.CloseAll.{Instance, instance_in}
 use Rattle.run_model.specs.Run.{value}
 use Rattle.run_model.specs.Timers.{is_armed_for}
 use Rattle.tick_schedule.specs.Timetable.{with_clock}
-use Rattle.slot_calls.proofs.Answered.{shapes_same}
+use Rattle.slot_calls.proofs.CallerLemmas.{shapes_same}
 use Rattle.event_iteration.specs.Clocks.{timer_in, timers_in}
 use Rattle.event_iteration.specs.Instants.{IsRunning}
 use Rattle.event_iteration.specs.Questions.{AreRunning, place_behind}

@@ -8,9 +8,7 @@ use Rattle.system_model.specs.declared.system.Component.{Component}
 use Rattle.slot_calls.specs.Carried.{reply_in}
 use Rattle.slot_calls.specs.Slots.{LiveSlot, Stands, instances}
 use Rattle.slot_calls.specs.Stage.{IsAnswered, has_events, shapes, to_those}
-use Rattle.slot_calls.proofs.Answered.{answered_none, one_log, shape_of, those_all}
-use Rattle.slot_calls.proofs.Logs.{told_none}
-use Rattle.slot_calls.proofs.Turns.{at_rest, each_left, each_sent, each_stops, each_told, same_first, same_left, same_more}
+use Rattle.slot_calls.proofs.CallerLemmas.{answered_none, one_log, shape_of, those_all, told_none, at_rest, each_left, each_sent, each_stops, each_told, same_first, same_left, same_more}
 use Rattle.event_iteration.specs.Instants.{IsRunning}
 use Rattle.event_iteration.proofs.Fmus.{got}
 use Rattle.event_iteration.proofs.Taking.{port_at}

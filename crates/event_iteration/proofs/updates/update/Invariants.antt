@@ -3,7 +3,7 @@ use Rattle.std.specs.Prelude.{All}
 use Rattle.slot_calls.specs.Log.{Sent, Told}
 use Rattle.slot_calls.specs.Slots.{LiveSlot, instances}
 use Rattle.slot_calls.specs.Stage.{IsAnswered, shapes}
-use Rattle.slot_calls.proofs.Turns.{SameFrom}
+use Rattle.slot_calls.proofs.CallerLemmas.{SameFrom}
 use Rattle.event_iteration.specs.Updates.{updated_by, updating}
 use Rattle.event_iteration.proofs.updates.update.Given as goal
 

@@ -4,7 +4,7 @@ use Rattle.std.specs.Option.{option_map}
 use Rattle.std.proofs.lemmas.Option.{slice_get-get_or}
 use Rattle.ssd_tree.specs.declared.tree.ComponentPart.{ComponentPart}
 use Rattle.doc_tables.specs.Places.{found_name}
-use Rattle.doc_tables.proofs.TableLemmas.{table_empty, table_whole}
+use Rattle.doc_tables.proofs.CallerLemmas.{table_empty, table_whole}
 use Rattle.flatten.specs.Flat.{source_at}
 use Rattle.flatten.proofs.ComponentLemmas.{source_within}
 use Rattle.flatten.proofs.components.first_of_sources.Goals as goal

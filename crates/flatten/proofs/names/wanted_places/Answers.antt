@@ -3,7 +3,7 @@ use Rattle.std.specs.List.{slice_get}
 use Rattle.std.specs.Option.{option_and_then}
 use Rattle.std.proofs.lemmas.Option.{slice_get_read}
 use Rattle.doc_tables.specs.Places.{found_in}
-use Rattle.doc_tables.proofs.TableLemmas.{table_empty, table_whole}
+use Rattle.doc_tables.proofs.CallerLemmas.{table_empty, table_whole}
 use Rattle.ssd_tree.specs.declared.tree.Connector.{Connector}
 use Rattle.flatten.specs.Indexed.{wanted_at, wanted_by}
 use Rattle.flatten.proofs.NameLemmas.{wanted_within}

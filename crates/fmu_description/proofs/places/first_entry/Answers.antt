@@ -1,6 +1,6 @@
 use Rattle.std.proofs.Common.{ℕ, nat_lt, rules}
 use Rattle.std.proofs.lemmas.List.Sorted.{IsPartitionPoint-from_clause, IsPartitionedBy-ltb}
-use Rattle.value_types.proofs.IndexLemmas.{rising}
+use Rattle.value_types.proofs.CallerLemmas.{rising}
 use Rattle.fmu_description.proofs.places.first_entry.Goals as goal
 
 pub returns : goal.returns

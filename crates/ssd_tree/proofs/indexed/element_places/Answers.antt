@@ -1,6 +1,6 @@
 use Rattle.std.proofs.Common.{arith}
 use Rattle.doc_tables.specs.Places.{found_in}
-use Rattle.doc_tables.proofs.TableLemmas.{table_empty, table_whole}
+use Rattle.doc_tables.proofs.CallerLemmas.{table_empty, table_whole}
 use Rattle.ssd_tree.specs.Elements.{element_key}
 use Rattle.ssd_tree.proofs.ElementLemmas.{element_key_within}
 use Rattle.ssd_tree.proofs.indexed.element_places.Goals as goal

@@ -3,8 +3,8 @@ use Rattle.std.specs.List.{slice_get}
 use Rattle.std.proofs.lemmas.Bool.{cases_lt}
 use Rattle.std.proofs.lemmas.Option.{slice_get-get_or, slice_get_within}
 use Rattle.system_model.specs.declared.system.Port.{Port}
-use Rattle.system_model.proofs.Lists.{all_by_place}
-use Rattle.trace_reading.proofs.ListLemmas.{unsome}
+use Rattle.system_model.proofs.CallerLemmas.{all_by_place}
+use Rattle.trace_reading.proofs.CallerLemmas.{unsome}
 use Rattle.trace_check.specs.Ticks.{HasLimits}
 use Rattle.tests_of_traces.proofs.check_tests.keeps_limits.Goals as goal
 

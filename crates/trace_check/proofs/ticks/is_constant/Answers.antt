@@ -1,7 +1,7 @@
 use Rattle.std.proofs.Common.{rules, ◌≡◌, sym, Some, None}
 use Rattle.std.specs.List.{slice_get}
 use Rattle.value_types.specs.Shape.{timing_at}
-use Rattle.system_model.proofs.Lists.{true_false}
+use Rattle.system_model.proofs.CallerLemmas.{true_false}
 use Rattle.trace_check.proofs.TickLemmas.{constant_from, no_timing}
 use Rattle.trace_check.proofs.ticks.is_constant.Goals as goal
 

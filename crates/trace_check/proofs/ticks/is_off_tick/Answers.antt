@@ -1,5 +1,5 @@
 use Rattle.std.proofs.Common.{sym}
-use Rattle.system_model.proofs.Lists.{true_false}
+use Rattle.system_model.proofs.CallerLemmas.{true_false}
 use Rattle.trace_check.proofs.TickLemmas.{none_off, none_off_more}
 use Rattle.trace_check.proofs.ticks.is_off_tick.Goals as goal
 

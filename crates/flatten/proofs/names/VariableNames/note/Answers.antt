@@ -3,7 +3,7 @@ use Rattle.std.specs.List.{slice_get}
 use Rattle.std.specs.Option.{is_some}
 use Rattle.std.proofs.lemmas.Option.{slice_get_read}
 use Rattle.doc_tables.specs.Places.{found_in}
-use Rattle.doc_tables.proofs.TableLemmas.{free_from}
+use Rattle.doc_tables.proofs.CallerLemmas.{free_from}
 use Rattle.flatten.proofs.NameLemmas.{found_within, lead_held, lead_noted}
 use Rattle.flatten.proofs.names.VariableNames.note.Goals as goal
 use Rattle.flatten.proofs.names.VariableNames.note.Goals.{else-connector-len-via-then-connector-len+else-is_none, else-connector-len-via-else-connector-len}

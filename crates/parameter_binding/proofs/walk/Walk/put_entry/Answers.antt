@@ -1,6 +1,6 @@
 use Rattle.std.proofs.Common.{◌++◌, sym, ap, ◌∙◌}
 use Rattle.std.specs.Option.{option_map}
-use Rattle.parameter_targets.proofs.ListLemmas.{read_at}
+use Rattle.parameter_targets.proofs.CallerLemmas.{read_at}
 use Rattle.parameter_binding.specs.declared.sets.MappingOf.{MappingOf}
 use Rattle.parameter_binding.proofs.MoveLemmas.{come_none}
 use Rattle.parameter_binding.proofs.walk.Walk.put_entry.Goals as goal

@@ -3,8 +3,7 @@ use Rattle.std.specs.Option.{option_map}
 use Rattle.std.proofs.lemmas.List.{length-map}
 use Rattle.parameter_values.specs.declared.set.Parameter.{Parameter}
 use Rattle.parameter_targets.specs.Chains.{FindsFrom, next_of, text_at}
-use Rattle.parameter_targets.proofs.ChainLemmas.{left_smaller}
-use Rattle.parameter_targets.proofs.ListLemmas.{read_at}
+use Rattle.parameter_targets.proofs.CallerLemmas.{left_smaller, read_at}
 use Rattle.parameter_binding.specs.declared.sets.MappingOf.{MappingOf}
 use Rattle.parameter_binding.specs.Binds.{change_of}
 use Rattle.parameter_binding.specs.Walk.{IsAtNext, names_in}

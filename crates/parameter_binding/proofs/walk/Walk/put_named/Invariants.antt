@@ -1,5 +1,5 @@
 use Rattle.std.proofs.Common.{length}
-use Rattle.parameter_targets.proofs.ChainLemmas.{left}
+use Rattle.parameter_targets.proofs.CallerLemmas.{left}
 use Rattle.parameter_binding.specs.Walk.{IsAtNext, names_in}
 use Rattle.parameter_binding.proofs.walk.Walk.put_named.Given as goal
 

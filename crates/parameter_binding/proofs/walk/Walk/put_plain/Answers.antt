@@ -1,6 +1,6 @@
 use Rattle.std.proofs.Common.{◌≡◌, ◌++◌, ◌<◌, List, length, None, refl, sym, ap, subst, arith, rules}
 use Rattle.parameter_values.specs.declared.set.Parameter.{Parameter}
-use Rattle.parameter_targets.proofs.ListLemmas.{read_at}
+use Rattle.parameter_targets.proofs.CallerLemmas.{read_at}
 use Rattle.parameter_binding.specs.Binds.{IsLater}
 use Rattle.parameter_binding.specs.Walk.{triple_at}
 use Rattle.parameter_binding.proofs.MoveLemmas.{next_binding, next_parameter, real_plain}

@@ -3,7 +3,7 @@ use Rattle.std.proofs.lemmas.Bool.{iff_false}
 use Rattle.doc_tree.specs.declared.rule.SystemRule.TheVariants as r
 use Rattle.doc_tree.specs.declared.rule.TheConstants.{SYSTEM_RULES}
 use Rattle.doc_tree.specs.Rules.{system_number}
-use Rattle.doc_tables.proofs.ViolationLemmas.{keeps_all, least_at}
+use Rattle.doc_tables.proofs.CallerLemmas.{keeps_all, least_at}
 use Rattle.ssd_tree.specs.Rules.{Violates}
 use Rattle.ssd_tree.proofs.RuleLemmas.{rules_listed}
 use Rattle.ssd_tree.proofs.indexed.IndexedTree.broken_rule.Goals as goal

@@ -1,7 +1,7 @@
 use Rattle.doc_tree.specs.declared.rule.SystemRule.TheVariants as r
 use Rattle.doc_tree.specs.declared.rule.TheConstants.{SYSTEM_RULES}
 use Rattle.doc_tree.specs.Rules.{system_number}
-use Rattle.doc_tables.proofs.ViolationLemmas.{KeepsBelow}
+use Rattle.doc_tables.proofs.CallerLemmas.{KeepsBelow}
 use Rattle.ssd_tree.specs.Rules.{Violates}
 use Rattle.ssd_tree.proofs.indexed.IndexedTree.broken_rule.Given as goal
 

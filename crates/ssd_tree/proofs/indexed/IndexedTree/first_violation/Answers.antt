@@ -2,7 +2,7 @@ use Rattle.std.proofs.Common.{arith, below_more}
 use Rattle.std.proofs.lemmas.Option.{MatchOption-at_none}
 use Rattle.doc_tree.specs.Rules.{system_number}
 use Rattle.doc_tables.specs.Violations.{BreaksNoRule, IsLeast}
-use Rattle.doc_tables.proofs.ViolationLemmas.{all_sound}
+use Rattle.doc_tables.proofs.CallerLemmas.{all_sound}
 use Rattle.ssd_tree.specs.Rules.{Violates}
 use Rattle.ssd_tree.proofs.RuleLemmas.{breaks_none}
 use Rattle.ssd_tree.proofs.indexed.IndexedTree.first_violation.Goals as goal

@@ -6,7 +6,7 @@ use Rattle.bench_fmus.specs.BuiltIn.{machine_of}
 use Rattle.bench_fmus.specs.Laws.{is_machine}
 use Rattle.bench_fmus.specs.Models.{behaviour_of}
 use Rattle.bench_fmus.specs.Told.{state_in}
-use Rattle.bench_fmus.proofs.PeerLemmas.{talk_goes_on, answers_as, in_phase_kept}
+use Rattle.bench_fmus.proofs.CallerLemmas.{talk_goes_on, answers_as, in_phase_kept}
 use Rattle.worked_rows.specs.OwnCounter.{own_machine}
 use Rattle.worked_rows.specs.OwnCounterLaws.{base_in_phase, machine_in_phase, machine_is, own_looks, unmoved}
 use Rattle.worked_rows.proofs.own_counter.OwnCounterPeer.call.Goals as goal

@@ -1,6 +1,6 @@
 use Rattle.fmu_peer.specs.declared.peer.PeerFault.TheVariants.{Failed}
 use Rattle.fmu_peer.specs.Book.{fills_next}
-use Rattle.bench_fmus.proofs.PeerLemmas.{in_phase_kept}
+use Rattle.bench_fmus.proofs.CallerLemmas.{in_phase_kept}
 use Rattle.worked_rows.specs.Ticker.{state_in, ticker}
 use Rattle.worked_rows.specs.TickerLaws.{untold_kept}
 use Rattle.worked_rows.proofs.ticker.TickerPeer.call.Goals as goal

@@ -1,0 +1,2 @@
+-- The lemmas of this crate that others may cite.
+pub use Rattle.fmi_calls.proofs.KindLemmas.{same_kind-is}

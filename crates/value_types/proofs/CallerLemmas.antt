@@ -1,0 +1,2 @@
+-- The lemmas of this crate that others may cite.
+pub use Rattle.value_types.proofs.IndexLemmas.{find_missing, find_placed, placed_within, position-map, position_first, rising}
