@@ -2,7 +2,7 @@
 use Rattle.std.proofs.Common.{◌≡◌, ℕ, zero, suc, ◌<◌, false, List, [], ◌∷◌, sym, ap, ◌∙◌, subst, arith, get_or, map}
 use Rattle.std.specs.Prelude.{All, nat_eq}
 use Rattle.std.specs.List.{AllByRecursion, AllZip, IsDistinct}
-use Rattle.std.proofs.lemmas.List.Elements.{All-cons, All-from_get_or, All-head, All-map, All-nil, All-tail, All-weaker}
+use Rattle.std.proofs.lemmas.List.Elements.{All-cons, All-head, All-map, All-nil, All-tail, All-weaker}
 use Rattle.fmi_calls.specs.declared.call.Call.{Call}
 use Rattle.fmu_peer.specs.Lean.{NoneTwiceBehind, without_value}
 use Rattle.system_model.specs.declared.bound.Bound.{Bound}

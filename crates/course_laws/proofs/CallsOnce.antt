@@ -1,6 +1,6 @@
 -- The calls of one component along a run: each is one of a run, and none stands twice where it isn't needed.
 use Rattle.std.proofs.Common.{◌≡◌, ℕ, zero, suc, ◌-◌, ◌<◌, ◌≤◌, ◌==◌, Bool, true, false, List, [], ◌∷◌, ◌++◌, Option, Some, ℤ, refl, sym, ap, ◌∙◌, subst, append_assoc, append-nil, arith, length}
-use Rattle.std.specs.Prelude.{All, if◌then◌else◌}
+use Rattle.std.specs.Prelude.{if◌then◌else◌}
 use Rattle.std.specs.List.{slice_get}
 use Rattle.std.proofs.lemmas.List.Elements.{All-cons, All-nil}
 use Rattle.value_types.specs.declared.shape.Shape.{Shape}
@@ -24,7 +24,7 @@ use Rattle.slot_calls.proofs.Parts.{other}
 use Rattle.event_iteration.specs.WalkCalls.{Front, UsesAre, WalksBy, Whole, has_events_at, initial_span, instant_span, interval_span, own, step_span, timing_span}
 use Rattle.event_iteration.proofs.WalkLaws.{each_call_once, own_append}
 use Rattle.calling_sequence.specs.Calls.{making}
-use Rattle.calling_sequence.specs.Course.{Again, Arrives, Before, Binds, Configured, Course, Departing, Entered, Enters, Exits, Finds, Found, GoesOn, LeadsTo, Leaves, Leaving, Left, Made, Place, Read, Reads, Rearmed, Rearming, Seen, Sets, Spot, Stepped, Steps, Timed, Times, Updates, Way, part_at}
+use Rattle.calling_sequence.specs.Course.{Again, Arrives, Before, Binds, Configured, Course, Departing, Entered, Enters, Exits, Finds, Found, GoesOn, LeadsTo, Leaves, Leaving, Left, Made, Place, Read, Reads, Rearmed, Rearming, Seen, Sets, Spot, Stepped, Steps, Timed, Times, Updates, part_at}
 use Rattle.calling_sequence.specs.Parts.{Calls, Does, Falls, Part, Round, Walk}
 use Rattle.calling_sequence.proofs.Along.{along}
 use Rattle.course_laws.specs.Laws.{AreNeeded, NoCallTwice}
@@ -121,20 +121,10 @@ IsLater (Departing w) = w.s.t < w.to
 IsLater p = Unit {0}
 
 later_on : (system : System) (plan : Plan) (p q : Place) (values : List (Option ℤ)) (log : List Sent) → LeadsTo system plan p values log q → IsLater p → IsLater q
-later_on system plan _ _ _ _ (Binds values log) later = tt
-later_on system plan _ _ _ _ (Enters values log) later = tt
-later_on system plan _ _ _ _ (Finds values log) later = tt
-later_on system plan _ _ _ _ (Times values log timers is) later = tt
-later_on system plan _ _ _ _ (Exits timers values log s ticks is begins) later = tt
-later_on system plan _ _ _ _ (Reads s ticks values log places) later = tt
-later_on system plan _ _ _ _ (Rearming s values next log rearms) later = tt
-later_on system plan _ _ _ _ (Updates s values log again asked again_is asked_is) later = tt
-later_on system plan _ _ _ _ (Again s values log ticks below begins) later = tt
 later_on system plan _ _ _ _ (GoesOn w values log step) later = step.bound.bound.later
 later_on system plan _ _ _ _ (Leaves w values log) later = later
 later_on system plan _ _ _ _ (Sets w values log) later = later
-later_on system plan _ _ _ _ (Steps w values log asked is) later = tt
-later_on system plan _ _ _ _ (Arrives s values log ticks begins) later = tt
+later_on system plan _ _ _ _ leads later = tt
 
 -- ---- spans one behind the other
 
@@ -233,9 +223,13 @@ module _ (system : System) (sound : IsSound system) (k : ℕ) (c : Component) (o
         let m = limit stepped_kinds w.to 1 in
         let call = C.DoStep w.s.t (w.to - w.s.t) in
         to_all l m calls so call (called l m calls so call refl (λ once. differ_step l (w.to - w.s.t)) refl (NamesNone refl refl later))
-    adds (Stepped s asked) calls later so =
-        let l = limit_at e (Stepped s asked) in
-        let m = limit_behind e plan (Stepped s asked) in
+    adds (Stepped s true) calls later so =
+        let l = limit_at e (Stepped s true) in
+        let m = limit_behind e plan (Stepped s true) in
+        subst (IsSo m) (sym (append-nil calls)) (weaker l m calls so (more_seen l m stepped_at_point refl (stepped_seen e)))
+    adds (Stepped s false) calls later so =
+        let l = limit_at e (Stepped s false) in
+        let m = limit_behind e plan (Stepped s false) in
         to_events m calls C.EnterEvent
         (switched l m calls so e C.EnterEvent refl (λ once. differ_by l C.EnterEvent refl refl) refl (NamesNone refl refl tt) (λ none. more_seen l m stepped_at_point refl (stepped_seen e)))
 
@@ -255,21 +249,10 @@ module _ (system : System) (sound : IsSound system) (k : ℕ) (c : Component) (o
     fallen (Walk rules before order) l calls a bad log (values, falls) = needed l (calls ++ mine log) (a log (Front bad values log falls))
 
     leads_so : (calls : List Call) (p q : Place) (values : List (Option ℤ)) (log : List Sent) → LeadsTo system plan p values log q → IsSo (limit_behind e plan p) calls → IsSo (limit_at e q) calls
-    leads_so calls _ _ _ _ (Binds values log) so = so
-    leads_so calls _ _ _ _ (Enters values log) so = so
-    leads_so calls _ _ _ _ (Finds values log) so = so
-    leads_so calls _ _ _ _ (Times values log timers is) so = so
     leads_so calls _ _ _ _ (Exits timers values log s ticks is begins) so = subst (λ (z : Spot). IsSo (limit_at e (Before z ticks)) calls) (sym is) so
-    leads_so calls _ _ _ _ (Reads s ticks values log places) so = so
-    leads_so calls _ _ _ _ (Rearming s values next log rearms) so = so
-    leads_so calls _ _ _ _ (Updates s values log again asked again_is asked_is) so = so
     leads_so calls _ _ _ _ (Again s values log ticks below begins) so =
         subst (λ (b : Bool). IsSo (limit point_kinds s.t (instant_span b e).from) calls) (sym (other (suc s.n) 0 (λ same. absurd (omega (arith, same))))) so
-    leads_so calls _ _ _ _ (GoesOn w values log step) so = so
-    leads_so calls _ _ _ _ (Leaves w values log) so = so
-    leads_so calls _ _ _ _ (Sets w values log) so = so
-    leads_so calls _ _ _ _ (Steps w values log asked is) so = so
-    leads_so calls _ _ _ _ (Arrives s values log ticks begins) so = so
+    leads_so calls _ _ _ _ leads so = so
 
     -- the calls that made it and those of a log
     abbrev upto : List Sent → List Call

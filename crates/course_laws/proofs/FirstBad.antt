@@ -1,5 +1,5 @@
 -- The answers of a run: all are good, or up to the first that isn't.
-use Rattle.std.proofs.Common.{ℕ, zero, suc, ◌+◌, ◌<◌, ◌≤◌, ◌≡◌, ℤ, Bool, List, [], ◌∷◌, ◌++◌, Option, Some, None, refl, sym, arith, length, subst, append_assoc}
+use Rattle.std.proofs.Common.{ℕ, suc, ◌+◌, ◌<◌, ◌≤◌, ◌≡◌, ℤ, Bool, true, false, List, [], ◌∷◌, ◌++◌, Option, Some, refl, arith, length, subst, append_assoc}
 use Rattle.std.specs.Prelude.{All}
 use Rattle.std.specs.List.{slice_get}
 use Rattle.std.proofs.lemmas.List.{length-map}
@@ -25,12 +25,12 @@ use Rattle.system_model.specs.Text.{Instant}
 use Rattle.system_model.proofs.SoundLemmas.{place_of}
 use Rattle.run_model.specs.Initial.{set_call}
 use Rattle.slot_calls.specs.declared.bad_answer.BadAnswer.{BadAnswer}
-use Rattle.slot_calls.specs.Log.{Asking, Sent}
+use Rattle.slot_calls.specs.Log.{Sent}
 use Rattle.slot_calls.specs.Stage.{IsGoodOf, everyone, shapes_of, to_those}
 use Rattle.slot_calls.proofs.Parts.{those_within}
-use Rattle.event_iteration.specs.Intervals.{timing_calls, timing_calls_in, timing_calls_of}
+use Rattle.event_iteration.specs.Intervals.{timing_calls_in, timing_calls_of}
 use Rattle.event_iteration.proofs.WalkLaws.{last_alone_is_bad}
-use Rattle.calling_sequence.specs.Calls.{binding, binding_from, making, sets_of}
+use Rattle.calling_sequence.specs.Calls.{binding_from, making, sets_of}
 use Rattle.calling_sequence.specs.Course.{Before, Configured, Course, Departing, Entered, Found, Left, Leaving, Made, Place, Read, Rearmed, Seen, Stepped, Timed, part_at}
 use Rattle.calling_sequence.specs.Parts.{Calls, Does, EndsBadly, Falls, Part, Round, Walk}
 use Rattle.calling_sequence.proofs.Along.{along}
@@ -53,12 +53,7 @@ module _ (n : ℕ) where
   timing_to_one (TimeClock Answered) port w =
       All-cons (IsToOne n) (record { component = port.component.0; call = C.GetInterval port.reference }) (record { component = port.component.0; call = C.GetShift port.reference } ∷ []) w
       (All-cons (IsToOne n) (record { component = port.component.0; call = C.GetShift port.reference }) [] w (All-nil (IsToOne n)))
-  timing_to_one (TimeClock (Periodic interval shift)) port w = All-nil (IsToOne n)
-  timing_to_one (TimeClock Countdown) port w = All-nil (IsToOne n)
-  timing_to_one (Input feed) port w = All-nil (IsToOne n)
-  timing_to_one Output port w = All-nil (IsToOne n)
-  timing_to_one (ClockInput feed) port w = All-nil (IsToOne n)
-  timing_to_one ClockOutput port w = All-nil (IsToOne n)
+  timing_to_one role port w = All-nil (IsToOne n)
 
   timings_to_one : (ports : List Port) → ((j : ℕ) (port : Port) → slice_get ports j ≡ Some port → port.component.0 < n) → All (IsToOne n) (timing_calls_in ports)
   timings_to_one [] inside = All-nil (IsToOne n)
@@ -113,7 +108,8 @@ module _ (system : System) where
     part_placed (Leaving w) = those _ _
     part_placed (Left w) = tt
     part_placed (Departing w) = (those _ _, in_order_from _ 0 0 ss (omega arith))
-    part_placed (Stepped s asked) = those _ _
+    part_placed (Stepped s true) = All-nil (IsToOne (length ss))
+    part_placed (Stepped s false) = those _ _
 
     course_good : (p : Place) (log : List Sent) (is : List Instant) → Course system bound plan p log is → Good log
     course_good = along system bound plan (λ p log is. Good log) (All-nil (IsGoodOf ss))

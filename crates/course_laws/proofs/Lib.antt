@@ -5,3 +5,8 @@ mod OwnCalls
 mod BoundSets
 mod Once
 mod CallsOnce
+mod ArmedClocks
+mod UpdateMarks
+mod UpdateTables
+mod UpdatesNeeded
+mod UpdatesAlong

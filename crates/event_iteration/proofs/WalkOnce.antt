@@ -227,12 +227,7 @@ module _ (system : System) (sound : IsSound system) (k : ℕ) where
 
   timing_of : (p : ℕ) (port : Port) → slice_get system.ports p ≡ Some port → (role : Role) → OfPort system sound k timing_span names p (own k (timing_calls_of role port))
   timing_of p port at (TimeClock Answered) = timing_two p port at (port.component.0 == k) refl
-  timing_of p port at (TimeClock (Periodic interval shift)) = NoneHere refl
-  timing_of p port at (TimeClock Countdown) = NoneHere refl
-  timing_of p port at (Input feed) = NoneHere refl
-  timing_of p port at Output = NoneHere refl
-  timing_of p port at (ClockInput feed) = NoneHere refl
-  timing_of p port at ClockOutput = NoneHere refl
+  timing_of p port at role = NoneHere refl
 
   timing_from : (p : ℕ) (ports : List Port) → ((j : ℕ) (port : Port) → slice_get ports j ≡ Some port → slice_get system.ports (p + j) ≡ Some port) → Turned system sound k timing_span names (range_with_len p (length ports)) (own k (timing_calls_in ports))
   timing_from p [] there = refl

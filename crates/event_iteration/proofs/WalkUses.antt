@@ -58,60 +58,37 @@ module _ (span : Span) (port : Port) (call : Call) where
 -- ---- by the role of the port
 
 initially_of : (role : Role) (ports : List Port) (read e : Bool) (port : Port) (values : List (Option ℤ)) (call : Call) → asks_initially role ports read port values ≡ Some call → IsOf (initial_span e) port call
-initially_of (Input None) ports read e port values call is = absurd (cc)
 initially_of (Input (Some feed)) ports read e port values call is = of_set (initial_span e) port call (omega arith) (omega arith) (is_set_from_feed ports port feed) (fed feed values) is
 initially_of Output ports read e port values call is = of_one (initial_span e) port call (C.Get port.kind port.reference) refl (record { from = omega arith; below = omega arith }) read is
-initially_of (ClockInput feed) ports read e port values call is = absurd (cc)
-initially_of ClockOutput ports read e port values call is = absurd (cc)
-initially_of (TimeClock timing) ports read e port values call is = absurd (cc)
+initially_of role ports read e port values call is = absurd (cc)
 
--- with event mode
-event_of : (role : Role) (port : Port) (is_first ticks : Bool) (values : List (Option ℤ)) (call : Call) → asks_in_instant role port true is_first ticks values ≡ Some call → IsOf (instant_span is_first true) port call
-event_of (Input None) port is_first ticks values call is = absurd (cc)
-event_of (Input (Some feed)) port is_first ticks values call is = of_set (instant_span is_first true) port call (omega arith) (omega arith) (is_present port values) (fed feed values) is
-event_of Output port is_first ticks values call is =
-    of_one (instant_span is_first true) port call (C.Get port.kind port.reference) refl (record { from = omega arith; below = omega arith }) (is_present port values) is
-event_of (ClockInput None) port is_first ticks values call is = absurd (cc)
-event_of (ClockInput (Some feed)) port is_first ticks values call is =
-    of_one (instant_span is_first true) port call (C.SetClock port.reference) refl (record { from = omega arith; below = omega arith }) (is_active (fed feed values)) is
-event_of ClockOutput port is_first ticks values call is = of_one (instant_span is_first true) port call (C.GetClock port.reference) refl (record { from = omega arith; below = omega arith }) true is
-event_of (TimeClock timing) port is_first ticks values call is = of_one (instant_span is_first true) port call (C.SetClock port.reference) refl (record { from = omega arith; below = omega arith }) ticks is
-
--- without it there is no Clock
+-- without event mode there is no Clock
 no_clock : {X : Type 0} → (true ≡ true → false ≡ true) → X
 no_clock h = absurd (let wrong : false ≡ true = h refl in cc)
 
-plain_of : (role : Role) (port : Port) (is_first ticks : Bool) (values : List (Option ℤ)) (call : Call) → (is_clock_role role ≡ true → false ≡ true) → asks_in_instant role port false is_first ticks values ≡ Some call → IsOf (instant_span is_first false) port call
-plain_of (Input None) port is_first ticks values call plain is = absurd (cc)
-plain_of (Input (Some feed)) port is_first ticks values call plain is = absurd (cc)
-plain_of Output port true ticks values call plain is = of_one (instant_span true false) port call (C.Get port.kind port.reference) refl (record { from = omega arith; below = omega arith }) true is
-plain_of Output port false ticks values call plain is = absurd (cc)
-plain_of (ClockInput feed) port is_first ticks values call plain is = no_clock plain
-plain_of ClockOutput port is_first ticks values call plain is = no_clock plain
-plain_of (TimeClock timing) port is_first ticks values call plain is = no_clock plain
-
 instant_of : (e : Bool) (role : Role) (port : Port) (is_first ticks : Bool) (values : List (Option ℤ)) (call : Call) → (is_clock_role role ≡ true → e ≡ true) → asks_in_instant role port e is_first ticks values ≡ Some call → IsOf (instant_span is_first e) port call
-instant_of true role port is_first ticks values call plain is = event_of role port is_first ticks values call is
-instant_of false role port is_first ticks values call plain is = plain_of role port is_first ticks values call plain is
+instant_of e (Input None) port is_first ticks values call clock is = absurd (cc)
+instant_of true (Input (Some feed)) port is_first ticks values call clock is = of_set (instant_span is_first true) port call (omega arith) (omega arith) (is_present port values) (fed feed values) is
+instant_of true Output port is_first ticks values call clock is =
+    of_one (instant_span is_first true) port call (C.Get port.kind port.reference) refl (record { from = omega arith; below = omega arith }) (is_present port values) is
+instant_of true (ClockInput (Some feed)) port is_first ticks values call clock is =
+    of_one (instant_span is_first true) port call (C.SetClock port.reference) refl (record { from = omega arith; below = omega arith }) (is_active (fed feed values)) is
+instant_of true ClockOutput port is_first ticks values call clock is = of_one (instant_span is_first true) port call (C.GetClock port.reference) refl (record { from = omega arith; below = omega arith }) true is
+instant_of true (TimeClock timing) port is_first ticks values call clock is = of_one (instant_span is_first true) port call (C.SetClock port.reference) refl (record { from = omega arith; below = omega arith }) ticks is
+instant_of false Output port true ticks values call clock is = of_one (instant_span true false) port call (C.Get port.kind port.reference) refl (record { from = omega arith; below = omega arith }) true is
+instant_of false (ClockInput feed) port is_first ticks values call clock is = no_clock clock
+instant_of false ClockOutput port is_first ticks values call clock is = no_clock clock
+instant_of false (TimeClock timing) port is_first ticks values call clock is = no_clock clock
+instant_of e role port is_first ticks values call clock is = absurd (cc)
 
 interval_of : (e : Bool) (role : Role) (port : Port) (call : Call) → (is_clock_role role ≡ true → e ≡ true) → asks_interval role port ≡ Some call → IsOf (interval_span e) port call
 interval_of true (TimeClock Countdown) port call plain is = of_one (interval_span true) port call (C.GetInterval port.reference) refl (record { from = omega arith; below = omega arith }) true is
 interval_of false (TimeClock Countdown) port call plain is = no_clock plain
-interval_of e (TimeClock (Periodic interval shift)) port call plain is = absurd (cc)
-interval_of e (TimeClock Answered) port call plain is = absurd (cc)
-interval_of e (Input feed) port call plain is = absurd (cc)
-interval_of e Output port call plain is = absurd (cc)
-interval_of e (ClockInput feed) port call plain is = absurd (cc)
-interval_of e ClockOutput port call plain is = absurd (cc)
+interval_of e role port call plain is = absurd (cc)
 
 step_of : (e : Bool) (role : Role) (port : Port) (o : Option ℤ) (call : Call) → (if e then None else sets_to role port o) ≡ Some call → IsOf (step_span e) port call
-step_of true role port o call is = absurd (cc)
-step_of false (Input None) port o call is = absurd (cc)
 step_of false (Input (Some feed)) port o call is = of_set (step_span false) port call (omega arith) (omega arith) true o is
-step_of false Output port o call is = absurd (cc)
-step_of false (ClockInput feed) port o call is = absurd (cc)
-step_of false ClockOutput port o call is = absurd (cc)
-step_of false (TimeClock timing) port o call is = absurd (cc)
+step_of e role port o call is = absurd (cc)
 
 -- ---- by rules
 

@@ -1,0 +1,236 @@
+-- The Updates along the course of a run, and the timers that its Clocks have there.
+use Rattle.std.proofs.Common.{◌≡◌, ℕ, suc, ◌<◌, ◌==◌, ℤ, Bool, true, false, List, [], ◌∷◌, ◌++◌, Option, Some, refl, sym, ap, ◌∙◌, subst, append_assoc, append-nil, arith, length}
+use Rattle.std.specs.Prelude.{All, if◌then◌else◌}
+use Rattle.std.specs.List.{slice_get}
+use Rattle.std.proofs.lemmas.List.Elements.{All-cons, All-head, All-nil, All-tail, All-weaker}
+use Rattle.value_types.specs.declared.shape.Shape.{Shape}
+use Rattle.fmi_calls.specs.declared.call.Call.{Call}
+use Rattle.fmi_calls.specs.declared.call.Call.TheVariants as C
+use Rattle.fmu_peer.specs.Mode.{instantiate_of}
+use Rattle.system_model.specs.declared.bound.Bound.{Bound}
+use Rattle.system_model.specs.declared.plan.Plan.{Plan}
+use Rattle.system_model.specs.declared.system.Component.{Component}
+use Rattle.system_model.specs.declared.system.System.{System}
+use Rattle.system_model.specs.Bounds.{BindsParameters}
+use Rattle.system_model.specs.Sound.{IsSound}
+use Rattle.system_model.specs.Text.{Instant}
+use Rattle.system_model.proofs.Lists.{all_at}
+use Rattle.slot_calls.specs.declared.bad_answer.BadAnswer.{BadAnswer}
+use Rattle.slot_calls.specs.Log.{Asking, Sent, askings}
+use Rattle.slot_calls.specs.Stage.{everyone, shapes_of, to_those}
+use Rattle.slot_calls.proofs.Parts.{those_calls}
+use Rattle.event_iteration.specs.Clocks.{AreTicks}
+use Rattle.event_iteration.specs.Intervals.{is_some_armed}
+use Rattle.event_iteration.specs.WalkCalls.{AreNew, Front, IsUse, Span, UsesAre, WalkUses, WalksBy, Whole, has_events_at, initial_span, instant_span, interval_span, own, step_span, use_in}
+use Rattle.event_iteration.proofs.WalkLaws.{each_call_once, own_append}
+use Rattle.calling_sequence.specs.Calls.{making}
+use Rattle.calling_sequence.specs.Course.{Again, Arrives, Before, Binds, Configured, Course, Departing, Entered, Enters, Exits, Finds, Found, GoesOn, LeadsTo, Leaves, Leaving, Left, Made, Place, Read, Reads, Rearmed, Rearming, Seen, Sets, Spot, Stepped, Steps, Timed, Times, Updates, part_at}
+use Rattle.calling_sequence.specs.Parts.{Calls, Does, Falls, Part, Round, Walk}
+use Rattle.calling_sequence.specs.Plans.{CountsBy}
+use Rattle.calling_sequence.proofs.Along.{along}
+use Rattle.course_laws.specs.Laws.{UpdatesAskedFor}
+use Rattle.course_laws.specs.Runs.{Comes, Falling, Stands, Unmade}
+use Rattle.course_laws.proofs.ArmedClocks.{AreArmable, AreTaken, first_armable, instant_takes, rearmed_armable, rearmed_armed}
+use Rattle.course_laws.proofs.BoundSets.{binding_new, setting_span}
+use Rattle.course_laws.proofs.Once.{front_all}
+use Rattle.course_laws.proofs.UpdateMarks.{IsNoUpdate, IsQuiet, quiet_no}
+use Rattle.course_laws.proofs.UpdateTables.{AreAskedFor, marks_in, talks_needed}
+use Rattle.course_laws.proofs.UpdatesNeeded.{Asked, SomeArmed, Talks, Throughout, arm, asks, calm, leave, nothing_yet, quiet, still, still_asked, stopped, updated}
+
+-- ---- the calls of parts
+
+-- a call that names a port is none of those that begin or end a stay in Event Mode
+use_quiet : (c : Call) → 0 < use_in c → IsQuiet c
+use_quiet C.Update h = absurd (omega (arith, h))
+use_quiet C.EnterStep h = absurd (omega (arith, h))
+use_quiet C.ExitInitialization h = absurd (omega (arith, h))
+use_quiet c h = tt
+
+uses_quiet : (span : Span) (calls : List Call) → AreNew span calls → All IsQuiet calls
+uses_quiet span calls new = All-weaker (IsUse span) IsQuiet (λ c u. use_quiet c (let n = new.names in let f = u.from in omega (arith, n, f))) calls new.uses
+
+-- what holds of each call holds of those to one
+own_all : (P : Call → Type 0) (i : ℕ) (calls : List Asking) → All (λ (a : Asking). P a.call) calls → All P (own i calls)
+own_all P i [] all = All-nil P
+own_all P i (a ∷ calls) all = by (a.component == i) (own_all P i calls (All-tail (λ (x : Asking). P x.call) a calls all)) where
+  by : (b : Bool) → All P (own i calls) → All P (if b then a.call ∷ own i calls else own i calls)
+  by true rest = All-cons P a.call (own i calls) (All-head (λ (x : Asking). P x.call) a calls all) rest
+  by false rest = rest
+
+-- this holds of each call of a part
+abbrev IsThroughout : System → (Call → Type 0) → Part → Type 0
+IsThroughout system P (Calls calls) = (i : ℕ) → All P (own i calls)
+IsThroughout system P (Round calls) = (i : ℕ) → All P (own i calls)
+IsThroughout system P (Walk rules before order) = (log : List Sent) → WalksBy system rules before order log → Throughout system P log
+
+module _ (system : System) (P : Call → Type 0) where
+  those : (test : Shape → Bool) (call : Shape → Call) → ((s : Shape) → P (call s)) → (i : ℕ) → All P (own i (to_those test call (shapes_of system)))
+  those test call h i = own_all P i (to_those test call (shapes_of system)) (those_calls test call P (λ s passes. h s) 0 (shapes_of system))
+
+  does_all : (part : Part) → IsThroughout system P part → (values : List (Option ℤ)) (log : List Sent) → Does system part values log → Throughout system P log
+  does_all (Calls calls) all values log does = λ i. subst (λ (l : List Asking). All P (own i l)) (sym does.calls_are) (all i)
+  does_all (Round calls) all values log does = λ i. subst (λ (l : List Asking). All P (own i l)) (sym does.calls_are) (all i)
+  does_all (Walk rules before order) all values log does = all log (Whole values log does)
+
+  falls_all : (part : Part) → IsThroughout system P part → (bad : BadAnswer) (log : List Sent) → Falls system part bad log → Throughout system P log
+  falls_all (Calls calls) all bad log falls = λ i. front_all P (own i (askings log)) (own i falls.left) (subst (All P) (ap (own i) falls.calls_are ∙ own_append i (askings log) falls.left) (all i))
+  falls_all (Round calls) all bad log falls = λ i. subst (λ (l : List Asking). All P (own i l)) (sym falls.calls_are) (all i)
+  falls_all (Walk rules before order) all bad log (values, falls) = all log (Front bad values log falls)
+
+-- ---- along a course
+
+module _ (system : System) (sound : IsSound system) (bound : Bound) (plan : Plan) (binds : BindsParameters system bound) (counts : CountsBy system plan) where
+  uses : UsesAre system
+  uses = each_call_once system sound
+
+  -- of the calls that are sent from a place; Updates are told apart
+  abbrev calls_from : Place → Call → Type 0
+  calls_from (Timed timers) c = IsNoUpdate c
+  calls_from (Leaving w) c = IsNoUpdate c
+  calls_from (Rearmed s) c = Unit {0}
+  calls_from p c = IsQuiet c
+
+  walk_quiet : (rules : _) (before : List (Option ℤ)) (order : List ℕ) (span : Bool → Span) → WalkUses system rules order span → IsThroughout system IsQuiet (Walk rules before order)
+  walk_quiet rules before order span are log walks i = uses_quiet (span (has_events_at system i)) (own i (askings log)) (are before log walks i)
+
+  calls_are : (p : Place) → IsThroughout system (calls_from p) (part_at system bound plan p)
+  calls_are Made = λ i. uses_quiet setting_span _ (binding_new system bound i binds)
+  calls_are Configured = those system IsQuiet _ _ (λ s. tt)
+  calls_are Entered = walk_quiet _ _ _ initial_span uses.initial
+  calls_are Found = λ i. uses_quiet _ _ (uses.timing i)
+  calls_are (Timed timers) = those system IsNoUpdate _ _ (λ s. tt)
+  calls_are (Before s ticks) = walk_quiet _ _ _ (instant_span (s.n == 0)) (uses.instant ticks (s.n == 0))
+  calls_are (Read s) = walk_quiet _ _ _ interval_span uses.interval
+  calls_are (Rearmed s) = those system (λ (c : Call). Unit {0}) _ _ (λ s. tt)
+  calls_are (Seen s again asked) = λ i. All-nil IsQuiet
+  calls_are (Leaving w) = those system IsNoUpdate _ _ (λ s. tt)
+  calls_are (Left w) = walk_quiet _ _ _ step_span (uses.step w.s.values)
+  calls_are (Departing w) = those system IsQuiet _ _ (λ s. tt)
+  calls_are (Stepped s true) = λ i. All-nil IsQuiet
+  calls_are (Stepped s false) = those system IsQuiet _ _ (λ s. tt)
+
+  -- ---- the timers of the Clocks
+
+  abbrev TimersAt : Place → Type 0
+  TimersAt (Timed timers) = AreArmable system timers
+  TimersAt (Before s ticks) = AreArmable system s.timers × AreTicks system plan.start s.timers s.t s.n ticks
+  TimersAt (Read s) = AreArmable system s.timers × AreTaken system s.t s.values s.timers
+  TimersAt (Rearmed s) = AreArmable system s.timers
+  TimersAt (Seen s again asked) = AreArmable system s.timers
+  TimersAt (Leaving w) = AreArmable system w.s.timers
+  TimersAt (Left w) = AreArmable system w.s.timers
+  TimersAt (Departing w) = AreArmable system w.s.timers
+  TimersAt (Stepped s asked) = AreArmable system s.timers
+  TimersAt p = Unit {0}
+
+  -- a second has a count, where there is a component
+  above : (i : ℕ) (c : Component) → slice_get system.components i ≡ Some c → 0 < plan.resolution
+  above i c of =
+      let mine = all_at (λ (x : Component). x.shape.resolution ≡ plan.resolution) system.components i c counts of in
+      let its = all_at (λ (x : Component). x.shape.resolution ≡ sound.components.per_second) system.components i c sound.components.resolutions of in
+      subst (λ (x : ℕ). 0 < x) (sym its ∙ mine) sound.components.above
+
+  timers_on : (p q : Place) (values : List (Option ℤ)) (more : List Sent) → Does system (part_at system bound plan p) values more → LeadsTo system plan p values more q → TimersAt p → TimersAt q
+  timers_on _ _ _ _ does (Times values log timers is) at = subst (AreArmable system) (sym is) (first_armable system plan.resolution log)
+  timers_on _ _ _ _ does (Exits timers values log s ticks is begins) at = (subst (λ (z : Spot). AreArmable system z.timers) (sym is) at, begins.are_ticks)
+  timers_on _ _ _ _ does (Reads s ticks values log places) at = (at.0, instant_takes system sound plan.start s.t s.n s.timers ticks s.values values log at.1 does)
+  timers_on _ _ _ _ does (Rearming s values next log rearms) at = rearmed_armable system sound plan.resolution s.t s.values s.timers next log rearms at.0
+  timers_on _ _ _ _ does (Again s values log ticks below begins) at = (at, begins.are_ticks)
+  timers_on _ _ _ _ does (Arrives s values log ticks begins) at = (at, begins.are_ticks)
+  timers_on _ _ _ _ does leads at = at
+
+  -- ---- the Updates
+
+  -- besides, at a place
+  abbrev Besides : Place → List Sent → ℕ → Bool → Type 0
+  Besides (Before s ticks) log m flag = flag ≡ true → Asked system log m
+  Besides (Read s) log m flag = flag ≡ true → Asked system log m
+  Besides (Rearmed s) log m flag = (flag ≡ true → Asked system log m) × (is_some_armed s.t s.timers ≡ true → SomeArmed system log)
+  Besides (Seen s again asked) log m flag = (flag ≡ true) × (again ≡ true → asked ≡ false → Asked system log m)
+  Besides (Leaving w) log m flag = flag ≡ true
+  Besides p log m flag = flag ≡ false
+
+  record IsAt (p : Place) (log : List Sent) : Type 0 where
+    m : ℕ
+    flag : Bool
+    talks : Talks system log m flag
+    besides : Besides p log m flag
+
+  no_of_quiet : (log : List Sent) → Throughout system IsQuiet log → Throughout system IsNoUpdate log
+  no_of_quiet log all i = All-weaker IsQuiet IsNoUpdate quiet_no (own i (askings log)) (all i)
+
+  module _ (front : List Sent) where
+    -- behind calls that neither are Updates nor begin or end a stay
+    onward : (p q : Place) (log : List Sent) → Throughout system IsQuiet log → (a : IsAt p front) → Besides q (front ++ log) a.m a.flag → IsAt q (front ++ log)
+    onward p q log all a besides = record { m = a.m; flag = a.flag; talks = quiet system front log a.m a.flag a.talks all; besides = besides }
+
+    -- what the last instant asks for stands
+    asked_on : (p : Place) (log : List Sent) → Throughout system IsQuiet log → (a : IsAt p front) → Asked system front a.m → Asked system (front ++ log) a.m
+    asked_on p log all a asked = still_asked system front log a.m a.flag a.talks.table (no_of_quiet log all) asked
+
+    on : (p q : Place) (values : List (Option ℤ)) (more : List Sent) → TimersAt p → IsAt p front → Does system (part_at system bound plan p) values more → Throughout system (calls_from p) more → LeadsTo system plan p values more q → IsAt q (front ++ more)
+    on _ _ _ _ timers a does all (Binds values log) = onward Made Configured log all a a.besides
+    on _ _ _ _ timers a does all (Enters values log) = onward Configured Entered log all a a.besides
+    on _ _ _ _ timers a does all (Finds values log) = onward Entered Found log all a a.besides
+    on _ _ _ _ timers a does all (Times values log told is) = onward Found (Timed told) log all a a.besides
+    on _ _ _ _ timers a does all (Exits told values log s ticks is begins) =
+        record { m = a.m; flag = false; talks = calm system front log a.m (subst (Talks system front a.m) a.besides a.talks) all; besides = λ wrong. absurd (cc) }
+    on _ _ _ _ timers a does all (Reads s ticks values log places) = onward (Before s ticks) (Read (record s { values = values })) log all a (λ is. asked_on (Before s ticks) log all a (a.besides is))
+    on _ _ _ _ timers a does all (Rearming s values next log rearms) = onward (Read s) (Rearmed (record s { timers = next })) log all a (
+      λ is. asked_on (Read s) log all a (a.besides is),
+      λ some. let x = rearmed_armed system sound plan.resolution s.t s.values s.timers next log rearms timers.0 above timers.1 some in arm system front log x.component x.event all x.arms,
+    )
+    on _ _ _ _ timers a does all (Updates s values log again asked again_is asked_is) = record {
+      m = suc a.m;
+      flag = true;
+      talks = updated system front log a.m a.flag a.talks does.calls_are a.besides.0;
+      besides = (refl, λ once ends. asks system front log a.m a.flag a.talks does.calls_are (is_some_armed s.t s.timers) (sym again_is ∙ once) a.besides.1 (sym asked_is ∙ ends));
+    }
+    on _ _ _ _ timers a does all (Again s values log ticks below begins) = onward (Seen s true false) (Before (record s { n = suc s.n }) ticks) log all a (λ is. asked_on (Seen s true false) log all a (a.besides.1 refl refl))
+    on _ _ _ _ timers a does all (GoesOn w values log step) = onward (Seen w.s false false) (Leaving w) log all a a.besides.0
+    on _ _ _ _ timers a does all (Leaves w values log) =
+        record { m = a.m; flag = false; talks = leave system front log a.m (subst (Talks system front a.m) a.besides a.talks) all does.calls_are; besides = refl }
+    on _ _ _ _ timers a does all (Sets w values log) = onward (Left w) (Departing w) log all a a.besides
+    on _ _ _ _ timers a does all (Steps w values log asked is) = onward (Departing w) (Stepped (record w.s { t = w.to; n = 0 }) asked) log all a a.besides
+    on _ _ _ _ timers a does all (Arrives s values log ticks begins) =
+        onward (Stepped s false) (Before (record s { n = 0 }) ticks) log all a (λ is. absurd (let wrong : true ≡ false = sym is ∙ a.besides in cc))
+
+    abbrev AreAsked : List Sent → Type 0
+    AreAsked log = AreAskedFor (length system.components) (marks_in log)
+
+    fallen : (p : Place) (bad : BadAnswer) (log : List Sent) → IsAt p front → Falls system (part_at system bound plan p) bad log → Throughout system (calls_from p) log → AreAsked (front ++ log)
+    fallen (Rearmed s) bad log a falls all = stopped system front log a.m a.flag a.talks bad falls a.besides.0
+    fallen (Timed timers) bad log a falls all = (still system front log a.m a.flag a.talks.table all).needed
+    fallen (Leaving w) bad log a falls all = (still system front log a.m a.flag a.talks.table all).needed
+    fallen p bad log a falls all = (still system front log a.m a.flag a.talks.table (no_of_quiet log all)).needed
+
+  module _ (made : List Sent) (answered : askings made ≡ making system) where
+    -- behind the calls that made the instances
+    made_at : IsAt Made made
+    made_at = record {
+      m = 0;
+      flag = false;
+      talks = quiet system [] made 0 false (nothing_yet system) (λ i. subst (λ (l : List Asking). All IsQuiet (own i l)) (sym answered) (those system IsQuiet everyone instantiate_of (λ s. tt) i));
+      besides = refl;
+    }
+
+    course_at : (p : Place) (log : List Sent) (is : List Instant) → Course system bound plan p log is → TimersAt p × IsAt p (made ++ log)
+    course_at = along system bound plan (λ p log is. TimersAt p × IsAt p (made ++ log)) (tt, subst (IsAt Made) (sym (append-nil made)) made_at)
+        (λ p q values front more is course at does leads. (
+          timers_on p q values more does leads at.0,
+          subst (IsAt q) (append_assoc made front more) (on (made ++ front) p q values more at.0 at.1 does (does_all system (calls_from p) (part_at system bound plan p) (calls_are p) values more does) leads),
+        ))
+
+    falls_asked : (p : Place) (bad : BadAnswer) (front more : List Sent) (is : List Instant) → Course system bound plan p front is → Falls system (part_at system bound plan p) bad more → AreAskedFor (length system.components) (marks_in (made ++ (front ++ more)))
+    falls_asked p bad front more is course falls = subst (λ (l : List Sent). AreAskedFor (length system.components) (marks_in l)) (append_assoc made front more)
+        (fallen (made ++ front) p bad more (course_at p front is course).1 falls (falls_all system (calls_from p) (part_at system bound plan p) (calls_are p) bad more falls))
+
+comes_asked : (system : System) (bad : Option BadAnswer) (log : List Sent) → IsSound system → Comes system bad log → AreAskedFor (length system.components) (marks_in log)
+comes_asked system _ _ sound (Unmade bad log stops) =
+    let q = falls_all system IsQuiet (Calls (making system)) (those system IsQuiet everyone instantiate_of (λ s. tt)) bad log stops in
+    (quiet system [] log 0 false (nothing_yet system) q).table.needed
+comes_asked system _ _ sound (Stands bound plan p made log is binds counts answered course) = (course_at system sound bound plan binds counts made answered.calls_are p log is course).1.talks.table.needed
+comes_asked system _ _ sound (Falling bound plan p bad made front more is binds counts answered course falls) = falls_asked system sound bound plan binds counts made answered.calls_are p bad front more is course falls
+
+pub updates_asked_for : UpdatesAskedFor
+updates_asked_for system bad log talks sound comes are = talks_needed (length system.components) log talks are (comes_asked system bad log sound comes)
