@@ -43,7 +43,6 @@ use Rattle.event_iteration.specs.Questions.{FixSays, FixesPort, IsEntered, IsFir
 use Rattle.event_iteration.proofs.Answering.{one_answer}
 use Rattle.event_iteration.proofs.Fmus.{are_replies, at_fmu-is, each_many, got}
 use Rattle.event_iteration.proofs.Places.{map_take, set_beside, set_here, set_same, take_set}
-use Rattle.event_iteration.proofs.Reading.{Leaves, fmu_of, still_at}
 
 -- ---- one port
 

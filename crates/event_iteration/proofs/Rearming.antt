@@ -62,7 +62,6 @@ use Rattle.event_iteration.proofs.Fmus.{are_replies, at_fmu-is, each_many, got, 
 use Rattle.event_iteration.proofs.Loops.{more_order, split_order}
 use Rattle.event_iteration.proofs.Permits.{shape_of_component}
 use Rattle.event_iteration.proofs.Places.{IsPositive, map_take, next_behind, place_of_behind, set_beside, set_here, take_set, timer_of_place}
-use Rattle.event_iteration.proofs.Reading.{Leaves, fmu_of, still_at}
 use Rattle.event_iteration.proofs.Setting.{NoNeeds, all_ports, in_order, port_number}
 use Rattle.event_iteration.proofs.Walking.{AreAbout, Here, explains_more, here_at, is_other, is_same, more_replies, with_reply}
 
