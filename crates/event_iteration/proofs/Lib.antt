@@ -26,9 +26,9 @@ pub mod ByLog
 pub mod Asking
 pub mod Answering
 pub mod Places
-pub mod Reading
 pub mod Fixing
 pub mod Rearming
+pub mod OverMachines
 pub mod ClockTicks
 pub mod Rooms
 pub mod Activity
