@@ -1,5 +1,5 @@
 -- How the calls of a run leave an instance: so that it can be closed.
-use Rattle.std.proofs.Common.{◌≡◌, ◌⊎◌, inl, inr, Bool, true, false, List, [], ◌∷◌, ◌++◌, Option, Some, None, Result, Ok, Err, refl, sym, ap, ap₂, ◌∙◌, subst}
+use Rattle.std.proofs.Common.{◌≡◌, ◌⊎◌, inl, inr, Bool, true, false, List, [], ◌∷◌, ◌++◌, Result, Ok, Err, refl, sym, ap, ap₂, ◌∙◌, subst}
 use Rattle.std.specs.Prelude.{All, if◌then◌else◌}
 use Rattle.std.specs.Result.{result_ok}
 use Rattle.std.proofs.lemmas.List.Elements.{All-head, All-tail}
@@ -27,9 +27,9 @@ use Rattle.fmu_peer.specs.declared.peer.PeerFault.{PeerFault}
 use Rattle.fmu_peer.specs.CloseAll.{Instance, IsLeft, Stands}
 use Rattle.fmu_peer.specs.Mode.{is_over}
 use Rattle.fmu_peer.specs.Talk.{EndsKeeping, IsGood, LegalFrom, StartsBadly, next_by, phase_from}
-use Rattle.fmu_peer.specs.View.{View, Fixed}
+use Rattle.fmu_peer.specs.View.{Fixed}
 use Rattle.course_laws.specs.Laws.{calls_in}
-use Rattle.slot_calls.specs.Log.{Has, Talks}
+use Rattle.slot_calls.specs.Log.{Has}
 use Rattle.slot_calls.specs.SavedStates.{IsGivenUp, if_good, saved_after, saved_by}
 use Rattle.slot_calls.proofs.Logs.{talks_fixed}
 use Rattle.step_master.proofs.Over.{only_start}
