@@ -13,7 +13,7 @@ use Rattle.fmu_peer.specs.View.{View}
 use Rattle.slot_calls.specs.SavedStates.{IsEnding, IsOfClosing, IsParted, LeavesState, Talk, saved_after, saved_by}
 use Rattle.slot_calls.proofs.States.{saved_same}
 use Rattle.course_laws.specs.Laws.{calls_in}
-use Rattle.step_master.proofs.Talking.{turn_all}
+use Rattle.step_master.proofs.Leaving.{turn_all}
 
 -- ---- what a closing sends
 

@@ -41,7 +41,7 @@ use Rattle.step_master.specs.Master.{Closes}
 use Rattle.step_master.specs.Seats.{seated, views_of}
 use Rattle.step_master.specs.System.{ArePeersOf}
 use Rattle.step_master.proofs.Living.{IsRow, Row, at_turn, closings_are, is_life, life_of, one_each, row_at, row_closed, row_parted, row_siblings, rows_from, seats_are, turn_open}
-use Rattle.step_master.proofs.Over.{closed_over}
+use Rattle.step_master.proofs.Leaving.{closed_over}
 use Rattle.step_master.proofs.Parted.{leaves_none}
 use Rattle.step_master.proofs.SeatLemmas.{IsSeat, are_seats, length_seated, seated_shapes, sources_seated, views_seated}
 
