@@ -9,7 +9,6 @@ use Rattle.fmi_calls.specs.declared.call.Call.TheVariants as C
 use Rattle.fmi_calls.specs.declared.call.Interval.{Interval}
 use Rattle.fmi_calls.specs.declared.call.Interval.TheVariants.{NotYetKnown}
 use Rattle.fmi_calls.specs.declared.call.Reply.{Reply}
-use Rattle.fmu_peer.specs.declared.peer.Exchange.{Exchange}
 use Rattle.fmu_peer.specs.declared.peer.PeerFault.{PeerFault}
 use Rattle.fmu_peer.specs.Machine.{Machine, MachineState, after}
 use Rattle.system_model.specs.declared.system.Component.{Component}
@@ -22,15 +21,15 @@ use Rattle.system_model.specs.Sound.{IsSound}
 use Rattle.system_model.proofs.Lists.{all_by_place}
 use Rattle.system_model.proofs.SoundLemmas.{place_of}
 use Rattle.run_model.specs.AfterInstant.{next_timer, next_timers, next_timers_from, written}
-use Rattle.run_model.specs.Initial.{asked_timer, first_timer, first_timers, interval_in, shift_in}
+use Rattle.run_model.specs.Initial.{asked_timer, first_timer, first_timers, interval_in}
 use Rattle.run_model.specs.Inputs.{is_active}
 use Rattle.run_model.specs.Run.{IsFmu, Run, Situation, Timer, Every, Never, at_fmu, value}
 use Rattle.run_model.specs.Timers.{answered, fixed}
 use Rattle.slot_calls.specs.Log.{Asking, Sent, asking_of, askings}
-use Rattle.slot_calls.specs.Replies.{AreReplies, states_by}
+use Rattle.slot_calls.specs.Replies.{AreReplies}
 use Rattle.slot_calls.specs.Stage.{IsAnswered, shapes_of}
 use Rattle.slot_calls.proofs.Parts.{first_same, rest_same, sent_all}
-use Rattle.event_iteration.specs.Explains.{Explains, all_said, said}
+use Rattle.event_iteration.specs.Explains.{Explains}
 use Rattle.event_iteration.specs.Intervals.{Rearms, asks_interval, first_told, first_told_by, first_told_in, interval_by, intervals, log_behind, shift_by, timer_behind, timers_behind_from, timing_calls, timing_calls_in, timing_calls_of}
 use Rattle.event_iteration.specs.Settings.{port_order}
 use Rattle.event_iteration.specs.Turns.{IsPaired, sent_of}
