@@ -6,3 +6,6 @@ pub mod Bindings
 pub mod Sizes
 pub mod Stands
 pub mod ScheduleSteps
+pub mod Onto
+pub mod Stages
+pub mod Ways

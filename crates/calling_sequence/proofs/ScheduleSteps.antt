@@ -1,5 +1,5 @@
 -- The bound of a step by the schedule's next tick, and where the schedule stands behind the step.
-use Rattle.std.proofs.Common.{◌≡◌, ℕ, zero, suc, ◌+◌, ◌*◌, ◌<◌, ◌≤◌, Bool, true, false, List, [], ◌∷◌, Option, Some, None, refl, sym, ap, ◌∙◌, subst, arith, get_or, map}
+use Rattle.std.proofs.Common.{◌≡◌, ℕ, ℤ, length, zero, suc, ◌+◌, ◌*◌, ◌<◌, ◌≤◌, Bool, true, false, List, [], ◌∷◌, Option, Some, None, refl, sym, ap, ◌∙◌, subst, arith, get_or, map}
 use Rattle.std.specs.Prelude.{All, IsSomeAnd, ◌||◌, ◌==◌, min, nat_lt, slice_get}
 use Rattle.std.specs.List.{list_any}
 use Rattle.std.proofs.Math.Nat.{mul-le-mul_left}
@@ -14,8 +14,15 @@ use Rattle.system_model.specs.declared.system.System.{System}
 use Rattle.run_model.specs.Run.{Timer}
 use Rattle.run_model.specs.Steps.{AtTick, IsBound, IsMark, OnGrid, OnStop, SomeTicksAt}
 use Rattle.run_model.specs.Timers.{TicksAt as TimerTicksAt, is_armed_for}
-use Rattle.event_iteration.specs.Clocks.{IsNextFrom, StandsAt, timer_in, timers_in}
+use Rattle.event_iteration.proofs.ClockTicks.{are_ticks}
+use Rattle.event_iteration.specs.Clocks.{AreTicks, IsNextFrom, StandsAt, first_table, is_due_at, timer_in, timers_in}
 use Rattle.event_iteration.specs.Intervals.{is_some_armed}
+use Rattle.calling_sequence.specs.declared.buffers.Buffers.{Buffers}
+use Rattle.calling_sequence.specs.declared.experiment.Experiment.{Experiment}
+use Rattle.calling_sequence.specs.Calls.{IsBoundOf}
+use Rattle.calling_sequence.specs.Course.{Begins}
+use Rattle.calling_sequence.specs.Plans.{IsPlan}
+use Rattle.calling_sequence.specs.Ready.{AreTimed}
 
 -- ---- one Clock
 
@@ -186,3 +193,29 @@ module _ (system : System) (plan : Plan) (table : Timetable) (t to : ℕ) (stand
         next_by k (get_or table.clocks k d) is (stands.next k d w) (none_armed_at t table.clocks none k (get_or table.clocks k d) is);
     within = let most : to ≤ plan.stop = b.least plan.stop before (OnStop refl) in omega (arith, most, stops);
   }
+
+-- ---- the schedule before a run, and the ticks of one that begins where the run does
+
+pub first_again : (system : System) (table : Timetable) (start stop : ℕ) → table ≡ first_table system start stop → table ≡ first_table system table.start table.stop
+first_again system table start stop is =
+    is ∙ ap (λ (a : ℕ). first_table system a stop) (sym (ap (λ (x : Timetable). x.start) is)) ∙ ap (λ (b : ℕ). first_table system table.start b) (sym (ap (λ (x : Timetable). x.stop) is))
+
+pub begins : (system : System) (plan : Plan) (table : Timetable) (t n : ℕ) (is_first : Bool) (values : List (Option ℤ)) → length values ≡ length system.ports → table.start ≡ plan.start → StandsAt system t is_first table → (n == 0) ≡ is_first →
+    Begins system plan (record { t = t; n = n; values = values; timers = timers_in table }) (is_due_at table t)
+begins system plan table t n is_first values known starts stands first = record {
+  known = known;
+  are_ticks = subst (λ (s : ℕ). AreTicks system s (timers_in table) t n (is_due_at table t)) starts (are_ticks system t is_first table stands n first);
+}
+
+-- the buffers at the end of a step to its bound
+pub timed_behind : (e : Experiment) (t n to : ℕ) (b : Buffers) → IsPlan e.plan → AreTimed e t (n + 1) false b → is_some_armed t (timers_in b.schedule) ≡ false → IsBoundOf e.plan (timers_in b.schedule) t to → AreTimed e to 0 true b
+timed_behind e t n to b plan h none bound = record {
+  starts = h.starts;
+  stops = h.stops;
+  stands = stands_behind e.system e.plan b.schedule t to h.stands none h.starts h.stops bound.before_stop bound.bound;
+  places = h.places;
+  fitting = h.fitting;
+  holds = h.holds;
+  limited = omega arith;
+  few = let few = h.few in let limited = h.limited in let limit = plan.limit_within in let later = bound.bound.later in omega (arith, few, limited, limit, later);
+}

@@ -1,5 +1,5 @@
 -- What holds of a run's slots and buffers.
-use Rattle.std.specs.Prelude.{◌≡◌, ◌≤◌, ◌^◌, ℕ, Bool, List, All, length}
+use Rattle.std.specs.Prelude.{◌≡◌, ◌≤◌, ◌+◌, ◌*◌, ◌^◌, ℕ, Bool, List, All, length}
 use Rattle.fmu_peer.specs.declared.slot.Slot.{Slot}
 use Rattle.fmu_peer.specs.View.{View}
 use Rattle.system_model.specs.Bounds.{BindsParameters}
@@ -45,11 +45,13 @@ pub record MayBegin {L : Type 0} {g : _} (view : L → View) (e : Experiment)
   pub ready : Ready view e (λ stop step. IsMade) slots
   pub fresh : AreFresh e buffers
 
--- at a point: the schedule stands there, and the values fit their ports
-pub record AreTimed (e : Experiment) (t : ℕ) (is_first : Bool) (buffers : Buffers) : Type 0 where
+-- at a point, behind so many instants there: the schedule stands there, the values fit their ports, and no more instants were put than 10000 of each earlier point and those
+pub record AreTimed (e : Experiment) (t n : ℕ) (is_first : Bool) (buffers : Buffers) : Type 0 where
   pub starts : buffers.schedule.start ≡ e.plan.start
   pub stops : buffers.schedule.stop ≡ e.plan.stop
   pub stands : StandsAt e.system t is_first buffers.schedule
   pub places : length buffers.values.items ≡ length e.system.ports
   pub fitting : AreFitting e.system buffers.values.items
   pub holds : HoldsEach e.system (length buffers.text.items)
+  pub limited : n ≤ e.plan.limit
+  pub few : buffers.instants ≤ t * 10000 + n

@@ -26,7 +26,8 @@ pub(crate) fn initialize<L: Peer>(
     ensures ready { OnOk result
         (Ready L.view experiment.now (IsAt experiment.now.plan.start) slots.new) }
     ensures timed { OnOk result
-        (AreTimed experiment.now experiment.now.plan.start true buffers.new) }
+        (AreTimed experiment.now experiment.now.plan.start 0 true buffers.new) }
+    ensures text { length buffers.new.text.items ≡ length buffers.old.text.items }
     ensures goes { Goes experiment.now Made
         (λ x. before_instant experiment.now.plan.start 0 buffers.new) (instances L.view slots.old)
         (instances L.view slots.new) buffers.old.instants buffers.new.instants result }
@@ -90,6 +91,7 @@ fn find<L: Peer>(
         (λ stop step. IsInitializing experiment.now.plan.start stop) slots.new) }
     ensures fresh { AreFresh experiment.now buffers.new }
     ensures fitting { AreFitting experiment.now.system buffers.new.values.items }
+    ensures text { length buffers.new.text.items ≡ length buffers.old.text.items }
     ensures goes { Goes experiment.now Entered (λ x. Found) (instances L.view slots.old)
         (instances L.view slots.new) buffers.old.instants buffers.new.instants result }
 {
@@ -114,7 +116,8 @@ fn ask<L: Peer>(
     ensures ready { OnOk result (Ready L.view experiment.now
         (λ stop step. IsInitializing experiment.now.plan.start stop) slots.new) }
     ensures timed { OnOk result
-        (AreTimed experiment.now experiment.now.plan.start true buffers.new) }
+        (AreTimed experiment.now experiment.now.plan.start 0 true buffers.new) }
+    ensures text { length buffers.new.text.items ≡ length buffers.old.text.items }
     ensures goes { Goes experiment.now Found (λ x. timed buffers.new) (instances L.view slots.old)
         (instances L.view slots.new) buffers.old.instants buffers.new.instants result }
 {
@@ -134,10 +137,11 @@ fn exit<L: Peer>(
 ) -> Result<(), BadAnswer>
     requires ready { Ready L.view experiment.now
         (λ stop step. IsInitializing experiment.now.plan.start stop) slots.old }
-    requires timed { AreTimed experiment.now experiment.now.plan.start true buffers.old }
+    requires timed { AreTimed experiment.now experiment.now.plan.start 0 true buffers.old }
     ensures ready { OnOk result
         (Ready L.view experiment.now (IsAt experiment.now.plan.start) slots.new) }
-    ensures timed { AreTimed experiment.now experiment.now.plan.start true buffers.new }
+    ensures timed { AreTimed experiment.now experiment.now.plan.start 0 true buffers.new }
+    ensures text { length buffers.new.text.items ≡ length buffers.old.text.items }
     ensures goes { Goes experiment.now (timed buffers.old)
         (λ x. before_instant experiment.now.plan.start 0 buffers.new) (instances L.view slots.old)
         (instances L.view slots.new) buffers.old.instants buffers.new.instants result }

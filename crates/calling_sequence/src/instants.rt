@@ -25,15 +25,15 @@ pub(crate) fn take<L: Peer, O: Sink>(
     out: &mut O,
 ) -> Result<Updated, Break>
     requires ready { Ready L.view experiment.now (IsAt t) slots.old }
-    requires timed { AreTimed experiment.now t (n == 0) buffers.old }
-    requires few { buffers.old.instants < 2 ^ 127 }
+    requires timed { AreTimed experiment.now t n (n == 0) buffers.old }
+    requires below { n < experiment.now.plan.limit }
     ensures ready { OnOk result (Ready L.view experiment.now (IsAt t) slots.new) }
     ensures settled { IfOk result (λ u. u.again ≡ false →
         Ready L.view experiment.now (IsSettled t) slots.new) }
-    ensures timed { OnOk result (AreTimed experiment.now t false buffers.new) }
+    ensures timed { OnOk result (AreTimed experiment.now t (n + 1) false buffers.new) }
     ensures unarmed { IfOk result (λ u. u.again ≡ false →
         is_some_armed t (timers_in buffers.new.schedule) ≡ false) }
-    ensures counted { OnOk result (buffers.new.instants ≡ buffers.old.instants + 1) }
+    ensures text { length buffers.new.text.items ≡ length buffers.old.text.items }
     ensures puts { Puts experiment.now (before_instant t n buffers.old)
         (λ u. seen t n buffers.new u) (instances L.view slots.old) (instances L.view slots.new)
         (O.view out.old) (O.view out.new) buffers.old.instants buffers.new.instants result }
@@ -68,11 +68,12 @@ fn find<L: Peer>(
     n: u64,
 ) -> Result<(), BadAnswer>
     requires ready { Ready L.view experiment.now (IsAt t) slots.old }
-    requires timed { AreTimed experiment.now t (n == 0) buffers.old }
+    requires timed { AreTimed experiment.now t n (n == 0) buffers.old }
     ensures ready { OnOk result (Ready L.view experiment.now (IsTaking t) slots.new) }
-    ensures timed { AreTimed experiment.now t (n == 0) buffers.new }
+    ensures timed { AreTimed experiment.now t n (n == 0) buffers.new }
     ensures ticks { OnOk result (TellsTicks experiment.now.system buffers.new.schedule t
         buffers.new.values.items) }
+    ensures text { length buffers.new.text.items ≡ length buffers.old.text.items }
     ensures goes { Goes experiment.now (before_instant t n buffers.old)
         (λ x. Read (spot t n buffers.new)) (instances L.view slots.old)
         (instances L.view slots.new) buffers.old.instants buffers.new.instants result }
@@ -96,13 +97,14 @@ fn ask<L: Peer>(
     n: u64,
 ) -> Result<bool, BadAnswer>
     requires ready { Ready L.view experiment.now (IsTaking t) slots.old }
-    requires timed { AreTimed experiment.now t (n == 0) buffers.old }
+    requires timed { AreTimed experiment.now t n (n == 0) buffers.old }
     requires ticks { TellsTicks experiment.now.system buffers.old.schedule t
         buffers.old.values.items }
     ensures ready { OnOk result (Ready L.view experiment.now (IsTaking t) slots.new) }
-    ensures timed { OnOk result (AreTimed experiment.now t false buffers.new) }
+    ensures timed { OnOk result (AreTimed experiment.now t n false buffers.new) }
     ensures armed { IfOk result (λ armed.
         armed ≡ is_some_armed t (timers_in buffers.new.schedule)) }
+    ensures text { length buffers.new.text.items ≡ length buffers.old.text.items }
     ensures goes { Goes experiment.now (Read (spot t n buffers.old))
         (λ armed. Rearmed (spot t n buffers.new)) (instances L.view slots.old)
         (instances L.view slots.new) buffers.old.instants buffers.new.instants result }
@@ -129,16 +131,16 @@ fn show<L: Peer, O: Sink>(
     out: &mut O,
 ) -> Result<Updated, Break>
     requires ready { Ready L.view experiment.now (IsTaking t) slots.old }
-    requires timed { AreTimed experiment.now t false buffers.old }
+    requires timed { AreTimed experiment.now t n false buffers.old }
     requires armed { is_armed ≡ is_some_armed t (timers_in buffers.old.schedule) }
-    requires few { buffers.old.instants < 2 ^ 127 }
+    requires below { n < experiment.now.plan.limit }
     ensures ready { OnOk result (Ready L.view experiment.now (IsAt t) slots.new) }
     ensures settled { IfOk result (λ u. u.again ≡ false →
         Ready L.view experiment.now (IsSettled t) slots.new) }
-    ensures timed { OnOk result (AreTimed experiment.now t false buffers.new) }
+    ensures timed { OnOk result (AreTimed experiment.now t (n + 1) false buffers.new) }
     ensures unarmed { IfOk result (λ u. u.again ≡ false →
         is_some_armed t (timers_in buffers.new.schedule) ≡ false) }
-    ensures counted { OnOk result (buffers.new.instants ≡ buffers.old.instants + 1) }
+    ensures text { length buffers.new.text.items ≡ length buffers.old.text.items }
     ensures puts { Puts experiment.now (Rearmed (spot t n buffers.old))
         (λ u. seen t n buffers.new u) (instances L.view slots.old) (instances L.view slots.new)
         (O.view out.old) (O.view out.new) buffers.old.instants buffers.new.instants result }

@@ -1,5 +1,4 @@
-ghost use Rattle.std.specs.Prelude.{◌≡◌};
-ghost use Rattle.event_iteration.specs.Initialization.{AreReads};
+ghost use Rattle.std.specs.Prelude.{◌≡◌, length};
 ghost use Rattle.slot_calls.specs.Slots.{instances};
 ghost use Rattle.calling_sequence.specs.Course.{Made};
 ghost use Rattle.calling_sequence.specs.Ends.{RunsSlots};
@@ -54,7 +53,8 @@ fn follow<L: Peer, O: Sink>(
     out: &mut O,
 ) -> Result<Ending, Break>
     requires { MayBegin L.view experiment.now slots.old buffers.old }
-    ensures { Arrives experiment.now Made (instances L.view slots.old)
+    ensures text { length buffers.new.text.items ≡ length buffers.old.text.items }
+    ensures arrives { Arrives experiment.now Made (instances L.view slots.old)
         (instances L.view slots.new) (O.view out.old) (O.view out.new) buffers.old.instants
         buffers.new.instants result }
 {

@@ -1,4 +1,4 @@
-ghost use Rattle.std.specs.Prelude.{◌≡◌, ◌≤◌, ◌<◌, ◌-◌, ℕ, Bool, false, true, OnOk, IfOk, length};
+ghost use Rattle.std.specs.Prelude.{◌≡◌, ◌≤◌, ◌<◌, ◌-◌, ◌+◌, ℕ, Bool, false, true, OnOk, IfOk, length};
 ghost use Rattle.run_model.specs.Machines.{AreFitting};
 ghost use Rattle.event_iteration.specs.Clocks.{timers_in};
 ghost use Rattle.slot_calls.specs.Slots.{instances};
@@ -25,7 +25,7 @@ pub(crate) fn cross<L: Peer>(
     to: u64,
 ) -> Result<bool, BadAnswer>
     requires ready { Ready L.view experiment.now (IsSettled t) slots.old }
-    requires timed { AreTimed experiment.now t false buffers.now }
+    requires timed { AreTimed experiment.now t (n + 1) false buffers.now }
     requires step { IsStep experiment.now.system experiment.now.plan
         (timers_in buffers.now.schedule) t to }
     ensures ready { OnOk result (Ready L.view experiment.now (IsStepping to) slots.new) }
@@ -66,11 +66,16 @@ fn set<L: Peer>(
     t: u64,
 ) -> Result<(), BadAnswer>
     requires ready { Ready L.view experiment.now (IsStepping t) slots.old }
-    requires timed { AreTimed experiment.now t false buffers.now }
+    requires places { length buffers.now.values.items ≡ length experiment.now.system.ports }
+    requires fitting { AreFitting experiment.now.system buffers.now.values.items }
     ensures ready { OnOk result (Ready L.view experiment.now (IsDeparting t) slots.new) }
-    ensures goes { (w : Way) (count : ℕ) → w.s.values ≡ buffers.now.values.items →
-        Goes experiment.now (Left w) (λ x. Departing w) (instances L.view slots.old)
-        (instances L.view slots.new) count count result }
+    ensures goes { (s : Spot) (to count : ℕ) →
+        Goes experiment.now (Left (record {
+          s = record s { values = buffers.now.values.items };
+          to = to;
+        }))
+        (λ x. Departing (record { s = record s { values = buffers.now.values.items }; to = to }))
+        (instances L.view slots.old) (instances L.view slots.new) count count result }
 {
     set_inputs(slots, &experiment.system, &buffers.values)
 }
@@ -86,8 +91,9 @@ fn step<L: Peer>(
     requires later { t < to }
     requires within { to ≤ experiment.now.plan.stop }
     ensures ready { OnOk result (Ready L.view experiment.now (IsStepping to) slots.new) }
-    ensures goes { (w : Way) (count : ℕ) → w.s.t ≡ t → w.to ≡ to → Goes experiment.now (Departing w)
-        (λ asked. Stepped (record w.s { t = to; n = 0 }) asked) (instances L.view slots.old)
+    ensures goes { (s : Spot) (count : ℕ) →
+        Goes experiment.now (Departing (record { s = record s { t = t }; to = to }))
+        (λ asked. Stepped (record s { t = to; n = 0 }) asked) (instances L.view slots.old)
         (instances L.view slots.new) count count result }
 {
     round(
@@ -107,10 +113,10 @@ pub(crate) fn enter_event<L: Peer>(
 ) -> Result<(), BadAnswer>
     requires { Ready L.view experiment.now (IsStepping t) slots.old }
     ensures ready { OnOk result (Ready L.view experiment.now (IsAt t) slots.new) }
-    ensures goes { (s : Spot) (ticks : ℕ → Bool) (count : ℕ) → s.n ≡ 0 →
-        Begins experiment.now.system experiment.now.plan s ticks →
-        Goes experiment.now (Stepped s false) (λ x. Before s ticks) (instances L.view slots.old)
-        (instances L.view slots.new) count count result }
+    ensures goes { (s : Spot) (ticks : ℕ → Bool) (count : ℕ) →
+        Begins experiment.now.system experiment.now.plan (record s { n = 0 }) ticks →
+        Goes experiment.now (Stepped s false) (λ x. Before (record s { n = 0 }) ticks)
+        (instances L.view slots.old) (instances L.view slots.new) count count result }
 {
     each(slots, Ask::EnterEvent)
 }

@@ -1,0 +1,195 @@
+-- A stage by its own contract: where it leads the run, and where it leaves the slots.
+use Rattle.std.proofs.Common.{◌≡◌, ℕ, ℤ, Bool, true, false, List, [], Option, Result, Ok, Err, refl, sym, ap, subst, arith, ◌∙◌, ◌+◌}
+use Rattle.std.specs.Prelude.{All, IfOk, OnOk, ◌||◌}
+use Rattle.std.proofs.lemmas.List.{length-map}
+use Rattle.sim_base.specs.Sink.{SinkView, with_piece}
+use Rattle.system_model.specs.Text.{instant_text}
+use Rattle.event_iteration.specs.Updates.{updated_by, updating}
+use Rattle.event_iteration.specs.declared.updates.Updated.{Updated}
+use Rattle.value_types.specs.declared.shape.Shape.{Shape}
+use Rattle.fmi_calls.specs.declared.call.Call.{Call}
+use Rattle.fmu_peer.specs.CloseAll.{Instance, instance_in}
+use Rattle.fmu_peer.specs.View.{View}
+use Rattle.fmu_peer.specs.declared.peer.Exchange.{Exchange}
+use Rattle.fmu_peer.specs.declared.slot.Slot.{Slot}
+use Rattle.event_iteration.specs.Explains.{Explains, Walks}
+use Rattle.event_iteration.specs.Intervals.{AsksIntervals, Fixes, is_some_armed}
+use Rattle.event_iteration.specs.Settings.{before_step, port_order}
+use Rattle.event_iteration.specs.Turns.{Rules}
+use Rattle.run_model.specs.Run.{Timer}
+use Rattle.system_model.specs.declared.system.System.{System}
+use Rattle.slot_calls.specs.declared.bad_answer.BadAnswer.{BadAnswer}
+use Rattle.slot_calls.specs.Log.{Asking, Sent, Told}
+use Rattle.slot_calls.specs.Slots.{LiveSlot, Stands, instances}
+use Rattle.slot_calls.specs.Stage.{FailsIn, IsAnswered, Stage, StopsAt, shapes, shapes_of, to_each, to_those}
+use Rattle.slot_calls.specs.Stage.{Round as RoundOf}
+use Rattle.slot_calls.proofs.Leading.{Led}
+use Rattle.slot_calls.proofs.Parts.{stage_all, stage_those}
+use Rattle.calling_sequence.specs.declared.experiment.Experiment.{Experiment}
+use Rattle.calling_sequence.specs.Course.{Found, LeadsTo, Place, Read, Rearmed, Rearming, Seen, Spot, Timed, Times, Updates, part_at, shown}
+use Rattle.calling_sequence.specs.Ends.{RunsSlots, point_of}
+use Rattle.calling_sequence.specs.Goes.{Comes, Goes, Onward, Puts}
+use Rattle.calling_sequence.specs.Here.{Follows, Here}
+use Rattle.calling_sequence.specs.declared.ending.Break.{Break}
+use Rattle.calling_sequence.specs.declared.ending.Break.TheVariants as B
+use Rattle.calling_sequence.specs.declared.run_end.RunEnd.TheVariants as E
+use Rattle.calling_sequence.specs.Parts.{Calls, Does, Falls, Part, Round, Walk}
+use Rattle.calling_sequence.specs.Ready.{Ready}
+use Rattle.calling_sequence.proofs.Chains.{IsGoodly, IsQuestion, fits_on, keep_all}
+use Rattle.calling_sequence.proofs.Walks.{asking_goodly, timing_goodly}
+use Rattle.calling_sequence.proofs.Onto.{cut, off, on_quietly, on_shown}
+use Rattle.calling_sequence.specs.Puts.{CutsPiece}
+
+-- ---- where it leads the run
+
+module _ {T : Type 0} (e : Experiment) (p : Place) (q : T → Place) (quiet : (x : T) → shown (q x) ≡ []) (mids news : List Instance) (count : ℕ) where
+  abbrev pub LeadsBy : (value : List Sent → T) → Type 0
+  LeadsBy value = (x : T) (log : List Sent) → x ≡ value log → LeadsTo e.system e.plan p [] log (q x)
+
+  module _ (fits : shapes mids ≡ shapes_of e.system) (calls : List Shape → List Asking) (value : List Sent → T) where
+    -- calls that stop at the first bad answer
+    pub by_stage : part_at e.system e.bound e.plan p ≡ Calls (calls (shapes_of e.system)) → LeadsBy value → (r : Result T BadAnswer) → Stage (calls (shapes mids)) value mids news r → Goes e p q mids news count count r
+    by_stage is leads (Ok x) s = λ v olds before h.
+        on_quietly e olds before p mids news v count h s.log s.told (q x) []
+        (subst (λ (part : Part). Does e.system part [] s.log) (sym is) (subst (λ (ss : List Shape). IsAnswered ss (calls ss) s.log) fits s.says.0)) (leads x s.log s.says.1) (quiet x)
+    by_stage is leads (Err bad) s = λ v olds before h.
+        off e olds before p mids news v count h s.log s.told bad (subst (λ (part : Part). Falls e.system part bad s.log) (sym is) (subst (λ (ss : List Shape). StopsAt ss (calls ss) bad s.log) fits s.says))
+
+    -- calls that are all sent
+    pub by_round : part_at e.system e.bound e.plan p ≡ Round (calls (shapes_of e.system)) → LeadsBy value → (r : Result T BadAnswer) → RoundOf (calls (shapes mids)) value mids news r → Goes e p q mids news count count r
+    by_round is leads (Ok x) s = λ v olds before h.
+        on_quietly e olds before p mids news v count h s.log s.told (q x) []
+        (subst (λ (part : Part). Does e.system part [] s.log) (sym is) (subst (λ (ss : List Shape). IsAnswered ss (calls ss) s.log) fits s.says.0)) (leads x s.log s.says.1) (quiet x)
+    by_round is leads (Err bad) s = λ v olds before h.
+        off e olds before p mids news v count h s.log s.told bad (subst (λ (part : Part). Falls e.system part bad s.log) (sym is) (subst (λ (ss : List Shape). FailsIn ss (calls ss) bad s.log) fits s.says))
+
+-- a walk
+pub by_walk : (e : Experiment) (p q : Place) → shown q ≡ [] → (mids news : List Instance) (count : ℕ) (rules : Rules) (past : List (Option ℤ)) (order : List ℕ) (values : List (Option ℤ)) → part_at e.system e.bound e.plan p ≡ Walk rules past order →
+    ((log : List Sent) → LeadsTo e.system e.plan p values log q) → (r : Result (Unit {0}) BadAnswer) → Walks e.system rules past order values mids news r → Goes e p (λ (x : Unit {0}). q) mids news count count r
+by_walk e p q quiet mids news count rules past order values is leads (Ok x) w = λ v olds before h.
+    on_quietly e olds before p mids news v count h w.log w.told q values (subst (λ (part : Part). Does e.system part values w.log) (sym is) w.says) (leads w.log) quiet
+by_walk e p q quiet mids news count rules past order values is leads (Err bad) w = λ v olds before h.
+    off e olds before p mids news v count h w.log w.told bad (subst (λ (part : Part). Falls e.system part bad w.log) (sym is) (values, w.says))
+
+-- the same values, by another name
+pub walks_as : (system : System) (rules : Rules) (order : List ℕ) (mids news : List Instance) (r : Result (Unit {0}) BadAnswer) (a b c d : List (Option ℤ)) → a ≡ b → c ≡ d → Walks system rules a order c mids news r → Walks system rules b order d mids news r
+walks_as system rules order mids news r a b c d past now w = subst (λ (vs : List (Option ℤ)). Walks system rules b order vs mids news r) now (subst (λ (vs : List (Option ℤ)). Walks system rules vs order c mids news r) past w)
+
+pub sets_as : (system : System) (order : List ℕ) (mids news : List Instance) (r : Result (Unit {0}) BadAnswer) (a b : List (Option ℤ)) → a ≡ b → Walks system (before_step a) a order a mids news r → Walks system (before_step b) b order b mids news r
+sets_as system order mids news r a b same w = subst (λ (vs : List (Option ℤ)). Walks system (before_step vs) vs order vs mids news r) same w
+
+pub asks_as : (system : System) (per_second t : ℕ) (timers next : List Timer) (mids news : List Instance) (r : Result Bool BadAnswer) (a b : List (Option ℤ)) → a ≡ b → AsksIntervals system per_second t a timers next mids news r → AsksIntervals system per_second t b timers next mids news r
+asks_as system per_second t timers next mids news r a b same w = subst (λ (vs : List (Option ℤ)). AsksIntervals system per_second t vs timers next mids news r) same w
+
+-- the questions for the timing of fixed Clocks
+pub by_fixes : (e : Experiment) (timers : List Timer) (mids news : List Instance) (count : ℕ) (r : Result (Unit {0}) BadAnswer) → Fixes e.system e.plan.resolution timers mids news r → Goes e Found (λ (x : Unit {0}). Timed timers) mids news count count r
+by_fixes e timers mids news count (Ok x) f = λ v olds before h. on_quietly e olds before Found mids news v count h f.log f.told (Timed timers) [] f.says.0 (Times [] f.log timers f.says.1) refl
+by_fixes e timers mids news count (Err bad) f = λ v olds before h. off e olds before Found mids news v count h f.log f.told bad f.says
+
+-- the questions for intervals
+pub by_asking : (e : Experiment) (t n : ℕ) (values : List (Option ℤ)) (timers next : List Timer) (mids news : List Instance) (count : ℕ) (r : Result Bool BadAnswer) → AsksIntervals e.system e.plan.resolution t values timers next mids news r →
+    Goes e (Read (record { t = t; n = n; values = values; timers = timers })) (λ (armed : Bool). Rearmed (record { t = t; n = n; values = values; timers = next })) mids news count count r
+by_asking e t n values timers next mids news count (Ok x) a = λ v olds before h.
+    on_quietly e olds before (Read (record { t = t; n = n; values = values; timers = timers })) mids news v count h a.log a.told (Rearmed (record { t = t; n = n; values = values; timers = next })) values a.says.0.explains (Rearming (record { t = t; n = n; values = values; timers = timers }) values next a.log a.says.0) refl
+by_asking e t n values timers next mids news count (Err bad) a = λ v olds before h.
+    off e olds before (Read (record { t = t; n = n; values = values; timers = timers })) mids news v count h a.log a.told bad (values, a.says)
+
+pub armed_by : {system : System} {per_second t : ℕ} {values : List (Option ℤ)} {timers next : List Timer} {mids news : List Instance} (r : Result Bool BadAnswer) → AsksIntervals system per_second t values timers next mids news r → IfOk r (λ (b : Bool). b ≡ is_some_armed t next)
+armed_by (Ok x) a = a.says.1
+armed_by (Err bad) a = tt
+
+-- Updates behind which the instant is put
+module _ (e : Experiment) (s : Spot) (u v : Updated) (again : v.again ≡ (u.again || is_some_armed s.t s.timers)) (asked : v.asked ≡ u.asked) (mids news : List Instance) (fits : shapes mids ≡ shapes_of e.system) (stage : Stage (updating (shapes mids)) updated_by mids news (Ok u))
+    (olds : List Instance) (before present : SinkView) (count : ℕ) (h : Here e olds before (Rearmed s) mids present count) (after : SinkView) where
+  done : IsAnswered (shapes_of e.system) (updating (shapes_of e.system)) stage.log
+  done = subst (λ (ss : List Shape). IsAnswered ss (updating ss) stage.log) fits stage.says.0
+
+  sees : LeadsTo e.system e.plan (Rearmed s) [] stage.log (Seen s v.again v.asked)
+  sees = Updates s [] stage.log v.again v.asked (again ∙ ap (λ (x : Updated). x.again || is_some_armed s.t s.timers) stage.says.1) (asked ∙ ap (λ (x : Updated). x.asked) stage.says.1)
+
+  pub by_put : after ≡ with_piece present (instant_text s.t s.n s.values) → Here e olds before (Seen s v.again v.asked) news after (count + 1)
+  by_put put = on_shown e olds before (Rearmed s) mids news present count h stage.log stage.told (Seen s v.again v.asked) [] done sees _ refl after put
+
+  pub by_cut : CutsPiece present (instant_text s.t s.n s.values) after → RunsSlots e.system e.bound e.plan olds news before after count E.WriteFault
+  by_cut put = cut e olds before (Rearmed s) mids news present count h stage.log stage.told (Seen s v.again v.asked) [] done sees _ refl after put
+
+pub badly_updated : (e : Experiment) (s : Spot) (mids news : List Instance) → shapes mids ≡ shapes_of e.system → (bad : BadAnswer) → Stage (updating (shapes mids)) updated_by mids news (Err bad) → (v : SinkView) (count : ℕ) →
+    Comes e (Rearmed s) (record { end = E.Bad bad; point = s.t }) mids news v v count count
+badly_updated e s mids news fits bad stage v count olds before h =
+    off e olds before (Rearmed s) mids news v count h stage.log stage.told bad (subst (λ (ss : List Shape). StopsAt ss (updating ss) bad stage.log) fits stage.says)
+
+-- ---- one stage behind others
+
+module _ {T : Type 0} (e : Experiment) (p q : Place) (r : T → Place) (olds mids news : List Instance) (count now counted : ℕ) where
+  pub then_goes : point_of e.plan q ≡ point_of e.plan p → ((v : SinkView) → Onward e p q olds mids v v count now) → (x : Result T BadAnswer) → Goes e q r mids news now counted x → Goes e p r olds news count counted x
+  then_goes same first (Ok x) s = λ v starts before h. s v starts before (first v starts before h)
+  then_goes same first (Err bad) s = λ v starts before h.
+      subst (λ (point : ℕ). Follows e starts before (record { end = E.Bad bad; point = point }) news v counted) same (s v starts before (first v starts before h))
+
+  pub then_puts : (present after : SinkView) → Onward e p q olds mids present present count now → (x : Result T Break) → Puts e q r mids news present after now counted x → Puts e p r olds news present after count counted x
+  then_puts present after first (Ok x) s = λ starts before h. s starts before (first starts before h)
+  then_puts present after first (Err (B.Ends ending)) s = λ starts before h. s starts before (first starts before h)
+  then_puts present after first (Err B.Write) s = λ starts before h. s starts before (first starts before h)
+
+-- ---- where it leaves the slots
+
+abbrev pub At : Experiment → ((stop step : ℕ) → View → Type 0) → View → Type 0
+At e P = P e.plan.stop e.plan.step
+
+module _ {L : Type 0} {g : _} (view : L → View) (e : Experiment) where
+  -- what stands so stands in another way too
+  pub weaker : (P Q : (stop step : ℕ) → View → Type 0) → ((v : View) → At e P v → At e Q v) → (slots : List (Slot L g)) → Ready view e P slots → Ready view e Q slots
+  weaker P Q f slots r = record { may = r.may; few = r.few; shapes_are = r.shapes_are; live = r.live; stand = λ k d w. f _ (r.stand k d w) }
+
+  module _ (P : (stop step : ℕ) → View → Type 0) (olds news : List (Slot L g)) (ready : Ready view e P olds) where
+    -- a log leaves as many slots, of the same shapes
+    still_so : (Q : (stop step : ℕ) → View → Type 0) (log : List Sent) → Told log (instances view olds) (instances view news) → All (LiveSlot view) news → All (Stands (At e Q) view) news → Ready view e Q news
+    still_so Q log told live stand = record {
+      may = ready.may;
+      few = let a = length-map olds (λ s. instance_in view s) in let b = length-map news (λ s. instance_in view s) in let same = told.len in let few = ready.few in omega (arith, a, b, same, few);
+      shapes_are = fits_on e.system log (instances view olds) (instances view news) ready.shapes_are told;
+      live = live;
+      stand = stand;
+    }
+
+    pub still : {T : Type 0} (Q : (stop step : ℕ) → View → Type 0) (r : Result T BadAnswer) (log : List Sent) → Told log (instances view olds) (instances view news) → OnOk r (All (LiveSlot view) news) → OnOk r (All (Stands (At e Q) view) news) → OnOk r (Ready view e Q news)
+    still Q (Ok x) log told live stand = still_so Q log told live stand
+    still Q (Err bad) log told live stand = tt
+
+    -- one call to each whose shape passes a test
+    pub still_those : {T : Type 0} (Q : (stop step : ℕ) → View → Type 0) (test : Shape → Bool) (call : Shape → Call) → ((v w : View) (x : Exchange) → At e P v → test v.fixed.shape ≡ true → Led v x w → x.call ≡ call v.fixed.shape → At e Q w) →
+        ((v : View) → At e P v → test v.fixed.shape ≡ false → At e Q v) → (value : List Sent → T) (r : Result T BadAnswer) → Stage (to_those test call (shapes (instances view olds))) value (instances view olds) (instances view news) r →
+        OnOk r (All (LiveSlot view) news) → OnOk r (Ready view e Q news)
+    still_those Q test call leads stays value (Ok x) s live =
+        still_so Q s.log s.told live (stage_those (λ s. instance_in view s) test call olds news s.log s.told s.says.0 (At e P) (At e Q) leads stays ready.stand)
+    still_those Q test call leads stays value (Err bad) s live = tt
+
+    -- and to each
+    pub still_each : {T : Type 0} (Q : (stop step : ℕ) → View → Type 0) (call : Shape → Call) → ((v w : View) (x : Exchange) → At e P v → Led v x w → x.call ≡ call v.fixed.shape → At e Q w) → (value : List Sent → T) (r : Result T BadAnswer) →
+        Stage (to_each call (shapes (instances view olds))) value (instances view olds) (instances view news) r → OnOk r (All (LiveSlot view) news) → OnOk r (Ready view e Q news)
+    still_each Q call leads value (Ok x) s live = still_so Q s.log s.told live (stage_all (λ s. instance_in view s) call (At e P) (At e Q) leads olds news s.log s.told s.says.0 ready.stand)
+    still_each Q call leads value (Err bad) s live = tt
+
+    pub still_round : {T : Type 0} (Q : (stop step : ℕ) → View → Type 0) (call : Shape → Call) → ((v w : View) (x : Exchange) → At e P v → Led v x w → x.call ≡ call v.fixed.shape → At e Q w) → (value : List Sent → T) (r : Result T BadAnswer) →
+        RoundOf (to_each call (shapes (instances view olds))) value (instances view olds) (instances view news) r → OnOk r (All (LiveSlot view) news) → OnOk r (Ready view e Q news)
+    still_round Q call leads value (Ok x) s live = still_so Q s.log s.told live (stage_all (λ s. instance_in view s) call (At e P) (At e Q) leads olds news s.log s.told s.says.0 ready.stand)
+    still_round Q call leads value (Err bad) s live = tt
+
+    -- calls each of which leaves an instance as it stands
+    module _ (K : Shape → Exchange → Type 0) (keeps : (v w : View) (x : Exchange) → At e P v → Led v x w → K v.fixed.shape x → At e P w) where
+      pub keeping : {T : Type 0} (r : Result T BadAnswer) (log : List Sent) → Told log (instances view olds) (instances view news) → OnOk r (All (IsGoodly K (shapes_of e.system)) log) → OnOk r (All (LiveSlot view) news) → OnOk r (Ready view e P news)
+      keeping (Ok x) log told goodly live = still_so P log told live (keep_all (λ s. instance_in view s) (At e P) K keeps (shapes_of e.system) olds news log told ready.shapes_are goodly ready.stand)
+      keeping (Err bad) log told goodly live = tt
+
+      pub keeping_walk : (rules : Rules) (before : List (Option ℤ)) (order : List ℕ) (values : List (Option ℤ)) → ((log : List Sent) → Explains e.system rules before order values log → All (IsGoodly K (shapes_of e.system)) log) →
+          (r : Result (Unit {0}) BadAnswer) → Walks e.system rules before order values (instances view olds) (instances view news) r → OnOk r (All (LiveSlot view) news) → OnOk r (Ready view e P news)
+      keeping_walk rules before order values goodly (Ok x) w live = keeping (Ok x) w.log w.told (goodly w.log w.says) live
+      keeping_walk rules before order values goodly (Err bad) w live = tt
+
+pub fixes_goodly : (system : System) (per_second : ℕ) (timers : List Timer) (olds news : List Instance) (r : Result (Unit {0}) BadAnswer) → (f : Fixes system per_second timers olds news r) → OnOk r (All (IsGoodly (λ shape. IsQuestion) (shapes_of system)) f.log)
+fixes_goodly system per_second timers olds news (Ok x) f = timing_goodly system f.log f.says.0
+fixes_goodly system per_second timers olds news (Err bad) f = tt
+
+pub asks_goodly : (system : System) (per_second t : ℕ) (values : List (Option ℤ)) (timers next : List Timer) (olds news : List Instance) (r : Result Bool BadAnswer) → (a : AsksIntervals system per_second t values timers next olds news r) → OnOk r (All (IsGoodly (λ shape. IsQuestion) (shapes_of system)) a.log)
+asks_goodly system per_second t values timers next olds news (Ok x) a = asking_goodly system values (port_order system) values a.log a.says.0.explains
+asks_goodly system per_second t values timers next olds news (Err bad) a = tt

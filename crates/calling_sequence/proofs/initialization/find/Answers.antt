@@ -1,0 +1,24 @@
+use Rattle.std.proofs.Common.{refl}
+use Rattle.system_model.specs.Ports.{numbers}
+use Rattle.event_iteration.specs.Initialization.{initially, no_values}
+use Rattle.calling_sequence.specs.Course.{Entered, Finds, Found}
+use Rattle.calling_sequence.specs.Place.{IsInitializing}
+use Rattle.calling_sequence.proofs.Phases.{finding_keeps}
+use Rattle.calling_sequence.proofs.Stages.{by_walk, keeping_walk}
+use Rattle.calling_sequence.proofs.Walks.{IsGetOrSet, finding_goodly}
+use Rattle.calling_sequence.proofs.initialization.find.Goals as goal
+
+pub initialize-requires-clause-initializing : goal.initialize-requires-clause-initializing
+initialize-requires-clause-initializing g c κs lives = λ k d w. (c.requires.ready.stand k d w).state
+
+pub returns-clause-ready : goal.returns-clause-ready
+returns-clause-ready g c =
+    let e = c.args.experiment.now in
+    let w = c.initialize.ensures in
+    keeping_walk g.L.Peer.view e (λ stop step. IsInitializing e.plan.start stop) c.args.slots.now _ c.requires.ready (λ shape. IsGetOrSet) (finding_keeps e.plan.start e.plan.stop) (initially e.system) (no_values e.system) (numbers e.system.initial_order) _
+    (λ log. finding_goodly e.system (no_values e.system) (numbers e.system.initial_order) _ log) c.initialize.result w.walks w.live
+
+pub returns-clause-goes : goal.returns-clause-goes
+returns-clause-goes g c =
+    let e = c.args.experiment.now in
+    by_walk e Entered Found refl _ _ _ (initially e.system) (no_values e.system) (numbers e.system.initial_order) _ refl (λ log. Finds _ log) c.initialize.result c.initialize.ensures.walks

@@ -1,0 +1,90 @@
+use Rattle.std.proofs.Common.{Bool, true, refl, subst, sym, arith, ◌∙◌, ◌+◌, ◌<◌}
+use Rattle.event_iteration.specs.Clocks.{timers_in}
+use Rattle.calling_sequence.specs.Calls.{IsBoundOf}
+use Rattle.calling_sequence.specs.Goes.{spot}
+use Rattle.calling_sequence.specs.Ready.{AreTimed}
+use Rattle.calling_sequence.proofs.ScheduleSteps.{begins, never_first, timed_behind}
+use Rattle.calling_sequence.proofs.Ways.{again_there, asked_by_step, asked_there, done_there, limited_there, stepped_there, stops_there, unfit_there}
+use Rattle.calling_sequence.proofs.run.follow.Goals as goal
+
+pub returns-then-updated-clause-arrives : goal.returns-then-updated-clause-arrives
+returns-then-updated-clause-arrives g c olds before h = asked_there c.args.experiment.now _ _ c.take.new.buffers c.in-Ok-take.updated olds before _ _ _ (c.in-Ok-take.ensures.puts olds before (c.instants.invariant.onward olds before h)) c.if-updated.true
+
+pub returns-then-n-plan-clause-arrives : goal.returns-then-n-plan-clause-arrives
+returns-then-n-plan-clause-arrives g c olds before h = limited_there c.args.experiment.now _ _ c.take.new.buffers c.in-Ok-take.updated olds before _ _ _ (c.in-Ok-take.ensures.puts olds before (c.instants.invariant.onward olds before h)) c.if-updated-2.true c.if-updated.false c.if-n-plan.true
+
+pub instants-preserved-then-updated-2 : goal.instants-preserved-then-updated-2
+instants-preserved-then-updated-2 g c =
+    let e = c.args.experiment.now in
+    let below = c.instants.invariant.below in
+    let other = c.if-n-plan.false in
+    record {
+      ready = c.in-Ok-take.ensures.ready;
+      timed = subst (λ (x : Bool). AreTimed e c.instants.t (c.instants.n + 1) x c.take.new.buffers) (sym (never_first _ c.instants.n (omega arith))) c.in-Ok-take.ensures.timed;
+      begun = c.instants.invariant.begun;
+      below = omega (arith, below, other);
+      text = c.in-Ok-take.ensures.text ∙ c.instants.invariant.text;
+      onward = λ olds before h. again_there c.args.experiment.now _ _ c.take.new.buffers c.in-Ok-take.updated olds before _ _ _ (c.in-Ok-take.ensures.puts olds before (c.instants.invariant.onward olds before h)) c.if-updated-2.true c.if-updated.false c.if-n-plan.false c.in-Ok-take.ensures.timed;
+    }
+
+pub returns-then-t-plan-clause-arrives : goal.returns-then-t-plan-clause-arrives
+returns-then-t-plan-clause-arrives g c olds before h = stops_there c.args.experiment.now _ _ c.take.new.buffers c.in-Ok-take.updated olds before _ _ _ (c.in-Ok-take.ensures.puts olds before (c.instants.invariant.onward olds before h)) c.if-updated-2.false c.if-updated.false c.if-t-plan.true
+
+pub returns-in-Some-clause-arrives : goal.returns-in-Some-clause-arrives
+returns-in-Some-clause-arrives g c olds before h =
+    let within = c.in-Ok-take.ensures.timed.stands.within in
+    let stops = c.in-Ok-take.ensures.timed.stops in
+    let before_stop : c.instants.t < c.args.experiment.now.plan.stop = let other = c.if-t-plan.false in omega (arith, other, within, stops) in
+    let bound : IsBoundOf c.args.experiment.now.plan (timers_in c.take.new.buffers.schedule) c.instants.t c.next_bound-to.result = record { before_stop = before_stop; bound = c.next_bound-to.ensures } in
+    unfit_there c.args.experiment.now _ _ c.take.new.buffers c.in-Ok-take.updated olds before _ _ _ (c.in-Ok-take.ensures.puts olds before (c.instants.invariant.onward olds before h)) c.if-updated-2.false c.if-updated.false c.in-Some.component _ bound (sym c.in-Some.ensures)
+
+pub cross-requires-clause-step : goal.cross-requires-clause-step
+cross-requires-clause-step g c κs lives =
+    let within = c.in-Ok-take.ensures.timed.stands.within in
+    let stops = c.in-Ok-take.ensures.timed.stops in
+    let before_stop : c.instants.t < c.args.experiment.now.plan.stop = let other = c.if-t-plan.false in omega (arith, other, within, stops) in
+    let bound : IsBoundOf c.args.experiment.now.plan (timers_in c.take.new.buffers.schedule) c.instants.t c.next_bound-to.result = record { before_stop = before_stop; bound = c.next_bound-to.ensures } in
+    record { bound = bound; fit = sym c.in_default.ensures }
+
+pub returns-in-Err-cross-clause-arrives : goal.returns-in-Err-cross-clause-arrives
+returns-in-Err-cross-clause-arrives g c olds before h =
+    c.in-Err-cross.ensures.goes _ _ olds before (done_there c.args.experiment.now _ _ c.take.new.buffers c.in-Ok-take.updated olds before _ _ _ (c.in-Ok-take.ensures.puts olds before (c.instants.invariant.onward olds before h)) c.if-updated-2.false c.if-updated.false)
+
+pub returns-then-is_asked-clause-arrives : goal.returns-then-is_asked-clause-arrives
+returns-then-is_asked-clause-arrives g c olds before h =
+    asked_by_step c.args.experiment.now (spot c.next_bound-to.result 0 c.take.new.buffers) c.in-Ok-cross.is_asked olds before _ _ _ (c.in-Ok-cross.ensures.goes _ _ olds before (done_there c.args.experiment.now _ _ c.take.new.buffers c.in-Ok-take.updated olds before _ _ _ (c.in-Ok-take.ensures.puts olds before (c.instants.invariant.onward olds before h)) c.if-updated-2.false c.if-updated.false)) c.if-is_asked.true
+
+pub instants-preserved : goal.instants-preserved
+instants-preserved g c =
+    let e = c.args.experiment.now in
+    let b = c.take.new.buffers in
+    let to = c.next_bound-to.result in
+    let begun = c.instants.invariant.begun in
+    let later = c.next_bound-to.ensures.later in
+    let within = c.in-Ok-take.ensures.timed.stands.within in
+    let stops = c.in-Ok-take.ensures.timed.stops in
+    let before_stop : c.instants.t < c.args.experiment.now.plan.stop = let other = c.if-t-plan.false in omega (arith, other, within, stops) in
+    let bound : IsBoundOf c.args.experiment.now.plan (timers_in c.take.new.buffers.schedule) c.instants.t c.next_bound-to.result = record { before_stop = before_stop; bound = c.next_bound-to.ensures } in
+    let timed = timed_behind e c.instants.t c.instants.n to b c.requires.ready.may.plan c.in-Ok-take.ensures.timed (c.in-Ok-take.ensures.unarmed c.if-updated-2.false) bound in
+    record {
+      ready = c.in-Ok-enter_event.ensures.ready;
+      timed = timed;
+      begun = omega (arith, begun, later);
+      below = c.requires.ready.may.plan.limit_above;
+      text = c.in-Ok-take.ensures.text ∙ c.instants.invariant.text;
+      onward = λ olds before h. c.in-Ok-enter_event.ensures.goes (spot to 0 b) _ _ (begins e.system e.plan b.schedule to 0 true b.values.items timed.places timed.starts timed.stands refl) _ olds before
+          (stepped_there e (spot to 0 b) c.in-Ok-cross.is_asked olds before _ _ _ (c.in-Ok-cross.ensures.goes _ _ olds before (done_there c.args.experiment.now _ _ c.take.new.buffers c.in-Ok-take.updated olds before _ _ _ (c.in-Ok-take.ensures.puts olds before (c.instants.invariant.onward olds before h)) c.if-updated-2.false c.if-updated.false)) c.if-is_asked.false);
+    }
+
+pub returns-in-Err-enter_event-clause-arrives : goal.returns-in-Err-enter_event-clause-arrives
+returns-in-Err-enter_event-clause-arrives g c olds before h =
+    let e = c.args.experiment.now in
+    let b = c.take.new.buffers in
+    let to = c.next_bound-to.result in
+    let within = c.in-Ok-take.ensures.timed.stands.within in
+    let stops = c.in-Ok-take.ensures.timed.stops in
+    let before_stop : c.instants.t < c.args.experiment.now.plan.stop = let other = c.if-t-plan.false in omega (arith, other, within, stops) in
+    let bound : IsBoundOf c.args.experiment.now.plan (timers_in c.take.new.buffers.schedule) c.instants.t c.next_bound-to.result = record { before_stop = before_stop; bound = c.next_bound-to.ensures } in
+    let timed = timed_behind e c.instants.t c.instants.n to b c.requires.ready.may.plan c.in-Ok-take.ensures.timed (c.in-Ok-take.ensures.unarmed c.if-updated-2.false) bound in
+    c.in-Err-enter_event.ensures.goes (spot to 0 b) _ _ (begins e.system e.plan b.schedule to 0 true b.values.items timed.places timed.starts timed.stands refl) _ olds before
+    (stepped_there e (spot to 0 b) c.in-Ok-cross.is_asked olds before _ _ _ (c.in-Ok-cross.ensures.goes _ _ olds before (done_there c.args.experiment.now _ _ c.take.new.buffers c.in-Ok-take.updated olds before _ _ _ (c.in-Ok-take.ensures.puts olds before (c.instants.invariant.onward olds before h)) c.if-updated-2.false c.if-updated.false)) c.if-is_asked.false)
