@@ -1,5 +1,5 @@
 -- Where a Clock is armed for the point of an instant behind it, it was armed in that instant: its FMU answered a new interval of no length (FMI 3.0, 2.2.9: countdown Clocks).
-use Rattle.std.proofs.Common.{◌≡◌, ◌⊎◌, inl, inr, ℕ, zero, suc, ◌+◌, ◌*◌, ◌/◌, ◌%◌, ◌<◌, ◌==◌, ℤ, Bool, true, false, not, List, [], ◌∷◌, Option, Some, None, Ok, Result, refl, sym, ap, ◌∙◌, subst, arith}
+use Rattle.std.proofs.Common.{◌≡◌, ◌⊎◌, inl, inr, ℕ, zero, suc, ◌+◌, ◌*◌, ◌/◌, ◌%◌, ◌<◌, ◌==◌, ℤ, Bool, true, false, List, [], ◌∷◌, Option, Some, None, Ok, Result, refl, sym, ap, ◌∙◌, subst, arith}
 use Rattle.std.specs.Prelude.{◌&&◌, ◌||◌, if◌then◌else◌}
 use Rattle.std.specs.List.{list_any, slice_get}
 use Rattle.std.specs.Option.{option_and_then, option_map_or}
@@ -7,7 +7,7 @@ use Rattle.std.proofs.Math.Nat.{div-add-mod}
 use Rattle.std.proofs.lemmas.Bool.{or_left, or_right}
 use Rattle.std.proofs.lemmas.Bool.Decides.{nat_tests}
 use Rattle.std.proofs.lemmas.List.Folds.{list_any-append}
-use Rattle.std.proofs.lemmas.Option.{get_or_from_slice_get, none-some as none_some, same_Some, slice_get_within}
+use Rattle.std.proofs.lemmas.Option.{get_or_from_slice_get, same_Some, slice_get_within}
 use Rattle.clock_fraction.specs.Counts.{counts_of}
 use Rattle.clock_fraction.specs.declared.fraction.Fraction.{Fraction}
 use Rattle.fmi_calls.specs.declared.call.Call.{Call}
@@ -23,9 +23,9 @@ use Rattle.fmu_peer.specs.Updates.{is_instant_interval}
 use Rattle.system_model.specs.declared.system.Component.{Component}
 use Rattle.system_model.specs.declared.system.Port.{Port}
 use Rattle.system_model.specs.declared.system.Role.{Role}
-use Rattle.system_model.specs.declared.system.Role.TheVariants.{Input, Output, ClockInput, ClockOutput, TimeClock}
+use Rattle.system_model.specs.declared.system.Role.TheVariants.{TimeClock}
 use Rattle.system_model.specs.declared.system.System.{System}
-use Rattle.system_model.specs.declared.system.Timing.TheVariants.{Periodic, Answered, Countdown}
+use Rattle.system_model.specs.declared.system.Timing.TheVariants.{Answered, Countdown}
 use Rattle.system_model.specs.Ports.{is_clock_role, numbers}
 use Rattle.system_model.specs.Sound.{IsSound}
 use Rattle.system_model.proofs.SoundLemmas.{Placed, events_of, place_of}

@@ -1,6 +1,5 @@
 -- The calls of one component along a run: each is one of a run, and none stands twice where it isn't needed.
 use Rattle.std.proofs.Common.{◌≡◌, ℕ, zero, suc, ◌-◌, ◌<◌, ◌≤◌, ◌==◌, Bool, true, false, List, [], ◌∷◌, ◌++◌, Option, Some, ℤ, refl, sym, ap, ◌∙◌, subst, append_assoc, append-nil, arith, length}
-use Rattle.std.specs.Prelude.{if◌then◌else◌}
 use Rattle.std.specs.List.{slice_get}
 use Rattle.std.proofs.lemmas.List.Elements.{All-cons, All-nil}
 use Rattle.value_types.specs.declared.shape.Shape.{Shape}
@@ -8,7 +7,7 @@ use Rattle.fmi_calls.specs.declared.call.Call.{Call}
 use Rattle.fmi_calls.specs.declared.call.Call.TheVariants as C
 use Rattle.fmi_calls.specs.declared.call.Kind.{Kind}
 use Rattle.fmi_calls.specs.declared.call.Kind.TheVariants as K
-use Rattle.fmi_calls.specs.KindFacts.{IsRunCall}
+use Rattle.fmi_calls.specs.KindFacts.{IsRunCall, may_repeat, moves_on}
 use Rattle.fmu_peer.specs.Mode.{instantiate_of}
 use Rattle.system_model.specs.declared.bound.Bound.{Bound}
 use Rattle.system_model.specs.declared.plan.Plan.{Plan}
@@ -22,15 +21,15 @@ use Rattle.slot_calls.specs.Log.{Asking, Sent, askings}
 use Rattle.slot_calls.specs.Stage.{IsAnswered, StopsAt, everyone, has_events, shapes_of, to_each, to_those}
 use Rattle.slot_calls.proofs.Parts.{other}
 use Rattle.event_iteration.specs.WalkCalls.{Front, UsesAre, WalksBy, Whole, has_events_at, initial_span, instant_span, interval_span, own, step_span, timing_span}
-use Rattle.event_iteration.proofs.WalkLaws.{each_call_once, own_append}
+use Rattle.event_iteration.proofs.WalkLaws.{Differ, each_call_once, own_append}
 use Rattle.calling_sequence.specs.Calls.{making}
-use Rattle.calling_sequence.specs.Course.{Again, Arrives, Before, Binds, Configured, Course, Departing, Entered, Enters, Exits, Finds, Found, GoesOn, LeadsTo, Leaves, Leaving, Left, Made, Place, Read, Reads, Rearmed, Rearming, Seen, Sets, Spot, Stepped, Steps, Timed, Times, Updates, part_at}
+use Rattle.calling_sequence.specs.Course.{Again, Before, Configured, Course, Departing, Entered, Exits, Found, GoesOn, LeadsTo, Leaves, Leaving, Left, Made, Place, Read, Rearmed, Seen, Sets, Spot, Stepped, Timed, part_at}
 use Rattle.calling_sequence.specs.Parts.{Calls, Does, Falls, Part, Round, Walk}
 use Rattle.calling_sequence.proofs.Along.{along}
 use Rattle.course_laws.specs.Laws.{AreNeeded, NoCallTwice}
 use Rattle.course_laws.specs.Runs.{Comes, Falling, Stands, Unmade}
 use Rattle.course_laws.proofs.BoundSets.{binding_new, setting_span}
-use Rattle.course_laws.proofs.Once.{IsSeen, IsSo, Limit, NamesNone, NamesPort, called, differ_by, differ_step, named, needed, needed_front, switched, weaker}
+use Rattle.course_laws.proofs.Once.{IsBefore, IsSeen, IsSo, Limit, NamesNone, NamesPort, called, differ_by, differ_step, named, needed, needed_front, switched, weaker}
 use Rattle.course_laws.proofs.OwnCalls.{own_calls, own_events, own_log, own_there}
 
 -- ---- of which kinds the calls are that name no port, since the last that moved the FMU on
@@ -65,13 +64,9 @@ point_leaving : (kind : Kind) → point_kinds kind ≡ true → leaving_kinds ki
 point_leaving K.EnterStep is = refl
 point_leaving kind is = is
 
-abbrev before_at : ℕ → Call → Type 0
-before_at t (C.DoStep at size) = at < t
-before_at t call = Unit {0}
-
 -- more kinds, and later uses
 more_seen : (l m : Limit) → ((kind : Kind) → l.kinds kind ≡ true → m.kinds kind ≡ true) → l.t ≡ m.t → l.below ≤ m.below → (c : Call) → IsSeen l c → IsSeen m c
-more_seen l m kinds same high c (NamesNone u is before) = NamesNone u (kinds _ is) (subst (λ (t : ℕ). before_at t c) same before)
+more_seen l m kinds same high c (NamesNone u is before) = NamesNone u (kinds _ is) (subst (λ (t : ℕ). IsBefore t c) same before)
 more_seen l m kinds same high c (NamesPort u less) = NamesPort u (omega (arith, less, high))
 
 abbrev limit : (Kind → Bool) → ℕ → ℕ → Limit
@@ -188,41 +183,40 @@ module _ (system : System) (sound : IsSound system) (k : ℕ) (c : Component) (o
 
   module _ (bound : Bound) (plan : Plan) (binds : BindsParameters system bound) where
     -- one call to each, to which none before is equal
-    to_all : (l m : Limit) (calls : List Call) → IsSo l calls → (call : Call) → IsSo m (calls ++ call ∷ []) → IsSo m (calls ++ own k (to_each (λ (shape : Shape). call) (shapes_of system)))
-    to_all l m calls so call h = subst (λ (cs : List Call). IsSo m (calls ++ cs)) (sym (own_each (λ (shape : Shape). call))) h
+    to_all : (l m : Limit) (calls : List Call) → IsSo l calls → (call : Call) → IsRunCall call → ((c : Call) → IsSeen l c → Differ c call) → moves_on call ≡ true → IsSeen m call → IsSo m (calls ++ own k (to_each (λ (shape : Shape). call) (shapes_of system)))
+    to_all l m calls so call run other moves is = subst (λ (cs : List Call). IsSo m (calls ++ cs)) (sym (own_each (λ (shape : Shape). call))) (called l m calls so call run (λ once. other) moves is)
 
-    to_events : (m : Limit) (calls : List Call) (call : Call) → IsSo m (calls ++ (if e then call ∷ [] else [])) → IsSo m (calls ++ own k (to_those has_events (λ (shape : Shape). call) (shapes_of system)))
-    to_events m calls call h = subst (λ (cs : List Call). IsSo m (calls ++ cs)) (sym (own_events call system k)) h
+    -- or to those with event mode
+    to_events : (l m : Limit) (calls : List Call) → IsSo l calls → (call : Call) → IsRunCall call → (may_repeat call ≡ false → (c : Call) → IsSeen l c → Differ c call) → moves_on call ≡ true → IsSeen m call → (e ≡ false → (c : Call) → IsSeen l c → IsSeen m c) →
+        IsSo m (calls ++ own k (to_those has_events (λ (shape : Shape). call) (shapes_of system)))
+    to_events l m calls so call run other moves is h = subst (λ (cs : List Call). IsSo m (calls ++ cs)) (sym (own_events call system k)) (switched l m calls so e call run other moves is h)
 
     adds : (p : Place) (calls : List Call) → IsLater p → IsSo (limit_at e p) calls → Adds (part_at system bound plan p) calls (limit_behind e plan p)
     adds Made calls later so = named (limit_at e Made) setting_span calls _ so (omega arith) (omega arith) (binding_new system bound k binds)
-    adds Configured calls later so = to_all (limit_at e Configured) (limit_at e Entered) calls so (C.EnterInitialization plan.start plan.stop)
-        (called (limit_at e Configured) (limit_at e Entered) calls so (C.EnterInitialization plan.start plan.stop) refl (λ once. differ_by (limit_at e Configured) (C.EnterInitialization plan.start plan.stop) refl refl) refl (NamesNone refl refl tt))
+    adds Configured calls later so =
+        let enter = C.EnterInitialization plan.start plan.stop in
+        to_all (limit_at e Configured) (limit_at e Entered) calls so enter refl (differ_by (limit_at e Configured) enter refl refl) refl (NamesNone refl refl tt)
     adds Entered calls later so = λ log walks. named (limit_at e Entered) (initial_span e) calls (mine log) so (omega arith) (omega arith) (uses.initial _ log walks k)
     adds Found calls later so = named (limit_at e Found) timing_span calls _ so (omega arith) (omega arith) (uses.timing k)
     adds (Timed timers) calls later so =
         let l = limit_at e (Timed timers) in
-        let m = limit_behind e plan (Timed timers) in
-        to_all l m calls so C.ExitInitialization (called l m calls so C.ExitInitialization refl (λ once. differ_by l C.ExitInitialization refl refl) refl (NamesNone refl refl tt))
+        to_all l (limit_behind e plan (Timed timers)) calls so C.ExitInitialization refl (differ_by l C.ExitInitialization refl refl) refl (NamesNone refl refl tt)
     adds (Before s ticks) calls later so = λ log walks.
         named (limit_at e (Before s ticks)) (instant_span (s.n == 0) e) calls (mine log) so (omega arith) (instant_on (s.n == 0) e) (uses.instant ticks (s.n == 0) _ log walks k)
     adds (Read s) calls later so = λ log walks. let r = read_asked (s.n == 0) e in named (limit_at e (Read s)) (interval_span e) calls (mine log) so r.0 r.1 (uses.interval _ log walks k)
     adds (Rearmed s) calls later so =
         let l = limit_at e (Rearmed s) in
         let m = limit_behind e plan (Rearmed s) in
-        to_events m calls C.Update (switched l m calls so e C.Update refl (λ once. absurd (let wrong : true ≡ false = once in cc)) refl (NamesNone refl refl tt) (λ none. more_seen l m (λ kind is. is) refl (asked_seen e none)))
+        to_events l m calls so C.Update refl (λ once. absurd (let wrong : true ≡ false = once in cc)) refl (NamesNone refl refl tt) (λ none. more_seen l m (λ kind is. is) refl (asked_seen e none))
     adds (Seen s again asked) calls later so = subst (IsSo (limit_at e (Seen s again asked))) (sym (append-nil calls)) so
     adds (Leaving w) calls later so =
         let l = limit_at e (Leaving w) in
         let m = limit_at e (Left w) in
-        to_events m calls C.EnterStep
-        (switched l m calls so e C.EnterStep refl (λ once. differ_by l C.EnterStep refl refl) refl (NamesNone refl refl tt) (λ none. more_seen l m point_leaving refl (omega arith)))
+        to_events l m calls so C.EnterStep refl (λ once. differ_by l C.EnterStep refl refl) refl (NamesNone refl refl tt) (λ none. more_seen l m point_leaving refl (omega arith))
     adds (Left w) calls later so = λ log walks. let r = left_set e in named (limit_at e (Left w)) (step_span e) calls (mine log) so r.0 r.1 (uses.step w.s.values _ log walks k)
     adds (Departing w) calls later so =
         let l = limit_at e (Departing w) in
-        let m = limit stepped_kinds w.to 1 in
-        let call = C.DoStep w.s.t (w.to - w.s.t) in
-        to_all l m calls so call (called l m calls so call refl (λ once. differ_step l (w.to - w.s.t)) refl (NamesNone refl refl later))
+        to_all l (limit stepped_kinds w.to 1) calls so (C.DoStep w.s.t (w.to - w.s.t)) refl (differ_step l (w.to - w.s.t)) refl (NamesNone refl refl later)
     adds (Stepped s true) calls later so =
         let l = limit_at e (Stepped s true) in
         let m = limit_behind e plan (Stepped s true) in
@@ -230,8 +224,7 @@ module _ (system : System) (sound : IsSound system) (k : ℕ) (c : Component) (o
     adds (Stepped s false) calls later so =
         let l = limit_at e (Stepped s false) in
         let m = limit_behind e plan (Stepped s false) in
-        to_events m calls C.EnterEvent
-        (switched l m calls so e C.EnterEvent refl (λ once. differ_by l C.EnterEvent refl refl) refl (NamesNone refl refl tt) (λ none. more_seen l m stepped_at_point refl (stepped_seen e)))
+        to_events l m calls so C.EnterEvent refl (λ once. differ_by l C.EnterEvent refl refl) refl (NamesNone refl refl tt) (λ none. more_seen l m stepped_at_point refl (stepped_seen e))
 
     added : (part : Part) (l : Limit) (calls : List Call) → Adds part calls l → (values : List (Option ℤ)) (log : List Sent) → Does system part values log → IsSo l (calls ++ mine log)
     added (Calls cs) l calls a values log does = subst (λ (x : List Call). IsSo l (calls ++ x)) (sym (ap (own k) does.calls_are)) a

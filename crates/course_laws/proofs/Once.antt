@@ -9,22 +9,14 @@ use Rattle.fmi_calls.specs.KindFacts.{IsRunCall, may_repeat, moves_on}
 use Rattle.fmi_calls.specs.Kinds.{kind_of}
 use Rattle.fmu_peer.specs.Lean.{NoneTwiceBehind, StepsFall, seen_after, without_value}
 use Rattle.event_iteration.specs.WalkCalls.{AreNew, IsUse, Span, use_in}
-use Rattle.event_iteration.proofs.WalkLaws.{use_kept, use_stays}
+use Rattle.event_iteration.proofs.WalkLaws.{Differ, seen_behind, twice_on, use_kept, use_stays}
 use Rattle.course_laws.specs.Laws.{AreNeeded}
 
 -- ---- lists
 
-abbrev pub seen_behind : List Call → List Call → List Call
-seen_behind seen [] = seen
-seen_behind seen (c ∷ cs) = seen_behind (seen_after seen c) cs
-
 seen_append : (seen a b : List Call) → seen_behind seen (a ++ b) ≡ seen_behind (seen_behind seen a) b
 seen_append seen [] b = refl
 seen_append seen (c ∷ a) b = seen_append (seen_after seen c) a b
-
-twice_on : (seen a b : List Call) → NoneTwiceBehind seen a → NoneTwiceBehind (seen_behind seen a) b → NoneTwiceBehind seen (a ++ b)
-twice_on seen [] b h k = k
-twice_on seen (c ∷ a) b h k = (h.0, twice_on (seen_after seen c) a b h.1 k)
 
 twice_front : (seen a b : List Call) → NoneTwiceBehind seen (a ++ b) → NoneTwiceBehind seen a
 twice_front seen [] b h = tt
@@ -55,7 +47,7 @@ pub record Limit : Type 0 where
   pub t : ℕ
   pub below : ℕ
 
-abbrev IsBefore : ℕ → Call → Type 0
+abbrev pub IsBefore : ℕ → Call → Type 0
 IsBefore t (C.DoStep at size) = at < t
 IsBefore t call = Unit {0}
 
@@ -77,9 +69,6 @@ needed_front l front log left so =
 
 pub needed : (l : Limit) (calls : List Call) → IsSo l calls → AreNeeded calls
 needed l calls so = record { runs = so.runs; lean = (so.once, steps_fall calls so.runs) }
-
-abbrev Differ : Call → Call → Type 0
-Differ c d = without_value c ≡ without_value d → ⊥
 
 kind_kept : (c : Call) → kind_of (without_value c) ≡ kind_of c
 kind_kept (C.Set kind reference x) = refl

@@ -1,11 +1,10 @@
 -- The calls of one component among those of several.
-use Rattle.std.proofs.Common.{◌≡◌, ◌≢◌, ℕ, zero, suc, ◌+◌, ◌<◌, ◌==◌, Bool, true, false, List, [], ◌∷◌, ◌++◌, Option, Some, None, refl, ap, ap₂, ◌∙◌, append-nil, arith, get_or, map}
+use Rattle.std.proofs.Common.{◌≡◌, ◌≢◌, ℕ, zero, suc, ◌+◌, ◌<◌, ◌==◌, Bool, true, false, List, [], ◌∷◌, ◌++◌, Option, Some, None, refl, ap, ap₂, ◌∙◌, arith, map}
 use Rattle.std.specs.Prelude.{if◌then◌else◌}
 use Rattle.std.specs.List.{slice_get}
 use Rattle.std.specs.Option.{option_map_or}
 use Rattle.value_types.specs.declared.shape.Shape.{Shape}
 use Rattle.fmi_calls.specs.declared.call.Call.{Call}
-use Rattle.system_model.specs.declared.bound.Bound.{Bound}
 use Rattle.system_model.specs.declared.bound.BoundValue.{BoundValue}
 use Rattle.system_model.specs.declared.system.Component.{Component}
 use Rattle.system_model.specs.declared.system.System.{System}
@@ -16,7 +15,7 @@ use Rattle.slot_calls.proofs.Logs.{askings_append}
 use Rattle.slot_calls.proofs.Parts.{other, same}
 use Rattle.event_iteration.specs.WalkCalls.{has_events_at, own}
 use Rattle.event_iteration.proofs.WalkLaws.{own_append}
-use Rattle.calling_sequence.specs.Calls.{binding, binding_from, sets_of}
+use Rattle.calling_sequence.specs.Calls.{binding_from, sets_of}
 use Rattle.course_laws.specs.Laws.{calls_in}
 
 -- they are the calls of its part of the log
@@ -84,28 +83,15 @@ own_events call system k = own_those has_events (λ (shape : Shape). call) syste
 
 -- ---- the Sets of parameters
 
-own_sets : (i k : ℕ) (values : List BoundValue) → i ≡ k → own k (sets_of i values) ≡ map set_call values
+pub own_sets : (i k : ℕ) (values : List BoundValue) → (i == k) ≡ true → own k (sets_of i values) ≡ map set_call values
 own_sets i k [] is = refl
-own_sets i k (b ∷ values) is = own_append k (one i (set_call b)) (sets_of i values) ∙ ap₂ ◌++◌ (own_one i k (set_call b) is) (own_sets i k values is)
+own_sets i k (b ∷ values) is = ap (λ (h : Bool). if h then set_call b ∷ own k (sets_of i values) else own k (sets_of i values)) is ∙ ap (λ (cs : List Call). set_call b ∷ cs) (own_sets i k values is)
 
-own_others : (i k : ℕ) (values : List BoundValue) → i ≢ k → own k (sets_of i values) ≡ []
+pub own_others : (i k : ℕ) (values : List BoundValue) → (i == k) ≡ false → own k (sets_of i values) ≡ []
 own_others i k [] is = refl
-own_others i k (b ∷ values) is = own_append k (one i (set_call b)) (sets_of i values) ∙ ap₂ ◌++◌ (own_none i k (set_call b) is) (own_others i k values is)
+own_others i k (b ∷ values) is = ap (λ (h : Bool). if h then set_call b ∷ own k (sets_of i values) else own k (sets_of i values)) is ∙ own_others i k values is
 
-none_bound : (i k : ℕ) (lists : List (List BoundValue)) → k < i → own k (binding_from i lists) ≡ []
+pub none_bound : (i k : ℕ) (lists : List (List BoundValue)) → k < i → own k (binding_from i lists) ≡ []
 none_bound i k [] w = refl
 none_bound i k (values ∷ lists) w =
-    own_append k (sets_of i values) (binding_from (i + 1) lists) ∙ ap₂ ◌++◌ (own_others i k values (λ e. absurd (omega (arith, e, w)))) (none_bound (i + 1) k lists (omega (arith, w)))
-
-bound_from : (i k : ℕ) (lists : List (List BoundValue)) → own (i + k) (binding_from i lists) ≡ map set_call (get_or lists k [])
-bound_from i k [] = refl
-bound_from i zero (values ∷ lists) =
-    own_append (i + 0) (sets_of i values) (binding_from (i + 1) lists)
-    ∙ ap₂ ◌++◌ (own_sets i (i + 0) values (omega arith)) (none_bound (i + 1) (i + 0) lists (omega arith)) ∙ append-nil (map set_call values)
-bound_from i (suc k) (values ∷ lists) =
-    own_append (i + suc k) (sets_of i values) (binding_from (i + 1) lists)
-    ∙ ap₂ ◌++◌ (own_others i (i + suc k) values (λ e. absurd (omega (arith, e)))) (ap (λ (n : ℕ). own n (binding_from (i + 1) lists)) (let e : i + suc k ≡ i + 1 + k = omega arith in e) ∙ bound_from (i + 1) k lists)
-
--- those of a component are the Sets of its values
-pub own_binding : (bound : Bound) (k : ℕ) → own k (binding bound) ≡ map set_call (get_or bound.components k [])
-own_binding bound k = ap (λ (n : ℕ). own n (binding bound)) (omega arith) ∙ bound_from 0 k bound.components
+    own_append k (sets_of i values) (binding_from (i + 1) lists) ∙ ap₂ ◌++◌ (own_others i k values (other i k (λ e. absurd (omega (arith, e, w))))) (none_bound (i + 1) k lists (omega (arith, w)))

@@ -13,15 +13,12 @@ use Rattle.calling_sequence.specs.declared.run_end.RunEnd.TheVariants as E
 use Rattle.calling_sequence.specs.Plans.{CountsBy}
 use Rattle.calling_sequence.specs.Calls.{making}
 use Rattle.calling_sequence.specs.Course.{AtFirst, Made, Place}
-use Rattle.calling_sequence.specs.Ends.{AtLimit, AtStop, Awaits, Badly, ByStep, ByUpdate, EndLine, EndsAt, Finishes, Header, Shown, Unfit, Well}
+use Rattle.calling_sequence.specs.Ends.{AtStop, Awaits, Badly, EndLine, EndsAt, Finishes, Header, Shown, Well}
 use Rattle.course_laws.specs.Runs.{Comes, EndsCome, Falling, TellsEnd, Stands}
 
 well : (system : System) (plan : Plan) (end : RunEnd) (p : Place) → EndsAt system plan end p → TellsEnd end None
 well system plan _ _ (AtStop s is) = refl
-well system plan _ _ (ByUpdate s again) = refl
-well system plan _ _ (ByStep s) = refl
-well system plan _ _ (AtLimit s is) = refl
-well system plan _ _ (Unfit s component end bound unfit) = refl
+well system plan _ _ ends = refl
 
 module _ (system : System) (bound : Bound) (plan : Plan) (binds : BindsParameters system bound) (counts : CountsBy system plan) (made : List Sent) (answered : IsAnswered (shapes_of system) (making system) made) where
   abbrev ComesTo : RunEnd → List Sent → Type 0
@@ -37,9 +34,5 @@ module _ (system : System) (bound : Bound) (plan : Plan) (binds : BindsParameter
   awaited _ _ _ _ (EndLine end point log is f) = let c = finished end point log is f in (c.0, tt, c.2)
 
 pub ends_come : EndsCome
-ends_come system bound plan made log is E.Stop before after binds counts answered e = finished system bound plan binds counts made answered E.Stop e.0 log is e.1
-ends_come system bound plan made log is (E.Asked point) before after binds counts answered e = finished system bound plan binds counts made answered (E.Asked point) e.0 log is e.1
-ends_come system bound plan made log is (E.EventLimit point) before after binds counts answered e = finished system bound plan binds counts made answered (E.EventLimit point) e.0 log is e.1
-ends_come system bound plan made log is (E.FixedStep component at end) before after binds counts answered e = finished system bound plan binds counts made answered (E.FixedStep component at end) e.0 log is e.1
-ends_come system bound plan made log is (E.Bad bad) before after binds counts answered e = finished system bound plan binds counts made answered (E.Bad bad) e.0 log is e.1
 ends_come system bound plan made log is E.WriteFault before after binds counts answered e = awaited system bound plan binds counts made answered log is e.pieces e.piece e.awaits
+ends_come system bound plan made log is end before after binds counts answered e = finished system bound plan binds counts made answered end e.0 log is e.1

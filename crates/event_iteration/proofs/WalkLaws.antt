@@ -10,7 +10,7 @@ use Rattle.event_iteration.proofs.Setting.{in_order}
 use Rattle.event_iteration.proofs.WalkAnswers as A
 use Rattle.event_iteration.proofs.WalkOnce.{timing_new, walk_new}
 pub use Rattle.event_iteration.proofs.Setting.{port_number}
-pub use Rattle.event_iteration.proofs.WalkOnce.{own_append, use_kept, use_stays}
+pub use Rattle.event_iteration.proofs.WalkOnce.{Differ, own_append, seen_behind, twice_on, use_kept, use_stays}
 use Rattle.event_iteration.proofs.WalkUses.{initially_asks, instant_asks, interval_asks, step_asks}
 
 -- each of these uses names a port

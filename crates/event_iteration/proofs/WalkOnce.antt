@@ -59,14 +59,14 @@ use_stays (C.GetShift reference) h = refl
 use_stays c h = absurd (omega (arith, h))
 
 -- two calls that differ but for the value of a Set
-abbrev Differ : Call → Call → Type 0
+abbrev pub Differ : Call → Call → Type 0
 Differ c d = without_value c ≡ without_value d → ⊥
 
-abbrev seen_behind : List Call → List Call → List Call
+abbrev pub seen_behind : List Call → List Call → List Call
 seen_behind seen [] = seen
 seen_behind seen (c ∷ cs) = seen_behind (seen_after seen c) cs
 
-twice_on : (seen a b : List Call) → NoneTwiceBehind seen a → NoneTwiceBehind (seen_behind seen a) b → NoneTwiceBehind seen (a ++ b)
+pub twice_on : (seen a b : List Call) → NoneTwiceBehind seen a → NoneTwiceBehind (seen_behind seen a) b → NoneTwiceBehind seen (a ++ b)
 twice_on seen [] b h k = k
 twice_on seen (c ∷ a) b h k = (h.0, twice_on (seen_after seen c) a b h.1 k)
 
