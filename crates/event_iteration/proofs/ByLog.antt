@@ -1,5 +1,5 @@
 -- What the log of a part tells of told machines, for proofs of callers.
-use Rattle.std.proofs.Common.{◌≡◌, ℕ, ℤ, Bool, List, [], ◌++◌, Contains, Option, sym, ap, ◌∙◌, append-nil, length}
+use Rattle.std.proofs.Common.{◌≡◌, ℕ, ℤ, Bool, List, [], ◌++◌, Contains, Option, sym, ap, ◌∙◌, append-nil}
 use Rattle.std.specs.Prelude.{◌==◌, if◌then◌else◌}
 use Rattle.std.proofs.lemmas.List.{length-map}
 use Rattle.fmi_calls.specs.declared.call.Call.TheVariants as C
@@ -23,7 +23,7 @@ use Rattle.event_iteration.specs.Clocks.{AreTicks}
 use Rattle.event_iteration.specs.Explains.{Explains}
 use Rattle.event_iteration.specs.Initialization.{initially, no_values}
 use Rattle.event_iteration.specs.Instants.{in_instant}
-use Rattle.event_iteration.specs.Settings.{before_step, entered_step, port_order}
+use Rattle.event_iteration.specs.Settings.{entered_step, port_order}
 pub use Rattle.event_iteration.proofs.Clockless.{unclocked_parts}
 use Rattle.event_iteration.proofs.Departing.{depart_from, sets_by}
 use Rattle.event_iteration.proofs.Finding as N

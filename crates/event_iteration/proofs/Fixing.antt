@@ -1,18 +1,13 @@
 -- The questions of fixed Clocks, port by port.
-use Rattle.std.proofs.Common.{◌≡◌, inl, inr, ℕ, ◌+◌, ◌<◌, ◌≤◌, ◌==◌, ℤ, true, false, List, [], ◌∷◌, ◌++◌, Option, Some, None, Result, Ok, Err, refl, sym, ap, ap₂, ◌∙◌, subst, append_assoc, append-nil, arith, length, get_or, set, map, take, drop}
-use Rattle.std.specs.Prelude.{All, option_map, slice_get, unwrap_or}
+use Rattle.std.proofs.Common.{◌≡◌, inl, inr, ℕ, ◌+◌, ◌<◌, ◌≤◌, true, false, List, [], ◌∷◌, ◌++◌, Some, None, Ok, Err, refl, sym, ap, ap₂, ◌∙◌, subst, append_assoc, append-nil, arith, length, set, map, take, drop}
+use Rattle.std.specs.Prelude.{option_map, slice_get}
 use Rattle.std.proofs.lemmas.Bool.{cases_lt}
 use Rattle.std.proofs.lemmas.List.{length-map, length-set, map-append, take-append-drop, take_all, take_more}
-use Rattle.std.proofs.lemmas.List.Elements.{All-cons, All-head, All-nil, All-tail}
 use Rattle.std.proofs.lemmas.Option.{get_or_from_slice_get, same_Some, slice_get-map, slice_get_within}
 use Rattle.value_types.specs.declared.shape.Shape.{Shape}
-use Rattle.fmi_calls.specs.declared.call.Call.{Call}
 use Rattle.fmi_calls.specs.declared.call.Call.TheVariants as C
 use Rattle.fmi_calls.specs.declared.call.Reply.{Reply}
-use Rattle.fmu_peer.specs.declared.peer.PeerFault.{PeerFault}
 use Rattle.fmu_peer.specs.CloseAll.{Instance}
-use Rattle.fmu_peer.specs.Machine.{Machine, MachineState, after}
-use Rattle.system_model.specs.declared.system.Component.{Component}
 use Rattle.system_model.specs.declared.system.Role.{Role}
 use Rattle.system_model.specs.declared.system.Role.TheVariants.{Input, Output, ClockInput, ClockOutput, TimeClock}
 use Rattle.system_model.specs.declared.system.Timing.TheVariants.{Periodic, Answered, Countdown}
@@ -22,26 +17,19 @@ use Rattle.system_model.proofs.Lists.{all_by_place, true_false}
 use Rattle.tick_schedule.specs.declared.clock.ClockState.{ClockState}
 use Rattle.tick_schedule.specs.declared.clock.ClockState.TheVariants as S
 use Rattle.tick_schedule.specs.Timetable.{Timetable}
-use Rattle.fmu_peer.specs.Mode.{instantiate_of}
-use Rattle.run_model.specs.Initial.{asked_timer, bound_values, configured, enter_initialization, first_states, first_timer, first_timers, initialized, initializing, instantiated, interval_in, shift_in, with_bound}
-use Rattle.run_model.specs.Inputs.{state_with}
-use Rattle.run_model.specs.Machines.{AreMachines}
-use Rattle.run_model.specs.Run.{Run, Timer, Never, Every, at_fmu}
+use Rattle.run_model.specs.Initial.{interval_in, shift_in}
+use Rattle.run_model.specs.Run.{Timer, Never, Every}
 use Rattle.run_model.specs.Timers.{fixed}
 use Rattle.slot_calls.specs.declared.bad_answer.BadAnswer.{BadAnswer}
-use Rattle.slot_calls.specs.Log.{Asking, Sent, Told, asking_of, askings, part}
-use Rattle.slot_calls.specs.Replies.{RepliesBy}
-use Rattle.slot_calls.specs.Stage.{IsAnswered, IsGoodOf, Stage, StopsAt, shapes, shapes_of}
+use Rattle.slot_calls.specs.Log.{Asking, Sent, Told, askings}
+use Rattle.slot_calls.specs.Stage.{IsAnswered, Stage, StopsAt, shapes, shapes_of}
 use Rattle.slot_calls.proofs.Answered.{answered_none, answered_on, shapes_same, stops_front, stops_on}
 use Rattle.slot_calls.proofs.Logs.{told_none, told_on}
-use Rattle.slot_calls.proofs.Parts.{same, sent_all, takes}
-use Rattle.slot_calls.proofs.Replying.{replied_good}
 use Rattle.event_iteration.specs.Clocks.{IsNextFrom, StandsAt, first_place, first_table, timer_in, timers_in}
-use Rattle.event_iteration.specs.Intervals.{Fixes, FixesForMachines, first_told_by, first_told_in, log_behind, timing_calls, timing_calls_in, timing_calls_of, told_timer}
-use Rattle.event_iteration.specs.Machines.{AreAt}
+use Rattle.event_iteration.specs.Intervals.{Fixes, first_told_by, first_told_in, log_behind, timing_calls, timing_calls_in, timing_calls_of, told_timer}
 use Rattle.event_iteration.specs.Questions.{FixSays, FixesPort, IsEntered, IsFirstPlace, IsFixed, IsFixedUpTo, first_reply, is_asked, modes}
 use Rattle.event_iteration.proofs.Answering.{one_answer}
-use Rattle.event_iteration.proofs.Fmus.{are_replies, at_fmu-is, each_many, got}
+use Rattle.event_iteration.proofs.Fmus.{got}
 use Rattle.event_iteration.proofs.Places.{map_take, set_beside, set_here, set_same, take_set}
 
 -- ---- one port

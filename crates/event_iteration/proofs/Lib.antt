@@ -17,8 +17,8 @@ pub mod InInstant
 pub mod FindingInInstant
 pub mod Setting
 pub mod WalksBack
-pub mod WalkAnswers
 pub mod Said
+pub mod WalkAnswers
 pub mod Timing
 pub mod Departing
 pub mod Updating

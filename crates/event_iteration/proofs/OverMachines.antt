@@ -1,16 +1,14 @@
 -- Where the parts of a run lead instances that are told machines: by what their logs make of these.
-use Rattle.std.proofs.Common.{◌≡◌, ℕ, ℤ, Bool, List, Option, Ok, refl, sym, ap, ap₂, ◌∙◌, subst, length}
-use Rattle.std.specs.Prelude.{◌==◌}
+use Rattle.std.proofs.Common.{◌≡◌, ℕ, ℤ, List, Option, Ok, sym, ap, ap₂, ◌∙◌, subst}
 use Rattle.fmu_peer.specs.CloseAll.{Instance}
 use Rattle.fmu_peer.specs.Machine.{MachineState}
 use Rattle.system_model.specs.declared.system.System.{System}
 use Rattle.system_model.specs.Sound.{IsSound}
-use Rattle.run_model.specs.AfterInstant.{updated, written}
-use Rattle.run_model.specs.Initial.{initialized, initializing}
-use Rattle.run_model.specs.Run.{Run, Situation, Timer}
+use Rattle.run_model.specs.AfterInstant.{written}
+use Rattle.run_model.specs.Initial.{initialized}
+use Rattle.run_model.specs.Run.{Timer}
 use Rattle.slot_calls.specs.Log.{Sent, Told}
-use Rattle.slot_calls.specs.Replies.{states_by}
-use Rattle.slot_calls.specs.Stage.{IsAnswered, IsGoodOf, shapes, shapes_of}
+use Rattle.slot_calls.specs.Stage.{IsAnswered, shapes, shapes_of}
 use Rattle.event_iteration.specs.Intervals.{FixesForMachines, Rearms, RearmsForMachines, first_told, timing_calls}
 use Rattle.event_iteration.specs.Intervals as V
 use Rattle.event_iteration.specs.Machines.{AreAt}

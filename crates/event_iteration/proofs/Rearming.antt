@@ -1,11 +1,10 @@
 -- The questions of countdown Clocks behind an instant, port by port.
-use Rattle.std.proofs.Common.{◌≡◌, inl, inr, ℕ, zero, suc, ◌+◌, ◌<◌, ◌≤◌, ℤ, Bool, true, false, List, [], ◌∷◌, ◌++◌, Option, Some, None, Result, Ok, Err, refl, sym, ap, ap₂, ◌∙◌, subst, arith, length, get_or, set, map, take, drop}
-use Rattle.std.specs.Prelude.{All, Contains, IsSomeAnd, if◌then◌else◌, option_map, slice_get, unwrap_or, ◌||◌}
+use Rattle.std.proofs.Common.{◌≡◌, inl, inr, ℕ, zero, suc, ◌+◌, ◌<◌, ◌≤◌, ℤ, Bool, true, false, List, [], ◌∷◌, ◌++◌, Option, Some, None, Ok, Err, refl, sym, ap, ap₂, ◌∙◌, subst, arith, length, get_or, set, map, take, drop}
+use Rattle.std.specs.Prelude.{All, Contains, IsSomeAnd, if◌then◌else◌, option_map, slice_get, ◌||◌}
 use Rattle.std.specs.List.{list_any}
 use Rattle.std.specs.Option.{option_map_or}
 use Rattle.std.proofs.lemmas.Bool.{cases_lt}
 use Rattle.std.proofs.lemmas.List.{ext_get_or, length-map, length-set, map-append, set-get_or, take_all}
-use Rattle.std.proofs.lemmas.List.Elements.{All-cons, All-nil}
 use Rattle.std.proofs.lemmas.List.Folds.{list_any-append}
 use Rattle.std.proofs.lemmas.Option.{get_or_from_slice_get, same_Some, slice_get-map, slice_get_within}
 use Rattle.value_types.specs.Shape.{timing_at}
@@ -14,16 +13,11 @@ use Rattle.value_types.specs.declared.shape.Shape.{Shape}
 use Rattle.value_types.specs.declared.shape.Variable.{Variable}
 use Rattle.fmi_calls.specs.declared.call.Call.{Call}
 use Rattle.fmi_calls.specs.declared.call.Call.TheVariants as C
-use Rattle.fmi_calls.specs.declared.call.Interval.{Interval}
-use Rattle.fmi_calls.specs.declared.call.Interval.TheVariants.{NotYetKnown}
 use Rattle.fmi_calls.specs.declared.call.Reply.{Reply}
 use Rattle.fmi_calls.specs.Next.{running_state}
-use Rattle.fmu_peer.specs.declared.peer.Exchange.{Exchange}
-use Rattle.fmu_peer.specs.declared.peer.PeerFault.{PeerFault}
-use Rattle.fmu_peer.specs.Talk.{IsGood}
 use Rattle.fmu_peer.specs.CloseAll.{Instance}
 use Rattle.fmu_peer.specs.Answer.{IsWhy}
-use Rattle.fmu_peer.specs.Machine.{MachineState, after}
+use Rattle.fmu_peer.specs.Machine.{after}
 use Rattle.system_model.specs.declared.system.Component.{Component}
 use Rattle.system_model.specs.declared.system.Role.{Role}
 use Rattle.system_model.specs.declared.system.Role.TheVariants.{Input, Output, ClockInput, ClockOutput, TimeClock}
@@ -35,32 +29,25 @@ use Rattle.system_model.proofs.Lists.{all_at, all_by_place, true_false}
 use Rattle.system_model.proofs.SoundLemmas.{Placed, place_of}
 use Rattle.tick_schedule.specs.declared.clock.ClockState.{ClockState}
 use Rattle.tick_schedule.specs.Timetable.{Timetable, with_clock}
-use Rattle.run_model.specs.AfterInstant.{next_timer, next_timers_from, written}
-use Rattle.run_model.specs.Initial.{interval_in}
-use Rattle.run_model.specs.Inputs.{is_active, state_with}
-use Rattle.run_model.specs.Run.{Run, Situation, Timer, Never, at_fmu, value}
-use Rattle.run_model.specs.Timers.{answered, is_armed_for}
+use Rattle.run_model.specs.Run.{Timer, Never, value}
+use Rattle.run_model.specs.Timers.{is_armed_for}
 use Rattle.slot_calls.specs.declared.bad_answer.BadAnswer.{BadAnswer}
 use Rattle.run_model.proofs.Unique.{none_in}
-use Rattle.slot_calls.specs.Log.{Asking, Sent, Told, askings, part}
-use Rattle.slot_calls.specs.Replies.{RepliesBy}
-use Rattle.slot_calls.specs.Stage.{IsGoodOf, Stage, StopsAt, shapes, shapes_of}
+use Rattle.slot_calls.specs.Log.{Asking, Sent, Told, askings}
+use Rattle.slot_calls.specs.Stage.{Stage, StopsAt, shapes, shapes_of}
 use Rattle.slot_calls.proofs.Answered.{shape_of}
 use Rattle.slot_calls.proofs.Logs.{told_none, told_on}
-use Rattle.slot_calls.proofs.Replying.{replied_good}
 use Rattle.event_iteration.specs.Clocks.{IsNextFrom, IsPlaceOf, StandsAt, is_due_in, timer_in, timers_in}
 use Rattle.event_iteration.specs.Explains.{Explains, all_said}
 use Rattle.event_iteration.specs.Instants.{IsRunning}
-use Rattle.event_iteration.specs.Intervals.{AsksIntervals, Rearms, RearmsForMachines, TellsTicks, asks_interval, interval_by, intervals, timer_behind, timers_behind, timers_behind_from}
-use Rattle.event_iteration.specs.Machines.{AreAt}
+use Rattle.event_iteration.specs.Intervals.{AsksIntervals, Rearms, TellsTicks, asks_interval, interval_by, intervals, timer_behind, timers_behind, timers_behind_from}
 use Rattle.event_iteration.specs.Questions.{AreRunning, AsksPort, GoesFrom, IsBehindUpTo, counts_down, first_reply, modes, place_behind}
 use Rattle.event_iteration.specs.Settings.{port_order}
 use Rattle.event_iteration.specs.Turns.{IsPaired, Stops, Turn, sent_of}
 use Rattle.event_iteration.proofs.Asking.{mode_of}
 use Rattle.event_iteration.proofs.Answering.{one_answer, own_shape}
-use Rattle.event_iteration.proofs.Fmus.{are_replies, at_fmu-is, each_many, got, part_own_of}
+use Rattle.event_iteration.proofs.Fmus.{got}
 use Rattle.event_iteration.proofs.Loops.{more_order, split_order}
-use Rattle.event_iteration.proofs.Permits.{shape_of_component}
 use Rattle.event_iteration.proofs.Places.{IsPositive, map_take, next_behind, place_of_behind, set_beside, set_here, take_set, timer_of_place}
 use Rattle.event_iteration.proofs.Setting.{NoNeeds, all_ports, in_order, port_number}
 use Rattle.event_iteration.proofs.Walking.{AreAbout, Here, explains_more, here_at, is_other, is_same, more_replies, with_reply}

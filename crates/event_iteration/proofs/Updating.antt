@@ -1,38 +1,30 @@
 -- The Updates behind an instant: the loop over the slots, and over machines where they lead.
-use Rattle.std.proofs.Common.{◌≡◌, ℕ, suc, ◌+◌, ◌<◌, ℤ, Bool, true, false, List, [], ◌∷◌, ◌++◌, Option, Some, Result, Ok, Err, refl, sym, ap, ap₂, ◌∙◌, subst, arith, length, get_or, map}
-use Rattle.std.specs.Prelude.{◌&&◌, ◌||◌, ◌==◌, if◌then◌else◌}
-use Rattle.std.specs.List.{list_any, slice_get}
+use Rattle.std.proofs.Common.{◌≡◌, ℕ, ◌<◌, ℤ, Bool, true, false, List, ◌++◌, Option, Some, Result, Ok, Err, refl, sym, ap, ap₂, ◌∙◌, arith, length, get_or, map}
+use Rattle.std.specs.Prelude.{◌||◌, if◌then◌else◌}
+use Rattle.std.specs.List.{slice_get}
 use Rattle.std.specs.Result.{result_ok}
 use Rattle.std.proofs.lemmas.List.{length-map}
 use Rattle.std.proofs.lemmas.List.Folds.{list_any-append}
-use Rattle.std.proofs.lemmas.Option.{same_Some, slice_get_within}
+use Rattle.std.proofs.lemmas.Option.{same_Some}
 use Rattle.value_types.specs.declared.shape.Shape.{Shape}
-use Rattle.fmi_calls.specs.declared.call.Call.{Call}
 use Rattle.fmi_calls.specs.declared.call.Call.TheVariants as C
 use Rattle.fmi_calls.specs.declared.call.Reply.{Reply}
 use Rattle.fmi_calls.specs.declared.phase.InstanceState.TheVariants as P
 use Rattle.fmu_peer.specs.declared.peer.Exchange.{Exchange}
 use Rattle.fmu_peer.specs.declared.peer.PeerFault.{PeerFault}
 use Rattle.fmu_peer.specs.CloseAll.{Instance}
-use Rattle.fmu_peer.specs.Machine.{Machine, MachineState, after}
 use Rattle.fmu_peer.specs.View.{View}
 use Rattle.system_model.specs.declared.system.Component.{Component}
 use Rattle.system_model.specs.declared.system.System.{System}
 use Rattle.run_model.specs.AfterInstant.{any_update, asks_again, asks_for_end, updated, written}
-use Rattle.run_model.specs.Machines.{AreMachines, IsSituation}
-use Rattle.run_model.specs.Run.{IsFmu, Run, Situation, each_from}
-use Rattle.run_model.proofs.States.{fmu_before}
-use Rattle.slot_calls.specs.Log.{Asking, Sent, Told, asking_of, askings, part}
-use Rattle.slot_calls.specs.Replies.{AreReplies, RepliesBy, state_by, states_by}
-use Rattle.slot_calls.specs.Stage.{IsAnswered, has_events, shapes, shapes_of, to_those_from}
+use Rattle.run_model.specs.Run.{Run, Situation}
+use Rattle.slot_calls.specs.Log.{Sent, Told}
+use Rattle.slot_calls.specs.Replies.{AreReplies, states_by}
+use Rattle.slot_calls.specs.Stage.{IsAnswered, has_events, shapes, shapes_of}
 use Rattle.slot_calls.proofs.Answered.{one_log, shape_of, shapes_same}
-use Rattle.slot_calls.proofs.Parts.{PartIs, first_same, other, part_asked, part_unasked, rest_same, same, skips, takes}
-use Rattle.slot_calls.proofs.Replying.{replied_good}
 use Rattle.event_iteration.specs.Instants.{IsRunning}
-use Rattle.event_iteration.specs.Updates.{LeadsForMachines, answer_passes, any_answer, updated_by, updating}
+use Rattle.event_iteration.specs.Updates.{answer_passes, any_answer, updated_by, updating}
 use Rattle.event_iteration.specs.declared.updates.Updated.{Updated}
-use Rattle.event_iteration.proofs.Fmus.{are_replies, each_many, each_same, told_at}
-use Rattle.event_iteration.proofs.Permits.{shape_of_component}
 use Rattle.event_iteration.proofs.Stages.{AreAll, stage_any, stage_states}
 use Rattle.event_iteration.proofs.Taking.{shape_in_slot, slots_many}
 

@@ -138,24 +138,28 @@ module _ (r : Run) (sound : IsSound r.system) (built : IsBuilt r.system) (plan :
       })
   row _ _ _ _ (Reads s ticks values more places) is ss c does replies =
       let told = instant_by_log r c.z ticks values more sound machines (situation_by r sound machines c.z is c.at.came) (ticks_at r s ticks is ss c) places
-      (walk_at r s ticks is ss c (λ n before. Explains r.system (in_instant ticks (n == 0)) before (numbers r.system.instant_order) values more) does) (inside r more ss c.z.states c.states replies) in
-      (record {
-        z = c.z;
-        at = record { came = subst (CameTo r c.z) (sym (append-nil is)) c.at.came; point = c.at.point; number = c.at.number; within = c.at.within };
-        solves = told.0;
-        states = behind r more ss c.z.states (written r c.z values) c.states told.1;
-      }, c.timers)
+      (walk_at r s ticks is ss c (λ n before. Explains r.system (in_instant ticks (n == 0)) before (numbers r.system.instant_order) values more) does) (inside r more ss c.z.states c.states replies) in (
+        record {
+          z = c.z;
+          at = record { came = subst (CameTo r c.z) (sym (append-nil is)) c.at.came; point = c.at.point; number = c.at.number; within = c.at.within };
+          solves = told.0;
+          states = behind r more ss c.z.states (written r c.z values) c.states told.1;
+        },
+        c.timers,
+      )
   row _ _ _ _ (Rearming s values next more rearms) is ss (f, timers) does replies =
       let z = f.z in
       let own : Rearms r.system r.plan.resolution z.t s.values z.timers next more =
       subst (λ (k : ℕ). Rearms r.system r.plan.resolution k s.values z.timers next more) (sym f.at.point) (subst (λ (ts : List Timer). Rearms r.system r.plan.resolution s.t s.values ts next more) (sym timers) rearms) in
-      let told = intervals_by_log r z s.values next more sound machines (situation_by r sound machines z is f.at.came) own (inside r more ss (written r z s.values) f.states replies) in
-      (record {
-        z = z;
-        at = record { came = subst (CameTo r z) (sym (append-nil is)) f.at.came; point = f.at.point; number = f.at.number; within = f.at.within };
-        solves = f.solves;
-        states = behind r more ss (written r z s.values) (written r z s.values) f.states told.0;
-      }, sym told.1)
+      let told = intervals_by_log r z s.values next more sound machines (situation_by r sound machines z is f.at.came) own (inside r more ss (written r z s.values) f.states replies) in (
+        record {
+          z = z;
+          at = record { came = subst (CameTo r z) (sym (append-nil is)) f.at.came; point = f.at.point; number = f.at.number; within = f.at.within };
+          solves = f.solves;
+          states = behind r more ss (written r z s.values) (written r z s.values) f.states told.0;
+        },
+        sym told.1,
+      )
   row _ _ _ _ (Updates s values more again asked again_is asked_is) is ss (f, timers) does replies =
       let z = f.z in
       let told = updates_by_log r z s.values more machines (situation_by r sound machines z is f.at.came) does (inside r more ss (written r z s.values) f.states replies) in

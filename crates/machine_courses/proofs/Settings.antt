@@ -153,4 +153,3 @@ module _ (r : Run) (sound : IsSound r.system) (p : ℕ) (port : Port) (at : slic
 
   pub sets_stepping : c.shape.has_event_mode ≡ false → IsSetting Stepping c.shape (C.Set port.kind port.reference x)
   sets_stepping none = (set_type, fit, set_by (λ (v : Variable). c.shape.has_event_mode ≡ false) none)
-
