@@ -181,21 +181,12 @@ instant_on t stop step v w call marks active same fixed phase h = record {
   state = running_on v w fixed (ap (λ (p : Phase). p.state) phase) h.state;
 }
 
--- an exchange of an instant leaves the mode
-pub running_keeps : (v w : View) (e : Exchange) → IsRunning v → Led v e w → IsOfInstant v.fixed.shape e → IsRunning w
-running_keeps v w e h l (inl get) = running_on v w l.fixed (ap (λ (p : Phase). p.state) (get_leads v w e l get)) h
-running_keeps v w e h l (inr (inl (set, events))) = running_on v w l.fixed (ap (λ (p : Phase). p.state) (set_leads v w e l set)) h
-running_keeps v w e h l (inr (inr clock)) = running_on v w l.fixed (ap (λ (p : Phase). p.state) (clock_leads v w e l clock).3) h
-
--- and so does a question
-pub asking_runs : (v w : View) (e : Exchange) → IsRunning v → Led v e w → IsQuestion e → IsRunning w
-asking_runs v w e h l q = running_on v w l.fixed (ap (λ (p : Phase). p.state) (question_leads v w e l q)) h
-
 -- only with event mode is there Event Mode
 events_by : (b : Bool) → (if b then P.Event else P.Step) ≡ P.Event → b ≡ true
 events_by true h = refl
 events_by false h = absurd (cc)
 
+-- what an instant sends leaves an instance before its Updates
 pub taking_keeps : (t stop step : ℕ) (v w : View) (e : Exchange) → IsTaking t stop step v → Led v e w → IsOfInstant v.fixed.shape e → IsTaking t stop step w
 taking_keeps t stop step v w e h l (inl get) =
     let phase = get_leads v w e l get in
@@ -270,9 +261,6 @@ update_stays_settled t stop step v h none = record { at = update_stays t stop st
 
 running_is : (shape : Shape) (b : Bool) → shape.has_event_mode ≡ b → running_state shape ≡ (if b then P.Event else P.Step)
 running_is shape b is = ap (λ (c : Bool). if c then P.Event else P.Step) is
-
-pub may_enter_step : (t stop step : ℕ) (v : View) → IsSettled t stop step v → v.fixed.shape.has_event_mode ≡ true → Permitted v.fixed.shape v.phase C.EnterStep
-may_enter_step t stop step v h events = (h.at.in_instant.state ∙ running_is v.fixed.shape true events, h.settled events)
 
 pub enter_step_leads : (t stop step : ℕ) (v w : View) (e : Exchange) → IsSettled t stop step v → Led v e w → e.call ≡ C.EnterStep → IsStepping t stop step w
 enter_step_leads t stop step v w e h l is =
@@ -361,9 +349,6 @@ may_step t b stop step v can later within =
     )
 
 -- ---- behind it
-
-pub may_enter_event : (t stop step : ℕ) (v : View) → IsStepping t stop step v → v.fixed.shape.has_event_mode ≡ true → Permitted v.fixed.shape v.phase C.EnterEvent
-may_enter_event t stop step v h events = (h.departing.state, events, h.departing.there.empty)
 
 pub enter_event_leads : (t stop step : ℕ) (v w : View) (e : Exchange) → IsStepping t stop step v → v.fixed.shape.has_event_mode ≡ true → Led v e w → e.call ≡ C.EnterEvent → IsAt t stop step w
 enter_event_leads t stop step v w e h events l is =

@@ -1,12 +1,11 @@
 -- Where the instances stand behind the last Updates of a point, and what the values are that were found.
-use Rattle.std.proofs.Common.{◌≡◌, ℕ, ◌<◌, Bool, true, false, List, [], ◌∷◌, Option, Some, None, Result, Ok, Err, refl, sym, ap, ◌∙◌, subst, arith, length, get_or, map, replicate, zero, suc}
+use Rattle.std.proofs.Common.{◌≡◌, ℕ, ◌<◌, Bool, true, false, List, [], ◌∷◌, Option, Some, None, Ok, refl, sym, ap, ◌∙◌, subst, arith, length, get_or, map, replicate, zero, suc}
 use Rattle.std.specs.Int.{w128}
-use Rattle.std.specs.Prelude.{All, ℤ, ◌||◌, FitsSigned, IfSome, OnOk, slice_get}
+use Rattle.std.specs.Prelude.{All, ℤ, ◌||◌, FitsSigned, IfSome, slice_get}
 use Rattle.std.proofs.lemmas.Int.{ints}
 use Rattle.std.proofs.lemmas.List.{get_or_default}
 use Rattle.std.proofs.lemmas.List.Elements.{All-cons, All-nil}
 use Rattle.std.proofs.lemmas.Option.{slice_get-get_or}
-use Rattle.value_types.specs.declared.shape.Shape.{Shape}
 use Rattle.value_types.specs.declared.values.PortType.{PortType}
 use Rattle.value_types.specs.declared.values.PortType.TheVariants as T
 use Rattle.value_types.specs.Values.{Fits}
@@ -18,23 +17,16 @@ use Rattle.system_model.specs.declared.system.System.{System}
 use Rattle.run_model.specs.AfterInstant.{asks_again}
 use Rattle.run_model.specs.Machines.{AreFitting}
 use Rattle.run_model.specs.Run.{value}
-use Rattle.slot_calls.specs.declared.bad_answer.BadAnswer.{BadAnswer}
 use Rattle.slot_calls.specs.Carried.{IsWide}
-use Rattle.slot_calls.specs.Log.{Sent, Told}
-use Rattle.slot_calls.specs.Stage.{IsAnswered, Stage, has_events, nothing, shapes, shapes_of, to_those}
-use Rattle.slot_calls.proofs.CallerLemmas.{stage_those}
+use Rattle.slot_calls.specs.Log.{Sent}
+use Rattle.slot_calls.specs.Stage.{Stage, has_events, shapes}
 use Rattle.event_iteration.specs.declared.updates.Updated.{Updated}
-use Rattle.event_iteration.specs.Explains.{Explains, Walks}
-use Rattle.event_iteration.specs.Initialization.{initially, no_values}
-use Rattle.event_iteration.specs.Instants.{IsRunning, in_instant}
-use Rattle.event_iteration.specs.Intervals.{intervals, timing_calls}
-use Rattle.event_iteration.specs.Settings.{before_step}
+use Rattle.event_iteration.specs.Initialization.{no_values}
 use Rattle.event_iteration.specs.Updates.{answer_passes, any_answer, updated_by, updating}
-use Rattle.calling_sequence.specs.Place.{IsAt, IsDeparting, IsInitializing, IsSettled, IsStepping, IsTaking}
-use Rattle.calling_sequence.proofs.Chains.{IsQuestion, IsSet, fits_on, keep_all, stage_passing}
-use Rattle.calling_sequence.proofs.Phases.{IsLast, asking_keeps, asking_runs, enter_event_leads, enter_event_stays, enter_step_leads, enter_step_stays, finding_keeps, running_keeps, set_keeps, taking_at, taking_keeps, timing_keeps, update_leads, update_settles, update_stays, update_stays_settled}
+use Rattle.calling_sequence.specs.Place.{IsSettled, IsTaking}
+use Rattle.calling_sequence.proofs.Chains.{stage_passing}
+use Rattle.calling_sequence.proofs.Phases.{IsLast, update_settles, update_stays_settled}
 use Rattle.calling_sequence.proofs.Sizes.{there_is}
-use Rattle.calling_sequence.proofs.Walks.{IsGetOrSet, IsOfInstant, asking_goodly, finding_goodly, instant_goodly, setting_goodly, timing_goodly}
 
 -- none of the answers passes a test
 none_passes : (test : Reply → Bool) (log : List Sent) → any_answer test log ≡ false → All (λ (s : Sent). answer_passes test s.exchange.result ≡ false) log

@@ -1,5 +1,5 @@
 -- From behind an instant to the next, to a step and to an end, from behind a step to an end, and the end line.
-use Rattle.std.proofs.Common.{◌≡◌, ◌≢◌, ◌⊎◌, ℕ, suc, ◌+◌, ◌-◌, Bool, true, false, List, [], ◌∷◌, Some, Result, Ok, Err, inl, inr, refl, sym, ap, ◌∙◌, subst, arith, length}
+use Rattle.std.proofs.Common.{◌≡◌, ◌≢◌, ℕ, suc, ◌+◌, ◌-◌, Bool, true, false, List, [], ◌∷◌, Some, Result, Ok, Err, inl, inr, refl, sym, ap, ◌∙◌, subst, arith}
 use Rattle.std.specs.Prelude.{◌==◌}
 use Rattle.std.proofs.lemmas.Bool.Decides.{nat_tests}
 use Rattle.sim_base.specs.Sink.{SinkView, with_piece}
@@ -21,7 +21,7 @@ use Rattle.calling_sequence.specs.Course.{Again, Place, Seen, Spot, Stepped}
 use Rattle.calling_sequence.specs.Ends.{AtLimit, AtStop, ByStep, ByUpdate, EndLine, EndsAt, EndsBy, Finishes, PutsWhole, RunsSlots, Unfit, Well, kind_of_end, pieces_of}
 use Rattle.calling_sequence.specs.Goes.{Arrives, before_instant, seen, spot}
 use Rattle.calling_sequence.specs.Here.{Concludes, Follows, Here, PutsEnd}
-use Rattle.calling_sequence.specs.Puts.{CutsPiece, with_pieces}
+use Rattle.calling_sequence.specs.Puts.{CutsPiece}
 use Rattle.calling_sequence.specs.Ready.{AreTimed}
 use Rattle.calling_sequence.proofs.Onto.{ends, on_silently, pieces_append}
 use Rattle.calling_sequence.proofs.ScheduleSteps.{begins, never_first}

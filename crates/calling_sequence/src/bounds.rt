@@ -29,8 +29,8 @@ pub(crate) fn next_bound(plan: &Plan, schedule: &Schedule, t: u64) -> u64
     }
 }
 
-// The bound where no Clock ticks: the next grid point or the stop.
-fn next_mark(plan: &Plan, t: u64) -> u64
+/// The bound where no Clock ticks: the next grid point or the stop.
+pub(crate) fn next_mark(plan: &Plan, t: u64) -> u64
     requires plan { IsPlan plan.now }
     requires begun { plan.now.start ≤ t }
     requires before { t < plan.now.stop }

@@ -1,5 +1,5 @@
 -- One question for an interval or a shift, with the instance in a slot.
-use Rattle.std.proofs.Common.{◌≡◌, ℕ, ◌<◌, true, List, [], ◌∷◌, Some, Ok, Err, refl, sym, ap, ◌∙◌, arith, length, get_or, set, map}
+use Rattle.std.proofs.Common.{◌≡◌, ℕ, ◌<◌, true, List, [], ◌∷◌, Some, Ok, Err, refl, sym, ap, ◌∙◌, length, get_or, set, map}
 use Rattle.std.specs.Prelude.{option_map}
 use Rattle.std.proofs.Math.Seq.{map-set_same}
 use Rattle.std.proofs.lemmas.List.{get_or_default, map-set}

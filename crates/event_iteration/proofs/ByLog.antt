@@ -1,5 +1,5 @@
 -- What the log of a part tells of told machines, for proofs of callers.
-use Rattle.std.proofs.Common.{◌≡◌, ℕ, ℤ, Bool, List, [], ◌++◌, Contains, Option, sym, ap, ◌∙◌, append-nil, length}
+use Rattle.std.proofs.Common.{◌≡◌, ℕ, ℤ, Bool, List, [], ◌++◌, Contains, Option, sym, ap, ◌∙◌, append-nil}
 use Rattle.std.specs.Prelude.{◌==◌, if◌then◌else◌}
 use Rattle.std.proofs.lemmas.List.{length-map}
 use Rattle.fmi_calls.specs.declared.call.Call.TheVariants as C
@@ -8,7 +8,7 @@ use Rattle.fmu_peer.specs.Mode.{instantiate_of}
 use Rattle.system_model.specs.declared.system.Component.{Component}
 use Rattle.system_model.specs.Ports.{numbers}
 use Rattle.system_model.specs.Sound.{IsSound}
-use Rattle.run_model.specs.AfterInstant.{updated, written}
+use Rattle.run_model.specs.AfterInstant.{asks_again, asks_for_end, updated, written}
 use Rattle.run_model.specs.Initial as I
 use Rattle.run_model.specs.Equations.{Solves}
 use Rattle.run_model.specs.Inputs.{state_with, state_written, written_at_port}
@@ -23,7 +23,7 @@ use Rattle.event_iteration.specs.Clocks.{AreTicks}
 use Rattle.event_iteration.specs.Explains.{Explains}
 use Rattle.event_iteration.specs.Initialization.{initially, no_values}
 use Rattle.event_iteration.specs.Instants.{in_instant}
-use Rattle.event_iteration.specs.Settings.{before_step, entered_step, port_order}
+use Rattle.event_iteration.specs.Settings.{entered_step, port_order}
 pub use Rattle.event_iteration.proofs.Clockless.{unclocked_parts}
 use Rattle.event_iteration.proofs.Departing.{depart_from, sets_by}
 use Rattle.event_iteration.proofs.Finding as N
@@ -37,7 +37,7 @@ pub use Rattle.event_iteration.proofs.Said.{all_front}
 pub use Rattle.event_iteration.proofs.Setting.{asked_before_step}
 pub use Rattle.event_iteration.proofs.Stages.{AreAll, IsRead, all_on, each_each, fmu_of, reads_part, reads_stay, replies_first, replies_then, stage_any, stage_states, stage_well, states_on}
 pub use Rattle.event_iteration.proofs.Timing.{IsTimingOf, asked_interval, first_timers_are, fixed_read, intervals_read, next_timers_are, timings_are, timings_read}
-use Rattle.event_iteration.proofs.Updating.{again_is, asked_is, states_updated}
+use Rattle.event_iteration.proofs.Updating.{any_is, states_updated}
 use Rattle.event_iteration.proofs.WalksBack.{finding_back, instant_back, setting_back, walked_to}
 
 -- ---- a machine and a state for each component
@@ -129,7 +129,8 @@ intervals_by_log r s values next log sound machines situation rearms replies =
 
 pub updates_by_log : UpdatesByLog
 updates_by_log r s values log machines situation answered replies =
-    (states_updated r s values log answered, again_is r s values log answered machines situation replies, asked_is r s values log answered machines situation replies)
+    let all = written_all r machines s situation values in
+    (states_updated r s values log answered, any_is r s values log answered all replies asks_again, any_is r s values log answered all replies asks_for_end)
 
 pub sets_by_log : SetsByLog
 sets_by_log r s values log sound len told =

@@ -1,18 +1,13 @@
 -- The questions of fixed Clocks, port by port.
-use Rattle.std.proofs.Common.{◌≡◌, inl, inr, ℕ, ◌+◌, ◌<◌, ◌≤◌, ◌==◌, ℤ, true, false, List, [], ◌∷◌, ◌++◌, Option, Some, None, Result, Ok, Err, refl, sym, ap, ap₂, ◌∙◌, subst, append_assoc, append-nil, arith, length, get_or, set, map, take, drop}
-use Rattle.std.specs.Prelude.{All, option_map, slice_get, unwrap_or}
+use Rattle.std.proofs.Common.{◌≡◌, inl, inr, ℕ, ◌+◌, ◌<◌, ◌≤◌, true, false, List, [], ◌∷◌, ◌++◌, Some, None, Ok, Err, refl, sym, ap, ap₂, ◌∙◌, subst, append_assoc, append-nil, arith, length, set, map, take, drop}
+use Rattle.std.specs.Prelude.{option_map, slice_get}
 use Rattle.std.proofs.lemmas.Bool.{cases_lt}
 use Rattle.std.proofs.lemmas.List.{length-map, length-set, map-append, take-append-drop, take_all, take_more}
-use Rattle.std.proofs.lemmas.List.Elements.{All-cons, All-head, All-nil, All-tail}
 use Rattle.std.proofs.lemmas.Option.{get_or_from_slice_get, same_Some, slice_get-map, slice_get_within}
 use Rattle.value_types.specs.declared.shape.Shape.{Shape}
-use Rattle.fmi_calls.specs.declared.call.Call.{Call}
 use Rattle.fmi_calls.specs.declared.call.Call.TheVariants as C
 use Rattle.fmi_calls.specs.declared.call.Reply.{Reply}
-use Rattle.fmu_peer.specs.declared.peer.PeerFault.{PeerFault}
 use Rattle.fmu_peer.specs.CloseAll.{Instance}
-use Rattle.fmu_peer.specs.Machine.{Machine, MachineState, after}
-use Rattle.system_model.specs.declared.system.Component.{Component}
 use Rattle.system_model.specs.declared.system.Role.{Role}
 use Rattle.system_model.specs.declared.system.Role.TheVariants.{Input, Output, ClockInput, ClockOutput, TimeClock}
 use Rattle.system_model.specs.declared.system.Timing.TheVariants.{Periodic, Answered, Countdown}
@@ -22,25 +17,19 @@ use Rattle.system_model.proofs.CallerLemmas.{all_by_place, true_false}
 use Rattle.tick_schedule.specs.declared.clock.ClockState.{ClockState}
 use Rattle.tick_schedule.specs.declared.clock.ClockState.TheVariants as S
 use Rattle.tick_schedule.specs.Timetable.{Timetable}
-use Rattle.fmu_peer.specs.Mode.{instantiate_of}
-use Rattle.run_model.specs.Initial.{asked_timer, bound_values, configured, enter_initialization, first_states, first_timer, first_timers, initialized, initializing, instantiated, interval_in, shift_in, with_bound}
-use Rattle.run_model.specs.Inputs.{state_with}
-use Rattle.run_model.specs.Machines.{AreMachines}
-use Rattle.run_model.specs.Run.{Run, Timer, Never, Every, at_fmu}
+use Rattle.run_model.specs.Initial.{interval_in, shift_in}
+use Rattle.run_model.specs.Run.{Timer, Never, Every}
 use Rattle.run_model.specs.Timers.{fixed}
 use Rattle.slot_calls.specs.declared.bad_answer.BadAnswer.{BadAnswer}
-use Rattle.slot_calls.specs.Log.{Asking, Sent, Told, asking_of, askings, part}
-use Rattle.slot_calls.specs.Replies.{RepliesBy}
-use Rattle.slot_calls.specs.Stage.{IsAnswered, IsGoodOf, Stage, StopsAt, shapes, shapes_of}
-use Rattle.slot_calls.proofs.CallerLemmas.{answered_none, answered_on, shapes_same, stops_front, stops_on, told_none, told_on, same, sent_all, takes, replied_good}
+use Rattle.slot_calls.specs.Log.{Asking, Sent, Told, askings}
+use Rattle.slot_calls.specs.Stage.{IsAnswered, Stage, StopsAt, shapes, shapes_of}
+use Rattle.slot_calls.proofs.CallerLemmas.{answered_none, answered_on, shapes_same, stops_front, stops_on, told_none, told_on}
 use Rattle.event_iteration.specs.Clocks.{IsNextFrom, StandsAt, first_place, first_table, timer_in, timers_in}
-use Rattle.event_iteration.specs.Intervals.{Fixes, FixesForMachines, first_told_by, first_told_in, log_behind, timing_calls, timing_calls_in, timing_calls_of, told_timer}
-use Rattle.event_iteration.specs.Machines.{AreAt}
+use Rattle.event_iteration.specs.Intervals.{Fixes, first_told_by, first_told_in, log_behind, timing_calls, timing_calls_in, timing_calls_of, told_timer}
 use Rattle.event_iteration.specs.Questions.{FixSays, FixesPort, IsEntered, IsFirstPlace, IsFixed, IsFixedUpTo, first_reply, is_asked, modes}
 use Rattle.event_iteration.proofs.Answering.{one_answer}
-use Rattle.event_iteration.proofs.Fmus.{are_replies, at_fmu-is, each_many, got}
+use Rattle.event_iteration.proofs.Fmus.{got}
 use Rattle.event_iteration.proofs.Places.{map_take, set_beside, set_here, set_same, take_set}
-use Rattle.event_iteration.proofs.Reading.{Leaves, fmu_of, still_at}
 
 -- ---- one port
 
@@ -160,70 +149,6 @@ told_append per_second (x ∷ xs) ys log more is = by x.role log is (λ rest res
     by (ClockInput feed) some e on = ap (λ ts. Never ∷ ts) (on some e)
     by ClockOutput some e on = ap (λ ts. Never ∷ ts) (on some e)
 
--- ---- machines
-
-leaving_calls : (role : Role) (port : Port) → All (λ (a : Asking). Leaves a.call) (timing_calls_of role port)
-leaving_calls (TimeClock Answered) port =
-    All-cons (λ (a : Asking). Leaves a.call) (ask_interval port) (ask_shift port ∷ []) (λ m s. refl)
-    (All-cons (λ (a : Asking). Leaves a.call) (ask_shift port) [] (λ m s. refl) (All-nil (λ (a : Asking). Leaves a.call)))
-leaving_calls (TimeClock (Periodic interval shift)) port = All-nil (λ (a : Asking). Leaves a.call)
-leaving_calls (TimeClock Countdown) port = All-nil (λ (a : Asking). Leaves a.call)
-leaving_calls (Input feed) port = All-nil (λ (a : Asking). Leaves a.call)
-leaving_calls Output port = All-nil (λ (a : Asking). Leaves a.call)
-leaving_calls (ClockInput feed) port = All-nil (λ (a : Asking). Leaves a.call)
-leaving_calls ClockOutput port = All-nil (λ (a : Asking). Leaves a.call)
-
-module _ (r : Run) (states : List MachineState) (few : length r.machines ≡ length r.system.components) (many : length states ≡ length r.system.components) (olds news : List Instance) (at : AreAt r states olds) (log : List Sent) (told : Told log olds news)
-    (port : Port) (c : Component) (of : slice_get r.system.components port.component.0 ≡ Some c) where
-  -- the two answers are the machine's
-  two_told : (a b : Sent) → log ≡ a ∷ b ∷ [] → asking_of a ≡ ask_interval port → asking_of b ≡ ask_shift port → All (IsGoodOf (shapes_of r.system)) log →
-      told_timer r.plan.resolution (a ∷ b ∷ []) ≡ unwrap_or (at_fmu r states port.component.0 (λ x m s. Some (asked_timer r port m s))) Never
-  two_told a b is asks_a asks_b good =
-      let i = port.component.0 in
-      let fmu = fmu_of r states few many i c of in
-      let m = fmu.0 in
-      let s = fmu.1 in
-      let at_a : a.component ≡ i = ap (λ (x : Asking). x.component) asks_a in
-      let at_b : b.component ≡ i = ap (λ (x : Asking). x.component) asks_b in
-      let call_a : a.exchange.call ≡ C.GetInterval port.reference = ap (λ (x : Asking). x.call) asks_a in
-      let call_b : b.exchange.call ≡ C.GetShift port.reference = ap (λ (x : Asking). x.call) asks_b in
-      let part_is : part i log ≡ a.exchange ∷ b.exchange ∷ [] =
-      ap (part i) is ∙ takes (a.component == i) a.exchange (part i (b ∷ [])) (same a.component i at_a) ∙ ap (λ es. a.exchange ∷ es) (takes (b.component == i) b.exchange [] (same b.component i at_b)) in
-      let good_here : All (IsGoodOf (shapes_of r.system)) (a ∷ b ∷ []) = subst (All (IsGoodOf (shapes_of r.system))) is good in
-      let good_a = All-head (IsGoodOf (shapes_of r.system)) a (b ∷ []) good_here c.shape in
-      let good_b = All-head (IsGoodOf (shapes_of r.system)) b [] (All-tail (IsGoodOf (shapes_of r.system)) a (b ∷ []) good_here) c.shape in
-      let first = replied_good m (get_or (shapes_of r.system) a.component c.shape) s a.exchange (b.exchange ∷ []) good_a (subst (RepliesBy m s) part_is (are_replies r states olds news at log told i c m s fmu.2)) in
-      let stays : after m s a.exchange.call ≡ s = ap (after m s) call_a in
-      let second = replied_good m (get_or (shapes_of r.system) b.component c.shape) s b.exchange [] good_b (subst (λ (z : MachineState). RepliesBy m z (b.exchange ∷ [])) stays first.1) in
-      let told_a : a.exchange.result ≡ Ok (m.look s (C.GetInterval port.reference)) = first.0 ∙ ap (λ (k : Call). Ok (m.look s k)) call_a in
-      let told_b : b.exchange.result ≡ Ok (m.look s (C.GetShift port.reference)) = second.0 ∙ ap (λ (k : Call). Ok (m.look s k)) call_b in
-      ap₂ (λ (x y : Result Reply PeerFault). told_timer r.plan.resolution (record { component = i; exchange = record { call = C.GetInterval port.reference; result = x } } ∷ record { component = i; exchange = record { call = C.GetShift port.reference; result = y } } ∷ [])) told_a told_b
-      ∙ sym (ap (λ (o : Option Timer). unwrap_or o Never) (at_fmu-is r states i c m s (λ x n z. Some (asked_timer r port n z)) fmu.2))
-
-  pub told_is : (role : Role) → IsAnswered (shapes_of r.system) (timing_calls_of role port) log → first_told_by role r.plan.resolution log ≡ first_timer role r states port
-  told_is (TimeClock Answered) answered = by log refl answered.calls_are
-    where
-      by : (some : List Sent) → log ≡ some → askings some ≡ ask_interval port ∷ ask_shift port ∷ [] → told_timer r.plan.resolution some ≡ unwrap_or (at_fmu r states port.component.0 (λ x m s. Some (asked_timer r port m s))) Never
-      by [] is e = absurd (cc)
-      by (a ∷ []) is e = absurd (cc)
-      by (a ∷ b ∷ []) is e = two_told a b is (cc) (cc) answered.good
-      by (a ∷ b ∷ d ∷ some) is e = absurd (cc)
-  told_is (TimeClock (Periodic interval shift)) answered = refl
-  told_is (TimeClock Countdown) answered = refl
-  told_is (Input feed) answered = refl
-  told_is Output answered = refl
-  told_is (ClockInput feed) answered = refl
-  told_is ClockOutput answered = refl
-
--- a state for each component behind Initialization Mode
-initialized_many : (r : Run) (values : List (Option ℤ)) → AreMachines r → length (initialized r values) ≡ length r.system.components
-initialized_many r values machines =
-    let few = machines.count in
-    let a : length (instantiated r) ≡ length r.system.components = each_many r (first_states r) (λ i c m s. after m s (instantiate_of c.shape)) few (length-map r.machines (λ (m : Machine). m.first) ∙ few) in
-    let b : length (configured r) ≡ length r.system.components = each_many r (instantiated r) (λ i c m s. with_bound m (bound_values r i) s) few a in
-    let d : length (initializing r) ≡ length r.system.components = each_many r (configured r) (λ i c m s. after m s (enter_initialization r)) few b in
-    each_many r (initializing r) (λ i c m s. state_with r.system.ports values i m s) few d
-
 -- ---- the first ports
 
 pub record Fixing (system : System) (per_second k : ℕ) (first table : Timetable) (olds mids : List Instance) : Type 0 where
@@ -235,8 +160,6 @@ pub record Fixing (system : System) (per_second k : ℕ) (first table : Timetabl
   pub stop : table.stop ≡ first.stop
   pub fixed : IsFixedUpTo system k table
   pub timers : take k (timers_in table) ≡ first_told_in per_second (take k system.ports) log
-  pub machines : (r : Run) (states : List MachineState) → r.system ≡ system → r.plan.resolution ≡ per_second → length r.machines ≡ length r.system.components → length states ≡ length r.system.components → AreAt r states olds →
-      AreAt r states mids × (take k (timers_in table) ≡ take k (first_timers r states))
 
 pub fixing_none : (system : System) (per_second : ℕ) (table : Timetable) (is : List Instance) → table ≡ first_table system table.start table.stop → Fixing system per_second 0 table table is is
 fixing_none system per_second table is first =
@@ -254,7 +177,6 @@ fixing_none system per_second table is first =
         ahead = λ q port le at. ap (λ xs. slice_get xs q) places ∙ slice_get-map (λ (x : Port). first_place x.role) system.ports q ∙ ap (option_map (λ (x : Port). first_place x.role)) at;
       };
       timers = refl;
-      machines = λ r states same counts few many at. (at, refl);
     }
 
 module _ (system : System) (per_second k : ℕ) (port : Port) (is : slice_get system.ports k ≡ Some port) where
@@ -328,8 +250,8 @@ module _ (system : System) (per_second k : ℕ) (port : Port) (is : slice_get sy
           sym (map_take timer_in (k + 1) next.clocks) ∙ ap (λ cs. map timer_in (take (k + 1) cs)) clocks_are ∙ ap (map timer_in) (take_set table.clocks k done.place in_clocks)
           ∙ map-append timer_in (take k table.clocks) (done.place ∷ []) ∙ ap (λ ts. ts ++ timer_in done.place ∷ []) (map_take timer_in k table.clocks)
 
-      pub fixing_more : modes news ≡ modes mids → (c : Component) → slice_get system.components port.component.0 ≡ Some c → Fixing system per_second (k + 1) first next olds news
-      fixing_more modes_same c of = record {
+      pub fixing_more : modes news ≡ modes mids → Fixing system per_second (k + 1) first next olds news
+      fixing_more modes_same = record {
         log = front.log ++ turn.log;
         told = told_on olds mids news front.log turn.log front.told turn.told;
         answered = subst (λ (cs : List Asking). IsAnswered (shapes_of system) cs (front.log ++ turn.log)) (sym more_calls)
@@ -340,18 +262,6 @@ module _ (system : System) (per_second k : ℕ) (port : Port) (is : slice_get sy
         fixed = fixed_more;
         timers = timers_more ∙ ap₂ (λ ts (t : Timer). ts ++ t ∷ []) front.timers done.timer
             ∙ sym (ap (λ ps. first_told_in per_second ps (front.log ++ turn.log)) more_ports ∙ told_append per_second (take k system.ports) (port ∷ []) front.log turn.log front.answered.calls_are);
-        machines = λ r states same counts few many at.
-            let before = front.machines r states same counts few many at in
-            let good : IsAnswered (shapes_of r.system) (timing_calls_of port.role port) turn.log = subst (λ (x : System). IsAnswered (shapes_of x) (timing_calls_of port.role port) turn.log) (sym same) good_turn in
-            let own : slice_get r.system.components port.component.0 ≡ Some c = ap (λ (x : System). slice_get x.components port.component.0) same ∙ of in
-            let told_own = told_is r states few many mids news before.0 turn.log turn.told port c own port.role good in
-            let ports_own : take (k + 1) r.system.ports ≡ take k r.system.ports ++ port ∷ [] = ap (λ (x : System). take (k + 1) x.ports) same ∙ more_ports ∙ sym (ap (λ (x : System). take k x.ports ++ port ∷ []) same) in
-            let timer_own : timer_in done.place ≡ first_timer port.role r states port = done.timer ∙ ap (λ n. first_told_by port.role n turn.log) (sym counts) ∙ told_own in (
-              still_at r states mids news before.0 turn.log turn.told good.good (sent_all (λ (a : Asking). Leaves a.call) turn.log (timing_calls_of port.role port) good.calls_are (leaving_calls port.role port)),
-              timers_more ∙ ap₂ (λ ts (t : Timer). ts ++ t ∷ []) before.1 timer_own
-                  ∙ sym (sym (map_take (λ (x : Port). first_timer x.role r states x) (k + 1) r.system.ports) ∙ ap (map (λ (x : Port). first_timer x.role r states x)) ports_own
-                  ∙ map-append (λ (x : Port). first_timer x.role r states x) (take k r.system.ports) (port ∷ []) ∙ ap (λ ts. ts ++ first_timer port.role r states port ∷ []) (map_take (λ (x : Port). first_timer x.role r states x) k r.system.ports)),
-            );
       }
 
 -- ---- all of them
@@ -372,12 +282,6 @@ module _ (system : System) (per_second k : ℕ) (first table : Timetable) (olds 
       sym timers_whole ∙ all.timers ∙ ap (λ (ps : List Port). first_told_in per_second ps all.log) ports_whole,
     );
   }
-
-  pub fixing_machines : FixesForMachines system per_second (timers_in table) olds mids
-  fixing_machines r values same counts machines at =
-      let done = all.machines r (initialized r values) same counts machines.count (initialized_many r values machines) at in
-      let long : length (first_timers r (initialized r values)) ≡ length system.ports = length-map r.system.ports (λ (x : Port). first_timer x.role r (initialized r values) x) ∙ ap (λ (x : System). length x.ports) same in
-      (done.0, sym timers_whole ∙ done.1 ∙ take_all k (first_timers r (initialized r values)) (let w = whole in omega (arith, long, w)))
 
   pub fixing_stands : first.start ≤ first.stop → StandsAt system first.start true table
   fixing_stands run = record {

@@ -17,8 +17,8 @@ pub mod InInstant
 pub mod FindingInInstant
 pub mod Setting
 pub mod WalksBack
-pub mod WalkAnswers
 pub mod Said
+pub mod WalkAnswers
 pub mod Timing
 pub mod Departing
 pub mod Updating
@@ -26,9 +26,9 @@ pub mod ByLog
 pub mod Asking
 pub mod Answering
 pub mod Places
-pub mod Reading
 pub mod Fixing
 pub mod Rearming
+pub mod OverMachines
 pub mod ClockTicks
 pub mod Rooms
 pub mod Activity

@@ -1,11 +1,10 @@
 -- The questions of countdown Clocks behind an instant, port by port.
-use Rattle.std.proofs.Common.{◌≡◌, inl, inr, ℕ, zero, suc, ◌+◌, ◌<◌, ◌≤◌, ℤ, Bool, true, false, List, [], ◌∷◌, ◌++◌, Option, Some, None, Result, Ok, Err, refl, sym, ap, ap₂, ◌∙◌, subst, arith, length, get_or, set, map, take, drop}
-use Rattle.std.specs.Prelude.{All, Contains, IsSomeAnd, if◌then◌else◌, option_map, slice_get, unwrap_or, ◌||◌}
+use Rattle.std.proofs.Common.{◌≡◌, inl, inr, ℕ, zero, suc, ◌+◌, ◌<◌, ◌≤◌, ℤ, Bool, true, false, List, [], ◌∷◌, ◌++◌, Option, Some, None, Ok, Err, refl, sym, ap, ap₂, ◌∙◌, subst, arith, length, get_or, set, map, take, drop}
+use Rattle.std.specs.Prelude.{All, Contains, IsSomeAnd, if◌then◌else◌, option_map, slice_get, ◌||◌}
 use Rattle.std.specs.List.{list_any}
 use Rattle.std.specs.Option.{option_map_or}
 use Rattle.std.proofs.lemmas.Bool.{cases_lt}
 use Rattle.std.proofs.lemmas.List.{ext_get_or, length-map, length-set, map-append, set-get_or, take_all}
-use Rattle.std.proofs.lemmas.List.Elements.{All-cons, All-nil}
 use Rattle.std.proofs.lemmas.List.Folds.{list_any-append}
 use Rattle.std.proofs.lemmas.Option.{get_or_from_slice_get, same_Some, slice_get-map, slice_get_within}
 use Rattle.value_types.specs.Shape.{timing_at}
@@ -14,16 +13,11 @@ use Rattle.value_types.specs.declared.shape.Shape.{Shape}
 use Rattle.value_types.specs.declared.shape.Variable.{Variable}
 use Rattle.fmi_calls.specs.declared.call.Call.{Call}
 use Rattle.fmi_calls.specs.declared.call.Call.TheVariants as C
-use Rattle.fmi_calls.specs.declared.call.Interval.{Interval}
-use Rattle.fmi_calls.specs.declared.call.Interval.TheVariants.{NotYetKnown}
 use Rattle.fmi_calls.specs.declared.call.Reply.{Reply}
 use Rattle.fmi_calls.specs.Next.{running_state}
-use Rattle.fmu_peer.specs.declared.peer.Exchange.{Exchange}
-use Rattle.fmu_peer.specs.declared.peer.PeerFault.{PeerFault}
-use Rattle.fmu_peer.specs.Talk.{IsGood}
 use Rattle.fmu_peer.specs.CloseAll.{Instance}
 use Rattle.fmu_peer.specs.Answer.{IsWhy}
-use Rattle.fmu_peer.specs.Machine.{MachineState, after}
+use Rattle.fmu_peer.specs.Machine.{after}
 use Rattle.system_model.specs.declared.system.Component.{Component}
 use Rattle.system_model.specs.declared.system.Role.{Role}
 use Rattle.system_model.specs.declared.system.Role.TheVariants.{Input, Output, ClockInput, ClockOutput, TimeClock}
@@ -34,32 +28,25 @@ use Rattle.system_model.specs.Sound.{IsRole, IsSound, IsTiming}
 use Rattle.system_model.proofs.CallerLemmas.{all_at, all_by_place, true_false, Placed, place_of}
 use Rattle.tick_schedule.specs.declared.clock.ClockState.{ClockState}
 use Rattle.tick_schedule.specs.Timetable.{Timetable, with_clock}
-use Rattle.run_model.specs.AfterInstant.{next_timer, next_timers_from, written}
-use Rattle.run_model.specs.Initial.{interval_in}
-use Rattle.run_model.specs.Inputs.{is_active, state_with}
-use Rattle.run_model.specs.Run.{Run, Situation, Timer, Never, at_fmu, value}
-use Rattle.run_model.specs.Timers.{answered, is_armed_for}
+use Rattle.run_model.specs.Run.{Timer, Never, value}
+use Rattle.run_model.specs.Timers.{is_armed_for}
 use Rattle.slot_calls.specs.declared.bad_answer.BadAnswer.{BadAnswer}
 use Rattle.run_model.proofs.CallerLemmas.{none_in}
-use Rattle.slot_calls.specs.Log.{Asking, Sent, Told, askings, part}
-use Rattle.slot_calls.specs.Replies.{RepliesBy}
-use Rattle.slot_calls.specs.Stage.{IsGoodOf, Stage, StopsAt, shapes, shapes_of}
-use Rattle.slot_calls.proofs.CallerLemmas.{shape_of, told_none, told_on, replied_good}
+use Rattle.slot_calls.specs.Log.{Asking, Sent, Told, askings}
+use Rattle.slot_calls.specs.Stage.{Stage, StopsAt, shapes, shapes_of}
+use Rattle.slot_calls.proofs.CallerLemmas.{shape_of, told_none, told_on}
 use Rattle.event_iteration.specs.Clocks.{IsNextFrom, IsPlaceOf, StandsAt, is_due_in, timer_in, timers_in}
 use Rattle.event_iteration.specs.Explains.{Explains, all_said}
 use Rattle.event_iteration.specs.Instants.{IsRunning}
-use Rattle.event_iteration.specs.Intervals.{AsksIntervals, Rearms, RearmsForMachines, TellsTicks, asks_interval, interval_by, intervals, timer_behind, timers_behind, timers_behind_from}
-use Rattle.event_iteration.specs.Machines.{AreAt}
+use Rattle.event_iteration.specs.Intervals.{AsksIntervals, Rearms, TellsTicks, asks_interval, interval_by, intervals, timer_behind, timers_behind, timers_behind_from}
 use Rattle.event_iteration.specs.Questions.{AreRunning, AsksPort, GoesFrom, IsBehindUpTo, counts_down, first_reply, modes, place_behind}
 use Rattle.event_iteration.specs.Settings.{port_order}
 use Rattle.event_iteration.specs.Turns.{IsPaired, Stops, Turn, sent_of}
 use Rattle.event_iteration.proofs.Asking.{mode_of}
 use Rattle.event_iteration.proofs.Answering.{one_answer, own_shape}
-use Rattle.event_iteration.proofs.Fmus.{are_replies, at_fmu-is, each_many, got, part_own_of}
+use Rattle.event_iteration.proofs.Fmus.{got}
 use Rattle.event_iteration.proofs.Loops.{more_order, split_order}
-use Rattle.event_iteration.proofs.Permits.{shape_of_component}
 use Rattle.event_iteration.proofs.Places.{IsPositive, map_take, next_behind, place_of_behind, set_beside, set_here, take_set, timer_of_place}
-use Rattle.event_iteration.proofs.Reading.{Leaves, fmu_of, still_at}
 use Rattle.event_iteration.proofs.Setting.{NoNeeds, all_ports, in_order, port_number}
 use Rattle.event_iteration.proofs.Walking.{AreAbout, Here, explains_more, here_at, is_other, is_same, more_replies, with_reply}
 
@@ -167,62 +154,6 @@ module _ (system : System) (sound : IsSound system) (p : ℕ) (port : Port) (is 
             by (s ∷ []) left log_is calls_are = absurd (cc)
             by (s ∷ u ∷ front) left log_is calls_are = absurd (cc)
 
--- ---- what a machine answers
-
-abbrev pub shown_interval : Run → List MachineState → Port → Interval
-shown_interval r states port = unwrap_or (at_fmu r states port.component.0 (λ c m s. Some (interval_in (m.look s (C.GetInterval port.reference))))) NotYetKnown
-
-leaving : (i : ℕ) (role : Role) (port : Port) (reply : Option Reply) → All (λ (s : Sent). Leaves s.exchange.call) (sent_of i (asks_interval role port) reply)
-leaving i (TimeClock Countdown) port None = All-nil (λ (s : Sent). Leaves s.exchange.call)
-leaving i (TimeClock Countdown) port (Some reply) = All-cons (λ (s : Sent). Leaves s.exchange.call) _ [] (λ m s. refl) (All-nil (λ (s : Sent). Leaves s.exchange.call))
-leaving i (TimeClock (Periodic interval shift)) port reply = All-nil (λ (s : Sent). Leaves s.exchange.call)
-leaving i (TimeClock Answered) port reply = All-nil (λ (s : Sent). Leaves s.exchange.call)
-leaving i (Input feed) port reply = All-nil (λ (s : Sent). Leaves s.exchange.call)
-leaving i Output port reply = All-nil (λ (s : Sent). Leaves s.exchange.call)
-leaving i (ClockInput feed) port reply = All-nil (λ (s : Sent). Leaves s.exchange.call)
-leaving i ClockOutput port reply = All-nil (λ (s : Sent). Leaves s.exchange.call)
-
-good_sent : (system : System) (i : ℕ) (c : Component) → slice_get system.components i ≡ Some c → (call : Option Call) (reply : Option Reply) → IsPaired c.shape call reply → All (IsGoodOf (shapes_of system)) (sent_of i call reply)
-good_sent system i c of None reply paired = All-nil (IsGoodOf (shapes_of system))
-good_sent system i c of (Some call) None paired = All-nil (IsGoodOf (shapes_of system))
-good_sent system i c of (Some call) (Some reply) paired =
-    All-cons (IsGoodOf (shapes_of system)) _ [] (λ d. subst (λ (s : Shape). IsGood s (record { call = call; result = Ok reply })) (shape_of_component system i c of d) paired) (All-nil (IsGoodOf (shapes_of system)))
-
-module _ (r : Run) (states : List MachineState) (few : length r.machines ≡ length r.system.components) (many : length states ≡ length r.system.components) (olds news : List Instance) (at : AreAt r states olds) (log : List Sent) (told : Told log olds news)
-    (p : ℕ) (reply : Option Reply) (values : List (Option ℤ)) (turn : Turn r.system intervals p reply values values log) where
-  good_log : All (IsGoodOf (shapes_of r.system)) log
-  good_log = subst (All (IsGoodOf (shapes_of r.system))) (sym turn.sent_is) (good_sent r.system turn.port.component.0 turn.component turn.of (asks_interval turn.port.role turn.port) reply turn.paired)
-
-  pub still_there : AreAt r states news
-  still_there = still_at r states olds news at log told good_log (subst (All (λ (s : Sent). Leaves s.exchange.call)) (sym turn.sent_is) (leaving turn.port.component.0 turn.port.role turn.port reply))
-
-  abbrev i : ℕ
-  i = turn.port.component.0
-
-  abbrev call : Call
-  call = C.GetInterval turn.port.reference
-
-  -- a countdown Clock's reply is the machine's
-  pub shown_there : turn.port.role ≡ TimeClock Countdown → interval_by reply ≡ shown_interval r states turn.port
-  shown_there down = by reply turn.sent_is turn.paired
-    where
-      asks : asks_interval turn.port.role turn.port ≡ Some call
-      asks = ap (λ (x : Role). asks_interval x turn.port) down
-
-      by : (o : Option Reply) → log ≡ sent_of i (asks_interval turn.port.role turn.port) o → IsPaired turn.component.shape (asks_interval turn.port.role turn.port) o → interval_by o ≡ shown_interval r states turn.port
-      by None log_is paired = absurd (subst (λ (k : Option Call). IsPaired turn.component.shape k None) asks paired)
-      by (Some x) log_is paired =
-          let fmu = fmu_of r states few many i turn.component turn.of in
-          let m = fmu.0 in
-          let s = fmu.1 in
-          let e : Exchange = record { call = call; result = Ok x } in
-          let part_is : part i log ≡ e ∷ [] = ap (part i) (log_is ∙ ap (λ (k : Option Call). sent_of i k (Some x)) asks) ∙ part_own_of i (Some call) (Some x) in
-          let good = subst (λ (k : Option Call). IsPaired turn.component.shape k (Some x)) asks paired in
-          let told_own = replied_good m turn.component.shape s e [] good (subst (RepliesBy m s) part_is (are_replies r states olds news at log told i turn.component m s fmu.2)) in
-          let its : ◌≡◌ {A = Result Reply PeerFault} (Ok x) (Ok (m.look s call)) = told_own.0 in
-          let same : x ≡ m.look s call = (cc) in
-          ap interval_in same ∙ sym (ap (λ (o : Option Interval). unwrap_or o NotYetKnown) (at_fmu-is r states i turn.component m s (λ d n z. Some (interval_in (n.look z call))) fmu.2))
-
 -- ---- the first ports
 
 pub record Rearming (system : System) (per_second t k : ℕ) (values : List (Option ℤ)) (before table : Timetable) (armed : Bool) (olds mids : List Instance) : Type 0 where
@@ -232,8 +163,6 @@ pub record Rearming (system : System) (per_second t k : ℕ) (values : List (Opt
   pub modes_are : modes mids ≡ modes olds
   pub behind : IsBehindUpTo system per_second t values explains.replies k before table
   pub armed_is : armed ≡ list_any (is_armed_for t) (take k (timers_in table))
-  pub machines : (r : Run) (states : List MachineState) → r.system ≡ system → length r.machines ≡ length r.system.components → length states ≡ length r.system.components → AreAt r states olds →
-      AreAt r states mids × ((q : ℕ) (port : Port) → q < k → slice_get system.ports q ≡ Some port → port.role ≡ TimeClock Countdown → interval_by (explains.replies q) ≡ shown_interval r states port)
 
 pub rearming_none : (system : System) (per_second t : ℕ) (values : List (Option ℤ)) (table : Timetable) (is : List Instance) → Rearming system per_second t 0 values table table false is is
 rearming_none system per_second t values table is = record {
@@ -255,7 +184,6 @@ rearming_none system per_second t values table is = record {
     ahead = λ q le. refl;
   };
   armed_is = refl;
-  machines = λ r states same few many at. (at, λ q port lt. absurd (omega (arith, lt)));
 }
 
 about_intervals : (system : System) → AreAbout NoNeeds system intervals
@@ -378,24 +306,6 @@ module _ (system : System) (per_second t k : ℕ) (values : List (Option ℤ)) (
       behind = behind_more;
       armed_is = now_is ∙ or_last armed told
           ∙ ap₂ (λ (a b : Bool). a || (b || false)) front.armed_is arms ∙ sym (ap (list_any (is_armed_for t)) timers_more ∙ list_any-append (is_armed_for t) (take k (timers_in table)) (timer_in placed_next ∷ []));
-      machines = λ r states same few many at.
-          let was = front.machines r states same few many at in
-          let own : Turn r.system intervals k reply values values turn.log = subst (λ (x : System). Turn x intervals k reply values values turn.log) (sym same) (turn.says values) in
-          let port_is : own.port ≡ port = same_Some _ _ (sym own.is ∙ ap (λ (x : System). slice_get x.ports k) same ∙ is) in (
-            still_there r states few many mids news was.0 turn.log turn.told k reply values own,
-            λ q x lt is_x down. (elim (cases_lt q k) as (λ c. interval_by (explains_next.replies q) ≡ shown_interval r states x) [
-              | inl below ↦
-                  ap interval_by (reply_old system values places k within front.log turn.log reply front.explains (turn.says values) q (λ e. absurd (omega (arith, e, below)))) ∙ was.1 q x below is_x down
-              | inr past ↦
-                  let same_place : q ≡ k = omega (arith, lt, past) in
-                  let its : port ≡ x = same_Some _ _ (sym is ∙ ap (slice_get system.ports) (sym same_place) ∙ is_x) in
-                  let its_own : own.port ≡ x = port_is ∙ its in
-                  ap (λ n. interval_by (explains_next.replies n)) same_place
-                  ∙ ap interval_by (reply_here system values places k within front.log turn.log reply front.explains (turn.says values))
-                  ∙ shown_there r states few many mids news was.0 turn.log turn.told k reply values own (ap (λ (y : Port). y.role) its_own ∙ down)
-                  ∙ ap (shown_interval r states) its_own
-            ]),
-          );
     }
 
 -- ---- timers by place
@@ -417,27 +327,6 @@ timers_behind_many per_second t values replies p [] [] e = refl
 timers_behind_many per_second t values replies p [] (y ∷ olds) e = absurd (omega (arith, e))
 timers_behind_many per_second t values replies p (x ∷ ports) [] e = refl
 timers_behind_many per_second t values replies p (x ∷ ports) (y ∷ olds) e = ap suc (timers_behind_many per_second t values replies (suc p) ports olds (omega (arith, e)))
-
--- the timers behind an instant are the run's where the replies are
-next_same : (r : Run) (s : Situation) (values : List (Option ℤ)) (replies : ℕ → Option Reply) (p : ℕ) (ports : List Port) (olds : List Timer) →
-    ((q : ℕ) (port : Port) → slice_get ports q ≡ Some port → port.role ≡ TimeClock Countdown → interval_by (replies (p + q)) ≡ shown_interval r (written r s values) port) →
-    timers_behind_from r.plan.resolution s.t values replies p ports olds ≡ next_timers_from r s values p ports olds
-next_same r s values replies p [] olds h = refl
-next_same r s values replies p (x ∷ ports) [] h = refl
-next_same r s values replies p (x ∷ ports) (y ∷ olds) h =
-    ap₂ (λ (a : Timer) bs. a ∷ bs) (by x.role (h 0 x refl))
-    (next_same r s values replies (suc p) ports olds (λ q port is down. let place : suc p + q ≡ p + suc q = omega arith in ap (λ n. interval_by (replies n)) place ∙ h (suc q) port is down))
-  where
-    by : (role : Role) → (role ≡ TimeClock Countdown → interval_by (replies (p + 0)) ≡ shown_interval r (written r s values) x) → timer_behind role r.plan.resolution s.t (value values p) (replies p) y ≡ next_timer role r s values p x y
-    by (TimeClock Countdown) shown =
-        let place : p ≡ p + 0 = omega arith in
-        ap (λ (i : Interval). answered r.plan.resolution s.t i (if is_active (value values p) then Never else y)) (ap (λ n. interval_by (replies n)) place ∙ shown refl)
-    by (TimeClock (Periodic interval shift)) shown = refl
-    by (TimeClock Answered) shown = refl
-    by (Input feed) shown = refl
-    by Output shown = refl
-    by (ClockInput feed) shown = refl
-    by ClockOutput shown = refl
 
 -- ---- where a port stands before it goes on
 
@@ -551,31 +440,16 @@ module _ (system : System) (sound : IsSound system) (per_second t k : ℕ) (is_f
     left = λ p m. refl;
   }
 
-  pub rearming_all : AsksIntervals system per_second t values (timers_in before) (timers_in table) olds mids (Ok armed)
+  pub rearming_rearms : Rearms system per_second t values (timers_in before) (timers_in table) all.log
   unfolding explains_whole
+  rearming_rearms = record { explains = explains_whole; timers_are = timers_are }
+
+  pub rearming_all : AsksIntervals system per_second t values (timers_in before) (timers_in table) olds mids (Ok armed)
   rearming_all = record {
     log = all.log;
     told = all.told;
     says = (
-      rearms,
+      rearming_rearms,
       all.armed_is ∙ ap (list_any (is_armed_for t)) (take_all k (timers_in table) (let a = length-map table.clocks timer_in in let b = len in let w = whole in omega (arith, a, b, w))),
     );
   }
-    where
-      rearms : Rearms system per_second t values (timers_in before) (timers_in table) all.log
-      rearms = record { explains = explains_whole; timers_are = timers_are }
-
-  pub rearming_machines : RearmsForMachines system per_second t values (timers_in before) (timers_in table) olds mids
-  rearming_machines r s same counts machines situation at_point timers at =
-      let many : length (written r s values) ≡ length r.system.components = each_many r s.states (λ i c m state. if c.shape.has_event_mode then state_with r.system.ports values i m state else state) machines.count situation.states in
-      let done = all.machines r (written r s values) same machines.count many at in (
-        done.0,
-        timers_are
-            ∙ ap₂ (λ (x : System) (olds : List Timer). timers_behind_from per_second t values replies 0 x.ports olds) (sym same) (sym timers)
-            ∙ ap₂ (λ (n m : ℕ). timers_behind_from n m values replies 0 r.system.ports s.timers) (sym counts) (sym at_point)
-            ∙ next_same r s values replies 0 r.system.ports s.timers
-            (λ q port is down.
-            let place : 0 + q ≡ q = omega arith in
-            let own : slice_get system.ports q ≡ Some port = ap (λ (x : System). slice_get x.ports q) (sym same) ∙ is in
-            ap (λ n. interval_by (replies n)) place ∙ done.1 q port (let a = slice_get_within system.ports q port own in let w = whole in omega (arith, a, w)) own down),
-      )

@@ -1,9 +1,10 @@
 -- What holds of the calls of a walk, by what holds of those of each port.
-use Rattle.std.proofs.Common.{◌≡◌, ℕ, zero, suc, ℤ, List, [], ◌∷◌, ◌++◌, Option, Some, None, refl, subst}
+use Rattle.std.proofs.Common.{◌≡◌, ℕ, zero, suc, ℤ, List, [], ◌∷◌, ◌++◌, Option, Some, None, Ok, refl, subst}
 use Rattle.std.specs.Prelude.{All, slice_get}
 use Rattle.std.specs.Option.{option_and_then, option_map_or}
 use Rattle.std.proofs.lemmas.List.Elements.{All-append, All-cons, All-head, All-nil, All-tail}
 use Rattle.std.proofs.lemmas.Option.{same_Some}
+use Rattle.fmi_calls.specs.declared.call.Call.{Call}
 use Rattle.fmi_calls.specs.declared.call.Reply.{Reply}
 use Rattle.system_model.specs.declared.system.Component.{Component}
 use Rattle.system_model.specs.declared.system.Port.{Port}
@@ -20,6 +21,12 @@ module _ {X : Type 0} (P : X → Type 0) where
   all_back : (xs ys : List X) → All P (xs ++ ys) → All P ys
   all_back [] ys all = all
   all_back (x ∷ xs) ys all = all_back xs ys (All-tail P x (xs ++ ys) all)
+
+-- the call of a port, if there is one
+pub sent_by : (P : Sent → Type 0) (i : ℕ) (o : Option Call) (reply : Option Reply) → ((call : Call) (y : Reply) → o ≡ Some call → reply ≡ Some y → P (record { component = i; exchange = record { call = call; result = Ok y } })) → All P (sent_of i o reply)
+sent_by P i None reply h = All-nil P
+sent_by P i (Some call) None h = All-nil P
+sent_by P i (Some call) (Some y) h = All-cons P _ [] (h call y refl refl) (All-nil P)
 
 module _ (P : Sent → Type 0) (system : System) (rules : Rules) (values : List (Option ℤ)) (replies : ℕ → Option Reply) where
   pub said_by : (p : ℕ) →

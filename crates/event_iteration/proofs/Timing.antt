@@ -9,7 +9,6 @@ use Rattle.fmi_calls.specs.declared.call.Call.TheVariants as C
 use Rattle.fmi_calls.specs.declared.call.Interval.{Interval}
 use Rattle.fmi_calls.specs.declared.call.Interval.TheVariants.{NotYetKnown}
 use Rattle.fmi_calls.specs.declared.call.Reply.{Reply}
-use Rattle.fmu_peer.specs.declared.peer.Exchange.{Exchange}
 use Rattle.fmu_peer.specs.declared.peer.PeerFault.{PeerFault}
 use Rattle.fmu_peer.specs.Machine.{Machine, MachineState, after}
 use Rattle.system_model.specs.declared.system.Component.{Component}
@@ -21,36 +20,25 @@ use Rattle.system_model.specs.declared.system.System.{System}
 use Rattle.system_model.specs.Sound.{IsSound}
 use Rattle.system_model.proofs.CallerLemmas.{all_by_place, place_of}
 use Rattle.run_model.specs.AfterInstant.{next_timer, next_timers, next_timers_from, written}
-use Rattle.run_model.specs.Initial.{asked_timer, first_timer, first_timers, interval_in, shift_in}
+use Rattle.run_model.specs.Initial.{asked_timer, first_timer, first_timers, interval_in}
 use Rattle.run_model.specs.Inputs.{is_active}
 use Rattle.run_model.specs.Run.{IsFmu, Run, Situation, Timer, Every, Never, at_fmu, value}
 use Rattle.run_model.specs.Timers.{answered, fixed}
 use Rattle.slot_calls.specs.Log.{Asking, Sent, asking_of, askings}
-use Rattle.slot_calls.specs.Replies.{AreReplies, states_by}
+use Rattle.slot_calls.specs.Replies.{AreReplies}
 use Rattle.slot_calls.specs.Stage.{IsAnswered, shapes_of}
 use Rattle.slot_calls.proofs.CallerLemmas.{first_same, rest_same, sent_all}
-use Rattle.event_iteration.specs.Explains.{Explains, all_said, said}
+use Rattle.event_iteration.specs.Explains.{Explains}
 use Rattle.event_iteration.specs.Intervals.{Rearms, asks_interval, first_told, first_told_by, first_told_in, interval_by, intervals, log_behind, shift_by, timer_behind, timers_behind_from, timing_calls, timing_calls_in, timing_calls_of}
 use Rattle.event_iteration.specs.Settings.{port_order}
 use Rattle.event_iteration.specs.Turns.{IsPaired, sent_of}
 use Rattle.event_iteration.proofs.Fmus.{at_fmu-is, got}
 use Rattle.event_iteration.proofs.Rounds.{components_there}
-use Rattle.event_iteration.proofs.Said.{all_said_by, said_at, said_by}
+use Rattle.event_iteration.proofs.Said.{all_said_by, said_at, said_by, sent_by}
 use Rattle.event_iteration.proofs.Setting.{in_order, port_number}
 use Rattle.event_iteration.proofs.Stages.{AreAll, IsRead, IsShown, Reads, fmu_of, reads_shown}
 use Rattle.event_iteration.proofs.WalkAnswers.{last_alone_is_bad}
 use Rattle.event_iteration.proofs.Walking.{call_at-is, said-is}
-
--- what holds of a question for an interval holds of that of a port, if there is one
-asked_once : (P : Call → Type 0) (i : ℕ) (role : Role) (port : Port) (reply : Option Reply) → P (C.GetInterval port.reference) → All (λ (s : Sent). P s.exchange.call) (sent_of i (asks_interval role port) reply)
-asked_once P i (TimeClock Countdown) port None h = All-nil (λ (s : Sent). P s.exchange.call)
-asked_once P i (TimeClock Countdown) port (Some reply) h = All-cons (λ (s : Sent). P s.exchange.call) _ [] h (All-nil (λ (s : Sent). P s.exchange.call))
-asked_once P i (TimeClock (Periodic interval shift)) port reply h = All-nil (λ (s : Sent). P s.exchange.call)
-asked_once P i (TimeClock Answered) port reply h = All-nil (λ (s : Sent). P s.exchange.call)
-asked_once P i (Input feed) port reply h = All-nil (λ (s : Sent). P s.exchange.call)
-asked_once P i Output port reply h = All-nil (λ (s : Sent). P s.exchange.call)
-asked_once P i (ClockInput feed) port reply h = All-nil (λ (s : Sent). P s.exchange.call)
-asked_once P i ClockOutput port reply h = All-nil (λ (s : Sent). P s.exchange.call)
 
 -- a question for an interval asks for one of a countdown Clock
 pub asked_interval : (role : Role) (port : Port) (call : Call) → asks_interval role port ≡ Some call → (role ≡ TimeClock Countdown) × (call ≡ C.GetInterval port.reference)
@@ -65,8 +53,8 @@ asked_interval ClockOutput port call h = absurd (cc)
 pub intervals_read : (system : System) (before values : List (Option ℤ)) (taken : List ℕ) (log : List Sent) → Explains system intervals before taken values log → All IsRead log
 intervals_read system before values taken log e =
     subst (All IsRead) (sym e.log_is)
-    (all_said_by IsRead system intervals values e.replies taken
-    (λ k d w. said_by IsRead system intervals values e.replies _ (λ port c is of. asked_once Reads port.component.0 port.role port (e.replies _) (λ m z. refl))))
+    (all_said_by IsRead system intervals values e.replies taken (λ k d w. said_by IsRead system intervals values e.replies _
+    (λ port c is of. sent_by IsRead port.component.0 (asks_interval port.role port) (e.replies _) (λ call y asks told m z. ap (after m z) (asked_interval port.role port call asks).1))))
 
 -- ---- countdown Clocks
 
@@ -219,7 +207,7 @@ module _ (r : Run) (ss : List MachineState) (all : AreAll r ss) where
 
   first_from : (ports : List Port) → All IsThere ports → TellsOf ports
   first_from [] there log calls shown = refl
-  first_from (port ∷ ports) there log calls shown = first_here port ports (All-head IsThere port ports there) (first_from ports (All-tail IsThere port ports there)) port.role log calls shown
+  first_from (port ∷ ports) there log calls told = first_here port ports (All-head IsThere port ports there) (first_from ports (All-tail IsThere port ports there)) port.role log calls told
 
   module _ (log : List Sent) (answered : IsAnswered (shapes_of r.system) (timing_calls r.system) log) where
     pub fixed_read : All IsRead log

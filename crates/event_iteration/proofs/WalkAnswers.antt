@@ -1,5 +1,5 @@
 -- The answers of a walk are good, or those up to the last.
-use Rattle.std.proofs.Common.{◌≡◌, ℕ, ◌<◌, ℤ, List, [], ◌∷◌, Option, Some, None, Ok, Contains, refl, sym, ap, ◌∙◌, subst, arith, length, get_or}
+use Rattle.std.proofs.Common.{◌≡◌, ℕ, ℤ, List, [], ◌∷◌, Option, Some, None, Ok, Contains, refl, sym, ap, ◌∙◌, subst, arith, get_or}
 use Rattle.std.specs.Prelude.{All}
 use Rattle.std.specs.List.{slice_get}
 use Rattle.std.specs.Option.{option_and_then, option_map_or}
@@ -21,41 +21,21 @@ use Rattle.event_iteration.specs.Explains.{Explains, all_said, call_at, said}
 use Rattle.event_iteration.specs.Turns.{IsPaired, Rules, sent_of}
 use Rattle.event_iteration.specs.WalkCalls.{LastAloneIsBad}
 use Rattle.event_iteration.proofs.Permits.{shape_of_component}
+use Rattle.event_iteration.proofs.Said.{all_said_by, said_by, sent_by}
 
 module _ (system : System) (rules : Rules) (before : List (Option ℤ)) where
   abbrev Good : Sent → Type 0
   Good = IsGoodOf (shapes_of system)
 
-  sent_good : (i : ℕ) (c : Component) → slice_get system.components i ≡ Some c → (call : Option Call) (reply : Option Reply) → IsPaired c.shape call reply → All Good (sent_of i call reply)
-  sent_good i c of None reply paired = All-nil Good
-  sent_good i c of (Some call) None paired = absurd paired
-  sent_good i c of (Some call) (Some reply) paired =
-      All-cons Good (record { component = i; exchange = record { call = call; result = Ok reply } }) [] (λ d. subst (λ (s : Shape). grade_of s call reply ≡ G.Good) (shape_of_component system i c of d) paired) (All-nil Good)
-
-  abbrev IsPairedAt : List (Option ℤ) → (ℕ → Option Reply) → ℕ → Type 0
-  IsPairedAt values replies p = (port : Port) (c : Component) → slice_get system.ports p ≡ Some port → slice_get system.components port.component.0 ≡ Some c → IsPaired c.shape (rules.asks p port c values) (replies p)
-
-  said_good : (values : List (Option ℤ)) (replies : ℕ → Option Reply) (p : ℕ) → IsPairedAt values replies p → All Good (said system rules values replies p)
-  said_good values replies p paired = of_port (slice_get system.ports p) refl where
-    of_component : (port : Port) → slice_get system.ports p ≡ Some port → (o : Option Component) → slice_get system.components port.component.0 ≡ o →
-        All Good (sent_of port.component.0 (option_and_then (λ (c : Component). rules.asks p port c values) o) (replies p))
-    of_component port at None of = All-nil Good
-    of_component port at (Some c) of = sent_good port.component.0 c of (rules.asks p port c values) (replies p) (paired port c at of)
-
-    of_port : (o : Option Port) → slice_get system.ports p ≡ o → All Good (option_map_or (λ (port : Port). sent_of port.component.0 (call_at system rules values p port) (replies p)) o [])
-    of_port None at = All-nil Good
-    of_port (Some port) at = of_component port at (slice_get system.components port.component.0) refl
-
-  all_good : (values : List (Option ℤ)) (replies : ℕ → Option Reply) (ps : List ℕ) → All (IsPairedAt values replies) ps → All Good (all_said system rules values replies ps)
-  all_good values replies [] all = All-nil Good
-  all_good values replies (p ∷ ps) all =
-      All-append Good (said system rules values replies p) (all_said system rules values replies ps) (said_good values replies p (All-head (IsPairedAt values replies) p ps all))
-      (all_good values replies ps (All-tail (IsPairedAt values replies) p ps all))
+  good_call : (i : ℕ) (c : Component) → slice_get system.components i ≡ Some c → (o : Option Call) (reply : Option Reply) → IsPaired c.shape o reply → All Good (sent_of i o reply)
+  good_call i c of o reply paired = sent_by Good i o reply (λ call y asks told d.
+      subst (λ (s : Shape). grade_of s call y ≡ G.Good) (shape_of_component system i c of d) (subst (IsPaired c.shape (Some call)) told (subst (λ (x : Option Call). IsPaired c.shape x reply) asks paired)))
 
   walk_good : (taken : List ℕ) (values : List (Option ℤ)) (log : List Sent) → Explains system rules before taken values log → All Good log
   walk_good taken values log e =
-      subst (All Good) (sym e.log_is) (all_good values e.replies taken
-      (All-weaker (Contains taken) (IsPairedAt values e.replies) (λ p m port c at of. e.paired p port c at of m) taken (All-contains_itself taken)))
+      subst (All Good) (sym e.log_is) (all_said_by Good system rules values e.replies taken (λ k d w.
+      let member = All-contains_itself taken k d w in
+      said_by Good system rules values e.replies (get_or taken k d) (λ port c is of. good_call port.component.0 c of (rules.asks (get_or taken k d) port c values) (e.replies (get_or taken k d)) (e.paired (get_or taken k d) port c is of member))))
 
 pub last_alone_is_bad : LastAloneIsBad
 last_alone_is_bad system rules before order values log = record {

@@ -1,7 +1,6 @@
 -- The laws of a walk's log, for proofs of callers.
 use Rattle.std.proofs.Common.{◌<◌, Bool, true, false, arith}
 use Rattle.system_model.specs.Ports.{numbers}
-use Rattle.system_model.specs.Sound.{IsSound}
 use Rattle.event_iteration.specs.Initialization.{initially}
 use Rattle.event_iteration.specs.Instants.{in_instant}
 use Rattle.event_iteration.specs.Intervals.{intervals}

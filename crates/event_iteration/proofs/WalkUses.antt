@@ -1,5 +1,5 @@
 -- What the turn of each port asks: it reads or sets the port, or asks for its timing.
-use Rattle.std.proofs.Common.{◌≡◌, ℕ, ℤ, ◌<◌, ◌≤◌, Bool, true, false, List, Option, Some, None, refl, sym, ap, ◌∙◌, subst, arith, length}
+use Rattle.std.proofs.Common.{◌≡◌, ℕ, ℤ, ◌<◌, ◌≤◌, Bool, true, false, List, Option, Some, None, refl, sym, ap, ◌∙◌, subst, arith}
 use Rattle.std.specs.Prelude.{if◌then◌else◌, option_map}
 use Rattle.std.specs.List.{slice_get}
 use Rattle.std.specs.Option.{option_map_or}
@@ -11,7 +11,7 @@ use Rattle.system_model.specs.declared.system.Port.{Port}
 use Rattle.system_model.specs.declared.system.Role.{Role}
 use Rattle.system_model.specs.declared.system.Role.TheVariants.{Input, Output, ClockInput, ClockOutput, TimeClock}
 use Rattle.system_model.specs.declared.system.System.{System}
-use Rattle.system_model.specs.declared.system.Timing.TheVariants.{Periodic, Answered, Countdown}
+use Rattle.system_model.specs.declared.system.Timing.TheVariants.{Countdown}
 use Rattle.system_model.specs.Ports.{is_clock_role}
 use Rattle.system_model.specs.Sound.{IsSound}
 use Rattle.system_model.proofs.CallerLemmas.{events_of, place_of}
@@ -24,7 +24,7 @@ use Rattle.event_iteration.specs.Instants.{asks_in_instant, in_instant}
 use Rattle.event_iteration.specs.Intervals.{asks_interval, intervals}
 use Rattle.event_iteration.specs.Settings.{before_step, sets_to}
 use Rattle.event_iteration.specs.Turns.{Rules}
-use Rattle.event_iteration.specs.WalkCalls.{IsUse, Span, has_events_at, initial_span, instant_span, interval_span, step_span, timing_span, use_in}
+use Rattle.event_iteration.specs.WalkCalls.{IsUse, Span, has_events_at, initial_span, instant_span, interval_span, step_span}
 
 -- the variable that a call names
 abbrev pub reference_in : Call → ℕ

@@ -123,7 +123,7 @@ pub record LastIsBad (shapes : List Shape) (bad : BadAnswer) (log : List Sent) :
   pub within : last.component < length shapes
 
 -- the answers of a walk are good, or those up to the last
-pub record AnswersAre (system : System) (rules : Rules) (before : List (Option ℤ))
+pub record WalkAnswers (system : System) (rules : Rules) (before : List (Option ℤ))
     (order : List ℕ) (values : List (Option ℤ)) (log : List Sent) : Type 0 where
   pub good : Explains system rules before order values log → All (IsGoodOf (shapes_of system)) log
   pub bad : (bad : BadAnswer) → ExplainsUntil system rules before order bad values log →
@@ -133,4 +133,4 @@ abbrev pub LastAloneIsBad : Type 0
 LastAloneIsBad =
     (system : System) (rules : Rules) (before : List (Option ℤ)) (order : List ℕ)
     (values : List (Option ℤ)) (log : List Sent) →
-    AnswersAre system rules before order values log
+    WalkAnswers system rules before order values log

@@ -12,3 +12,4 @@ pub mod Instants
 pub mod StepCalls
 pub mod Bounds
 pub mod Rest
+pub mod TraceLaw

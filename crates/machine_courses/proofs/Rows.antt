@@ -55,7 +55,7 @@ module _ (r : Run) (more : List Sent) where
   behind : (ss xs ys : List MachineState) → ss ≡ xs → states_by r xs more ≡ ys → states_by r ss more ≡ ys
   behind ss xs ys is leads = ap (λ (zs : List MachineState). states_by r zs more) is ∙ leads
 
-  inside : (ss xs : List MachineState) → ss ≡ xs → AreReplies r ss more → AreReplies r xs more
+  pub inside : (ss xs : List MachineState) → ss ≡ xs → AreReplies r ss more → AreReplies r xs more
   inside ss xs is replies = subst (λ (zs : List MachineState). AreReplies r zs more) is replies
 
   -- a part that sends nothing

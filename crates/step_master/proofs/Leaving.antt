@@ -1,39 +1,252 @@
--- How the calls of a run leave an instance: so that it can be closed.
-use Rattle.std.proofs.Common.{◌≡◌, ◌⊎◌, inl, inr, Bool, true, false, List, [], ◌∷◌, ◌++◌, Option, Some, None, Result, Ok, Err, refl, sym, ap, ap₂, ◌∙◌, subst}
-use Rattle.std.specs.Prelude.{All, if◌then◌else◌}
-use Rattle.std.specs.Result.{result_ok}
-use Rattle.std.proofs.lemmas.List.Elements.{All-head, All-tail}
-use Rattle.value_types.specs.declared.shape.Shape.{Shape}
+-- A chain of exchanges with one instance, and how its calls leave it: behind a run so that it can be closed, and behind its closing unmade, gone or lost, or keeping a state.
+use Rattle.std.proofs.Common.{◌≡◌, ℕ, ◌≤◌, inl, inr, true, false, List, [], ◌∷◌, ◌++◌, Option, Some, None, Result, Ok, Err, refl, sym, ap, ◌∙◌, subst, append_assoc, arith, ◌⊎◌, Bool, ap₂}
+use Rattle.std.specs.Prelude.{◌||◌, All, IfSome, MatchResult, if◌then◌else◌}
+use Rattle.std.specs.List.{list_any}
+use Rattle.std.specs.Result.{is_err, result_ok}
+use Rattle.std.proofs.lemmas.List.{append-nil}
+use Rattle.std.proofs.lemmas.List.Elements.{All-nil, All-cons, All-head, All-tail}
+use Rattle.sim_base.specs.Causes.{HasCause, Rose}
 use Rattle.fmi_calls.specs.declared.call.Call.{Call}
-use Rattle.fmi_calls.specs.declared.call.Call.TheVariants as C
-use Rattle.fmi_calls.specs.declared.call.Kind.{Kind}
-use Rattle.fmi_calls.specs.declared.call.Kind.TheVariants as K
 use Rattle.fmi_calls.specs.declared.call.Reply.{Reply}
-use Rattle.fmi_calls.specs.declared.call.Reply.TheVariants as R
-use Rattle.fmi_calls.specs.declared.call.BadStatus.{BadStatus}
-use Rattle.fmi_calls.specs.declared.call.BadStatus.TheVariants.{Discard, Error, Fatal}
-use Rattle.fmi_calls.specs.declared.call.Grade.{Grade}
-use Rattle.fmi_calls.specs.declared.call.Grade.TheVariants as G
 use Rattle.fmi_calls.specs.declared.phase.Phase.{Phase}
-use Rattle.fmi_calls.specs.declared.phase.InstanceState.{InstanceState}
-use Rattle.fmi_calls.specs.declared.phase.InstanceState.TheVariants as P
-use Rattle.fmi_calls.specs.KindFacts.{IsRunCall, same_kind}
-use Rattle.fmi_calls.specs.Kinds.{bad_status_of}
-use Rattle.fmi_calls.specs.Next.{fresh, graded, counted, entered, next_of, state_after_bad}
-use Rattle.fmi_calls.specs.Permission.{Permitted, can_be_freed}
-use Rattle.fmi_calls.specs.Worth.{grade_of, is_valid}
 use Rattle.fmu_peer.specs.declared.peer.Exchange.{Exchange}
 use Rattle.fmu_peer.specs.declared.peer.PeerFault.{PeerFault}
+use Rattle.fmu_peer.specs.Close.{SendsInTurn}
+use Rattle.fmu_peer.specs.Talk.{LegalFrom, phase_from, Closed, EndsFreed, EndsKeeping, IsGood, Legal, StartsBadly, next_by, phase_after}
+use Rattle.fmu_peer.specs.View.{View, Fixed, talked}
+use Rattle.step_master.specs.Lives.{Counts, is_unanswered, Freed, IsLife, IsOver, Keeping, Life, LostHere, Unasked, shape_in, talk_in}
+use Rattle.course_laws.specs.Laws.{calls_in}
+use Rattle.slot_calls.specs.Log.{Talks, Has}
+use Rattle.value_types.specs.declared.shape.Shape.{Shape}
+use Rattle.fmi_calls.specs.declared.call.BadStatus.{BadStatus}
+use Rattle.fmi_calls.specs.declared.call.Grade.{Grade}
+use Rattle.fmi_calls.specs.declared.phase.InstanceState.{InstanceState}
+use Rattle.fmi_calls.specs.Kinds.{bad_status_of}
+use Rattle.fmi_calls.specs.Next.{counted, fresh, graded, next_of, state_after_bad, entered}
+use Rattle.fmi_calls.specs.Permission.{Permitted, can_be_freed, can_be_read, can_be_set, can_be_ticked, has_interval, has_shift, is_input_clock, is_output_clock, is_running}
+use Rattle.fmi_calls.specs.Worth.{grade_of, is_valid}
+use Rattle.fmu_peer.proofs.CallerLemmas.{phase_from-append}
+use Rattle.fmi_calls.specs.declared.call.Kind.{Kind}
+use Rattle.fmi_calls.specs.declared.call.BadStatus.TheVariants.{Discard, Error, Fatal}
+use Rattle.fmi_calls.specs.KindFacts.{IsRunCall, same_kind}
 use Rattle.fmu_peer.specs.CloseAll.{Instance, IsLeft, Stands}
 use Rattle.fmu_peer.specs.Mode.{is_over}
-use Rattle.fmu_peer.specs.Talk.{EndsKeeping, IsGood, LegalFrom, StartsBadly, next_by, phase_from}
-use Rattle.fmu_peer.specs.View.{View, Fixed}
-use Rattle.course_laws.specs.Laws.{calls_in}
-use Rattle.slot_calls.specs.Log.{Has, Talks}
 use Rattle.slot_calls.specs.SavedStates.{IsGivenUp, if_good, saved_after, saved_by}
 use Rattle.slot_calls.proofs.CallerLemmas.{talks_fixed}
-use Rattle.step_master.proofs.Over.{only_start}
-use Rattle.step_master.proofs.Talking.{talks_legal, talks_phase}
+use Rattle.fmi_calls.specs.declared.call.BadStatus.TheVariants as B
+use Rattle.fmi_calls.specs.declared.call.Call.TheVariants as C
+use Rattle.fmi_calls.specs.declared.call.Grade.TheVariants as G
+use Rattle.fmi_calls.specs.declared.call.Kind.TheVariants as K
+use Rattle.fmi_calls.specs.declared.call.Reply.TheVariants as R
+use Rattle.fmi_calls.specs.declared.phase.InstanceState.TheVariants as P
+
+-- ---- phase and permission
+
+pub talks_phase : (v : View) (es : List Exchange) (w : View) → Talks v es w → w.phase ≡ phase_from v.fixed.shape v.phase es
+talks_phase v [] w t = ap (λ (x : View). x.phase) t
+talks_phase v (e ∷ es) w (mid, may, asked, rest) =
+    talks_phase mid es w rest ∙ ap (λ (f : Fixed). phase_from f.shape mid.phase es) asked.fixed ∙ ap (λ (p : Phase). phase_from v.fixed.shape p es) asked.phase
+
+pub talks_legal : (v : View) (es : List Exchange) (w : View) → Talks v es w → LegalFrom v.fixed.shape v.phase es
+talks_legal v [] w t = tt
+talks_legal v (e ∷ es) w (mid, may, asked, rest) = (
+  may,
+  subst (λ (p : Phase). LegalFrom v.fixed.shape p es) asked.phase (subst (λ (f : Fixed). LegalFrom f.shape mid.phase es) asked.fixed (talks_legal mid es w rest)),
+)
+
+-- ---- the told talk
+
+abbrev more_told : Option (List Exchange) → List Exchange → Option (List Exchange)
+more_told None es = None
+more_told (Some old) es = Some (old ++ es)
+
+told_then : (o : Option (List Exchange)) (e : Exchange) (es : List Exchange) → more_told (talked o e.call e.result) es ≡ more_told o (e ∷ es)
+told_then None e es = refl
+told_then (Some old) e es = ap Some (append_assoc old (e ∷ []) es)
+
+told_same : (o : Option (List Exchange)) → o ≡ more_told o []
+told_same None = refl
+told_same (Some old) = ap Some (sym (append-nil old))
+
+-- a told talk grows by the exchanges
+talk_grows : (v : View) (es : List Exchange) (w : View) → Talks v es w → w.talk ≡ more_told v.talk es
+talk_grows v [] w t = ap (λ (x : View). x.talk) t ∙ told_same v.talk
+talk_grows v (e ∷ es) w (mid, may, asked, rest) = talk_grows mid es w rest ∙ ap (λ (o : Option (List Exchange)). more_told o es) asked.talk ∙ told_then v.talk e es
+
+told_first : (o : Option (List Exchange)) (es : List Exchange) → IfSome o (λ l. l ≡ []) → IfSome (more_told o es) (λ l. l ≡ es)
+told_first None es h = tt
+told_first (Some old) es h = ap (λ (l : List Exchange). l ++ es) h
+
+-- from its first exchange on a told talk has these
+pub talk_is : (v : View) (es : List Exchange) (w : View) → IfSome v.talk (λ l. l ≡ []) → Talks v es w → IfSome w.talk (λ l. l ≡ es)
+talk_is v es w none t = subst (λ (o : Option (List Exchange)). IfSome o (λ l. l ≡ es)) (sym (talk_grows v es w t)) (told_first v.talk es none)
+
+-- ---- the count of faults
+
+count_on : (a b c : ℕ) (r : Result Reply PeerFault) (es : List Exchange) → HasCause a b r → Counts b c es →
+    (a ≤ c) × (((is_err r || list_any is_unanswered es) ≡ false → c ≡ a) × ((is_err r || list_any is_unanswered es) ≡ true → Rose a c))
+count_on a b c (Ok reply) es cause more = (
+  (let x = cause.later in let y = more.later in omega (arith, x, y)),
+  ((λ none. more.quiet none ∙ cause.quiet), (λ some. subst (λ (n : ℕ). Rose n c) cause.quiet (more.rose some))),
+)
+count_on a b c (Err fault) es cause more = (
+  (let x = cause.later in let y = more.later in omega (arith, x, y)),
+  ((λ none. absurd (cc)), (λ some. let x = cause.rose in let y = more.later in omega (arith, x, y))),
+)
+
+pub counts_of : (v : View) (es : List Exchange) (w : View) → Talks v es w → Counts v.faults w.faults es
+counts_of v [] w t =
+    let same : w.faults ≡ v.faults = ap (λ (x : View). x.faults) t in
+    record { later = omega (arith, same); quiet = λ none. same; rose = λ some. absurd (cc) }
+counts_of v (e ∷ es) w (mid, may, asked, rest) =
+    let all = count_on v.faults mid.faults w.faults e.result es asked.cause (counts_of mid es w rest) in
+    record { later = all.0; quiet = all.1.0; rose = all.1.1 }
+
+-- ---- calls that are sent in turn
+
+pub turn_talks : (cs : List Call) (v : View) (es : List Exchange) (w : View) → SendsInTurn cs v es w → Talks v es w
+turn_talks [] v es w (none, same) = subst (λ (l : List Exchange). Talks v l w) (sym none) same
+turn_talks (c ∷ cs) v es w (inl (may, (result, rest, mid, is, asked, more))) = subst (λ (l : List Exchange). Talks v l w) (sym is) (mid, may, asked, turn_talks cs mid rest w more)
+turn_talks (c ∷ cs) v es w (inr (never, more)) = turn_talks cs v es w more
+
+-- what holds of the calls holds of those that were sent
+pub turn_all : (P : Call → Type 0) (cs : List Call) (v : View) (es : List Exchange) (w : View) → All P cs → SendsInTurn cs v es w → All P (calls_in es)
+turn_all P [] v es w all (none, same) = subst (λ (l : List Exchange). All P (calls_in l)) (sym none) (All-nil P)
+turn_all P (c ∷ cs) v es w all (inl (may, (result, rest, mid, is, asked, more))) =
+    subst (λ (l : List Exchange). All P (calls_in l)) (sym is) (All-cons P c (calls_in rest) (All-head P c cs all) (turn_all P cs mid rest w (All-tail P c cs all) more))
+turn_all P (c ∷ cs) v es w all (inr (never, more)) = turn_all P cs v es w (All-tail P c cs all) more
+
+-- gone, or lost
+abbrev IsEnded : InstanceState → Type 0
+IsEnded state = (state ≡ P.Gone) ⊎ (state ≡ P.Lost)
+
+-- ---- no call is permitted of an instance that is gone or lost, and of one that isn't made none but the one that makes it
+
+abbrev IsUnmade : InstanceState → Type 0
+IsUnmade state = (state ≡ P.Fresh) ⊎ IsEnded state
+
+unpassed : (test : InstanceState → Bool) (state : InstanceState) → IsUnmade state → test P.Fresh ≡ false → test P.Gone ≡ false → test P.Lost ≡ false → test state ≡ true → ⊥
+unpassed test state (inl fresh) a b c h = absurd (let k : true ≡ false = sym h ∙ ap test fresh ∙ a in cc)
+unpassed test state (inr (inl gone)) a b c h = absurd (let k : true ≡ false = sym h ∙ ap test gone ∙ b in cc)
+unpassed test state (inr (inr lost)) a b c h = absurd (let k : true ≡ false = sym h ∙ ap test lost ∙ c in cc)
+
+-- it stands in no other state
+elsewhere : (state wanted : InstanceState) → IsUnmade state → state ≡ wanted → (P.Fresh ≡ wanted → ⊥) → (P.Gone ≡ wanted → ⊥) → (P.Lost ≡ wanted → ⊥) → ⊥
+elsewhere state wanted (inl fresh) is a b c = a (sym fresh ∙ is)
+elsewhere state wanted (inr (inl gone)) is a b c = b (sym gone ∙ is)
+elsewhere state wanted (inr (inr lost)) is a b c = c (sym lost ∙ is)
+
+makes : (shape : Shape) (phase : Phase) (call : Call) → IsUnmade phase.state → Permitted shape phase call → (event_mode early_return : Bool) × (call ≡ C.Instantiate event_mode early_return)
+makes shape phase (C.Instantiate event_mode early_return) un p = (event_mode, early_return, refl)
+makes shape phase (C.EnterInitialization start stop) un p = absurd (elsewhere phase.state P.Instantiated un p.0 (λ e. cc) (λ e. cc) (λ e. cc))
+makes shape phase C.ExitInitialization un p = absurd (elsewhere phase.state P.Initialization un p (λ e. cc) (λ e. cc) (λ e. cc))
+makes shape phase (C.Get kind reference) un p = absurd (unpassed (λ s. can_be_read s shape phase.marks phase.active reference) phase.state un refl refl refl p.0)
+makes shape phase (C.Set kind reference value) un p = absurd (unpassed (λ s. can_be_set s shape phase.marks phase.active reference) phase.state un refl refl refl p.0)
+makes shape phase C.Terminate un p = absurd (unpassed is_running phase.state un refl refl refl p.0)
+makes shape phase C.FreeInstance un p = absurd (unpassed (λ s. can_be_freed s phase.slot.is_full) phase.state un refl refl refl p)
+makes shape phase C.EnterStep un p = absurd (elsewhere phase.state P.Event un p.0 (λ e. cc) (λ e. cc) (λ e. cc))
+makes shape phase C.Update un p = absurd (elsewhere phase.state P.Event un p (λ e. cc) (λ e. cc) (λ e. cc))
+makes shape phase (C.GetClock reference) un p = absurd (unpassed (λ s. can_be_ticked is_output_clock s shape phase.marks reference) phase.state un refl refl refl p)
+makes shape phase (C.SetClock reference) un p = absurd (unpassed (λ s. can_be_ticked is_input_clock s shape phase.marks reference) phase.state un refl refl refl p)
+makes shape phase (C.GetInterval reference) un p = absurd (unpassed (λ s. has_interval s shape reference) phase.state un refl refl refl p)
+makes shape phase (C.GetShift reference) un p = absurd (unpassed (λ s. has_shift s shape reference) phase.state un refl refl refl p)
+makes shape phase call un p = absurd (elsewhere phase.state P.Step un p.0 (λ e. cc) (λ e. cc) (λ e. cc))
+
+pub only_start : (shape : Shape) (call : Call) → Permitted shape (fresh shape) call → (event_mode early_return : Bool) × (call ≡ C.Instantiate event_mode early_return)
+only_start shape call p = makes shape (fresh shape) call (inl refl) p
+
+none_permitted : (shape : Shape) (phase : Phase) (call : Call) → IsEnded phase.state → Permitted shape phase call → ⊥
+none_permitted shape phase call ended p = by (makes shape phase call (inr ended) p) ended where
+  by : ((event_mode early_return : Bool) × (call ≡ C.Instantiate event_mode early_return)) → IsEnded phase.state → ⊥
+  by (event_mode, early_return, is) (inl gone) = absurd (let e : P.Gone ≡ P.Fresh = sym gone ∙ (subst (Permitted shape phase) is p).0 in cc)
+  by (event_mode, early_return, is) (inr lost) = absurd (let e : P.Lost ≡ P.Fresh = sym lost ∙ (subst (Permitted shape phase) is p).0 in cc)
+
+none_behind : (shape : Shape) (phase : Phase) (es : List Exchange) → IsEnded phase.state → LegalFrom shape phase es → es ≡ []
+none_behind shape phase [] ended legal = refl
+none_behind shape phase (e ∷ es) ended legal = absurd (none_permitted shape phase e.call ended legal.0)
+
+-- ---- an Instantiate that isn't good
+
+bad_start : (shape : Shape) (phase : Phase) (a b : Bool) (reply : Reply) (g : Grade) → (g ≡ G.Good → ⊥) → IsEnded (graded shape phase (C.Instantiate a b) reply g).state
+bad_start shape phase a b reply G.Good bad = absurd (bad refl)
+bad_start shape phase a b reply G.Misreply bad = inl refl
+bad_start shape phase a b reply G.Refused bad = by (bad_status_of reply) refl
+  where
+    by : (status : BadStatus) → bad_status_of reply ≡ status → IsEnded (graded shape phase (C.Instantiate a b) reply G.Refused).state
+    by B.Discard is = inl (ap (λ (s : BadStatus). state_after_bad phase.state (C.Instantiate a b) s) is)
+    by B.Error is = inl (ap (λ (s : BadStatus). state_after_bad phase.state (C.Instantiate a b) s) is)
+    by B.Fatal is = inr (ap (λ (s : BadStatus). state_after_bad phase.state (C.Instantiate a b) s) is)
+
+-- the phase behind it
+start_ended : (shape : Shape) (phase : Phase) (a b : Bool) (e : Exchange) → e.call ≡ C.Instantiate a b → (IsGood shape e → ⊥) → IsEnded (next_by shape phase e).state
+start_ended shape phase a b e is bad =
+    subst (λ (c : Call). IsEnded (next_of shape phase c (result_ok e.result)).state) (sym is) (by e.result (subst (λ (c : Call). MatchResult e.result (λ reply. grade_of shape c reply ≡ G.Good) (λ fault. ⊥) → ⊥) is bad))
+  where
+    by : (r : Result Reply PeerFault) → (MatchResult r (λ reply. grade_of shape (C.Instantiate a b) reply ≡ G.Good) (λ fault. ⊥) → ⊥) → IsEnded (next_of shape phase (C.Instantiate a b) (result_ok r)).state
+    by (Err fault) h = inr refl
+    by (Ok reply) h = bad_start shape (counted phase (C.Instantiate a b)) a b reply (grade_of shape (C.Instantiate a b) reply) h
+
+-- ---- an instance that was freed
+
+freed_graded : (shape : Shape) (phase : Phase) (reply : Reply) (g : Grade) → (graded shape phase C.FreeInstance reply g).state ≡ P.Gone
+freed_graded shape phase reply G.Good = refl
+freed_graded shape phase reply G.Refused = refl
+freed_graded shape phase reply G.Misreply = refl
+
+freed_ended : (shape : Shape) (phase : Phase) (e : Exchange) → e.call ≡ C.FreeInstance → IsEnded (next_by shape phase e).state
+freed_ended shape phase e is = subst (λ (c : Call). IsEnded (next_of shape phase c (result_ok e.result)).state) (sym is) (by e.result)
+  where
+    by : (r : Result Reply PeerFault) → IsEnded (next_of shape phase C.FreeInstance (result_ok r)).state
+    by (Err fault) = inr refl
+    by (Ok reply) = inl (freed_graded shape (counted phase C.FreeInstance) reply (grade_of shape C.FreeInstance reply))
+
+-- ---- a state that is kept
+
+kept_full : (shape : Shape) (phase : Phase) (e : Exchange) → e.call ≡ C.Free → e.result ≡ Ok (R.Refused K.Free B.Discard) → Permitted shape phase e.call → (next_by shape phase e).slot.is_full ≡ true
+kept_full shape phase e is result may =
+    let full : phase.slot.is_full ≡ true = (subst (Permitted shape phase) is may).2 in
+    ap (λ (c : Call). (next_of shape phase c (result_ok e.result)).slot.is_full) is
+    ∙ ap (λ (r : Result Reply PeerFault). (next_of shape phase C.Free (result_ok r)).slot.is_full) result ∙ full
+
+legal_last : (shape : Shape) (phase : Phase) (front : List Exchange) (last : Exchange) → LegalFrom shape phase (front ++ last ∷ []) → Permitted shape (phase_from shape phase front) last.call
+legal_last shape phase [] last legal = legal.0
+legal_last shape phase (e ∷ front) last legal = legal_last shape (next_by shape phase e) front last legal.1
+
+-- ---- the whole
+
+module _ (life : Life) (is : IsLife life) where
+  ended_over : (talk : List Exchange) → talk_in life ≡ talk → IsEnded (phase_after (shape_in life) talk).state → IsOver life
+  ended_over talk same (inl gone) = Freed (ap (λ (p : Phase). p.state) (is.phase ∙ ap (phase_after (shape_in life)) same) ∙ gone)
+  ended_over talk same (inr lost) = LostHere (ap (λ (p : Phase). p.state) (is.phase ∙ ap (phase_after (shape_in life)) same) ∙ lost)
+
+  badly_over : StartsBadly (shape_in life) (talk_in life) → IsOver life
+  badly_over s =
+      let shape = shape_in life in
+      let legal : LegalFrom shape (fresh shape) (s.first ∷ s.rest) = subst (Legal shape) s.is is.legal in
+      let start = only_start shape s.first.call legal.0 in
+      let ended : IsEnded (next_by shape (fresh shape) s.first).state = start_ended shape (fresh shape) start.0 start.1 s.first start.2 s.bad in
+      let none : s.rest ≡ [] = none_behind shape (next_by shape (fresh shape) s.first) s.rest ended legal.1 in
+      ended_over (s.first ∷ []) (s.is ∙ ap (λ (es : List Exchange). s.first ∷ es) none) ended
+
+  freed_over : EndsFreed (shape_in life) (fresh (shape_in life)) (talk_in life) → IsOver life
+  freed_over f =
+      let shape = shape_in life in
+      ended_over (f.front ++ f.last ∷ []) f.is
+      (subst (λ (p : Phase). IsEnded p.state) (sym (phase_from-append shape (fresh shape) f.front f.last)) (freed_ended shape (phase_from shape (fresh shape) f.front) f.last f.frees))
+
+  keeping_over : EndsKeeping (talk_in life) → IsOver life
+  keeping_over k =
+      let shape = shape_in life in
+      let may = legal_last shape (fresh shape) k.front k.last (subst (Legal shape) k.is is.legal) in
+      Keeping (ap (λ (p : Phase). p.slot.is_full) (is.phase ∙ ap (phase_after shape) k.is ∙ phase_from-append shape (fresh shape) k.front k.last)
+      ∙ kept_full shape (phase_from shape (fresh shape) k.front) k.last k.frees k.discarded may) k
+
+  pub closed_over : Closed (shape_in life) (talk_in life) → IsOver life
+  closed_over (inl none) = Unasked (ap (λ (p : Phase). p.state) (is.phase ∙ ap (phase_after (shape_in life)) none))
+  closed_over (inr (inl badly)) = badly_over badly
+  closed_over (inr (inr (inl lost))) = LostHere (ap (λ (p : Phase). p.state) is.phase ∙ lost)
+  closed_over (inr (inr (inr (inl freed)))) = freed_over freed
+  closed_over (inr (inr (inr (inr keeping)))) = keeping_over keeping
 
 -- ---- an instance that can be closed stays one
 

@@ -1,9 +1,6 @@
 mod Leaving
 mod Living
-mod Over
 mod Parted
-mod Prepared
 mod SeatLemmas
-mod Talking
 mod Told
 mod Wholes

@@ -21,11 +21,10 @@ use Rattle.step_master.specs.Lives.{IsLife, Life, any_fatal_closing, any_fatal_r
 use Rattle.course_laws.specs.Laws.{calls_in}
 use Rattle.slot_calls.specs.Log.{Has, Sent, Talks, part}
 use Rattle.slot_calls.specs.SavedStates.{IsParted, LeavesState, Talk, saved_after}
-use Rattle.step_master.proofs.Leaving.{leaves_one}
+use Rattle.step_master.proofs.Leaving.{counts_of, leaves_one, talk_is, talks_legal, talks_phase, turn_all, turn_talks}
 use Rattle.step_master.proofs.Parted.{Closes, is_parted, turn_closes, unsaved}
 use Rattle.slot_calls.proofs.CallerLemmas.{talks_fixed, talks_on, replies_of}
 use Rattle.step_master.proofs.SeatLemmas.{IsSeat}
-use Rattle.step_master.proofs.Talking.{counts_of, talk_is, talks_legal, talks_phase, turn_all, turn_talks}
 
 -- ---- lists side by side
 

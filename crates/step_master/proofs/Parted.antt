@@ -1,5 +1,5 @@
 -- Whose a call is, by the talks of all, is told by its place: it stands in the run or in the closing.
-use Rattle.std.proofs.Common.{◌≡◌, ◌⊎◌, inl, inr, Bool, true, false, List, [], ◌∷◌, ◌++◌, Result, refl, sym, ap, ◌∙◌, subst}
+use Rattle.std.proofs.Common.{◌≡◌, inl, inr, Bool, true, false, List, [], ◌∷◌, ◌++◌, refl, sym, ap, ◌∙◌, subst}
 use Rattle.std.specs.Prelude.{All, if◌then◌else◌}
 use Rattle.std.proofs.lemmas.List.{append-nil}
 use Rattle.std.proofs.lemmas.List.Elements.{All-cons, All-head, All-nil, All-tail}
@@ -10,10 +10,10 @@ use Rattle.fmi_calls.specs.KindFacts.{IsRunCall, keeps_state}
 use Rattle.fmu_peer.specs.declared.peer.Exchange.{Exchange}
 use Rattle.fmu_peer.specs.Close.{SendsInTurn, closing_calls}
 use Rattle.fmu_peer.specs.View.{View}
-use Rattle.slot_calls.specs.SavedStates.{IsEnding, IsGivenUp, IsOfClosing, IsParted, LeavesState, Talk, saved_after, saved_by}
+use Rattle.slot_calls.specs.SavedStates.{IsEnding, IsOfClosing, IsParted, LeavesState, Talk, saved_after, saved_by}
 use Rattle.slot_calls.proofs.CallerLemmas.{saved_same}
 use Rattle.course_laws.specs.Laws.{calls_in}
-use Rattle.step_master.proofs.Talking.{turn_all}
+use Rattle.step_master.proofs.Leaving.{turn_all}
 
 -- ---- what a closing sends
 

@@ -1,16 +1,15 @@
 -- What the lives of told machines say of their run.
-use Rattle.std.proofs.Common.{◌≡◌, ℕ, ◌<◌, inl, inr, Bool, true, false, List, [], ◌∷◌, ◌++◌, Option, Some, refl, sym, ap, ◌∙◌, subst, append_assoc, arith, length, get_or}
+use Rattle.std.proofs.Common.{◌≡◌, ℕ, ◌<◌, inl, inr, Bool, true, false, List, [], ◌∷◌, ◌++◌, Some, refl, sym, ap, ◌∙◌, subst, append_assoc, arith, length, get_or}
 use Rattle.std.specs.Prelude.{◌||◌, ◌==◌}
 use Rattle.std.specs.List.{list_any, slice_get}
 use Rattle.std.specs.Option.{option_map}
 use Rattle.std.proofs.lemmas.List.{length-map}
 use Rattle.std.proofs.lemmas.List.Folds.{list_any-append}
-use Rattle.std.proofs.lemmas.Option.{get_or_from_slice_get, same_Some, slice_get-get_or, slice_get-map, slice_get_within}
-use Rattle.sim_base.specs.Sink.{SinkView}
+use Rattle.std.proofs.lemmas.Option.{same_Some, slice_get-get_or, slice_get-map, slice_get_within}
 use Rattle.fmu_peer.specs.declared.ended.Why.{Why}
 use Rattle.fmu_peer.specs.declared.peer.Exchange.{Exchange}
 use Rattle.fmu_peer.specs.Answer.{IsLink}
-use Rattle.fmu_peer.specs.Machine.{IsLawful, IsMachineOf, Machine, MachineState}
+use Rattle.fmu_peer.specs.Machine.{Machine}
 use Rattle.fmu_peer.specs.View.{View}
 use Rattle.system_model.specs.declared.bound.Bound.{Bound}
 use Rattle.system_model.specs.declared.plan.Plan.{Plan}
@@ -20,8 +19,7 @@ use Rattle.system_model.specs.Bounds.{BindsParameters}
 use Rattle.system_model.specs.Sound.{IsSound}
 use Rattle.run_model.specs.Initial.{first_states}
 use Rattle.run_model.specs.Machines.{AreMachines}
-use Rattle.run_model.specs.Run.{IsFmu, Run}
-use Rattle.slot_calls.specs.declared.bad_answer.BadAnswer.{BadAnswer}
+use Rattle.run_model.specs.Run.{Run}
 use Rattle.slot_calls.specs.Log.{Sent, part}
 use Rattle.slot_calls.specs.Replies.{AreReplies, RepliesBy}
 use Rattle.slot_calls.specs.Stage.{IsAnswered, shapes_of}
@@ -34,7 +32,7 @@ use Rattle.calling_sequence.specs.Plans.{IsPlan}
 use Rattle.calling_sequence.specs.Systems.{IsBuilt}
 use Rattle.machine_courses.specs.Laws as Machines
 use Rattle.machine_courses.specs.Laws.{RunByLog, TraceByLog, UnmadeByLog}
-use Rattle.machine_courses.specs.Outcomes.{CutsTrace, IsLost}
+use Rattle.machine_courses.specs.Outcomes.{IsLost}
 use Rattle.machine_courses.specs.Outcomes as Outcomes
 use Rattle.step_master.specs.Lived.{Account, Lived, Unmade}
 use Rattle.step_master.specs.Lives.{AreLives, IsLife, Life, is_unanswered, talk_in}

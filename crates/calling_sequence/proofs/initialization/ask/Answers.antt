@@ -1,6 +1,5 @@
-use Rattle.std.proofs.Common.{ℕ, true, arith, ap, subst, ◌∙◌}
+use Rattle.std.proofs.Common.{arith, ap}
 use Rattle.tick_schedule.specs.Timetable.{Timetable}
-use Rattle.event_iteration.specs.Clocks.{StandsAt}
 use Rattle.calling_sequence.specs.Place.{IsInitializing}
 use Rattle.calling_sequence.proofs.Chains.{IsQuestion}
 use Rattle.calling_sequence.proofs.Phases.{timing_keeps}

@@ -1,4 +1,4 @@
-use Rattle.std.proofs.Common.{refl, ◌∙◌}
+use Rattle.std.proofs.Common.{refl}
 use Rattle.system_model.specs.Ports.{numbers}
 use Rattle.event_iteration.specs.Initialization.{initially, no_values}
 use Rattle.calling_sequence.specs.Course.{Entered, Finds, Found}

@@ -1,4 +1,4 @@
-use Rattle.std.proofs.Common.{ℕ, ℤ, Bool, List, Ok, Option, ap, arith, length, refl, subst, sym, ◌∙◌, ◌+◌, ◌≡◌}
+use Rattle.std.proofs.Common.{ℕ, ℤ, Bool, List, Ok, Option, ap, arith, length, refl, subst, sym, ◌∙◌, ◌≡◌}
 use Rattle.std.specs.Prelude.{◌||◌}
 use Rattle.std.proofs.lemmas.List.{with_items_is}
 use Rattle.sim_base.specs.Sink.{with_piece}

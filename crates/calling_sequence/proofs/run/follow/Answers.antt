@@ -1,4 +1,4 @@
-use Rattle.std.proofs.Common.{Bool, true, false, refl, subst, sym, arith, ◌∙◌, ◌+◌, ◌<◌}
+use Rattle.std.proofs.Common.{Bool, true, refl, subst, sym, arith, ◌∙◌, ◌+◌, ◌<◌}
 use Rattle.event_iteration.specs.Clocks.{timers_in}
 use Rattle.calling_sequence.specs.Calls.{IsBoundOf}
 use Rattle.calling_sequence.specs.Goes.{spot}

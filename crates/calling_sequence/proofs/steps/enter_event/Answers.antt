@@ -3,7 +3,7 @@ use Rattle.fmi_calls.specs.declared.call.Call.TheVariants as C
 use Rattle.slot_calls.specs.Stage.{has_events, nothing, to_those}
 use Rattle.calling_sequence.specs.Course.{Arrives, Before, Stepped}
 use Rattle.calling_sequence.specs.Place.{IsAt, IsStepping}
-use Rattle.calling_sequence.proofs.Phases.{enter_event_leads, enter_event_stays, may_enter_event}
+use Rattle.calling_sequence.proofs.Phases.{enter_event_leads, enter_event_stays}
 use Rattle.calling_sequence.proofs.Stages.{by_stage, still_those}
 use Rattle.calling_sequence.proofs.steps.enter_event.Goals as goal
 

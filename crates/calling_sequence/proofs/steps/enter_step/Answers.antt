@@ -3,7 +3,7 @@ use Rattle.fmi_calls.specs.declared.call.Call.TheVariants as C
 use Rattle.slot_calls.specs.Stage.{has_events, nothing, to_those}
 use Rattle.calling_sequence.specs.Course.{Leaves, Leaving, Left}
 use Rattle.calling_sequence.specs.Place.{IsSettled, IsStepping}
-use Rattle.calling_sequence.proofs.Phases.{enter_step_leads, enter_step_stays, may_enter_step}
+use Rattle.calling_sequence.proofs.Phases.{enter_step_leads, enter_step_stays}
 use Rattle.calling_sequence.proofs.Stages.{by_stage, still_those}
 use Rattle.calling_sequence.proofs.steps.enter_step.Goals as goal
 

@@ -3,7 +3,6 @@ use Rattle.fmi_calls.specs.declared.call.Call.TheVariants as C
 use Rattle.slot_calls.specs.Carried.{any_asks_to_end}
 use Rattle.slot_calls.specs.Stage.{to_each}
 use Rattle.calling_sequence.specs.Course.{Departing, Stepped, Steps}
-use Rattle.calling_sequence.specs.Goes.{way}
 use Rattle.calling_sequence.specs.Place.{CanStep, IsStepping}
 use Rattle.calling_sequence.proofs.Phases.{may_step, step_leads}
 use Rattle.calling_sequence.proofs.Stages.{by_round, still_round}

@@ -4,12 +4,14 @@ use Rattle.std.proofs.lemmas.List.Elements.{All-map}
 use Rattle.fmi_calls.specs.declared.phase.InstanceState.{InstanceState}
 use Rattle.fmi_calls.specs.declared.phase.InstanceState.TheVariants as P
 use Rattle.fmu_peer.specs.CloseAll.{Instance, instance_in}
-use Rattle.system_model.proofs.CallerLemmas.{all_at, place_of}
+use Rattle.system_model.proofs.CallerLemmas.{all_at}
 use Rattle.slot_calls.proofs.CallerLemmas.{shapes_same}
+use Rattle.event_iteration.specs.Clocks.{timers_in}
 use Rattle.event_iteration.specs.Initialization.{IsInitializing}
 use Rattle.event_iteration.specs.Questions.{modes}
-use Rattle.event_iteration.proofs.Fixing.{fixing_all, fixing_machines, fixing_more, fixing_none, fixing_stands, fixing_until}
+use Rattle.event_iteration.proofs.Fixing.{fixing_all, fixing_more, fixing_none, fixing_stands, fixing_until}
 use Rattle.event_iteration.proofs.Fmus.{got}
+use Rattle.event_iteration.proofs.OverMachines.{fixes_for_machines}
 use Rattle.event_iteration.proofs.Rounds.{all_instances}
 use Rattle.event_iteration.proofs.clocks.fix_clocks.Goals as goal
 
@@ -52,12 +54,11 @@ pub loop-p-preserved : goal.loop-p-preserved
 loop-p-preserved g c =
     let system = c.args.system.now in
     let here = got system.ports c.loop-p.p (omega arith) in
-    let placed = place_of system c.requires.sound c.loop-p.p here.0 here.1 in
     record {
       live = c.in-Ok.ensures.live;
       fixing = fixing_more system c.args.per_second c.loop-p.p here.0 here.1 c.args.schedule.now c.loop-p.schedule c.fix_clock.new.schedule
           (map (λ s. instance_in g.L.Peer.view s) c.args.slots.now) (map (λ s. instance_in g.L.Peer.view s) c.loop-p.slots) (map (λ s. instance_in g.L.Peer.view s) c.fix_clock.new.slots)
-          c.requires.shapes c.loop-p.invariant.fixing (c.in-Ok.ensures.fixes here.0 here.1) c.in-Ok.ensures.modes placed.component placed.is.of;
+          c.requires.shapes c.loop-p.invariant.fixing (c.in-Ok.ensures.fixes here.0 here.1) c.in-Ok.ensures.modes;
     }
 
 pub returns-clause-stands : goal.returns-clause-stands
@@ -72,5 +73,5 @@ returns-clause-fixes g c =
 
 pub returns-clause-machines : goal.returns-clause-machines
 returns-clause-machines g c =
-    fixing_machines c.args.system.now c.args.per_second c.loop-p.p c.args.schedule.now c.loop-p.schedule (map (λ s. instance_in g.L.Peer.view s) c.args.slots.now) (map (λ s. instance_in g.L.Peer.view s) c.loop-p.slots)
-    c.loop-p.invariant.fixing (omega arith)
+    let all = fixing_all c.args.system.now c.args.per_second c.loop-p.p c.args.schedule.now c.loop-p.schedule (map (λ s. instance_in g.L.Peer.view s) c.args.slots.now) (map (λ s. instance_in g.L.Peer.view s) c.loop-p.slots) c.loop-p.invariant.fixing (omega arith) in
+    fixes_for_machines (map (λ s. instance_in g.L.Peer.view s) c.args.slots.now) (map (λ s. instance_in g.L.Peer.view s) c.loop-p.slots) all.log all.told c.args.system.now c.requires.sound c.args.per_second (timers_in c.loop-p.schedule) all.says.0 all.says.1

@@ -10,7 +10,8 @@ use Rattle.event_iteration.specs.Instants.{IsRunning}
 use Rattle.event_iteration.specs.Questions.{AreRunning, place_behind}
 use Rattle.event_iteration.proofs.Fmus.{got}
 use Rattle.event_iteration.proofs.Places.{there_now}
-use Rattle.event_iteration.proofs.Rearming.{are_running, goes_from, rearming_all, rearming_machines, rearming_more, rearming_none, rearming_stands, rearming_until}
+use Rattle.event_iteration.proofs.OverMachines.{rearms_for_machines}
+use Rattle.event_iteration.proofs.Rearming.{are_running, goes_from, rearming_all, rearming_more, rearming_none, rearming_rearms, rearming_stands, rearming_until}
 use Rattle.event_iteration.proofs.Rounds.{all_instances}
 use Rattle.event_iteration.proofs.Taking.{port_at}
 use Rattle.event_iteration.proofs.intervals.ask_intervals.Goals as goal
@@ -98,6 +99,9 @@ returns-clause-asks g c =
 
 pub returns-clause-machines : goal.returns-clause-machines
 returns-clause-machines g c =
-    rearming_machines c.args.system.now c.requires.sound c.args.per_second c.args.t c.loop-p.p c.args.is_first c.args.values.now c.requires.places c.args.schedule.now c.loop-p.schedule c.loop-p.is_armed
-    (map (λ s. instance_in g.L.Peer.view s) c.args.slots.now) (map (λ s. instance_in g.L.Peer.view s) c.loop-p.slots) c.requires.stands c.requires.ticks
-    (let w = c.loop-p-test.false in let n = c.requires.places in omega (arith, w, n)) c.loop-p.invariant.rearming
+    let olds = map (λ s. instance_in g.L.Peer.view s) c.args.slots.now in
+    let mids = map (λ s. instance_in g.L.Peer.view s) c.loop-p.slots in
+    let all = c.loop-p.invariant.rearming in
+    rearms_for_machines olds mids all.log all.told c.args.system.now c.requires.sound c.args.per_second c.args.t c.args.values.now (timers_in c.args.schedule.now) (timers_in c.loop-p.schedule)
+    (rearming_rearms c.args.system.now c.requires.sound c.args.per_second c.args.t c.loop-p.p c.args.is_first c.args.values.now c.requires.places c.args.schedule.now c.loop-p.schedule c.loop-p.is_armed olds mids c.requires.stands c.requires.ticks
+    (let w = c.loop-p-test.false in let n = c.requires.places in omega (arith, w, n)) all)

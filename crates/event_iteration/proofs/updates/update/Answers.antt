@@ -12,7 +12,8 @@ use Rattle.slot_calls.proofs.CallerLemmas.{answered_none, one_log, shape_of, tho
 use Rattle.event_iteration.specs.Instants.{IsRunning}
 use Rattle.event_iteration.proofs.Fmus.{got}
 use Rattle.event_iteration.proofs.Taking.{port_at}
-use Rattle.event_iteration.proofs.Updating.{component_within, events_in_slot, in_event, leads_for_machines, told_more}
+use Rattle.event_iteration.proofs.OverMachines.{leads_for_machines}
+use Rattle.event_iteration.proofs.Updating.{component_within, events_in_slot, in_event, told_more}
 use Rattle.event_iteration.proofs.updates.update.Goals as goal
 
 pub loop-place-init : goal.loop-place-init
@@ -95,4 +96,4 @@ returns-clause-leads g c =
     subst (λ cs. IsAnswered (shapes is) cs i.log)
     (those_all has_events (λ (shape : Shape). C.Update) (shapes is) c.loop-place.place
     (let m = length-map c.args.slots.now (λ s. instance_in g.L.Peer.view s) in let n = length-map is shape_of in let e = c.loop-place-test.false in omega (arith, m, n, e))) i.answered in
-    leads_for_machines c.args.system.now is (instances g.L.Peer.view c.loop-place.slots) c.requires.shapes i.log i.told whole c.loop-place.updated i.updated
+    leads_for_machines is (instances g.L.Peer.view c.loop-place.slots) i.log i.told c.args.system.now c.requires.shapes whole c.loop-place.updated i.updated

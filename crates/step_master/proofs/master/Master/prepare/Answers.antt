@@ -9,7 +9,7 @@ use Rattle.step_master.specs.Seats.{seated}
 use Rattle.slot_calls.specs.Slots.{instances}
 use Rattle.slot_calls.specs.Stage.{IsAnswered, StopsAt, shapes, to_each}
 use Rattle.slot_calls.proofs.CallerLemmas.{shapes_same}
-use Rattle.step_master.proofs.Prepared.{components_few, peers_fresh, seated_shapes, slots_fresh, slots_length, tell_theirs}
+use Rattle.step_master.proofs.SeatLemmas.{components_few, peers_fresh, seated_shapes, slots_fresh, slots_length, tell_theirs}
 use Rattle.step_master.proofs.master.Master.prepare.Goals as goal
 
 pub new-requires-2-clause-fresh : goal.new-requires-2-clause-fresh

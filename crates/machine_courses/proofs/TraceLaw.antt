@@ -1,0 +1,184 @@
+-- Machines that behave well get no bad answer: of a log of them the text of their trace is put, but for a call or a put that failed.
+use Rattle.std.proofs.Common.{◌≡◌, ◌⊎◌, ℕ, Bool, true, false, ℤ, Option, List, [], ◌∷◌, ◌++◌, inl, inr, refl, sym, ap, ap₂, ◌∙◌, subst, append_assoc, length, map}
+use Rattle.std.specs.Prelude.{◌==◌}
+use Rattle.std.proofs.lemmas.List.{length-map, map-append}
+use Rattle.value_types.specs.declared.shape.Shape.{Shape}
+use Rattle.fmi_calls.specs.declared.call.Call.TheVariants as C
+use Rattle.fmu_peer.specs.declared.ended.Why.{Why}
+use Rattle.fmu_peer.specs.Machine.{Machine, MachineState}
+use Rattle.fmu_peer.specs.Mode.{instantiate_of}
+use Rattle.system_model.specs.declared.plan.EndKind.{EndKind}
+use Rattle.system_model.specs.declared.plan.Plan.{Plan}
+use Rattle.system_model.specs.declared.system.System.{System}
+use Rattle.system_model.specs.Bounds.{BindsParameters}
+use Rattle.system_model.specs.Ports.{numbers}
+use Rattle.system_model.specs.Sound.{IsSound}
+use Rattle.system_model.specs.Text.{Instant, end_text}
+use Rattle.run_model.specs.AfterInstant as F
+use Rattle.run_model.specs.Behaved.{Departed, WellBehaved}
+use Rattle.run_model.specs.Initial as I
+use Rattle.run_model.specs.Machines.{AreMachines}
+use Rattle.run_model.specs.Run.{Run}
+use Rattle.run_model.specs.Stepping.{departing}
+use Rattle.run_model.specs.Trace.{IsTrace}
+use Rattle.slot_calls.specs.declared.bad_answer.BadAnswer.{BadAnswer}
+use Rattle.slot_calls.specs.Log.{Asking, Sent, askings}
+use Rattle.slot_calls.specs.Replies.{AreReplies, states_by}
+use Rattle.slot_calls.specs.Stage.{FailsIn, StopsAt, everyone, shapes_of}
+use Rattle.event_iteration.specs.Explains.{ExplainsUntil}
+use Rattle.event_iteration.specs.Instants.{in_instant}
+use Rattle.event_iteration.specs.Settings.{entered_step}
+use Rattle.event_iteration.proofs.ByLog.{AreAll, configured_all, initialized_all, replies_first, replies_then}
+use Rattle.calling_sequence.specs.declared.run_end.RunEnd.{RunEnd}
+use Rattle.calling_sequence.specs.declared.run_end.RunEnd.TheVariants as E
+use Rattle.calling_sequence.specs.Calls.{stepping}
+use Rattle.calling_sequence.specs.Course.{Before, Configured, Course, Departing, Entered, Found, Left, Leaving, Made, Place, Read, Rearmed, Seen, Stepped, Timed, Way, part_at}
+use Rattle.calling_sequence.specs.Ends.{Awaits, Badly, EndLine, EndsAt, EndsBy, Finishes, Header, Shown, Well, header_of, kind_of_end, pieces_of, point_of, text_of, trace_pieces}
+use Rattle.calling_sequence.specs.Parts.{Falls}
+use Rattle.calling_sequence.specs.Plans.{IsPlan}
+use Rattle.calling_sequence.specs.Puts.{CutsPiece, with_pieces}
+use Rattle.calling_sequence.specs.Systems.{IsBuilt}
+use Rattle.machine_courses.specs.Laws.{IsRunOf, TraceByLog, UnmadeByLog}
+use Rattle.machine_courses.specs.Outcomes.{CutsTrace, IsLost, Output, PutsRun, TracesWell}
+use Rattle.machine_courses.proofs.Following.{reached_by}
+use Rattle.machine_courses.proofs.Fronts.{front_at, none, stands}
+use Rattle.machine_courses.proofs.Initially.{lost_binding, lost_finding, lost_timing}
+use Rattle.machine_courses.proofs.Instants.{lost_found, lost_rearming, lost_updating}
+use Rattle.machine_courses.proofs.Lost.{lost_behind, lost_stops}
+use Rattle.machine_courses.proofs.Places.{At, Goes, over}
+use Rattle.machine_courses.proofs.Rest.{whole}
+use Rattle.machine_courses.proofs.Rows.{goes_all, inside, ticks_at, walk_at}
+use Rattle.machine_courses.proofs.RunLaw.{made_replies, puts_run, trace_at}
+use Rattle.machine_courses.proofs.StepCalls.{lost_entering, lost_leaving, lost_setting, lost_stepping}
+use Rattle.machine_courses.proofs.Steps.{after_step}
+
+-- nothing that isn't sent is answered badly
+none_falls : (shapes : List Shape) (bad : BadAnswer) (log : List Sent) → StopsAt shapes [] bad log → ⊥
+none_falls shapes bad log s = by s.front (s.calls_are ∙ ap (λ (l : List Sent). askings l ++ s.left) s.log_is) where
+  by : (front : List Sent) → [] ≡ askings (front ++ s.last ∷ []) ++ s.left → ⊥
+  by [] e = absurd (cc)
+  by (x ∷ front) e = absurd (cc)
+
+-- the pieces of a trace, behind those of a front
+pieces_behind : (system : System) (plan : Plan) (is : List Instant) (i : Instant) (rest : List Instant) (kind : EndKind) (point : ℕ) →
+    trace_pieces system plan ((is ++ i ∷ []) ++ rest) kind point ≡ pieces_of system plan is ++ text_of i ∷ (map text_of rest ++ end_text kind point ∷ [])
+pieces_behind system plan is i rest kind point =
+    ap (λ (xs : List Instant). trace_pieces system plan xs kind point) (append_assoc is (i ∷ []) rest)
+    ∙ ap (λ (ps : List (List ℕ)). header_of system plan ∷ (ps ++ end_text kind point ∷ [])) (map-append text_of is (i ∷ rest))
+    ∙ ap (λ (ps : List (List ℕ)). header_of system plan ∷ ps) (append_assoc (map text_of is) (text_of i ∷ map text_of rest) (end_text kind point ∷ []))
+
+module _ (r : Run) (sound : IsSound r.system) (built : IsBuilt r.system) (plan : IsPlan r.plan) (machines : AreMachines r) (binds : BindsParameters r.system r.bound) (well : WellBehaved r) where
+  abbrev count : ℕ
+  count = length r.system.components
+
+  abbrev first : List MachineState
+  first = I.instantiated r
+
+  -- the run departs there
+  departed : (w : Way) (is : List Instant) (g : Goes r w is) → Departed r (over r w.s is g.sees)
+  departed w is g = record {
+    s = g.sees.z;
+    values = w.s.values;
+    reached = reached_by r g.sees.z g.sees.earlier g.sees.at.came;
+    solves = g.sees.solves;
+    done = g.done;
+    is = refl;
+    before_stop = g.step.bound.before_stop;
+  }
+
+  -- a row a part: its bad answer was lost
+  lost : (p : Place) (is : List Instant) (ss : List MachineState) → At r p is ss → (bad : BadAnswer) (log : List Sent) → Falls r.system (part_at r.system r.bound r.plan p) bad log → AreReplies r ss log → IsLost count log bad.why
+  lost Made is ss (at_none, at) bad log falls replies = lost_binding r sound machines well bad log binds (inside r log ss first at replies) falls
+  lost Configured is ss (at_none, at) bad log falls replies =
+      lost_stops r (I.configured r) (configured_all r machines) bad log (inside r log ss (I.configured r) at replies) everyone (λ (shape : Shape). C.EnterInitialization r.plan.start r.plan.stop) falls (λ i c m z fmu asked. (well i).before.enter c m z fmu)
+  lost Entered is ss (at_none, at) bad log (values, falls) replies = lost_finding r sound machines well bad log values falls (inside r log ss (I.initializing r) at replies)
+  lost Found is ss (at_none, at) bad log falls replies = lost_timing r sound machines well bad log at.initial at.solves (inside r log ss (I.initialized r at.initial) at.states replies) falls
+  lost (Timed timers) is ss (at_none, at, timers_are) bad log falls replies =
+      lost_stops r (I.initialized r at.initial) (initialized_all r machines at.initial) bad log (inside r log ss (I.initialized r at.initial) at.states replies) everyone (λ (shape : Shape). C.ExitInitialization) falls
+      (λ i c m z fmu asked. ((well i).initially at.initial at.solves).exit c m z fmu)
+  lost (Before s ticks) is ss c bad log (values, falls) replies =
+      lost_found r sound machines well c.z (reached_by r c.z is c.at.came) bad log ticks (ticks_at r s ticks is ss c) values
+      (walk_at r s ticks is ss c (λ n before. ExplainsUntil r.system (in_instant ticks (n == 0)) before (numbers r.system.instant_order) bad values log) falls) (inside r log ss c.z.states c.states replies)
+  lost (Read s) is ss (f, timers) bad log (values, falls) replies =
+      lost_rearming r sound machines well f.z (reached_by r f.z is f.at.came) bad log s.values f.solves (inside r log ss (F.written r f.z s.values) f.states replies) values falls
+  lost (Rearmed s) is ss (f, timers) bad log falls replies =
+      lost_updating r sound machines well f.z (reached_by r f.z is f.at.came) bad log s.values f.solves (inside r log ss (F.written r f.z s.values) f.states replies) falls
+  lost (Seen s again asked) is ss x bad log falls replies = absurd (none_falls (shapes_of r.system) bad log falls)
+  lost (Leaving w) is ss (g, at) bad log falls replies =
+      let z = over r w.s is g.sees in
+      lost_leaving r sound built machines well z (goes_all r sound built plan machines w is g) (departed w is g) bad log (inside r log ss z.states at replies) falls
+  lost (Left w) is ss (g, at) bad log (values, falls) replies =
+      let z = over r w.s is g.sees in
+      lost_setting r sound built machines well z (goes_all r sound built plan machines w is g) (departed w is g) bad log (inside r log ss (entered_step r z) at replies) values falls
+  lost (Departing w) is ss (g, at) bad log falls replies =
+      let z = over r w.s is g.sees in
+      lost_stepping r sound built machines well z (goes_all r sound built plan machines w is g) (departed w is g) bad log w.to g.step (inside r log ss (departing r z) at replies)
+      (subst (λ (t : ℕ). FailsIn (shapes_of r.system) (stepping r.system t w.to) bad log) (sym g.sees.at.point) falls)
+  lost (Stepped s true) is ss x bad log falls replies = absurd (none_falls (shapes_of r.system) bad log falls)
+  lost (Stepped s false) is ss x bad log falls replies =
+      let z = over r x.w.s is x.goes.sees in
+      lost_entering r sound built machines well z (goes_all r sound built plan machines x.w is x.goes) (departed x.w is x.goes) bad log x.w.to x.made (sym x.asked_is) (inside r log ss (after_step r z x.w.to) x.states replies) falls
+
+  lost_by : (p : Place) (bad : BadAnswer) (front more : List Sent) (is : List Instant) → Course r.system r.bound r.plan p front is → Falls r.system (part_at r.system r.bound r.plan p) bad more → AreReplies r first (front ++ more) → IsLost count (front ++ more) bad.why
+  lost_by p bad front more is course falls replies =
+      let at = stands r sound built plan machines p front is course (replies_first r first front more replies) in
+      lost_behind count front more bad.why (lost p is (states_by r first front) at.at bad more falls (replies_then r first front more at.good replies))
+
+  lost_end : (bad : BadAnswer) (point : ℕ) (log : List Sent) (is : List Instant) → Finishes r.system r.bound r.plan (E.Bad bad) point log is → AreReplies r first log → IsLost count log bad.why
+  lost_end bad _ _ _ (Well p _ log is course ends) replies = elim ends [ ]
+  lost_end _ _ _ _ (Badly p bad front more is course falls) replies = lost_by p bad front more is course falls replies
+
+  module _ (o : Output) where
+    abbrev Cut : List Sent → Type 0
+    Cut log = ((why : Why) × IsLost count log why) ⊎ CutsTrace r o
+
+    cut_by : (log : List Sent) (is : List Instant) (pieces : List (List ℕ)) (piece : List ℕ) → Awaits r.system r.bound r.plan log is pieces piece → AreReplies r first log → CutsPiece (with_pieces o.before pieces) piece o.after → Cut log
+    cut_by _ _ _ _ Header replies cut =
+        let w = whole r sound built plan machines well [] (none r sound built plan machines [] refl) in
+        inr (record { is = w.rest; kind = w.kind; point = w.point; trace = w.trace; pieces = []; piece = header_of r.system r.plan; rest = map text_of w.rest ++ end_text w.kind w.point ∷ []; are = refl; cut = cut })
+    cut_by _ _ _ _ (Shown p log is i shows course) replies cut =
+        let at = stands r sound built plan machines p log (is ++ i ∷ []) course replies in
+        let w = whole r sound built plan machines well (is ++ i ∷ []) (front_at r sound built plan machines p (is ++ i ∷ []) (states_by r first log) at.at) in
+        inr (record {
+          is = (is ++ i ∷ []) ++ w.rest;
+          kind = w.kind;
+          point = w.point;
+          trace = w.trace;
+          pieces = pieces_of r.system r.plan is;
+          piece = text_of i;
+          rest = map text_of w.rest ++ end_text w.kind w.point ∷ [];
+          are = pieces_behind r.system r.plan is i w.rest w.kind w.point;
+          cut = cut;
+        })
+    cut_by _ _ _ _ (EndLine end point log is finishes) replies cut = by end point log is finishes replies cut where
+      by : (end : RunEnd) (point : ℕ) (log : List Sent) (is : List Instant) → Finishes r.system r.bound r.plan end point log is → AreReplies r first log → CutsPiece (with_pieces o.before (pieces_of r.system r.plan is)) (end_text (kind_of_end end) point) o.after → Cut log
+      by _ _ _ _ (Well p end log is course ends) replies cut =
+          inr (record {
+            is = is;
+            kind = kind_of_end end;
+            point = point_of r.plan p;
+            trace = trace_at r sound built plan machines end p ends is (states_by r first log) (stands r sound built plan machines p log is course replies).at;
+            pieces = pieces_of r.system r.plan is;
+            piece = end_text (kind_of_end end) (point_of r.plan p);
+            rest = [];
+            are = refl;
+            cut = cut;
+          })
+      by _ _ _ _ (Badly p bad front more is course falls) replies cut = inl (bad.why, lost_by p bad front more is course falls replies)
+
+    traces_well : (end : RunEnd) (log : List Sent) (is : List Instant) → EndsBy r.system r.bound r.plan log is end o.before o.after → AreReplies r first log → PutsRun r o end → TracesWell r log o end
+    traces_well E.Stop log is ends replies puts = puts
+    traces_well (E.Asked at) log is ends replies puts = puts
+    traces_well (E.EventLimit at) log is ends replies puts = puts
+    traces_well (E.FixedStep component at end) log is ends replies puts = puts
+    traces_well (E.Bad bad) log is (point, f, put) replies puts = lost_end bad point log is f replies
+    traces_well E.WriteFault log is w replies puts = cut_by log is w.pieces w.piece w.awaits replies w.cuts
+
+pub trace_by_log : TraceByLog
+trace_by_log r made log is end o binds well c =
+    let replies = made_replies r made log c.making c.replies in
+    traces_well r c.sound c.built c.plan c.machines binds well o end log is c.ends replies (puts_run r c.sound c.built c.plan c.machines o end log is c.ends replies c.counted)
+
+pub unmade_by_log : UnmadeByLog
+unmade_by_log r bad log machines well replies stops =
+    lost_stops r (I.first_states r) (record { machines = machines; states = length-map r.machines (λ (m : Machine). m.first) ∙ machines }) bad log replies everyone instantiate_of stops (λ i c m z fmu asked. (well i).before.instantiate c m z fmu)
