@@ -30,18 +30,17 @@ use Rattle.run_model.proofs.Alike.{both, written_at-is}
 use Rattle.run_model.proofs.Initially.{none_outside, unclocked_at-is, written_none}
 use Rattle.run_model.proofs.InitiallySolvable.{solvable_initially}
 use Rattle.run_model.proofs.Midst.{all_at_last_initially, keeps_beside, looks_initially, nothing_at_first, writes_at_port}
-use Rattle.run_model.proofs.States.{fmu_before}
 use Rattle.run_model.proofs.Unique.{none_in, push_cases}
 use Rattle.slot_calls.specs.Log.{Sent, Told, part}
 use Rattle.slot_calls.specs.Replies.{AreReplies, RepliesBy, state_by}
-use Rattle.slot_calls.specs.Stage.{IsGoodOf, shapes_of}
+use Rattle.slot_calls.specs.Stage.{shapes_of}
 use Rattle.slot_calls.proofs.Logs.{part_append}
 use Rattle.slot_calls.proofs.Replying.{replies_back, replies_front, state_by_append}
 use Rattle.event_iteration.specs.Initialization.{asks_initially, initially, is_set_from_feed, no_values, seen, takes_initially}
 use Rattle.event_iteration.specs.Machines.{AreAt, SolvesForMachines}
 use Rattle.event_iteration.specs.Turns.{IsPaired, Turn, Walked}
 use Rattle.event_iteration.proofs.Clockless.{present_unclocked}
-use Rattle.event_iteration.proofs.Fmus.{after_if, are_replies, at_fmu-is, each_same, exchanges_of, fmu_on, got, none_reply, part_other_of, part_own_of, state_by_one, told_at}
+use Rattle.event_iteration.proofs.Fmus.{after_if, are_replies, at_fmu-is, each_same, exchanges_of, fmu_on, got, none_reply, part_other_of, part_own_of, state_by_one}
 use Rattle.event_iteration.proofs.Permits.{IsQuiet, asks_quietly, quiet_part, sent_quiet}
 use Rattle.event_iteration.proofs.Stages.{told_on}
 use Rattle.event_iteration.proofs.Walking.{Here, along, by_number, next_beside, next_here, none_at}

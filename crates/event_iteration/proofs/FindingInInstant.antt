@@ -32,7 +32,6 @@ use Rattle.run_model.proofs.Alike.{present_alike, written_at-is}
 use Rattle.run_model.proofs.Decided.{decided}
 use Rattle.run_model.proofs.Midst.{all_at_last, keeps_beside, looks_in_midst, nothing_at_first, writes_at_port}
 use Rattle.run_model.proofs.Solvable.{solvable}
-use Rattle.run_model.proofs.States.{fmu_before}
 use Rattle.run_model.proofs.Unique.{none_in, push_cases}
 use Rattle.slot_calls.specs.Log.{Sent, Told, part}
 use Rattle.slot_calls.specs.Replies.{AreReplies, RepliesBy, state_by, states_by}
@@ -47,7 +46,7 @@ use Rattle.event_iteration.specs.Intervals.{TellsTicks, is_time_clock}
 use Rattle.event_iteration.specs.Machines.{AreAt}
 use Rattle.event_iteration.specs.Turns.{IsPaired, Turn, Walked}
 use Rattle.event_iteration.proofs.ClockTicks.{are_ticks}
-use Rattle.event_iteration.proofs.Fmus.{after_if, are_replies, at_fmu-is, each_same, exchanges_of, got, none_reply, part_other_of, part_own_of, state_by_one, told_at}
+use Rattle.event_iteration.proofs.Fmus.{after_if, are_replies, at_fmu-is, each_same, exchanges_of, got, none_reply, part_other_of, part_own_of, state_by_one}
 use Rattle.event_iteration.proofs.InInstant.{ReadsOrSets, clock_events, reads_or_sets}
 use Rattle.event_iteration.proofs.Parts.{good_in_part}
 use Rattle.event_iteration.proofs.Stages.{told_on}
