@@ -23,7 +23,7 @@ use Rattle.event_iteration.specs.Clocks.{AreTicks}
 use Rattle.event_iteration.specs.Explains.{Explains}
 use Rattle.event_iteration.specs.Initialization.{initially, no_values}
 use Rattle.event_iteration.specs.Instants.{in_instant}
-use Rattle.event_iteration.specs.Settings.{entered_step, port_order}
+use Rattle.event_iteration.specs.Settings.{port_order}
 pub use Rattle.event_iteration.proofs.Clockless.{unclocked_parts}
 use Rattle.event_iteration.proofs.Departing.{departs_by}
 use Rattle.event_iteration.proofs.Finding as N

@@ -27,7 +27,7 @@ use Rattle.event_iteration.specs.Machines.{AreAt}
 use Rattle.event_iteration.specs.Settings.{DepartsForMachines, before_step, entered_step, port_order, sets_to}
 use Rattle.event_iteration.specs.Turns.{Turn, Walked}
 use Rattle.event_iteration.proofs.Clockless.{no_clock_of, present_of}
-use Rattle.event_iteration.proofs.Fmus.{after_if, each_same, exchanges_of, fmu_on, part_other_of, part_own_of, state_by_one, told_at}
+use Rattle.event_iteration.proofs.Fmus.{after_if, each_same, exchanges_of, part_other_of, part_own_of, state_by_one}
 use Rattle.event_iteration.proofs.Setting.{NoNeeds, SetsPort, in_order, sets_ports}
 use Rattle.event_iteration.proofs.Stages.{each_each, told_on}
 use Rattle.event_iteration.proofs.Turning.{all_good, calls_of}

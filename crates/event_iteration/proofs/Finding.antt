@@ -35,7 +35,7 @@ use Rattle.event_iteration.specs.Initialization.{asks_initially, initially, is_s
 use Rattle.event_iteration.specs.Machines.{AreAt, SolvesForMachines}
 use Rattle.event_iteration.specs.Turns.{IsPaired, Turn, Walked}
 use Rattle.event_iteration.proofs.Clockless.{present_unclocked}
-use Rattle.event_iteration.proofs.Fmus.{after_if, are_replies, at_fmu-is, each_same, exchanges_of, fmu_on, got, none_reply, part_other_of, part_own_of, state_by_one, told_at}
+use Rattle.event_iteration.proofs.Fmus.{after_if, are_replies, at_fmu-is, each_same, exchanges_of, fmu_on, got, none_reply, part_other_of, part_own_of, state_by_one}
 use Rattle.event_iteration.proofs.Permits.{IsQuiet, asks_quietly, quiet_part, sent_quiet}
 use Rattle.event_iteration.proofs.Stages.{told_on}
 use Rattle.event_iteration.proofs.Walking.{Here, along, by_number, next_beside, next_here, none_at}

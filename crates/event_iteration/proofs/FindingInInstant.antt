@@ -41,7 +41,7 @@ use Rattle.event_iteration.specs.Intervals.{TellsTicks, is_time_clock}
 use Rattle.event_iteration.specs.Machines.{AreAt}
 use Rattle.event_iteration.specs.Turns.{IsPaired, Turn, Walked}
 use Rattle.event_iteration.proofs.ClockTicks.{are_ticks}
-use Rattle.event_iteration.proofs.Fmus.{after_if, are_replies, at_fmu-is, each_same, exchanges_of, got, none_reply, part_other_of, part_own_of, state_by_one, told_at}
+use Rattle.event_iteration.proofs.Fmus.{after_if, are_replies, at_fmu-is, each_same, exchanges_of, got, none_reply, part_other_of, part_own_of, state_by_one}
 use Rattle.event_iteration.proofs.InInstant.{ReadsOrSets, clock_events, reads_or_sets}
 use Rattle.event_iteration.proofs.Parts.{good_in_part}
 use Rattle.event_iteration.proofs.Stages.{told_on}
