@@ -287,12 +287,21 @@ fn is_received(
     wire.receive(&mut into[..room]) == *wanted && into[..room].starts_with(bytes)
 }
 
+fn is_sent(wire: &mut MemWire, bytes: &[u8], wanted: &Result<(), WireFault>, sent: &[u8]) -> bool {
+    wire.send(bytes) == *wanted && wire.sent.as_slice() == sent
+}
+
 fn is_called_as(wire: &mut MemWire, call: &WireCall) -> bool {
     match call {
         WireCall::Send(bytes, wanted, sent) => {
-            wire.send(bytes) == *wanted && wire.sent.as_slice() == *sent
+            let bytes: &[u8] = bytes;
+            let sent: &[u8] = sent;
+            is_sent(wire, bytes, wanted, sent)
         }
-        WireCall::Receive(room, wanted, bytes) => is_received(wire, *room, wanted, bytes),
+        WireCall::Receive(room, wanted, bytes) => {
+            let bytes: &[u8] = bytes;
+            is_received(wire, *room, wanted, bytes)
+        }
     }
 }
 
