@@ -1,9 +1,9 @@
 //! Shapes of built-in machines, and one that is driven through calls whose answers are wanted.
 ghost use Rattle.std.specs.Prelude.{◌+◌, ◌<◌, ◌^◌};
 
-use bench_fmus::{Bench, BuiltIn};
+use bench_fmus::Bench;
 use fmi_calls::{Call, Content, Reply, permitted};
-use fmu_peer::{Peer, Spawner};
+use fmu_peer::{Peer, Spawner, StartFault};
 use sim_base::{Items, Text};
 use std::alloc::{AllocError, Global};
 use value_types::{ByReference, Causality, Dependency, Knowns, PortType, Shape, Variable};
@@ -125,7 +125,7 @@ pub(crate) fn step(at: u64, size: u64, terminate: bool) -> (Call, Content)
     (Call::DoStep { at, size }, content)
 }
 
-fn answers(peer: &mut BuiltIn, call: &Call, content: &Content) -> bool {
+fn answers<L: Peer>(peer: &mut L, call: &Call, content: &Content) -> bool {
     if !permitted(peer.shape(), peer.phase(), call) {
         return false;
     }
@@ -136,7 +136,7 @@ fn answers(peer: &mut BuiltIn, call: &Call, content: &Content) -> bool {
     peer.call(call) == Ok(wanted)
 }
 
-fn answers_each(peer: &mut BuiltIn, steps: &[(Call, Content)]) -> bool {
+fn answers_each<L: Peer>(peer: &mut L, steps: &[(Call, Content)]) -> bool {
     for (call, content) in steps {
         if !answers(peer, call, content) {
             return false;
@@ -145,23 +145,32 @@ fn answers_each(peer: &mut BuiltIn, steps: &[(Call, Content)]) -> bool {
     true
 }
 
-// Whether a machine of the shape answers these calls so, and then those of its closing.
+// Whether a peer of the shape answers these calls so, and then those of its closing.
+fn drive<S: Spawner>(
+    alloc: Global,
+    spawner: &mut S,
+    shape: &Shape,
+    first: &[(Call, Content)],
+    then: &[(Call, Content)],
+) -> Result<bool, StartFault>
+where
+    S::Link: Drop,
+{
+    if shape.token.as_str().len() > 1 << 24 {
+        return Ok(false);
+    }
+    let mut peer = spawner.start(alloc, "host", "c", "fmus/c", shape)?;
+    let goes = answers_each(&mut peer, first) && answers_each(&mut peer, then);
+    Ok(goes && answers_each(&mut peer, &END))
+}
+
+// Whether a machine of the shape goes so.
 pub(crate) fn goes(
     alloc: Global,
     shape: &Shape,
     first: &[(Call, Content)],
     then: &[(Call, Content)],
 ) -> bool {
-    if shape.token.as_str().len() > 1 << 24 {
-        return false;
-    }
     let mut bench = Bench::new(alloc, None, Vec::new(alloc));
-    match bench.start(alloc, "host", "c", "fmus/c", shape) {
-        Ok(mut peer) => {
-            answers_each(&mut peer, first)
-                && answers_each(&mut peer, then)
-                && answers_each(&mut peer, &END)
-        }
-        Err(_) => false,
-    }
+    matches!(drive(alloc, &mut bench, shape, first, then), Ok(true))
 }

@@ -153,11 +153,16 @@ fn has_sent(wire: &MemWire, frames: &[u8]) -> bool {
     wire.sent.as_slice() == frames && wire.taken == 120 && wire.calls == 10 && wire.faults == 0
 }
 
-fn sends_each(rt: &impl Abort, alloc: Global, shape: &Shape, coming: &[u8], frames: &[u8]) -> bool {
-    match peer_on(alloc, shape, coming, &[]) {
-        Some(mut peer) => answers_each(rt, &mut peer) && has_sent(&peer.into_wire(), frames),
-        None => false,
-    }
+fn sends_each(
+    rt: &impl Abort,
+    alloc: Global,
+    shape: &Shape,
+    coming: &[u8],
+    frames: &[u8],
+) -> Option<bool> {
+    let mut peer = peer_on(alloc, shape, coming, &[])?;
+    let is_answered = answers_each(rt, &mut peer);
+    Some(is_answered && has_sent(&peer.into_wire(), frames))
 }
 
 #[test]
@@ -166,7 +171,8 @@ fn each_call_sends_its_frame_and_reads_the_reply(rt: HostRuntime) -> Result<(), 
     let frames = frames(alloc)?;
     let replies = replies(alloc)?;
     let shape = shape(alloc)?;
-    assert!(rt; sends_each(&rt, alloc, &shape, replies.as_slice(), frames.as_slice()));
+    let is_so = sends_each(&rt, alloc, &shape, replies.as_slice(), frames.as_slice());
+    assert!(rt; is_so == Some(true));
     Ok(())
 }
 
@@ -242,18 +248,17 @@ fn is_answered(rt: &impl Abort, peer: &mut Piped<MemWire>, row: &Answer) -> bool
     ask(rt, peer, INSTANTIATE) == row.2 && peer.instance.bad_replies == row.4[1]
 }
 
-fn is_answer(rt: &impl Abort, alloc: Global, shape: &Shape, row: &Answer) -> bool {
-    match peer_on(alloc, shape, row.0, row.1) {
-        Some(mut peer) => is_answered(rt, &mut peer, row) && is_told(&peer.into_wire(), row),
-        None => false,
-    }
+fn is_answer(rt: &impl Abort, alloc: Global, shape: &Shape, row: &Answer) -> Option<bool> {
+    let mut peer = peer_on(alloc, shape, row.0, row.1)?;
+    let is_answered = is_answered(rt, &mut peer, row);
+    Some(is_answered && is_told(&peer.into_wire(), row))
 }
 
 #[test]
 fn replies_that_fail_or_are_garbled_are_told(rt: HostRuntime) -> Result<(), Fail> {
     let shape = shape(rt.alloc())?;
     for row in &ANSWERS {
-        assert!(rt; is_answer(&rt, rt.alloc(), &shape, row));
+        assert!(rt; is_answer(&rt, rt.alloc(), &shape, row) == Some(true));
     }
     Ok(())
 }
@@ -287,12 +292,21 @@ fn is_received(
     wire.receive(&mut into[..room]) == *wanted && into[..room].starts_with(bytes)
 }
 
+fn is_sent(wire: &mut MemWire, bytes: &[u8], wanted: &Result<(), WireFault>, sent: &[u8]) -> bool {
+    wire.send(bytes) == *wanted && wire.sent.as_slice() == sent
+}
+
 fn is_called_as(wire: &mut MemWire, call: &WireCall) -> bool {
     match call {
         WireCall::Send(bytes, wanted, sent) => {
-            wire.send(bytes) == *wanted && wire.sent.as_slice() == *sent
+            let bytes: &[u8] = bytes;
+            let sent: &[u8] = sent;
+            is_sent(wire, bytes, wanted, sent)
         }
-        WireCall::Receive(room, wanted, bytes) => is_received(wire, *room, wanted, bytes),
+        WireCall::Receive(room, wanted, bytes) => {
+            let bytes: &[u8] = bytes;
+            is_received(wire, *room, wanted, bytes)
+        }
     }
 }
 

@@ -67,16 +67,12 @@ fn starts_one(
     bench: &mut Bench,
     shape: &Shape,
     other: &Shape,
-) -> bool {
-    match start(rt, alloc, bench, shape) {
-        Ok(mut counter) => {
-            fails(rt, alloc, bench, shape, StartFault::Failed)
-                && fails(rt, alloc, bench, other, StartFault::Unknown)
-                && fills_its_room(rt, &mut counter)
-                && is_retired(rt, bench, counter)
-        }
-        Err(_) => false,
-    }
+) -> Result<bool, StartFault> {
+    let mut counter = start(rt, alloc, bench, shape)?;
+    let is_listed = fails(rt, alloc, bench, shape, StartFault::Failed);
+    let is_unknown = fails(rt, alloc, bench, other, StartFault::Unknown);
+    let is_full = fills_its_room(rt, &mut counter);
+    Ok(is_listed && is_unknown && is_full && is_retired(rt, bench, counter))
 }
 
 #[test]
@@ -86,7 +82,8 @@ fn a_full_room_fails_and_starts_fail_by_their_list(rt: HostRuntime) -> Result<()
     let mut bench = Bench::new(alloc, Some(2), failing);
     let shape = counter_shape(alloc, PortType::Int32, 1, None)?;
     let other = self::shape(alloc, "gauge", Vec::new(alloc))?;
-    assert!(rt; starts_one(&rt, alloc, &mut bench, &shape, &other));
+    let is_so = starts_one(&rt, alloc, &mut bench, &shape, &other)?;
+    assert!(rt; is_so);
     Ok(())
 }
 
@@ -116,15 +113,16 @@ fn is_script_retired(rt: &impl Abort, scripts: &mut Scripts, script: Script) -> 
     scripts.retired_peers().len() == 1
 }
 
-fn starts_second(rt: &impl Abort, alloc: Global, scripts: &mut Scripts, shape: &Shape) -> bool {
-    match start(rt, alloc, scripts, shape) {
-        Ok(mut script) => {
-            fails(rt, alloc, scripts, shape, StartFault::Failed)
-                && comes_to_its_end(rt, &mut script)
-                && is_script_retired(rt, scripts, script)
-        }
-        Err(_) => false,
-    }
+fn starts_second(
+    rt: &impl Abort,
+    alloc: Global,
+    scripts: &mut Scripts,
+    shape: &Shape,
+) -> Result<bool, StartFault> {
+    let mut script = start(rt, alloc, scripts, shape)?;
+    let is_listed = fails(rt, alloc, scripts, shape, StartFault::Failed);
+    let is_at_its_end = comes_to_its_end(rt, &mut script);
+    Ok(is_listed && is_at_its_end && is_script_retired(rt, scripts, script))
 }
 
 #[test]
@@ -133,6 +131,7 @@ fn a_script_gives_its_answers_and_then_fails(rt: HostRuntime) -> Result<(), Fail
     let shape = self::shape(alloc, "gauge", Vec::new(alloc))?;
     let mut scripts = scripts(alloc)?;
     assert!(rt; fails(&rt, alloc, &mut scripts, &shape, StartFault::Failed));
-    assert!(rt; starts_second(&rt, alloc, &mut scripts, &shape));
+    let is_so = starts_second(&rt, alloc, &mut scripts, &shape)?;
+    assert!(rt; is_so);
     Ok(())
 }
