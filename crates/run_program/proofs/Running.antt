@@ -65,13 +65,13 @@ plan_within plan w = record {
 unfit_within : (system : System) (plan : Plan) (size k : ℕ) → first_unfit system plan size ≡ Some k → k < length system.components
 unfit_within system plan size k is = by (size == plan.step) is
   where
-    by : (b : Bool) → (if b then None else position (λ (c : Component). not c.shape.has_variable_steps) system.components) ≡ Some k → k < length system.components
-    by true h = absurd (none_some k h)
-    by false h = placed system.components h
-
     placed : (cs : List Component) → position (λ (c : Component). not c.shape.has_variable_steps) cs ≡ Some k → k < length cs
     placed [] h = absurd (none_some k h)
     placed (c ∷ cs) h = (position-Some (λ (d : Component). not d.shape.has_variable_steps) (c ∷ cs) k c h).0
+
+    by : (b : Bool) → (if b then None else position (λ (c : Component). not c.shape.has_variable_steps) system.components) ≡ Some k → k < length system.components
+    by true h = absurd (none_some k h)
+    by false h = placed system.components h
 
 at_unfit : (system : System) (plan : Plan) (component : CompId) (at end : ℕ) (p : Place) → EndsAt system plan (E.FixedStep component at end) p → first_unfit system plan (end - at) ≡ Some component.0
 at_unfit system plan _ _ _ _ (Unfit s component end bound unfit) = unfit
