@@ -19,7 +19,7 @@ use Rattle.run_model.specs.Run.{Run, Situation, each, value}
 use Rattle.run_model.specs.Inputs.{state_with, state_written, written_at_port, written_by}
 use Rattle.run_model.specs.Stepping.{departing}
 use Rattle.run_model.specs.Walk.{is_taken, only_at, write_if}
-use Rattle.run_model.proofs.CallerLemmas.{written_at-is, keeps_beside, nothing_at_first, taken-is, writes_at_port, fmu_before}
+use Rattle.run_model.proofs.CallerLemmas.{written_at-is, keeps_beside, nothing_at_first, taken-is, writes_at_port}
 use Rattle.slot_calls.specs.Log.{Sent, Told, part}
 use Rattle.slot_calls.specs.Replies.{state_by, states_by}
 use Rattle.slot_calls.proofs.CallerLemmas.{part_append, state_by_append}

@@ -26,10 +26,10 @@ use Rattle.run_model.specs.Initial as I
 use Rattle.run_model.specs.Initial.{SolvesInitially, initial_value, initialized, initializing, is_read}
 use Rattle.run_model.specs.Machines.{AreMachines}
 use Rattle.run_model.specs.Walk.{only_at, write_if}
-use Rattle.run_model.proofs.CallerLemmas.{both, written_at-is, none_outside, unclocked_at-is, written_none, solvable_initially, all_at_last_initially, keeps_beside, looks_initially, nothing_at_first, writes_at_port, fmu_before, none_in, push_cases}
+use Rattle.run_model.proofs.CallerLemmas.{both, written_at-is, none_outside, unclocked_at-is, written_none, solvable_initially, all_at_last_initially, keeps_beside, looks_initially, nothing_at_first, writes_at_port, none_in, push_cases}
 use Rattle.slot_calls.specs.Log.{Sent, Told, part}
 use Rattle.slot_calls.specs.Replies.{AreReplies, RepliesBy, state_by}
-use Rattle.slot_calls.specs.Stage.{IsGoodOf, shapes_of}
+use Rattle.slot_calls.specs.Stage.{shapes_of}
 use Rattle.slot_calls.proofs.CallerLemmas.{part_append, replies_back, replies_front, state_by_append}
 use Rattle.event_iteration.specs.Initialization.{asks_initially, initially, is_set_from_feed, no_values, seen, takes_initially}
 use Rattle.event_iteration.specs.Machines.{AreAt, SolvesForMachines}

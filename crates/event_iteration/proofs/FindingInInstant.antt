@@ -28,7 +28,7 @@ use Rattle.run_model.specs.Inputs.{is_active, is_present, state_with, state_writ
 use Rattle.run_model.specs.Machines.{AreMachines, IsSituation}
 use Rattle.run_model.specs.Walk.{only_at, write_if}
 use Rattle.run_model.specs.Timers.{IsDue}
-use Rattle.run_model.proofs.CallerLemmas.{present_alike, written_at-is, decided, all_at_last, keeps_beside, looks_in_midst, nothing_at_first, writes_at_port, solvable, fmu_before, none_in, push_cases}
+use Rattle.run_model.proofs.CallerLemmas.{present_alike, written_at-is, decided, all_at_last, keeps_beside, looks_in_midst, nothing_at_first, writes_at_port, solvable, none_in, push_cases}
 use Rattle.slot_calls.specs.Log.{Sent, Told, part}
 use Rattle.slot_calls.specs.Replies.{AreReplies, RepliesBy, state_by, states_by}
 use Rattle.slot_calls.specs.Stage.{IsGoodOf, shapes_of}
