@@ -5,6 +5,8 @@ use Rattle.std.specs.List.{slice_get}
 use Rattle.std.proofs.lemmas.List.{append-nil, map-append, take-append-drop, take-map, drop-map}
 use Rattle.std.proofs.lemmas.List.Elements.{All-nil, All-cons, All-head, All-tail, All-take, All-drop}
 use Rattle.std.proofs.lemmas.List.Folds.{list_any-append}
+use Rattle.std.proofs.lemmas.Bool.{and_from, or_from, or_parts}
+use Rattle.std.proofs.Math.Bool.{or-true}
 use Rattle.std.proofs.lemmas.Option.{same_Some}
 use Rattle.value_types.specs.declared.shape.Shape.{Shape}
 use Rattle.fmi_calls.specs.declared.call.Call.TheVariants as C
@@ -208,16 +210,6 @@ module _ (talks : List Talk) (log : List Sent) where
       (lost_after source rows (All-tail (IsRow talks log) row rows rs))
       ∙ or_mix (a && l.source == source) (b && l.source == source) (any_fatal_run source (lives_of rows)) (any_fatal_closing source (lives_of rows))
 
-  or_first : (a b : Bool) → a ≡ true → (a || b) ≡ true
-  or_first a b h = subst (λ (x : Bool). (x || b) ≡ true) (sym h) refl
-
-  or_second : (a b : Bool) → b ≡ true → (a || b) ≡ true
-  or_second true b h = refl
-  or_second false b h = h
-
-  and_both : (a b : Bool) → a ≡ true → b ≡ true → (a && b) ≡ true
-  and_both a b h k = ap (λ (x : Bool). x && b) h ∙ k
-
   abbrev Spares : List Member → Member → Type 0
   Spares ms m = any_fatal m.shape m.run ≡ true → All (IsSpared m.source) ms
 
@@ -228,8 +220,8 @@ module _ (talks : List Talk) (log : List Sent) where
       let l = life_of log row in
       All-cons (Spares (map member_in (lives_of all))) (member_in l) (map member_in (lives_of rows))
       (λ (fatal : any_fatal (shape_in l) l.run ≡ true). spared_same l.source all rs (spared_from l.source [] (closings_of all)
-      (lost_before l.source all rs ∙ among l.source (or_first (any_fatal (shape_in l) l.run && l.source == l.source) (any_fatal_run l.source (lives_of rows)) (and_both _ _ fatal (same_number l.source)))) order))
-      (behind_run all rs order rows (All-tail (IsRow talks log) row rows mine) (λ source h. among source (or_second (any_fatal (shape_in l) l.run && l.source == source) (any_fatal_run source (lives_of rows)) h)))
+      (lost_before l.source all rs ∙ among l.source (ap (λ (b : Bool). b || any_fatal_run l.source (lives_of rows)) (and_from _ _ fatal (same_number l.source)))) order))
+      (behind_run all rs order rows (All-tail (IsRow talks log) row rows mine) (λ source h. among source (ap (λ (b : Bool). (any_fatal (shape_in l) l.run && l.source == source) || b) h ∙ or-true (any_fatal (shape_in l) l.run && l.source == source))))
 
   pub row_siblings : (rows : List Row) → AreRows rows → InOrder [] (closings_of rows) → Siblings (map member_in (lives_of rows))
   row_siblings rows rs order = record {
@@ -257,11 +249,7 @@ module _ (talks : List Talk) (log : List Sent) where
   one_each closed (c ∷ cs) order = All-cons (λ (x : Closing). (b : Bool) × ClosesOne b x) c cs (_, order.0) (one_each (closed ++ c.new ∷ []) cs order.1)
 
   or_none : (a b c : Bool) → ((a || c) || b) ≡ false → ((a || b) || c) ≡ false
-  or_none true b c h = absurd (cc)
-  or_none false true true h = absurd (cc)
-  or_none false true false h = absurd (cc)
-  or_none false false true h = absurd (cc)
-  or_none false false false h = refl
+  or_none a b c h = let p = or_parts (a || c) b h in let q = or_parts a c p.0 in or_from (a || b) c (or_from a b q.0 p.1) q.1
 
   -- who isn't spared is of no lost source at its turn
   pub turn_open : (rows : List Row) → AreRows rows → (k : ℕ) (source : ℕ) → (any_fatal_run source (lives_of rows) || any_fatal_closing source (take k (lives_of rows))) ≡ false →

@@ -14,6 +14,7 @@ use Rattle.slot_calls.specs.SavedStates.{IsEnding, IsOfClosing, IsParted, Leaves
 use Rattle.slot_calls.proofs.CallerLemmas.{saved_same}
 use Rattle.course_laws.specs.Laws.{calls_in}
 use Rattle.step_master.proofs.Leaving.{turn_all}
+use Rattle.step_master.proofs.SeatLemmas.{all_under}
 
 -- ---- what a closing sends
 
@@ -49,15 +50,16 @@ none_ends C.Terminate run ends = absurd (cc)
 none_ends C.FreeInstance run ends = absurd (cc)
 none_ends call run ends = ends
 
-run_at : (front rest : List Exchange) (e : Exchange) (all : List Exchange) → all ≡ front ++ e ∷ rest → All IsRunCall (calls_in all) → All IsRunCall (e.call ∷ calls_in rest)
-run_at [] rest e all is rs = subst (λ (l : List Exchange). All IsRunCall (calls_in l)) is rs
-run_at (x ∷ front) rest e all is rs = run_at front rest e (front ++ e ∷ rest) refl (All-tail IsRunCall x.call (calls_in (front ++ e ∷ rest)) (subst (λ (l : List Exchange). All IsRunCall (calls_in l)) is rs))
+-- what holds of the calls of a talk holds of one of them, and of those behind it
+all_behind : (P : Call → Type 0) (front rest : List Exchange) (e : Exchange) (all : List Exchange) → all ≡ front ++ e ∷ rest → All P (calls_in all) → All P (e.call ∷ calls_in rest)
+all_behind P [] rest e all is rs = subst (λ (l : List Exchange). All P (calls_in l)) is rs
+all_behind P (x ∷ front) rest e all is rs = all_behind P front rest e (front ++ e ∷ rest) refl (All-tail P x.call (calls_in (front ++ e ∷ rest)) (subst (λ (l : List Exchange). All P (calls_in l)) is rs))
 
 module _ (talks : List Talk) (shape : Shape) (run closing : List Exchange) (runs : All IsRunCall (calls_in run)) (leaves : LeavesState talks shape run) where
   of_run : (front rest : List Exchange) (e : Exchange) → run ≡ front ++ e ∷ rest → IsOfClosing talks front e.call (rest ++ closing) → ⊥
   of_run front rest e is = not_free talks front e.call (rest ++ closing) (All-head IsRunCall e.call (calls_in rest) here) (free rest refl) where
     here : All IsRunCall (e.call ∷ calls_in rest)
-    here = run_at front rest e run is runs
+    here = all_behind IsRunCall front rest e run is runs
 
     free : (more : List Exchange) → more ≡ rest → e.call ≡ C.Free → IsOfClosing talks front C.Free (rest ++ closing) → ⊥
     free [] none frees o =
@@ -70,14 +72,8 @@ module _ (talks : List Talk) (shape : Shape) (run closing : List Exchange) (runs
         none_ends x.call (All-head IsRunCall x.call (calls_in more) (All-tail IsRunCall e.call (calls_in (x ∷ more)) (subst (λ (l : List Exchange). All IsRunCall (e.call ∷ calls_in l)) (sym some) here)))
         (All-head (λ (y : Exchange). IsEnding y.call) x (more ++ closing) (subst (λ (l : List Exchange). All (λ (y : Exchange). IsEnding y.call) (l ++ closing)) (sym some) o.0))
 
-  -- what holds of the calls holds of the exchanges
-  by_calls : (es : List Exchange) → All IsEnding (calls_in es) → All (λ (e : Exchange). IsEnding e.call) es
-  by_calls [] all = All-nil (λ (e : Exchange). IsEnding e.call)
-  by_calls (e ∷ es) all = All-cons (λ (x : Exchange). IsEnding x.call) e es (All-head IsEnding e.call (calls_in es) all) (by_calls es (All-tail IsEnding e.call (calls_in es) all))
-
   ending_at : (front rest : List Exchange) (e : Exchange) (all : List Exchange) → all ≡ front ++ e ∷ rest → All IsEnding (calls_in all) → IsEnding e.call
-  ending_at [] rest e all is es = All-head IsEnding e.call (calls_in rest) (subst (λ (l : List Exchange). All IsEnding (calls_in l)) is es)
-  ending_at (x ∷ front) rest e all is es = ending_at front rest e (front ++ e ∷ rest) refl (All-tail IsEnding x.call (calls_in (front ++ e ∷ rest)) (subst (λ (l : List Exchange). All IsEnding (calls_in l)) is es))
+  ending_at front rest e all is es = All-head IsEnding e.call (calls_in rest) (all_behind IsEnding front rest e all is es)
 
   of_closing : Closes (saved_after shape false run) closing → (front rest : List Exchange) (e : Exchange) → closing ≡ front ++ e ∷ rest → IsOfClosing talks (run ++ front) e.call rest
   of_closing (Plainly all) front rest e is = ending_of_closing talks (run ++ front) e.call rest (ending_at front rest e closing is all)
@@ -85,7 +81,7 @@ module _ (talks : List Talk) (shape : Shape) (run closing : List Exchange) (runs
       let same : f ∷ more ≡ e ∷ rest = sym sent ∙ is in
       subst (λ (l : List Exchange). IsOfClosing talks l e.call rest) (sym (append-nil run))
       (subst (λ (c : Call). IsOfClosing talks run c rest) (sym frees ∙ ap (λ (x : Exchange). x.call) (heads same))
-      (by_calls rest (subst (λ (l : List Exchange). All IsEnding (calls_in l)) (rests same) all), leaves.held held))
+      (all_under (λ (x : Exchange). x.call) IsEnding rest (calls_in rest) refl (subst (λ (l : List Exchange). All IsEnding (calls_in l)) (rests same) all), leaves.held held))
     where
       heads : {a b : Exchange} {xs ys : List Exchange} → a ∷ xs ≡ b ∷ ys → a ≡ b
       heads h = cc
@@ -124,6 +120,6 @@ leaves_none talks shape run runs = record {
 } where
   frees_none : (front rest : List Exchange) (e : Exchange) → run ≡ front ++ e ∷ rest → e.call ≡ C.Free → ⊥
   frees_none front rest e is frees =
-      let here = All-head IsRunCall e.call (calls_in rest) (run_at front rest e run is runs) in
+      let here = All-head IsRunCall e.call (calls_in rest) (all_behind IsRunCall front rest e run is runs) in
       let none : keeps_state C.Free ≡ false = ap keeps_state (sym frees) ∙ no_state e.call here in
       absurd (cc)

@@ -77,6 +77,12 @@ sources_seated (c ∷ cs) (v ∷ vs) e = ap (λ (l : List ℕ). c.source.0 ∷ l
 pub length_seated : (cs : List Component) (vs : List View) → length cs ≡ length vs → length (seated cs vs) ≡ length vs
 length_seated cs vs e = sym (length-map (seated cs vs) (λ (i : Instance). i.view)) ∙ ap length (views_seated cs vs (sym e))
 
+-- an element of a mapped list is that of one
+pub unmapped : {A B : Type 0} (f : A → B) (xs : List A) (k : ℕ) (y : B) → slice_get (map f xs) k ≡ Some y → (x : A) × (slice_get xs k ≡ Some x) × (y ≡ f x)
+unmapped f [] k y is = absurd (cc)
+unmapped f (x ∷ xs) zero y is = (x, refl, cc)
+unmapped f (x ∷ xs) (suc k) y is = unmapped f xs k y is
+
 -- what holds of each value holds of what has it
 pub all_under : {A B : Type 0} (f : A → B) (P : B → Type 0) (xs : List A) (ys : List B) → map f xs ≡ ys → All P ys → All (λ (x : A). P (f x)) xs
 all_under f P xs ys same all = λ k d w.
@@ -130,17 +136,12 @@ components_few system sound = let few = sound.components.few in omega (arith, fe
 pub tell_theirs : {L : Type 0} (view : L → View) (ps : List L) → ((p : L) → IfSome (view p).fixed.machine (IsMachineOf (view p).fixed.shape)) → ((p : L) → IfSome (view p).fixed.machine (IsLawful (view p).fixed.shape)) →
     (system : System) → ArePeersOf system (map view ps) → TellTheirs system (map view ps)
 tell_theirs view ps machine lawful system peers i c v m at_c at_v tells =
-    let p = unmapped ps i v at_v in
-    let shape_is : (view p.0).fixed.shape ≡ c.shape = ap (λ (w : View). w.fixed.shape) (sym p.1) ∙ (peers.each i c v at_c at_v).shape_is in
-    let told : (view p.0).fixed.machine ≡ Some m = ap (λ (w : View). w.fixed.machine) (sym p.1) ∙ tells in (
+    let p = unmapped view ps i v at_v in
+    let shape_is : (view p.0).fixed.shape ≡ c.shape = ap (λ (w : View). w.fixed.shape) (sym p.2) ∙ (peers.each i c v at_c at_v).shape_is in
+    let told : (view p.0).fixed.machine ≡ Some m = ap (λ (w : View). w.fixed.machine) (sym p.2) ∙ tells in (
       subst (λ (s : Shape). IsMachineOf s m) shape_is (subst (λ (o : Option Machine). IfSome o (IsMachineOf (view p.0).fixed.shape)) told (machine p.0)),
       subst (λ (s : Shape). IsLawful s m) shape_is (subst (λ (o : Option Machine). IfSome o (IsLawful (view p.0).fixed.shape)) told (lawful p.0)),
     )
-  where
-    unmapped : (xs : List _) (k : ℕ) (y : View) → slice_get (map view xs) k ≡ Some y → (x : _) × (y ≡ view x)
-    unmapped [] k y is = absurd (cc)
-    unmapped (x ∷ xs) zero y is = (x, cc)
-    unmapped (x ∷ xs) (suc k) y is = unmapped xs k y is
 
 -- ---- closing
 

@@ -1,10 +1,11 @@
 -- What the lives of told machines say of their run.
-use Rattle.std.proofs.Common.{◌≡◌, ℕ, ◌<◌, inl, inr, Bool, true, false, List, [], ◌∷◌, ◌++◌, Some, refl, sym, ap, ◌∙◌, subst, append_assoc, arith, length, get_or}
+use Rattle.std.proofs.Common.{◌≡◌, ℕ, ◌<◌, inl, inr, Bool, true, List, [], ◌∷◌, ◌++◌, Some, refl, sym, ap, ◌∙◌, subst, append_assoc, arith, length, get_or}
 use Rattle.std.specs.Prelude.{◌||◌, ◌==◌}
 use Rattle.std.specs.List.{list_any, slice_get}
 use Rattle.std.specs.Option.{option_map}
 use Rattle.std.proofs.lemmas.List.{length-map}
 use Rattle.std.proofs.lemmas.List.Folds.{list_any-append}
+use Rattle.std.proofs.Math.Bool.{or-true}
 use Rattle.std.proofs.lemmas.Option.{same_Some, slice_get-get_or, slice_get-map, slice_get_within}
 use Rattle.fmu_peer.specs.declared.ended.Why.{Why}
 use Rattle.fmu_peer.specs.declared.peer.Exchange.{Exchange}
@@ -65,10 +66,6 @@ module _ (system : System) (olds news : List View) (log : List Sent) (lives : Li
         )
 
   -- a call that got no reply raised its peer's count
-  or_last : (a b c : Bool) → ((a || (true || b)) || c) ≡ true
-  or_last true b c = refl
-  or_last false b c = refl
-
   rose_of : (why : Why) → IsLost (length system.components) log why → SomeRose olds news
   rose_of why lost =
       let k = lost.last.component in
@@ -82,7 +79,7 @@ module _ (system : System) (olds news : List View) (log : List Sent) (lives : Li
       ∙ ap (λ (b : Bool). b || list_any is_unanswered life.closing)
       (ap (list_any is_unanswered) run_is ∙ list_any-append is_unanswered (part k lost.front) (lost.last.exchange ∷ part k lost.back)
       ∙ ap (λ (b : Bool). list_any is_unanswered (part k lost.front) || (b || list_any is_unanswered (part k lost.back))) lost.unanswered)
-      ∙ or_last (list_any is_unanswered (part k lost.front)) (list_any is_unanswered (part k lost.back)) (list_any is_unanswered life.closing) in
+      ∙ ap (λ (b : Bool). b || list_any is_unanswered life.closing) (or-true (list_any is_unanswered (part k lost.front))) in
       record { place = k; old = life.old; new = life.new; before = found.3; after = found.4; rose = found.2.counts.rose some }
 
 module _ (r : Run) (olds news : List View) (log : List Sent) (lives : List Life) (are : AreLives r.system olds news log lives) (tell : TellMachines olds r.machines) where
@@ -140,13 +137,10 @@ module _ (a : Account) (r : Run) (sound : IsSound a.system) (built : IsBuilt a.s
   rose why lost = rose_of r.system a.olds a.news (lived.made ++ lived.log) lived.lives own_lives why (lost_behind why lost)
 
   traces : (end : RunEnd) → Outcomes.TracesWell r lived.log (output_of a) end → TracesWell a r end
-  traces E.Stop h = h
-  traces (E.Asked point) h = h
-  traces (E.EventLimit point) h = h
-  traces (E.FixedStep component at end) h = h
   traces (E.Bad bad) lost = (lost.link, rose bad.why lost)
   traces E.WriteFault (inl (why, lost)) = inl (rose why lost)
   traces E.WriteFault (inr cuts) = inr cuts
+  traces end h = h
 
 pub told_run : RunByLog → ToldRun
 told_run law a r sound built plan run plan_is lived = law r lived.made lived.log lived.is a.end (output_of a) (own_run a r sound built plan run plan_is lived)

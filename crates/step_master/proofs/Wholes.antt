@@ -1,5 +1,5 @@
 -- From the first call of each peer to its closing.
-use Rattle.std.proofs.Common.{◌≡◌, inl, inr, ℕ, zero, suc, ◌<◌, Bool, true, false, List, [], ◌∷◌, ◌++◌, Option, Some, None, Result, refl, sym, ap, ◌∙◌, subst, arith, length, get_or, map, take, drop}
+use Rattle.std.proofs.Common.{◌≡◌, inl, inr, ℕ, ◌<◌, Bool, true, false, List, [], ◌∷◌, ◌++◌, Option, Some, None, Result, refl, sym, ap, ◌∙◌, subst, arith, length, get_or, map, take, drop}
 use Rattle.std.specs.Prelude.{All, ◌||◌}
 use Rattle.std.specs.List.{list_any, slice_get}
 use Rattle.std.specs.Option.{option_map}
@@ -7,6 +7,7 @@ use Rattle.std.specs.Result.{is_err}
 use Rattle.std.proofs.lemmas.List.{length-map, get_or-take, length-take}
 use Rattle.std.proofs.lemmas.List.Elements.{All-map}
 use Rattle.std.proofs.lemmas.List.Folds.{list_any-append}
+use Rattle.std.proofs.Math.Bool.{or-true}
 use Rattle.std.proofs.lemmas.Option.{get_or_from_slice_get, slice_get-get_or, slice_get-map, slice_get_within}
 use Rattle.std.proofs.lemmas.Simd.{map-map}
 use Rattle.sim_base.specs.Causes.{Rose}
@@ -43,14 +44,9 @@ use Rattle.step_master.specs.System.{ArePeersOf}
 use Rattle.step_master.proofs.Living.{IsRow, Row, at_turn, closings_are, is_life, life_of, one_each, row_at, row_closed, row_parted, row_siblings, rows_from, seats_are, turn_open}
 use Rattle.step_master.proofs.Leaving.{closed_over}
 use Rattle.step_master.proofs.Parted.{leaves_none}
-use Rattle.step_master.proofs.SeatLemmas.{IsSeat, are_seats, length_seated, seated_shapes, sources_seated, views_seated}
+use Rattle.step_master.proofs.SeatLemmas.{IsSeat, are_seats, length_seated, seated_shapes, sources_seated, unmapped, views_seated}
 
 -- what a mapped list has at a place
-unmapped : {A B : Type 0} (f : A → B) (xs : List A) (k : ℕ) (y : B) → slice_get (map f xs) k ≡ Some y → (x : A) × (slice_get xs k ≡ Some x) × (y ≡ f x)
-unmapped f [] k y is = absurd (cc)
-unmapped f (x ∷ xs) zero y is = (x, refl, cc)
-unmapped f (x ∷ xs) (suc k) y is = unmapped f xs k y is
-
 mapped : {A B : Type 0} (f : A → B) (xs : List A) (k : ℕ) (x : A) → slice_get xs k ≡ Some x → slice_get (map f xs) k ≡ Some (f x)
 mapped f xs k x is = slice_get-map f xs k ∙ ap (option_map f) is
 
@@ -199,16 +195,13 @@ module _ (system : System) (olds : List View) (peers : ArePeersOf system olds) (
   link_lost shape (Misreply call reply) e l w = absurd l
   link_lost shape (Link call fault) e l w = ap (λ (r : Result Reply PeerFault). is_err r) w.1
 
-  or_true : (a b c : Bool) → b ≡ true → ((a || (b || false)) || c) ≡ true
-  or_true true b c h = refl
-  or_true false b c h = subst (λ (x : Bool). ((x || false) || c) ≡ true) (sym h) refl
-
   -- an answer that was lost has raised the count
   lost_rose : (life : Life) (why : Why) → IsLife life → IsFirstBad (shape_in life) why life.run → IsLink why → Rose life.old.faults life.new.faults
   lost_rose life why is first l = is.counts.rose
       (list_any-append is_unanswered life.run life.closing
       ∙ ap (λ (b : Bool). b || list_any is_unanswered life.closing) (ap (list_any is_unanswered) first.is ∙ list_any-append is_unanswered first.front (first.last ∷ []))
-      ∙ or_true (list_any is_unanswered first.front) (is_unanswered first.last) (list_any is_unanswered life.closing) (link_lost (shape_in life) why first.last l first.bad))
+      ∙ ap (λ (b : Bool). (list_any is_unanswered first.front || (b || false)) || list_any is_unanswered life.closing) (link_lost (shape_in life) why first.last l first.bad)
+      ∙ ap (λ (b : Bool). b || list_any is_unanswered life.closing) (or-true (list_any is_unanswered first.front)))
 
   pub bad_lives : (bad : BadAnswer) → IsFirstBadOf (shapes_of system) bad log → IsLeastBad bad lives
   bad_lives bad b =
@@ -229,17 +222,11 @@ module _ (system : System) (olds : List View) (peers : ArePeersOf system olds) (
         rose = lost_rose life bad.why (is_life talks log x.0 (row_is k x.0 x.1)) first;
       }
 
-  none_bad : (bad : Option BadAnswer) → bad ≡ None → AnswersAre (shapes_of system) bad log → AreGood lives
-  none_bad bad none answers = good_lives (subst (λ (b : Option BadAnswer). AnswersAre (shapes_of system) b log) none answers)
-
   pub ends_lives : (end : RunEnd) (bad : Option BadAnswer) → TellsEnd end bad → AnswersAre (shapes_of system) bad log → EndsLives end lives
-  ends_lives E.Stop bad tells answers = none_bad bad tells answers
-  ends_lives (E.Asked point) bad tells answers = none_bad bad tells answers
-  ends_lives (E.EventLimit point) bad tells answers = none_bad bad tells answers
-  ends_lives (E.FixedStep component at end) bad tells answers = none_bad bad tells answers
   ends_lives (E.Bad b) bad tells answers = bad_lives b (subst (λ (o : Option BadAnswer). AnswersAre (shapes_of system) o log) tells answers)
   ends_lives E.WriteFault None tells answers = inl (good_lives answers)
   ends_lives E.WriteFault (Some bad) tells answers = inr (bad, bad_lives bad answers)
+  ends_lives end bad tells answers = good_lives (subst (λ (o : Option BadAnswer). AnswersAre (shapes_of system) o log) tells answers)
 
 -- ---- the laws, from those of a run's calls
 
@@ -281,8 +268,6 @@ module _ (answers : FirstBadAnswer) (once : NoCallTwice) (asked_for : UpdatesAsk
         are = are_lives system olds peers u.log u.mids news u.told u.closes needed updates;
         least = bad_lives system olds peers u.log u.mids news u.told u.closes needed updates bad (answers system (Some bad) u.log sound come);
       }
-
--- ---- over
 
 pub lives_are_over : LivesAreOver
 lives_are_over system olds news log lives are k life here spared = closed_over life (subst IsLife (get_or_from_slice_get lives k life life here) (are.each k life (slice_get_within lives k life here))) (are.closed k life here spared)
