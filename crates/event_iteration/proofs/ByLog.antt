@@ -23,9 +23,9 @@ use Rattle.event_iteration.specs.Clocks.{AreTicks}
 use Rattle.event_iteration.specs.Explains.{Explains}
 use Rattle.event_iteration.specs.Initialization.{initially, no_values}
 use Rattle.event_iteration.specs.Instants.{in_instant}
-use Rattle.event_iteration.specs.Settings.{entered_step, port_order}
+use Rattle.event_iteration.specs.Settings.{port_order}
 pub use Rattle.event_iteration.proofs.Clockless.{unclocked_parts}
-use Rattle.event_iteration.proofs.Departing.{depart_from, sets_by}
+use Rattle.event_iteration.proofs.Departing.{departs_by}
 use Rattle.event_iteration.proofs.Finding as N
 use Rattle.event_iteration.proofs.Finding.{state_is, values_are}
 use Rattle.event_iteration.proofs.FindingInInstant as T
@@ -135,8 +135,4 @@ updates_by_log r s values log machines situation answered replies =
 pub sets_by_log : SetsByLog
 sets_by_log r s values log sound len told =
     let back = setting_back r.system sound s.before len (port_order r.system) [] (sym (append-nil (port_order r.system))) values log told in
-    sets_by r sound s.before len back.next log back.walked (entered_step r s)
-    ∙ each_each (λ i c m y. if c.shape.has_event_mode then after m y C.EnterStep else y) (λ i c m y. if c.shape.has_event_mode then y else state_with r.system.ports s.before i m y) 0 r.system.components r.machines s.states
-    ∙ each_same r s.states (λ i c m y. if c.shape.has_event_mode then (if c.shape.has_event_mode then after m y C.EnterStep else y) else state_with r.system.ports s.before i m (if c.shape.has_event_mode then after m y C.EnterStep else y))
-    (λ i c m y. if c.shape.has_event_mode then after m y C.EnterStep else state_with r.system.ports s.before i m y)
-    (λ i c m y fmu. depart_from r s c.shape.has_event_mode i m y)
+    departs_by r sound s len back.next log back.walked

@@ -27,8 +27,9 @@ use Rattle.event_iteration.specs.Machines.{AreAt}
 use Rattle.event_iteration.specs.Settings.{DepartsForMachines, before_step, entered_step, port_order, sets_to}
 use Rattle.event_iteration.specs.Turns.{Turn, Walked}
 use Rattle.event_iteration.proofs.Clockless.{no_clock_of, present_of}
-use Rattle.event_iteration.proofs.Fmus.{after_if, each_same, exchanges_of, fmu_on, part_other_of, part_own_of, state_by_one, told_at}
+use Rattle.event_iteration.proofs.Fmus.{after_if, each_same, exchanges_of, part_other_of, part_own_of, state_by_one}
 use Rattle.event_iteration.proofs.Setting.{NoNeeds, SetsPort, in_order, sets_ports}
+use Rattle.event_iteration.proofs.Stages.{each_each, told_on}
 use Rattle.event_iteration.proofs.Turning.{all_good, calls_of}
 use Rattle.event_iteration.proofs.Walking.{Here, along, by_number}
 
@@ -135,25 +136,20 @@ sets_by r sound now len values log walked ss =
     each_same r ss (λ i c m z. state_by m z (part i log)) (λ i c m z. if c.shape.has_event_mode then z else state_with r.system.ports now i m z)
     (λ i c m z fmu. state_is r.system sound now len values log walked i c fmu.component m z)
 
-module _ (r : Run) (s : Situation) (sound : IsSound r.system) (len : length s.before ≡ length r.system.ports) (olds news : List Instance) (at : AreAt r (entered_step r s) olds) (values : List (Option ℤ)) (log : List Sent)
-    (told : Told log olds news) (walked : Walked r.system (before_step s.before) s.before (port_order r.system) values log) where
-  departed : AreAt r (departing r s) news
-  departed i c m z fmu =
-      let first = fmu_before r s.states (λ j d n y. if d.shape.has_event_mode then after n y C.EnterStep else state_with r.system.ports s.before j n y) i c m z fmu in
-      let entered : MachineState = if c.shape.has_event_mode then after m first.before C.EnterStep else first.before in
-      let behind = told_at r (entered_step r s) olds news at log told (all_good SetsPort r.system (port_order r.system) log (calls_of SetsPort r.system (before_step s.before) (sets_ports r.system s.before) s.before (port_order r.system) values log walked))
-      i c m entered (fmu_on r s.states (λ j d n y. if d.shape.has_event_mode then after n y C.EnterStep else y) i c m first.before first.fmu) in (
-        behind.instance,
-        behind.is,
-        behind.machine,
-        behind.state ∙ ap Some (state_is r.system sound s.before len values log walked i c fmu.component m entered ∙ depart_from r s c.shape.has_event_mode i m first.before ∙ sym first.is),
-      )
+-- and with what EnterStep made of them they are those of the step's beginning
+pub departs_by : (r : Run) (sound : IsSound r.system) (s : Situation) (len : length s.before ≡ length r.system.ports) (values : List (Option ℤ)) (log : List Sent) → Walked r.system (before_step s.before) s.before (port_order r.system) values log → states_by r (entered_step r s) log ≡ departing r s
+departs_by r sound s len values log walked =
+    sets_by r sound s.before len values log walked (entered_step r s)
+    ∙ each_each (λ i c m y. if c.shape.has_event_mode then after m y C.EnterStep else y) (λ i c m y. if c.shape.has_event_mode then y else state_with r.system.ports s.before i m y) 0 r.system.components r.machines s.states
+    ∙ each_same r s.states (λ i c m y. if c.shape.has_event_mode then (if c.shape.has_event_mode then after m y C.EnterStep else y) else state_with r.system.ports s.before i m (if c.shape.has_event_mode then after m y C.EnterStep else y))
+    (λ i c m y. if c.shape.has_event_mode then after m y C.EnterStep else state_with r.system.ports s.before i m y)
+    (λ i c m y fmu. depart_from r s c.shape.has_event_mode i m y)
 
 -- the walk over a system leads to a step's beginning
 pub departs_for_machines : (system : System) → IsSound system → (now : List (Option ℤ)) → length now ≡ length system.ports → (olds news : List Instance) (log : List Sent) → Told log olds news →
     Walked system (before_step now) now (port_order system) now log → DepartsForMachines system now olds news
 departs_for_machines system sound now len olds news log told walked r s same before at =
-    departed r s (subst IsSound (sym same) sound)
-    (ap length before ∙ len ∙ sym (ap (λ (x : System). length x.ports) same)) olds news at now log told
-    (subst (λ (x : System). Walked x (before_step s.before) s.before (port_order x) now log) (sym same)
-    (subst (λ vs. Walked system (before_step vs) vs (port_order system) now log) (sym before) walked))
+    let own = subst (λ (x : System). Walked x (before_step s.before) s.before (port_order x) now log) (sym same) (subst (λ vs. Walked system (before_step vs) vs (port_order system) now log) (sym before) walked) in
+    let len_own = ap length before ∙ len ∙ sym (ap (λ (x : System). length x.ports) same) in
+    subst (λ (ss : List MachineState). AreAt r ss news) (departs_by r (subst IsSound (sym same) sound) s len_own now log own)
+    (told_on r (entered_step r s) olds news at log told (all_good SetsPort r.system (port_order r.system) log (calls_of SetsPort r.system (before_step s.before) (sets_ports r.system s.before) s.before (port_order r.system) now log own)))

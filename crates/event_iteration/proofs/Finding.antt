@@ -35,8 +35,9 @@ use Rattle.event_iteration.specs.Initialization.{asks_initially, initially, is_s
 use Rattle.event_iteration.specs.Machines.{AreAt, SolvesForMachines}
 use Rattle.event_iteration.specs.Turns.{IsPaired, Turn, Walked}
 use Rattle.event_iteration.proofs.Clockless.{present_unclocked}
-use Rattle.event_iteration.proofs.Fmus.{after_if, are_replies, at_fmu-is, exchanges_of, fmu_on, got, none_reply, part_other_of, part_own_of, state_by_one, told_at}
+use Rattle.event_iteration.proofs.Fmus.{after_if, are_replies, at_fmu-is, each_same, exchanges_of, fmu_on, got, none_reply, part_other_of, part_own_of, state_by_one}
 use Rattle.event_iteration.proofs.Permits.{IsQuiet, asks_quietly, quiet_part, sent_quiet}
+use Rattle.event_iteration.proofs.Stages.{told_on}
 use Rattle.event_iteration.proofs.Walking.{Here, along, by_number, next_beside, next_here, none_at}
 
 -- each component has a machine and a state in Initialization Mode
@@ -239,30 +240,17 @@ module _ (r : Run) (sound : IsSound r.system) (machines : AreMachines r) (W : Li
     pub quiet_is : All (IsQuiet r.system) log
     quiet_is = end.1.quiet
 
-module _ (r : Run) (sound : IsSound r.system) (machines : AreMachines r) (olds news : List Instance) (at : AreAt r (initializing r) olds) (values : List (Option ℤ)) (log : List Sent) (told : Told log olds news)
-    (walked : Walked r.system (initially r.system) (no_values r.system) (numbers r.system.initial_order) values log) where
-  abbrev replies : AreReplies r (initializing r) log
-  replies = are_replies r (initializing r) olds news at log told
-
-  pub found : SolvesInitially r values × AreAt r (initialized r values) news
-  found =
-      let W = solvable_initially r sound machines in
-      let same : values ≡ W.0 = values_are r sound machines W.0 W.1 values log walked replies in (
-        subst (SolvesInitially r) (sym same) W.1,
-        λ i c m z fmu.
-            let before = fmu_before r (initializing r) (λ j d n s. state_with r.system.ports values j n s) i c m z fmu in
-            let good : All (IsGoodOf (shapes_of r.system)) log = λ k d w. (quiet_is r sound machines W.0 W.1 values log walked replies k d w).1 in
-            let behind = told_at r (initializing r) olds news at log told good i c m before.before before.fmu in (
-              behind.instance,
-              behind.is,
-              behind.machine,
-              behind.state ∙ ap Some (state_is r sound machines W.0 W.1 values log walked replies i c m before.before before.fmu
-                  ∙ ap (λ (V : List (Option ℤ)). state_with r.system.ports V i m before.before) (sym same) ∙ sym before.is),
-            ),
-      )
-
 -- the walk over a system finds the solution
 pub solves_for_machines : (system : System) → IsSound system → (olds news : List Instance) (values : List (Option ℤ)) (log : List Sent) → Told log olds news →
     Walked system (initially system) (no_values system) (numbers system.initial_order) values log → SolvesForMachines system values olds news
 solves_for_machines system sound olds news values log told walked r same machines at =
-    found r (subst IsSound (sym same) sound) machines olds news at values log told (subst (λ (x : System). Walked x (initially x) (no_values x) (numbers x.initial_order) values log) (sym same) walked)
+    let sound_own = subst IsSound (sym same) sound in
+    let own = subst (λ (x : System). Walked x (initially x) (no_values x) (numbers x.initial_order) values log) (sym same) walked in
+    let here : List MachineState = initializing r in
+    let W = solvable_initially r sound_own machines in
+    let replies = are_replies r here olds news at log told in
+    let is = values_are r sound_own machines W.0 W.1 values log own replies in
+    let states = each_same r here (λ i c m s. state_by m s (part i log)) (λ i c m s. state_with r.system.ports W.0 i m s) (state_is r sound_own machines W.0 W.1 values log own replies) in (
+      subst (SolvesInitially r) (sym is) W.1,
+      subst (λ (ss : List MachineState). AreAt r ss news) (states ∙ ap (initialized r) (sym is)) (told_on r here olds news at log told (λ k d w. (quiet_is r sound_own machines W.0 W.1 values log own replies k d w).1)),
+    )

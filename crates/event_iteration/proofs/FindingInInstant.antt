@@ -41,9 +41,10 @@ use Rattle.event_iteration.specs.Intervals.{TellsTicks, is_time_clock}
 use Rattle.event_iteration.specs.Machines.{AreAt}
 use Rattle.event_iteration.specs.Turns.{IsPaired, Turn, Walked}
 use Rattle.event_iteration.proofs.ClockTicks.{are_ticks}
-use Rattle.event_iteration.proofs.Fmus.{after_if, are_replies, at_fmu-is, each_same, exchanges_of, got, none_reply, part_other_of, part_own_of, state_by_one, told_at}
+use Rattle.event_iteration.proofs.Fmus.{after_if, are_replies, at_fmu-is, each_same, exchanges_of, got, none_reply, part_other_of, part_own_of, state_by_one}
 use Rattle.event_iteration.proofs.InInstant.{ReadsOrSets, clock_events, reads_or_sets}
 use Rattle.event_iteration.proofs.Parts.{good_in_part}
+use Rattle.event_iteration.proofs.Stages.{told_on}
 use Rattle.event_iteration.proofs.Turning.{IsCallOf, all_good, calls_more}
 use Rattle.event_iteration.proofs.Walking.{Here, along, by_number, next_beside, next_here}
 
@@ -359,37 +360,25 @@ module _ (r : Run) (sound : IsSound r.system) (machines : AreMachines r) (s : Si
     pub answers_good : All (IsGoodOf (shapes_of r.system)) log
     answers_good = all_good ReadsOrSets r.system (numbers r.system.instant_order) log end.1.calls
 
-  module _ (olds news : List Instance) (at : AreAt r s.states olds) (values : List (Option ℤ)) (log : List Sent) (told : Told log olds news)
-      (walked : Walked r.system (in_instant ticks (s.n == 0)) s.before (numbers r.system.instant_order) values log) where
-    abbrev replies : AreReplies r s.states log
-    replies = are_replies r s.states olds news at log told
-
-    found : Solves r s values × AreAt r (written r s values) news
-    found = (
-      solves values log walked replies,
-      λ i c m z fmu.
-          let before = fmu_before r s.states (λ j d n y. if d.shape.has_event_mode then state_with r.system.ports values j n y else y) i c m z fmu in
-          let behind = told_at r s.states olds news at log told (answers_good values log walked replies) i c m before.before before.fmu in (
-            behind.instance,
-            behind.is,
-            behind.machine,
-            behind.state ∙ ap Some (state_is values log walked replies i c m before.before before.fmu ∙ sym before.is),
-          ),
-    )
-
 -- the walk over a system finds the solution
 pub solves_in_instant : (system : System) → IsSound system → (t : ℕ) (is_first : Bool) (table : Timetable) → StandsAt system t is_first table → (olds news : List Instance) (before values : List (Option ℤ)) (log : List Sent) → Told log olds news →
     Walked system (in_instant (is_due_at table t) is_first) before (numbers system.instant_order) values log → SolvesInInstant system table t is_first before values olds news
 solves_in_instant system sound t is_first table stands olds news before values log told walked r s same start machines situation at first timers was there =
-    found r (subst IsSound (sym same) sound) machines s situation (is_due_at table t)
-    (subst (λ (x : System). AreTicks x r.plan.start s.timers s.t s.n (is_due_at table t)) (sym same)
-    (subst (λ n. AreTicks system n s.timers s.t s.n (is_due_at table t)) (sym start)
-    (subst (λ xs. AreTicks system table.start xs s.t s.n (is_due_at table t)) (sym timers)
-    (subst (λ n. AreTicks system table.start (timers_in table) n s.n (is_due_at table t)) (sym at) (are_ticks system t is_first table stands s.n first)))))
-    olds news there values log told
-    (subst (λ (x : System). Walked x (in_instant (is_due_at table t) (s.n == 0)) s.before (numbers x.instant_order) values log) (sym same)
-    (subst (λ b. Walked system (in_instant (is_due_at table t) b) s.before (numbers system.instant_order) values log) (sym first)
-    (subst (λ V. Walked system (in_instant (is_due_at table t) is_first) V (numbers system.instant_order) values log) (sym was) walked)))
+    let sound_own = subst IsSound (sym same) sound in
+    let ticks = is_due_at table t in
+    let own_ticks =
+    subst (λ (x : System). AreTicks x r.plan.start s.timers s.t s.n ticks) (sym same)
+    (subst (λ n. AreTicks system n s.timers s.t s.n ticks) (sym start)
+    (subst (λ xs. AreTicks system table.start xs s.t s.n ticks) (sym timers)
+    (subst (λ n. AreTicks system table.start (timers_in table) n s.n ticks) (sym at) (are_ticks system t is_first table stands s.n first)))) in
+    let own =
+    subst (λ (x : System). Walked x (in_instant ticks (s.n == 0)) s.before (numbers x.instant_order) values log) (sym same)
+    (subst (λ b. Walked system (in_instant ticks b) s.before (numbers system.instant_order) values log) (sym first)
+    (subst (λ V. Walked system (in_instant ticks is_first) V (numbers system.instant_order) values log) (sym was) walked)) in
+    let replies = are_replies r s.states olds news there log told in (
+      solves r sound_own machines s situation ticks own_ticks values log own replies,
+      subst (λ (ss : List MachineState). AreAt r ss news) (states_are r sound_own machines s situation ticks own_ticks values log own replies) (told_on r s.states olds news there log told (answers_good r sound_own machines s situation ticks own_ticks values log own replies)),
+    )
 
 -- ---- the time-based Clocks that tick are those that are due
 

@@ -206,7 +206,7 @@ module _ (r : Run) (ss : List MachineState) (all : AreAll r ss) where
   IsThere port = port.component.0 < length r.system.components
 
   first_from : (ports : List Port) → All IsThere ports → TellsOf ports
-  first_from [] there log calls shown = refl
+  first_from [] there log calls told = refl
   first_from (port ∷ ports) there log calls told = first_here port ports (All-head IsThere port ports there) (first_from ports (All-tail IsThere port ports there)) port.role log calls told
 
   module _ (log : List Sent) (answered : IsAnswered (shapes_of r.system) (timing_calls r.system) log) where

@@ -1,10 +1,9 @@
 -- The answers of a walk are good, or those up to the last.
-use Rattle.std.proofs.Common.{◌≡◌, ℕ, ℤ, List, [], ◌∷◌, Option, Some, None, Ok, Contains, refl, sym, ap, ◌∙◌, subst, arith, get_or}
+use Rattle.std.proofs.Common.{◌≡◌, ℕ, ℤ, List, Option, Some, sym, ap, ◌∙◌, subst, arith, get_or}
 use Rattle.std.specs.Prelude.{All}
 use Rattle.std.specs.List.{slice_get}
-use Rattle.std.specs.Option.{option_and_then, option_map_or}
 use Rattle.std.proofs.lemmas.List.{length-map}
-use Rattle.std.proofs.lemmas.List.Elements.{All-append, All-cons, All-contains_itself, All-head, All-nil, All-tail, All-weaker}
+use Rattle.std.proofs.lemmas.List.Elements.{All-contains_itself}
 use Rattle.std.proofs.lemmas.Option.{slice_get_within}
 use Rattle.value_types.specs.declared.shape.Shape.{Shape}
 use Rattle.fmi_calls.specs.declared.call.Call.{Call}
@@ -13,11 +12,10 @@ use Rattle.fmi_calls.specs.declared.call.Reply.{Reply}
 use Rattle.fmi_calls.specs.Worth.{grade_of}
 use Rattle.fmu_peer.specs.Answer.{IsWhy}
 use Rattle.system_model.specs.declared.system.Component.{Component}
-use Rattle.system_model.specs.declared.system.Port.{Port}
 use Rattle.system_model.specs.declared.system.System.{System}
 use Rattle.slot_calls.specs.Log.{Sent}
 use Rattle.slot_calls.specs.Stage.{IsGoodOf, shapes_of}
-use Rattle.event_iteration.specs.Explains.{Explains, all_said, call_at, said}
+use Rattle.event_iteration.specs.Explains.{Explains}
 use Rattle.event_iteration.specs.Turns.{IsPaired, Rules, sent_of}
 use Rattle.event_iteration.specs.WalkCalls.{LastAloneIsBad}
 use Rattle.event_iteration.proofs.Permits.{shape_of_component}

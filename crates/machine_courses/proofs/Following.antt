@@ -1,14 +1,13 @@
 -- What follows an instant of a run of machines.
-use Rattle.std.proofs.Common.{◌≡◌, ℕ, suc, ℤ, Bool, true, false, List, [], ◌∷◌, ◌++◌, Option, refl, sym, ap, ap₂, ◌∙◌, subst}
-use Rattle.std.specs.Prelude.{◌==◌, if◌then◌else◌}
+use Rattle.std.proofs.Common.{◌≡◌, ℕ, ℤ, Bool, List, Option, sym, ap₂, subst}
+use Rattle.std.specs.Prelude.{if◌then◌else◌}
 use Rattle.system_model.specs.Sound.{IsSound}
 use Rattle.system_model.specs.Text.{Instant}
-use Rattle.run_model.specs.AfterInstant.{Again, AtLimit, Done, Ended, Following, any_update, asks_for_end, following, goes_again, updated}
+use Rattle.run_model.specs.AfterInstant.{Again, AtLimit, Done, Ended, Following, following}
 use Rattle.run_model.specs.Behaved as B
 use Rattle.run_model.specs.Behaved.{Departed, Reached}
 use Rattle.run_model.specs.Machines.{AreMachines, IsSituation}
 use Rattle.run_model.specs.Run.{Run, Situation}
-use Rattle.run_model.specs.Stepping as P
 use Rattle.run_model.specs.Stepping.{Next}
 use Rattle.run_model.specs.Trace.{Leads, LeadsBy, instant_of}
 use Rattle.run_model.proofs.CallerLemmas.{situation_reached}

@@ -1,5 +1,5 @@
 -- The instants of a course of told machines: a front of their run, and with its end their trace.
-use Rattle.std.proofs.Common.{◌≡◌, ℕ, ℤ, List, [], ◌∷◌, ◌++◌, Option, refl, sym, ap, ◌∙◌, subst, append_assoc, append-nil, arith}
+use Rattle.std.proofs.Common.{◌≡◌, ℕ, ℤ, List, [], ◌∷◌, ◌++◌, Option, refl, sym, ap, ◌∙◌, subst, append_assoc, arith}
 use Rattle.std.specs.Prelude.{All}
 use Rattle.std.proofs.lemmas.List.Elements.{All-append, All-nil}
 use Rattle.fmu_peer.specs.Machine.{MachineState}
@@ -18,7 +18,7 @@ use Rattle.slot_calls.specs.Replies.{AreReplies, states_by}
 use Rattle.slot_calls.specs.Stage.{IsGoodOf, shapes_of}
 use Rattle.event_iteration.proofs.ByLog.{IsRead, made_all, reads_stay, replies_first, replies_then, states_on}
 use Rattle.event_iteration.proofs.WalkLaws.{last_alone_is_bad}
-use Rattle.calling_sequence.specs.Course.{Before, Configured, Course, Departing, Entered, Found, Left, Leaving, LeadsTo, Made, Place, Read, Rearmed, Seen, Spot, Stepped, Timed, part_at, shown}
+use Rattle.calling_sequence.specs.Course.{Before, Configured, Course, Departing, Entered, Found, Left, Leaving, Made, Place, Read, Rearmed, Seen, Spot, Stepped, Timed, part_at, shown}
 use Rattle.calling_sequence.specs.Parts.{Calls, Does, Part, Round, Walk}
 use Rattle.calling_sequence.specs.Plans.{IsPlan}
 use Rattle.calling_sequence.specs.Systems.{IsBuilt}

@@ -22,7 +22,7 @@ use Rattle.slot_calls.specs.declared.bad_answer.BadAnswer.{BadAnswer}
 use Rattle.slot_calls.specs.Log.{Asking, Sent, asking_of, askings, part}
 use Rattle.slot_calls.specs.Stage.{FailsIn, IsGoodOf, StopsAt, shapes_of, to_those, to_those_from}
 use Rattle.slot_calls.proofs.CallerLemmas.{first_same, other, rest_same, same, skips, takes}
-use Rattle.slot_calls.specs.Replies.{AreReplies, RepliesBy, state_by, states_by}
+use Rattle.slot_calls.specs.Replies.{AreReplies, RepliesBy, state_by}
 use Rattle.event_iteration.specs.Explains.{ExplainsUntil}
 use Rattle.event_iteration.specs.Turns.{Rules}
 use Rattle.event_iteration.proofs.ByLog.{AreAll, fmu_of, fmu_on, got, replies_then, shape_of_component}

@@ -1,5 +1,5 @@
 -- Where each part of a course leads told machines.
-use Rattle.std.proofs.Common.{◌≡◌, ℕ, suc, ◌<◌, ℤ, Bool, true, false, List, [], ◌∷◌, ◌++◌, Option, refl, sym, ap, ap₂, ◌∙◌, subst, append-nil, arith, length}
+use Rattle.std.proofs.Common.{◌≡◌, ℕ, suc, ◌<◌, ℤ, Bool, true, false, List, [], ◌∷◌, ◌++◌, Option, refl, sym, ap, ap₂, ◌∙◌, subst, append-nil, arith}
 use Rattle.std.specs.Prelude.{◌==◌, ◌||◌, if◌then◌else◌}
 use Rattle.std.proofs.lemmas.List.Elements.{All-nil}
 use Rattle.value_types.specs.declared.shape.Shape.{Shape}
@@ -9,8 +9,7 @@ use Rattle.fmu_peer.specs.Machine.{MachineState, after}
 use Rattle.system_model.specs.Ports.{numbers}
 use Rattle.system_model.specs.Sound.{IsSound}
 use Rattle.system_model.specs.Text.{Instant}
-use Rattle.run_model.specs.AfterInstant as F
-use Rattle.run_model.specs.AfterInstant.{Again as Repeats, Done, following, goes_again, next_timers, updated, written}
+use Rattle.run_model.specs.AfterInstant.{Again as Repeats, Done, following, goes_again, updated, written}
 use Rattle.run_model.specs.Initial as I
 use Rattle.run_model.specs.Machines.{AreMachines, IsSituation}
 use Rattle.run_model.specs.Run.{Run, Situation, Timer, each}
@@ -23,20 +22,18 @@ use Rattle.slot_calls.specs.Replies.{AreReplies, states_by}
 use Rattle.slot_calls.specs.Stage.{IsAnswered, everyone, has_events, shapes_of, to_those}
 use Rattle.event_iteration.specs.Clocks.{AreTicks}
 use Rattle.event_iteration.specs.Explains.{Explains}
-use Rattle.event_iteration.specs.Initialization.{no_values}
 use Rattle.event_iteration.specs.Instants.{in_instant}
 use Rattle.event_iteration.specs.Intervals.{Rearms, is_some_armed}
 use Rattle.event_iteration.specs.Settings.{entered_step}
 use Rattle.event_iteration.proofs.ByLog.{AreAll, IsRead, fixed_by_log, initial_by_log, instant_by_log, intervals_by_log, reads_stay, sets_by_log, stage_states, updated_all, updates_by_log}
 use Rattle.calling_sequence.specs.Calls.{IsStep, stepping}
-use Rattle.calling_sequence.specs.Course.{Again, Arrives, Before, Begins, Binds, Departing, Enters, Exits, Finds, GoesOn, Leaves, Leaving, LeadsTo, Left, Place, Reads, Rearming, Sets, Spot, Stepped, Steps, Times, Updates, Way, part_at, shown}
+use Rattle.calling_sequence.specs.Course.{Again, Arrives, Begins, Binds, Departing, Enters, Exits, Finds, GoesOn, Leaves, Leaving, LeadsTo, Left, Place, Reads, Rearming, Sets, Spot, Stepped, Steps, Times, Updates, Way, part_at, shown}
 use Rattle.calling_sequence.specs.Parts.{Does}
 use Rattle.calling_sequence.specs.Plans.{IsPlan}
 use Rattle.calling_sequence.specs.Systems.{IsBuilt}
 use Rattle.machine_courses.specs.Fronts.{AtFirst, CameTo, Onward}
 use Rattle.machine_courses.proofs.Following.{by_answers, leads_by, same_instant, situation_by}
-use Rattle.machine_courses.proofs.Places as A
-use Rattle.machine_courses.proofs.Places.{At, Comes, Goes, Initializes, IsWithin, Says, Sees, over}
+use Rattle.machine_courses.proofs.Places.{At, Comes, Goes, IsWithin, Says, Sees, over}
 use Rattle.machine_courses.proofs.Steps.{after_step, arrived_is, asks_by_log, kept, states_by_step, step_by_log}
 use Rattle.machine_courses.proofs.Parameters.{configured_states}
 

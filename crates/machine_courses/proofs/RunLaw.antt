@@ -1,5 +1,5 @@
 -- A log of told machines is their run, whatever they answer.
-use Rattle.std.proofs.Common.{◌≡◌, ℕ, Bool, true, false, ℤ, Some, List, [], ◌∷◌, ◌++◌, inl, inr, refl, sym, ap, ◌∙◌, subst, length}
+use Rattle.std.proofs.Common.{◌≡◌, ℕ, Bool, true, false, Some, List, [], ◌∷◌, ◌++◌, inl, inr, refl, sym, ap, ◌∙◌, subst, length}
 use Rattle.std.specs.Prelude.{suc, ◌-◌, ◌==◌}
 use Rattle.fmu_peer.specs.Machine.{MachineState}
 use Rattle.fmu_peer.specs.Mode.{instantiate_of}
@@ -7,7 +7,7 @@ use Rattle.system_model.specs.declared.plan.EndKind.{EndKind}
 use Rattle.system_model.specs.declared.plan.EndKind.TheVariants as K
 use Rattle.system_model.specs.Sound.{IsSound}
 use Rattle.system_model.specs.Text.{Instant, end_text}
-use Rattle.run_model.specs.AfterInstant.{AtLimit, Done, Ended, Following, following}
+use Rattle.run_model.specs.AfterInstant.{AtLimit, Done, Ended, Following}
 use Rattle.run_model.specs.Initial as I
 use Rattle.run_model.specs.Machines.{AreMachines}
 use Rattle.run_model.specs.Run.{Run, Situation, Timer}
@@ -21,13 +21,13 @@ use Rattle.event_iteration.proofs.ByLog.{replies_first, replies_then, stage_stat
 use Rattle.calling_sequence.specs.declared.run_end.RunEnd.{RunEnd}
 use Rattle.calling_sequence.specs.declared.run_end.RunEnd.TheVariants as E
 use Rattle.calling_sequence.specs.Calls.{IsBoundOf, first_unfit, making}
-use Rattle.calling_sequence.specs.Course.{Course, Place, Seen, Spot, Stepped}
+use Rattle.calling_sequence.specs.Course.{Place, Seen, Spot, Stepped}
 use Rattle.calling_sequence.specs.Ends.{AtLimit as Limited, AtStop, Awaits, Badly, ByStep, ByUpdate, EndLine, EndsAt, EndsBy, Finishes, Header, Shown, Unfit, Well, kind_of_end, point_of, text_of, trace_pieces}
 use Rattle.calling_sequence.specs.Plans.{IsPlan}
 use Rattle.calling_sequence.specs.Puts.{CutsPiece, with_pieces}
 use Rattle.calling_sequence.specs.Systems.{IsBuilt}
-use Rattle.machine_courses.specs.Fronts.{IsFront, LacksStepAt}
-use Rattle.machine_courses.specs.Laws.{IsRunOf, RunByLog}
+use Rattle.machine_courses.specs.Fronts.{LacksStepAt}
+use Rattle.machine_courses.specs.Laws.{RunByLog}
 use Rattle.machine_courses.specs.Outcomes.{CutsFront, Output, PutsRun, PutsTrace}
 use Rattle.machine_courses.proofs.Following.{by_answers, leads_by, reached_by}
 use Rattle.machine_courses.proofs.Fronts.{Front, front_at, front_before, is_front, none, stands, trace_seen}

@@ -1,5 +1,5 @@
 -- The calls of machines that behave well are answered well in a step.
-use Rattle.std.proofs.Common.{◌≡◌, ℕ, ◌-◌, ℤ, Bool, false, List, Option, Some, refl, sym, ap, ◌∙◌, subst, length}
+use Rattle.std.proofs.Common.{◌≡◌, ℕ, ◌-◌, ℤ, Bool, false, List, Option, Some, sym, ap, ◌∙◌, subst, length}
 use Rattle.std.specs.Prelude.{IfSome, if◌then◌else◌}
 use Rattle.value_types.specs.Values.{Fits}
 use Rattle.value_types.specs.declared.shape.Shape.{Shape}

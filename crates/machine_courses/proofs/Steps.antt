@@ -1,5 +1,5 @@
 -- The step of a run of machines from a point that is done.
-use Rattle.std.proofs.Common.{◌≡◌, ◌≢◌, ℕ, zero, suc, ◌-◌, ◌<◌, ◌==◌, Bool, true, false, List, [], ◌∷◌, Option, Some, None, refl, sym, ap, ap₂, ◌∙◌, subst, arith, length, get_or, map, not}
+use Rattle.std.proofs.Common.{◌≡◌, ◌≢◌, ℕ, zero, suc, ◌-◌, ◌<◌, ◌==◌, Bool, true, false, List, [], ◌∷◌, Option, Some, None, refl, sym, ap, ap₂, ◌∙◌, arith, length, map, not}
 use Rattle.std.specs.Prelude.{All, ◌&&◌, if◌then◌else◌, min, position, slice_index_or}
 use Rattle.std.specs.List.{list_any, slice_get}
 use Rattle.std.proofs.lemmas.List.Elements.{All-cons, All-head, All-map, All-nil, All-tail}
@@ -17,7 +17,7 @@ use Rattle.run_model.specs.Behaved.{AnswersWell}
 use Rattle.run_model.specs.Inputs.{state_with}
 use Rattle.run_model.specs.Stepping as P
 use Rattle.run_model.specs.Stepping.{asks_to_end, departing, end_in, is_terminating, kept_at, step_to, stepped, steppers}
-use Rattle.run_model.specs.Steps.{AllMeet, AskedFirst, IsAsked, IsBound, MayAsk, Stepper, StopsFirst, least_or, met}
+use Rattle.run_model.specs.Steps.{AllMeet, AskedFirst, IsAsked, MayAsk, Stepper, StopsFirst, least_or}
 use Rattle.slot_calls.specs.Carried.{any_asks_to_end, ends_by}
 use Rattle.slot_calls.specs.Log.{Sent}
 use Rattle.slot_calls.specs.Replies.{AreReplies, states_by}

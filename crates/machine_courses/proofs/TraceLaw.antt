@@ -1,5 +1,5 @@
 -- Machines that behave well get no bad answer: of a log of them the text of their trace is put, but for a call or a put that failed.
-use Rattle.std.proofs.Common.{◌≡◌, ◌⊎◌, ℕ, Bool, true, false, ℤ, Option, List, [], ◌∷◌, ◌++◌, inl, inr, refl, sym, ap, ap₂, ◌∙◌, subst, append_assoc, length, map}
+use Rattle.std.proofs.Common.{◌≡◌, ◌⊎◌, ℕ, true, false, List, [], ◌∷◌, ◌++◌, inl, inr, refl, sym, ap, ◌∙◌, subst, append_assoc, length, map}
 use Rattle.std.specs.Prelude.{◌==◌}
 use Rattle.std.proofs.lemmas.List.{length-map, map-append}
 use Rattle.value_types.specs.declared.shape.Shape.{Shape}
@@ -20,25 +20,24 @@ use Rattle.run_model.specs.Initial as I
 use Rattle.run_model.specs.Machines.{AreMachines}
 use Rattle.run_model.specs.Run.{Run}
 use Rattle.run_model.specs.Stepping.{departing}
-use Rattle.run_model.specs.Trace.{IsTrace}
 use Rattle.slot_calls.specs.declared.bad_answer.BadAnswer.{BadAnswer}
-use Rattle.slot_calls.specs.Log.{Asking, Sent, askings}
+use Rattle.slot_calls.specs.Log.{Sent, askings}
 use Rattle.slot_calls.specs.Replies.{AreReplies, states_by}
 use Rattle.slot_calls.specs.Stage.{FailsIn, StopsAt, everyone, shapes_of}
 use Rattle.event_iteration.specs.Explains.{ExplainsUntil}
 use Rattle.event_iteration.specs.Instants.{in_instant}
 use Rattle.event_iteration.specs.Settings.{entered_step}
-use Rattle.event_iteration.proofs.ByLog.{AreAll, configured_all, initialized_all, replies_first, replies_then}
+use Rattle.event_iteration.proofs.ByLog.{configured_all, initialized_all, replies_first, replies_then}
 use Rattle.calling_sequence.specs.declared.run_end.RunEnd.{RunEnd}
 use Rattle.calling_sequence.specs.declared.run_end.RunEnd.TheVariants as E
 use Rattle.calling_sequence.specs.Calls.{stepping}
 use Rattle.calling_sequence.specs.Course.{Before, Configured, Course, Departing, Entered, Found, Left, Leaving, Made, Place, Read, Rearmed, Seen, Stepped, Timed, Way, part_at}
-use Rattle.calling_sequence.specs.Ends.{Awaits, Badly, EndLine, EndsAt, EndsBy, Finishes, Header, Shown, Well, header_of, kind_of_end, pieces_of, point_of, text_of, trace_pieces}
+use Rattle.calling_sequence.specs.Ends.{Awaits, Badly, EndLine, EndsBy, Finishes, Header, Shown, Well, header_of, kind_of_end, pieces_of, point_of, text_of, trace_pieces}
 use Rattle.calling_sequence.specs.Parts.{Falls}
 use Rattle.calling_sequence.specs.Plans.{IsPlan}
 use Rattle.calling_sequence.specs.Puts.{CutsPiece, with_pieces}
 use Rattle.calling_sequence.specs.Systems.{IsBuilt}
-use Rattle.machine_courses.specs.Laws.{IsRunOf, TraceByLog, UnmadeByLog}
+use Rattle.machine_courses.specs.Laws.{TraceByLog, UnmadeByLog}
 use Rattle.machine_courses.specs.Outcomes.{CutsTrace, IsLost, Output, PutsRun, TracesWell}
 use Rattle.machine_courses.proofs.Following.{reached_by}
 use Rattle.machine_courses.proofs.Fronts.{front_at, none, stands}

@@ -4,7 +4,7 @@ use Rattle.system_model.specs.Bounds.{BindsParameters}
 use Rattle.system_model.specs.Sound.{IsSound}
 use Rattle.system_model.specs.Text.{Instant}
 use Rattle.run_model.specs.Behaved.{WellBehaved}
-use Rattle.run_model.specs.Initial.{first_states, instantiated}
+use Rattle.run_model.specs.Initial.{first_states}
 use Rattle.run_model.specs.Machines.{AreMachines}
 use Rattle.run_model.specs.Run.{Run}
 use Rattle.slot_calls.specs.declared.bad_answer.BadAnswer.{BadAnswer}
