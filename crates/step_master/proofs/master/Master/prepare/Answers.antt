@@ -63,7 +63,7 @@ returns-in-Ok-make-clause-ok g c =
       bound_is = refl;
       plan_is = refl;
       unrun = refl;
-      none = refl;
+      none = c.in-Ok.ensures.none;
       machines = tell_theirs view c.args.peers.items laws.machine laws.lawful c.args.system c.requires.peers;
     }
 
