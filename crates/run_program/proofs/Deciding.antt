@@ -105,10 +105,12 @@ talk_at peers talks k v talk same here there =
 whole_talk : (life : Life) (talk : List Exchange) → IsLife life → life.new.talk ≡ Some talk → unwrap_or life.new.talk [] ≡ talk_in life
 whole_talk life talk is told = ap (λ (o : Option (List Exchange)). unwrap_or o []) told ∙ told_talk life life.new talk refl told is.talk
 
-told_life : (life : Life) (talk : List Exchange) → IsLife life → life.new.talk ≡ Some talk → record { shape = life.new.fixed.shape; exchanges = unwrap_or life.new.talk [] } ≡ record { shape = shape_in life; exchanges = talk_in life }
-told_life life talk is told = ap₂ talk_record (ap (λ (f : Fixed). f.shape) is.fixed) (whole_talk life talk is told) where
-  talk_record : Shape → List Exchange → Talk
-  talk_record shape exchanges = record { shape = shape; exchanges = exchanges }
+abbrev talk_record : Shape → List Exchange → Talk
+talk_record shape exchanges = record { shape = shape; exchanges = exchanges }
+
+told_life : (life : Life) (talk : List Exchange) → IsLife life → life.new.talk ≡ Some talk →
+    talk_record life.new.fixed.shape (unwrap_or life.new.talk []) ≡ talk_record (shape_in life) (talk_in life)
+told_life life talk is told = ap₂ talk_record (ap (λ (f : Fixed). f.shape) is.fixed) (whole_talk life talk is told)
 
 talks_same : (lives : List Life) (talks : List (List Exchange)) → All IsLife lives → map (λ (v : View). v.talk) (map (λ (l : Life). l.new) lives) ≡ map (λ (es : List Exchange). Some es) talks →
     talks_of (map (λ (l : Life). l.new) lives) ≡ talks_in lives
