@@ -1,3 +1,5 @@
+ghost use Rattle.std.specs.Prelude.{◌≡◌, IfOk};
+
 use fmi_calls::{BadStatus, Call, Content, Kind, Reply, permitted};
 use fmu_link::{MemWire, Piped, Wire, WireFault};
 use fmu_peer::{Peer, PeerFault};
@@ -44,7 +46,9 @@ fn shape(alloc: Global) -> Result<Shape, AllocError> {
     })
 }
 
-fn wire(alloc: Global, room: usize, coming: &[u8], failing: &[u64]) -> Result<MemWire, AllocError> {
+fn wire(alloc: Global, room: usize, coming: &[u8], failing: &[u64]) -> Result<MemWire, AllocError>
+    ensures quiet { IfOk result (λ wire. wire.faults ≡ 0) }
+{
     let coming = coming.to_vec(alloc)?;
     MemWire::with_room(alloc, room, coming, failing.to_vec(alloc)?)
 }

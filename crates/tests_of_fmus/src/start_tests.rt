@@ -47,17 +47,18 @@ fn ask<L: Peer>(rt: &impl Abort, peer: &mut L, call: Call) -> Result<Reply, Peer
     peer.call(&call)
 }
 
-// Whether a counter answers its first call, and fails at the second, which fills its room.
-fn fills_its_room(rt: &impl Abort, counter: &mut BuiltIn) -> bool {
-    let is_instantiated = ask(rt, counter, INSTANTIATE).is_ok();
-    let is_full = ask(rt, counter, INITIALIZE) == Err(PeerFault::Failed);
-    is_instantiated && is_full && length_of(counter.talk()) == 2
+// Whether a peer answers its first call, and fails at the second, which fills its room.
+fn fills_its_room<L: Peer>(rt: &impl Abort, peer: &mut L) -> bool {
+    let is_instantiated = ask(rt, peer, INSTANTIATE).is_ok();
+    let is_full = ask(rt, peer, INITIALIZE) == Err(PeerFault::Failed);
+    is_instantiated && is_full
 }
 
 fn is_retired(rt: &impl Abort, bench: &mut Bench, counter: BuiltIn) -> bool {
     assert!(rt; bench.retired_peers().len() < bench.retired.started);
+    let has_both = length_of(counter.talk()) == 2;
     bench.retire(counter);
-    bench.retired_peers().len() == 1
+    has_both && bench.retired_peers().len() == 1
 }
 
 // Whether a bench starts a counter, and then fails by its list and at another machine.
@@ -72,7 +73,8 @@ fn starts_one(
     let is_listed = fails(rt, alloc, bench, shape, StartFault::Failed);
     let is_unknown = fails(rt, alloc, bench, other, StartFault::Unknown);
     let is_full = fills_its_room(rt, &mut counter);
-    Ok(is_listed && is_unknown && is_full && is_retired(rt, bench, counter))
+    let is_retired = is_retired(rt, bench, counter);
+    Ok(is_listed && is_unknown && is_full && is_retired)
 }
 
 #[test]
@@ -101,16 +103,18 @@ fn scripts(alloc: Global) -> Result<Scripts, AllocError> {
     Ok(Scripts::new(alloc, lists, failing))
 }
 
-fn comes_to_its_end(rt: &impl Abort, script: &mut Script) -> bool {
-    let is_given = ask(rt, script, INSTANTIATE) == WARNED;
-    let is_at_its_end = ask(rt, script, INITIALIZE) == Err(PeerFault::Failed);
-    is_given && is_at_its_end && length_of(script.talk()) == 2
+// Whether a peer gives its one answer, and fails at the next call.
+fn comes_to_its_end<L: Peer>(rt: &impl Abort, peer: &mut L) -> bool {
+    let is_given = ask(rt, peer, INSTANTIATE) == WARNED;
+    let is_at_its_end = ask(rt, peer, INITIALIZE) == Err(PeerFault::Failed);
+    is_given && is_at_its_end
 }
 
 fn is_script_retired(rt: &impl Abort, scripts: &mut Scripts, script: Script) -> bool {
     assert!(rt; scripts.retired_peers().len() < scripts.retired.started);
+    let has_both = length_of(script.talk()) == 2;
     scripts.retire(script);
-    scripts.retired_peers().len() == 1
+    has_both && scripts.retired_peers().len() == 1
 }
 
 fn starts_second(
@@ -122,7 +126,8 @@ fn starts_second(
     let mut script = start(rt, alloc, scripts, shape)?;
     let is_listed = fails(rt, alloc, scripts, shape, StartFault::Failed);
     let is_at_its_end = comes_to_its_end(rt, &mut script);
-    Ok(is_listed && is_at_its_end && is_script_retired(rt, scripts, script))
+    let is_retired = is_script_retired(rt, scripts, script);
+    Ok(is_listed && is_at_its_end && is_retired)
 }
 
 #[test]

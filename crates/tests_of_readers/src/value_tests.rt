@@ -22,7 +22,11 @@ fn is_judged(
     kind: PortType,
     wanted: Judgement,
 ) -> bool {
-    ready.judge(value, kind) == wanted
+    let is_in_range = match value {
+        ParameterValue::Integer(number) => number >= -(1 << 63) && number < 1 << 64,
+        _ => true,
+    };
+    is_in_range && ready.judge(value, kind) == wanted
 }
 
 fn is_linear(alloc: Global, row: &(i64, i64, PortType, Option<i128>)) -> bool {
