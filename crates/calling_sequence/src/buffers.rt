@@ -9,6 +9,16 @@ use std::alloc::{AllocError, Global};
 use tick_schedule::Schedule;
 use trace_text::room_for;
 
+/// No memory is left for the buffers of a run.
+#[derive(Clone, Copy, Debug, PartialEq, Eq)]
+pub struct NoMemory;
+
+impl From<AllocError> for NoMemory {
+    fn from(_error: AllocError) -> NoMemory {
+        NoMemory
+    }
+}
+
 /// All memory of a run: which outputs Initialization Mode reads, when Clocks tick, a place for the value of each port, room
 /// for the longest text of a trace, and the number of instants that were put.
 #[derive(Drop)]
@@ -22,7 +32,7 @@ pub struct Buffers {
 
 impl Buffers {
     /// Those of a run that hasn't begun. It fails where memory is wanting.
-    pub fn new(alloc: Global, experiment: &Experiment) -> Result<Buffers, AllocError>
+    pub fn new(alloc: Global, experiment: &Experiment) -> Result<Buffers, NoMemory>
         requires sound { IsSound experiment.now.system }
         requires plan { IsPlan experiment.now.plan }
         ensures { IfOk result (AreFresh experiment.now) }
@@ -30,7 +40,7 @@ impl Buffers {
         let system = &experiment.system;
         let plan = &experiment.plan;
         let Some(bytes) = room_for(system) else {
-            return Err(AllocError);
+            return Err(NoMemory);
         };
         Ok(Buffers {
             reads: InitialReads::of(alloc, system)?,

@@ -13,7 +13,7 @@ mod run_end;
 mod steps;
 mod text;
 
-pub use buffers::Buffers;
+pub use buffers::{Buffers, NoMemory};
 pub use ending::{Break, Ending};
 pub use experiment::Experiment;
 pub use run::run_slots;
