@@ -29,7 +29,7 @@ use Rattle.slot_calls.specs.Carried.{reply_in}
 use Rattle.slot_calls.specs.Log.{Asking, One, Sent, Told}
 use Rattle.slot_calls.specs.Stage.{IsAnswered, Stage, StopsAt, nothing, shapes, shapes_of}
 use Rattle.slot_calls.proofs.CallerLemmas.{one_log, shape_of, stage_cut, stage_cut_later, stage_on, stops_front, Led, led, shape_there, turn_answered, turn_stops, turn_told}
-use Rattle.event_iteration.proofs.Permits.{value_type}
+use Rattle.event_iteration.proofs.ByLog.{value_type}
 use Rattle.calling_sequence.specs.Calls.{binding_from, sets_of}
 use Rattle.calling_sequence.specs.Place.{IsMade, IsPlain}
 use Rattle.calling_sequence.proofs.Chains.{IsSet}

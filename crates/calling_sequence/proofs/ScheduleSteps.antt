@@ -14,7 +14,7 @@ use Rattle.system_model.specs.declared.system.System.{System}
 use Rattle.run_model.specs.Run.{Timer}
 use Rattle.run_model.specs.Steps.{AtTick, IsBound, IsMark, OnGrid, OnStop, SomeTicksAt}
 use Rattle.run_model.specs.Timers.{TicksAt as TimerTicksAt, is_armed_for}
-use Rattle.event_iteration.proofs.ClockTicks.{are_ticks}
+use Rattle.event_iteration.proofs.ByLog.{are_ticks}
 use Rattle.event_iteration.specs.Clocks.{AreTicks, IsNextFrom, StandsAt, first_table, is_due_at, timer_in, timers_in}
 use Rattle.event_iteration.specs.Intervals.{is_some_armed}
 use Rattle.calling_sequence.specs.declared.buffers.Buffers.{Buffers}

@@ -31,7 +31,7 @@ use Rattle.event_iteration.specs.Instants.{asks_in_instant, in_instant, is_read_
 use Rattle.event_iteration.specs.Intervals.{asks_interval, intervals, timing_calls, timing_calls_in, timing_calls_of}
 use Rattle.event_iteration.specs.Settings.{before_step, sets_to}
 use Rattle.event_iteration.specs.Turns.{IsPaired, Rules, sent_of}
-use Rattle.event_iteration.proofs.Permits.{shape_of_component}
+use Rattle.event_iteration.proofs.ByLog.{shape_of_component}
 use Rattle.calling_sequence.proofs.Chains.{IsGet, IsGoodly, IsOfClock, IsQuestion, IsSet}
 
 -- a call with any answer is of this sort

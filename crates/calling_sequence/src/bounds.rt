@@ -1,16 +1,13 @@
-ghost use Rattle.std.specs.Prelude.{◌≡◌, ◌≤◌, ◌<◌, ◌^◌, ℕ, None, [], false, IfNone, IfSome, All, length, not, option_map, position};
+ghost use Rattle.std.specs.Prelude.{◌≡◌, ◌≤◌, ◌<◌, ◌^◌, None, [], false, IfSome, All, length, not, option_map, position};
 ghost use Rattle.run_model.specs.Steps.{IsBound};
 ghost use Rattle.event_iteration.specs.Clocks.{IsNextFrom, timers_in};
 ghost use Rattle.event_iteration.specs.Intervals.{is_some_armed};
-ghost use Rattle.tick_schedule.specs.Timetable.{TicksAt};
 ghost use Rattle.calling_sequence.specs.Calls.{first_unfit};
 ghost use Rattle.calling_sequence.specs.Plans.{IsPlan};
 
 use sim_base::CompId;
-use std::marker::Brand;
-use std::sync::ledger::{Blank, Ledger};
 use system_model::{Component, Plan, System};
-use tick_schedule::{Schedule, Steps};
+use tick_schedule::{Schedule, plain};
 
 /// The bound of the step from a point before the stop that is done, in counts: the next grid point, the next tick or the stop.
 pub(crate) fn next_bound(plan: &Plan, schedule: &Schedule, t: u64) -> u64
@@ -23,7 +20,7 @@ pub(crate) fn next_bound(plan: &Plan, schedule: &Schedule, t: u64) -> u64
     ensures { IsBound plan.now (timers_in schedule.now) t result }
 {
     let mark = next_mark(plan, t);
-    match next_tick::<Brand>(schedule, t, Blank::new(1)) {
+    match plain::next_after(schedule, t) {
         Some(tick) => mark.min(tick),
         None => mark,
     }
@@ -39,21 +36,6 @@ pub(crate) fn next_mark(plan: &Plan, t: u64) -> u64
     let steps = (t - plan.start) / plan.step + 1;
     let grid = plan.start + steps * plan.step;
     plan.stop.min(grid)
-}
-
-// The next tick behind a point, up to the stop.
-fn next_tick<K: Ledger>(schedule: &Schedule, t: u64, blank: Blank) -> Option<u64>
-    requires name { blank.name ≡ K.name }
-    requires parts { blank.parts ≡ K.parts }
-    requires some { 0 < blank.parts }
-    requires none_up_to { (clock point : ℕ) → TicksAt schedule.now clock point → t < point }
-    ensures due { IfSome result (λ point. (clock : ℕ) × TicksAt schedule.now clock point) }
-    ensures after { IfSome result (λ point. t < point) }
-    ensures least { IfSome result (λ point. (clock other : ℕ) → TicksAt schedule.now clock other →
-        point ≤ other) }
-    ensures none { IfNone result ((clock point : ℕ) → TicksAt schedule.now clock point → ⊥) }
-{
-    schedule.next_after(t, &mut Steps::<K>::new(blank))
 }
 
 /// The least component that takes no step of this size.

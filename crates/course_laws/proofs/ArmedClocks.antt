@@ -43,7 +43,7 @@ use Rattle.event_iteration.specs.Intervals.{Rearms, asks_interval, first_told, f
 use Rattle.event_iteration.specs.Settings.{port_order}
 use Rattle.event_iteration.specs.Turns.{sent_of}
 use Rattle.event_iteration.specs.WalkCalls.{has_events_at}
-use Rattle.event_iteration.proofs.WalkLaws.{port_number}
+use Rattle.event_iteration.proofs.ByLog.{port_number}
 
 abbrev arms_by : Call → Result Reply PeerFault → Bool
 arms_by (C.GetInterval reference) result = is_instant_interval result

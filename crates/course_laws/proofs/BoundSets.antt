@@ -13,7 +13,7 @@ use Rattle.system_model.specs.declared.system.System.{System}
 use Rattle.system_model.specs.Bounds.{AreParameterValues, BindsParameters}
 use Rattle.run_model.specs.Initial.{set_call}
 use Rattle.event_iteration.specs.WalkCalls.{AreNew, IsUse, Span, own, use_in}
-use Rattle.event_iteration.proofs.WalkLaws.{own_append, use_kept}
+use Rattle.event_iteration.proofs.ByLog.{own_append, use_kept}
 use Rattle.calling_sequence.specs.Calls.{binding, binding_from, sets_of}
 use Rattle.course_laws.proofs.OwnCalls.{none_bound, own_others, own_sets}
 

@@ -21,7 +21,7 @@ use Rattle.slot_calls.specs.Log.{Asking, Sent, askings}
 use Rattle.slot_calls.specs.Stage.{IsAnswered, StopsAt, everyone, has_events, shapes_of, to_each, to_those}
 use Rattle.slot_calls.proofs.CallerLemmas.{other}
 use Rattle.event_iteration.specs.WalkCalls.{Front, UsesAre, WalksBy, Whole, has_events_at, initial_span, instant_span, interval_span, own, step_span, timing_span}
-use Rattle.event_iteration.proofs.WalkLaws.{Differ, each_call_once, own_append}
+use Rattle.event_iteration.proofs.ByLog.{Differ, each_call_once, own_append}
 use Rattle.calling_sequence.specs.Calls.{making}
 use Rattle.calling_sequence.specs.Course.{Again, Before, Configured, Course, Departing, Entered, Exits, Found, GoesOn, LeadsTo, Leaves, Leaving, Left, Made, Place, Read, Rearmed, Seen, Sets, Spot, Stepped, Timed, part_at}
 use Rattle.calling_sequence.specs.Parts.{Calls, Does, Falls, Part, Round, Walk}

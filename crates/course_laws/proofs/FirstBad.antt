@@ -29,7 +29,7 @@ use Rattle.slot_calls.specs.Log.{Sent}
 use Rattle.slot_calls.specs.Stage.{IsGoodOf, everyone, shapes_of, to_those}
 use Rattle.slot_calls.proofs.CallerLemmas.{those_within}
 use Rattle.event_iteration.specs.Intervals.{timing_calls_in, timing_calls_of}
-use Rattle.event_iteration.proofs.WalkLaws.{last_alone_is_bad}
+use Rattle.event_iteration.proofs.ByLog.{last_alone_is_bad}
 use Rattle.calling_sequence.specs.Calls.{binding_from, making, sets_of}
 use Rattle.calling_sequence.specs.Course.{Before, Configured, Course, Departing, Entered, Found, Left, Leaving, Made, Place, Read, Rearmed, Seen, Stepped, Timed, part_at}
 use Rattle.calling_sequence.specs.Parts.{Calls, Does, EndsBadly, Falls, Part, Round, Walk}

@@ -9,7 +9,7 @@ use Rattle.fmi_calls.specs.KindFacts.{IsRunCall, may_repeat, moves_on}
 use Rattle.fmi_calls.specs.Kinds.{kind_of}
 use Rattle.fmu_peer.specs.Lean.{NoneTwiceBehind, StepsFall, seen_after, without_value}
 use Rattle.event_iteration.specs.WalkCalls.{AreNew, IsUse, Span, use_in}
-use Rattle.event_iteration.proofs.WalkLaws.{Differ, seen_behind, twice_on, use_kept, use_stays}
+use Rattle.event_iteration.proofs.ByLog.{Differ, seen_behind, twice_on, use_kept, use_stays}
 use Rattle.course_laws.specs.Laws.{AreNeeded}
 
 -- ---- lists

@@ -13,7 +13,7 @@ use Rattle.slot_calls.specs.Log.{Asking, Sent, askings, part}
 use Rattle.slot_calls.specs.Stage.{has_events, shapes_of, to_those, to_those_from}
 use Rattle.slot_calls.proofs.CallerLemmas.{askings_append, other, same}
 use Rattle.event_iteration.specs.WalkCalls.{has_events_at, own}
-use Rattle.event_iteration.proofs.WalkLaws.{own_append}
+use Rattle.event_iteration.proofs.ByLog.{own_append}
 use Rattle.calling_sequence.specs.Calls.{binding_from, sets_of}
 use Rattle.course_laws.specs.Laws.{calls_in}
 

@@ -22,7 +22,7 @@ use Rattle.slot_calls.proofs.CallerLemmas.{those_calls}
 use Rattle.event_iteration.specs.Clocks.{AreTicks}
 use Rattle.event_iteration.specs.Intervals.{is_some_armed}
 use Rattle.event_iteration.specs.WalkCalls.{AreNew, Front, IsUse, Span, UsesAre, WalkUses, WalksBy, Whole, has_events_at, initial_span, instant_span, interval_span, own, step_span, use_in}
-use Rattle.event_iteration.proofs.WalkLaws.{each_call_once, own_append}
+use Rattle.event_iteration.proofs.ByLog.{each_call_once, own_append}
 use Rattle.calling_sequence.specs.Calls.{making}
 use Rattle.calling_sequence.specs.Course.{Again, Arrives, Before, Binds, Configured, Course, Departing, Entered, Enters, Exits, Finds, Found, GoesOn, LeadsTo, Leaves, Leaving, Left, Made, Place, Read, Reads, Rearmed, Rearming, Seen, Sets, Spot, Stepped, Steps, Timed, Times, Updates, part_at}
 use Rattle.calling_sequence.specs.Parts.{Calls, Does, Falls, Part, Round, Walk}

@@ -22,7 +22,7 @@ use Rattle.slot_calls.specs.Stage.{StopsAt, has_events, shapes_of, to_those}
 use Rattle.slot_calls.proofs.CallerLemmas.{part_append, same, takes}
 use Rattle.event_iteration.specs.Updates.{answer_passes, updated_by, updating}
 use Rattle.event_iteration.specs.WalkCalls.{has_events_at, own}
-use Rattle.event_iteration.proofs.WalkLaws.{own_append}
+use Rattle.event_iteration.proofs.ByLog.{own_append}
 use Rattle.course_laws.specs.Laws.{calls_in}
 use Rattle.course_laws.proofs.ArmedClocks.{is_arming}
 use Rattle.course_laws.proofs.OwnCalls.{own_calls, own_events}

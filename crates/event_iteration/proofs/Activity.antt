@@ -4,7 +4,7 @@ use Rattle.std.specs.Prelude.{All, ◌==◌, if◌then◌else◌, slice_get}
 use Rattle.std.specs.List.{list_any, position_from}
 use Rattle.std.specs.Option.{option_map_or}
 use Rattle.std.proofs.lemmas.Iterator.Adapters.{position_from-zero}
-use Rattle.std.proofs.lemmas.List.{get_or-set_same}
+use Rattle.std.proofs.lemmas.List.{get_or-set_same, length-set}
 use Rattle.std.proofs.lemmas.List.Elements.{All-head, All-tail}
 use Rattle.std.proofs.lemmas.Option.{none-some as none_some, same_Some}
 use Rattle.value_types.specs.Shape.{place_of, variable_at}
@@ -25,7 +25,6 @@ use Rattle.slot_calls.specs.Log.{Talks}
 use Rattle.slot_calls.specs.Slots.{reads_or_sets}
 use Rattle.slot_calls.proofs.CallerLemmas.{led}
 use Rattle.event_iteration.proofs.Permits.{IsQuietOf}
-use Rattle.event_iteration.proofs.Rooms.{length-marked}
 
 -- ---- behind calls
 
@@ -56,6 +55,13 @@ by_call P shape active old new (C.GetClock reference) result = by (ticks_in resu
     by true = new reference
     by false = old
 by_call P shape active old new call result = old
+
+length-marked : (shape : Shape) (marks : List Bool) (r : ℕ) → length (marked shape marks r) ≡ length marks
+length-marked shape marks r = by (place_of shape.variables r)
+  where
+    by : (o : Option ℕ) → length (option_map_or (λ k. set marks k true) o marks) ≡ length marks
+    by None = refl
+    by (Some k) = length-set marks k true
 
 pub length-active : (shape : Shape) (active : List Bool) (es : List Exchange) → length (active_by shape active es) ≡ length active
 length-active shape active [] = refl
@@ -114,18 +120,7 @@ entered_active (C.GetClock reference) h shape phase reply = refl
 entered_active (C.SetClock reference) h shape phase reply = refl
 entered_active (C.GetInterval reference) h shape phase reply = refl
 entered_active (C.GetShift reference) h shape phase reply = refl
-entered_active (C.Instantiate event_mode early) h shape phase reply = absurd (cc)
-entered_active (C.EnterInitialization start stop) h shape phase reply = absurd (cc)
-entered_active C.ExitInitialization h shape phase reply = absurd (cc)
-entered_active (C.DoStep at size) h shape phase reply = absurd (cc)
-entered_active C.Save h shape phase reply = absurd (cc)
-entered_active C.Restore h shape phase reply = absurd (cc)
-entered_active C.Free h shape phase reply = absurd (cc)
-entered_active C.Terminate h shape phase reply = absurd (cc)
-entered_active C.FreeInstance h shape phase reply = absurd (cc)
-entered_active C.EnterEvent h shape phase reply = absurd (cc)
-entered_active C.EnterStep h shape phase reply = absurd (cc)
-entered_active C.Update h shape phase reply = absurd (cc)
+entered_active call h shape phase reply = absurd (cc)
 
 pub talks_active : (shape : Shape) (v w : View) (es : List Exchange) → v.fixed.shape ≡ shape → Talks v es w → All (IsQuietOf shape) es → w.phase.active ≡ active_by shape v.phase.active es
 talks_active shape v w [] is t all = ap (λ (x : View). x.phase.active) t

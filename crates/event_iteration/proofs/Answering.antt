@@ -1,13 +1,10 @@
 -- What a sound system's Clocks may be asked for, and what a good answer tells.
-use Rattle.std.proofs.Common.{◌≡◌, ℕ, ◌*◌, ◌^◌, ◌<◌, ◌≤◌, Bool, true, false, List, [], ◌∷◌, Option, Some, None, Result, Ok, Err, refl, sym, ap, ap₂, ◌∙◌, subst, arith, get_or, mul-le-mul_left}
-use Rattle.std.specs.Prelude.{IsSome, IsSomeAnd, MatchResult, ◌&&◌, if◌then◌else◌, is_some, nat_le, option_map, slice_get}
+use Rattle.std.proofs.Common.{◌≡◌, ℕ, Bool, true, false, List, [], ◌∷◌, Option, Some, None, Result, Ok, Err, refl, sym, ap, ap₂, ◌∙◌, subst, get_or}
+use Rattle.std.specs.Prelude.{IsSomeAnd, MatchResult, ◌&&◌, if◌then◌else◌, is_some, option_map, slice_get}
 use Rattle.std.specs.Option.{option_map_or}
 use Rattle.std.specs.Result.{result_ok}
-use Rattle.std.proofs.lemmas.Bool.Decides.{nat_tests}
 use Rattle.std.proofs.lemmas.List.Elements.{All-head}
 use Rattle.std.proofs.lemmas.Option.{get_or_from_slice_get, same_Some, slice_get-map}
-use Rattle.clock_fraction.specs.Counts.{counts_of}
-use Rattle.clock_fraction.specs.declared.fraction.Fraction.{Fraction}
 use Rattle.value_types.specs.Shape.{is_clock, is_input, timing_at}
 use Rattle.value_types.specs.declared.shape.ClockTiming.{ClockTiming}
 use Rattle.value_types.specs.declared.shape.IntervalVariability.{IntervalVariability}
@@ -18,7 +15,6 @@ use Rattle.fmi_calls.specs.declared.call.Call.TheVariants as C
 use Rattle.fmi_calls.specs.declared.call.Content.TheVariants as A
 use Rattle.fmi_calls.specs.declared.call.Grade.TheVariants as G
 use Rattle.fmi_calls.specs.declared.call.Interval.{Interval}
-use Rattle.fmi_calls.specs.declared.call.Interval.TheVariants.{NotYetKnown, Unchanged, Changed}
 use Rattle.fmi_calls.specs.declared.call.Reply.{Reply}
 use Rattle.fmi_calls.specs.declared.call.Reply.TheVariants as R
 use Rattle.fmi_calls.specs.declared.phase.InstanceState.{InstanceState}
@@ -33,40 +29,29 @@ use Rattle.fmu_peer.specs.declared.peer.PeerFault.{PeerFault}
 use Rattle.system_model.specs.declared.system.Component.{Component}
 use Rattle.system_model.specs.declared.system.Port.{Port}
 use Rattle.system_model.specs.declared.system.Role.{Role}
-use Rattle.system_model.specs.declared.system.Role.TheVariants.{Input, Output, ClockInput, ClockOutput, TimeClock}
+use Rattle.system_model.specs.declared.system.Role.TheVariants.{TimeClock}
 use Rattle.system_model.specs.declared.system.System.{System}
 use Rattle.system_model.specs.declared.system.Timing.{Timing}
-use Rattle.system_model.specs.declared.system.Timing.TheVariants.{Periodic, Answered, Countdown}
+use Rattle.system_model.specs.declared.system.Timing.TheVariants.{Answered, Countdown}
 use Rattle.system_model.specs.Ports.{is_clock_role}
 use Rattle.system_model.specs.Sound.{IsRole, IsSound, IsTiming}
 use Rattle.system_model.proofs.CallerLemmas.{true_false, Placed, events_of, place_of}
 use Rattle.run_model.specs.Initial.{interval_in, shift_in}
-use Rattle.run_model.specs.Run.{Every}
-use Rattle.run_model.specs.Timers.{fixed, periodic_of}
+use Rattle.run_model.specs.Timers.{fixed}
 use Rattle.slot_calls.specs.Log.{Asking, Sent}
 use Rattle.slot_calls.specs.Stage.{IsAnswered, IsGoodOf, shapes, shapes_of}
 use Rattle.event_iteration.specs.Questions as Q
-use Rattle.event_iteration.specs.Questions.{AreRunning, MayTell, counts_told, first_reply, is_asked, modes}
+use Rattle.event_iteration.specs.Questions.{AreRunning, MayTell, first_reply, is_asked, modes}
 
 -- ---- roles
 
 pub asked_role : (role : Role) → is_asked role ≡ true → role ≡ TimeClock Answered
 asked_role (TimeClock Answered) h = refl
-asked_role (TimeClock (Periodic interval shift)) h = absurd (true_false (sym h))
-asked_role (TimeClock Countdown) h = absurd (true_false (sym h))
-asked_role (Input feed) h = absurd (true_false (sym h))
-asked_role Output h = absurd (true_false (sym h))
-asked_role (ClockInput feed) h = absurd (true_false (sym h))
-asked_role ClockOutput h = absurd (true_false (sym h))
+asked_role role h = absurd (true_false (sym h))
 
 pub countdown_role : (role : Role) → Q.counts_down role ≡ true → role ≡ TimeClock Countdown
 countdown_role (TimeClock Countdown) h = refl
-countdown_role (TimeClock (Periodic interval shift)) h = absurd (true_false (sym h))
-countdown_role (TimeClock Answered) h = absurd (true_false (sym h))
-countdown_role (Input feed) h = absurd (true_false (sym h))
-countdown_role Output h = absurd (true_false (sym h))
-countdown_role (ClockInput feed) h = absurd (true_false (sym h))
-countdown_role ClockOutput h = absurd (true_false (sym h))
+countdown_role role h = absurd (true_false (sym h))
 
 -- ---- what may be asked for
 
@@ -96,22 +81,14 @@ fixed_there shape t h = by t.variability h.0 ∙ h.1
   where
     by : (x : IntervalVariability) → x ≡ v.Fixed → is_answered (record t { variability = x }) ≡ t.supports_fraction
     by v.Fixed e = refl
-    by v.Constant e = absurd (cc)
-    by v.Tunable e = absurd (cc)
-    by v.Changing e = absurd (cc)
-    by v.Countdown e = absurd (cc)
-    by v.Triggered e = absurd (cc)
+    by variability e = absurd (cc)
 
 down_there : (shape : Shape) (t : ClockTiming) → IsTiming shape.resolution t Countdown → counts_down t ≡ true
 down_there shape t h = by t.variability h
   where
     by : (x : IntervalVariability) → x ≡ v.Countdown → counts_down (record t { variability = x }) ≡ true
     by v.Countdown e = refl
-    by v.Fixed e = absurd (cc)
-    by v.Constant e = absurd (cc)
-    by v.Tunable e = absurd (cc)
-    by v.Changing e = absurd (cc)
-    by v.Triggered e = absurd (cc)
+    by variability e = absurd (cc)
 
 module _ (system : System) (sound : IsSound system) (p : ℕ) (port : Port) (is : slice_get system.ports p ≡ Some port) (ss : List Instance) (alike : shapes ss ≡ shapes_of system) where
   abbrev placed : Placed system p port
@@ -211,25 +188,3 @@ fixed_variability system p port placed answered = by (timing_at placed.component
     by : (o : Option ClockTiming) → IsSomeAnd o (λ (t : ClockTiming). IsTiming placed.component.shape.resolution t Answered) → option_map (λ (c : ClockTiming). c.variability) o ≡ Some v.Fixed
     by None h = absurd h
     by (Some t) h = ap Some h.0
-
-pub some_counts : (least : ℕ) (o : Option ℕ) → option_map_or (λ n. nat_le least n) o false ≡ true → IsSome o
-some_counts least None h = absurd (true_false (sym h))
-some_counts least (Some n) h = refl
-
-pub least_counts : (o : Option ℕ) (n : ℕ) → o ≡ Some n → option_map_or (λ k. nat_le 1 k) o false ≡ true → 0 < n
-least_counts o n is h =
-    let e : nat_le 1 n ≡ true = sym (ap (λ (x : Option ℕ). option_map_or (λ k. nat_le 1 k) x false) is) ∙ h in
-    grind (arith, nat_tests)
-
--- so many counts are a number of 128 bits
-pub counts_within : (counts resolution per_second counter : ℕ) → 0 < resolution → counts * resolution ≡ per_second * counter → per_second ≤ 2 ^ 62 → counter < 2 ^ 64 → counts ≤ 2 ^ 126
-counts_within counts resolution per_second counter above whole near fits =
-    let a : counts * 1 ≤ counts * resolution = mul-le-mul_left counts above in
-    let b : counter * per_second ≤ counter * 2 ^ 62 = mul-le-mul_left counter near in
-    omega arith
-
--- what two answers tell
-pub fixed_is : (per_second : ℕ) (interval : Interval) (shift : Fraction) (i s : ℕ) → counts_told per_second interval ≡ Some i → counts_of shift per_second ≡ Some s → fixed per_second interval shift ≡ Every i s
-fixed_is per_second NotYetKnown shift i s h k = absurd (cc)
-fixed_is per_second (Unchanged f) shift i s h k = ap₂ periodic_of h k
-fixed_is per_second (Changed f) shift i s h k = ap₂ periodic_of h k

@@ -1,14 +1,11 @@
 -- What the log of a part tells of told machines, for proofs of callers.
 use Rattle.std.proofs.Common.{◌≡◌, ℕ, ℤ, Bool, List, [], ◌++◌, Contains, Option, sym, ap, ◌∙◌, append-nil}
 use Rattle.std.specs.Prelude.{◌==◌, if◌then◌else◌}
-use Rattle.std.proofs.lemmas.List.{length-map}
-use Rattle.fmi_calls.specs.declared.call.Call.TheVariants as C
-use Rattle.fmu_peer.specs.Machine.{Machine, MachineState, after}
-use Rattle.fmu_peer.specs.Mode.{instantiate_of}
+use Rattle.fmu_peer.specs.Machine.{Machine, MachineState}
 use Rattle.system_model.specs.declared.system.Component.{Component}
 use Rattle.system_model.specs.Ports.{numbers}
 use Rattle.system_model.specs.Sound.{IsSound}
-use Rattle.run_model.specs.AfterInstant.{asks_again, asks_for_end, updated, written}
+use Rattle.run_model.specs.AfterInstant.{asks_again, asks_for_end, written}
 use Rattle.run_model.specs.Initial as I
 use Rattle.run_model.specs.Equations.{Solves}
 use Rattle.run_model.specs.Inputs.{state_with, state_written, written_at_port}
@@ -25,48 +22,22 @@ use Rattle.event_iteration.specs.Initialization.{initially, no_values}
 use Rattle.event_iteration.specs.Instants.{in_instant}
 use Rattle.event_iteration.specs.Settings.{port_order}
 pub use Rattle.event_iteration.proofs.Clockless.{unclocked_parts}
+pub use Rattle.event_iteration.proofs.ClockTicks.{are_ticks}
 use Rattle.event_iteration.proofs.Departing.{departs_by}
 use Rattle.event_iteration.proofs.Finding as N
 use Rattle.event_iteration.proofs.Finding.{state_is, values_are}
 use Rattle.event_iteration.proofs.FindingInInstant as T
 use Rattle.event_iteration.proofs.FindingInInstant.{solves, states_are}
-pub use Rattle.event_iteration.proofs.Fmus.{each_many, each_same, fmu_on, got}
-pub use Rattle.event_iteration.proofs.Parts.{part_all}
+pub use Rattle.event_iteration.proofs.Fmus.{each_many, each_same, fmu_on, got, part_all}
 pub use Rattle.event_iteration.proofs.Permits.{fed_fits, shape_of_component, value_type}
-pub use Rattle.event_iteration.proofs.Said.{all_front}
-pub use Rattle.event_iteration.proofs.Setting.{asked_before_step}
-pub use Rattle.event_iteration.proofs.Stages.{AreAll, IsRead, all_on, each_each, fmu_of, reads_part, reads_stay, replies_first, replies_then, stage_any, stage_states, stage_well, states_on}
+pub use Rattle.event_iteration.proofs.Setting.{asked_before_step, port_number}
+pub use Rattle.event_iteration.proofs.Stages.{AreAll, IsRead, all_on, configured_all, each_each, fmu_of, initialized_all, initializing_all, made_all, reads_part, reads_stay, replies_first, replies_then, stage_any, stage_states, stage_well, states_all, states_on, updated_all, written_all}
 pub use Rattle.event_iteration.proofs.Timing.{IsTimingOf, asked_interval, first_timers_are, fixed_read, intervals_read, next_timers_are, timings_are, timings_read}
 use Rattle.event_iteration.proofs.Updating.{any_is, states_updated}
+pub use Rattle.event_iteration.proofs.WalkAnswers.{last_alone_is_bad}
+pub use Rattle.event_iteration.proofs.WalkOnce.{Differ, each_call_once, own_append, seen_behind, twice_on, use_kept, use_stays}
 use Rattle.event_iteration.proofs.WalksBack.{finding_back, instant_back, setting_back, walked_to}
-
--- ---- a machine and a state for each component
-
-module _ (r : Run) (machines : AreMachines r) where
-  pub first_all : AreAll r (I.first_states r)
-  first_all = record { machines = machines.count; states = length-map r.machines (λ (m : Machine). m.first) ∙ machines.count }
-
-  pub made_all : AreAll r (I.instantiated r)
-  made_all = all_on r (I.first_states r) first_all (λ i c m s. after m s (instantiate_of c.shape))
-
-  pub configured_all : AreAll r (I.configured r)
-  configured_all = all_on r (I.instantiated r) made_all (λ i c m s. I.with_bound m (I.bound_values r i) s)
-
-  pub initializing_all : AreAll r (I.initializing r)
-  initializing_all = all_on r (I.configured r) configured_all (λ i c m s. after m s (I.enter_initialization r))
-
-  pub initialized_all : (W : List (Option ℤ)) → AreAll r (I.initialized r W)
-  initialized_all W = all_on r (I.initializing r) initializing_all (λ i c m s. state_with r.system.ports W i m s)
-
-  module _ (s : Situation) (situation : IsSituation r s) where
-    pub states_all : AreAll r s.states
-    states_all = record { machines = machines.count; states = situation.states }
-
-    pub written_all : (V : List (Option ℤ)) → AreAll r (written r s V)
-    written_all V = all_on r s.states states_all (λ i c m z. if c.shape.has_event_mode then state_with r.system.ports V i m z else z)
-
-    pub updated_all : (V : List (Option ℤ)) → AreAll r (updated r s V).states
-    updated_all V = all_on r (written r s V) (written_all V) (λ i c m z. if c.shape.has_event_mode then after m z C.Update else z)
+pub use Rattle.event_iteration.proofs.Walking.{all_front}
 
 -- ---- walks that have come as far as these ports, by what is told of a solution
 

@@ -16,9 +16,6 @@ use Rattle.run_model.specs.Timers.{IsDue}
 use Rattle.event_iteration.specs.Clocks.{AreTicks, IsNextFrom, StandsAt, is_due_at, is_due_in, timer_in, timers_in}
 use Rattle.event_iteration.proofs.Fmus.{got}
 
-is_equal : (a b : ℕ) → a ≡ b → (a == b) ≡ true
-is_equal a b e = eq-eqb a b e
-
 -- ---- one Clock
 
 -- a tick that is still to be made isn't before the next
@@ -33,12 +30,12 @@ next_least start t is_first (S.Countdown (Some armed)) next point tick = subst (
 due_to_tick : (start t : ℕ) (is_first : Bool) (place : ClockState) → IsNextFrom start t is_first place → IsToTick start place t → is_due_in start t place ≡ true
 due_to_tick start t is_first S.Unasked next tick = absurd tick
 due_to_tick start t true (S.Periodic interval shift ticks) next tick =
-    is_equal (start + shift + ticks * interval) t (let a = next.0 in let b = tick.1 in omega (arith, a, b))
+    eq-eqb (start + shift + ticks * interval) t (let a = next.0 in let b = tick.1 in omega (arith, a, b))
 due_to_tick start t false (S.Periodic interval shift ticks) next tick = absurd (let a = next.0 in let b = tick.1 in omega (arith, a, b))
 due_to_tick start t is_first (S.Countdown None) next tick = absurd (cc)
-due_to_tick start t is_first (S.Countdown (Some armed)) next tick = is_equal armed t (same_Some _ _ tick)
+due_to_tick start t is_first (S.Countdown (Some armed)) next tick = eq-eqb armed t (same_Some _ _ tick)
 
-tick_due : (start t : ℕ) (place : ClockState) → is_due_in start t place ≡ true → IsToTick start place t
+pub tick_due : (start t : ℕ) (place : ClockState) → is_due_in start t place ≡ true → IsToTick start place t
 tick_due start t S.Unasked due = true_false (sym due)
 tick_due start t (S.Periodic interval shift ticks) due =
     let at : start + shift + ticks * interval ≡ t = eqb-true _ t due in ((ticks, sym at), omega (arith, at))
@@ -59,12 +56,12 @@ timer_due start t n is_first S.Unasked count next due = absurd due
 timer_due start t n true (S.Periodic interval shift ticks) count next (first, (k, at)) =
     (elim (cases_lt k ticks) as (λ c. (start + shift + ticks * interval == t) ≡ true) [
       | inl less ↦ absurd (let early : start + shift + k * interval < t = next.1 k less in omega (arith, early, at))
-      | inr most ↦ is_equal (start + shift + ticks * interval) t
+      | inr most ↦ eq-eqb (start + shift + ticks * interval) t
           (let more : ticks * interval ≤ k * interval = mul-le-mul_right interval most in let a = next.0 in omega (arith, more, a, at))
     ])
-timer_due start t n false (S.Periodic interval shift ticks) count next (first, tick) = absurd (true_false (sym (is_equal n 0 first) ∙ count))
+timer_due start t n false (S.Periodic interval shift ticks) count next (first, tick) = absurd (true_false (sym (eq-eqb n 0 first) ∙ count))
 timer_due start t n is_first (S.Countdown None) count next due = absurd due
-timer_due start t n is_first (S.Countdown (Some armed)) count next due = is_equal armed t (sym due)
+timer_due start t n is_first (S.Countdown (Some armed)) count next due = eq-eqb armed t (sym due)
 
 -- ---- the schedule
 

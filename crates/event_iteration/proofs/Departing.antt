@@ -1,7 +1,7 @@
 -- Over machines the Sets before a step lead to the states of its beginning.
 use Rattle.std.proofs.Common.{◌≡◌, ℕ, ◌<◌, ℤ, Bool, true, false, List, [], ◌∷◌, ◌++◌, Option, Some, None, refl, sym, ap, ◌∙◌, subst, append-nil, length}
-use Rattle.std.specs.Prelude.{if◌then◌else◌, option_and_then, option_map, slice_get}
-use Rattle.std.proofs.lemmas.Option.{same_Some, slice_get_within}
+use Rattle.std.specs.Prelude.{if◌then◌else◌, option_and_then, slice_get}
+use Rattle.std.proofs.lemmas.Option.{slice_get_within}
 use Rattle.fmi_calls.specs.declared.call.Call.{Call}
 use Rattle.fmi_calls.specs.declared.call.Call.TheVariants as C
 use Rattle.fmi_calls.specs.declared.call.Reply.{Reply}
@@ -9,7 +9,7 @@ use Rattle.fmu_peer.specs.CloseAll.{Instance}
 use Rattle.fmu_peer.specs.Machine.{Machine, MachineState, after}
 use Rattle.system_model.specs.declared.system.Component.{Component}
 use Rattle.system_model.specs.declared.system.Role.{Role}
-use Rattle.system_model.specs.declared.system.Role.TheVariants.{Input, Output, ClockInput, ClockOutput, TimeClock}
+use Rattle.system_model.specs.declared.system.Role.TheVariants.{Input, ClockInput, TimeClock}
 use Rattle.system_model.specs.declared.system.Port.{Port}
 use Rattle.system_model.specs.declared.system.System.{System}
 use Rattle.system_model.specs.Ports.{is_clock_role}
@@ -22,25 +22,26 @@ use Rattle.run_model.specs.Walk.{is_taken, only_at, write_if}
 use Rattle.run_model.proofs.CallerLemmas.{written_at-is, keeps_beside, nothing_at_first, taken-is, writes_at_port}
 use Rattle.slot_calls.specs.Log.{Sent, Told, part}
 use Rattle.slot_calls.specs.Replies.{state_by, states_by}
-use Rattle.slot_calls.proofs.CallerLemmas.{part_append, state_by_append}
 use Rattle.event_iteration.specs.Machines.{AreAt}
 use Rattle.event_iteration.specs.Settings.{DepartsForMachines, before_step, entered_step, port_order, sets_to}
 use Rattle.event_iteration.specs.Turns.{Turn, Walked}
 use Rattle.event_iteration.proofs.Clockless.{no_clock_of, present_of}
-use Rattle.event_iteration.proofs.Fmus.{after_if, each_same, exchanges_of, part_other_of, part_own_of, state_by_one}
+use Rattle.event_iteration.proofs.Fmus.{set_writes, state_more, after_if, each_same}
 use Rattle.event_iteration.proofs.Setting.{NoNeeds, SetsPort, in_order, sets_ports}
 use Rattle.event_iteration.proofs.Stages.{each_each, told_on}
 use Rattle.event_iteration.proofs.Turning.{all_good, calls_of}
-use Rattle.event_iteration.proofs.Walking.{Here, along, by_number}
+use Rattle.event_iteration.proofs.Walking.{Here, along}
 
 module _ (system : System) (sound : IsSound system) (now : List (Option ℤ)) where
   abbrev at_port : ℕ → Option ℤ
   at_port = written_at_port system.ports now
 
   -- each FMU without event mode has the values of the ports that were taken
+  abbrev midst : List ℕ → Machine → MachineState → ℕ → Component → MachineState
+  midst taken m z i c = if c.shape.has_event_mode then z else state_written system.ports (only_at taken at_port) i m z
+
   abbrev Written : List ℕ → List Sent → Type 0
-  Written taken log = (i : ℕ) (c : Component) → slice_get system.components i ≡ Some c → (m : Machine) (z : MachineState) →
-      state_by m z (part i log) ≡ (if c.shape.has_event_mode then z else state_written system.ports (only_at taken at_port) i m z)
+  Written taken log = (i : ℕ) (c : Component) → slice_get system.components i ≡ Some c → (m : Machine) (z : MachineState) → state_by m z (part i log) ≡ midst taken m z i c
 
   module _ (pre : List ℕ) (p : ℕ) (reply : Option Reply) (values next : List (Option ℤ)) (front sent : List Sent) (here : Here NoNeeds pre p) (was : Written pre front) (turn : Turn system (before_step now) p reply values next sent) where
     abbrev port : Port
@@ -49,19 +50,13 @@ module _ (system : System) (sound : IsSound system) (now : List (Option ℤ)) wh
     abbrev asks : Bool → Option Call
     asks events = if events then None else sets_to port.role port (value now p)
 
-    as_written : (m : Machine) (x : MachineState) (o : Option ℤ) → after_if m x (option_map (λ v. C.Set port.kind port.reference v) o) ≡ write_if m port.reference x o
-    as_written m x None = refl
-    as_written m x (Some v) = refl
-
     -- without event mode a Set writes what is written at its port
     call_writes : turn.component.shape.has_event_mode ≡ false → (role : Role) → port.role ≡ role → (m : Machine) (x : MachineState) → after_if m x (sets_to role port (value now p)) ≡ write_if m port.reference x (written_by role port now (value now p))
-    call_writes plain (Input None) same m x = refl
     call_writes plain (Input (Some feed)) same m x =
-        as_written m x (value now p) ∙ sym (ap (λ b. write_if m port.reference x (if b then value now p else None)) (present_of system sound turn.component plain p port now turn.is turn.of))
-    call_writes plain Output same m x = refl
+        set_writes m x port (value now p) ∙ sym (ap (λ b. write_if m port.reference x (if b then value now p else None)) (present_of system sound turn.component plain p port now turn.is turn.of))
     call_writes plain (ClockInput feed) same m x = absurd (true_false (sym (ap is_clock_role same) ∙ no_clock_of system sound turn.component plain p port turn.is turn.of))
-    call_writes plain ClockOutput same m x = refl
     call_writes plain (TimeClock timing) same m x = absurd (true_false (sym (ap is_clock_role same) ∙ no_clock_of system sound turn.component plain p port turn.is turn.of))
+    call_writes plain role same m x = refl
 
     written_by_turn : (m : Machine) (z : MachineState) (b : Bool) → turn.component.shape.has_event_mode ≡ b →
         after_if m (if b then z else state_written system.ports (only_at pre at_port) port.component.0 m z) (asks b) ≡ (if b then z else state_written system.ports (only_at (pre ++ p ∷ []) at_port) port.component.0 m z)
@@ -72,29 +67,9 @@ module _ (system : System) (sound : IsSound system) (now : List (Option ℤ)) wh
         ∙ ap (write_if m port.reference mid) (sym (written_at-is system.ports now p port turn.is))
         ∙ writes_at_port system sound p port turn.is pre here.fresh at_port m z
 
-    written_here : (m : Machine) (z : MachineState) →
-        state_by m z (part port.component.0 (front ++ sent)) ≡ (if turn.component.shape.has_event_mode then z else state_written system.ports (only_at (pre ++ p ∷ []) at_port) port.component.0 m z)
-    written_here m z =
-        let events = turn.component.shape.has_event_mode in
-        ap (state_by m z) (part_append port.component.0 front sent ∙ ap (λ es. part port.component.0 front ++ part port.component.0 es) turn.sent_is ∙ ap (λ es. part port.component.0 front ++ es) (part_own_of port.component.0 (asks events) reply))
-        ∙ state_by_append m z (part port.component.0 front) (exchanges_of (asks events) reply)
-        ∙ ap (λ y. state_by m y (exchanges_of (asks events) reply)) (was port.component.0 turn.component turn.of m z)
-        ∙ state_by_one turn.component.shape m _ (asks events) reply turn.paired
-        ∙ written_by_turn m z events refl
-
-    written_beside : (i : ℕ) → (i ≡ port.component.0 → ⊥) → (b : Bool) (m : Machine) (z : MachineState) → state_by m z (part i front) ≡ (if b then z else state_written system.ports (only_at pre at_port) i m z) →
-        state_by m z (part i (front ++ sent)) ≡ (if b then z else state_written system.ports (only_at (pre ++ p ∷ []) at_port) i m z)
-    written_beside i other b m z before =
-        ap (state_by m z) (part_append i front sent ∙ ap (λ es. part i front ++ part i es) turn.sent_is ∙ ap (λ es. part i front ++ es) (part_other_of i port.component.0 (asks turn.component.shape.has_event_mode) reply other) ∙ append-nil (part i front))
-        ∙ before ∙ ap (λ y. if b then z else y) (keeps_beside system p port turn.is pre at_port i other m z)
-
     written_more : Written (pre ++ p ∷ []) (front ++ sent)
-    written_more i c of m z = by_number i port.component.0
-        (λ same.
-        let its : turn.component ≡ c = same_Some _ _ (sym turn.of ∙ ap (slice_get system.components) (sym same) ∙ of) in
-        subst (λ k. state_by m z (part k (front ++ sent)) ≡ (if c.shape.has_event_mode then z else state_written system.ports (only_at (pre ++ p ∷ []) at_port) k m z)) (sym same)
-        (written_here m z ∙ ap (λ (d : Component). if d.shape.has_event_mode then z else state_written system.ports (only_at (pre ++ p ∷ []) at_port) port.component.0 m z) its))
-        (λ other. written_beside i other c.shape.has_event_mode m z (was i c of m z))
+    written_more i c of m z = state_more turn front m z (midst pre m z) (midst (pre ++ p ∷ []) m z) (written_by_turn m z turn.component.shape.has_event_mode refl)
+        (λ k d other. ap (λ y. if d.shape.has_event_mode then z else y) (keeps_beside system p port turn.is pre at_port k other m z)) i c of (was i c of m z)
 
   written_at_last : (q : ℕ) → only_at (port_order system) at_port q ≡ at_port q
   written_at_last q = (elim (slice_get system.ports q) as (λ o. slice_get system.ports q ≡ o → only_at (port_order system) at_port q ≡ at_port q) [

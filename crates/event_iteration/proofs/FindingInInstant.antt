@@ -1,9 +1,9 @@
 -- Over machines the walk through an instant finds its solution, and writes it where there is event mode.
-use Rattle.std.proofs.Common.{◌≡◌, inl, inr, ℕ, ◌<◌, ℤ, pos, Bool, true, false, List, [], ◌∷◌, ◌++◌, Option, Some, None, Contains, refl, sym, ap, ap₂, ◌∙◌, subst, arith, append-nil, length, get_or}
-use Rattle.std.specs.Prelude.{All, ◌==◌, if◌then◌else◌, option_map, slice_get}
+use Rattle.std.proofs.Common.{◌≡◌, inl, inr, ℕ, ◌<◌, ℤ, pos, Bool, true, false, List, [], ◌∷◌, ◌++◌, Option, Some, None, Contains, refl, sym, ap, ap₂, ◌∙◌, subst, append-nil, length, get_or}
+use Rattle.std.specs.Prelude.{All, ◌==◌, if◌then◌else◌, option_map}
 use Rattle.std.proofs.lemmas.List.{ext_get_or}
 use Rattle.std.proofs.lemmas.List.Elements.{All-nil, Contains-append_left, Contains-push}
-use Rattle.std.proofs.lemmas.Option.{same_Some, slice_get_within}
+use Rattle.std.proofs.lemmas.Option.{slice_get_within}
 use Rattle.fmi_calls.specs.declared.call.Call.{Call}
 use Rattle.fmi_calls.specs.declared.call.Call.TheVariants as C
 use Rattle.fmi_calls.specs.declared.call.Reply.{Reply}
@@ -32,7 +32,7 @@ use Rattle.run_model.proofs.CallerLemmas.{present_alike, written_at-is, decided,
 use Rattle.slot_calls.specs.Log.{Sent, Told, part}
 use Rattle.slot_calls.specs.Replies.{AreReplies, RepliesBy, state_by, states_by}
 use Rattle.slot_calls.specs.Stage.{IsGoodOf, shapes_of}
-use Rattle.slot_calls.proofs.CallerLemmas.{part_append, replies_back, replies_front, state_by_append}
+use Rattle.slot_calls.proofs.CallerLemmas.{replies_back}
 use Rattle.tick_schedule.specs.Timetable.{Timetable}
 use Rattle.event_iteration.specs.Clocks.{AreTicks, StandsAt, is_due_at, timers_in}
 use Rattle.event_iteration.specs.Explains.{Explains}
@@ -41,26 +41,17 @@ use Rattle.event_iteration.specs.Intervals.{TellsTicks, is_time_clock}
 use Rattle.event_iteration.specs.Machines.{AreAt}
 use Rattle.event_iteration.specs.Turns.{IsPaired, Turn, Walked}
 use Rattle.event_iteration.proofs.ClockTicks.{are_ticks}
-use Rattle.event_iteration.proofs.Fmus.{after_if, are_replies, at_fmu-is, each_same, exchanges_of, got, none_reply, part_other_of, part_own_of, state_by_one}
+use Rattle.event_iteration.proofs.Fmus.{get_stays, part_more, set_writes, state_more, after_if, are_replies, at_fmu-is, each_same, exchanges_of, none_reply, good_in_part}
 use Rattle.event_iteration.proofs.InInstant.{ReadsOrSets, clock_events, reads_or_sets}
-use Rattle.event_iteration.proofs.Parts.{good_in_part}
-use Rattle.event_iteration.proofs.Stages.{told_on}
+use Rattle.event_iteration.proofs.Stages.{fmu_of, replies_first, states_all, told_on}
 use Rattle.event_iteration.proofs.Turning.{IsCallOf, all_good, calls_more}
-use Rattle.event_iteration.proofs.Walking.{Here, along, by_number, next_beside, next_here}
+use Rattle.event_iteration.proofs.Walking.{Here, along, next_beside, next_here}
+
+is_ticking : (b : Bool) → is_active (Some (tick_value b)) ≡ b
+is_ticking true = refl
+is_ticking false = refl
 
 module _ (r : Run) (sound : IsSound r.system) (machines : AreMachines r) (s : Situation) (situation : IsSituation r s) (ticks : ℕ → Bool) (are_ticks : AreTicks r.system r.plan.start s.timers s.t s.n ticks) where
-  record There (i : ℕ) (c : Component) : Type 0 where
-    machine : Machine
-    state : MachineState
-    fmu : IsFmu r s.states i c machine state
-
-  there : (i : ℕ) (c : Component) → slice_get r.system.components i ≡ Some c → There i c
-  there i c of =
-      let within = slice_get_within r.system.components i c of in
-      let m = got r.machines i (let e = machines.count in omega (arith, e, within)) in
-      let z = got s.states i (let e = situation.states in omega (arith, e, within)) in
-      record { machine = m.0; state = z.0; fmu = record { component = of; machine = m.1; state = z.1 } }
-
   -- ---- the midst of the instant
   module _ (W : List (Option ℤ)) (solved : Solves r s W) where
     abbrev at_port : ℕ → Option ℤ
@@ -94,8 +85,8 @@ module _ (r : Run) (sound : IsSound r.system) (machines : AreMachines r) (s : Si
       abbrev get : Call
       get = C.Get port.kind port.reference
 
-      mine : There port.component.0 turn.component
-      mine = there port.component.0 turn.component turn.of
+      mine : (m : Machine) × (z : MachineState) × IsFmu r s.states port.component.0 turn.component m z
+      mine = fmu_of r s.states (states_all r machines s situation) port.component.0 turn.component turn.of
 
       -- the source of an input has its value
       fed_same : (feed : Feed) → source_of port.role ≡ Some feed.from.0 → fed feed values ≡ fed feed W
@@ -115,20 +106,18 @@ module _ (r : Run) (sound : IsSound r.system) (machines : AreMachines r) (s : Si
       events_of : is_clock_role port.role ≡ true → events ≡ true
       events_of clock = clock_events r.system sound p port turn.component turn.is turn.of clock
 
-      state_mid : state_by mine.machine mine.state (part port.component.0 front) ≡ midst pre events port.component.0 mine.machine mine.state
-      state_mid = was.states port.component.0 turn.component mine.machine mine.state mine.fmu
+      state_mid : state_by mine.0 mine.1 (part port.component.0 front) ≡ midst pre events port.component.0 mine.0 mine.1
+      state_mid = was.states port.component.0 turn.component mine.0 mine.1 mine.2
 
       -- a reply is the machine's, in the midst
-      replied : (k : Call) (x : Reply) → reply ≡ Some x → call ≡ Some k → x ≡ mine.machine.look (midst pre events port.component.0 mine.machine mine.state) k
+      replied : (k : Call) (x : Reply) → reply ≡ Some x → call ≡ Some k → x ≡ mine.0.look (midst pre events port.component.0 mine.0 mine.1) k
       replied k x is asks =
-          let part_is : part port.component.0 (front ++ sent) ≡ part port.component.0 front ++ exchanges_of call reply =
-          part_append port.component.0 front sent ∙ ap (λ es. part port.component.0 front ++ part port.component.0 es) turn.sent_is ∙ ap (λ es. part port.component.0 front ++ es) (part_own_of port.component.0 call reply) in
-          let own : RepliesBy mine.machine mine.state (part port.component.0 front ++ exchanges_of call reply) = subst (RepliesBy mine.machine mine.state) part_is (replies port.component.0 turn.component mine.machine mine.state mine.fmu) in
-          let behind = replies_back mine.machine (get_or (shapes_of r.system) port.component.0 turn.component.shape) mine.state (part port.component.0 front) (exchanges_of call reply)
+          let own : RepliesBy mine.0 mine.1 (part port.component.0 front ++ exchanges_of call reply) = subst (RepliesBy mine.0 mine.1) (part_more turn front) (replies port.component.0 turn.component mine.0 mine.1 mine.2) in
+          let behind = replies_back mine.0 (get_or (shapes_of r.system) port.component.0 turn.component.shape) mine.1 (part port.component.0 front) (exchanges_of call reply)
           (good_in_part (shapes_of r.system) front (all_good ReadsOrSets r.system pre front was.calls) port.component.0 turn.component.shape) own in
-          let one : RepliesBy mine.machine (midst pre events port.component.0 mine.machine mine.state) (exchanges_of (Some k) (Some x)) =
-          subst (λ z. RepliesBy mine.machine z (exchanges_of (Some k) (Some x))) state_mid
-          (subst (λ (es : List Exchange). RepliesBy mine.machine (state_by mine.machine mine.state (part port.component.0 front)) es) (ap₂ exchanges_of asks is) behind) in
+          let one : RepliesBy mine.0 (midst pre events port.component.0 mine.0 mine.1) (exchanges_of (Some k) (Some x)) =
+          subst (λ z. RepliesBy mine.0 z (exchanges_of (Some k) (Some x))) state_mid
+          (subst (λ (es : List Exchange). RepliesBy mine.0 (state_by mine.0 mine.1 (part port.component.0 front)) es) (ap₂ exchanges_of asks is) behind) in
           one.0
 
       -- what is seen without a call, and with one
@@ -136,20 +125,20 @@ module _ (r : Run) (sound : IsSound r.system) (machines : AreMachines r) (s : Si
       seen_last o is asks =
           ap (seen_or port (value values p)) (none_reply turn.component.shape reply (subst (λ k. IsPaired turn.component.shape k reply) asks turn.paired)) ∙ last_same
 
-      seen_by : (k : Call) → call ≡ Some k → (state : MachineState) → mine.machine.look (midst pre events port.component.0 mine.machine mine.state) k ≡ mine.machine.look state k →
-          seen_or port (value values p) reply ≡ value_in port.kind (mine.machine.look state k)
+      seen_by : (k : Call) → call ≡ Some k → (state : MachineState) → mine.0.look (midst pre events port.component.0 mine.0 mine.1) k ≡ mine.0.look state k →
+          seen_or port (value values p) reply ≡ value_in port.kind (mine.0.look state k)
       seen_by k asks state looks = by reply refl (subst (λ a. IsPaired turn.component.shape a reply) asks turn.paired)
         where
-          by : (o : Option Reply) → reply ≡ o → IsPaired turn.component.shape (Some k) o → seen_or port (value values p) o ≡ value_in port.kind (mine.machine.look state k)
+          by : (o : Option Reply) → reply ≡ o → IsPaired turn.component.shape (Some k) o → seen_or port (value values p) o ≡ value_in port.kind (mine.0.look state k)
           by None is paired = absurd paired
           by (Some x) is paired = ap (value_in port.kind) (replied k x is asks ∙ looks)
 
       -- with event mode an output shows in the midst what it shows with all values written
       looks_same : is_output_role port.role ≡ true → events ≡ true → (k : Call) → output_of k ≡ Some port.reference →
-          mine.machine.look (midst pre events port.component.0 mine.machine mine.state) k ≡ mine.machine.look (state_with r.system.ports W port.component.0 mine.machine mine.state) k
+          mine.0.look (midst pre events port.component.0 mine.0 mine.1) k ≡ mine.0.look (state_with r.system.ports W port.component.0 mine.0 mine.1) k
       looks_same out e k at =
-          ap (λ x. mine.machine.look (midst pre x port.component.0 mine.machine mine.state) k) e
-          ∙ looks_in_midst r sound machines s.states situation.shapes p port turn.is out W pre here.needed turn.component mine.machine mine.state mine.fmu e k at
+          ap (λ x. mine.0.look (midst pre x port.component.0 mine.0 mine.1) k) e
+          ∙ looks_in_midst r sound machines s.states situation.shapes p port turn.is out W pre here.needed turn.component mine.0 mine.1 mine.2 e k at
 
       -- an output that is read shows what it shows with all values written
       module _ (same : port.role ≡ Output) where
@@ -162,28 +151,28 @@ module _ (r : Run) (sound : IsSound r.system) (machines : AreMachines r) (s : Si
 
         abbrev output_by : Bool → Bool → Bool → Option ℤ
         output_by b present n =
-            if b then (if present then shown mine.machine (state_with r.system.ports W port.component.0 mine.machine mine.state) port else value s.before p)
-            else (if n then shown mine.machine mine.state port else value s.before p)
+            if b then (if present then shown mine.0 (state_with r.system.ports W port.component.0 mine.0 mine.1) port else value s.before p)
+            else (if n then shown mine.0 mine.1 port else value s.before p)
 
         seen_output : (b : Bool) → events ≡ b → (present : Bool) → is_present port W ≡ present → (n : Bool) → first ≡ n → seen_or port (value values p) reply ≡ output_by b present n
         seen_output true e true there n f =
-            seen_by get (call_is true true e there) (state_with r.system.ports W port.component.0 mine.machine mine.state) (looks_same (ap is_output_role same) e get refl)
+            seen_by get (call_is true true e there) (state_with r.system.ports W port.component.0 mine.0 mine.1) (looks_same (ap is_output_role same) e get refl)
         seen_output true e false there n f = seen_last reply refl (call_is true false e there)
         seen_output false e present there true f =
-            seen_by get (call_is false present e there ∙ ap (λ x. if x then Some get else None) f) mine.state (ap (λ x. mine.machine.look (midst pre x port.component.0 mine.machine mine.state) get) e)
+            seen_by get (call_is false present e there ∙ ap (λ x. if x then Some get else None) f) mine.1 (ap (λ x. mine.0.look (midst pre x port.component.0 mine.0 mine.1) get) e)
         seen_output false e present there false f = seen_last reply refl (call_is false present e there ∙ ap (λ x. if x then Some get else None) f)
 
         output_here : seen_or port (value values p) reply ≡ at_fmu r s.states port.component.0 (output_value r s W (value s.before p) port)
         output_here =
             seen_output events refl (is_present port W) refl first refl
-            ∙ sym (at_fmu-is r s.states port.component.0 turn.component mine.machine mine.state (output_value r s W (value s.before p) port) mine.fmu)
+            ∙ sym (at_fmu-is r s.states port.component.0 turn.component mine.0 mine.1 (output_value r s W (value s.before p) port) mine.2)
 
       -- an output Clock is active as it is with all values written
       clock_here : port.role ≡ ClockOutput → seen_or port (value values p) reply ≡ at_fmu r s.states port.component.0 (λ c m state. ticking m (state_with r.system.ports W port.component.0 m state) port)
       clock_here same =
-          seen_by (C.GetClock port.reference) (ap (λ x. asks_in_instant x port events first (ticks p) values) same) (state_with r.system.ports W port.component.0 mine.machine mine.state)
+          seen_by (C.GetClock port.reference) (ap (λ x. asks_in_instant x port events first (ticks p) values) same) (state_with r.system.ports W port.component.0 mine.0 mine.1)
           (looks_same (ap is_output_role same) (events_of (ap is_clock_role same)) (C.GetClock port.reference) refl)
-          ∙ sym (at_fmu-is r s.states port.component.0 turn.component mine.machine mine.state (λ c m state. ticking m (state_with r.system.ports W port.component.0 m state) port) mine.fmu)
+          ∙ sym (at_fmu-is r s.states port.component.0 turn.component mine.0 mine.1 (λ c m state. ticking m (state_with r.system.ports W port.component.0 m state) port) mine.2)
 
       -- a time-based Clock ticks as its timer does
       time_here : (timing : Timing) → port.role ≡ TimeClock timing → Some (tick_value (ticks p)) ≡ value W p
@@ -212,30 +201,18 @@ module _ (r : Run) (sound : IsSound r.system) (machines : AreMachines r) (s : Si
       next_is_W = next_here turn len ∙ value_here port.role refl
 
       -- with event mode its call writes what is written at it
-      as_written : (m : Machine) (x : MachineState) (o : Option ℤ) → after_if m x (option_map (λ v. C.Set port.kind port.reference v) o) ≡ write_if m port.reference x o
-      as_written m x None = refl
-      as_written m x (Some v) = refl
-
-      set_writes : (feed : Feed) → port.role ≡ Input (Some feed) → (present : Bool) → is_present port W ≡ present → (m : Machine) (x : MachineState) →
+      sets_here : (feed : Feed) → port.role ≡ Input (Some feed) → (present : Bool) → is_present port W ≡ present → (m : Machine) (x : MachineState) →
           after_if m x (if present then option_map (λ v. C.Set port.kind port.reference v) (fed feed values) else None) ≡ write_if m port.reference x (if present then value W p else None)
-      set_writes feed same true there m x =
-          ap (λ o. after_if m x (option_map (λ v. C.Set port.kind port.reference v) o)) (sym value_fed) ∙ as_written m x (value W p)
+      sets_here feed same true there m x =
+          ap (λ o. after_if m x (option_map (λ v. C.Set port.kind port.reference v) o)) (sym value_fed) ∙ set_writes m x port (value W p)
         where
           value_fed : value W p ≡ fed feed values
           value_fed = equation (Input (Some feed)) same ∙ ap (λ b. if b then fed feed W else value s.before p) there ∙ sym (fed_same feed (ap source_of same))
-      set_writes feed same false there m x = refl
-
-      get_keeps : (b : Bool) (m : Machine) (x : MachineState) → after_if m x (if b then Some get else None) ≡ x
-      get_keeps true m x = refl
-      get_keeps false m x = refl
+      sets_here feed same false there m x = refl
 
       tick_writes : (b : Bool) (m : Machine) (x : MachineState) → after_if m x (if b then Some (C.SetClock port.reference) else None) ≡ write_if m port.reference x (if b then Some (pos 1) else None)
       tick_writes true m x = refl
       tick_writes false m x = refl
-
-      is_ticking : (b : Bool) → is_active (Some (tick_value b)) ≡ b
-      is_ticking true = refl
-      is_ticking false = refl
 
       -- whether an input Clock is set is whether it is active
       sets_clock : (b : Bool) → b ≡ is_active (value W p) → (m : Machine) (x : MachineState) →
@@ -254,10 +231,10 @@ module _ (r : Run) (sound : IsSound r.system) (machines : AreMachines r) (s : Si
       call_writes (Input None) same true e m x = refl
       call_writes (Input None) same false e m x = refl
       call_writes (Input (Some feed)) same true e m x =
-          ap (λ c. after_if m x (if c then option_map (λ v. C.Set port.kind port.reference v) (fed feed values) else None)) present_same ∙ set_writes feed same (is_present port W) refl m x
+          ap (λ c. after_if m x (if c then option_map (λ v. C.Set port.kind port.reference v) (fed feed values) else None)) present_same ∙ sets_here feed same (is_present port W) refl m x
       call_writes (Input (Some feed)) same false e m x = refl
-      call_writes Output same true e m x = get_keeps (is_present port values) m x
-      call_writes Output same false e m x = get_keeps first m x
+      call_writes Output same true e m x = get_stays m x port (is_present port values)
+      call_writes Output same false e m x = get_stays m x port first
       call_writes (ClockInput None) same b e m x =
           clock_writes (ap is_clock_role same) b e m x x _ (ap (λ o. write_if m port.reference x (if is_active o then Some (pos 1) else None)) (sym (equation (ClockInput None) same)))
       call_writes (ClockInput (Some feed)) same b e m x =
@@ -274,22 +251,9 @@ module _ (r : Run) (sound : IsSound r.system) (machines : AreMachines r) (s : Si
           ∙ writes_at_port r.system sound p port turn.is pre here.fresh at_port m z
       written_on false e m z = call_writes port.role refl false e m z
 
-      state_here : (m : Machine) (z : MachineState) → state_by m z (part port.component.0 front) ≡ midst pre events port.component.0 m z → state_by m z (part port.component.0 (front ++ sent)) ≡ midst (pre ++ p ∷ []) events port.component.0 m z
-      state_here m z so_far =
-          ap (state_by m z) (part_append port.component.0 front sent ∙ ap (λ es. part port.component.0 front ++ part port.component.0 es) turn.sent_is ∙ ap (λ es. part port.component.0 front ++ es) (part_own_of port.component.0 call reply))
-          ∙ state_by_append m z (part port.component.0 front) (exchanges_of call reply)
-          ∙ ap (λ y. state_by m y (exchanges_of call reply)) so_far
-          ∙ state_by_one turn.component.shape m (midst pre events port.component.0 m z) call reply turn.paired
-          ∙ written_on events refl m z
-
       beside_on : (b : Bool) (i : ℕ) → (i ≡ port.component.0 → ⊥) → (m : Machine) (z : MachineState) → midst pre b i m z ≡ midst (pre ++ p ∷ []) b i m z
       beside_on true i other m z = keeps_beside r.system p port turn.is pre at_port i other m z
       beside_on false i other m z = refl
-
-      state_beside : (b : Bool) (i : ℕ) → (i ≡ port.component.0 → ⊥) → (m : Machine) (z : MachineState) → state_by m z (part i front) ≡ midst pre b i m z → state_by m z (part i (front ++ sent)) ≡ midst (pre ++ p ∷ []) b i m z
-      state_beside b i other m z so_far =
-          ap (state_by m z) (part_append i front sent ∙ ap (λ es. part i front ++ part i es) turn.sent_is ∙ ap (λ es. part i front ++ es) (part_other_of i port.component.0 call reply other) ∙ append-nil (part i front))
-          ∙ so_far ∙ beside_on b i other m z
 
       midst_more : Midst (pre ++ p ∷ []) next (front ++ sent)
       midst_more = record {
@@ -298,18 +262,9 @@ module _ (r : Run) (sound : IsSound r.system) (machines : AreMachines r) (s : Si
             (λ old. next_beside turn q (λ same. here.fresh (subst (Contains pre) same old)) ∙ was.taken_values q old)
             (λ same. subst (λ x. value next x ≡ value W x) same next_is_W);
         left = λ q m. next_beside turn q (λ same. m (subst (Contains (pre ++ p ∷ [])) (sym same) (Contains-push pre p))) ∙ was.left q (λ old. m (Contains-append_left pre (p ∷ []) q old));
-        states = λ i c m z fmu. by_number i port.component.0
-            (λ same.
-            let its : turn.component ≡ c = same_Some _ _ (sym turn.of ∙ ap (slice_get r.system.components) (sym same) ∙ fmu.component) in
-            subst (λ (d : Component). state_by m z (part i (front ++ sent)) ≡ midst (pre ++ p ∷ []) d.shape.has_event_mode i m z) its
-            (subst (λ k. state_by m z (part k (front ++ sent)) ≡ midst (pre ++ p ∷ []) events k m z) (sym same)
-            (state_here m z (subst (λ k. state_by m z (part k front) ≡ midst pre events k m z) same
-            (subst (λ (d : Component). state_by m z (part i front) ≡ midst pre d.shape.has_event_mode i m z) (sym its) (was.states i c m z fmu))))))
-            (λ other. state_beside c.shape.has_event_mode i other m z (was.states i c m z fmu));
+        states = λ i c m z fmu. state_more turn front m z (λ k d. midst pre d.shape.has_event_mode k m z) (λ k d. midst (pre ++ p ∷ []) d.shape.has_event_mode k m z) (written_on events refl m z)
+            (λ k d other. beside_on d.shape.has_event_mode k other m z) i c fmu.component (was.states i c m z fmu);
       }
-
-    first_of : (a b : List Sent) → AreReplies r s.states (a ++ b) → AreReplies r s.states a
-    first_of a b h i c m z fmu = replies_front m z (part i a) (part i b) (subst (RepliesBy m z) (part_append i a b) (h i c m z fmu))
 
     none_midst : (b : Bool) (i : ℕ) (m : Machine) (z : MachineState) → z ≡ midst [] b i m z
     none_midst true i m z = sym (nothing_at_first r.system at_port i m z)
@@ -327,7 +282,7 @@ module _ (r : Run) (sound : IsSound r.system) (machines : AreMachines r) (s : Si
           left = λ q m. refl;
           states = λ i c m z fmu. none_midst c.shape.has_event_mode i m z;
         })
-        (λ pre p reply v next front sent here len was turn h. midst_more pre p reply v next front sent here len (was (first_of front sent h)) turn h)
+        (λ pre p reply v next front sent here len was turn h. midst_more pre p reply v next front sent here len (was (replies_first r s.states front sent h)) turn h)
         taken rest values log is walked in
         (all.0, all.1 replies)
 
@@ -387,13 +342,6 @@ pub tells_ticks : (system : System) → IsSound system → (t : ℕ) (is_first :
 tells_ticks system sound t is_first table before values log told p port is time =
     ap is_active (told.taken_values p port is (sound.instant_order.each p (slice_get_within system.ports p port is))) ∙ by port.role time
   where
-    ticks : (b : Bool) → is_active (Some (tick_value b)) ≡ b
-    ticks true = refl
-    ticks false = refl
-
     by : (role : Role) → is_time_clock role ≡ true → is_active (takes_in_instant role port (is_due_at table t p) values (value before p) (told.replies p)) ≡ is_due_at table t p
-    by (TimeClock timing) h = ticks (is_due_at table t p)
-    by (Input feed) h = absurd (true_false (sym h))
-    by Output h = absurd (true_false (sym h))
-    by (ClockInput feed) h = absurd (true_false (sym h))
-    by ClockOutput h = absurd (true_false (sym h))
+    by (TimeClock timing) h = is_ticking (is_due_at table t p)
+    by role h = absurd (true_false (sym h))

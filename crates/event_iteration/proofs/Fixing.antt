@@ -1,15 +1,15 @@
 -- The questions of fixed Clocks, port by port.
-use Rattle.std.proofs.Common.{◌≡◌, inl, inr, ℕ, ◌+◌, ◌<◌, ◌≤◌, true, false, List, [], ◌∷◌, ◌++◌, Some, None, Ok, Err, refl, sym, ap, ap₂, ◌∙◌, subst, append_assoc, append-nil, arith, length, set, map, take, drop}
+use Rattle.std.proofs.Common.{◌≡◌, inl, inr, ℕ, ◌+◌, ◌<◌, ◌≤◌, true, false, List, [], ◌∷◌, ◌++◌, Some, None, Ok, Err, refl, sym, ap, ap₂, ◌∙◌, subst, append_assoc, append-nil, arith, length, map, take, drop}
 use Rattle.std.specs.Prelude.{option_map, slice_get}
 use Rattle.std.proofs.lemmas.Bool.{cases_lt}
-use Rattle.std.proofs.lemmas.List.{length-map, length-set, map-append, take-append-drop, take_all, take_more}
+use Rattle.std.proofs.lemmas.List.{length-map, take-append-drop, take_all, take_more}
 use Rattle.std.proofs.lemmas.Option.{get_or_from_slice_get, same_Some, slice_get-map, slice_get_within}
 use Rattle.value_types.specs.declared.shape.Shape.{Shape}
 use Rattle.fmi_calls.specs.declared.call.Call.TheVariants as C
 use Rattle.fmi_calls.specs.declared.call.Reply.{Reply}
 use Rattle.fmu_peer.specs.CloseAll.{Instance}
 use Rattle.system_model.specs.declared.system.Role.{Role}
-use Rattle.system_model.specs.declared.system.Role.TheVariants.{Input, Output, ClockInput, ClockOutput, TimeClock}
+use Rattle.system_model.specs.declared.system.Role.TheVariants.{TimeClock}
 use Rattle.system_model.specs.declared.system.Timing.TheVariants.{Periodic, Answered, Countdown}
 use Rattle.system_model.specs.declared.system.Port.{Port}
 use Rattle.system_model.specs.declared.system.System.{System}
@@ -29,7 +29,7 @@ use Rattle.event_iteration.specs.Intervals.{Fixes, first_told_by, first_told_in,
 use Rattle.event_iteration.specs.Questions.{FixSays, FixesPort, IsEntered, IsFirstPlace, IsFixed, IsFixedUpTo, first_reply, is_asked, modes}
 use Rattle.event_iteration.proofs.Answering.{one_answer}
 use Rattle.event_iteration.proofs.Fmus.{got}
-use Rattle.event_iteration.proofs.Places.{map_take, set_beside, set_here, set_same, take_set}
+use Rattle.event_iteration.proofs.Places.{beside_now, many_now, place_now, set_same, timers_now}
 
 -- ---- one port
 
@@ -37,28 +37,15 @@ first_of : (start : ℕ) (role : Role) → is_asked role ≡ false → IsFirstPl
 first_of start (TimeClock Answered) none = absurd (true_false none)
 first_of start (TimeClock (Periodic interval shift)) none = record { of = (0, refl); next = (omega arith, λ k lt. absurd (omega (arith, lt))) }
 first_of start (TimeClock Countdown) none = record { of = (None, refl); next = tt }
-first_of start (Input feed) none = record { of = refl; next = tt }
-first_of start Output none = record { of = refl; next = tt }
-first_of start (ClockInput feed) none = record { of = refl; next = tt }
-first_of start ClockOutput none = record { of = refl; next = tt }
+first_of start role none = record { of = refl; next = tt }
 
 timer_of_first : (role : Role) (per_second : ℕ) → is_asked role ≡ false → timer_in (first_place role) ≡ first_told_by role per_second []
 timer_of_first (TimeClock Answered) per_second none = absurd (true_false none)
-timer_of_first (TimeClock (Periodic interval shift)) per_second none = refl
-timer_of_first (TimeClock Countdown) per_second none = refl
-timer_of_first (Input feed) per_second none = refl
-timer_of_first Output per_second none = refl
-timer_of_first (ClockInput feed) per_second none = refl
-timer_of_first ClockOutput per_second none = refl
+timer_of_first role per_second none = refl
 
 no_calls : (role : Role) (port : Port) → is_asked role ≡ false → timing_calls_of role port ≡ []
 no_calls (TimeClock Answered) port none = absurd (true_false none)
-no_calls (TimeClock (Periodic interval shift)) port none = refl
-no_calls (TimeClock Countdown) port none = refl
-no_calls (Input feed) port none = refl
-no_calls Output port none = refl
-no_calls (ClockInput feed) port none = refl
-no_calls ClockOutput port none = refl
+no_calls role port none = refl
 
 -- a port that isn't asked
 pub fixes_none : (port : Port) (per_second p : ℕ) (table : Timetable) (is : List Instance) → is_asked port.role ≡ false → slice_get table.clocks p ≡ Some (first_place port.role) → FixesPort port per_second p table table is is (Ok tt)
@@ -143,11 +130,7 @@ told_append per_second (x ∷ xs) ys log more is = by x.role log is (λ rest res
     by (TimeClock Answered) (a ∷ []) e on = absurd (cc)
     by (TimeClock Answered) (a ∷ b ∷ rest) e on = ap (λ ts. told_timer per_second (a ∷ b ∷ rest) ∷ ts) (on rest (cc))
     by (TimeClock (Periodic interval shift)) some e on = ap (λ ts. Every interval shift ∷ ts) (on some e)
-    by (TimeClock Countdown) some e on = ap (λ ts. Never ∷ ts) (on some e)
-    by (Input feed) some e on = ap (λ ts. Never ∷ ts) (on some e)
-    by Output some e on = ap (λ ts. Never ∷ ts) (on some e)
-    by (ClockInput feed) some e on = ap (λ ts. Never ∷ ts) (on some e)
-    by ClockOutput some e on = ap (λ ts. Never ∷ ts) (on some e)
+    by role some e on = ap (λ ts. Never ∷ ts) (on some e)
 
 -- ---- the first ports
 
@@ -217,38 +200,24 @@ module _ (system : System) (per_second k : ℕ) (port : Port) (is : slice_get sy
       in_clocks : k < length table.clocks
       in_clocks = let e = front.fixed.len in let w = within in omega (arith, e, w)
 
-      clocks_are : next.clocks ≡ set table.clocks k done.place
-      clocks_are = ap (λ (x : Timetable). x.clocks) done.is
-
       start_is : next.start ≡ table.start
       start_is = ap (λ (x : Timetable). x.start) done.is
 
-      here : slice_get next.clocks k ≡ Some done.place
-      here = ap (λ xs. slice_get xs k) clocks_are ∙ set_here table.clocks k done.place in_clocks
-
-      beside : (q : ℕ) → (q ≡ k → ⊥) → slice_get next.clocks q ≡ slice_get table.clocks q
-      beside q other = ap (λ xs. slice_get xs q) clocks_are ∙ set_beside table.clocks k done.place q other
-
       fixed_more : IsFixedUpTo system (k + 1) next
       fixed_more = record {
-        len = ap length clocks_are ∙ length-set table.clocks k done.place ∙ front.fixed.len;
+        len = many_now table next k done.place in_clocks done.is ∙ front.fixed.len;
         behind = λ q x place lt at at_place. (elim (cases_lt q k) as (λ c. IsFirstPlace next.start x.role place) [
           | inl below ↦
               subst (λ n. IsFirstPlace n x.role place) (sym start_is)
-              (front.fixed.behind q x place below at (sym (beside q (λ e. absurd (omega (arith, e, below)))) ∙ at_place))
+              (front.fixed.behind q x place below at (sym (beside_now table next k done.place in_clocks done.is q (λ e. absurd (omega (arith, e, below)))) ∙ at_place))
           | inr past ↦
               let same_place : q ≡ k = omega (arith, lt, past) in
               let its : port ≡ x = same_Some _ _ (sym is ∙ ap (slice_get system.ports) (sym same_place) ∙ at) in
-              let own : done.place ≡ place = same_Some _ _ (sym here ∙ ap (slice_get next.clocks) (sym same_place) ∙ at_place) in
+              let own : done.place ≡ place = same_Some _ _ (sym (place_now table next k done.place in_clocks done.is) ∙ ap (slice_get next.clocks) (sym same_place) ∙ at_place) in
               subst (λ n. IsFirstPlace n x.role place) (sym start_is) (subst (λ (y : Port). IsFirstPlace table.start y.role place) its (subst (IsFirstPlace table.start port.role) own done.first))
         ]);
-        ahead = λ q x le at. beside q (λ e. absurd (omega (arith, e, le))) ∙ front.fixed.ahead q x (omega (arith, le)) at;
+        ahead = λ q x le at. beside_now table next k done.place in_clocks done.is q (λ e. absurd (omega (arith, e, le))) ∙ front.fixed.ahead q x (omega (arith, le)) at;
       }
-
-      timers_more : take (k + 1) (timers_in next) ≡ take k (timers_in table) ++ timer_in done.place ∷ []
-      timers_more =
-          sym (map_take timer_in (k + 1) next.clocks) ∙ ap (λ cs. map timer_in (take (k + 1) cs)) clocks_are ∙ ap (map timer_in) (take_set table.clocks k done.place in_clocks)
-          ∙ map-append timer_in (take k table.clocks) (done.place ∷ []) ∙ ap (λ ts. ts ++ timer_in done.place ∷ []) (map_take timer_in k table.clocks)
 
       pub fixing_more : modes news ≡ modes mids → Fixing system per_second (k + 1) first next olds news
       fixing_more modes_same = record {
@@ -260,7 +229,7 @@ module _ (system : System) (per_second k : ℕ) (port : Port) (is : slice_get sy
         start = start_is ∙ front.start;
         stop = ap (λ (x : Timetable). x.stop) done.is ∙ front.stop;
         fixed = fixed_more;
-        timers = timers_more ∙ ap₂ (λ ts (t : Timer). ts ++ t ∷ []) front.timers done.timer
+        timers = timers_now table next k done.place in_clocks done.is ∙ ap₂ (λ ts (t : Timer). ts ++ t ∷ []) front.timers done.timer
             ∙ sym (ap (λ ps. first_told_in per_second ps (front.log ++ turn.log)) more_ports ∙ told_append per_second (take k system.ports) (port ∷ []) front.log turn.log front.answered.calls_are);
       }
 

@@ -1,10 +1,12 @@
 -- The FMUs of a run as machines: one call of an FMU and the state behind it, and what a log of told machines leaves.
-use Rattle.std.proofs.Common.{◌≡◌, ℕ, zero, suc, ◌<◌, ◌+◌, List, [], ◌∷◌, Option, Some, None, Result, Ok, Err, refl, sym, ap, ◌∙◌, subst, arith, length, get_or}
-use Rattle.std.specs.Prelude.{All, MatchResult, option_and_then, slice_get}
-use Rattle.std.proofs.lemmas.List.Elements.{All-head, All-tail}
+use Rattle.std.proofs.Common.{◌≡◌, ℕ, zero, suc, ◌<◌, ◌+◌, ℤ, Bool, true, false, List, [], ◌∷◌, ◌++◌, Option, Some, None, Result, Ok, Err, refl, sym, ap, ap₂, ◌∙◌, subst, append-nil, arith, length, get_or}
+use Rattle.std.specs.Prelude.{All, MatchResult, if◌then◌else◌, option_and_then, option_map, slice_get, ◌==◌}
+use Rattle.std.proofs.lemmas.List.Elements.{All-head, All-tail, All-cons, All-nil}
 use Rattle.std.proofs.lemmas.Option.{get_or_from_slice_get, same_Some, slice_get_within}
+use Rattle.std.proofs.lemmas.Bool.{eqb-true}
 use Rattle.value_types.specs.declared.shape.Shape.{Shape}
 use Rattle.fmi_calls.specs.declared.call.Call.{Call}
+use Rattle.fmi_calls.specs.declared.call.Call.TheVariants as C
 use Rattle.fmi_calls.specs.declared.call.Grade.TheVariants as G
 use Rattle.fmi_calls.specs.declared.call.Reply.{Reply}
 use Rattle.fmi_calls.specs.Worth.{grade_of}
@@ -15,14 +17,17 @@ use Rattle.fmu_peer.specs.Machine.{Machine, MachineState, after}
 use Rattle.fmu_peer.specs.Talk as T
 use Rattle.fmu_peer.specs.View.{AnswersAs, Asked, Fixed, View}
 use Rattle.system_model.specs.declared.system.Component.{Component}
+use Rattle.system_model.specs.declared.system.Port.{Port}
+use Rattle.system_model.specs.declared.system.System.{System}
 use Rattle.run_model.specs.Run.{IsFmu, Run, at_fmu, each, each_from}
+use Rattle.run_model.specs.Walk.{write_if}
 use Rattle.slot_calls.specs.Log.{Sent, Talks, Told, part}
 use Rattle.slot_calls.specs.Replies.{AreReplies, state_by}
 use Rattle.slot_calls.specs.Stage.{IsGoodOf, shapes_of}
-use Rattle.slot_calls.proofs.CallerLemmas.{part_other, part_own, talks_fixed, replies_of}
+use Rattle.slot_calls.proofs.CallerLemmas.{part_append, part_other, part_own, state_by_append, talks_fixed, replies_of}
 use Rattle.event_iteration.specs.Machines.{AreAt}
-use Rattle.event_iteration.specs.Turns.{IsPaired, sent_of}
-use Rattle.event_iteration.proofs.Parts.{good_in_part}
+use Rattle.event_iteration.specs.Turns.{IsPaired, Rules, Turn, sent_of}
+use Rattle.event_iteration.proofs.Walking.{by_number}
 
 -- ---- lists over the FMUs
 
@@ -33,15 +38,13 @@ got (x ∷ xs) (suc i) w = got xs i (omega (arith, w))
 
 pub each_at : {X : Type 0} (f : ℕ → Component → Machine → MachineState → X) (k i : ℕ) (cs : List Component) (ms : List Machine) (ss : List MachineState) (c : Component) (m : Machine) (s : MachineState) →
     slice_get cs i ≡ Some c → slice_get ms i ≡ Some m → slice_get ss i ≡ Some s → slice_get (each_from f k cs ms ss) i ≡ Some (f (k + i) c m s)
-each_at f k i [] ms ss c m s of_c of_m of_s = absurd (cc)
-each_at f k i (x ∷ cs) [] ss c m s of_c of_m of_s = absurd (cc)
-each_at f k i (x ∷ cs) (y ∷ ms) [] c m s of_c of_m of_s = absurd (cc)
 each_at f k zero (x ∷ cs) (y ∷ ms) (z ∷ ss) c m s of_c of_m of_s =
     let place : k ≡ k + 0 = omega arith in
     ap Some (ap (λ n. f n x y z) place ∙ ap (λ (w : Component). f (k + 0) w y z) (same_Some _ _ of_c) ∙ ap (λ (w : Machine). f (k + 0) c w z) (same_Some _ _ of_m) ∙ ap (f (k + 0) c m) (same_Some _ _ of_s))
 each_at f k (suc i) (x ∷ cs) (y ∷ ms) (z ∷ ss) c m s of_c of_m of_s =
     let place : suc k + i ≡ k + suc i = omega arith in
     each_at f (suc k) i cs ms ss c m s of_c of_m of_s ∙ ap (λ n. Some (f n c m s)) place
+each_at f k i cs ms ss c m s of_c of_m of_s = absurd (cc)
 
 pub fmu_on : (r : Run) (states : List MachineState) (f : ℕ → Component → Machine → MachineState → MachineState) (i : ℕ) (c : Component) (m : Machine) (s : MachineState) → IsFmu r states i c m s → IsFmu r (each r states f) i c m (f i c m s)
 fmu_on r states f i c m s fmu =
@@ -67,15 +70,13 @@ each_same {X} r states f g h = from 0 r.system.components r.machines states (λ 
   where
     from : (k : ℕ) (cs : List Component) (ms : List Machine) (ss : List MachineState) →
         ((i : ℕ) (c : Component) (m : Machine) (s : MachineState) → slice_get cs i ≡ Some c → slice_get ms i ≡ Some m → slice_get ss i ≡ Some s → f (k + i) c m s ≡ g (k + i) c m s) → each_from f k cs ms ss ≡ each_from g k cs ms ss
-    from k [] ms ss same = refl
-    from k (c ∷ cs) [] ss same = refl
-    from k (c ∷ cs) (m ∷ ms) [] same = refl
     from k (c ∷ cs) (m ∷ ms) (s ∷ ss) same =
         let here : f k c m s ≡ g k c m s = (let place : k + 0 ≡ k = omega arith in subst (λ n. f n c m s ≡ g n c m s) place (same 0 c m s refl refl refl)) in
         ap (λ x. x ∷ each_from f (suc k) cs ms ss) here
         ∙ ap (λ xs. g k c m s ∷ xs) (from (suc k) cs ms ss (λ i d n z of_d of_n of_z.
         let place : k + suc i ≡ suc k + i = omega arith in
         subst (λ j. f j d n z ≡ g j d n z) place (same (suc i) d n z of_d of_n of_z)))
+    from k cs ms ss same = refl
 
 -- something for each component
 pub each_many : {X : Type 0} (r : Run) (states : List MachineState) (f : ℕ → Component → Machine → MachineState → X) → length r.machines ≡ length r.system.components → length states ≡ length r.system.components →
@@ -87,6 +88,21 @@ each_many {X} r states f few many = from 0 r.system.components r.machines states
     from k (c ∷ cs) [] ss a b = absurd (omega (arith, a))
     from k (c ∷ cs) (m ∷ ms) [] a b = absurd (omega (arith, b))
     from k (c ∷ cs) (m ∷ ms) (s ∷ ss) a b = ap suc (from (suc k) cs ms ss (omega (arith, a)) (omega (arith, b)))
+
+-- ---- an FMU's part of a log
+
+pub part_all : (P : Exchange → Type 0) (i : ℕ) (log : List Sent) → All (λ (s : Sent). s.component ≡ i → P s.exchange) log → All P (part i log)
+part_all P i [] all = All-nil P
+part_all P i (s ∷ log) all =
+    by (s.component == i) refl (All-head (λ (s : Sent). s.component ≡ i → P s.exchange) s log all) (part_all P i log (All-tail (λ (s : Sent). s.component ≡ i → P s.exchange) s log all))
+  where
+    by : (b : Bool) → (s.component == i) ≡ b → (s.component ≡ i → P s.exchange) → All P (part i log) → All P (if b then s.exchange ∷ part i log else part i log)
+    by true same head rest = All-cons P s.exchange (part i log) (head (eqb-true s.component i same)) rest
+    by false other head rest = rest
+
+-- good answers
+pub good_in_part : (shapes : List Shape) (log : List Sent) → All (IsGoodOf shapes) log → (i : ℕ) (d : Shape) → T.AllGood (get_or shapes i d) (part i log)
+good_in_part shapes log all i d = part_all (T.IsGood (get_or shapes i d)) i log (λ k x w here. subst (λ n. T.IsGood (get_or shapes n d) (get_or log k x).exchange) here (all k x w d))
 
 -- ---- one call and the state behind it
 
@@ -114,9 +130,41 @@ state_by_one shape m s None reply paired = refl
 state_by_one shape m s (Some call) None paired = absurd paired
 state_by_one shape m s (Some call) (Some reply) paired = refl
 
+-- a Set writes its value, and a Get nothing
+pub set_writes : (m : Machine) (z : MachineState) (port : Port) (o : Option ℤ) → after_if m z (option_map (λ x. C.Set port.kind port.reference x) o) ≡ write_if m port.reference z o
+set_writes m z port None = refl
+set_writes m z port (Some x) = refl
+
+pub get_stays : (m : Machine) (z : MachineState) (port : Port) (b : Bool) → after_if m z (if b then Some (C.Get port.kind port.reference) else None) ≡ z
+get_stays m z port true = refl
+get_stays m z port false = refl
+
 pub none_reply : (shape : Shape) (reply : Option Reply) → IsPaired shape None reply → reply ≡ None
 none_reply shape None paired = refl
 none_reply shape (Some reply) paired = absurd paired
+
+-- ---- one turn and the states behind it
+
+module _ {system : System} {rules : Rules} {p : ℕ} {reply : Option Reply} {values next : List (Option ℤ)} {sent : List Sent} (turn : Turn system rules p reply values next sent) (front : List Sent) where
+  abbrev asked : Option Call
+  asked = rules.asks p turn.port turn.component values
+
+  abbrev own : ℕ
+  own = turn.port.component.0
+
+  pub part_more : part own (front ++ sent) ≡ part own front ++ exchanges_of asked reply
+  part_more = part_append own front sent ∙ ap (λ es. part own front ++ es) (ap (part own) turn.sent_is ∙ part_own_of own asked reply)
+
+  -- where the call leads its FMU from this state to that, and each other FMU has the same, they are so behind the turn
+  pub state_more : (m : Machine) (z : MachineState) (old new : ℕ → Component → MachineState) → after_if m (old own turn.component) asked ≡ new own turn.component → ((i : ℕ) (c : Component) → (i ≡ own → ⊥) → old i c ≡ new i c) →
+      (i : ℕ) (c : Component) → slice_get system.components i ≡ Some c → state_by m z (part i front) ≡ old i c → state_by m z (part i (front ++ sent)) ≡ new i c
+  state_more m z old new here beside i c of was = by_number i own
+      (λ same.
+      let its : turn.component ≡ c = same_Some _ _ (sym turn.of ∙ ap (slice_get system.components) (sym same) ∙ of) in
+      let so_far : state_by m z (part own front) ≡ old own turn.component = ap (λ k. state_by m z (part k front)) (sym same) ∙ was ∙ ap₂ old same (sym its) in
+      ap (λ k. state_by m z (part k (front ++ sent))) same ∙ ap (state_by m z) part_more ∙ state_by_append m z (part own front) (exchanges_of asked reply)
+      ∙ ap (λ y. state_by m y (exchanges_of asked reply)) so_far ∙ state_by_one turn.component.shape m (old own turn.component) asked reply turn.paired ∙ here ∙ ap₂ new (sym same) its)
+      (λ other. ap (state_by m z) (part_append i front sent ∙ ap (λ es. part i front ++ es) (ap (part i) turn.sent_is ∙ part_other_of i own asked reply other) ∙ append-nil (part i front)) ∙ was ∙ beside i c other)
 
 -- ---- told machines
 

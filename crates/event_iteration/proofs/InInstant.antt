@@ -1,5 +1,5 @@
 -- The walk through an instant: each call of it is permitted, and each value is one of its port's type.
-use Rattle.std.proofs.Common.{◌≡◌, ◌⊎◌, inl, inr, ℕ, ◌<◌, ℤ, pos, Bool, true, false, not, List, [], ◌∷◌, ◌++◌, Option, Some, None, Err, Contains, refl, sym, ap, ◌∙◌, subst, length, get_or}
+use Rattle.std.proofs.Common.{◌≡◌, ◌⊎◌, inl, inr, ℕ, ◌<◌, ℤ, pos, Bool, true, false, not, List, [], ◌∷◌, ◌++◌, Option, Some, None, Err, Contains, refl, sym, ap, ◌∙◌, subst, length, get_or, Result, Ok}
 use Rattle.std.specs.Prelude.{All, IfSome, ◌&&◌, ◌||◌, ◌==◌, if◌then◌else◌, is_some, option_map, slice_get}
 use Rattle.std.specs.List.{list_any}
 use Rattle.std.specs.Ordering.{int_eq}
@@ -49,7 +49,7 @@ use Rattle.slot_calls.specs.Log.{Sent, Told, part}
 use Rattle.slot_calls.specs.Stage.{shapes, shapes_of}
 use Rattle.slot_calls.proofs.CallerLemmas.{shapes_same, part_append}
 use Rattle.event_iteration.specs.Instants.{BeginsInstant, HasPlacedClocks, asks_in_instant, in_instant, seen_or, takes_in_instant}
-use Rattle.event_iteration.specs.Turns.{IsPaired, MayAsk, MayTurn, TakesTurn, Turn, Walked}
+use Rattle.event_iteration.specs.Turns.{IsPaired, MayAsk, MayTurn, TakesTurn, Turn, Walked, Stops, TurnSays}
 use Rattle.event_iteration.proofs.Activity.{active_by, active_by-append, active_keeps, any_from, any_some, length-active, marked_here, talks_active}
 use Rattle.event_iteration.proofs.Fmus.{exchanges_of, part_own_of}
 use Rattle.event_iteration.proofs.Marks.{unmarked}
@@ -67,25 +67,18 @@ module _ (system : System) (p : ℕ) (port : Port) (V W : List (Option ℤ)) (is
   fed_same feed from = alike feed.from.0 (ByFeed port is from)
 
   asks_alike : (role : Role) → port.role ≡ role → (events first ticks : Bool) → asks_in_instant role port events first ticks V ≡ asks_in_instant role port events first ticks W
-  asks_alike (Input None) same events first ticks = refl
   asks_alike (Input (Some feed)) same events first ticks =
       ap (λ b. if events && b then option_map (λ x. C.Set port.kind port.reference x) (fed feed V) else None) present_same
       ∙ ap (λ o. if events && is_present port W then option_map (λ x. C.Set port.kind port.reference x) o else None) (fed_same feed (ap source_of same))
   asks_alike Output same events first ticks = ap (λ b. if (if events then b else first) then Some (C.Get port.kind port.reference) else None) present_same
-  asks_alike (ClockInput None) same events first ticks = refl
   asks_alike (ClockInput (Some feed)) same events first ticks = ap (λ o. if is_active o then Some (C.SetClock port.reference) else None) (fed_same feed (ap source_of same))
-  asks_alike ClockOutput same events first ticks = refl
-  asks_alike (TimeClock timing) same events first ticks = refl
+  asks_alike role same events first ticks = refl
 
   takes_alike : (role : Role) → port.role ≡ role → (ticks : Bool) (last : Option ℤ) (reply : Option Reply) → takes_in_instant role port ticks V last reply ≡ takes_in_instant role port ticks W last reply
-  takes_alike (Input None) same ticks last reply = refl
   takes_alike (Input (Some feed)) same ticks last reply =
       ap (λ b. if b then fed feed V else last) present_same ∙ ap (λ o. if is_present port W then o else last) (fed_same feed (ap source_of same))
-  takes_alike Output same ticks last reply = refl
-  takes_alike (ClockInput None) same ticks last reply = refl
   takes_alike (ClockInput (Some feed)) same ticks last reply = fed_same feed (ap source_of same)
-  takes_alike ClockOutput same ticks last reply = refl
-  takes_alike (TimeClock timing) same ticks last reply = refl
+  takes_alike role same ticks last reply = refl
 
 pub about_instant : (system : System) (ticks : ℕ → Bool) (is_first : Bool) → AreAbout (Needs system) system (in_instant ticks is_first)
 about_instant system ticks is_first = record {
@@ -113,9 +106,7 @@ module _ (port : Port) (values : List (Option ℤ)) (call : Call) where
   sets_if : (feed : Feed) → port.role ≡ Input (Some feed) → (events present : Bool) → is_present port values ≡ present → (o : Option ℤ) → fed feed values ≡ o → (if events && present then option_map (λ x. C.Set port.kind port.reference x) o else None) ≡ Some call →
       IsAskedInInstant events port values call
   sets_if feed same true true e (Some x) from h = SetsInput feed x same refl e from (sym (same_Some _ _ h))
-  sets_if feed same true true e None from h = absurd (cc)
-  sets_if feed same true false e o from h = absurd (cc)
-  sets_if feed same false present e o from h = absurd (cc)
+  sets_if feed same events present e o from h = absurd (cc)
 
   ticks_if : (events : Bool) (b : Bool) → (if b then Some (C.SetClock port.reference) else None) ≡ Some call → (b ≡ true) × (call ≡ C.SetClock port.reference)
   ticks_if events true h = (refl, sym (same_Some _ _ h))
@@ -204,26 +195,10 @@ one_of true word h = equal word h
 one_of false word h = absurd (true_false (sym h))
 
 answered_tick : (kind : PortType) → kind ≡ Clock → (shape : Shape) (r : ℕ) (reply : Reply) → grade_of shape (C.GetClock r) reply ≡ G.Good → is_active (value_in kind reply) ≡ true → is_tick reply ≡ true
-answered_tick kind clock shape r (R.Refused k status) good h = absurd (true_false (sym h))
 answered_tick kind clock shape r (R.Done w (A.GetClock word)) good h =
     one_of (is_fitting Clock (number_of Clock word)) word (subst (λ k. is_active (word_value k word) ≡ true) clock h)
 answered_tick kind clock shape r (R.Done w (A.Get word)) good h = absurd (cc)
-answered_tick kind clock shape r (R.Done w A.Instantiate) good h = absurd (true_false (sym h))
-answered_tick kind clock shape r (R.Done w A.EnterInitialization) good h = absurd (true_false (sym h))
-answered_tick kind clock shape r (R.Done w A.ExitInitialization) good h = absurd (true_false (sym h))
-answered_tick kind clock shape r (R.Done w A.EnterEvent) good h = absurd (true_false (sym h))
-answered_tick kind clock shape r (R.Done w A.EnterStep) good h = absurd (true_false (sym h))
-answered_tick kind clock shape r (R.Done w (A.DoStep a b c d)) good h = absurd (true_false (sym h))
-answered_tick kind clock shape r (R.Done w (A.Update a b c)) good h = absurd (true_false (sym h))
-answered_tick kind clock shape r (R.Done w A.Set) good h = absurd (true_false (sym h))
-answered_tick kind clock shape r (R.Done w A.SetClock) good h = absurd (true_false (sym h))
-answered_tick kind clock shape r (R.Done w (A.GetInterval interval)) good h = absurd (true_false (sym h))
-answered_tick kind clock shape r (R.Done w (A.GetShift shift)) good h = absurd (true_false (sym h))
-answered_tick kind clock shape r (R.Done w A.Save) good h = absurd (true_false (sym h))
-answered_tick kind clock shape r (R.Done w A.Restore) good h = absurd (true_false (sym h))
-answered_tick kind clock shape r (R.Done w A.Free) good h = absurd (true_false (sym h))
-answered_tick kind clock shape r (R.Done w A.Terminate) good h = absurd (true_false (sym h))
-answered_tick kind clock shape r (R.Done w A.FreeInstance) good h = absurd (true_false (sym h))
+answered_tick kind clock shape r reply good h = absurd (true_false (sym h))
 
 -- the turn of a Clock that becomes active makes it so in its FMU
 module _ (shape : Shape) (port : Port) (v : Variable) (active : List Bool) (there : variable_at shape.variables port.reference ≡ Some v) (room : length active ≡ length shape.variables) (clock : is_clock_role port.role ≡ true) (kind : port.kind ≡ Clock) where
@@ -474,3 +449,35 @@ clocks_placed system sound = all_by_place (HasPlacedClocks (length system.ports)
     let there = clock_at system sound p port (place_of system sound p port is) clock.0
     (at_contains (numbers port.clocks) k clock.0 (slice_get-map (λ (x : PortId). x.0) port.clocks k ∙ ap (option_map (λ (x : PortId). x.0)) at)) in
     slice_get_within system.ports clock.0 there.clock there.is))
+
+-- ---- a turn is about the tick of its own port
+
+module _ (system : System) (ticks : ℕ → Bool) (is_first : Bool) (p : ℕ) where
+  turn_by : {reply : Option Reply} {values next : List (Option ℤ)} {sent : List Sent} → Turn system (in_instant (λ q. ticks p) is_first) p reply values next sent → Turn system (in_instant ticks is_first) p reply values next sent
+  turn_by turn = record { port = turn.port; is = turn.is; component = turn.component; of = turn.of; paired = turn.paired; sent_is = turn.sent_is; next_is = turn.next_is }
+
+  stops_by : {bad : BadAnswer} {values : List (Option ℤ)} {last : Sent} → Stops system (in_instant (λ q. ticks p) is_first) p bad values last → Stops system (in_instant ticks is_first) p bad values last
+  stops_by stops = record {
+    port = stops.port;
+    is = stops.is;
+    component = stops.component;
+    of = stops.of;
+    asks = stops.asks;
+    sent_to = stops.sent_to;
+    told_of = stops.told_of;
+    why = stops.why;
+  }
+
+  says_by : (values next : List (Option ℤ)) (log : List Sent) (result : Result (Unit {0}) BadAnswer) → TurnSays system (in_instant (λ q. ticks p) is_first) p values next log result → TurnSays system (in_instant ticks is_first) p values next log result
+  says_by values next log (Ok x) (reply, turn) = (reply, turn_by turn)
+  says_by values next log (Err bad) (last, log_is, next_is, stops) = (last, log_is, next_is, stops_by stops)
+
+  -- the turn by this tick is that by the ticks of all
+  pub takes_by : (tick : Bool) → tick ≡ ticks p → (values next : List (Option ℤ)) (olds news : List Instance) (result : Result (Unit {0}) BadAnswer) → TakesTurn system (in_instant (λ q. tick) is_first) p values next olds news result →
+      TakesTurn system (in_instant ticks is_first) p values next olds news result
+  takes_by tick same values next olds news result turn =
+      let here = subst (λ b. TakesTurn system (in_instant (λ q. b) is_first) p values next olds news result) same turn in
+      record { log = here.log; told = here.told; says = says_by values next here.log result here.says }
+
+  pub may_by : (tick : Bool) → ticks p ≡ tick → (values : List (Option ℤ)) (is : List Instance) → MayTurn system (in_instant ticks is_first) p values is → MayTurn system (in_instant (λ q. tick) is_first) p values is
+  may_by tick same values is may = subst (λ b. MayTurn system (in_instant (λ q. b) is_first) p values is) same may

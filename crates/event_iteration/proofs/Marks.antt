@@ -6,7 +6,6 @@ use Rattle.std.specs.Option.{option_map_or}
 use Rattle.std.proofs.lemmas.Bool.{eqb-true}
 use Rattle.std.proofs.lemmas.Iterator.Adapters.{position_from-zero}
 use Rattle.std.proofs.lemmas.List.{get_or-set_other}
-use Rattle.std.proofs.lemmas.List.Elements.{All-head, All-tail}
 use Rattle.std.proofs.lemmas.Option.{none-some as none_some, same_Some}
 use Rattle.value_types.specs.Shape.{place_of}
 use Rattle.value_types.specs.declared.shape.Shape.{Shape}
@@ -18,14 +17,14 @@ use Rattle.fmi_calls.specs.declared.call.Reply.{Reply}
 use Rattle.fmi_calls.specs.declared.phase.InstanceState.{InstanceState}
 use Rattle.fmi_calls.specs.declared.phase.InstanceState.TheVariants as P
 use Rattle.fmi_calls.specs.declared.phase.Phase.{Phase}
-use Rattle.fmi_calls.specs.Next.{counted, entered, marked, marks_after_set}
+use Rattle.fmi_calls.specs.Next.{entered, marked, marks_after_set}
 use Rattle.fmi_calls.specs.Permission.{is_marked, none_marked}
 use Rattle.fmu_peer.specs.declared.peer.Exchange.{Exchange}
 use Rattle.fmu_peer.specs.Talk as T
-use Rattle.fmu_peer.specs.View.{Fixed, View}
+use Rattle.fmu_peer.specs.View.{View}
 use Rattle.system_model.proofs.CallerLemmas.{true_false}
 use Rattle.slot_calls.specs.Log.{Talks}
-use Rattle.slot_calls.proofs.CallerLemmas.{led}
+use Rattle.event_iteration.proofs.Permits.{phase_kept}
 
 -- ---- places
 
@@ -64,13 +63,7 @@ marked_beside shape marks a r other = by (place_of shape.variables a) refl (plac
 set_beside : (state : InstanceState) (shape : Shape) (marks : List Bool) (a r : ℕ) → (r ≡ a → ⊥) → is_marked shape (marks_after_set state shape marks a) r ≡ is_marked shape marks r
 set_beside P.Event shape marks a r other = marked_beside shape marks a r other
 set_beside P.Step shape marks a r other = marked_beside shape marks a r other
-set_beside P.Fresh shape marks a r other = refl
-set_beside P.Instantiated shape marks a r other = refl
-set_beside P.Initialization shape marks a r other = refl
-set_beside P.Terminated shape marks a r other = refl
-set_beside P.Dead shape marks a r other = refl
-set_beside P.Lost shape marks a r other = refl
-set_beside P.Gone shape marks a r other = refl
+set_beside state shape marks a r other = refl
 
 -- where nothing is marked, no variable is
 pub unmarked : (shape : Shape) (marks : List Bool) (r : ℕ) → none_marked marks ≡ true → is_marked shape marks r ≡ false
@@ -117,22 +110,11 @@ passes_one shape r call (ByClock reference (inr is) other) phase reply =
 
 -- all pass by the variable, and were answered well
 pub passes_beside : (shape : Shape) (r : ℕ) (v w : View) (es : List Exchange) → v.fixed.shape ≡ shape → Talks v es w → All (λ (e : Exchange). Passes r e.call × T.IsGood shape e) es → Beside shape r v.phase w.phase
-passes_beside shape r v w [] is t all = (ap (λ (x : View). x.phase.state) t, ap (λ (x : View). is_marked shape x.phase.marks r) t)
-passes_beside shape r v w (e ∷ es) is (mid, may, asked, rest) all =
-    let head = All-head (λ (e : Exchange). Passes r e.call × T.IsGood shape e) e es all in
-    let one = led v mid e (mid, may, asked, refl) (subst (λ (s : Shape). T.IsGood s e) (sym is) head.1) in
-    let phase : mid.phase ≡ entered shape (counted v.phase e.call) e.call one.reply = one.phase ∙ ap (λ (s : Shape). entered s (counted v.phase e.call) e.call one.reply) is in
-    let here = passes_one shape r e.call head.0 (counted v.phase e.call) one.reply in
-    let more = passes_beside shape r mid w es (ap (λ (f : Fixed). f.shape) asked.fixed ∙ is) rest (All-tail (λ (e : Exchange). Passes r e.call × T.IsGood shape e) e es all) in (
-      more.0 ∙ ap (λ (x : Phase). x.state) phase ∙ here.0,
-      more.1 ∙ ap (λ (x : Phase). is_marked shape x.marks r) phase ∙ here.1,
-    )
+passes_beside shape r v w es is t all = (
+  phase_kept (λ (x : Phase). x.state) (Passes r) shape (λ p c. refl) (λ c passes p y. (passes_one shape r c passes p y).0) v w es is t all,
+  phase_kept (λ (x : Phase). is_marked shape x.marks r) (Passes r) shape (λ p c. refl) (λ c passes p y. (passes_one shape r c passes p y).1) v w es is t all,
+)
 
 -- behind good Gets the marks are those of before
 pub gets_leave : (shape : Shape) (v w : View) (es : List Exchange) → v.fixed.shape ≡ shape → Talks v es w → All (λ (e : Exchange). IsGet e.call × T.IsGood shape e) es → w.phase.marks ≡ v.phase.marks
-gets_leave shape v w [] is t all = ap (λ (x : View). x.phase.marks) t
-gets_leave shape v w (e ∷ es) is (mid, may, asked, rest) all =
-    let head = All-head (λ (e : Exchange). IsGet e.call × T.IsGood shape e) e es all in
-    let one = led v mid e (mid, may, asked, refl) (subst (λ (s : Shape). T.IsGood s e) (sym is) head.1) in
-    gets_leave shape mid w es (ap (λ (f : Fixed). f.shape) asked.fixed ∙ is) rest (All-tail (λ (e : Exchange). IsGet e.call × T.IsGood shape e) e es all)
-    ∙ ap (λ (x : Phase). x.marks) one.phase ∙ ap (λ (c : Call). (entered v.fixed.shape (counted v.phase e.call) c one.reply).marks) head.0.2
+gets_leave shape v w es is t all = phase_kept (λ (x : Phase). x.marks) IsGet shape (λ p c. refl) (λ c get p y. ap (λ (k : Call). (entered shape p k y).marks) get.2) v w es is t all

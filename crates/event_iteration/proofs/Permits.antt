@@ -1,12 +1,12 @@
 -- In Initialization Mode each call of the walk is permitted, and each value is one of its port's type.
-use Rattle.std.proofs.Common.{◌≡◌, ℕ, zero, suc, ◌<◌, ℤ, Bool, true, false, List, [], ◌∷◌, Option, Some, None, refl, sym, ap, ◌∙◌, subst, arith, length, get_or, map}
+use Rattle.std.proofs.Common.{◌≡◌, ℕ, ◌<◌, ℤ, Bool, true, false, List, [], ◌∷◌, Option, Some, None, refl, sym, ap, ◌∙◌, subst, arith, length, get_or}
 use Rattle.std.specs.Prelude.{All, IfSome, IsSomeAnd, ◌&&◌, ◌==◌, if◌then◌else◌, option_map, slice_get}
 use Rattle.std.specs.List.{AllZip}
 use Rattle.std.specs.Option.{option_map_or}
 use Rattle.std.proofs.lemmas.Bool.{eqb-true}
 use Rattle.std.proofs.lemmas.List.{get_or_default, length-set}
 use Rattle.std.proofs.lemmas.List.Elements.{All-append, All-cons, All-head, All-nil, All-tail}
-use Rattle.std.proofs.lemmas.Option.{same_Some}
+use Rattle.std.proofs.lemmas.Option.{same_Some, get_or_from_slice_get, slice_get-map}
 use Rattle.value_types.specs.Shape.{is_at, is_clock_type, is_input, is_unclocked as has_no_clocks, variable_at}
 use Rattle.value_types.specs.Values.{Fits}
 use Rattle.value_types.specs.declared.shape.Causality.TheVariants as V
@@ -29,7 +29,7 @@ use Rattle.fmu_peer.specs.Talk.{IsGood}
 use Rattle.fmu_peer.specs.View.{Fixed, View}
 use Rattle.system_model.specs.declared.system.Component.{Component}
 use Rattle.system_model.specs.declared.system.Role.{Role}
-use Rattle.system_model.specs.declared.system.Role.TheVariants.{Input, Output, ClockInput, ClockOutput, TimeClock}
+use Rattle.system_model.specs.declared.system.Role.TheVariants.{Input, Output}
 use Rattle.system_model.specs.declared.system.Port.{Port}
 use Rattle.system_model.specs.declared.system.System.{System}
 use Rattle.system_model.specs.Needs.{is_unclocked, is_unclocked_at}
@@ -49,6 +49,7 @@ use Rattle.event_iteration.specs.Initialization.{IsInitializing, asks_initially,
 use Rattle.event_iteration.specs.Turns.{IsPaired, MayAsk, Walked, Begun, Went, sent_of}
 use Rattle.event_iteration.proofs.Clockless.{unclocked_parts}
 use Rattle.event_iteration.proofs.Walking.{by_number, next_beside, next_here}
+use Rattle.event_iteration.proofs.Fmus.{part_all}
 
 -- ---- types
 
@@ -72,13 +73,10 @@ seen_fits port (Some reply) = reply_fits port.kind reply
 
 taken_fits : (system : System) → IsSound system → (values : List (Option ℤ)) → AreFitting system values → (p : ℕ) (port : Port) → slice_get system.ports p ≡ Some port → (role : Role) → port.role ≡ role → (reply : Option Reply) →
     IfSome (takes_initially role system.ports port values reply) (Fits port.kind)
-taken_fits system sound values fits p port is (Input None) same reply = tt
 taken_fits system sound values fits p port is (Input (Some feed)) same reply =
     if_fits (is_set_from_feed system.ports port feed) port.kind (fed feed values) (fed_fits system sound values fits p feed.from.0 port is (ap source_of same))
 taken_fits system sound values fits p port is Output same reply = seen_fits port reply
-taken_fits system sound values fits p port is (ClockInput feed) same reply = tt
-taken_fits system sound values fits p port is ClockOutput same reply = tt
-taken_fits system sound values fits p port is (TimeClock timing) same reply = tt
+taken_fits system sound values fits p port is role same reply = tt
 
 -- ---- the calls are Gets and Sets, and good
 
@@ -100,21 +98,14 @@ if_some true o x h = (refl, h)
 if_some false o x h = absurd (cc)
 
 pub asks_quietly : (role : Role) (ports : List Port) (read : Bool) (port : Port) (values : List (Option ℤ)) (call : Call) → asks_initially role ports read port values ≡ Some call → reads_or_sets call ≡ true
-asks_quietly (Input None) ports read port values call h = absurd (cc)
 asks_quietly (Input (Some feed)) ports read port values call h = option_set port (fed feed values) call (if_some (is_set_from_feed ports port feed) _ call h).1
 asks_quietly Output ports read port values call h = ap reads_or_sets (sym (same_Some _ _ (if_some read (Some (C.Get port.kind port.reference)) call h).1))
-asks_quietly (ClockInput feed) ports read port values call h = absurd (cc)
-asks_quietly ClockOutput ports read port values call h = absurd (cc)
-asks_quietly (TimeClock timing) ports read port values call h = absurd (cc)
+asks_quietly role ports read port values call h = absurd (cc)
 
 -- the shape at a component
 pub shape_of_component : (system : System) (i : ℕ) (c : Component) → slice_get system.components i ≡ Some c → (d : Shape) → c.shape ≡ get_or (shapes_of system) i d
-shape_of_component system i c of d = at system.components i of
-  where
-    at : (cs : List Component) (i : ℕ) → slice_get cs i ≡ Some c → c.shape ≡ get_or (map (λ (x : Component). x.shape) cs) i d
-    at [] i h = absurd (cc)
-    at (x ∷ cs) zero h = ap (λ (y : Component). y.shape) (sym (same_Some _ _ h))
-    at (x ∷ cs) (suc i) h = at cs i h
+shape_of_component system i c of d =
+    sym (get_or_from_slice_get (shapes_of system) i c.shape d (slice_get-map (λ (x : Component). x.shape) system.components i ∙ ap (option_map (λ (x : Component). x.shape)) of))
 
 pub sent_quiet : (system : System) (i : ℕ) (c : Component) → slice_get system.components i ≡ Some c → (call : Option Call) (reply : Option Reply) → ((k : Call) → call ≡ Some k → reads_or_sets k ≡ true) → IsPaired c.shape call reply → All (IsQuiet system) (sent_of i call reply)
 sent_quiet system i c of None reply quiet paired = All-nil (IsQuiet system)
@@ -149,44 +140,28 @@ keeps system sound before len fits _ _ _ (Went taken pre p reply values next log
 stays : (call : Call) → reads_or_sets call ≡ true → (shape : Shape) (phase : Phase) (reply : Reply) → (entered shape phase call reply).state ≡ phase.state
 stays (C.Get kind reference) h shape phase reply = refl
 stays (C.Set kind reference value) h shape phase reply = refl
-stays (C.Instantiate event_mode early) h shape phase reply = absurd (cc)
-stays (C.EnterInitialization start stop) h shape phase reply = absurd (cc)
-stays C.ExitInitialization h shape phase reply = absurd (cc)
-stays (C.DoStep at size) h shape phase reply = absurd (cc)
-stays C.Save h shape phase reply = absurd (cc)
-stays C.Restore h shape phase reply = absurd (cc)
-stays C.Free h shape phase reply = absurd (cc)
-stays C.Terminate h shape phase reply = absurd (cc)
-stays C.FreeInstance h shape phase reply = absurd (cc)
-stays C.EnterEvent h shape phase reply = absurd (cc)
-stays C.EnterStep h shape phase reply = absurd (cc)
-stays C.Update h shape phase reply = absurd (cc)
 stays (C.GetClock reference) h shape phase reply = refl
 stays (C.SetClock reference) h shape phase reply = refl
 stays (C.GetInterval reference) h shape phase reply = refl
 stays (C.GetShift reference) h shape phase reply = refl
+stays call h shape phase reply = absurd (cc)
 
 abbrev pub IsQuietOf : Shape → Exchange → Type 0
 IsQuietOf shape e = (reads_or_sets e.call ≡ true) × IsGood shape e
 
-talks_stay : (shape : Shape) (v w : View) (es : List Exchange) → v.fixed.shape ≡ shape → Talks v es w → All (IsQuietOf shape) es → w.phase.state ≡ v.phase.state
-talks_stay shape v w [] is t all = ap (λ (x : View). x.phase.state) t
-talks_stay shape v w (e ∷ es) is (mid, may, asked, rest) all =
-    let head = All-head (IsQuietOf shape) e es all in
+-- what no call of a kind changes of a phase, the calls of this kind that were answered well leave
+pub phase_kept : {X : Type 0} (aspect : Phase → X) (Kind : Call → Type 0) (shape : Shape) → ((phase : Phase) (call : Call) → aspect (counted phase call) ≡ aspect phase) → ((call : Call) → Kind call → (phase : Phase) (reply : Reply) → aspect (entered shape phase call reply) ≡ aspect phase) →
+    (v w : View) (es : List Exchange) → v.fixed.shape ≡ shape → Talks v es w → All (λ (e : Exchange). Kind e.call × IsGood shape e) es → aspect w.phase ≡ aspect v.phase
+phase_kept aspect Kind shape counts enters v w [] is t all = ap (λ (x : View). aspect x.phase) t
+phase_kept aspect Kind shape counts enters v w (e ∷ es) is (mid, may, asked, rest) all =
+    let head = All-head (λ (e : Exchange). Kind e.call × IsGood shape e) e es all in
     let one = led v mid e (mid, may, asked, refl) (subst (λ (s : Shape). IsGood s e) (sym is) head.1) in
-    talks_stay shape mid w es (ap (λ (f : Fixed). f.shape) asked.fixed ∙ is) rest (All-tail (IsQuietOf shape) e es all)
-    ∙ ap (λ (x : Phase). x.state) one.phase ∙ stays e.call head.0 v.fixed.shape (counted v.phase e.call) one.reply
-
-quiet_head : (system : System) (i : ℕ) (d : Shape) (s : Sent) (es : List Exchange) → IsQuiet system s → All (IsQuietOf (get_or (shapes_of system) i d)) es → (b : Bool) → (s.component == i) ≡ b →
-    All (IsQuietOf (get_or (shapes_of system) i d)) (if b then s.exchange ∷ es else es)
-quiet_head system i d s es head all true same =
-    All-cons (IsQuietOf (get_or (shapes_of system) i d)) s.exchange es (head.0, subst (λ n. IsGood (get_or (shapes_of system) n d) s.exchange) (eqb-true s.component i same) (head.1 d)) all
-quiet_head system i d s es head all false other = all
+    let phase : mid.phase ≡ entered shape (counted v.phase e.call) e.call one.reply = one.phase ∙ ap (λ (s : Shape). entered s (counted v.phase e.call) e.call one.reply) is in
+    phase_kept aspect Kind shape counts enters mid w es (ap (λ (f : Fixed). f.shape) asked.fixed ∙ is) rest (All-tail (λ (e : Exchange). Kind e.call × IsGood shape e) e es all)
+    ∙ ap aspect phase ∙ enters e.call head.0 (counted v.phase e.call) one.reply ∙ counts v.phase e.call
 
 pub quiet_part : (system : System) (i : ℕ) (d : Shape) (log : List Sent) → All (IsQuiet system) log → All (IsQuietOf (get_or (shapes_of system) i d)) (part i log)
-quiet_part system i d [] all = All-nil (IsQuietOf (get_or (shapes_of system) i d))
-quiet_part system i d (s ∷ log) all =
-    quiet_head system i d s (part i log) (All-head (IsQuiet system) s log all) (quiet_part system i d log (All-tail (IsQuiet system) s log all)) (s.component == i) refl
+quiet_part system i d log all = part_all (IsQuietOf (get_or (shapes_of system) i d)) i log (λ k x w here. let own = all k x w in (own.0, subst (λ n. IsGood (get_or (shapes_of system) n d) (get_or log k x).exchange) here (own.1 d)))
 
 -- an instance behind such a log
 pub still : (system : System) (olds news : List Instance) (log : List Sent) → Told log olds news → shapes olds ≡ shapes_of system → All (IsQuiet system) log → All (λ (x : Instance). IsInitializing x.view) olds → All (λ (x : Instance). IsInitializing x.view) news
@@ -195,7 +170,7 @@ still system olds news log told same quiet initializing = λ k d within.
     let x = get_or olds k d in
     let shape : x.view.fixed.shape ≡ get_or (shapes_of system) k x.view.fixed.shape =
     map_at shape_of olds k x x.view.fixed.shape w (get_or_default olds k d x w) ∙ ap (λ (ss : List Shape). get_or ss k x.view.fixed.shape) same in
-    talks_stay x.view.fixed.shape x.view (get_or news k d).view (part k log) refl (told.each k d w).talks
+    phase_kept (λ (p : Phase). p.state) (λ (c : Call). reads_or_sets c ≡ true) x.view.fixed.shape (λ p c. refl) (λ c h p y. stays c h x.view.fixed.shape p y) x.view (get_or news k d).view (part k log) refl (told.each k d w).talks
     (subst (λ (s : Shape). All (IsQuietOf s) (part k log)) (sym shape) (quiet_part system k x.view.fixed.shape log quiet))
     ∙ initializing k d w
 
@@ -279,9 +254,6 @@ module _ (system : System) (sound : IsSound system) (values : List (Option ℤ))
   may_get same false read = tt
 
   pub may_ask : (role : Role) → port.role ≡ role → MayAsk (asks_initially role system.ports (is_read system.ports p) port values) v
-  may_ask (Input None) same = tt
   may_ask (Input (Some feed)) same = may_set feed same (is_set_from_feed system.ports port feed) refl (fed feed values) refl
   may_ask Output same = may_get same (is_read system.ports p) refl
-  may_ask (ClockInput feed) same = tt
-  may_ask ClockOutput same = tt
-  may_ask (TimeClock timing) same = tt
+  may_ask role same = tt

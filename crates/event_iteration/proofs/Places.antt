@@ -4,14 +4,14 @@ use Rattle.std.specs.Prelude.{IfSome, IsSomeAnd, if◌then◌else◌, option_map
 use Rattle.std.specs.Option.{option_map_or}
 use Rattle.std.proofs.lemmas.Bool.{cases_lt, eq-eqb, eqb-true}
 use Rattle.std.proofs.lemmas.Bool.Decides.{nat_tests}
-use Rattle.std.proofs.lemmas.List.{set-get_or}
-use Rattle.std.proofs.lemmas.Option.{get_or_from_slice_get, same_Some, slice_get_within}
+use Rattle.std.proofs.lemmas.List.{get_or-set_same, length-map, length-set, map-set, set-get_or, take_more_set}
+use Rattle.std.proofs.lemmas.Option.{get_or_from_slice_get, same_Some, slice_get_read, slice_get_within}
 use Rattle.clock_fraction.specs.Counts.{counts_of}
 use Rattle.fmi_calls.specs.declared.call.Interval.{Interval}
 use Rattle.fmi_calls.specs.declared.call.Interval.TheVariants.{NotYetKnown, Unchanged, Changed}
 use Rattle.fmi_calls.specs.declared.call.Reply.{Reply}
 use Rattle.system_model.specs.declared.system.Role.{Role}
-use Rattle.system_model.specs.declared.system.Role.TheVariants.{Input, Output, ClockInput, ClockOutput, TimeClock}
+use Rattle.system_model.specs.declared.system.Role.TheVariants.{TimeClock}
 use Rattle.system_model.specs.declared.system.Timing.TheVariants.{Periodic, Answered, Countdown}
 use Rattle.system_model.proofs.CallerLemmas.{true_false}
 use Rattle.tick_schedule.specs.declared.clock.ClockState.{ClockState}
@@ -20,18 +20,17 @@ use Rattle.tick_schedule.specs.Timetable.{HasNext, IsCountdown, IsToTick, Timeta
 use Rattle.run_model.specs.Inputs.{is_active}
 use Rattle.run_model.specs.Run.{Never, Every}
 use Rattle.run_model.specs.Timers.{answered, armed_after, is_armed_for}
-use Rattle.event_iteration.specs.Clocks.{IsNextFrom, IsPlaceOf, is_due_in, timer_in}
+use Rattle.event_iteration.specs.Clocks.{IsNextFrom, IsPlaceOf, is_due_in, timer_in, timers_in}
 use Rattle.event_iteration.specs.Intervals.{interval_by, is_time_clock, timer_behind}
 use Rattle.event_iteration.specs.Questions.{GoesFrom, IsArmed, IsBehind, arms_now, counts_down, place_behind, rearmed, ticked_if}
+use Rattle.event_iteration.proofs.ClockTicks.{tick_due}
 
 -- ---- lists
 
-pub set_here : {X : Type 0} (xs : List X) (k : ℕ) (x : X) → k < length xs → slice_get (set xs k x) k ≡ Some x
-set_here [] k x w = absurd (omega (arith, w))
-set_here (y ∷ xs) zero x w = refl
-set_here (y ∷ xs) (suc k) x w = set_here xs k x (omega (arith, w))
+set_here : {X : Type 0} (xs : List X) (k : ℕ) (x : X) → k < length xs → slice_get (set xs k x) k ≡ Some x
+set_here xs k x w = slice_get_read (set xs k x) (length xs) k x (sym (length-set xs k x)) w (sym (get_or-set_same xs k x x w))
 
-pub set_beside : {X : Type 0} (xs : List X) (k : ℕ) (x : X) (q : ℕ) → (q ≡ k → ⊥) → slice_get (set xs k x) q ≡ slice_get xs q
+set_beside : {X : Type 0} (xs : List X) (k : ℕ) (x : X) (q : ℕ) → (q ≡ k → ⊥) → slice_get (set xs k x) q ≡ slice_get xs q
 set_beside [] k x q other = refl
 set_beside (y ∷ xs) zero x zero other = absurd (other refl)
 set_beside (y ∷ xs) zero x (suc q) other = refl
@@ -41,29 +40,10 @@ set_beside (y ∷ xs) (suc k) x (suc q) other = set_beside xs k x q (λ e. other
 pub set_same : {X : Type 0} (xs : List X) (k : ℕ) (x : X) → slice_get xs k ≡ Some x → set xs k x ≡ xs
 set_same xs k x is = ap (set xs k) (sym (get_or_from_slice_get xs k x x is)) ∙ set-get_or xs k x
 
-pub take_set : {X : Type 0} (xs : List X) (k : ℕ) (x : X) → k < length xs → take (k + 1) (set xs k x) ≡ take k xs ++ x ∷ []
-take_set xs k x w = (let e : k + 1 ≡ suc k = omega arith in ap (λ n. take n (set xs k x)) e) ∙ by xs k w
-  where
-    by : (ys : List _) (j : ℕ) → j < length ys → take (suc j) (set ys j x) ≡ take j ys ++ x ∷ []
-    by [] j v = absurd (omega (arith, v))
-    by (y ∷ ys) zero v = refl
-    by (y ∷ ys) (suc j) v = ap (λ zs. y ∷ zs) (by ys j (omega (arith, v)))
-
-pub map_take : {X Y : Type 0} (f : X → Y) (k : ℕ) (xs : List X) → map f (take k xs) ≡ take k (map f xs)
-map_take f zero xs = refl
-map_take f (suc k) [] = refl
-map_take f (suc k) (x ∷ xs) = ap (λ ys. f x ∷ ys) (map_take f k xs)
-
 -- ---- a Clock that has ticked or not
 
 due_ticks : (table : Timetable) (t p : ℕ) (place : ClockState) → slice_get table.clocks p ≡ Some place → t ≤ table.stop → is_due_in table.start t place ≡ true → HasNext table p
-due_ticks table t p place is within due = (t, (within, subst (λ (o : Option ClockState). IsSomeAnd o (λ state. IsToTick table.start state t)) (sym is) (by place due)))
-  where
-    by : (x : ClockState) → is_due_in table.start t x ≡ true → IsToTick table.start x t
-    by S.Unasked h = absurd (true_false (sym h))
-    by (S.Periodic interval shift ticks) h = let e = eqb-true (table.start + shift + ticks * interval) t h in ((ticks, sym e), omega (arith, e))
-    by (S.Countdown None) h = absurd (true_false (sym h))
-    by (S.Countdown (Some point)) h = ap Some (eqb-true point t h)
+due_ticks table t p place is within due = (t, (within, subst (λ (o : Option ClockState). IsSomeAnd o (λ state. IsToTick table.start state t)) (sym is) (tick_due table.start t place due)))
 
 timer_ticked : (b : Bool) (interval shift ticks : ℕ) → timer_in (ticked_if b (S.Periodic interval shift ticks)) ≡ Every interval shift
 timer_ticked true interval shift ticks = refl
@@ -92,10 +72,7 @@ timer_of_place (TimeClock (Periodic interval shift)) per_second t v reply place 
     ap (λ (x : ClockState). timer_in (ticked_if (is_active v) x)) of.1 ∙ timer_ticked (is_active v) interval shift of.0 ∙ sym (ap timer_in of.1)
 timer_of_place (TimeClock Answered) per_second t v reply place of =
     ap (λ (x : ClockState). timer_in (ticked_if (is_active v) x)) of.3 ∙ timer_ticked (is_active v) of.0 of.1 of.2 ∙ sym (ap timer_in of.3)
-timer_of_place (Input feed) per_second t v reply place of = refl
-timer_of_place Output per_second t v reply place of = refl
-timer_of_place (ClockInput feed) per_second t v reply place of = refl
-timer_of_place ClockOutput per_second t v reply place of = refl
+timer_of_place role per_second t v reply place of = refl
 
 -- ---- where it stands then
 
@@ -121,10 +98,7 @@ place_of_behind (TimeClock (Periodic interval shift)) per_second t v told place 
     let ticked = place_ticked (is_active v) interval shift of.0 in (ticked.0, ap (ticked_if (is_active v)) of.1 ∙ ticked.1)
 place_of_behind (TimeClock Answered) per_second t v told place of =
     let ticked = place_ticked (is_active v) of.0 of.1 of.2 in (of.0, of.1, ticked.0, ap (ticked_if (is_active v)) of.3 ∙ ticked.1, of.4)
-place_of_behind (Input feed) per_second t v told place of = of
-place_of_behind Output per_second t v told place of = of
-place_of_behind (ClockInput feed) per_second t v told place of = of
-place_of_behind ClockOutput per_second t v told place of = of
+place_of_behind role per_second t v told place of = of
 
 -- its next tick is behind the point
 next_periodic : (start t : ℕ) (is_first b : Bool) (interval shift ticks : ℕ) → 0 < interval → IsNextFrom start t is_first (S.Periodic interval shift ticks) → b ≡ (start + shift + ticks * interval == t) →
@@ -176,12 +150,7 @@ next_unasked start t place is = subst (IsNextFrom start t false) (sym is) tt
 -- a periodic Clock has a positive interval by its description
 abbrev pub IsPositive : Role → Type 0
 IsPositive (TimeClock (Periodic interval shift)) = 0 < interval
-IsPositive (TimeClock Answered) = Unit {0}
-IsPositive (TimeClock Countdown) = Unit {0}
-IsPositive (Input feed) = Unit {0}
-IsPositive Output = Unit {0}
-IsPositive (ClockInput feed) = Unit {0}
-IsPositive ClockOutput = Unit {0}
+IsPositive role = Unit {0}
 
 pub next_behind : (role : Role) (per_second start t : ℕ) (is_first : Bool) (v : Option ℤ) (told : Interval) (place : ClockState) → IsPlaceOf role place → IsPositive role → IsNextFrom start t is_first place →
     (is_time_clock role ≡ true → is_active v ≡ is_due_in start t place) → IsNextFrom start t false (place_behind role per_second t v told place)
@@ -195,10 +164,7 @@ next_behind (TimeClock (Periodic interval shift)) per_second start t is_first v 
 next_behind (TimeClock Answered) per_second start t is_first v told place of positive next ticks =
     subst (λ (x : ClockState). IsNextFrom start t false (ticked_if (is_active v) x)) (sym of.3)
     (next_periodic start t is_first (is_active v) of.0 of.1 of.2 of.4 (subst (IsNextFrom start t is_first) of.3 next) (ticks refl ∙ ap (is_due_in start t) of.3))
-next_behind (Input feed) per_second start t is_first v told place of positive next ticks = next_unasked start t place of
-next_behind Output per_second start t is_first v told place of positive next ticks = next_unasked start t place of
-next_behind (ClockInput feed) per_second start t is_first v told place of positive next ticks = next_unasked start t place of
-next_behind ClockOutput per_second start t is_first v told place of positive next ticks = next_unasked start t place of
+next_behind role per_second start t is_first v told place of positive next ticks = next_unasked start t place of
 
 -- ---- whether it is armed for the point
 
@@ -233,10 +199,7 @@ armed_else (TimeClock (Periodic interval shift)) per_second t v told place of no
     unarmed_periodic t (is_active v) interval shift of.0 ∙ sym (ap (λ (x : ClockState). is_armed_for t (timer_in (ticked_if (is_active v) x))) of.1)
 armed_else (TimeClock Answered) per_second t v told place of none =
     unarmed_periodic t (is_active v) of.0 of.1 of.2 ∙ sym (ap (λ (x : ClockState). is_armed_for t (timer_in (ticked_if (is_active v) x))) of.3)
-armed_else (Input feed) per_second t v told place of none = sym (ap (λ (x : ClockState). is_armed_for t (timer_in x)) of)
-armed_else Output per_second t v told place of none = sym (ap (λ (x : ClockState). is_armed_for t (timer_in x)) of)
-armed_else (ClockInput feed) per_second t v told place of none = sym (ap (λ (x : ClockState). is_armed_for t (timer_in x)) of)
-armed_else ClockOutput per_second t v told place of none = sym (ap (λ (x : ClockState). is_armed_for t (timer_in x)) of)
+armed_else role per_second t v told place of none = sym (ap (λ (x : ClockState). is_armed_for t (timer_in x)) of)
 
 armed_down : (per_second start t : ℕ) (v : Option ℤ) (told : Interval) (place : ClockState) → IsPlaceOf (TimeClock Countdown) place → is_active v ≡ is_due_in start t place →
     arms_now per_second told ≡ is_armed_for t (timer_in (rearmed per_second t told (ticked_if (is_active v) place)))
@@ -258,8 +221,27 @@ set_twice (z ∷ xs) (suc k) x y = ap (λ zs. z ∷ zs) (set_twice xs k x y)
 pub with_twice : (table : Timetable) (p : ℕ) (a b : ClockState) → with_clock (with_clock table p a) p b ≡ with_clock table p b
 with_twice table p a b = ap (λ (cs : List ClockState). record table { clocks = cs }) (set_twice table.clocks p a b)
 
+-- a table in which one place is another
+module _ (table next : Timetable) (k : ℕ) (place : ClockState) (within : k < length table.clocks) (goes : next ≡ with_clock table k place) where
+  clocks_are : next.clocks ≡ set table.clocks k place
+  clocks_are = ap (λ (x : Timetable). x.clocks) goes
+
+  pub many_now : length next.clocks ≡ length table.clocks
+  many_now = ap length clocks_are ∙ length-set table.clocks k place
+
+  pub place_now : slice_get next.clocks k ≡ Some place
+  place_now = ap (λ xs. slice_get xs k) clocks_are ∙ set_here table.clocks k place within
+
+  pub beside_now : (q : ℕ) → (q ≡ k → ⊥) → slice_get next.clocks q ≡ slice_get table.clocks q
+  beside_now q other = ap (λ xs. slice_get xs q) clocks_are ∙ set_beside table.clocks k place q other
+
+  pub timers_now : take (k + 1) (timers_in next) ≡ take k (timers_in table) ++ timer_in place ∷ []
+  timers_now =
+      ap (take (k + 1)) (ap (map timer_in) clocks_are ∙ map-set timer_in table.clocks k place)
+      ∙ take_more_set (timers_in table) k (timer_in place) (let e = length-map table.clocks timer_in in omega (arith, e, within))
+
 pub there_now : (table next : Timetable) (p : ℕ) (old place : ClockState) → slice_get table.clocks p ≡ Some old → next ≡ with_clock table p place → slice_get next.clocks p ≡ Some place
-there_now table next p old place is goes = ap (λ (x : Timetable). slice_get x.clocks p) goes ∙ set_here table.clocks p place (slice_get_within table.clocks p old is)
+there_now table next p old place is goes = place_now table next p place (slice_get_within table.clocks p old is) goes
 
 module _ (table : Timetable) (role : Role) (per_second t p : ℕ) (v : Option ℤ) (told : Interval) (from : GoesFrom table role t p v) where
   own_place : (place : ClockState) → slice_get table.clocks p ≡ Some place → from.place ≡ place
@@ -274,17 +256,11 @@ module _ (table : Timetable) (role : Role) (per_second t p : ℕ) (v : Option �
     where
       by : (r : Role) → is_time_clock r ≡ false → (place : ClockState) → place_behind r per_second t v told place ≡ place
       by (TimeClock timing) h place = absurd (true_false h)
-      by (Input feed) h place = refl
-      by Output h place = refl
-      by (ClockInput feed) h place = refl
-      by ClockOutput h place = refl
+      by r h place = refl
 
       unarmed : (r : Role) → is_time_clock r ≡ false → IsPlaceOf r from.place → false ≡ is_armed_for t (timer_in from.place)
       unarmed (TimeClock timing) h of = absurd (true_false h)
-      unarmed (Input feed) h of = sym (ap (λ (x : ClockState). is_armed_for t (timer_in x)) of)
-      unarmed Output h of = sym (ap (λ (x : ClockState). is_armed_for t (timer_in x)) of)
-      unarmed (ClockInput feed) h of = sym (ap (λ (x : ClockState). is_armed_for t (timer_in x)) of)
-      unarmed ClockOutput h of = sym (ap (λ (x : ClockState). is_armed_for t (timer_in x)) of)
+      unarmed r h of = sym (ap (λ (x : ClockState). is_armed_for t (timer_in x)) of)
 
   module _ (clock : is_time_clock role ≡ true) where
     -- it ticks where it is due
@@ -311,10 +287,7 @@ module _ (table : Timetable) (role : Role) (per_second t p : ℕ) (v : Option �
           by (TimeClock Countdown) h k place = absurd (true_false k)
           by (TimeClock (Periodic interval shift)) h k place = refl
           by (TimeClock Answered) h k place = refl
-          by (Input feed) h k place = absurd (true_false (sym h))
-          by Output h k place = absurd (true_false (sym h))
-          by (ClockInput feed) h k place = absurd (true_false (sym h))
-          by ClockOutput h k place = absurd (true_false (sym h))
+          by r h k place = absurd (true_false (sym h))
 
       -- one that counts down
       module _ (down : role ≡ TimeClock Countdown) where

@@ -1,12 +1,13 @@
 -- The questions of countdown Clocks behind an instant, port by port.
-use Rattle.std.proofs.Common.{◌≡◌, inl, inr, ℕ, zero, suc, ◌+◌, ◌<◌, ◌≤◌, ℤ, Bool, true, false, List, [], ◌∷◌, ◌++◌, Option, Some, None, Ok, Err, refl, sym, ap, ap₂, ◌∙◌, subst, arith, length, get_or, set, map, take, drop}
+use Rattle.std.proofs.Common.{◌≡◌, inl, inr, ℕ, zero, suc, ◌+◌, ◌<◌, ◌≤◌, ℤ, Bool, false, List, [], ◌∷◌, ◌++◌, Option, Some, None, Ok, Err, refl, sym, ap, ap₂, ◌∙◌, subst, arith, length, get_or, set, take, drop}
 use Rattle.std.specs.Prelude.{All, Contains, IsSomeAnd, if◌then◌else◌, option_map, slice_get, ◌||◌}
 use Rattle.std.specs.List.{list_any}
 use Rattle.std.specs.Option.{option_map_or}
-use Rattle.std.proofs.lemmas.Bool.{cases_lt}
-use Rattle.std.proofs.lemmas.List.{ext_get_or, length-map, length-set, map-append, set-get_or, take_all}
+use Rattle.std.proofs.lemmas.Bool.{cases_lt, eq-eqb, ne_eqb}
+use Rattle.std.proofs.lemmas.List.{ext_get_or, length-map, set-get_or, take_all}
 use Rattle.std.proofs.lemmas.List.Folds.{list_any-append}
 use Rattle.std.proofs.lemmas.Option.{get_or_from_slice_get, same_Some, slice_get-map, slice_get_within}
+use Rattle.std.proofs.Math.Bool.{or-false}
 use Rattle.value_types.specs.Shape.{timing_at}
 use Rattle.value_types.specs.declared.shape.ClockTiming.{ClockTiming}
 use Rattle.value_types.specs.declared.shape.Shape.{Shape}
@@ -20,8 +21,8 @@ use Rattle.fmu_peer.specs.Answer.{IsWhy}
 use Rattle.fmu_peer.specs.Machine.{after}
 use Rattle.system_model.specs.declared.system.Component.{Component}
 use Rattle.system_model.specs.declared.system.Role.{Role}
-use Rattle.system_model.specs.declared.system.Role.TheVariants.{Input, Output, ClockInput, ClockOutput, TimeClock}
-use Rattle.system_model.specs.declared.system.Timing.TheVariants.{Periodic, Answered, Countdown}
+use Rattle.system_model.specs.declared.system.Role.TheVariants.{TimeClock}
+use Rattle.system_model.specs.declared.system.Timing.TheVariants.{Periodic, Countdown}
 use Rattle.system_model.specs.declared.system.Port.{Port}
 use Rattle.system_model.specs.declared.system.System.{System}
 use Rattle.system_model.specs.Sound.{IsRole, IsSound, IsTiming}
@@ -45,10 +46,9 @@ use Rattle.event_iteration.specs.Turns.{IsPaired, Stops, Turn, sent_of}
 use Rattle.event_iteration.proofs.Asking.{mode_of}
 use Rattle.event_iteration.proofs.Answering.{one_answer, own_shape}
 use Rattle.event_iteration.proofs.Fmus.{got}
-use Rattle.event_iteration.proofs.Loops.{more_order, split_order}
-use Rattle.event_iteration.proofs.Places.{IsPositive, map_take, next_behind, place_of_behind, set_beside, set_here, take_set, timer_of_place}
+use Rattle.event_iteration.proofs.Places.{IsPositive, beside_now, many_now, next_behind, place_now, place_of_behind, timer_of_place, timers_now}
 use Rattle.event_iteration.proofs.Setting.{NoNeeds, all_ports, in_order, port_number}
-use Rattle.event_iteration.proofs.Walking.{AreAbout, Here, explains_more, here_at, is_other, is_same, more_replies, with_reply}
+use Rattle.event_iteration.proofs.Walking.{AreAbout, Here, explains_more, here_at, more_replies, with_reply, more_order, split_order}
 
 -- ---- the states of the components
 
@@ -64,12 +64,7 @@ are_running system ss alike all i c state of at =
 
 asks_none : (role : Role) (port : Port) → counts_down role ≡ false → asks_interval role port ≡ None
 asks_none (TimeClock Countdown) port none = absurd (true_false none)
-asks_none (TimeClock (Periodic interval shift)) port none = refl
-asks_none (TimeClock Answered) port none = refl
-asks_none (Input feed) port none = refl
-asks_none Output port none = refl
-asks_none (ClockInput feed) port none = refl
-asks_none ClockOutput port none = refl
+asks_none role port none = refl
 
 stays : (values : List (Option ℤ)) (p : ℕ) → values ≡ set values p (value values p)
 stays values p = sym (set-get_or values p None)
@@ -215,16 +210,11 @@ module _ (system : System) (values : List (Option ℤ)) (places : length values 
 
   pub reply_here : explains_on.replies k ≡ reply
   unfolding explains_on
-  reply_here = ap (λ (f : ℕ → Option Reply). f k) replies_on ∙ ap (λ b. if b then reply else front.replies k) (is_same k k refl)
+  reply_here = ap (λ (f : ℕ → Option Reply). f k) replies_on ∙ ap (λ b. if b then reply else front.replies k) (eq-eqb k k refl)
 
   pub reply_old : (q : ℕ) → (q ≡ k → ⊥) → explains_on.replies q ≡ front.replies q
   unfolding explains_on
-  reply_old q other = ap (λ (f : ℕ → Option Reply). f q) replies_on ∙ ap (λ b. if b then reply else front.replies q) (is_other q k other)
-
-or_last : (a b : Bool) → (a || b) ≡ (a || (b || false))
-or_last true b = refl
-or_last false true = refl
-or_last false false = refl
+  reply_old q other = ap (λ (f : ℕ → Option Reply). f q) replies_on ∙ ap (λ b. if b then reply else front.replies q) (ne_eqb q k other)
 
 module _ (system : System) (per_second t k : ℕ) (values : List (Option ℤ)) (places : length values ≡ length system.ports) (port : Port) (is : slice_get system.ports k ≡ Some port) (before table next : Timetable) (armed told : Bool)
     (olds mids news : List Instance) (front : Rearming system per_second t k values before table armed olds mids) where
@@ -261,41 +251,27 @@ module _ (system : System) (per_second t k : ℕ) (values : List (Option ℤ)) (
     in_clocks : k < length table.clocks
     in_clocks = slice_get_within table.clocks k place there
 
-    clocks_are : next.clocks ≡ set table.clocks k placed_next
-    clocks_are = ap (λ (x : Timetable). x.clocks) goes
-
-    here : slice_get next.clocks k ≡ Some placed_next
-    here = ap (λ xs. slice_get xs k) clocks_are ∙ set_here table.clocks k placed_next in_clocks
-
-    beside : (q : ℕ) → (q ≡ k → ⊥) → slice_get next.clocks q ≡ slice_get table.clocks q
-    beside q other = ap (λ xs. slice_get xs q) clocks_are ∙ set_beside table.clocks k placed_next q other
-
     behind_more : IsBehindUpTo system per_second t values explains_next.replies (k + 1) before next
     behind_more = record {
       start = ap (λ (x : Timetable). x.start) goes ∙ front.behind.start;
       stop = ap (λ (x : Timetable). x.stop) goes ∙ front.behind.stop;
-      len = ap length clocks_are ∙ length-set table.clocks k placed_next ∙ front.behind.len;
+      len = many_now table next k placed_next in_clocks goes ∙ front.behind.len;
       behind = λ q x old lt at at_old. (elim (cases_lt q k) as (λ c. slice_get next.clocks q ≡ Some (place_behind x.role per_second t (value values q) (interval_by (explains_next.replies q)) old)) [
         | inl below ↦
             let other : q ≡ k → ⊥ = λ e. absurd (omega (arith, e, below)) in
-            beside q other ∙ front.behind.behind q x old below at at_old
+            beside_now table next k placed_next in_clocks goes q other ∙ front.behind.behind q x old below at at_old
             ∙ ap (λ (o : Option Reply). Some (place_behind x.role per_second t (value values q) (interval_by o) old)) (sym (reply_old system values places k within front.log turn.log reply front.explains (turn.says values) q other))
         | inr past ↦
             let same_place : q ≡ k = omega (arith, lt, past) in
             let its : port ≡ x = same_Some _ _ (sym is ∙ ap (slice_get system.ports) (sym same_place) ∙ at) in
             let own : place ≡ old = same_Some _ _ (sym there ∙ front.behind.ahead k (omega arith) ∙ ap (slice_get before.clocks) (sym same_place) ∙ at_old) in
-            ap (slice_get next.clocks) same_place ∙ here
+            ap (slice_get next.clocks) same_place ∙ place_now table next k placed_next in_clocks goes
             ∙ ap (λ (o : Option Reply). Some (place_behind port.role per_second t (value values k) (interval_by o) place)) (sym (reply_here system values places k within front.log turn.log reply front.explains (turn.says values)))
             ∙ ap₂ (λ (n : ℕ) (y : Port). Some (place_behind y.role per_second t (value values n) (interval_by (explains_next.replies n)) place)) (sym same_place) its
             ∙ ap (λ (y : ClockState). Some (place_behind x.role per_second t (value values q) (interval_by (explains_next.replies q)) y)) own
       ]);
-      ahead = λ q le. beside q (λ e. absurd (omega (arith, e, le))) ∙ front.behind.ahead q (omega (arith, le));
+      ahead = λ q le. beside_now table next k placed_next in_clocks goes q (λ e. absurd (omega (arith, e, le))) ∙ front.behind.ahead q (omega (arith, le));
     }
-
-    timers_more : take (k + 1) (timers_in next) ≡ take k (timers_in table) ++ timer_in placed_next ∷ []
-    timers_more =
-        sym (map_take timer_in (k + 1) next.clocks) ∙ ap (λ cs. map timer_in (take (k + 1) cs)) clocks_are ∙ ap (map timer_in) (take_set table.clocks k placed_next in_clocks)
-        ∙ map-append timer_in (take k table.clocks) (placed_next ∷ []) ∙ ap (λ ts. ts ++ timer_in placed_next ∷ []) (map_take timer_in k table.clocks)
 
     pub rearming_more : (now : Bool) → now ≡ (armed || told) → Rearming system per_second t (k + 1) values before next now olds news
     rearming_more now now_is = record {
@@ -304,8 +280,7 @@ module _ (system : System) (per_second t k : ℕ) (values : List (Option ℤ)) (
       explains = explains_next;
       modes_are = modes_same ∙ front.modes_are;
       behind = behind_more;
-      armed_is = now_is ∙ or_last armed told
-          ∙ ap₂ (λ (a b : Bool). a || (b || false)) front.armed_is arms ∙ sym (ap (list_any (is_armed_for t)) timers_more ∙ list_any-append (is_armed_for t) (take k (timers_in table)) (timer_in placed_next ∷ []));
+      armed_is = now_is ∙ ap₂ (λ (a b : Bool). a || b) front.armed_is (sym (or-false told) ∙ ap (λ b. b || false) arms) ∙ sym (ap (list_any (is_armed_for t)) (timers_now table next k placed_next in_clocks goes) ∙ list_any-append (is_armed_for t) (take k (timers_in table)) (timer_in placed_next ∷ []));
     }
 
 -- ---- timers by place
@@ -355,12 +330,7 @@ positive_by system sound p port is = let placed = place_of system sound p port i
         some : (o : Option ClockTiming) → IsSomeAnd o (λ (c : ClockTiming). IsTiming shape.resolution c (Periodic interval shift)) → 0 < interval
         some None g = absurd g
         some (Some c) g = g.interval_above
-    by (TimeClock Answered) shape x h = tt
-    by (TimeClock Countdown) shape x h = tt
-    by (Input feed) shape x h = tt
-    by Output shape x h = tt
-    by (ClockInput feed) shape x h = tt
-    by ClockOutput shape x h = tt
+    by role shape x h = tt
 
 module _ (system : System) (sound : IsSound system) (per_second t k : ℕ) (is_first : Bool) (values : List (Option ℤ)) (places : length values ≡ length system.ports) (before table : Timetable) (armed : Bool) (olds mids : List Instance)
     (stands : StandsAt system t is_first before) (ticks : TellsTicks system before t values) (whole : length system.ports ≤ k) (all : Rearming system per_second t k values before table armed olds mids) where

@@ -14,7 +14,7 @@ use Rattle.fmu_peer.specs.CloseAll.{Instance}
 use Rattle.system_model.specs.declared.system.Component.{Component}
 use Rattle.system_model.specs.declared.system.Feed.{Feed}
 use Rattle.system_model.specs.declared.system.Role.{Role}
-use Rattle.system_model.specs.declared.system.Role.TheVariants.{Input, Output, ClockInput, ClockOutput, TimeClock}
+use Rattle.system_model.specs.declared.system.Role.TheVariants.{Input}
 use Rattle.system_model.specs.declared.system.Port.{Port}
 use Rattle.system_model.specs.declared.system.System.{System}
 use Rattle.system_model.specs.Orders.{IsOrder}
@@ -29,11 +29,10 @@ use Rattle.slot_calls.specs.Stage.{shapes, shapes_of}
 use Rattle.slot_calls.proofs.CallerLemmas.{shapes_same}
 use Rattle.event_iteration.specs.Settings.{IsUnset, before_step, port_order, sets_to}
 use Rattle.event_iteration.specs.Turns.{MayAsk, MayTurn, TakesTurn, Walked}
-use Rattle.event_iteration.proofs.Loops.{split_order}
 use Rattle.event_iteration.proofs.Marks.{unmarked}
 use Rattle.event_iteration.proofs.Permits.{input_there, writable}
 use Rattle.event_iteration.proofs.Turning.{AsksBy, Sets, Touches, all_was, behind, calls_of, shape_here}
-use Rattle.event_iteration.proofs.Walking.{AreAbout}
+use Rattle.event_iteration.proofs.Walking.{AreAbout, split_order}
 
 -- ---- the order of the ports
 
@@ -72,12 +71,8 @@ module _ (port : Port) (call : Call) where
 
   asked_by : (role : Role) → port.role ≡ role → (events : Bool) (o : Option ℤ) → (if events then None else sets_to role port o) ≡ Some call → IsAskedBeforeStep events port o call
   asked_by role same true o h = absurd (cc)
-  asked_by (Input None) same false o h = absurd (cc)
   asked_by (Input (Some feed)) same false o h = set_of feed same o h
-  asked_by Output same false o h = absurd (cc)
-  asked_by (ClockInput feed) same false o h = absurd (cc)
-  asked_by ClockOutput same false o h = absurd (cc)
-  asked_by (TimeClock timing) same false o h = absurd (cc)
+  asked_by role same false o h = absurd (cc)
 
 -- each call before a step is such a Set of its port
 pub asked_before_step : (now : List (Option ℤ)) (p : ℕ) (port : Port) (c : Component) (values : List (Option ℤ)) (call : Call) → (before_step now).asks p port c values ≡ Some call → IsAskedBeforeStep c.shape.has_event_mode port (value now p) call

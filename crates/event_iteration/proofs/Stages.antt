@@ -1,5 +1,5 @@
 -- The logs of told machines: parts one behind the other, calls that change no machine, and one call to each or to some.
-use Rattle.std.proofs.Common.{◌≡◌, ℕ, suc, ◌+◌, ◌<◌, ◌==◌, Bool, true, false, List, [], ◌∷◌, ◌++◌, Some, Result, Ok, refl, sym, ap, ap₂, ◌∙◌, subst, arith, length, get_or, map}
+use Rattle.std.proofs.Common.{◌≡◌, ℕ, suc, ◌+◌, ◌<◌, ◌==◌, ℤ, Bool, true, false, List, [], ◌∷◌, ◌++◌, Option, Some, Result, Ok, refl, sym, ap, ap₂, ◌∙◌, subst, arith, length, get_or, map}
 use Rattle.std.specs.Prelude.{All, MatchResult, ◌&&◌, ◌||◌, if◌then◌else◌}
 use Rattle.std.specs.List.{list_any, slice_get}
 use Rattle.std.proofs.lemmas.Bool.{eqb-true}
@@ -8,6 +8,7 @@ use Rattle.std.proofs.lemmas.List.Elements.{All-cons, All-head, All-nil, All-tai
 use Rattle.std.proofs.lemmas.Option.{slice_get_within}
 use Rattle.value_types.specs.declared.shape.Shape.{Shape}
 use Rattle.fmi_calls.specs.declared.call.Call.{Call}
+use Rattle.fmi_calls.specs.declared.call.Call.TheVariants as C
 use Rattle.fmi_calls.specs.declared.call.Reply.{Reply}
 use Rattle.fmi_calls.specs.declared.call.Grade.TheVariants as G
 use Rattle.fmi_calls.specs.Worth.{grade_of}
@@ -15,27 +16,29 @@ use Rattle.fmu_peer.specs.declared.peer.Exchange.{Exchange}
 use Rattle.fmu_peer.specs.declared.peer.PeerFault.{PeerFault}
 use Rattle.fmu_peer.specs.CloseAll.{Instance}
 use Rattle.fmu_peer.specs.Machine.{Machine, MachineState, after}
+use Rattle.fmu_peer.specs.Mode.{instantiate_of}
 use Rattle.fmu_peer.specs.Talk as T
 use Rattle.system_model.specs.declared.system.Component.{Component}
+use Rattle.run_model.specs.AfterInstant.{updated, written}
 use Rattle.run_model.specs.Behaved.{IsAnsweredWell}
-use Rattle.run_model.specs.Run.{IsFmu, Run, each, each_from}
+use Rattle.run_model.specs.Initial as I
+use Rattle.run_model.specs.Inputs.{state_with}
+use Rattle.run_model.specs.Machines.{AreMachines, IsSituation}
+use Rattle.run_model.specs.Run.{IsFmu, Run, Situation, each, each_from}
 use Rattle.run_model.proofs.CallerLemmas.{fmu_before}
 use Rattle.slot_calls.specs.Log.{Asking, Sent, Told, asking_of, askings, part}
 use Rattle.slot_calls.specs.Replies.{AreReplies, RepliesBy, state_by, states_by}
 use Rattle.slot_calls.specs.Stage.{IsAnswered, IsGoodOf, shapes_of, to_those, to_those_from}
 use Rattle.slot_calls.proofs.CallerLemmas.{part_append, PartIs, first_same, none_before, part_asked, part_unasked, rest_same, same, skips, takes, replied_good, replies_back, replies_front, state_by_append}
 use Rattle.event_iteration.specs.Machines.{AreAt}
-use Rattle.event_iteration.proofs.Fmus.{each_many, each_same, got, told_at}
-use Rattle.event_iteration.proofs.Parts.{good_in_part, part_all}
+use Rattle.event_iteration.proofs.Fmus.{each_many, each_same, got, told_at, good_in_part, part_all}
 use Rattle.event_iteration.proofs.Permits.{shape_of_component}
 
 -- what is given for what was given
 pub each_each : {X : Type 0} (f : ℕ → Component → Machine → MachineState → MachineState) (g : ℕ → Component → Machine → MachineState → X) (k : ℕ) (cs : List Component) (ms : List Machine) (ss : List MachineState) →
     each_from g k cs ms (each_from f k cs ms ss) ≡ each_from (λ i c m s. g i c m (f i c m s)) k cs ms ss
-each_each f g k [] ms ss = refl
-each_each f g k (c ∷ cs) [] ss = refl
-each_each f g k (c ∷ cs) (m ∷ ms) [] = refl
 each_each f g k (c ∷ cs) (m ∷ ms) (s ∷ ss) = ap (λ xs. g k c m (f k c m s) ∷ xs) (each_each f g (suc k) cs ms ss)
+each_each f g k cs ms ss = refl
 
 each_own : (k : ℕ) (cs : List Component) (ms : List Machine) (ss : List MachineState) → length ms ≡ length cs → length ss ≡ length cs → each_from (λ i c m z. z) k cs ms ss ≡ ss
 each_own k [] ms [] a b = refl
@@ -76,6 +79,33 @@ module _ (r : Run) (ss : List MachineState) (all : AreAll r ss) where
       let m = got r.machines i (let e = all.machines in omega (arith, e, within)) in
       let s = got ss i (let e = all.states in omega (arith, e, within)) in
       (m.0, s.0, record { component = of; machine = m.1; state = s.1 })
+
+-- of a run they are there at each time
+module _ (r : Run) (machines : AreMachines r) where
+  pub first_all : AreAll r (I.first_states r)
+  first_all = record { machines = machines.count; states = length-map r.machines (λ (m : Machine). m.first) ∙ machines.count }
+
+  pub made_all : AreAll r (I.instantiated r)
+  made_all = all_on r (I.first_states r) first_all (λ i c m s. after m s (instantiate_of c.shape))
+
+  pub configured_all : AreAll r (I.configured r)
+  configured_all = all_on r (I.instantiated r) made_all (λ i c m s. I.with_bound m (I.bound_values r i) s)
+
+  pub initializing_all : AreAll r (I.initializing r)
+  initializing_all = all_on r (I.configured r) configured_all (λ i c m s. after m s (I.enter_initialization r))
+
+  pub initialized_all : (W : List (Option ℤ)) → AreAll r (I.initialized r W)
+  initialized_all W = all_on r (I.initializing r) initializing_all (λ i c m s. state_with r.system.ports W i m s)
+
+  module _ (s : Situation) (situation : IsSituation r s) where
+    pub states_all : AreAll r s.states
+    states_all = record { machines = machines.count; states = situation.states }
+
+    pub written_all : (V : List (Option ℤ)) → AreAll r (written r s V)
+    written_all V = all_on r s.states states_all (λ i c m z. if c.shape.has_event_mode then state_with r.system.ports V i m z else z)
+
+    pub updated_all : (V : List (Option ℤ)) → AreAll r (updated r s V).states
+    updated_all V = all_on r (written r s V) (written_all V) (λ i c m z. if c.shape.has_event_mode then after m z C.Update else z)
 
 module _ (r : Run) (ss : List MachineState) where
   abbrev Good : Sent → Type 0

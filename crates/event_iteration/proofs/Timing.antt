@@ -14,7 +14,7 @@ use Rattle.fmu_peer.specs.Machine.{Machine, MachineState, after}
 use Rattle.system_model.specs.declared.system.Component.{Component}
 use Rattle.system_model.specs.declared.system.Port.{Port}
 use Rattle.system_model.specs.declared.system.Role.{Role}
-use Rattle.system_model.specs.declared.system.Role.TheVariants.{Input, Output, ClockInput, ClockOutput, TimeClock}
+use Rattle.system_model.specs.declared.system.Role.TheVariants.{TimeClock}
 use Rattle.system_model.specs.declared.system.Timing.TheVariants.{Periodic, Answered, Countdown}
 use Rattle.system_model.specs.declared.system.System.{System}
 use Rattle.system_model.specs.Sound.{IsSound}
@@ -34,21 +34,15 @@ use Rattle.event_iteration.specs.Settings.{port_order}
 use Rattle.event_iteration.specs.Turns.{IsPaired, sent_of}
 use Rattle.event_iteration.proofs.Fmus.{at_fmu-is, got}
 use Rattle.event_iteration.proofs.Rounds.{components_there}
-use Rattle.event_iteration.proofs.Said.{all_said_by, said_at, said_by, sent_by}
 use Rattle.event_iteration.proofs.Setting.{in_order, port_number}
 use Rattle.event_iteration.proofs.Stages.{AreAll, IsRead, IsShown, Reads, fmu_of, reads_shown}
 use Rattle.event_iteration.proofs.WalkAnswers.{last_alone_is_bad}
-use Rattle.event_iteration.proofs.Walking.{call_at-is, said-is}
+use Rattle.event_iteration.proofs.Walking.{call_at-is, said-is, all_said_by, said_at, said_by, sent_by}
 
 -- a question for an interval asks for one of a countdown Clock
 pub asked_interval : (role : Role) (port : Port) (call : Call) → asks_interval role port ≡ Some call → (role ≡ TimeClock Countdown) × (call ≡ C.GetInterval port.reference)
 asked_interval (TimeClock Countdown) port call h = (refl, sym (same_Some _ _ h))
-asked_interval (TimeClock (Periodic interval shift)) port call h = absurd (cc)
-asked_interval (TimeClock Answered) port call h = absurd (cc)
-asked_interval (Input feed) port call h = absurd (cc)
-asked_interval Output port call h = absurd (cc)
-asked_interval (ClockInput feed) port call h = absurd (cc)
-asked_interval ClockOutput port call h = absurd (cc)
+asked_interval role port call h = absurd (cc)
 
 pub intervals_read : (system : System) (before values : List (Option ℤ)) (taken : List ℕ) (log : List Sent) → Explains system intervals before taken values log → All IsRead log
 intervals_read system before values taken log e =
@@ -104,12 +98,7 @@ module _ (r : Run) (sound : IsSound r.system) (s : Situation) (values : List (Op
     where
       by : (role : Role) → (role ≡ TimeClock Countdown → interval_by (e.replies p) ≡ shown_interval x) → timer_behind role r.plan.resolution s.t (value values p) (e.replies p) y ≡ next_timer role r s values p x y
       by (TimeClock Countdown) own = ap (λ (i : Interval). answered r.plan.resolution s.t i (if is_active (value values p) then Never else y)) (own refl)
-      by (TimeClock (Periodic interval shift)) own = refl
-      by (TimeClock Answered) own = refl
-      by (Input feed) own = refl
-      by Output own = refl
-      by (ClockInput feed) own = refl
-      by ClockOutput own = refl
+      by role own = refl
 
   pub next_timers_are : next ≡ next_timers r s values
   next_timers_are = rearms.timers_are ∙ timers_from 0 r.system.ports s.timers (λ q port is. let place : 0 + q ≡ q = omega arith in ap (slice_get r.system.ports) place ∙ is)
@@ -133,12 +122,7 @@ module _ (system : System) where
   timing_of p port is (TimeClock Answered) same =
       let two : IsTimingOf system (record { component = port.component.0; call = C.GetShift port.reference }) = record { p = p; port = port; is = is; answered = same; at = refl; call_is = inr refl } in
       All-cons (IsTimingOf system) _ (record { component = port.component.0; call = C.GetShift port.reference } ∷ []) (record { p = p; port = port; is = is; answered = same; at = refl; call_is = inl refl }) (All-cons (IsTimingOf system) _ [] two (All-nil (IsTimingOf system)))
-  timing_of p port is (TimeClock (Periodic interval shift)) same = All-nil (IsTimingOf system)
-  timing_of p port is (TimeClock Countdown) same = All-nil (IsTimingOf system)
-  timing_of p port is (Input feed) same = All-nil (IsTimingOf system)
-  timing_of p port is Output same = All-nil (IsTimingOf system)
-  timing_of p port is (ClockInput feed) same = All-nil (IsTimingOf system)
-  timing_of p port is ClockOutput same = All-nil (IsTimingOf system)
+  timing_of p port is role same = All-nil (IsTimingOf system)
 
   timings_in : (ports : List Port) → All Both ports → All (IsTimingOf system) (timing_calls_in ports)
   timings_in [] all = All-nil (IsTimingOf system)
@@ -196,11 +180,7 @@ module _ (r : Run) (ss : List MachineState) (all : AreAll r ss) where
     first_here (TimeClock Answered) (a ∷ []) calls shown = absurd (let rest = rest_same (asking_of a) interval [] (shift ∷ timing_calls_in ports) calls in cc)
     first_here (TimeClock Answered) (a ∷ (b ∷ log)) calls shown = answered_here a b log calls shown
     first_here (TimeClock (Periodic interval shift)) log calls shown = ap (λ xs. Every interval shift ∷ xs) (more log calls shown)
-    first_here (TimeClock Countdown) log calls shown = ap (λ xs. Never ∷ xs) (more log calls shown)
-    first_here (Input feed) log calls shown = ap (λ xs. Never ∷ xs) (more log calls shown)
-    first_here Output log calls shown = ap (λ xs. Never ∷ xs) (more log calls shown)
-    first_here (ClockInput feed) log calls shown = ap (λ xs. Never ∷ xs) (more log calls shown)
-    first_here ClockOutput log calls shown = ap (λ xs. Never ∷ xs) (more log calls shown)
+    first_here role log calls shown = ap (λ xs. Never ∷ xs) (more log calls shown)
 
   abbrev IsThere : Port → Type 0
   IsThere port = port.component.0 < length r.system.components

@@ -26,9 +26,9 @@ use Rattle.slot_calls.specs.Stage.{IsGoodOf, shapes, shapes_of}
 use Rattle.slot_calls.proofs.CallerLemmas.{map_at, shape_of, shapes_same}
 use Rattle.event_iteration.specs.Turns.{Begun, IsPaired, Rules, Turn, Walked, Went, sent_of}
 use Rattle.event_iteration.proofs.Marks.{ByClock, ByGet, BySet, IsClockCall, IsGet, Passes, gets_leave, passes_beside}
-use Rattle.event_iteration.proofs.Parts.{part_all}
 use Rattle.event_iteration.proofs.Permits.{IsQuietOf, shape_of_component}
 use Rattle.event_iteration.proofs.Walking.{by_number, next_beside, next_here}
+use Rattle.event_iteration.proofs.Fmus.{part_all}
 
 -- ---- the calls of a walk
 

@@ -1,11 +1,12 @@
 -- The Updates behind an instant: the loop over the slots, and over machines where they lead.
-use Rattle.std.proofs.Common.{◌≡◌, ℕ, ◌<◌, ℤ, Bool, true, false, List, ◌++◌, Option, Some, Result, Ok, Err, refl, sym, ap, ap₂, ◌∙◌, arith, length, get_or, map}
+use Rattle.std.proofs.Common.{◌≡◌, ℕ, ◌<◌, ℤ, Bool, true, List, ◌++◌, Option, Some, Result, Ok, Err, sym, ap, ap₂, ◌∙◌, arith, length, get_or, map}
 use Rattle.std.specs.Prelude.{◌||◌, if◌then◌else◌}
 use Rattle.std.specs.List.{slice_get}
 use Rattle.std.specs.Result.{result_ok}
 use Rattle.std.proofs.lemmas.List.{length-map}
 use Rattle.std.proofs.lemmas.List.Folds.{list_any-append}
 use Rattle.std.proofs.lemmas.Option.{same_Some}
+use Rattle.std.proofs.Math.Bool.{or-false}
 use Rattle.value_types.specs.declared.shape.Shape.{Shape}
 use Rattle.fmi_calls.specs.declared.call.Call.TheVariants as C
 use Rattle.fmi_calls.specs.declared.call.Reply.{Reply}
@@ -52,15 +53,10 @@ answer_is : (test : Reply → Bool) (reply : Reply) (x : Result Reply PeerFault)
 answer_is test reply (Ok y) is = ap test (sym (same_Some _ _ is))
 answer_is test reply (Err fault) is = absurd (cc)
 
-or_swap : (a b : Bool) → (a || (b || false)) ≡ (a || b)
-or_swap true b = refl
-or_swap false true = refl
-or_swap false false = refl
-
 any_more : (test : Reply → Bool) (log : List Sent) (k : ℕ) (e : Exchange) (reply : Reply) → Some reply ≡ result_ok e.result → any_answer test (log ++ one_log k e) ≡ (any_answer test log || test reply)
 any_more test log k e reply is =
     list_any-append (λ (s : Sent). answer_passes test s.exchange.result) log (one_log k e)
-    ∙ or_swap (any_answer test log) (answer_passes test e.result) ∙ ap (λ b. any_answer test log || b) (answer_is test reply e.result is)
+    ∙ ap (λ b. any_answer test log || b) (or-false (answer_passes test e.result) ∙ answer_is test reply e.result is)
 
 -- what is told once one more has answered
 pub told_more : (old new : Updated) (log : List Sent) (k : ℕ) (e : Exchange) (reply : Reply) → old ≡ updated_by log → new.again ≡ (old.again || asks_again reply) → new.asked ≡ (old.asked || asks_for_end reply) → Some reply ≡ result_ok e.result →

@@ -19,7 +19,7 @@ use Rattle.event_iteration.specs.Explains.{Explains}
 use Rattle.event_iteration.specs.Turns.{IsPaired, Rules, sent_of}
 use Rattle.event_iteration.specs.WalkCalls.{LastAloneIsBad}
 use Rattle.event_iteration.proofs.Permits.{shape_of_component}
-use Rattle.event_iteration.proofs.Said.{all_said_by, said_by, sent_by}
+use Rattle.event_iteration.proofs.Walking.{all_said_by, said_by, sent_by}
 
 module _ (system : System) (rules : Rules) (before : List (Option ℤ)) where
   abbrev Good : Sent → Type 0

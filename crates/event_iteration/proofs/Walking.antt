@@ -1,12 +1,14 @@
 -- What holds along a walk, and what its log tells.
-use Rattle.std.proofs.Common.{◌≡◌, ℕ, zero, suc, map, ◌<◌, ℤ, true, false, List, [], ◌∷◌, ◌++◌, Option, Some, None, Contains, refl, sym, ap, ◌∙◌, subst, append_assoc, append-nil, length, inl, inr}
-use Rattle.std.specs.Prelude.{if◌then◌else◌, slice_get, ◌==◌}
+use Rattle.std.proofs.Common.{◌≡◌, ℕ, zero, suc, map, ◌<◌, ℤ, List, [], ◌∷◌, ◌++◌, Option, Some, None, Contains, refl, sym, ap, ◌∙◌, subst, append_assoc, append-nil, length, inl, inr, ◌+◌, Ok, Err, take, drop}
+use Rattle.std.specs.Prelude.{if◌then◌else◌, slice_get, ◌==◌, All}
 use Rattle.std.specs.Option.{option_and_then, option_map_or}
-use Rattle.std.proofs.lemmas.Bool.{eq-eqb, eqb-true}
-use Rattle.std.proofs.lemmas.List.{get_or-set_other, get_or-set_same, length-set}
-use Rattle.std.proofs.lemmas.List.Elements.{Contains-append_left, Contains-append_right, Contains-push}
-use Rattle.std.proofs.lemmas.Option.{same_Some, slice_get_within}
+use Rattle.std.proofs.lemmas.Bool.{eq-eqb, ne_eqb}
+use Rattle.std.proofs.lemmas.List.{get_or-set_other, get_or-set_same, length-set, drop_more, take-append-drop, take_more}
+use Rattle.std.proofs.lemmas.List.Elements.{Contains-append_left, Contains-append_right, Contains-push, All-append, All-cons, All-head, All-nil, All-tail}
+use Rattle.std.proofs.lemmas.Option.{same_Some, slice_get_within, get_or_from_slice_get}
 use Rattle.fmi_calls.specs.declared.call.Reply.{Reply}
+use Rattle.fmi_calls.specs.declared.call.Call.{Call}
+use Rattle.fmu_peer.specs.CloseAll.{Instance}
 use Rattle.system_model.specs.declared.system.Component.{Component}
 use Rattle.system_model.specs.declared.system.Port.{Port}
 use Rattle.system_model.specs.declared.system.System.{System}
@@ -14,9 +16,11 @@ use Rattle.system_model.specs.Orders.{IsOrder}
 use Rattle.system_model.proofs.CallerLemmas.{IsOrderFrom, order_from}
 use Rattle.run_model.specs.Run.{value}
 use Rattle.run_model.proofs.CallerLemmas.{same_number, IsClosed, closed-push, none_in, push_cases}
-use Rattle.slot_calls.specs.Log.{Sent}
-use Rattle.event_iteration.specs.Turns.{IsPaired, Rules, Turn, Walked, Begun, Went, sent_of}
-use Rattle.event_iteration.specs.Explains.{Explains, all_said, call_at, said}
+use Rattle.slot_calls.specs.Log.{Sent, Told}
+use Rattle.slot_calls.specs.declared.bad_answer.BadAnswer.{BadAnswer}
+use Rattle.slot_calls.proofs.CallerLemmas.{told_on}
+use Rattle.event_iteration.specs.Turns.{IsPaired, Rules, Turn, Walked, Begun, Went, sent_of, TakesTurn}
+use Rattle.event_iteration.specs.Explains.{Explains, all_said, call_at, said, ExplainsUntil, Walks}
 
 -- ---- numbers
 
@@ -25,15 +29,6 @@ by_number {P} a b same other = (elim (same_number a b) as (λ c. P) [
   | inl e ↦ same e
   | inr n ↦ other n
 ])
-
-pub is_same : (a b : ℕ) → a ≡ b → (a == b) ≡ true
-is_same a b e = eq-eqb a b e
-
-pub is_other : (a b : ℕ) → (a ≡ b → ⊥) → (a == b) ≡ false
-is_other a b h = (elim (a == b) as (λ c. (a == b) ≡ c → c ≡ false) [
-  | true ↦ λ e. absurd (h (eqb-true a b e))
-  | false ↦ λ e. refl
-]) refl
 
 -- ---- where the order is at a port
 
@@ -146,8 +141,8 @@ pub explains_more : (NeedsOf : ℕ → ℕ → Type 0) (system : System) (rules 
     Here NeedsOf pre p → length values ≡ length system.ports → Explains system rules before pre values front → Turn system rules p reply values next sent → Explains system rules before (pre ++ p ∷ []) next (front ++ sent)
 explains_more NeedsOf system rules about before pre p reply values next front sent here len told turn =
     let replies = with_reply p reply told.replies in
-    let reply_here : replies p ≡ reply = ap (λ b. if b then reply else told.replies p) (is_same p p refl) in
-    let reply_old : (q : ℕ) → (q ≡ p → ⊥) → told.replies q ≡ replies q = λ q other. sym (ap (λ b. if b then reply else told.replies q) (is_other q p other)) in
+    let reply_here : replies p ≡ reply = ap (λ b. if b then reply else told.replies p) (eq-eqb p p refl) in
+    let reply_old : (q : ℕ) → (q ≡ p → ⊥) → told.replies q ≡ replies q = λ q other. sym (ap (λ b. if b then reply else told.replies q) (ne_eqb q p other)) in
     let not_here : (q : ℕ) → Contains pre q → q ≡ p → ⊥ = λ q m same. here.fresh (subst (Contains pre) same m) in
     let kept : (q : ℕ) → Contains pre q → value values q ≡ value next q = λ q m. sym (next_beside turn q (not_here q m)) in
     let alike_here : Agreeing NeedsOf p values next = λ q n. kept q (here.needed q n) in
@@ -201,3 +196,89 @@ explained IsAmong NeedsOf system rules about before order ordered len taken rest
       left = λ p m. refl;
     })
     (explains_more NeedsOf system rules about before) taken rest values log is walked).1
+
+-- ---- a walk by a loop
+
+pub more_order : (order : List ℕ) (k p : ℕ) → slice_get order k ≡ Some p → take (k + 1) order ≡ take k order ++ p ∷ []
+more_order order k p is = take_more order k p (slice_get_within order k p is) ∙ ap (λ x. take k order ++ x ∷ []) (get_or_from_slice_get order k p p is)
+
+pub split_order : (order : List ℕ) (k p : ℕ) → slice_get order k ≡ Some p → order ≡ take k order ++ p ∷ drop (k + 1) order
+split_order order k p is =
+    sym (take-append-drop k order) ∙ ap (λ xs. take k order ++ xs) (drop_more order k p (slice_get_within order k p is) ∙ ap (λ x. x ∷ drop (k + 1) order) (get_or_from_slice_get order k p p is))
+
+module _ (IsAmong : ℕ → Type 0) (NeedsOf : ℕ → ℕ → Type 0) (system : System) (rules : Rules) (about : AreAbout NeedsOf system rules) (before : List (Option ℤ)) (order : List ℕ) (ordered : IsOrder IsAmong NeedsOf order)
+    (len : length before ≡ length system.ports) (olds mids : List Instance) (log : List Sent) (told : Told log olds mids) where
+  module _ (k p : ℕ) (at : slice_get order k ≡ Some p) (values next : List (Option ℤ)) (walked : Walked system rules before (take k order) values log) (news : List Instance) where
+    -- the turn was taken
+    pub walked_more : (turn : TakesTurn system rules p values next mids news (Ok tt)) → Walked system rules before (take (k + 1) order) next (log ++ turn.log)
+    walked_more turn = Went _ (take k order) p turn.says.0 values next (log ++ turn.log) log turn.log (more_order order k p at) refl walked turn.says.1
+
+    -- its call got an answer that isn't good
+    pub walked_until : (bad : BadAnswer) (turn : TakesTurn system rules p values next mids news (Err bad)) → Walks system rules before order next olds news (Err bad)
+    walked_until bad turn = record {
+      log = log ++ turn.log;
+      told = told_on olds mids news log turn.log told turn.told;
+      says = subst (λ vs. ExplainsUntil system rules before order bad vs (log ++ turn.log)) (sym turn.says.2) (record {
+        taken = take k order;
+        p = p;
+        rest = drop (k + 1) order;
+        order_is = split_order order k p at;
+        front = log;
+        last = turn.says.0;
+        log_is = ap (λ es. log ++ es) turn.says.1;
+        told = explained IsAmong NeedsOf system rules about before order ordered len (take k order) _ values log (split_order order k p at) walked;
+        stops = turn.says.3;
+      });
+    }
+
+  -- all turns were taken
+  pub walked_all : (values : List (Option ℤ)) → Walked system rules before order values log → Walks system rules before order values olds mids (Ok tt)
+  walked_all values walked = record {
+    log = log;
+    told = told;
+    says = explained IsAmong NeedsOf system rules about before order ordered len order [] values log (sym (append-nil order)) walked;
+  }
+
+-- ---- what holds of the calls, by what holds of those of each port
+
+module _ {X : Type 0} (P : X → Type 0) where
+  pub all_front : (xs ys : List X) → All P (xs ++ ys) → All P xs
+  all_front [] ys all = All-nil P
+  all_front (x ∷ xs) ys all = All-cons P x xs (All-head P x (xs ++ ys) all) (all_front xs ys (All-tail P x (xs ++ ys) all))
+
+  all_back : (xs ys : List X) → All P (xs ++ ys) → All P ys
+  all_back [] ys all = all
+  all_back (x ∷ xs) ys all = all_back xs ys (All-tail P x (xs ++ ys) all)
+
+-- the call of a port, if there is one
+pub sent_by : (P : Sent → Type 0) (i : ℕ) (o : Option Call) (reply : Option Reply) → ((call : Call) (y : Reply) → o ≡ Some call → reply ≡ Some y → P (record { component = i; exchange = record { call = call; result = Ok y } })) → All P (sent_of i o reply)
+sent_by P i None reply h = All-nil P
+sent_by P i (Some call) None h = All-nil P
+sent_by P i (Some call) (Some y) h = All-cons P _ [] (h call y refl refl) (All-nil P)
+
+module _ (P : Sent → Type 0) (system : System) (rules : Rules) (values : List (Option ℤ)) (replies : ℕ → Option Reply) where
+  pub said_by : (p : ℕ) →
+      ((port : Port) (c : Component) → slice_get system.ports p ≡ Some port → slice_get system.components port.component.0 ≡ Some c → All P (sent_of port.component.0 (rules.asks p port c values) (replies p))) →
+      All P (said system rules values replies p)
+  said_by p h = of_port (slice_get system.ports p) refl where
+    of_component : (port : Port) → slice_get system.ports p ≡ Some port → (o : Option Component) → slice_get system.components port.component.0 ≡ o →
+        All P (sent_of port.component.0 (option_and_then (λ (c : Component). rules.asks p port c values) o) (replies p))
+    of_component port is None of = All-nil P
+    of_component port is (Some c) of = h port c is of
+
+    of_port : (o : Option Port) → slice_get system.ports p ≡ o → All P (option_map_or (λ (port : Port). sent_of port.component.0 (call_at system rules values p port) (replies p)) o [])
+    of_port None is = All-nil P
+    of_port (Some port) is = of_component port is (slice_get system.components port.component.0) refl
+
+  abbrev Of : ℕ → Type 0
+  Of p = All P (said system rules values replies p)
+
+  pub all_said_by : (ps : List ℕ) → All Of ps → All P (all_said system rules values replies ps)
+  all_said_by [] all = All-nil P
+  all_said_by (p ∷ ps) all = All-append P (said system rules values replies p) (all_said system rules values replies ps) (All-head Of p ps all) (all_said_by ps (All-tail Of p ps all))
+
+  -- and of those of one of the ports
+  pub said_at : (ps : List ℕ) (k p : ℕ) → slice_get ps k ≡ Some p → All P (all_said system rules values replies ps) → Of p
+  said_at [] k p at all = absurd (cc)
+  said_at (x ∷ ps) zero p at all = subst Of (same_Some x p at) (all_front P (said system rules values replies x) (all_said system rules values replies ps) all)
+  said_at (x ∷ ps) (suc k) p at all = said_at ps k p at (all_back P (said system rules values replies x) (all_said system rules values replies ps) all)

@@ -22,11 +22,11 @@ use Rattle.event_iteration.specs.Initialization.{initially, no_values}
 use Rattle.event_iteration.specs.Instants.{in_instant}
 use Rattle.event_iteration.specs.Settings.{before_step, port_order}
 use Rattle.event_iteration.specs.Turns.{Begun, IsPaired, Rules, Turn, Walked, Went, sent_of}
-use Rattle.event_iteration.proofs.Abouts.{about_initially}
 use Rattle.event_iteration.proofs.InInstant.{about_instant}
 use Rattle.event_iteration.proofs.Setting.{NoNeeds, about_setting, in_order}
 use Rattle.event_iteration.proofs.Walking.{AreAbout, call_at-is, next_beside, next_here, said-is}
 use Rattle.event_iteration.proofs.Fmus.{got}
+use Rattle.event_iteration.proofs.Finding.{about_initially}
 
 -- a port and its component
 pub record There (system : System) (p : ℕ) : Type 0 where

@@ -24,10 +24,8 @@ use fmu_peer::{Peer, Slot};
 use sim_base::CompId;
 use slot_calls::{BadAnswer, send};
 use std::alloc::{AllocError, Global};
-use std::marker::Brand;
-use std::sync::ledger::{Blank, Ledger};
 use system_model::{Port, Role, System, Timing};
-use tick_schedule::{Schedule, Steps, TimeClock};
+use tick_schedule::{Schedule, TimeClock, plain};
 use value_types::IntervalVariability;
 
 /// The schedule of a system's Clocks before a run from start to stop, which are counts. It has a place for each port: that
@@ -173,22 +171,12 @@ fn fix_clock<L: Peer>(
         Ok(reply) => shift_in(&reply),
         Err(bad) => return Err(bad),
     };
-    fix::<Brand>(schedule, p, interval, shift, per_second, Blank::new(1));
+    fix(schedule, p, interval, shift, per_second);
     Ok(())
 }
 
 // Enters the interval and the shift of a fixed Clock, which are whole counts, the interval at least one.
-fn fix<K: Ledger>(
-    schedule: &mut Schedule,
-    p: usize,
-    interval: Interval,
-    shift: Fraction,
-    per_second: u64,
-    blank: Blank,
-)
-    requires name { blank.name ≡ K.name }
-    requires parts { blank.parts ≡ K.parts }
-    requires some { 0 < blank.parts }
+fn fix(schedule: &mut Schedule, p: usize, interval: Interval, shift: Fraction, per_second: u64)
     requires unasked { IsUnasked schedule.old p }
     requires range { per_second ≤ 2 ^ 62 }
     requires interval { is_known_interval interval per_second ≡ true }
@@ -197,7 +185,7 @@ fn fix<K: Ledger>(
 {
     let interval = interval_counts(interval, per_second);
     let shift = whole_counts(shift, per_second);
-    schedule.fix(p, interval, shift, &mut Steps::<K>::new(blank));
+    plain::fix(schedule, p, interval, shift);
 }
 
 // The interval of a fixed Clock in counts.

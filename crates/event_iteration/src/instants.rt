@@ -1,4 +1,4 @@
-ghost use Rattle.std.specs.Prelude.{◌≡◌, ◌<◌, ◌≤◌, ◌==◌, ◌↔◌, ℕ, IsTrue, Some, None, OnOk, All, length, if◌then◌else◌};
+ghost use Rattle.std.specs.Prelude.{◌≡◌, ◌<◌, ◌==◌, ℕ, Some, None, OnOk, All, length, if◌then◌else◌};
 ghost use Rattle.std.specs.List.{list_any};
 ghost use Rattle.fmi_calls.specs.declared.call.Call.TheVariants as Call;
 ghost use Rattle.run_model.specs.Inputs.{is_active, is_present};
@@ -8,7 +8,6 @@ ghost use Rattle.system_model.specs.declared.system.Port.{Port};
 ghost use Rattle.system_model.specs.Ports.{numbers};
 ghost use Rattle.system_model.specs.Sound.{IsSound};
 ghost use Rattle.run_model.specs.Machines.{AreFitting};
-ghost use Rattle.tick_schedule.specs.Timetable.{TicksAt};
 ghost use Rattle.slot_calls.specs.Slots.{LiveSlot, Stands, instances};
 ghost use Rattle.slot_calls.specs.Stage.{shapes, shapes_of};
 ghost use Rattle.event_iteration.specs.Explains.{Walks};
@@ -24,10 +23,8 @@ use fmi_calls::{Call, Reply};
 use fmu_peer::{Peer, Slot};
 use sim_base::PortId;
 use slot_calls::{BadAnswer, value_in};
-use std::marker::Brand;
-use std::sync::ledger::{Blank, Ledger};
 use system_model::{Port, Role, System};
-use tick_schedule::{Schedule, Steps};
+use tick_schedule::{Schedule, plain};
 
 // The call that the turn of a port sends.
 fn call_of(
@@ -162,18 +159,6 @@ fn seen_or(port: &Port, last: Option<i128>, reply: &Option<Reply>) -> Option<i12
     }
 }
 
-// Whether the Clock at a place of the schedule ticks at a point.
-fn is_due<K: Ledger>(schedule: &Schedule, t: u64, p: usize, blank: Blank) -> bool
-    requires name { blank.name ≡ K.name }
-    requires parts { blank.parts ≡ K.parts }
-    requires some { 0 < blank.parts }
-    requires place { p < length schedule.now.clocks }
-    requires none_below { (other point : ℕ) → TicksAt schedule.now other point → t ≤ point }
-    ensures { IsTrue result ↔ TicksAt schedule.now p t }
-{
-    schedule.due(p, t, &mut Steps::<K>::new(blank))
-}
-
 // Takes a port in its turn.
 fn take<L: Peer>(
     slots: &mut [Slot<L>],
@@ -248,7 +233,7 @@ pub fn instant<L: Peer>(
     let order = system.instant_order.as_slice();
     for k in 0..order.len() {
         let p = order[k].0 as usize;
-        let ticks = is_due::<Brand>(schedule, t, p, Blank::new(1));
+        let ticks = plain::due(schedule, p, t);
         match take(slots, system, is_first, ticks, values, p) {
             Ok(()) => {}
             Err(bad) => return Err(bad),

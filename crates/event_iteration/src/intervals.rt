@@ -17,10 +17,8 @@ use clock_fraction::to_counts;
 use fmi_calls::{Call, Interval, Reply};
 use fmu_peer::{Peer, Slot};
 use slot_calls::BadAnswer;
-use std::marker::Brand;
-use std::sync::ledger::{Blank, Ledger};
 use system_model::{Role, System, Timing};
-use tick_schedule::{Schedule, Steps};
+use tick_schedule::{Schedule, plain};
 
 /// Goes on behind an instant at a point, with its values (FMI 3.0, 2.2.9): each Clock that ticked in it goes on to its next
 /// tick, and each countdown Clock, whose arming a tick takes away, is asked for its interval, in port order, up to the first
@@ -127,11 +125,11 @@ fn go_on(
     if !is_time_clock(role) {
         return false;
     }
-    tick_if::<Brand>(schedule, p, is_active(value), Blank::new(1));
+    tick_if(schedule, p, is_active(value));
     if !counts_down(role) {
         return false;
     }
-    rearm::<Brand>(schedule, p, interval, per_second, t, Blank::new(1))
+    rearm(schedule, p, interval, per_second, t)
 }
 
 // Whether a port is a time-based Clock.
@@ -166,49 +164,36 @@ fn counts_down(role: Role) -> bool
 }
 
 // The Clock has ticked, if it is so.
-fn tick_if<K: Ledger>(schedule: &mut Schedule, p: usize, ticks: bool, blank: Blank)
-    requires name { blank.name ≡ K.name }
-    requires parts { blank.parts ≡ K.parts }
-    requires some { 0 < blank.parts }
-    requires next { ticks ≡ true → HasNext schedule.old p }
+fn tick_if(schedule: &mut Schedule, p: usize, ticks: bool)
+    requires { ticks ≡ true → HasNext schedule.old p }
     ensures { (place : ClockState) → slice_get schedule.old.clocks p ≡ Some place →
         schedule.new ≡ with_clock schedule.old p (ticked_if ticks place) }
 {
     if ticks {
-        schedule.ticked(p, &mut Steps::<K>::new(blank));
+        plain::ticked(schedule, p);
     }
 }
 
 // Arms a countdown Clock by an interval that was answered at the point, and tells whether it is now armed for the point itself.
-fn rearm<K: Ledger>(
-    schedule: &mut Schedule,
-    p: usize,
-    interval: Interval,
-    per_second: u64,
-    t: u64,
-    blank: Blank,
-) -> bool
-    requires name { blank.name ≡ K.name }
-    requires parts { blank.parts ≡ K.parts }
-    requires some { 0 < blank.parts }
-    requires countdown { IsCountdown schedule.old p }
+fn rearm(schedule: &mut Schedule, p: usize, interval: Interval, per_second: u64, t: u64) -> bool
+    requires { IsCountdown schedule.old p }
     ensures rearmed { (place : ClockState) → slice_get schedule.old.clocks p ≡ Some place →
         schedule.new ≡ with_clock schedule.old p (rearmed per_second t interval place) }
     ensures now { result ≡ arms_now per_second interval }
 {
     match interval {
         Interval::NotYetKnown => {
-            schedule.disarm(p, &mut Steps::<K>::new(blank));
+            plain::disarm(schedule, p);
             false
         }
         Interval::Unchanged(_) => false,
         Interval::Changed(interval) => match to_counts(interval, per_second) {
             Some(counts) => {
-                schedule.arm(p, u128::from(t) + counts, &mut Steps::<K>::new(blank));
+                plain::arm(schedule, p, u128::from(t) + counts);
                 counts == 0
             }
             None => {
-                schedule.disarm(p, &mut Steps::<K>::new(blank));
+                plain::disarm(schedule, p);
                 false
             }
         },

@@ -16,8 +16,7 @@ use Rattle.run_model.proofs.CallerLemmas.{solvable_initially}
 use Rattle.slot_calls.specs.Log.{Sent}
 use Rattle.slot_calls.specs.Replies.{AreReplies, states_by}
 use Rattle.slot_calls.specs.Stage.{IsGoodOf, shapes_of}
-use Rattle.event_iteration.proofs.ByLog.{IsRead, made_all, reads_stay, replies_first, replies_then, states_on}
-use Rattle.event_iteration.proofs.WalkLaws.{last_alone_is_bad}
+use Rattle.event_iteration.proofs.ByLog.{IsRead, last_alone_is_bad, made_all, reads_stay, replies_first, replies_then, states_on}
 use Rattle.calling_sequence.specs.Course.{Before, Configured, Course, Departing, Entered, Found, Left, Leaving, Made, Place, Read, Rearmed, Seen, Spot, Stepped, Timed, part_at, shown}
 use Rattle.calling_sequence.specs.Parts.{Calls, Does, Part, Round, Walk}
 use Rattle.calling_sequence.specs.Plans.{IsPlan}

@@ -36,8 +36,7 @@ use Rattle.event_iteration.specs.Explains.{ExplainsUntil}
 use Rattle.event_iteration.specs.Initialization.{asks_initially, initially, is_set_from_feed, no_values}
 use Rattle.event_iteration.specs.Intervals.{timing_calls}
 use Rattle.event_iteration.specs.WalkCalls.{Front, has_events_at, initial_span}
-use Rattle.event_iteration.proofs.ByLog.{InitialSoFar, IsTimingOf, fed_fits, fmu_on, initial_so_far, initialized_all, initializing_all, made_all, part_all, reads_part, replies_first, timings_are, timings_read, unclocked_parts}
-use Rattle.event_iteration.proofs.WalkLaws.{each_call_once}
+use Rattle.event_iteration.proofs.ByLog.{InitialSoFar, IsTimingOf, each_call_once, fed_fits, fmu_on, initial_so_far, initialized_all, initializing_all, made_all, part_all, reads_part, replies_first, timings_are, timings_read, unclocked_parts}
 use Rattle.calling_sequence.specs.Calls.{binding}
 use Rattle.machine_courses.specs.Outcomes.{IsLost}
 use Rattle.machine_courses.proofs.Lost.{lost_at, lost_walk}

@@ -37,8 +37,7 @@ use Rattle.event_iteration.specs.Intervals.{intervals}
 use Rattle.event_iteration.specs.Settings.{port_order}
 use Rattle.event_iteration.specs.Updates.{updating}
 use Rattle.event_iteration.specs.WalkCalls.{Front, has_events_at, instant_span}
-use Rattle.event_iteration.proofs.ByLog.{InstantSoFar, asked_interval, fed_fits, fmu_on, instant_so_far, intervals_read, reads_part, replies_first, states_all, written_all}
-use Rattle.event_iteration.proofs.WalkLaws.{each_call_once}
+use Rattle.event_iteration.proofs.ByLog.{InstantSoFar, asked_interval, each_call_once, fed_fits, fmu_on, instant_so_far, intervals_read, reads_part, replies_first, states_all, written_all}
 use Rattle.machine_courses.specs.Outcomes.{IsLost}
 use Rattle.machine_courses.proofs.Lost.{lost_stops, lost_walk}
 use Rattle.machine_courses.proofs.Settings.{IsLike, if_is, like_walk, set_of, sets_clock, sets_eventing}

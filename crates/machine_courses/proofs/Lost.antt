@@ -25,8 +25,7 @@ use Rattle.slot_calls.proofs.CallerLemmas.{first_same, other, rest_same, same, s
 use Rattle.slot_calls.specs.Replies.{AreReplies, RepliesBy, state_by}
 use Rattle.event_iteration.specs.Explains.{ExplainsUntil}
 use Rattle.event_iteration.specs.Turns.{Rules}
-use Rattle.event_iteration.proofs.ByLog.{AreAll, fmu_of, fmu_on, got, replies_then, shape_of_component}
-use Rattle.event_iteration.proofs.WalkLaws.{last_alone_is_bad}
+use Rattle.event_iteration.proofs.ByLog.{AreAll, fmu_of, fmu_on, got, last_alone_is_bad, replies_then, shape_of_component}
 use Rattle.machine_courses.specs.Outcomes.{IsLost}
 
 -- ---- the turn of a call

@@ -21,8 +21,7 @@ use Rattle.slot_calls.specs.Stage.{FailsIn, StopsAt, everyone, has_events, shape
 use Rattle.event_iteration.specs.Explains.{ExplainsUntil}
 use Rattle.event_iteration.specs.Settings.{before_step, entered_step, port_order}
 use Rattle.event_iteration.specs.WalkCalls.{Front, has_events_at, step_span}
-use Rattle.event_iteration.proofs.ByLog.{AreAll, all_on, asked_before_step}
-use Rattle.event_iteration.proofs.WalkLaws.{each_call_once}
+use Rattle.event_iteration.proofs.ByLog.{AreAll, all_on, asked_before_step, each_call_once}
 use Rattle.calling_sequence.specs.Calls.{IsStep, entering_event, entering_step, stepping}
 use Rattle.calling_sequence.specs.Systems.{IsBuilt}
 use Rattle.machine_courses.specs.Outcomes.{IsLost}

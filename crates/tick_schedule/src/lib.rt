@@ -3,6 +3,7 @@
 
 mod clock;
 mod heap;
+pub mod plain;
 mod schedule;
 mod sift;
 mod steps;

@@ -4,8 +4,8 @@ use Rattle.event_iteration.specs.Clocks.{timers_in}
 use Rattle.calling_sequence.proofs.ScheduleSteps.{bound_alone, bound_tick, none_up_to}
 use Rattle.calling_sequence.proofs.bounds.next_bound.Goals as goal
 
-pub next_tick-requires-clause-none_up_to : goal.next_tick-requires-clause-none_up_to
-next_tick-requires-clause-none_up_to c = none_up_to c.args.schedule.now c.args.t c.requires.next c.requires.done
+pub next_after-requires : goal.next_after-requires
+next_after-requires c = none_up_to c.args.schedule.now c.args.t c.requires.next c.requires.done
 
 pub returns-in-Some : goal.returns-in-Some
 returns-in-Some c =

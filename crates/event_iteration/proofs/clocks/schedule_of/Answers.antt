@@ -37,12 +37,7 @@ within_bounds per_second interval shift (Some t) h = record { interval = (h.inte
 
 sound_by : (shape : Shape) (variable : Variable) (role : Role) → IsRole shape variable role → IsSoundClock (first_clock role)
 sound_by shape variable (TimeClock (Periodic interval shift)) is = within_bounds shape.resolution interval shift (timing_at shape.clocks variable.reference) is.2
-sound_by shape variable (TimeClock Answered) is = record { interval = tt; shift = tt }
-sound_by shape variable (TimeClock Countdown) is = record { interval = tt; shift = tt }
-sound_by shape variable (Input feed) is = record { interval = tt; shift = tt }
-sound_by shape variable Output is = record { interval = tt; shift = tt }
-sound_by shape variable (ClockInput feed) is = record { interval = tt; shift = tt }
-sound_by shape variable ClockOutput is = record { interval = tt; shift = tt }
+sound_by shape variable role is = record { interval = tt; shift = tt }
 
 sound_clocks : (system : System) → IsSound system → All IsSoundClock (map (λ (port : Port). first_clock port.role) system.ports)
 sound_clocks system sound =

@@ -5,11 +5,10 @@ use Rattle.system_model.specs.Ports.{numbers}
 use Rattle.slot_calls.proofs.CallerLemmas.{told_none, told_on}
 use Rattle.event_iteration.specs.Initialization.{IsInitializing, initially, no_values}
 use Rattle.event_iteration.specs.Turns.{Begun, Walked}
-use Rattle.event_iteration.proofs.Abouts.{about_initially}
-use Rattle.event_iteration.proofs.Finding.{solves_for_machines}
-use Rattle.event_iteration.proofs.Loops.{walked_all, walked_more, walked_until}
+use Rattle.event_iteration.proofs.Finding.{solves_for_machines, about_initially}
 use Rattle.event_iteration.proofs.Rounds.{all_instances, components_there, fits_none, fits_until, kept, may_turn, number_at, places_none, port_within, reads_within, shapes_mid, sources_placed, whole_order}
 use Rattle.event_iteration.proofs.initialization.walk.Goals as goal
+use Rattle.event_iteration.proofs.Walking.{walked_all, walked_more, walked_until}
 
 pub loop-k-init : goal.loop-k-init
 loop-k-init g c = record { live = c.requires.live; log = []; told = told_none _; walked = Begun _ _ _ refl c.requires.none refl }

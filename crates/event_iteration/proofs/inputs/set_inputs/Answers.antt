@@ -4,10 +4,10 @@ use Rattle.slot_calls.proofs.CallerLemmas.{told_none, told_on}
 use Rattle.event_iteration.specs.Settings.{IsUnset, before_step, port_order}
 use Rattle.event_iteration.specs.Turns.{Begun, Walked}
 use Rattle.event_iteration.proofs.Departing.{departs_for_machines}
-use Rattle.event_iteration.proofs.Loops.{walked_all, walked_more, walked_until}
 use Rattle.event_iteration.proofs.Rounds.{all_instances, components_there}
 use Rattle.event_iteration.proofs.Setting.{NoNeeds, about_setting, all_ports, in_order, may_turn, port_number, shapes_mid}
 use Rattle.event_iteration.proofs.inputs.set_inputs.Goals as goal
+use Rattle.event_iteration.proofs.Walking.{walked_all, walked_more, walked_until}
 
 pub loop-p-init : goal.loop-p-init
 loop-p-init g c = record { live = c.requires.live; log = []; told = told_none _; walked = Begun _ _ _ refl refl refl }

@@ -8,11 +8,10 @@ use Rattle.event_iteration.specs.Instants.{BeginsInstant, in_instant}
 use Rattle.event_iteration.specs.Turns.{Begun, Walked}
 use Rattle.event_iteration.proofs.ClockTicks.{are_ticks, due_is, none_below, place_within}
 use Rattle.event_iteration.proofs.FindingInInstant.{solves_in_instant, tells_ticks}
-use Rattle.event_iteration.proofs.InInstant.{about_instant, clocks_placed, fits_now, fits_until, may_turn, port_within, shapes_mid}
-use Rattle.event_iteration.proofs.Loops.{split_order, walked_all, walked_more, walked_until}
+use Rattle.event_iteration.proofs.InInstant.{about_instant, clocks_placed, fits_now, fits_until, may_turn, port_within, shapes_mid, may_by, takes_by}
 use Rattle.event_iteration.proofs.Rounds.{all_instances, components_there, number_at, sources_placed, whole_order}
-use Rattle.event_iteration.proofs.Ticking.{may_by, takes_by}
 use Rattle.event_iteration.proofs.instants.instant.Goals as goal
+use Rattle.event_iteration.proofs.Walking.{split_order, walked_all, walked_more, walked_until}
 
 pub loop-k-init : goal.loop-k-init
 loop-k-init g c =
@@ -43,8 +42,8 @@ pub take-requires-clause-may : goal.take-requires-clause-may
 take-requires-clause-may g c κs lives =
     let system = c.args.system.now in
     let is = number_at system.instant_order _ c.loop-k.k (record { 0 = 0 }) c.as_slice-order.ensures c.loop-k-test.true in
-    may_by system (is_due_at c.args.schedule.now c.args.t) c.args.is_first _ c.is_due-ticks.result
-    (sym (due_is system c.args.t c.args.is_first c.args.schedule.now c.requires.stands _ (place_within system c.args.t c.args.is_first c.args.schedule.now c.requires.stands c.requires.sound c.loop-k.k _ is) c.is_due-ticks.result c.is_due-ticks.ensures))
+    may_by system (is_due_at c.args.schedule.now c.args.t) c.args.is_first _ c.due-ticks.result
+    (sym (due_is system c.args.t c.args.is_first c.args.schedule.now c.requires.stands _ (place_within system c.args.t c.args.is_first c.args.schedule.now c.requires.stands c.requires.sound c.loop-k.k _ is) c.due-ticks.result c.due-ticks.ensures))
     c.loop-k.values (map (λ s. instance_in g.L.Peer.view s) c.loop-k.slots)
     (may_turn system c.requires.sound (is_due_at c.args.schedule.now c.args.t) c.args.is_first c.args.values.now c.requires.values c.requires.fitting
     (map (λ s. instance_in g.L.Peer.view s) c.args.slots.now) (map (λ s. instance_in g.L.Peer.view s) c.loop-k.slots) c.requires.shapes (all_instances (λ s. instance_in g.L.Peer.view s) (λ (x : Instance). BeginsInstant x.view) c.args.slots.now c.requires.begins)
@@ -55,8 +54,8 @@ pub returns-in-Err-clause-walks : goal.returns-in-Err-clause-walks
 returns-in-Err-clause-walks g c =
     let system = c.args.system.now in
     let is = number_at system.instant_order _ c.loop-k.k (record { 0 = 0 }) c.as_slice-order.ensures c.loop-k-test.true in
-    let turn = takes_by system (is_due_at c.args.schedule.now c.args.t) c.args.is_first _ c.is_due-ticks.result
-    (due_is system c.args.t c.args.is_first c.args.schedule.now c.requires.stands _ (place_within system c.args.t c.args.is_first c.args.schedule.now c.requires.stands c.requires.sound c.loop-k.k _ is) c.is_due-ticks.result c.is_due-ticks.ensures)
+    let turn = takes_by system (is_due_at c.args.schedule.now c.args.t) c.args.is_first _ c.due-ticks.result
+    (due_is system c.args.t c.args.is_first c.args.schedule.now c.requires.stands _ (place_within system c.args.t c.args.is_first c.args.schedule.now c.requires.stands c.requires.sound c.loop-k.k _ is) c.due-ticks.result c.due-ticks.ensures)
     c.loop-k.values c.take.new.values (map (λ s. instance_in g.L.Peer.view s) c.loop-k.slots) (map (λ s. instance_in g.L.Peer.view s) c.take.new.slots) _ c.in-Err.ensures.turn in
     walked_until (λ q. q < length system.ports) (Needs system) system (in_instant (is_due_at c.args.schedule.now c.args.t) c.args.is_first) (about_instant system (is_due_at c.args.schedule.now c.args.t) c.args.is_first) c.args.values.now (numbers system.instant_order) c.requires.sound.instant_order c.requires.values
     (map (λ s. instance_in g.L.Peer.view s) c.args.slots.now) (map (λ s. instance_in g.L.Peer.view s) c.loop-k.slots) c.loop-k.invariant.log c.loop-k.invariant.told
@@ -66,8 +65,8 @@ pub returns-in-Err-clause-fitting : goal.returns-in-Err-clause-fitting
 returns-in-Err-clause-fitting g c =
     let system = c.args.system.now in
     let is = number_at system.instant_order _ c.loop-k.k (record { 0 = 0 }) c.as_slice-order.ensures c.loop-k-test.true in
-    let turn = takes_by system (is_due_at c.args.schedule.now c.args.t) c.args.is_first _ c.is_due-ticks.result
-    (due_is system c.args.t c.args.is_first c.args.schedule.now c.requires.stands _ (place_within system c.args.t c.args.is_first c.args.schedule.now c.requires.stands c.requires.sound c.loop-k.k _ is) c.is_due-ticks.result c.is_due-ticks.ensures)
+    let turn = takes_by system (is_due_at c.args.schedule.now c.args.t) c.args.is_first _ c.due-ticks.result
+    (due_is system c.args.t c.args.is_first c.args.schedule.now c.requires.stands _ (place_within system c.args.t c.args.is_first c.args.schedule.now c.requires.stands c.requires.sound c.loop-k.k _ is) c.due-ticks.result c.due-ticks.ensures)
     c.loop-k.values c.take.new.values (map (λ s. instance_in g.L.Peer.view s) c.loop-k.slots) (map (λ s. instance_in g.L.Peer.view s) c.take.new.slots) _ c.in-Err.ensures.turn in
     fits_until system c.requires.sound (is_due_at c.args.schedule.now c.args.t) c.args.is_first c.args.values.now c.requires.values c.requires.fitting
     (map (λ s. instance_in g.L.Peer.view s) c.args.slots.now) (map (λ s. instance_in g.L.Peer.view s) c.loop-k.slots) c.requires.shapes (all_instances (λ s. instance_in g.L.Peer.view s) (λ (x : Instance). BeginsInstant x.view) c.args.slots.now c.requires.begins)
@@ -77,8 +76,8 @@ pub loop-k-preserved : goal.loop-k-preserved
 loop-k-preserved g c =
     let system = c.args.system.now in
     let is = number_at system.instant_order _ c.loop-k.k (record { 0 = 0 }) c.as_slice-order.ensures c.loop-k-test.true in
-    let turn = takes_by system (is_due_at c.args.schedule.now c.args.t) c.args.is_first _ c.is_due-ticks.result
-    (due_is system c.args.t c.args.is_first c.args.schedule.now c.requires.stands _ (place_within system c.args.t c.args.is_first c.args.schedule.now c.requires.stands c.requires.sound c.loop-k.k _ is) c.is_due-ticks.result c.is_due-ticks.ensures)
+    let turn = takes_by system (is_due_at c.args.schedule.now c.args.t) c.args.is_first _ c.due-ticks.result
+    (due_is system c.args.t c.args.is_first c.args.schedule.now c.requires.stands _ (place_within system c.args.t c.args.is_first c.args.schedule.now c.requires.stands c.requires.sound c.loop-k.k _ is) c.due-ticks.result c.due-ticks.ensures)
     c.loop-k.values c.take.new.values (map (λ s. instance_in g.L.Peer.view s) c.loop-k.slots) (map (λ s. instance_in g.L.Peer.view s) c.take.new.slots) _ c.in-Ok.ensures.turn in
     record {
       live = c.in-Ok.ensures.live;
@@ -123,14 +122,14 @@ returns-clause-due g c = are_ticks c.args.system.now c.args.t c.args.is_first c.
 pub returns-in-Err-clause-due : goal.returns-in-Err-clause-due
 returns-in-Err-clause-due g c = are_ticks c.args.system.now c.args.t c.args.is_first c.args.schedule.now c.requires.stands
 
-pub is_due-ticks-requires-clause-place : goal.is_due-ticks-requires-clause-place
-is_due-ticks-requires-clause-place g c =
+pub due-ticks-requires-clause-clock : goal.due-ticks-requires-clause-clock
+due-ticks-requires-clause-clock g c =
     let system = c.args.system.now in
     let is = number_at system.instant_order _ c.loop-k.k (record { 0 = 0 }) c.as_slice-order.ensures c.loop-k-test.true in
     place_within system c.args.t c.args.is_first c.args.schedule.now c.requires.stands c.requires.sound c.loop-k.k _ is
 
-pub is_due-ticks-requires-clause-none_below : goal.is_due-ticks-requires-clause-none_below
-is_due-ticks-requires-clause-none_below g c = none_below c.args.system.now c.args.t c.args.is_first c.args.schedule.now c.requires.stands
+pub due-ticks-requires-clause-none_below : goal.due-ticks-requires-clause-none_below
+due-ticks-requires-clause-none_below g c = none_below c.args.system.now c.args.t c.args.is_first c.args.schedule.now c.requires.stands
 
 pub take-requires-clause-clocks : goal.take-requires-clause-clocks
 take-requires-clause-clocks g c κs lives = clocks_placed c.args.system.now c.requires.sound

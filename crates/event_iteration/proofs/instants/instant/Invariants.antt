@@ -17,6 +17,3 @@ invariant-loop-k g l =
       told : Told log (instances view l.fn.slots) (instances view l.slots);
       walked : Walked l.system (in_instant (is_due_at l.schedule l.t) l.is_first) l.fn.values (take l.k (numbers l.system.instant_order)) l.values log;
     }
-
-abbrev pub ghosts-is_due : goal.ghosts-is_due
-ghosts-is_due g a = record { name = a.blank.name; parts = a.blank.parts }

@@ -13,8 +13,8 @@ pub returns-then-not-is_time_clock-clause-armed : goal.returns-then-not-is_time_
 returns-then-not-is_time_clock-clause-armed c =
     (goes_else c.args.schedule.now c.args.role c.args.per_second c.args.t c.args.p c.args.value c.args.interval c.requires.place (sym c.is_time_clock.ensures ∙ c.if-not-is_time_clock.true)).1
 
-pub tick_if-requires-clause-next : goal.tick_if-requires-clause-next
-tick_if-requires-clause-next c active =
+pub tick_if-requires : goal.tick_if-requires
+tick_if-requires c active =
     ticks_next c.args.schedule.now c.args.role c.args.per_second c.args.t c.args.p c.args.value c.args.interval c.requires.place (sym c.is_time_clock.ensures ∙ c.if-not-is_time_clock.false) (sym c.is_active.ensures ∙ active)
 
 pub returns-then-not-counts_down-clause-goes : goal.returns-then-not-counts_down-clause-goes
@@ -27,8 +27,8 @@ returns-then-not-counts_down-clause-armed c =
     (goes_periodic c.args.schedule.now c.args.role c.args.per_second c.args.t c.args.p c.args.value c.args.interval c.requires.place (sym c.is_time_clock.ensures ∙ c.if-not-is_time_clock.false)
     c.tick_if.new.schedule (λ place is. c.tick_if.ensures place is ∙ ap (λ b. with_clock c.args.schedule.now c.args.p (ticked_if b place)) c.is_active.ensures) (sym c.counts_down.ensures ∙ c.if-not-counts_down.true)).1
 
-pub rearm-requires-clause-countdown : goal.rearm-requires-clause-countdown
-rearm-requires-clause-countdown c =
+pub rearm-requires : goal.rearm-requires
+rearm-requires c =
     counts c.args.schedule.now c.args.role c.args.per_second c.args.t c.args.p c.args.value c.args.interval c.requires.place (sym c.is_time_clock.ensures ∙ c.if-not-is_time_clock.false)
     c.tick_if.new.schedule (λ place is. c.tick_if.ensures place is ∙ ap (λ b. with_clock c.args.schedule.now c.args.p (ticked_if b place)) c.is_active.ensures) (countdown_role c.args.role (sym c.counts_down.ensures ∙ c.if-not-counts_down.false))
 

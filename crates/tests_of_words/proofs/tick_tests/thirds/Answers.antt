@@ -26,11 +26,11 @@ later k near =
 pub due-requires-in-loop-k-clause-clock : goal.due-requires-in-loop-k-clause-clock
 due-requires-in-loop-k-clause-clock g c =
     let P : Timetable → Type 0 = λ table. 0 < length table.clocks in
-    subst P (sym (goes _ _ c.loop-k.k-counter c.loop-k.invariant c.ticked.ensures.ticked)) (omega arith)
+    subst P (sym (goes _ _ c.loop-k.k-counter c.loop-k.invariant c.ticked.ensures)) (omega arith)
 
 pub due-requires-in-loop-k-clause-none_below : goal.due-requires-in-loop-k-clause-none_below
 due-requires-in-loop-k-clause-none_below g c =
-    none_below _ 0 4611686018427387904 (333 * c.loop-k.k-counter) (Periodic 333 0 (c.loop-k.k-counter + 1) ∷ []) (goes _ _ c.loop-k.k-counter c.loop-k.invariant c.ticked.ensures.ticked) (later c.loop-k.k-counter c.loop-k-test.true)
+    none_below _ 0 4611686018427387904 (333 * c.loop-k.k-counter) (Periodic 333 0 (c.loop-k.k-counter + 1) ∷ []) (goes _ _ c.loop-k.k-counter c.loop-k.invariant c.ticked.ensures) (later c.loop-k.k-counter c.loop-k-test.true)
 
 pub loop-k-preserved : goal.loop-k-preserved
-loop-k-preserved g c = goes _ _ c.loop-k.k-counter c.loop-k.invariant c.ticked.ensures.ticked
+loop-k-preserved g c = goes _ _ c.loop-k.k-counter c.loop-k.invariant c.ticked.ensures
