@@ -1,11 +1,11 @@
 /*
- * A counter's host that goes wrong: `goes_wrong DIR R`, with HOW and K in its environment.
+ * A counter's host that goes wrong: `goes_wrong DIR R`, with HOW, K and, where it is told below, PLACE in its environment.
  *
  *     HOW=dies                  it is killed at its K-th call
  *     HOW=hangs_up              it closes its output at its K-th call, and goes on
- *     HOW=is_short              23 of the 24 bytes of its K-th reply, then it ends
+ *     HOW=is_short              the first PLACE bytes of its K-th reply, then it ends
  *     HOW=is_of_another_kind    its K-th reply is of the kind that follows the call's
- *     HOW=has_byte_3            byte 3 of its K-th reply is 1
+ *     HOW=has_byte              byte PLACE of its K-th reply is 1
  *     HOW=closes_its_input      it closes its input at its K-th call, answers it, and goes on
  *     HOW=hangs                 it doesn't answer its K-th call, and goes on, as one that computes without end
  *     HOW=ignores_its_end       it goes on at the end of its input
@@ -69,9 +69,12 @@ static void go_on(void)
 
 int main(int count, char **words)
 {
-    const char *how = getenv("HOW"), *number = getenv("K"), *path = getenv("TOLD");
+    const char *how = getenv("HOW"), *number = getenv("K"), *path = getenv("TOLD"), *place = getenv("PLACE");
     FILE *told = path != NULL ? fopen(path, "a") : NULL;
     if (count != 3 || words[1] == NULL || how == NULL || number == NULL || told == NULL)
+        return 2;
+    size_t at = place != NULL ? (size_t)strtoul(place, NULL, 10) : 0;
+    if (at >= FRAME)
         return 2;
     fprintf(told, "%ld\n", (long)getpid());
     fflush(told);
@@ -109,14 +112,14 @@ int main(int count, char **words)
             close(STDOUT_FILENO);
             go_on();
         } else if (strcmp(how, "is_short") == 0) {
-            send_bytes(reply, FRAME - 1);
+            send_bytes(reply, at);
             return 0;
         } else if (strcmp(how, "is_of_another_kind") == 0) {
             memset(reply, 0, FRAME);
             reply[0] = (unsigned char)(call[0] % KINDS + 1);
             send_bytes(reply, FRAME);
-        } else if (strcmp(how, "has_byte_3") == 0) {
-            reply[3] = 1;
+        } else if (strcmp(how, "has_byte") == 0) {
+            reply[at] = 1;
             send_bytes(reply, FRAME);
         } else if (strcmp(how, "closes_its_input") == 0) {
             close(STDIN_FILENO);

@@ -53,6 +53,7 @@ impl Bench {
     ) -> Result<BuiltIn, AllocError>
         ensures fresh { IfOk result (λ b. IsStarted host.now name.now directory.now shape.now
             (built_in_view b)) }
+        ensures model { IfOk result (λ b. b.model ≡ model) }
         ensures talk { IfOk result (λ b. option_map (λ t. t.room) b.book.talk ≡ self.now.room) }
     {
         let talk = make_talk(alloc, self.room)?;
@@ -78,7 +79,7 @@ impl Spawner for Bench {
     ghost use Rattle.std.specs.Prelude.{map, OnOk, OnErr, IsErrOf, true};
     ghost use Rattle.fmu_peer.specs.Start.{IsStarted, NotesStart, AnswersUnknown};
     ghost use Rattle.fmu_peer.specs.declared.spawner.StartFault.TheVariants.{Failed, Memory};
-    ghost use Rattle.bench_fmus.specs.Models.{is_model};
+    ghost use Rattle.bench_fmus.specs.Models.{is_model, model_named};
     ghost use Rattle.bench_fmus.specs.BuiltInView.{built_in_view, fewer_views};
     ghost use Rattle.bench_fmus.specs.Spawners.{bench_view};
 
@@ -98,6 +99,7 @@ impl Spawner for Bench {
         requires token { length shape.now.token ≤ 2 ^ 24 }
         ensures fresh { IfOk result (λ b. IsStarted host.now name.now directory.now shape.now
             (built_in_view b)) }
+        ensures model { IfOk result (λ b. model_named shape.now.identifier ≡ Some b.model) }
         ensures talk { IfOk result (λ b. option_map (λ t. t.room) b.book.talk ≡ self.old.room) }
         ensures room { self.new.room ≡ self.old.room }
         ensures failing { self.new.plan.failing ≡ self.old.plan.failing }

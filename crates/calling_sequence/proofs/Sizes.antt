@@ -11,7 +11,7 @@ use Rattle.system_model.specs.declared.plan.Plan.{Plan}
 use Rattle.system_model.specs.declared.system.Component.{Component}
 use Rattle.system_model.specs.declared.system.System.{System}
 use Rattle.calling_sequence.specs.Calls.{first_unfit}
-use Rattle.calling_sequence.specs.Place.{CanStep, IsDeparting, TakesSize}
+use Rattle.calling_sequence.specs.Place.{CanStep, IsDeparting, TakesSize, no_one}
 use Rattle.slot_calls.specs.Stage.{shapes, shapes_of}
 use Rattle.slot_calls.proofs.CallerLemmas.{map_at, shape_of}
 
@@ -51,7 +51,7 @@ module _ {A : Type 0} (f : A → Instance) (slots : List A) (system : System) (p
   same_length =
       sym (length-map (map f slots) shape_of ∙ length-map slots f) ∙ ap length fits ∙ length-map system.components shape_in
 
-  pub can_step : (t b : ℕ) → first_unfit system plan (b - t) ≡ None → All (λ (a : A). IsDeparting t plan.stop plan.step (f a).view) slots → All (λ (a : A). CanStep t b plan.stop plan.step (f a).view) slots
+  pub can_step : (t b : ℕ) → first_unfit system plan (b - t) ≡ None → All (λ (a : A). IsDeparting no_one t plan.stop plan.step (f a).view) slots → All (λ (a : A). CanStep no_one t b plan.stop plan.step (f a).view) slots
   can_step t b fit there = λ k d w.
       let w_there : k < length system.components = let l = same_length in omega (arith, l, w) in
       let c = there_is system.components k w_there in
@@ -63,4 +63,5 @@ module _ {A : Type 0} (f : A → Instance) (slots : List A) (system : System) (p
       record {
         departing = there k d w;
         takes = subst (TakesSize plan.step (b - t)) (sym (shape_is ∙ ap shape_in c.1)) takes;
+        of_point = ap (λ (full : Bool). not full || x.view.phase.slot.point == x.view.phase.point) (there k d w).there.full;
       }

@@ -1,5 +1,5 @@
 -- The run of a system by its plan, for any replies, part by part (FMI 3.0, 4.2.1: the calling sequence of Co-Simulation).
-use Rattle.std.specs.Prelude.{◌≡◌, ℕ, suc, ℤ, ◌==◌, ◌||◌, Bool, true, false, List, [], ◌∷◌, ◌++◌, Option, length}
+use Rattle.std.specs.Prelude.{◌≡◌, ℕ, suc, ℤ, ◌==◌, ◌||◌, Bool, true, false, List, [], ◌∷◌, ◌++◌, All, Option, length}
 use Rattle.system_model.specs.declared.bound.Bound.{Bound}
 use Rattle.system_model.specs.declared.plan.Plan.{Plan}
 use Rattle.system_model.specs.declared.system.System.{System}
@@ -14,6 +14,7 @@ use Rattle.event_iteration.specs.Settings.{before_step, port_order}
 use Rattle.event_iteration.specs.Updates.{updated_by, updating}
 use Rattle.slot_calls.specs.Carried.{any_asks_to_end}
 use Rattle.slot_calls.specs.Log.{Sent}
+use Rattle.slot_calls.specs.SavedStates.{EndsAt}
 use Rattle.slot_calls.specs.Stage.{shapes_of}
 use Rattle.calling_sequence.specs.Calls.{IsStep, binding, entering, entering_event, entering_step, leaving, stepping}
 use Rattle.calling_sequence.specs.Parts.{Calls, Does, Part, Round, Walk}
@@ -81,6 +82,10 @@ pub record Begins (system : System) (plan : Plan) (s : Spot) (ticks : ℕ → Bo
   pub known : length s.values ≡ length system.ports
   pub are_ticks : AreTicks system plan.start s.timers s.t s.n ticks
 
+-- each of the answers says that its step ended there
+abbrev pub AllEndAt : ℕ → List Sent → Type 0
+AllEndAt t log = All (λ (s : Sent). EndsAt t s.exchange.result) log
+
 -- where a part's good answers lead: the values are those that a walk found, and the log is the part's
 pub data LeadsTo (system : System) (plan : Plan) : Place → List (Option ℤ) → List Sent → Place →
     Type 0 where
@@ -123,7 +128,7 @@ pub data LeadsTo (system : System) (plan : Plan) : Place → List (Option ℤ) �
   Sets : (w : Way) (values : List (Option ℤ)) (log : List Sent) →
       LeadsTo system plan (Left w) values log (Departing w)
   Steps : (w : Way) (values : List (Option ℤ)) (log : List Sent) (asked : Bool) →
-      asked ≡ any_asks_to_end log →
+      asked ≡ any_asks_to_end log → AllEndAt w.to log →
       LeadsTo system plan (Departing w) values log
       (Stepped (record w.s { t = w.to; n = 0 }) asked)
   Arrives : (s : Spot) (values : List (Option ℤ)) (log : List Sent) (ticks : ℕ → Bool) →
@@ -133,18 +138,7 @@ pub data LeadsTo (system : System) (plan : Plan) : Place → List (Option ℤ) �
 -- the instant that stands behind the part which leads there
 abbrev pub shown : Place → List Instant
 shown (Seen s again asked) = record { t = s.t; n = s.n; values = s.values } ∷ []
-shown Made = []
-shown Configured = []
-shown Entered = []
-shown Found = []
-shown (Timed timers) = []
-shown (Before s ticks) = []
-shown (Read s) = []
-shown (Rearmed s) = []
-shown (Leaving w) = []
-shown (Left w) = []
-shown (Departing w) = []
-shown (Stepped s asked) = []
+shown p = []
 
 -- by this log a run came to a place, behind these instants
 pub data Course (system : System) (bound : Bound) (plan : Plan) : Place → List Sent →

@@ -5,7 +5,7 @@ ghost use Rattle.slot_calls.specs.Slots.{instances};
 ghost use Rattle.calling_sequence.specs.Calls.{IsStep};
 ghost use Rattle.calling_sequence.specs.Course.{Before, Begins, Departing, Leaving, Left, Seen, Spot, Stepped, Way};
 ghost use Rattle.calling_sequence.specs.Goes.{Goes, spot};
-ghost use Rattle.calling_sequence.specs.Place.{CanStep, IsAt, IsDeparting, IsSettled, IsStepping};
+ghost use Rattle.calling_sequence.specs.Place.{CanStep, IsAt, IsDeparting, IsSettled, IsStepping, no_one};
 ghost use Rattle.calling_sequence.specs.Ready.{AreTimed, Ready};
 
 use crate::{BadAnswer, Buffers, Experiment};
@@ -28,7 +28,7 @@ pub(crate) fn cross<L: Peer>(
     requires timed { AreTimed experiment.now t (n + 1) false buffers.now }
     requires step { IsStep experiment.now.system experiment.now.plan
         (timers_in buffers.now.schedule) t to }
-    ensures ready { OnOk result (Ready L.view experiment.now (IsStepping to) slots.new) }
+    ensures ready { OnOk result (Ready L.view experiment.now (IsStepping no_one to) slots.new) }
     ensures goes { (count : ℕ) → Goes experiment.now (Seen (spot t n buffers.now) false false)
         (λ asked. Stepped (spot to 0 buffers.now) asked) (instances L.view slots.old)
         (instances L.view slots.new) count count result }
@@ -51,7 +51,7 @@ fn enter_step<L: Peer>(
     t: u64,
 ) -> Result<(), BadAnswer>
     requires { Ready L.view experiment.now (IsSettled t) slots.old }
-    ensures ready { OnOk result (Ready L.view experiment.now (IsStepping t) slots.new) }
+    ensures ready { OnOk result (Ready L.view experiment.now (IsStepping no_one t) slots.new) }
     ensures goes { (w : Way) (count : ℕ) → Goes experiment.now (Leaving w) (λ x. Left w)
         (instances L.view slots.old) (instances L.view slots.new) count count result }
 {
@@ -65,10 +65,10 @@ fn set<L: Peer>(
     buffers: &Buffers,
     t: u64,
 ) -> Result<(), BadAnswer>
-    requires ready { Ready L.view experiment.now (IsStepping t) slots.old }
+    requires ready { Ready L.view experiment.now (IsStepping no_one t) slots.old }
     requires places { length buffers.now.values.items ≡ length experiment.now.system.ports }
     requires fitting { AreFitting experiment.now.system buffers.now.values.items }
-    ensures ready { OnOk result (Ready L.view experiment.now (IsDeparting t) slots.new) }
+    ensures ready { OnOk result (Ready L.view experiment.now (IsDeparting no_one t) slots.new) }
     ensures goes { (s : Spot) (to count : ℕ) →
         Goes experiment.now (Left (record {
           s = record s { values = buffers.now.values.items };
@@ -87,10 +87,10 @@ fn step<L: Peer>(
     t: u64,
     to: u64,
 ) -> Result<bool, BadAnswer>
-    requires ready { Ready L.view experiment.now (CanStep t to) slots.old }
+    requires ready { Ready L.view experiment.now (CanStep no_one t to) slots.old }
     requires later { t < to }
     requires within { to ≤ experiment.now.plan.stop }
-    ensures ready { OnOk result (Ready L.view experiment.now (IsStepping to) slots.new) }
+    ensures ready { OnOk result (Ready L.view experiment.now (IsStepping no_one to) slots.new) }
     ensures goes { (s : Spot) (count : ℕ) →
         Goes experiment.now (Departing (record { s = record s { t = t }; to = to }))
         (λ asked. Stepped (record s { t = to; n = 0 }) asked) (instances L.view slots.old)
@@ -111,7 +111,7 @@ pub(crate) fn enter_event<L: Peer>(
     experiment: &Experiment,
     t: u64,
 ) -> Result<(), BadAnswer>
-    requires { Ready L.view experiment.now (IsStepping t) slots.old }
+    requires { Ready L.view experiment.now (IsStepping no_one t) slots.old }
     ensures ready { OnOk result (Ready L.view experiment.now (IsAt t) slots.new) }
     ensures goes { (s : Spot) (ticks : ℕ → Bool) (count : ℕ) →
         Begins experiment.now.system experiment.now.plan (record s { n = 0 }) ticks →

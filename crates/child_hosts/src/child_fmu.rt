@@ -1,9 +1,16 @@
-ghost use Rattle.std.specs.Prelude.{◌≡◌, ◌≤◌, ◌^◌, IfOk, IfErr, length};
+ghost use Rattle.std.specs.Prelude.{◌≡◌, ◌↔◌, ◌≤◌, ◌^◌, IfOk, IfErr, IsTrue, length};
+ghost use Rattle.std.specs.IoError.{error_kind};
+ghost use Rattle.fmi_calls.specs.Permission.{Permitted};
+ghost use Rattle.fmi_calls.specs.declared.phase.InstanceState.TheVariants.{Gone};
+ghost use Rattle.fmu_link.specs.Exchange.{Exchanged};
+ghost use Rattle.fmu_link.specs.Piped.{line_view};
+ghost use Rattle.fmu_peer.specs.View.{Asked};
 ghost use Rattle.fmu_peer.specs.declared.spawner.StartFault.TheVariants.{Unknown};
+ghost use Rattle.child_hosts.specs.Links.{child_view, start_fault};
 
 use crate::{ChildInput, PipeWire};
 use fmi_calls::{Call, InstanceState, Phase, Reply};
-use fmu_link::{Piped, Unmade};
+use fmu_link::{Piped, Unmade, Wire};
 use fmu_peer::{Peer, PeerFault, StartFault};
 use itoa::Buffer;
 use std::alloc::Global;
@@ -11,23 +18,24 @@ use std::io::{self, ErrorKind};
 use std::process::{Child, ChildStdout, Command, Processes, Stdio, SystemProcess};
 use value_types::Shape;
 
-/// An FMU in a child process, and the process.
-#[derive(Drop)]
-pub struct ChildFmu {
-    pub peer: Piped<PipeWire<ChildStdout, ChildInput>>,
+/// The pipes to a child process and from it.
+pub type Pipes = PipeWire<ChildStdout, ChildInput>;
+
+/// An FMU behind a wire, and the child process at the wire's other end. It can't be dropped: it has to be ended.
+pub struct ChildFmu<W> {
+    pub peer: Piped<W>,
     pub child: Child,
 }
 
 // A child process with the ends of its pipes.
-#[derive(Drop)]
 struct Started {
-    wire: PipeWire<ChildStdout, ChildInput>,
+    wire: Pipes,
     child: Child,
 }
 
-impl ChildFmu {
+impl ChildFmu<Pipes> {
     ghost use Rattle.fmu_peer.specs.Start.{IsStarted};
-    ghost use Rattle.child_hosts.specs.Links.{child_view};
+    ghost use Rattle.child_hosts.specs.Links.{pipes_view};
 
     /// Starts a program with two words, a directory and how many counts a second has in decimal, as the host of an FMU
     /// before its first call. Its standard input and output are the FMU's wire.
@@ -38,11 +46,11 @@ impl ChildFmu {
         name: &str,
         directory: &str,
         shape: &Shape,
-    ) -> Result<ChildFmu, StartFault>
+    ) -> Result<ChildFmu<Pipes>, StartFault>
         requires name { (1 ≤ length name.now) × (length name.now ≤ 2 ^ 24) }
         requires token { length shape.now.token ≤ 2 ^ 24 }
         ensures fresh { IfOk result (λ c. IsStarted program.now name.now directory.now shape.now
-            (child_view c)) }
+            (child_view pipes_view c)) }
         ensures known { IfErr result (λ e. e ≡ Unknown → ⊥) }
     {
         let Started { wire, child } = match start_program(
@@ -64,11 +72,20 @@ impl ChildFmu {
             }
         }
     }
+}
 
-    /// Closes the child's pipes, and waits until it has ended; where its FMU wasn't freed it is killed first.
+impl<W: Wire + Send + Drop> ChildFmu<W> {
+    /// Whether the FMU was freed, so that its child ends by itself and is waited for.
+    pub fn is_freed(&self) -> bool
+        ensures { IsTrue result ↔ (self.now.peer.instance.phase.state ≡ Gone) }
+    {
+        self.peer.phase().state == InstanceState::Gone
+    }
+
+    /// Closes the wire, and waits until the child has ended; where its FMU wasn't freed it is killed first.
     pub fn end(self) {
+        let is_freed = self.is_freed();
         let ChildFmu { peer, child } = self;
-        let is_freed = peer.phase().state == InstanceState::Gone;
         drop(peer.into_wire());
         end_child(child, is_freed);
     }
@@ -127,7 +144,7 @@ fn start_program<R: Processes<Started = SystemProcess>>(
 }
 
 fn start_fault(error: &io::Error) -> StartFault
-    ensures { result ≡ Unknown → ⊥ }
+    ensures { result ≡ start_fault (error_kind error.now) }
 {
     match error.kind() {
         ErrorKind::OutOfMemory => StartFault::Memory,
@@ -135,10 +152,8 @@ fn start_fault(error: &io::Error) -> StartFault
     }
 }
 
-impl Peer for ChildFmu {
-    ghost use Rattle.child_hosts.specs.Links.{child_view};
-
-    ghost view = { child_view };
+impl<W: Wire + Send> Peer for ChildFmu<W> {
+    ghost view = { child_view W.view };
 
     ghost machine = { λ c. tt };
 
@@ -157,7 +172,16 @@ impl Peer for ChildFmu {
     }
 
     #[inline(never)]
-    fn call(&mut self, call: &Call) -> Result<Reply, PeerFault> {
+    fn call(&mut self, call: &Call) -> Result<Reply, PeerFault>
+        requires { Permitted self.old.peer.instance.shape self.old.peer.instance.phase call.now }
+        ensures asked { Asked (child_view W.view self.old) call.now result
+            (child_view W.view self.new) }
+
+        // The child is asked over the wire, and what comes is its reply.
+        ensures exchanged { Exchanged call.now self.old.peer.instance.name
+            self.old.peer.instance.shape.token (line_view W.view self.old.peer)
+            (line_view W.view self.new.peer) result }
+    {
         self.peer.call(call)
     }
 }

@@ -1,11 +1,11 @@
-ghost use Rattle.std.specs.Prelude.{◌≡◌, ◌≤◌, ◌^◌, [], IfErr, IfOk, length};
+ghost use Rattle.std.specs.Prelude.{◌≡◌, ◌≤◌, ◌^◌, [], IfErr, IfOk, None, length};
 ghost use Rattle.bench_fmus.specs.BuiltInView.{built_in_view};
 ghost use Rattle.bench_fmus.specs.Models.{is_model};
-ghost use Rattle.child_hosts.specs.Links.{IsOfHost, is_known, link_view};
+ghost use Rattle.child_hosts.specs.Links.{IsOfHost, host_link_view, is_known};
 ghost use Rattle.command_line.specs.Line.{built_in_host};
 ghost use Rattle.fmu_peer.specs.Start.{AnswersUnknown, IsStarted};
 
-use crate::{ChildFmu, HostLink};
+use crate::{ChildFmu, HostLink, Pipes};
 use bench_fmus::{BuiltIn, Model, Origin, Retired};
 use command_line::BUILT_IN_HOST;
 use fmu_peer::{Spawner, StartFault};
@@ -20,7 +20,7 @@ use value_types::Shape;
 pub struct Hosts<'a, R> {
     pub processes: &'a R,
     /// what those told that were taken back
-    pub retired: Retired<Snapshot<HostLink>>,
+    pub retired: Retired<Snapshot<HostLink<Pipes>>>,
     pub faults: u64,
 }
 
@@ -39,7 +39,7 @@ impl<'a, R: Processes<Started = SystemProcess>> Hosts<'a, R> {
 }
 
 impl<'a, R: Processes<Started = SystemProcess>> Spawner for Hosts<'a, R> {
-    type Link = HostLink;
+    type Link = HostLink<Pipes>;
 
     ghost use Rattle.fmu_peer.specs.Start.{NotesStart};
     ghost use Rattle.child_hosts.specs.Links.{hosts_view};
@@ -56,11 +56,11 @@ impl<'a, R: Processes<Started = SystemProcess>> Spawner for Hosts<'a, R> {
         name: &str,
         directory: &str,
         shape: &Shape,
-    ) -> Result<HostLink, StartFault>
+    ) -> Result<HostLink<Pipes>, StartFault>
         requires name { (1 ≤ length name.now) × (length name.now ≤ 2 ^ 24) }
         requires token { length shape.now.token ≤ 2 ^ 24 }
         ensures fresh { IfOk result (λ link. IsStarted host.now name.now directory.now shape.now
-            (link_view link)) }
+            (host_link_view link)) }
         ensures unknown { AnswersUnknown (is_known host.now shape.now.identifier) result }
         ensures noted { NotesStart (hosts_view self.old) (hosts_view self.new) result }
         ensures host { IfOk result (λ link. IsOfHost host.now shape.now link) }
@@ -74,7 +74,7 @@ impl<'a, R: Processes<Started = SystemProcess>> Spawner for Hosts<'a, R> {
         }
     }
 
-    fn retire(&mut self, link: HostLink) {
+    fn retire(&mut self, link: HostLink<Pipes>) {
         self.retired.push(Snapshot::of(&link));
         link.end();
     }
@@ -86,7 +86,7 @@ impl<'a, R> Hosts<'a, R> {
     ghost use Rattle.child_hosts.specs.Links.{hosts_view};
 
     // Counts a peer that was started, and makes the room to take it back.
-    fn count(&mut self, link: HostLink) -> Result<HostLink, StartFault>
+    fn count(&mut self, link: HostLink<Pipes>) -> Result<HostLink<Pipes>, StartFault>
         ensures link { IfOk result (λ same. same ≡ link) }
         ensures memory { IfErr result (λ e. e ≡ Memory) }
         ensures noted { NotesStart (hosts_view self.old) (hosts_view self.new) result }
@@ -119,11 +119,11 @@ fn start_link<R: Processes<Started = SystemProcess>>(
     name: &str,
     directory: &str,
     shape: &Shape,
-) -> Result<HostLink, StartFault>
+) -> Result<HostLink<Pipes>, StartFault>
     requires name { (1 ≤ length name.now) × (length name.now ≤ 2 ^ 24) }
     requires token { length shape.now.token ≤ 2 ^ 24 }
     ensures fresh { IfOk result (λ l. IsStarted host.now name.now directory.now shape.now
-        (link_view l)) }
+        (host_link_view l)) }
     ensures unknown { AnswersUnknown (is_known host.now shape.now.identifier) result }
     ensures host { IfOk result (λ l. IsOfHost host.now shape.now l) }
 {
@@ -147,10 +147,10 @@ fn start_built_in(
     name: &str,
     directory: &str,
     shape: &Shape,
-) -> Result<HostLink, StartFault>
+) -> Result<HostLink<Pipes>, StartFault>
     requires { host.now ≡ built_in_host }
     ensures fresh { IfOk result (λ l. IsStarted host.now name.now directory.now shape.now
-        (link_view l)) }
+        (host_link_view l)) }
     ensures unknown { AnswersUnknown (is_model shape.now.identifier) result }
     ensures host { IfOk result (λ l. IsOfHost host.now shape.now l) }
 {
@@ -183,6 +183,7 @@ fn make_built_in(
     ensures fresh { IfOk result (λ b. IsStarted host.now name.now directory.now shape.now
         (built_in_view b)) }
     ensures model { IfOk result (λ b. b.model ≡ model) }
+    ensures talk { IfOk result (λ b. b.book.talk ≡ None) }
 {
     let origin = Origin::from_texts(alloc, host, name, directory)?;
     let peer = BuiltIn::new(alloc, model, origin, shape, None)?;

@@ -6,7 +6,7 @@ mod hosts;
 mod link;
 mod pipe_wire;
 
-pub use child_fmu::ChildFmu;
+pub use child_fmu::{ChildFmu, Pipes};
 pub use hosts::Hosts;
 pub use link::HostLink;
 pub use pipe_wire::{ChildInput, PipeWire, SteadyRead};

@@ -1,19 +1,24 @@
+ghost use Rattle.std.specs.Prelude.{IsOk};
+ghost use Rattle.fmi_calls.specs.Permission.{Permitted};
+ghost use Rattle.fmu_peer.specs.View.{Asked};
+ghost use Rattle.child_hosts.specs.Links.{AnswersBy, KeepsNoTalk, link_view};
+
 use crate::ChildFmu;
 use bench_fmus::BuiltIn;
 use fmi_calls::{Call, Phase, Reply};
+use fmu_link::Wire;
 use fmu_peer::{Peer, PeerFault};
 use std::alloc::Global;
 use value_types::Shape;
 
-/// An FMU that the program runs itself, or one in a child process. It stands in a box, since each call of the typed states
-/// of an FMU moves it.
-#[derive(Drop)]
-pub enum HostLink {
+/// An FMU that the program runs itself, or one in a child process behind a wire. It stands in a box, since each call of the
+/// typed states of an FMU moves it. It can't be dropped: it has to be ended.
+pub enum HostLink<W> {
     BuiltIn(Box<BuiltIn, Global>),
-    Child(Box<ChildFmu, Global>),
+    Child(Box<ChildFmu<W>, Global>),
 }
 
-impl HostLink {
+impl<W: Wire + Send + Drop> HostLink<W> {
     /// Ends its process, where it has one.
     pub fn end(self) {
         match self {
@@ -23,19 +28,18 @@ impl HostLink {
     }
 }
 
-impl Peer for HostLink {
-    ghost use Rattle.child_hosts.specs.Links.{link_view};
+impl<W: Wire + Send> Peer for HostLink<W> {
     ghost use Rattle.child_hosts.specs.LinkLaws.{ignores_slot, is_in_phase, is_lawful, is_machine};
 
-    ghost view = { link_view };
+    ghost view = { link_view W.view };
 
-    ghost machine = { is_machine };
+    ghost machine = { is_machine W.view };
 
-    ghost in_phase = { is_in_phase };
+    ghost in_phase = { is_in_phase W.view };
 
-    ghost ignores_slot = { ignores_slot };
+    ghost ignores_slot = { ignores_slot W.view };
 
-    ghost lawful = { is_lawful };
+    ghost lawful = { is_lawful W.view };
 
     fn shape(&self) -> &Shape {
         match self {
@@ -51,7 +55,16 @@ impl Peer for HostLink {
         }
     }
 
-    fn call(&mut self, call: &Call) -> Result<Reply, PeerFault> {
+    fn call(&mut self, call: &Call) -> Result<Reply, PeerFault>
+        requires { Permitted (link_view W.view self.old).fixed.shape
+            (link_view W.view self.old).phase call.now }
+        ensures asked { Asked (link_view W.view self.old) call.now result
+            (link_view W.view self.new) }
+        ensures answers { AnswersBy W.view self.old call.now result self.new }
+
+        // A built-in machine that keeps no talk never fails.
+        ensures steady { KeepsNoTalk self.old → IsOk result × KeepsNoTalk self.new }
+    {
         match self {
             HostLink::BuiltIn(peer) => return peer.call(call),
             HostLink::Child(peer) => return peer.call(call),

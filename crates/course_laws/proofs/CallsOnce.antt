@@ -1,6 +1,8 @@
 -- The calls of one component along a run: each is one of a run, and none stands twice where it isn't needed.
 use Rattle.std.proofs.Common.{◌≡◌, ℕ, zero, suc, ◌-◌, ◌<◌, ◌≤◌, ◌==◌, Bool, true, false, List, [], ◌∷◌, ◌++◌, Option, Some, ℤ, refl, sym, ap, ◌∙◌, subst, append_assoc, append-nil, arith, length}
+use Rattle.std.specs.Prelude.{None, if◌then◌else◌}
 use Rattle.std.specs.List.{slice_get}
+use Rattle.std.specs.Option.{option_map_or}
 use Rattle.std.proofs.lemmas.List.Elements.{All-cons, All-nil}
 use Rattle.value_types.specs.declared.shape.Shape.{Shape}
 use Rattle.fmi_calls.specs.declared.call.Call.{Call}
@@ -29,8 +31,8 @@ use Rattle.calling_sequence.proofs.Along.{along}
 use Rattle.course_laws.specs.Laws.{AreNeeded, NoCallTwice}
 use Rattle.course_laws.specs.Runs.{Comes, Falling, Stands, Unmade}
 use Rattle.course_laws.proofs.BoundSets.{binding_new, setting_span}
-use Rattle.course_laws.proofs.Once.{IsBefore, IsSeen, IsSo, Limit, NamesNone, NamesPort, called, differ_by, differ_step, named, needed, needed_front, switched, weaker}
-use Rattle.course_laws.proofs.OwnCalls.{own_calls, own_events, own_log, own_there}
+use Rattle.course_laws.proofs.Once.{IsBefore, IsBelow, IsSeen, IsSo, Keep, Limit, NamesNone, NamesPort, differ_by, differ_step, named, needed, needed_front, open_by, Open, switched, weaker}
+use Rattle.course_laws.proofs.OwnCalls.{own_calls, own_log, own_there}
 
 -- ---- of which kinds the calls are that name no port, since the last that moved the FMU on
 
@@ -65,48 +67,52 @@ point_leaving K.EnterStep is = refl
 point_leaving kind is = is
 
 -- more kinds, and later uses
-more_seen : (l m : Limit) → ((kind : Kind) → l.kinds kind ≡ true → m.kinds kind ≡ true) → l.t ≡ m.t → l.below ≤ m.below → (c : Call) → IsSeen l c → IsSeen m c
+more_seen : (l m : Limit) → ((kind : Kind) → l.kinds kind ≡ true → m.kinds kind ≡ true) → l.t ≡ m.t → l.below ≤ m.below → Keep l m
 more_seen l m kinds same high c (NamesNone u is before) = NamesNone u (kinds _ is) (subst (λ (t : ℕ). IsBefore t c) same before)
 more_seen l m kinds same high c (NamesPort u less) = NamesPort u (omega (arith, less, high))
 
 abbrev limit : (Kind → Bool) → ℕ → ℕ → Limit
-limit kinds t below = record { kinds = kinds; t = t; below = below }
+limit kinds t below = record { kinds = kinds; t = t; below = below; kept = None }
+
+-- what of an FMU its calls go by: event mode
+record Traits : Type 0 where
+  events : Bool
 
 -- with event mode or without, behind the Updates of an instant
 abbrev below_seen : Bool → ℕ
 below_seen e = (instant_span false e).from
 
 -- at a place
-abbrev limit_at : Bool → Place → Limit
+abbrev limit_at : Traits → Place → Limit
 limit_at e Made = limit made_kinds 0 1
 limit_at e Configured = limit made_kinds 0 3
 limit_at e Entered = limit initial_kinds 0 1
 limit_at e Found = limit initial_kinds 0 3
 limit_at e (Timed timers) = limit initial_kinds 0 4
-limit_at e (Before s ticks) = limit point_kinds s.t (instant_span (s.n == 0) e).from
-limit_at e (Read s) = limit point_kinds s.t (instant_span (s.n == 0) e).below
-limit_at e (Rearmed s) = limit point_kinds s.t (interval_span e).below
-limit_at e (Seen s again asked) = limit point_kinds s.t (below_seen e)
-limit_at e (Leaving w) = limit point_kinds w.s.t (below_seen e)
-limit_at e (Left w) = limit leaving_kinds w.s.t (below_seen e)
-limit_at e (Departing w) = limit leaving_kinds w.s.t (step_span e).below
+limit_at e (Before s ticks) = limit point_kinds s.t (instant_span (s.n == 0) e.events).from
+limit_at e (Read s) = limit point_kinds s.t (instant_span (s.n == 0) e.events).below
+limit_at e (Rearmed s) = limit point_kinds s.t (interval_span e.events).below
+limit_at e (Seen s again asked) = limit point_kinds s.t (below_seen e.events)
+limit_at e (Leaving w) = limit point_kinds w.s.t (below_seen e.events)
+limit_at e (Left w) = limit leaving_kinds w.s.t (below_seen e.events)
+limit_at e (Departing w) = limit leaving_kinds w.s.t (step_span e.events).below
 limit_at e (Stepped s asked) = limit stepped_kinds s.t 1
 
 -- and behind what is sent from there
-abbrev limit_behind : Bool → Plan → Place → Limit
+abbrev limit_behind : Traits → Plan → Place → Limit
 limit_behind e plan Made = limit_at e Configured
 limit_behind e plan Configured = limit_at e Entered
 limit_behind e plan Entered = limit_at e Found
 limit_behind e plan Found = limit initial_kinds 0 4
-limit_behind e plan (Timed timers) = limit point_kinds plan.start (instant_span true e).from
+limit_behind e plan (Timed timers) = limit point_kinds plan.start (instant_span true e.events).from
 limit_behind e plan (Before s ticks) = limit_at e (Read s)
 limit_behind e plan (Read s) = limit_at e (Rearmed s)
-limit_behind e plan (Rearmed s) = limit point_kinds s.t (below_seen e)
-limit_behind e plan (Seen s again asked) = limit point_kinds s.t (below_seen e)
+limit_behind e plan (Rearmed s) = limit point_kinds s.t (below_seen e.events)
+limit_behind e plan (Seen s again asked) = limit point_kinds s.t (below_seen e.events)
 limit_behind e plan (Leaving w) = limit_at e (Left w)
 limit_behind e plan (Left w) = limit_at e (Departing w)
 limit_behind e plan (Departing w) = limit stepped_kinds w.to 1
-limit_behind e plan (Stepped s asked) = limit point_kinds s.t (instant_span true e).from
+limit_behind e plan (Stepped s asked) = limit point_kinds s.t (instant_span true e.events).from
 
 -- a step goes to a later point
 abbrev IsLater : Place → Type 0
@@ -146,7 +152,7 @@ stepped_seen true = omega arith
 stepped_seen false = omega arith
 
 -- the one at a place
-some_at : (cs : List Component) (k : ℕ) → k < length cs → (c : Component) × (slice_get cs k ≡ Some c)
+pub some_at : (cs : List Component) (k : ℕ) → k < length cs → (c : Component) × (slice_get cs k ≡ Some c)
 some_at [] k w = absurd (omega (arith, w))
 some_at (c ∷ cs) zero w = (c, refl)
 some_at (c ∷ cs) (suc k) w = some_at cs k (omega (arith, w))
@@ -154,8 +160,8 @@ some_at (c ∷ cs) (suc k) w = some_at cs k (omega (arith, w))
 -- ---- along a course
 
 module _ (system : System) (sound : IsSound system) (k : ℕ) (c : Component) (of : slice_get system.components k ≡ Some c) where
-  abbrev e : Bool
-  e = has_events_at system k
+  abbrev e : Traits
+  e = record { events = has_events_at system k }
 
   uses : UsesAre system
   uses = each_call_once system sound
@@ -173,6 +179,8 @@ module _ (system : System) (sound : IsSound system) (k : ℕ) (c : Component) (o
         runs = All-cons IsRunCall call [] refl (All-nil IsRunCall);
         once = ((λ once. All-nil _), tt);
         seen = All-cons (IsSeen (limit_at e Made)) call [] (NamesNone refl refl tt) (All-nil (IsSeen (limit_at e Made)));
+        below = (tt, tt);
+        kept = refl;
       })
 
   -- what a part adds to the calls
@@ -182,49 +190,65 @@ module _ (system : System) (sound : IsSound system) (k : ℕ) (c : Component) (o
   Adds (Walk rules before order) calls l = (log : List Sent) → WalksBy system rules before order log → IsSo l (calls ++ mine log)
 
   module _ (bound : Bound) (plan : Plan) (binds : BindsParameters system bound) where
-    -- one call to each, to which none before is equal
-    to_all : (l m : Limit) (calls : List Call) → IsSo l calls → (call : Call) → IsRunCall call → ((c : Call) → IsSeen l c → Differ c call) → moves_on call ≡ true → IsSeen m call → IsSo m (calls ++ own k (to_each (λ (shape : Shape). call) (shapes_of system)))
-    to_all l m calls so call run other moves is = subst (λ (cs : List Call). IsSo m (calls ++ cs)) (sym (own_each (λ (shape : Shape). call))) (called l m calls so call run (λ once. other) moves is)
+    -- one call to those whose shape passes a test
+    to_some : (test : Shape → Bool) (l m : Limit) (calls : List Call) → IsSo l calls → (call : Call) → IsRunCall call → (may_repeat call ≡ false → (c : Call) → IsSeen l c → Differ c call) → IsSeen m call → (moves_on call ≡ false → Keep l m) →
+        IsBelow call l.kept → (test c.shape ≡ false → Keep l m) → (if test c.shape then open_by call l.kept else l.kept) ≡ m.kept → IsSo m (calls ++ own k (to_those test (λ (shape : Shape). call) (shapes_of system)))
+    to_some test l m calls so call run other is stays below h kept =
+        subst (λ (cs : List Call). IsSo m (calls ++ cs)) (sym (own_there test (λ (shape : Shape). call) system k c of)) (switched l m calls so (test c.shape) call run other is stays below h kept)
+
+    -- to each one that moves it on
+    to_all : (l m : Limit) (calls : List Call) → IsSo l calls → (call : Call) → IsRunCall call → ((c : Call) → IsSeen l c → Differ c call) → moves_on call ≡ true → IsSeen m call → IsBelow call l.kept → open_by call l.kept ≡ m.kept →
+        IsSo m (calls ++ own k (to_each (λ (shape : Shape). call) (shapes_of system)))
+    to_all l m calls so call run other moves is below kept = to_some everyone l m calls so call run (λ once. other) is (λ none. absurd (let wrong : true ≡ false = sym moves ∙ none in cc)) below (λ none. absurd (cc)) kept
+
+    has_its : has_events_at system k ≡ c.shape.has_event_mode
+    has_its = ap (λ (o : Option Component). option_map_or (λ (x : Component). x.shape.has_event_mode) o false) of
+
+    same_open : (b : Bool) (o : Open) → (if b then o else o) ≡ o
+    same_open true o = refl
+    same_open false o = refl
 
     -- or to those with event mode
-    to_events : (l m : Limit) (calls : List Call) → IsSo l calls → (call : Call) → IsRunCall call → (may_repeat call ≡ false → (c : Call) → IsSeen l c → Differ c call) → moves_on call ≡ true → IsSeen m call → (e ≡ false → (c : Call) → IsSeen l c → IsSeen m c) →
-        IsSo m (calls ++ own k (to_those has_events (λ (shape : Shape). call) (shapes_of system)))
-    to_events l m calls so call run other moves is h = subst (λ (cs : List Call). IsSo m (calls ++ cs)) (sym (own_events call system k)) (switched l m calls so e call run other moves is h)
+    to_events : (l m : Limit) (calls : List Call) → IsSo l calls → (call : Call) → IsRunCall call → (may_repeat call ≡ false → (c : Call) → IsSeen l c → Differ c call) → moves_on call ≡ true → IsSeen m call → (e.events ≡ false → Keep l m) →
+        IsBelow call l.kept → open_by call l.kept ≡ l.kept → l.kept ≡ m.kept → IsSo m (calls ++ own k (to_those has_events (λ (shape : Shape). call) (shapes_of system)))
+    to_events l m calls so call run other moves is h below same kept =
+        to_some has_events l m calls so call run other is (λ none. absurd (let wrong : true ≡ false = sym moves ∙ none in cc)) below (λ none. h (has_its ∙ none))
+        (ap (λ (o : Open). if c.shape.has_event_mode then o else l.kept) same ∙ same_open c.shape.has_event_mode l.kept ∙ kept)
 
     adds : (p : Place) (calls : List Call) → IsLater p → IsSo (limit_at e p) calls → Adds (part_at system bound plan p) calls (limit_behind e plan p)
     adds Made calls later so = named (limit_at e Made) setting_span calls _ so (omega arith) (omega arith) (binding_new system bound k binds)
     adds Configured calls later so =
         let enter = C.EnterInitialization plan.start plan.stop in
-        to_all (limit_at e Configured) (limit_at e Entered) calls so enter refl (differ_by (limit_at e Configured) enter refl refl) refl (NamesNone refl refl tt)
-    adds Entered calls later so = λ log walks. named (limit_at e Entered) (initial_span e) calls (mine log) so (omega arith) (omega arith) (uses.initial _ log walks k)
+        to_all (limit_at e Configured) (limit_at e Entered) calls so enter refl (differ_by (limit_at e Configured) enter refl refl) refl (NamesNone refl refl tt) tt refl
+    adds Entered calls later so = λ log walks. named (limit_at e Entered) (initial_span e.events) calls (mine log) so (omega arith) (omega arith) (uses.initial _ log walks k)
     adds Found calls later so = named (limit_at e Found) timing_span calls _ so (omega arith) (omega arith) (uses.timing k)
     adds (Timed timers) calls later so =
         let l = limit_at e (Timed timers) in
-        to_all l (limit_behind e plan (Timed timers)) calls so C.ExitInitialization refl (differ_by l C.ExitInitialization refl refl) refl (NamesNone refl refl tt)
+        to_all l (limit_behind e plan (Timed timers)) calls so C.ExitInitialization refl (differ_by l C.ExitInitialization refl refl) refl (NamesNone refl refl tt) tt refl
     adds (Before s ticks) calls later so = λ log walks.
-        named (limit_at e (Before s ticks)) (instant_span (s.n == 0) e) calls (mine log) so (omega arith) (instant_on (s.n == 0) e) (uses.instant ticks (s.n == 0) _ log walks k)
-    adds (Read s) calls later so = λ log walks. let r = read_asked (s.n == 0) e in named (limit_at e (Read s)) (interval_span e) calls (mine log) so r.0 r.1 (uses.interval _ log walks k)
+        named (limit_at e (Before s ticks)) (instant_span (s.n == 0) e.events) calls (mine log) so (omega arith) (instant_on (s.n == 0) e.events) (uses.instant ticks (s.n == 0) _ log walks k)
+    adds (Read s) calls later so = λ log walks. let r = read_asked (s.n == 0) e.events in named (limit_at e (Read s)) (interval_span e.events) calls (mine log) so r.0 r.1 (uses.interval _ log walks k)
     adds (Rearmed s) calls later so =
         let l = limit_at e (Rearmed s) in
         let m = limit_behind e plan (Rearmed s) in
-        to_events l m calls so C.Update refl (λ once. absurd (let wrong : true ≡ false = once in cc)) refl (NamesNone refl refl tt) (λ none. more_seen l m (λ kind is. is) refl (asked_seen e none))
+        to_events l m calls so C.Update refl (λ once. absurd (let wrong : true ≡ false = once in cc)) refl (NamesNone refl refl tt) (λ none. more_seen l m (λ kind is. is) refl (asked_seen e.events none)) tt refl refl
     adds (Seen s again asked) calls later so = subst (IsSo (limit_at e (Seen s again asked))) (sym (append-nil calls)) so
     adds (Leaving w) calls later so =
         let l = limit_at e (Leaving w) in
         let m = limit_at e (Left w) in
-        to_events l m calls so C.EnterStep refl (λ once. differ_by l C.EnterStep refl refl) refl (NamesNone refl refl tt) (λ none. more_seen l m point_leaving refl (omega arith))
-    adds (Left w) calls later so = λ log walks. let r = left_set e in named (limit_at e (Left w)) (step_span e) calls (mine log) so r.0 r.1 (uses.step w.s.values _ log walks k)
+        to_events l m calls so C.EnterStep refl (λ once. differ_by l C.EnterStep refl refl) refl (NamesNone refl refl tt) (λ none. more_seen l m point_leaving refl (omega arith)) tt refl refl
+    adds (Left w) calls later so = λ log walks. let r = left_set e.events in named (limit_at e (Left w)) (step_span e.events) calls (mine log) so r.0 r.1 (uses.step w.s.values _ log walks k)
     adds (Departing w) calls later so =
         let l = limit_at e (Departing w) in
-        to_all l (limit stepped_kinds w.to 1) calls so (C.DoStep w.s.t (w.to - w.s.t)) refl (differ_step l (w.to - w.s.t)) refl (NamesNone refl refl later)
+        to_all l (limit stepped_kinds w.to 1) calls so (C.DoStep w.s.t (w.to - w.s.t)) refl (differ_step l (w.to - w.s.t)) refl (NamesNone refl refl later) tt refl
     adds (Stepped s true) calls later so =
         let l = limit_at e (Stepped s true) in
         let m = limit_behind e plan (Stepped s true) in
-        subst (IsSo m) (sym (append-nil calls)) (weaker l m calls so (more_seen l m stepped_at_point refl (stepped_seen e)))
+        subst (IsSo m) (sym (append-nil calls)) (weaker l m calls so (more_seen l m stepped_at_point refl (stepped_seen e.events)) refl)
     adds (Stepped s false) calls later so =
         let l = limit_at e (Stepped s false) in
         let m = limit_behind e plan (Stepped s false) in
-        to_events l m calls so C.EnterEvent refl (λ once. differ_by l C.EnterEvent refl refl) refl (NamesNone refl refl tt) (λ none. more_seen l m stepped_at_point refl (stepped_seen e))
+        to_events l m calls so C.EnterEvent refl (λ once. differ_by l C.EnterEvent refl refl) refl (NamesNone refl refl tt) (λ none. more_seen l m stepped_at_point refl (stepped_seen e.events)) tt refl refl
 
     added : (part : Part) (l : Limit) (calls : List Call) → Adds part calls l → (values : List (Option ℤ)) (log : List Sent) → Does system part values log → IsSo l (calls ++ mine log)
     added (Calls cs) l calls a values log does = subst (λ (x : List Call). IsSo l (calls ++ x)) (sym (ap (own k) does.calls_are)) a
@@ -244,7 +268,7 @@ module _ (system : System) (sound : IsSound system) (k : ℕ) (c : Component) (o
     leads_so : (calls : List Call) (p q : Place) (values : List (Option ℤ)) (log : List Sent) → LeadsTo system plan p values log q → IsSo (limit_behind e plan p) calls → IsSo (limit_at e q) calls
     leads_so calls _ _ _ _ (Exits timers values log s ticks is begins) so = subst (λ (z : Spot). IsSo (limit_at e (Before z ticks)) calls) (sym is) so
     leads_so calls _ _ _ _ (Again s values log ticks below begins) so =
-        subst (λ (b : Bool). IsSo (limit point_kinds s.t (instant_span b e).from) calls) (sym (other (suc s.n) 0 (λ same. absurd (omega (arith, same))))) so
+        subst (λ (b : Bool). IsSo (limit point_kinds s.t (instant_span b e.events).from) calls) (sym (other (suc s.n) 0 (λ same. absurd (omega (arith, same))))) so
     leads_so calls _ _ _ _ leads so = so
 
     -- the calls that made it and those of a log
@@ -277,10 +301,10 @@ module _ (system : System) (sound : IsSound system) (k : ℕ) (c : Component) (o
 
   comes_needed : (bad : Option BadAnswer) (log : List Sent) → Comes system bad log → AreNeeded (all log)
   comes_needed _ _ (Unmade bad log stops) =
-      let l = limit_at (has_events_at system k) Made in
+      let l = limit_at (e system sound k c of) Made in
       needed_front l [] (all log) (own k stops.left) (subst (IsSo l) (ap (own k) stops.calls_are ∙ own_append k (askings log) stops.left) (made_so system sound k c of))
-  comes_needed _ _ (Stands bound plan p made log is binds counts answered course) =
-      behind_made made log answered (needed (limit_at (has_events_at system k) p) _ (course_so system sound k c of bound plan binds p log is course).1)
+  comes_needed _ _ (Stands bound plan p made log is binds counts answered course halts) =
+      behind_made made log answered (needed (limit_at (e system sound k c of) p) _ (course_so system sound k c of bound plan binds p log is course).1)
   comes_needed _ _ (Falling bound plan p bad made front more is binds counts answered course falls) =
       behind_made made (front ++ more) answered (falls_needed system sound k c of bound plan binds p front more is bad course falls)
 

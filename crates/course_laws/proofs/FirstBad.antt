@@ -79,7 +79,7 @@ module _ (system : System) where
   those : (test : Shape → Bool) (call : Shape → Call) → All (IsToOne (length ss)) (to_those test call ss)
   those test call = those_within test call (length ss) 0 ss (omega arith)
 
-  part_good : (part : Part) (values : List (Option ℤ)) (log : List Sent) → Does system part values log → Good log
+  pub part_good : (part : Part) (values : List (Option ℤ)) (log : List Sent) → Does system part values log → Good log
   part_good (Calls calls) values log does = does.good
   part_good (Round calls) values log does = does.good
   part_good (Walk rules before order) values log does = (last_alone_is_bad system rules before order values log).good does
@@ -107,7 +107,7 @@ module _ (system : System) where
     part_placed (Seen s again asked) = All-nil (IsToOne (length ss))
     part_placed (Leaving w) = those _ _
     part_placed (Left w) = tt
-    part_placed (Departing w) = (those _ _, in_order_from _ 0 0 ss (omega arith))
+    part_placed (Departing w) = (those _ _, in_order_from _ _ 0 0 ss (omega arith))
     part_placed (Stepped s true) = All-nil (IsToOne (length ss))
     part_placed (Stepped s false) = those _ _
 
@@ -118,7 +118,7 @@ module _ (system : System) where
 pub first_bad_answer : FirstBadAnswer
 first_bad_answer system _ _ sound (Unmade bad log stops) =
     first_of_parts (shapes_of system) bad log (stops_badly (shapes_of system) bad [] log (All-nil (IsGoodOf (shapes_of system))) (making system) (those system everyone instantiate_of) stops)
-first_bad_answer system _ _ sound (Stands bound plan p made log is binds counts answered course) =
+first_bad_answer system _ _ sound (Stands bound plan p made log is binds counts answered course halts) =
     good_part (shapes_of system) (made ++ log) (All-append (IsGoodOf (shapes_of system)) made log answered.good (course_good system bound plan sound binds p log is course))
 first_bad_answer system _ _ sound (Falling bound plan p bad made front more is binds counts answered course falls) =
     first_of_parts (shapes_of system) bad (made ++ (front ++ more)) (subst (EndsBadly (shapes_of system) bad) (append_assoc made front more)

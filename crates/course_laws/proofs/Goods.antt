@@ -10,7 +10,7 @@ use Rattle.fmu_peer.specs.Answer.{IsFirstBad}
 use Rattle.fmu_peer.specs.Talk as T
 use Rattle.slot_calls.specs.declared.bad_answer.BadAnswer.{BadAnswer}
 use Rattle.slot_calls.specs.Log.{Asking, Sent, askings, part}
-use Rattle.slot_calls.specs.Stage.{FailsIn, IsFirst, IsGoodOf, StopsAt, everyone, to_those_from}
+use Rattle.slot_calls.specs.Stage.{FailsIn, IsFirst, IsGoodOf, StopsAt, to_those_from}
 use Rattle.slot_calls.proofs.CallerLemmas.{part_append, other, same, skips, takes}
 use Rattle.event_iteration.specs.WalkCalls.{LastIsBad}
 use Rattle.calling_sequence.specs.Parts.{EndsBadly}
@@ -74,9 +74,13 @@ alone_behind : (i : ℕ) (front : List Sent) (last : Sent) (back : List Sent) �
 alone_behind i [] last back (at, order) j w = none_before (suc last.component) j back order (omega (arith, w))
 alone_behind i (f ∷ front) last back (at, order) j w = alone_behind (suc f.component) front last back order j w
 
-pub in_order_from : (call : Shape → Call) (i j : ℕ) (ss : List Shape) → i ≤ j → AreInOrder i (to_those_from j everyone call ss)
-in_order_from call i j [] w = tt
-in_order_from call i j (s ∷ ss) w = (w, in_order_from call (suc j) (j + 1) ss (omega arith))
+pub in_order_from : (test : Shape → Bool) (call : Shape → Call) (i j : ℕ) (ss : List Shape) → i ≤ j → AreInOrder i (to_those_from j test call ss)
+in_order_from test call i j [] w = tt
+in_order_from test call i j (s ∷ ss) w = by (test s) (in_order_from test call (suc j) (j + 1) ss (omega arith)) (in_order_from test call i (j + 1) ss (omega (arith, w))) where
+  by : (b : Bool) → AreInOrder (suc j) (to_those_from (j + 1) test call ss) → AreInOrder i (to_those_from (j + 1) test call ss) →
+      AreInOrder i (if b then record { component = j; call = call s } ∷ to_those_from (j + 1) test call ss else to_those_from (j + 1) test call ss)
+  by true one none = (w, one)
+  by false one none = none
 
 -- ---- a part of a run
 
@@ -85,7 +89,7 @@ abbrev pub IsToOne : ℕ → Asking → Type 0
 IsToOne n a = a.component < n
 
 -- so is one in their midst
-amid : (n : ℕ) (front : List Sent) (last : Sent) (back : List Sent) (left : List Asking) → All (IsToOne n) (askings (front ++ last ∷ back) ++ left) → last.component < n
+pub amid : (n : ℕ) (front : List Sent) (last : Sent) (back : List Sent) (left : List Asking) → All (IsToOne n) (askings (front ++ last ∷ back) ++ left) → last.component < n
 amid n [] last back left all = All-head (IsToOne n) _ _ all
 amid n (f ∷ front) last back left all = amid n front last back left (All-tail (IsToOne n) _ _ all)
 

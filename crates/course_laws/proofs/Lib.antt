@@ -9,4 +9,6 @@ mod ArmedClocks
 mod UpdateMarks
 mod UpdateTables
 mod UpdatesNeeded
+mod Sorts
 mod UpdatesAlong
+pub mod StatesLeft

@@ -1,13 +1,13 @@
 -- Calls of one component one behind the other, of which none stands twice where it isn't needed.
 use Rattle.std.proofs.Common.{◌≡◌, ℕ, ◌<◌, ◌≤◌, Bool, true, false, List, [], ◌∷◌, ◌++◌, refl, sym, ap, ◌∙◌, subst, append_assoc, append-nil, arith}
-use Rattle.std.specs.Prelude.{All, if◌then◌else◌}
+use Rattle.std.specs.Prelude.{All, IfSome, Option, None, Some, if◌then◌else◌}
 use Rattle.std.proofs.lemmas.List.Elements.{All-append, All-cons, All-head, All-nil, All-tail, All-weaker}
 use Rattle.fmi_calls.specs.declared.call.Call.{Call}
 use Rattle.fmi_calls.specs.declared.call.Call.TheVariants as C
 use Rattle.fmi_calls.specs.declared.call.Kind.{Kind}
 use Rattle.fmi_calls.specs.KindFacts.{IsRunCall, may_repeat, moves_on}
 use Rattle.fmi_calls.specs.Kinds.{kind_of}
-use Rattle.fmu_peer.specs.Lean.{NoneTwiceBehind, StepsFall, seen_after, without_value}
+use Rattle.fmu_peer.specs.Lean.{NoneTwiceBehind, SizesFall, StepsFall, seen_after, without_value}
 use Rattle.event_iteration.specs.WalkCalls.{AreNew, IsUse, Span, use_in}
 use Rattle.event_iteration.proofs.ByLog.{Differ, seen_behind, twice_on, use_kept, use_stays}
 use Rattle.course_laws.specs.Laws.{AreNeeded}
@@ -33,19 +33,77 @@ pub front_all : (P : Call → Type 0) (a b : List Call) → All P (a ++ b) → A
 front_all P [] b all = All-nil P
 front_all P (c ∷ a) b all = All-cons P c a (All-head P c (a ++ b) all) (front_all P a b (All-tail P c (a ++ b) all))
 
--- a run saves no state
-steps_fall : (cs : List Call) → All IsRunCall cs → StepsFall cs
-steps_fall [] all = tt
-steps_fall (C.Save ∷ cs) all = absurd (let wrong = All-head IsRunCall C.Save cs all in cc)
-steps_fall (c ∷ cs) all = steps_fall cs (All-tail IsRunCall c cs all)
+-- ---- the sizes of steps behind a Save
+
+-- where a state is saved, the size of the last step since, below which the next has to be
+abbrev pub Open : Type 0
+Open = Option (Option ℕ)
+
+abbrev pub open_by : Call → Open → Open
+open_by C.Save kept = Some None
+open_by C.Free kept = None
+open_by (C.DoStep at size) (Some bound) = Some (Some size)
+open_by call kept = kept
+
+abbrev pub IsBelow : Call → Open → Type 0
+IsBelow (C.DoStep at size) (Some bound) = IfSome bound (λ b. size < b)
+IsBelow call kept = Unit {0}
+
+-- behind calls, and each step of them is below
+abbrev pub open_behind : Open → List Call → Open
+open_behind kept [] = kept
+open_behind kept (c ∷ cs) = open_behind (open_by c kept) cs
+
+abbrev pub AreBelow : Open → List Call → Type 0
+AreBelow kept [] = Unit {0}
+AreBelow kept (c ∷ cs) = IsBelow c kept × AreBelow (open_by c kept) cs
+
+sizes_fall : (bound : Option ℕ) (cs : List Call) → AreBelow (Some bound) cs → SizesFall bound cs
+sizes_fall bound [] below = tt
+sizes_fall bound (C.DoStep at size ∷ cs) below = (below.0, sizes_fall (Some size) cs below.1)
+sizes_fall bound (C.Save ∷ cs) below = tt
+sizes_fall bound (C.Free ∷ cs) below = tt
+sizes_fall bound (c ∷ cs) below = sizes_fall bound cs below.1
+
+steps_fall : (kept : Open) (cs : List Call) → AreBelow kept cs → StepsFall cs
+steps_fall kept [] below = tt
+steps_fall kept (C.Save ∷ cs) below = (sizes_fall None cs below.1, steps_fall (Some None) cs below.1)
+steps_fall kept (c ∷ cs) below = steps_fall (open_by c kept) cs below.1
+
+open_append : (kept : Open) (a b : List Call) → open_behind kept (a ++ b) ≡ open_behind (open_behind kept a) b
+open_append kept [] b = refl
+open_append kept (c ∷ a) b = open_append (open_by c kept) a b
+
+below_append : (kept : Open) (a b : List Call) → AreBelow kept a → AreBelow (open_behind kept a) b → AreBelow kept (a ++ b)
+below_append kept [] b below more = more
+below_append kept (c ∷ a) b below more = (below.0, below_append (open_by c kept) a b below.1 more)
+
+below_front : (kept : Open) (a b : List Call) → AreBelow kept (a ++ b) → AreBelow kept a
+below_front kept [] b below = tt
+below_front kept (c ∷ a) b below = (below.0, below_front (open_by c kept) a b below.1)
+
+-- a call that names a port leaves that
+use_open : (c : Call) (kept : Open) → 0 < use_in c → IsBelow c kept × (open_by c kept ≡ kept)
+use_open C.Save kept h = absurd (omega (arith, h))
+use_open C.Free kept h = absurd (omega (arith, h))
+use_open (C.DoStep at size) kept h = absurd (omega (arith, h))
+use_open c kept h = (tt, refl)
+
+uses_open : (cs : List Call) (kept : Open) → All (λ (c : Call). 0 < use_in c) cs → AreBelow kept cs × (open_behind kept cs ≡ kept)
+uses_open [] kept all = (tt, refl)
+uses_open (c ∷ cs) kept all =
+    let own = use_open c kept (All-head (λ (d : Call). 0 < use_in d) c cs all) in
+    let more = uses_open cs kept (All-tail (λ (d : Call). 0 < use_in d) c cs all) in
+    ((own.0, subst (λ (o : Open). AreBelow o cs) (sym own.1) more.0), ap (λ (o : Open). open_behind o cs) own.1 ∙ more.1)
 
 -- ---- what stands since the last call that moved the FMU on
 
--- of which kinds the calls are that name no port, before which point the steps, and below which use the others
+-- of which kinds the calls are that name no port, before which point the steps, and below which use the others; and whether a state is saved
 pub record Limit : Type 0 where
   pub kinds : Kind → Bool
   pub t : ℕ
   pub below : ℕ
+  pub kept : Open
 
 abbrev pub IsBefore : ℕ → Call → Type 0
 IsBefore t (C.DoStep at size) = at < t
@@ -55,20 +113,26 @@ pub data IsSeen (l : Limit) (c : Call) : Type 0 where
   NamesNone : use_in c ≡ 0 → l.kinds (kind_of c) ≡ true → IsBefore l.t c → IsSeen l c
   NamesPort : 0 < use_in c → use_in c < l.below → IsSeen l c
 
+-- what is seen by the one is seen by the other
+abbrev pub Keep : Limit → Limit → Type 0
+Keep l m = (c : Call) → IsSeen l c → IsSeen m c
+
 -- calls of a run, none of which stands twice where it isn't needed; these hold of those since the last that moved the FMU on
 pub record IsSo (l : Limit) (calls : List Call) : Type 0 where
   pub runs : All IsRunCall calls
   pub once : NoneTwiceBehind [] calls
   pub seen : All (IsSeen l) (seen_behind [] calls)
+  pub below : AreBelow None calls
+  pub kept : open_behind None calls ≡ l.kept
 
 pub needed_front : (l : Limit) (front log left : List Call) → IsSo l (front ++ (log ++ left)) → AreNeeded (front ++ log)
 needed_front l front log left so =
     let same : front ++ (log ++ left) ≡ (front ++ log) ++ left = sym (append_assoc front log left) in
     let runs : All IsRunCall (front ++ log) = front_all IsRunCall (front ++ log) left (subst (All IsRunCall) same so.runs) in
-    record { runs = runs; lean = (twice_front [] (front ++ log) left (subst (NoneTwiceBehind []) same so.once), steps_fall (front ++ log) runs) }
+    record { runs = runs; lean = (twice_front [] (front ++ log) left (subst (NoneTwiceBehind []) same so.once), steps_fall None (front ++ log) (below_front None (front ++ log) left (subst (AreBelow None) same so.below))) }
 
 pub needed : (l : Limit) (calls : List Call) → IsSo l calls → AreNeeded calls
-needed l calls so = record { runs = so.runs; lean = (so.once, steps_fall calls so.runs) }
+needed l calls so = record { runs = so.runs; lean = (so.once, steps_fall None calls so.below) }
 
 kind_kept : (c : Call) → kind_of (without_value c) ≡ kind_of c
 kind_kept (C.Set kind reference x) = refl
@@ -105,22 +169,27 @@ use_runs c h = absurd (omega (arith, h))
 -- ---- one part behind others
 
 module _ (l m : Limit) (calls : List Call) (so : IsSo l calls) where
-  pub weaker : ((c : Call) → IsSeen l c → IsSeen m c) → IsSo m calls
-  weaker h = record { runs = so.runs; once = so.once; seen = All-weaker (IsSeen l) (IsSeen m) h (seen_behind [] calls) so.seen }
+  pub weaker : Keep l m → l.kept ≡ m.kept → IsSo m calls
+  weaker h same = record { runs = so.runs; once = so.once; seen = All-weaker (IsSeen l) (IsSeen m) h (seen_behind [] calls) so.seen; below = so.below; kept = so.kept ∙ same }
 
-  -- one call that moves on
-  pub called : (call : Call) → IsRunCall call → (may_repeat call ≡ false → (c : Call) → IsSeen l c → Differ c call) → moves_on call ≡ true → IsSeen m call → IsSo m (calls ++ call ∷ [])
-  called call run other moves is = record {
+  -- one call
+  pub called : (call : Call) → IsRunCall call → (may_repeat call ≡ false → (c : Call) → IsSeen l c → Differ c call) → IsSeen m call → (moves_on call ≡ false → Keep l m) → IsBelow call l.kept → open_by call l.kept ≡ m.kept → IsSo m (calls ++ call ∷ [])
+  called call run other is stays below kept = record {
     runs = All-append IsRunCall calls (call ∷ []) so.runs (All-cons IsRunCall call [] run (All-nil IsRunCall));
     once = twice_on [] calls (call ∷ []) so.once ((λ once. All-weaker (IsSeen l) (λ (c : Call). Differ c call) (other once) (seen_behind [] calls) so.seen), tt);
-    seen = subst (All (IsSeen m)) (sym (seen_append [] calls (call ∷ []) ∙ ap (λ (b : Bool). if b then call ∷ [] else call ∷ seen_behind [] calls) moves)) (All-cons (IsSeen m) call [] is (All-nil (IsSeen m)));
-  }
+    seen = subst (All (IsSeen m)) (sym (seen_append [] calls (call ∷ []))) (last (moves_on call) refl);
+    below = below_append None calls (call ∷ []) so.below (subst (IsBelow call) (sym so.kept) below, tt);
+    kept = open_append None calls (call ∷ []) ∙ ap (open_by call) so.kept ∙ kept;
+  } where
+    last : (b : Bool) → moves_on call ≡ b → All (IsSeen m) (if b then call ∷ [] else call ∷ seen_behind [] calls)
+    last true moves = All-cons (IsSeen m) call [] is (All-nil (IsSeen m))
+    last false moves = All-cons (IsSeen m) call (seen_behind [] calls) is (All-weaker (IsSeen l) (IsSeen m) (stays moves) (seen_behind [] calls) so.seen)
 
   -- or none
-  pub switched : (b : Bool) (call : Call) → IsRunCall call → (may_repeat call ≡ false → (c : Call) → IsSeen l c → Differ c call) → moves_on call ≡ true → IsSeen m call → (b ≡ false → (c : Call) → IsSeen l c → IsSeen m c) →
-      IsSo m (calls ++ (if b then call ∷ [] else []))
-  switched true call run other moves is h = called call run other moves is
-  switched false call run other moves is h = subst (IsSo m) (sym (append-nil calls)) (weaker (h refl))
+  pub switched : (b : Bool) (call : Call) → IsRunCall call → (may_repeat call ≡ false → (c : Call) → IsSeen l c → Differ c call) → IsSeen m call → (moves_on call ≡ false → Keep l m) → IsBelow call l.kept → (b ≡ false → Keep l m) →
+      (if b then open_by call l.kept else l.kept) ≡ m.kept → IsSo m (calls ++ (if b then call ∷ [] else []))
+  switched true call run other is stays below h kept = called call run other is stays below kept
+  switched false call run other is stays below h kept = subst (IsSo m) (sym (append-nil calls)) (weaker (h refl) kept)
 
 -- calls that name ports
 pub named : (l : Limit) (span : Span) (calls cs : List Call) → IsSo l calls → l.below ≤ span.from → span.from ≤ span.below → AreNew span cs → IsSo (record l { below = span.below }) (calls ++ cs)
@@ -130,6 +199,8 @@ named l span calls cs so low high new = record {
   seen = subst (All (IsSeen (record l { below = span.below }))) (sym (seen_append [] calls cs))
       (seen_staying (IsSeen (record l { below = span.below })) cs (seen_behind [] calls) (All-weaker (IsUse span) (λ (c : Call). moves_on c ≡ false) (λ c u. use_stays c (above c u)) cs new.uses)
       (All-weaker (IsUse span) (IsSeen (record l { below = span.below })) (λ c u. NamesPort (above c u) u.below) cs new.uses) (All-weaker (IsSeen l) (IsSeen (record l { below = span.below })) later (seen_behind [] calls) so.seen));
+  below = below_append None calls cs so.below (uses_open cs (open_behind None calls) (All-weaker (IsUse span) (λ (c : Call). 0 < use_in c) above cs new.uses)).0;
+  kept = open_append None calls cs ∙ (uses_open cs (open_behind None calls) (All-weaker (IsUse span) (λ (c : Call). 0 < use_in c) above cs new.uses)).1 ∙ so.kept;
 } where
   above : (c : Call) → IsUse span c → 0 < use_in c
   above c u = let n = new.names in let f = u.from in omega (arith, n, f)

@@ -1,11 +1,13 @@
 -- The Updates along the course of a run, and the timers that its Clocks have there.
-use Rattle.std.proofs.Common.{◌≡◌, ℕ, suc, ◌<◌, ◌==◌, ℤ, Bool, true, false, List, [], ◌∷◌, ◌++◌, Option, Some, refl, sym, ap, ◌∙◌, subst, append_assoc, append-nil, arith, length}
-use Rattle.std.specs.Prelude.{All, if◌then◌else◌}
+use Rattle.std.proofs.Common.{◌≡◌, ℕ, suc, ◌<◌, ℤ, Bool, true, false, List, [], ◌++◌, Option, Some, refl, sym, ap, ◌∙◌, subst, append_assoc, append-nil, arith, length}
+use Rattle.std.specs.Prelude.{All}
 use Rattle.std.specs.List.{slice_get}
-use Rattle.std.proofs.lemmas.List.Elements.{All-cons, All-head, All-nil, All-tail, All-weaker}
-use Rattle.value_types.specs.declared.shape.Shape.{Shape}
+use Rattle.std.proofs.lemmas.List.Elements.{All-weaker}
 use Rattle.fmi_calls.specs.declared.call.Call.{Call}
 use Rattle.fmi_calls.specs.declared.call.Call.TheVariants as C
+use Rattle.fmi_calls.specs.declared.call.Kind.{Kind}
+use Rattle.fmi_calls.specs.declared.call.Kind.TheVariants as K
+use Rattle.fmi_calls.specs.Kinds.{kind_of}
 use Rattle.fmu_peer.specs.Mode.{instantiate_of}
 use Rattle.system_model.specs.declared.bound.Bound.{Bound}
 use Rattle.system_model.specs.declared.plan.Plan.{Plan}
@@ -17,22 +19,19 @@ use Rattle.system_model.specs.Text.{Instant}
 use Rattle.system_model.proofs.CallerLemmas.{all_at}
 use Rattle.slot_calls.specs.declared.bad_answer.BadAnswer.{BadAnswer}
 use Rattle.slot_calls.specs.Log.{Asking, Sent, askings}
-use Rattle.slot_calls.specs.Stage.{everyone, shapes_of, to_those}
-use Rattle.slot_calls.proofs.CallerLemmas.{those_calls}
+use Rattle.slot_calls.specs.Stage.{everyone}
 use Rattle.event_iteration.specs.Clocks.{AreTicks}
 use Rattle.event_iteration.specs.Intervals.{is_some_armed}
-use Rattle.event_iteration.specs.WalkCalls.{AreNew, Front, IsUse, Span, UsesAre, WalkUses, WalksBy, Whole, has_events_at, initial_span, instant_span, interval_span, own, step_span, use_in}
-use Rattle.event_iteration.proofs.ByLog.{each_call_once, own_append}
+use Rattle.event_iteration.specs.WalkCalls.{own, use_in}
 use Rattle.calling_sequence.specs.Calls.{making}
 use Rattle.calling_sequence.specs.Course.{Again, Arrives, Before, Binds, Configured, Course, Departing, Entered, Enters, Exits, Finds, Found, GoesOn, LeadsTo, Leaves, Leaving, Left, Made, Place, Read, Reads, Rearmed, Rearming, Seen, Sets, Spot, Stepped, Steps, Timed, Times, Updates, part_at}
-use Rattle.calling_sequence.specs.Parts.{Calls, Does, Falls, Part, Round, Walk}
+use Rattle.calling_sequence.specs.Parts.{Calls, Does, Falls}
 use Rattle.calling_sequence.specs.Plans.{CountsBy}
 use Rattle.calling_sequence.proofs.Along.{along}
 use Rattle.course_laws.specs.Laws.{UpdatesAskedFor}
 use Rattle.course_laws.specs.Runs.{Comes, Falling, Stands, Unmade}
 use Rattle.course_laws.proofs.ArmedClocks.{AreArmable, AreTaken, first_armable, instant_takes, rearmed_armable, rearmed_armed}
-use Rattle.course_laws.proofs.BoundSets.{binding_new, setting_span}
-use Rattle.course_laws.proofs.Once.{front_all}
+use Rattle.course_laws.proofs.Sorts.{IsOf, does_all, falls_all, sort_at, sorts_are, those}
 use Rattle.course_laws.proofs.UpdateMarks.{IsNoUpdate, IsQuiet, quiet_no}
 use Rattle.course_laws.proofs.UpdateTables.{AreAskedFor, marks_in, talks_needed}
 use Rattle.course_laws.proofs.UpdatesNeeded.{Asked, SomeArmed, Talks, Throughout, arm, asks, calm, leave, nothing_yet, quiet, still, still_asked, stopped, updated}
@@ -46,43 +45,30 @@ use_quiet C.EnterStep h = absurd (omega (arith, h))
 use_quiet C.ExitInitialization h = absurd (omega (arith, h))
 use_quiet c h = tt
 
-uses_quiet : (span : Span) (calls : List Call) → AreNew span calls → All IsQuiet calls
-uses_quiet span calls new = All-weaker (IsUse span) IsQuiet (λ c u. use_quiet c (let n = new.names in let f = u.from in omega (arith, n, f))) calls new.uses
+-- nor is a call of another kind
+abbrev is_quiet : Kind → Bool
+is_quiet K.Update = false
+is_quiet K.EnterStep = false
+is_quiet K.ExitInitialization = false
+is_quiet kind = true
 
--- what holds of each call holds of those to one
-own_all : (P : Call → Type 0) (i : ℕ) (calls : List Asking) → All (λ (a : Asking). P a.call) calls → All P (own i calls)
-own_all P i [] all = All-nil P
-own_all P i (a ∷ calls) all = by (a.component == i) (own_all P i calls (All-tail (λ (x : Asking). P x.call) a calls all)) where
-  by : (b : Bool) → All P (own i calls) → All P (if b then a.call ∷ own i calls else own i calls)
-  by true rest = All-cons P a.call (own i calls) (All-head (λ (x : Asking). P x.call) a calls all) rest
-  by false rest = rest
+quiet_kind : (kind : Kind) (c : Call) → kind_of c ≡ kind → is_quiet kind ≡ true → IsQuiet c
+quiet_kind kind C.Update is so = absurd (let wrong : false ≡ true = ap is_quiet is ∙ so in cc)
+quiet_kind kind C.EnterStep is so = absurd (let wrong : false ≡ true = ap is_quiet is ∙ so in cc)
+quiet_kind kind C.ExitInitialization is so = absurd (let wrong : false ≡ true = ap is_quiet is ∙ so in cc)
+quiet_kind kind c is so = tt
 
--- this holds of each call of a part
-abbrev IsThroughout : System → (Call → Type 0) → Part → Type 0
-IsThroughout system P (Calls calls) = (i : ℕ) → All P (own i calls)
-IsThroughout system P (Round calls) = (i : ℕ) → All P (own i calls)
-IsThroughout system P (Walk rules before order) = (log : List Sent) → WalksBy system rules before order log → Throughout system P log
+abbrev is_other : Kind → Bool
+is_other K.Update = false
+is_other kind = true
 
-module _ (system : System) (P : Call → Type 0) where
-  those : (test : Shape → Bool) (call : Shape → Call) → ((s : Shape) → P (call s)) → (i : ℕ) → All P (own i (to_those test call (shapes_of system)))
-  those test call h i = own_all P i (to_those test call (shapes_of system)) (those_calls test call P (λ s passes. h s) 0 (shapes_of system))
-
-  does_all : (part : Part) → IsThroughout system P part → (values : List (Option ℤ)) (log : List Sent) → Does system part values log → Throughout system P log
-  does_all (Calls calls) all values log does = λ i. subst (λ (l : List Asking). All P (own i l)) (sym does.calls_are) (all i)
-  does_all (Round calls) all values log does = λ i. subst (λ (l : List Asking). All P (own i l)) (sym does.calls_are) (all i)
-  does_all (Walk rules before order) all values log does = all log (Whole values log does)
-
-  falls_all : (part : Part) → IsThroughout system P part → (bad : BadAnswer) (log : List Sent) → Falls system part bad log → Throughout system P log
-  falls_all (Calls calls) all bad log falls = λ i. front_all P (own i (askings log)) (own i falls.left) (subst (All P) (ap (own i) falls.calls_are ∙ own_append i (askings log) falls.left) (all i))
-  falls_all (Round calls) all bad log falls = λ i. subst (λ (l : List Asking). All P (own i l)) (sym falls.calls_are) (all i)
-  falls_all (Walk rules before order) all bad log (values, falls) = all log (Front bad values log falls)
+no_update_kind : (kind : Kind) (c : Call) → kind_of c ≡ kind → is_other kind ≡ true → IsNoUpdate c
+no_update_kind kind C.Update is other = absurd (let wrong : false ≡ true = ap is_other is ∙ other in cc)
+no_update_kind kind c is other = tt
 
 -- ---- along a course
 
 module _ (system : System) (sound : IsSound system) (bound : Bound) (plan : Plan) (binds : BindsParameters system bound) (counts : CountsBy system plan) where
-  uses : UsesAre system
-  uses = each_call_once system sound
-
   -- of the calls that are sent from a place; Updates are told apart
   abbrev calls_from : Place → Call → Type 0
   calls_from (Timed timers) c = IsNoUpdate c
@@ -90,24 +76,14 @@ module _ (system : System) (sound : IsSound system) (bound : Bound) (plan : Plan
   calls_from (Rearmed s) c = Unit {0}
   calls_from p c = IsQuiet c
 
-  walk_quiet : (rules : _) (before : List (Option ℤ)) (order : List ℕ) (span : Bool → Span) → WalkUses system rules order span → IsThroughout system IsQuiet (Walk rules before order)
-  walk_quiet rules before order span are log walks i = uses_quiet (span (has_events_at system i)) (own i (askings log)) (are before log walks i)
-
-  calls_are : (p : Place) → IsThroughout system (calls_from p) (part_at system bound plan p)
-  calls_are Made = λ i. uses_quiet setting_span _ (binding_new system bound i binds)
-  calls_are Configured = those system IsQuiet _ _ (λ s. tt)
-  calls_are Entered = walk_quiet _ _ _ initial_span uses.initial
-  calls_are Found = λ i. uses_quiet _ _ (uses.timing i)
-  calls_are (Timed timers) = those system IsNoUpdate _ _ (λ s. tt)
-  calls_are (Before s ticks) = walk_quiet _ _ _ (instant_span (s.n == 0)) (uses.instant ticks (s.n == 0))
-  calls_are (Read s) = walk_quiet _ _ _ interval_span uses.interval
-  calls_are (Rearmed s) = those system (λ (c : Call). Unit {0}) _ _ (λ s. tt)
-  calls_are (Seen s again asked) = λ i. All-nil IsQuiet
-  calls_are (Leaving w) = those system IsNoUpdate _ _ (λ s. tt)
-  calls_are (Left w) = walk_quiet _ _ _ step_span (uses.step w.s.values)
-  calls_are (Departing w) = those system IsQuiet _ _ (λ s. tt)
-  calls_are (Stepped s true) = λ i. All-nil IsQuiet
-  calls_are (Stepped s false) = those system IsQuiet _ _ (λ s. tt)
+  calls_are : (p : Place) (c : Call) → IsOf (sort_at p) c → calls_from p c
+  calls_are Configured c is = quiet_kind K.EnterInitialization c is refl
+  calls_are (Timed timers) c is = no_update_kind K.ExitInitialization c is refl
+  calls_are (Rearmed s) c is = tt
+  calls_are (Leaving w) c is = no_update_kind K.EnterStep c is refl
+  calls_are (Departing w) c is = quiet_kind K.DoStep c is refl
+  calls_are (Stepped s asked) c is = quiet_kind K.EnterEvent c is refl
+  calls_are p c is = use_quiet c is
 
   -- ---- the timers of the Clocks
 
@@ -191,7 +167,7 @@ module _ (system : System) (sound : IsSound system) (bound : Bound) (plan : Plan
     on _ _ _ _ timers a does all (Leaves w values log) =
         record { m = a.m; flag = false; talks = leave system front log a.m (subst (Talks system front a.m) a.besides a.talks) all does.calls_are; besides = refl }
     on _ _ _ _ timers a does all (Sets w values log) = onward (Left w) (Departing w) log all a a.besides
-    on _ _ _ _ timers a does all (Steps w values log asked is) = onward (Departing w) (Stepped (record w.s { t = w.to; n = 0 }) asked) log all a a.besides
+    on _ _ _ _ timers a does all (Steps w values log asked is ends) = onward (Departing w) (Stepped (record w.s { t = w.to; n = 0 }) asked) log all a a.besides
     on _ _ _ _ timers a does all (Arrives s values log ticks begins) =
         onward (Stepped s false) (Before (record s { n = 0 }) ticks) log all a (λ is. absurd (let wrong : true ≡ false = sym is ∙ a.besides in cc))
 
@@ -218,18 +194,18 @@ module _ (system : System) (sound : IsSound system) (bound : Bound) (plan : Plan
     course_at = along system bound plan (λ p log is. TimersAt p × IsAt p (made ++ log)) (tt, subst (IsAt Made) (sym (append-nil made)) made_at)
         (λ p q values front more is course at does leads. (
           timers_on p q values more does leads at.0,
-          subst (IsAt q) (append_assoc made front more) (on (made ++ front) p q values more at.0 at.1 does (does_all system (calls_from p) (part_at system bound plan p) (calls_are p) values more does) leads),
+          subst (IsAt q) (append_assoc made front more) (on (made ++ front) p q values more at.0 at.1 does (λ i. All-weaker (IsOf (sort_at p)) (calls_from p) (calls_are p) (own i (askings more)) (does_all system (IsOf (sort_at p)) (part_at system bound plan p) (sorts_are system sound bound plan binds p) values more does i)) leads),
         ))
 
     falls_asked : (p : Place) (bad : BadAnswer) (front more : List Sent) (is : List Instant) → Course system bound plan p front is → Falls system (part_at system bound plan p) bad more → AreAskedFor (length system.components) (marks_in (made ++ (front ++ more)))
     falls_asked p bad front more is course falls = subst (λ (l : List Sent). AreAskedFor (length system.components) (marks_in l)) (append_assoc made front more)
-        (fallen (made ++ front) p bad more (course_at p front is course).1 falls (falls_all system (calls_from p) (part_at system bound plan p) (calls_are p) bad more falls))
+        (fallen (made ++ front) p bad more (course_at p front is course).1 falls (λ i. All-weaker (IsOf (sort_at p)) (calls_from p) (calls_are p) (own i (askings more)) (falls_all system (IsOf (sort_at p)) (part_at system bound plan p) (sorts_are system sound bound plan binds p) bad more falls i)))
 
 comes_asked : (system : System) (bad : Option BadAnswer) (log : List Sent) → IsSound system → Comes system bad log → AreAskedFor (length system.components) (marks_in log)
 comes_asked system _ _ sound (Unmade bad log stops) =
     let q = falls_all system IsQuiet (Calls (making system)) (those system IsQuiet everyone instantiate_of (λ s. tt)) bad log stops in
     (quiet system [] log 0 false (nothing_yet system) q).table.needed
-comes_asked system _ _ sound (Stands bound plan p made log is binds counts answered course) = (course_at system sound bound plan binds counts made answered.calls_are p log is course).1.talks.table.needed
+comes_asked system _ _ sound (Stands bound plan p made log is binds counts answered course halts) = (course_at system sound bound plan binds counts made answered.calls_are p log is course).1.talks.table.needed
 comes_asked system _ _ sound (Falling bound plan p bad made front more is binds counts answered course falls) = falls_asked system sound bound plan binds counts made answered.calls_are p bad front more is course falls
 
 pub updates_asked_for : UpdatesAskedFor

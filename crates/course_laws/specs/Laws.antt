@@ -12,6 +12,7 @@ use Rattle.system_model.specs.declared.system.System.{System}
 use Rattle.system_model.specs.Sound.{IsSound}
 use Rattle.slot_calls.specs.declared.bad_answer.BadAnswer.{BadAnswer}
 use Rattle.slot_calls.specs.Log.{Sent, part}
+use Rattle.slot_calls.specs.SavedStates.{LeavesState, Talk, last_step}
 use Rattle.slot_calls.specs.Stage.{shapes_of}
 use Rattle.course_laws.specs.Runs.{Comes}
 
@@ -52,6 +53,22 @@ NoCallTwice =
     (system : System) (bad : Option BadAnswer) (log : List Sent) → IsSound system →
     Comes system bad log →
     (k : ℕ) → k < length system.components → AreNeeded (calls_in (part k log))
+
+-- ---- saved states
+
+-- these talks are of the components' shapes, and their last steps are those of the log
+pub record EndAs (system : System) (log : List Sent) (talks : List Talk) : Type 0 where
+  pub shapes : map (λ (t : Talk). t.shape) talks ≡ shapes_of system
+  pub steps : (k : ℕ) (d : Talk) → k < length system.components →
+      last_step None (slice_index_or talks k d).exchanges ≡ last_step None (part k log)
+
+-- how each component's exchanges of the run leave the state that was saved, whatever talks they end
+abbrev pub StatesAreLeft : Type 0
+StatesAreLeft =
+    (system : System) (bad : Option BadAnswer) (log : List Sent) (talks : List Talk) →
+    IsSound system → Comes system bad log → EndAs system log talks →
+    (k : ℕ) (d : Shape) → k < length system.components →
+    LeavesState talks (slice_index_or (shapes_of system) k d) (part k log)
 
 -- ---- Updates
 

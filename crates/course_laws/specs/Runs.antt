@@ -13,18 +13,25 @@ use Rattle.calling_sequence.specs.declared.run_end.RunEnd.{RunEnd}
 use Rattle.calling_sequence.specs.declared.run_end.RunEnd.TheVariants as E
 use Rattle.calling_sequence.specs.Plans.{CountsBy}
 use Rattle.calling_sequence.specs.Calls.{making}
-use Rattle.calling_sequence.specs.Course.{Course, Place, part_at}
+use Rattle.calling_sequence.specs.Course.{Course, Made, Place, Seen, Stepped, part_at}
 use Rattle.calling_sequence.specs.Ends.{EndsBy}
 use Rattle.calling_sequence.specs.Parts.{Falls}
 
--- the log of a run of a system that came to a bad answer, or to none so far: an instance couldn't be made; or all were made, and with these parameters and this plan the run stands at a place, or came from there to that answer
+-- where a run may stop without a bad answer: before its header or behind it, behind an instant, behind a step
+abbrev pub IsHalt : Place → Type 0
+IsHalt Made = Unit {0}
+IsHalt (Seen s again asked) = Unit {0}
+IsHalt (Stepped s asked) = Unit {0}
+IsHalt p = ⊥
+
+-- the log of a run of a system that came to a bad answer, or to none so far: an instance couldn't be made; or all were made, and with these parameters and this plan the run stands where it may stop, or came from there to that answer
 pub data Comes (system : System) : Option BadAnswer → List Sent → Type 0 where
   Unmade : (bad : BadAnswer) (log : List Sent) →
       StopsAt (shapes_of system) (making system) bad log → Comes system (Some bad) log
   Stands : (bound : Bound) (plan : Plan) (p : Place) (made log : List Sent) (is : List Instant) →
       BindsParameters system bound → CountsBy system plan →
       IsAnswered (shapes_of system) (making system) made → Course system bound plan p log is →
-      Comes system None (made ++ log)
+      IsHalt p → Comes system None (made ++ log)
   Falling : (bound : Bound) (plan : Plan) (p : Place) (bad : BadAnswer)
       (made front more : List Sent) (is : List Instant) →
       BindsParameters system bound → CountsBy system plan →

@@ -2,7 +2,7 @@ ghost use Rattle.std.specs.Prelude.{◌≡◌, ◌<◌, OnOk, Some, length};
 ghost use Rattle.std.specs.List.{slice_get};
 ghost use Rattle.fmu_peer.specs.CloseAll.{instance_in, peer_in};
 ghost use Rattle.system_model.specs.declared.system.Component.{Component};
-ghost use Rattle.slot_calls.specs.Slots.{IsLive};
+ghost use Rattle.slot_calls.specs.Slots.{LiveSlot};
 ghost use Rattle.event_iteration.specs.Turns.{AsksIf, MayAsk};
 
 use fmi_calls::{Call, Reply};
@@ -23,9 +23,9 @@ pub(crate) fn has_event_mode(system: &System, component: CompId) -> bool
 
 /// Sends a call to the FMU in a slot, if there is one.
 pub(crate) fn ask_if<L: Peer>(slot: &mut Slot<L>, call: Option<Call>) -> Result<Option<Reply>, Why>
-    requires live { IsLive L.view slot.old.held }
+    requires live { LiveSlot L.view slot.old }
     requires may { MayAsk call (L.view (peer_in slot.old.held)) }
-    ensures live { OnOk result (IsLive L.view slot.new.held) }
+    ensures live { OnOk result (LiveSlot L.view slot.new) }
     ensures asks { AsksIf call (instance_in L.view slot.old) (instance_in L.view slot.new) result }
 {
     match call {

@@ -73,7 +73,7 @@ settles _ = false
 abbrev pub running_state : Shape → InstanceState
 running_state shape = if shape.has_event_mode then Event else Step
 
--- where a good reply leads: a Clock that is set or asked is marked, and active where it was set or answers so; an Update ends its instant, takes the marks away, as a step does, and leaves no Clock active; Save fills the slot with the point and the marks, Restore brings them back and keeps the slot, Free empties it; what only reads leaves it
+-- where a good reply leads: a Clock that is set or asked is marked, and active where it was set or answers so; an Update ends its instant and leaves no Clock active; it takes the marks away, as a step does and the way into Event Mode, so that an instant begins with none; Save fills the slot with the point and the marks, Restore brings them back and keeps the slot, Free empties it; what only reads leaves it
 abbrev pub entered : Shape → Phase → Call → Reply → Phase
 entered shape phase (C.Instantiate event_mode early_return) reply =
     record phase { state = Instantiated }
@@ -81,7 +81,8 @@ entered shape phase (C.EnterInitialization start stop) reply =
     record phase { state = Initialization; point = start; stop = stop }
 entered shape phase C.ExitInitialization reply =
     record phase { state = running_state shape; settled = false }
-entered shape phase C.EnterEvent reply = record phase { state = Event; settled = false }
+entered shape phase C.EnterEvent reply =
+    record phase { state = Event; settled = false; marks = unmarked shape }
 entered shape phase C.EnterStep reply = record phase { state = Step }
 entered shape phase C.Update reply =
     record phase { settled = settles reply; marks = unmarked shape; active = unmarked shape }

@@ -107,6 +107,7 @@ fn enter(shape: &Shape, phase: &mut Phase, call: &Call, reply: &Reply)
         Call::EnterEvent => {
             phase.state = InstanceState::Event;
             phase.settled = false;
+            phase.marks.clear();
         }
         Call::EnterStep => phase.state = InstanceState::Step,
         Call::Update => {

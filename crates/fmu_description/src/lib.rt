@@ -16,8 +16,6 @@ mod places;
 mod reader;
 mod rules;
 mod shape;
-#[cfg(test)]
-mod tests;
 mod texts;
 mod timings;
 mod variables;

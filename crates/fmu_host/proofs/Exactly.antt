@@ -1,7 +1,13 @@
 -- Where a status has to come.
-use Rattle.std.proofs.Common.{◌≡◌, ◌⊎◌, inl, inr, ℕ, ◌<◌, ◌≤◌, ◌^◌, ◌∷◌, [], List, length, Option, Some, None, IfSome, refl, sym, ap, ap₂, ◌∙◌, subst, arith, decimal}
+use Rattle.std.proofs.Common.{◌≡◌, ◌⊎◌, inl, inr, ℕ, ◌<◌, ◌≤◌, ◌^◌, ◌∷◌, [], List, Option, Some, None, refl, sym, ap, ap₂, ◌∙◌, subst, arith, decimal}
+use Rattle.std.specs.Prelude.{Result, Ok, Err}
 use Rattle.std.proofs.lemmas.Fmt.{decimal_injective}
-use Rattle.std.proofs.lemmas.Option.{same_Some}
+use Rattle.std.proofs.lemmas.List.{append_cancel_left}
+use Rattle.sim_base.specs.Folder.{FolderView}
+use Rattle.sim_base.specs.ReadNotes.{read_of}
+use Rattle.sim_base.specs.declared.folder.ReadFault.{ReadFault}
+use Rattle.sim_base.specs.declared.folder.ReadFault.TheVariants as r
+use Rattle.sim_base.specs.declared.read_book.ReadNote.{ReadNote}
 use Rattle.value_types.specs.declared.shape.Shape.{Shape}
 use Rattle.doc_tree.specs.declared.place.Place.{Place}
 use Rattle.doc_tree.specs.declared.rule.Rule.{Rule}
@@ -11,13 +17,13 @@ use Rattle.bench_fmus.specs.Models.{model_named}
 use Rattle.host_serving.specs.declared.serving.ServeEnd.{ServeEnd}
 use Rattle.fmu_host.specs.declared.hosting.HostEnd.{HostEnd}
 use Rattle.fmu_host.specs.declared.hosting.HostEnd.TheVariants as H
-use Rattle.fmu_host.specs.Description.{Holds, IsRead, LacksShape, path_of}
+use Rattle.fmu_host.specs.Description.{IsRead, LacksShape, Reads, path_of}
 use Rattle.fmu_host.specs.Facts.{ServesShape, ShapeFacts, Unbegun, WithoutLine, WithoutShape, WithShape}
 use Rattle.fmu_host.specs.Happened.{Happened}
 use Rattle.fmu_host.specs.Line.{IsLine, IsNoLine, Line}
 use Rattle.fmu_host.specs.Rows.{OrMemory, Tells, TellsShape, serve_status}
 use Rattle.fmu_host.specs.Status.{status_of}
-use Rattle.fmu_host.proofs.When.{HasFacts, read_rose}
+use Rattle.fmu_host.proofs.When.{HasFacts}
 
 -- ---- the words are one line
 
@@ -37,51 +43,58 @@ same_line words a b one other =
     (heads words a.directory b.directory (decimal a.resolution) (decimal b.resolution) one.spelled other.spelled)
     (decimal_injective a.resolution b.resolution (small a.resolution one.most) (small b.resolution other.most) digits)
 
--- ---- what stands at the path
+-- ---- what the read got
 
--- what is done with what stands there
-data Finds (e : HostEnd) (h : Happened) (line : Line) (file : Option (List ℕ)) : Type 0 where
-  Wanting : e ≡ H.Memory → Finds e h line file
-  Absent : e ≡ H.Missing → file ≡ None → Finds e h line file
-  Long : (bytes : List ℕ) → e ≡ H.TooBig → file ≡ Some bytes → 2 ^ 24 < length bytes → Finds e h line file
-  Faulty : (bytes : List ℕ) (rule : Rule) (place : Place) → e ≡ H.Broken → file ≡ Some bytes → length bytes ≤ 2 ^ 24 →
-      BreaksAlone (IsModel line.resolution bytes) (BreaksModel line.resolution bytes) rule place → Finds e h line file
-  Said : (bytes : List ℕ) (shape : Shape) → file ≡ Some bytes → length bytes ≤ 2 ^ 24 →
-      SaysAlone (IsModel line.resolution bytes) (BreaksModel line.resolution bytes) shape → ShapeFacts e shape h.old.link h.new.link → Finds e h line file
+-- what is done with it
+data Finds (e : HostEnd) (h : Happened) (line : Line) (answer : Result (List ℕ) ReadFault) : Type 0 where
+  Wanting : e ≡ H.Memory → Finds e h line answer
+  Unread : e ≡ H.Unread → answer ≡ Err r.Failed → Finds e h line answer
+  Absent : e ≡ H.Missing → answer ≡ Err r.Missing → Finds e h line answer
+  Long : (n : ℕ) → e ≡ H.TooBig → answer ≡ Err (r.TooBig n) → Finds e h line answer
+  Faulty : (bytes : List ℕ) (rule : Rule) (place : Place) → e ≡ H.Broken → answer ≡ Ok bytes →
+      BreaksAlone (IsModel line.resolution bytes) (BreaksModel line.resolution bytes) rule place → Finds e h line answer
+  Said : (bytes : List ℕ) (shape : Shape) → answer ≡ Ok bytes →
+      SaysAlone (IsModel line.resolution bytes) (BreaksModel line.resolution bytes) shape → ShapeFacts e shape h.old.link h.new.link → Finds e h line answer
 
-stands : (h : Happened) (line : Line) (file one : Option (List ℕ)) → Tells h line file → Holds h.old.folder line one → file ≡ one
-stands h line file one t holds = sym t.stands ∙ subst (λ (files : Option (List ℕ → Option (List ℕ))). IfSome files (λ at. at (path_of line) ≡ one)) t.told holds
+-- the answer of the first of some reads
+abbrev first_answer : Result (List ℕ) ReadFault → List ReadNote → Result (List ℕ) ReadFault
+first_answer none [] = none
+first_answer none (read ∷ reads) = read.answer
 
-without_shape : (e : HostEnd) (h : Happened) (line : Line) (file : Option (List ℕ)) → Tells h line file → LacksShape e line h.old.folder h.new.folder → Finds e h line file
-without_shape H.NoWords h line file t f = absurd f
-without_shape H.Unread h line file t f = absurd (t.calm (read_rose line h.old.folder h.new.folder f))
-without_shape H.Missing h line file t f = Absent refl (stands h line file None t f.0)
-without_shape H.TooBig h line file t f = Long f.0.bytes refl (stands h line file (Some f.0.bytes) t f.0.holds) f.0.past
-without_shape H.Broken h line file t f =
-    Faulty f.0.bytes f.0.rule f.0.place refl (stands h line file (Some f.0.bytes) t f.0.has.holds) f.0.has.within f.0.breaks
-without_shape H.Unknown h line file t f = absurd f
-without_shape (H.Served end) h line file t f = absurd f
-without_shape H.Memory h line file t f = Wanting refl
+last_same : (path : List ℕ) (one other : Result (List ℕ) ReadFault) → read_of path one ∷ [] ≡ read_of path other ∷ [] → one ≡ other
+last_same path one other e = ap (first_answer one) e
 
-finds : (e : HostEnd) (h : Happened) (line : Line) (file : Option (List ℕ)) → HasFacts e h → Tells h line file → Finds e h line file
-finds e h line file (Unbegun is same) t = Wanting is
-finds e h line file (WithoutLine is none same) t = absurd (none line t.is)
-finds e h line file (WithoutShape other is f same) t =
-    without_shape e h line file t (subst (λ l. LacksShape e l h.old.folder h.new.folder) (same_line h.words other line is t.is) f)
-finds e h line file (WithShape other shape is read f) t =
+stands : (h : Happened) (line : Line) (answer one : Result (List ℕ) ReadFault) → Tells h line answer → Reads line one h.old.folder h.new.folder → answer ≡ one
+stands h line answer one t reads =
+    last_same (path_of line) answer one (append_cancel_left h.old.folder.reads (read_of (path_of line) answer ∷ []) (read_of (path_of line) one ∷ [])
+    (ap (λ (v : FolderView). v.reads) (sym t.told ∙ reads.told)))
+
+without_shape : (e : HostEnd) (h : Happened) (line : Line) (answer : Result (List ℕ) ReadFault) → Tells h line answer → LacksShape e line h.old.folder h.new.folder → Finds e h line answer
+without_shape H.NoWords h line answer t f = absurd f
+without_shape H.Unread h line answer t f = Unread refl (stands h line answer (Err r.Failed) t f)
+without_shape H.Missing h line answer t f = Absent refl (stands h line answer (Err r.Missing) t f)
+without_shape H.TooBig h line answer t f = Long f.0 refl (stands h line answer (Err (r.TooBig f.0)) t f.2)
+without_shape H.Broken h line answer t f = Faulty f.bytes f.rule f.place refl (stands h line answer (Ok f.bytes) t f.got.reads) f.breaks
+without_shape H.Unknown h line answer t f = absurd f
+without_shape (H.Served end) h line answer t f = absurd f
+without_shape H.Memory h line answer t f = Wanting refl
+
+finds : (e : HostEnd) (h : Happened) (line : Line) (answer : Result (List ℕ) ReadFault) → HasFacts e h → Tells h line answer → Finds e h line answer
+finds e h line answer (Unbegun is same) t = Wanting is
+finds e h line answer (WithoutLine is none same) t = absurd (none line t.is)
+finds e h line answer (WithoutShape other is f same) t =
+    without_shape e h line answer t (subst (λ l. LacksShape e l h.old.folder h.new.folder) (same_line h.words other line is t.is) f)
+finds e h line answer (WithShape other shape is read f) t =
     let here : IsRead line shape h.old.folder h.new.folder = subst (λ l. IsRead l shape h.old.folder h.new.folder) (same_line h.words other line is t.is) read in
-    Said here.describes.bytes shape (stands h line file (Some here.describes.bytes) t here.describes.has.holds) here.describes.has.within here.describes.says f
+    Said here.bytes shape (stands h line answer (Ok here.bytes) t here.got.reads) here.says f
 
 -- ---- the statuses
 
-none_some : (file : Option (List ℕ)) (bytes : List ℕ) → file ≡ None → file ≡ Some bytes → ⊥
-none_some file bytes a b = cc
+abbrev got_bytes : List ℕ → Result (List ℕ) ReadFault
+got_bytes bytes = Ok bytes
 
-long_short : (bytes other : List ℕ) → Some bytes ≡ Some other → 2 ^ 24 < length bytes → length other ≤ 2 ^ 24 → ⊥
-long_short bytes other e more less = above (length bytes) more (subst (λ (b : List ℕ). length b ≤ 2 ^ 24) (sym (same_Some _ _ e)) less)
-  where
-    above : (n : ℕ) → 2 ^ 24 < n → n ≤ 2 ^ 24 → ⊥
-    above n more less = omega arith
+same_Ok : (bytes other : List ℕ) → got_bytes bytes ≡ got_bytes other → bytes ≡ other
+same_Ok bytes other e = cc
 
 module _ (e : HostEnd) (h : Happened) (f : HasFacts e h) (status : h.status ≡ status_of e) where
   has : (other : HostEnd) → e ≡ other → h.status ≡ status_of other
@@ -96,51 +109,66 @@ module _ (e : HostEnd) (h : Happened) (f : HasFacts e h) (status : h.status ≡ 
       by_facts (WithoutShape line is lacks same) = absurd (none line is)
       by_facts (WithShape line shape is read facts) = absurd (none line is)
 
-  pub missing_exact : (line : Line) → Tells h line None → OrMemory h 3
-  missing_exact line t = by_finds (finds e h line None f t)
+  pub failed_exact : (line : Line) → Tells h line (Err r.Failed) → OrMemory h 3
+  failed_exact line t = by_finds (finds e h line (Err r.Failed) f t)
     where
-      by_finds : Finds e h line None → OrMemory h 3
+      by_finds : Finds e h line (Err r.Failed) → OrMemory h 3
       by_finds (Wanting is) = inr (has H.Memory is)
-      by_finds (Absent is none) = inl (has H.Missing is)
-      by_finds (Long bytes is there past) = inl (has H.TooBig is)
-      by_finds (Faulty bytes rule place is there within breaks) = absurd (none_some None bytes refl there)
-      by_finds (Said bytes shape there within says facts) = absurd (none_some None bytes refl there)
+      by_finds (Unread is got) = inl (has H.Unread is)
+      by_finds (Absent is got) = inl (has H.Missing is)
+      by_finds (Long n is got) = inl (has H.TooBig is)
+      by_finds (Faulty bytes rule place is got breaks) = absurd (cc)
+      by_finds (Said bytes shape got says facts) = absurd (cc)
 
-  pub big_exact : (line : Line) (bytes : List ℕ) → Tells h line (Some bytes) → 2 ^ 24 < length bytes → OrMemory h 3
-  big_exact line bytes t past = by_finds (finds e h line (Some bytes) f t)
+  pub missing_exact : (line : Line) → Tells h line (Err r.Missing) → OrMemory h 3
+  missing_exact line t = by_finds (finds e h line (Err r.Missing) f t)
     where
-      by_finds : Finds e h line (Some bytes) → OrMemory h 3
+      by_finds : Finds e h line (Err r.Missing) → OrMemory h 3
       by_finds (Wanting is) = inr (has H.Memory is)
-      by_finds (Absent is none) = inl (has H.Missing is)
-      by_finds (Long other is there past) = inl (has H.TooBig is)
-      by_finds (Faulty other rule place is there within breaks) = absurd (long_short bytes other there past within)
-      by_finds (Said other shape there within says facts) = absurd (long_short bytes other there past within)
+      by_finds (Unread is got) = inl (has H.Unread is)
+      by_finds (Absent is got) = inl (has H.Missing is)
+      by_finds (Long n is got) = inl (has H.TooBig is)
+      by_finds (Faulty bytes rule place is got breaks) = absurd (cc)
+      by_finds (Said bytes shape got says facts) = absurd (cc)
 
-  pub rule_exact : (line : Line) (bytes : List ℕ) (rule : Rule) (place : Place) → Tells h line (Some bytes) → length bytes ≤ 2 ^ 24 →
+  pub big_exact : (line : Line) (n : ℕ) → Tells h line (Err (r.TooBig n)) → OrMemory h 3
+  big_exact line n t = by_finds (finds e h line (Err (r.TooBig n)) f t)
+    where
+      by_finds : Finds e h line (Err (r.TooBig n)) → OrMemory h 3
+      by_finds (Wanting is) = inr (has H.Memory is)
+      by_finds (Unread is got) = inl (has H.Unread is)
+      by_finds (Absent is got) = inl (has H.Missing is)
+      by_finds (Long m is got) = inl (has H.TooBig is)
+      by_finds (Faulty bytes rule place is got breaks) = absurd (cc)
+      by_finds (Said bytes shape got says facts) = absurd (cc)
+
+  pub rule_exact : (line : Line) (bytes : List ℕ) (rule : Rule) (place : Place) → Tells h line (Ok bytes) →
       BreaksModel line.resolution bytes rule place → OrMemory h 4
-  rule_exact line bytes rule place t within broken = by_finds (finds e h line (Some bytes) f t)
+  rule_exact line bytes rule place t broken = by_finds (finds e h line (Ok bytes) f t)
     where
-      by_finds : Finds e h line (Some bytes) → OrMemory h 4
+      by_finds : Finds e h line (Ok bytes) → OrMemory h 4
       by_finds (Wanting is) = inr (has H.Memory is)
-      by_finds (Absent is none) = absurd (none_some (Some bytes) bytes none refl)
-      by_finds (Long other is there past) = absurd (long_short other bytes (sym there) past within)
-      by_finds (Faulty other first at is there short breaks) = inl (has H.Broken is)
-      by_finds (Said other shape there short says facts) =
-          absurd (says.none rule place (subst (λ (b : List ℕ). BreaksModel line.resolution b rule place) (same_Some _ _ there) broken))
+      by_finds (Unread is got) = absurd (cc)
+      by_finds (Absent is got) = absurd (cc)
+      by_finds (Long n is got) = absurd (cc)
+      by_finds (Faulty other first at is got breaks) = inl (has H.Broken is)
+      by_finds (Said other shape got says facts) =
+          absurd (says.none rule place (subst (λ (b : List ℕ). BreaksModel line.resolution b rule place) (same_Ok bytes other got) broken))
 
   -- what is done with the shape that the folder tells
   shaped : (line : Line) (shape : Shape) → TellsShape h line shape → (e ≡ H.Memory) ⊎ ShapeFacts e shape h.old.link h.new.link
-  shaped line shape t = by_finds (finds e h line (Some t.bytes) f t.tells)
+  shaped line shape t = by_finds (finds e h line (Ok t.bytes) f t.tells)
     where
-      by_finds : Finds e h line (Some t.bytes) → (e ≡ H.Memory) ⊎ ShapeFacts e shape h.old.link h.new.link
+      by_finds : Finds e h line (Ok t.bytes) → (e ≡ H.Memory) ⊎ ShapeFacts e shape h.old.link h.new.link
       by_finds (Wanting is) = inl is
-      by_finds (Absent is none) = absurd (none_some (Some t.bytes) t.bytes none refl)
-      by_finds (Long other is there past) = absurd (long_short other t.bytes (sym there) past t.within)
-      by_finds (Faulty other rule place is there within breaks) =
-          absurd (breaks.none shape (subst (λ (b : List ℕ). IsModel line.resolution b shape) (same_Some _ _ there) t.is))
-      by_finds (Said other made there within says facts) =
+      by_finds (Unread is got) = absurd (cc)
+      by_finds (Absent is got) = absurd (cc)
+      by_finds (Long n is got) = absurd (cc)
+      by_finds (Faulty other rule place is got breaks) =
+          absurd (breaks.none shape (subst (λ (b : List ℕ). IsModel line.resolution b shape) (same_Ok t.bytes other got) t.is))
+      by_finds (Said other made got says facts) =
           inr (subst (λ (s : Shape). ShapeFacts e s h.old.link h.new.link)
-          (says.only shape (subst (λ (b : List ℕ). IsModel line.resolution b shape) (same_Some _ _ there) t.is)) facts)
+          (says.only shape (subst (λ (b : List ℕ). IsModel line.resolution b shape) (same_Ok t.bytes other got) t.is)) facts)
 
 none_model : (named : Option Model) (model : Model) → named ≡ None → named ≡ Some model → ⊥
 none_model named model a b = cc

@@ -1,7 +1,9 @@
 -- What holds of each status, from what holds of each end.
 use Rattle.std.proofs.Common.{◌≡◌, ◌⊎◌, inl, inr, ℕ, None, refl, sym, ap, ◌∙◌, subst, arith}
+use Rattle.std.specs.Prelude.{Ok, Err}
 use Rattle.sim_base.specs.Causes.{Rose, one_more}
 use Rattle.sim_base.specs.Folder.{FolderView}
+use Rattle.sim_base.specs.declared.folder.ReadFault.TheVariants as r
 use Rattle.value_types.specs.declared.shape.Shape.{Shape}
 use Rattle.bench_fmus.specs.Models.{model_named}
 use Rattle.host_serving.specs.declared.serving.ServeEnd.{ServeEnd}
@@ -9,11 +11,11 @@ use Rattle.host_serving.specs.declared.serving.ServeEnd.TheVariants as E
 use Rattle.host_serving.specs.Serving.{scene}
 use Rattle.fmu_host.specs.declared.hosting.HostEnd.{HostEnd}
 use Rattle.fmu_host.specs.declared.hosting.HostEnd.TheVariants as H
-use Rattle.fmu_host.specs.Description.{Breaks, IsAsked, IsRead, IsUnread, LacksShape}
+use Rattle.fmu_host.specs.Description.{IsRead, LacksShape, Reads, ReadsBroken}
 use Rattle.fmu_host.specs.Facts.{Facts, ServesShape, ShapeFacts, Unbegun, WithoutLine, WithoutShape, WithShape, first_view}
 use Rattle.fmu_host.specs.Happened.{Happened}
 use Rattle.fmu_host.specs.Line.{IsLine, IsNoLine, Line}
-use Rattle.fmu_host.specs.Rows.{ByAbsence, ByFault, ByLength, Ends, IsBadFrame, IsDone, IsUnpermitted, IsUnserved, LacksFile, OnLine}
+use Rattle.fmu_host.specs.Rows.{BeforeCalls, BehindCalls, ByAbsence, ByFault, ByLength, Ends, IsBadFrame, IsDone, IsUnpermitted, IsUnserved, LacksFile, OnLine, WantsMemory}
 use Rattle.fmu_host.specs.Status.{status_of}
 use Rattle.fmu_host.proofs.LinkLemmas.{lost}
 use Rattle.fmu_host.proofs.Statuses.{Status, Done, WrongFrame, WrongWords, NoFile, BrokenRule, NoMachine, WrongCall, ManyCalls, LostLink, NoMemory, number, numbered, of_end, of_serve, same_number}
@@ -32,16 +34,16 @@ WhenIs Done h = OnLine h (Ends h IsDone)
 WhenIs WrongFrame h = OnLine h (Ends h IsBadFrame)
 WhenIs WrongWords h = IsNoLine h.words × (h.new ≡ h.old)
 WhenIs NoFile h = OnLine h (LacksFile h) × IsUnserved h
-WhenIs BrokenRule h = OnLine h (λ line. Breaks h.old.folder line × IsAsked line h.old.folder h.new.folder) × IsUnserved h
+WhenIs BrokenRule h = OnLine h (λ line. ReadsBroken line h.old.folder h.new.folder) × IsUnserved h
 WhenIs NoMachine h = OnLine h (IsUnknown h) × IsUnserved h
 WhenIs WrongCall h = OnLine h (Ends h IsUnpermitted)
 WhenIs ManyCalls h = OnLine h (Ends h (λ end. end ≡ E.TooMany))
 WhenIs LostLink h = OnLine h (Ends h (λ end. end ≡ E.Failed)) × LosesCount h
-WhenIs NoMemory h = Unit {0}
+WhenIs NoMemory h = (h.new ≡ h.old) ⊎ OnLine h (WantsMemory h)
 
 -- a read that failed raised the count
-pub read_rose : (line : Line) (old new : FolderView) → IsUnread line old new → Rose old.faults new.faults
-read_rose line old new e = raised old.faults new.faults (ap (λ (v : FolderView). v.faults) e)
+pub read_rose : (line : Line) (old new : FolderView) → Reads line (Err r.Failed) old new → Rose old.faults new.faults
+read_rose line old new e = raised old.faults new.faults (ap (λ (v : FolderView). v.faults) e.told)
   where
     raised : (before after : ℕ) → after ≡ one_more before → Rose before after
     raised before after e = omega arith
@@ -49,12 +51,12 @@ read_rose line old new e = raised old.faults new.faults (ap (λ (v : FolderView)
 without_shape : (e : HostEnd) (h : Happened) (line : Line) → IsLine h.words line → LacksShape e line h.old.folder h.new.folder → h.new.link ≡ h.old.link → WhenIs (of_end e) h
 without_shape H.NoWords h line is f same = absurd f
 without_shape H.Unread h line is f same = ((line, is, ByFault f (read_rose line h.old.folder h.new.folder f)), same)
-without_shape H.Missing h line is f same = ((line, is, ByAbsence f.0 f.1), same)
-without_shape H.TooBig h line is f same = ((line, is, ByLength f.0 f.1), same)
+without_shape H.Missing h line is f same = ((line, is, ByAbsence f), same)
+without_shape H.TooBig h line is f same = ((line, is, ByLength f), same)
 without_shape H.Broken h line is f same = ((line, is, f), same)
 without_shape H.Unknown h line is f same = absurd f
 without_shape (H.Served end) h line is f same = absurd f
-without_shape H.Memory h line is f same = tt
+without_shape H.Memory h line is f same = inr (line, is, BeforeCalls f same)
 
 served : (end : ServeEnd) (h : Happened) (line : Line) (shape : Shape) → IsLine h.words line → IsRead line shape h.old.folder h.new.folder →
     ServesShape end shape h.old.link h.new.link → WhenIs (of_serve end) h
@@ -67,7 +69,7 @@ served E.Failed h line shape is read s = (
   lost (scene h.old.link.input h.old.link.output (first_view s.model shape)) (scene h.new.link.input h.new.link.output s.machine) s.calm s.serves,
 )
 served E.TooMany h line shape is read s = (line, is, record { shape = shape; read = read; end = E.TooMany; so = refl; serves = s })
-served E.Memory h line shape is read s = tt
+served E.Memory h line shape is read s = inr (line, is, BehindCalls (record { shape = shape; read = read; end = E.Memory; so = refl; serves = s }))
 
 with_shape : (e : HostEnd) (h : Happened) (line : Line) (shape : Shape) → IsLine h.words line → IsRead line shape h.old.folder h.new.folder →
     ShapeFacts e shape h.old.link h.new.link → WhenIs (of_end e) h
@@ -78,10 +80,10 @@ with_shape H.TooBig h line shape is read f = absurd f
 with_shape H.Broken h line shape is read f = absurd f
 with_shape H.Unknown h line shape is read f = ((line, is, (shape, read, f.0)), f.1)
 with_shape (H.Served end) h line shape is read f = served end h line shape is read f
-with_shape H.Memory h line shape is read f = tt
+with_shape H.Memory h line shape is read f = inr (line, is, BeforeCalls (inl (Ok read.bytes, read.got.reads)) f)
 
 when_end : (e : HostEnd) (h : Happened) → HasFacts e h → WhenIs (of_end e) h
-when_end e h (Unbegun is same) = subst (λ x. WhenIs (of_end x) h) (sym is) tt
+when_end e h (Unbegun is same) = subst (λ x. WhenIs (of_end x) h) (sym is) (inl same)
 when_end e h (WithoutLine is none same) = subst (λ x. WhenIs (of_end x) h) (sym is) (none, same)
 when_end e h (WithoutShape line is f same) = without_shape e h line is f same
 when_end e h (WithShape line shape is read f) = with_shape e h line shape is read f

@@ -1,6 +1,9 @@
--- When each status comes. An `exact` row speaks of a call in which the folder tells its files and no read of it failed, and yields to want of memory.
-use Rattle.std.specs.Prelude.{◌≡◌, ◌⊎◌, ℕ, ◌-◌, ◌^◌, ◌<◌, ◌≤◌, List, length, Option, Some, None}
+-- When each status comes. An `exact` row speaks of what the read of the description got, and yields to want of memory.
+use Rattle.std.specs.Prelude.{◌≡◌, ◌⊎◌, ℕ, ◌-◌, ◌^◌, ◌<◌, ◌≤◌, List, length, Some, None, Result, Ok, Err}
 use Rattle.sim_base.specs.Causes.{Rose}
+use Rattle.sim_base.specs.Folder.{with_read}
+use Rattle.sim_base.specs.declared.folder.ReadFault.{ReadFault}
+use Rattle.sim_base.specs.declared.folder.ReadFault.TheVariants as r
 use Rattle.value_types.specs.declared.shape.Shape.{Shape}
 use Rattle.doc_tree.specs.declared.place.Place.{Place}
 use Rattle.doc_tree.specs.declared.rule.Rule.{Rule}
@@ -14,7 +17,7 @@ use Rattle.bench_fmus.specs.Models.{behaviour_of, model_named}
 use Rattle.host_serving.specs.declared.serving.ServeEnd.{ServeEnd}
 use Rattle.host_serving.specs.declared.serving.ServeEnd.TheVariants as E
 use Rattle.host_serving.specs.Told.{Comes, with_frames}
-use Rattle.fmu_host.specs.Description.{Breaks, Holds, IsAsked, IsRead, IsTooLong, IsUnread, path_of}
+use Rattle.fmu_host.specs.Description.{IsRead, MayRead, Reads, ReadsBroken, ReadsLong, path_of}
 use Rattle.fmu_host.specs.Facts.{ServesShape}
 use Rattle.fmu_host.specs.Happened.{Happened}
 use Rattle.fmu_host.specs.Line.{IsLine, IsNoLine, Line}
@@ -33,19 +36,15 @@ IsUnserved h = h.new.link ≡ h.old.link
 
 -- ---- what the folder tells
 
--- the words are this line, the folder tells that this stands at the description's path, and no read of it failed
-pub record Tells (h : Happened) (line : Line) (file : Option (List ℕ)) : Type 0 where
+-- the words are this line, and the folder tells one read more, that of the description, with this answer
+pub record Tells (h : Happened) (line : Line) (answer : Result (List ℕ) ReadFault) : Type 0 where
   pub is : IsLine h.words line
-  pub at : List ℕ → Option (List ℕ)
-  pub told : h.old.folder.files ≡ Some at
-  pub stands : at (path_of line) ≡ file
-  pub calm : Rose h.old.folder.faults h.new.folder.faults → ⊥
+  pub told : h.new.folder ≡ with_read h.old.folder (path_of line) answer
 
 -- it is a description of this shape
 pub record TellsShape (h : Happened) (line : Line) (shape : Shape) : Type 0 where
   pub bytes : List ℕ
-  pub tells : Tells h line (Some bytes)
-  pub within : length bytes ≤ 2 ^ 24
+  pub tells : Tells h line (Ok bytes)
   pub is : IsModel line.resolution bytes shape
 
 -- ---- what the input tells
@@ -110,27 +109,25 @@ pub record WordsRow (h : Happened) : Type 0 where
   pub when : h.status ≡ 2 → IsNoLine h.words × (h.new ≡ h.old)
   pub exact : IsNoLine h.words → OrMemory h 2
 
--- 3: the read failed, or there is no description, or it is longer than 16 MiB
+-- 3: exactly where the read failed, or there is no description, or it is longer than 16 MiB
 pub data LacksFile (h : Happened) (line : Line) : Type 0 where
-  ByFault : IsUnread line h.old.folder h.new.folder →
+  ByFault : Reads line (Err r.Failed) h.old.folder h.new.folder →
       Rose h.old.folder.faults h.new.folder.faults → LacksFile h line
-  ByAbsence : Holds h.old.folder line None →
-      IsAsked line h.old.folder h.new.folder → LacksFile h line
-  ByLength : IsTooLong h.old.folder line → IsAsked line h.old.folder h.new.folder → LacksFile h line
+  ByAbsence : Reads line (Err r.Missing) h.old.folder h.new.folder → LacksFile h line
+  ByLength : ReadsLong line h.old.folder h.new.folder → LacksFile h line
 
 pub record FileRow (h : Happened) : Type 0 where
   pub when : h.status ≡ 3 → OnLine h (LacksFile h) × IsUnserved h
-  pub missing : (line : Line) → Tells h line None → OrMemory h 3
-  pub big : (line : Line) (bytes : List ℕ) → Tells h line (Some bytes) →
-      2 ^ 24 < length bytes → OrMemory h 3
+  pub failed : (line : Line) → Tells h line (Err r.Failed) → OrMemory h 3
+  pub missing : (line : Line) → Tells h line (Err r.Missing) → OrMemory h 3
+  pub big : (line : Line) (n : ℕ) → Tells h line (Err (r.TooBig n)) → OrMemory h 3
 
 -- 4: exactly where the description breaks a rule
 pub record RuleRow (h : Happened) : Type 0 where
-  pub when : h.status ≡ 4 → OnLine h (λ line. Breaks h.old.folder line ×
-      IsAsked line h.old.folder h.new.folder) × IsUnserved h
+  pub when : h.status ≡ 4 →
+      OnLine h (λ line. ReadsBroken line h.old.folder h.new.folder) × IsUnserved h
   pub exact : (line : Line) (bytes : List ℕ) (rule : Rule) (place : Place) →
-      Tells h line (Some bytes) → length bytes ≤ 2 ^ 24 →
-      BreaksModel line.resolution bytes rule place → OrMemory h 4
+      Tells h line (Ok bytes) → BreaksModel line.resolution bytes rule place → OrMemory h 4
 
 -- 5: exactly where the description names no built-in machine
 pub record UnknownRow (h : Happened) : Type 0 where
@@ -155,6 +152,15 @@ pub record ServedRow (h : Happened) : Type 0 where
       TellsShape h line shape → TellsCalls h shape replies end →
       Answers h replies end ⊎ (h.status ≡ 11)
 
+-- memory was wanting: before a call was taken, when the description was read or not yet; or behind the calls that were served
+pub data WantsMemory (h : Happened) (line : Line) : Type 0 where
+  BeforeCalls : MayRead line h.old.folder h.new.folder → IsUnserved h → WantsMemory h line
+  BehindCalls : Ends h (λ end. end ≡ E.Memory) line → WantsMemory h line
+
+-- 11: nothing was done, or this
+pub record MemoryRow (h : Happened) : Type 0 where
+  pub when : h.status ≡ 11 → (h.new ≡ h.old) ⊎ OnLine h (WantsMemory h)
+
 -- no other status comes
 abbrev pub IsStatus : ℕ → Type 0
 IsStatus n = (n ≤ 6) ⊎ ((9 ≤ n) × (n ≤ 11))
@@ -165,4 +171,5 @@ pub record KeepsRows (h : Happened) : Type 0 where
   pub rule : RuleRow h
   pub unknown : UnknownRow h
   pub served : ServedRow h
+  pub memory : MemoryRow h
   pub known : IsStatus h.status

@@ -3,10 +3,10 @@ ghost use Rattle.std.specs.Prelude.{◌≡◌, ◌++◌, IfErr, IfOk, codes, dro
 ghost use Rattle.std.specs.IoError.{error_kind};
 ghost use Rattle.std.specs.Vec.Iter.{into_iter_items};
 ghost use Rattle.command_line.specs.Line.{texts};
-ghost use Rattle.fmu_host.specs.Description.{IsRead, LacksShape};
+ghost use Rattle.fmu_host.specs.Description.{IsRead, LacksShape, ReadsBytes, refused_end, unread_end};
 ghost use Rattle.fmu_host.specs.Facts.{Facts, ShapeFacts};
 ghost use Rattle.fmu_host.specs.Happened.{happened, link, stage};
-ghost use Rattle.fmu_host.specs.Line.{line_of};
+ghost use Rattle.fmu_host.specs.Line.{Line, line_of};
 ghost use Rattle.fmu_host.specs.Rows.{KeepsRows};
 ghost use Rattle.fmu_host.specs.Status.{status_of, ungiven_end};
 
@@ -150,19 +150,54 @@ fn read_model<F: Folder>(
     ensures err { IfErr result (λ end. LacksShape end (line_of line.entry) (F.view folder.old)
         (F.view folder.new)) }
 {
-    let Ok(path) = description_path(alloc, line.directory) else {
+    match read_description(alloc, line.directory, folder) {
+        Ok(bytes) => match read_shape(alloc, &bytes, line.resolution) {
+            Ok(shape) => Ok(shape),
+            Err(fault) => Err(refused_end(fault)),
+        },
+        Err(end) => Err(end),
+    }
+}
+
+// The bytes of the description in a directory.
+fn read_description<F: Folder>(
+    alloc: Global,
+    directory: &str,
+    folder: &mut F,
+) -> Result<Vec<u8>, HostEnd>
+    ensures ok { IfOk result (λ bytes. (line : Line) → line.directory ≡ directory.now →
+        ReadsBytes line bytes.items (F.view folder.old) (F.view folder.new)) }
+    ensures err { IfErr result (λ end. (line : Line) → line.directory ≡ directory.now →
+        LacksShape end line (F.view folder.old) (F.view folder.new)) }
+{
+    let Ok(path) = description_path(alloc, directory) else {
         return Err(HostEnd::Memory);
     };
     match folder.read(alloc, path.as_str(), MOST_FILE_BYTES) {
-        Ok(bytes) => match read_shape(alloc, &bytes, line.resolution) {
-            Ok(shape) => Ok(shape),
-            Err(Fault::Broken { .. }) => Err(HostEnd::Broken),
-            Err(Fault::Memory) => Err(HostEnd::Memory),
-        },
-        Err(ReadFault::Failed) => Err(HostEnd::Unread),
-        Err(ReadFault::Missing) => Err(HostEnd::Missing),
-        Err(ReadFault::TooBig { .. }) => Err(HostEnd::TooBig),
-        Err(ReadFault::Memory) => Err(HostEnd::Memory),
+        Ok(bytes) => Ok(bytes),
+        Err(fault) => Err(unread_end(fault)),
+    }
+}
+
+// The end at a description that wasn't read.
+fn unread_end(fault: ReadFault) -> HostEnd
+    ensures { result ≡ unread_end fault }
+{
+    match fault {
+        ReadFault::Failed => HostEnd::Unread,
+        ReadFault::Missing => HostEnd::Missing,
+        ReadFault::TooBig { .. } => HostEnd::TooBig,
+        ReadFault::Memory => HostEnd::Memory,
+    }
+}
+
+// The end at a description that was read and gives no shape.
+fn refused_end(fault: Fault) -> HostEnd
+    ensures { result ≡ refused_end fault }
+{
+    match fault {
+        Fault::Broken { .. } => HostEnd::Broken,
+        Fault::Memory => HostEnd::Memory,
     }
 }
 

@@ -4,6 +4,7 @@
 mod closing;
 mod ended;
 mod fmu;
+mod job;
 mod mode;
 mod peer;
 mod running;
@@ -15,6 +16,7 @@ mod talk_room;
 
 pub use ended::{Ended, Why};
 pub use fmu::Fmu;
+pub use job::Job;
 pub use mode::{Eventing, Fresh, Initializing, Instantiated, Mode, Stepping};
 pub use peer::{Exchange, Peer, PeerFault};
 pub use running::Running;

@@ -2,7 +2,9 @@ ghost use Rattle.std.specs.Prelude.{◌≡◌, ◌==◌, ◌&&◌, ◌<◌, is_s
 ghost use Rattle.fmu_peer.specs.CloseAll.{Closes, ClosesAll, ClosesAt, instance_in, is_source_lost, peer_in};
 
 use crate::closing::close_peer;
-use crate::{Ended, Eventing, Fmu, Fresh, Initializing, Instantiated, Peer, Saved, Stepping};
+use crate::{
+    Ended, Eventing, Fmu, Fresh, Initializing, Instantiated, Job, Peer, Saved, Stepping, Why,
+};
 use core::mem::replace_with;
 use sim_base::SourceId;
 
@@ -25,6 +27,10 @@ pub struct Slot<L: Peer> {
     pub saved: Option<Saved>,
     /// whether one of its answers was a refusal with Fatal
     pub is_fatal: bool,
+    /// what it is to be asked in the next round
+    pub job: Job,
+    /// what its last job was answered: whether the answer asks for the end of the run, or why it isn't good
+    pub answer: Option<Result<bool, Why>>,
 }
 
 impl<L: Peer> Held<L> {
@@ -113,6 +119,8 @@ fn close_slot<L: Peer>(slot: Slot<L>, is_spared: bool) -> Slot<L>
         held,
         saved,
         is_fatal,
+        job: _,
+        answer: _,
     } = slot;
     let mut peer = held.into_peer();
     let has_saved = give_up(saved);
@@ -126,6 +134,8 @@ fn close_slot<L: Peer>(slot: Slot<L>, is_spared: bool) -> Slot<L>
         held: Held::Closed(peer),
         saved: None,
         is_fatal: is_fatal || was_fatal,
+        job: Job::Nothing,
+        answer: None,
     }
 }
 

@@ -1,11 +1,12 @@
 -- What a folder over the host asks for, and what a read of an opened file answers.
-use Rattle.std.specs.Prelude.{◌≡◌, ℕ, ◌+◌, ◌<◌, ◌≤◌, List, [], ◌∷◌, ◌++◌, length, take, Option, option_map, IfSome, Vec, Result, Ok, Err}
+use Rattle.std.specs.Prelude.{◌≡◌, ℕ, ◌+◌, ◌<◌, ◌≤◌, List, [], ◌∷◌, ◌++◌, length, map, take, Option, option_map, IfSome, Vec, Result, Ok, Err}
 use Rattle.std.specs.declared.alloc.Global.{Global}
 use Rattle.std.specs.IoError.{error_kind}
 use Rattle.std.specs.declared.io.Error.{Error}
 use Rattle.std.specs.declared.io.ErrorKind.{ErrorKind}
 use Rattle.std.specs.declared.io.ErrorKind.TheVariants.{NotFound, OutOfMemory}
 use Rattle.sim_base.specs.ReadNotes.{ReadNotes}
+use Rattle.sim_base.specs.declared.read_book.ReadNote.{ReadNote}
 use Rattle.sim_base.specs.declared.folder.ReadFault.{ReadFault}
 use Rattle.sim_base.specs.declared.folder.ReadFault.TheVariants.{Failed, Missing, TooBig, Memory}
 
@@ -59,5 +60,5 @@ ReadsWithin old new limit (Err Memory) = IsUnread old new Memory
 -- what a folder told as asked for is what it asked the host to open, each once
 abbrev pub Opens : Option (List (List ℕ)) → Option (List (List ℕ)) → ReadNotes → ReadNotes → Type 0
 Opens old new before after =
-    (paths : List (List ℕ)) × (after.asked ≡ before.asked ++ paths) ×
-    (new ≡ option_map (λ opened. opened ++ paths) old)
+    (reads : List ReadNote) × (after.reads ≡ before.reads ++ reads) ×
+    (new ≡ option_map (λ opened. opened ++ map (λ (read : ReadNote). read.path) reads) old)

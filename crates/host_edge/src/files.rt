@@ -83,7 +83,7 @@ impl<'a, R: Files> OpenFiles for HostFiles<'a, R> {
     }
 }
 
-/// A folder over what opens files. It tells no files.
+/// A folder over what opens files. It tells no files, but what each read answered.
 #[derive(Drop)]
 pub struct OpenedFolder<H> {
     host: H,
@@ -94,8 +94,7 @@ impl<H: OpenFiles> OpenedFolder<H> {
     /// A folder before its first read.
     pub fn new(alloc: Global, host: H) -> OpenedFolder<H>
         ensures host { result.host ≡ host }
-        ensures quiet { (result.book.asked ≡ []) × (result.book.failed ≡ []) ×
-            (result.book.faults ≡ 0) }
+        ensures quiet { (result.book.reads ≡ []) × (result.book.faults ≡ 0) }
     {
         OpenedFolder {
             host,
@@ -116,15 +115,12 @@ impl<H: OpenFiles> Folder for OpenedFolder<H> {
         ensures opened { Opens (H.opened self.old.host) (H.opened self.new.host) self.old.book
             self.new.book }
     {
-        let Ok(asked) = self.book.ask(alloc, path) else {
+        let Ok(()) = self.book.ask(alloc, path) else {
             return Err(ReadFault::Memory);
         };
         let mut opened = self.host.open(path);
-        let result = read_opened(&mut opened, alloc, limit);
-        if let Err(ReadFault::Failed) = result {
-            self.book.fail(asked);
-        }
-        result
+        let answer = read_opened(&mut opened, alloc, limit);
+        self.book.answer(alloc, answer)
     }
 }
 

@@ -189,7 +189,7 @@ module _ (r : Run) (sound : IsSound r.system) (built : IsBuilt r.system) (plan :
   row _ _ _ _ (Sets w values more) is ss (g, at) does replies =
       subst (λ (js : List Instant). At r (Departing w) js (states_by r ss more)) (sym (append-nil is))
       (g, behind r more ss (entered_step r (u w is g)) (departing r (u w is g)) at (sets_by_log r (u w is g) values more sound g.sees.solves.places does))
-  row _ _ _ _ (Steps w values more asked asked_is) is ss (g, at) does replies =
+  row _ _ _ _ (Steps w values more asked asked_is ends) is ss (g, at) does replies =
       let z = u w is g in
       let answered : IsAnswered (shapes_of r.system) (stepping r.system z.t w.to) more = subst (λ (k : ℕ). IsAnswered (shapes_of r.system) (stepping r.system k w.to) more) (sym (at_point w is g)) does in
       let own = inside r more ss (departing r z) at replies in

@@ -485,12 +485,12 @@ const SOURCES: Structure = Structure::Of(
 
 // The folder was asked for these files, one after another.
 pub(crate) fn was_asked(folder: &MemFolder, paths: &[&str]) -> bool {
-    let asked = folder.book.asked_paths();
-    if asked.len() != paths.len() {
+    let reads = folder.book.reads();
+    if reads.len() != paths.len() {
         return false;
     }
     for place in 0..paths.len() {
-        if asked[place].as_str() != paths[place] {
+        if reads[place].path.as_str() != paths[place] {
             return false;
         }
     }

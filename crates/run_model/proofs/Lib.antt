@@ -9,6 +9,7 @@ mod Initially
 mod InitiallySolvable
 mod StepsOnce
 mod OneTrace
+pub mod TraceOnce
 mod Midst
 mod AlongRun
 mod Behaves

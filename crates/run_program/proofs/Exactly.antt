@@ -1,11 +1,15 @@
 -- Where a status has to come.
-use Rattle.std.proofs.Common.{◌≡◌, ◌⊎◌, inl, inr, ℕ, ◌+◌, ◌<◌, true, false, Bool, List, [], ◌∷◌, ◌++◌, length, Option, Some, None, IfSome, refl, sym, ap, ◌∙◌, subst, arith, length-append, take, append-nil}
-use Rattle.std.specs.Prelude.{is_some}
+use Rattle.std.proofs.Common.{◌≡◌, ◌⊎◌, inl, inr, ℕ, ◌+◌, ◌<◌, true, false, Bool, List, [], ◌∷◌, ◌++◌, length, Option, Some, None, refl, sym, ap, ◌∙◌, subst, arith, take, append_assoc}
+use Rattle.std.specs.Prelude.{Err}
+use Rattle.std.proofs.lemmas.List.{append_cancel_left, get_or_push, length_push}
 use Rattle.std.specs.List.{slice_get}
 use Rattle.std.proofs.lemmas.Option.{same_Some}
+use Rattle.sim_base.specs.Asking.{AreUnfailed, with_reads}
 use Rattle.sim_base.specs.Causes.{Rose}
 use Rattle.sim_base.specs.Folder.{FolderView}
+use Rattle.sim_base.specs.declared.folder.ReadFault.TheVariants as r
 use Rattle.sim_base.specs.declared.numbers.PortId.{PortId}
+use Rattle.sim_base.specs.declared.read_book.ReadNote.{ReadNote}
 use Rattle.doc_tree.specs.declared.place.Place.{Place}
 use Rattle.doc_tree.specs.declared.rule.Rule.{Rule}
 use Rattle.calling_sequence.specs.declared.run_end.RunEnd.{RunEnd}
@@ -16,9 +20,10 @@ use Rattle.command_line.specs.Line.{IsLine, Line, RunLine, run_in}
 use Rattle.system_files.specs.declared.loaded.Loaded.{Loaded}
 use Rattle.system_files.specs.declared.named.FileFault.{FileFault}
 use Rattle.system_files.specs.declared.named.FileFault.TheVariants.{Unread, Missing, TooBig, Broken}
-use Rattle.system_files.specs.Files.{Absent, Faulty, Long, with_all_asked}
+use Rattle.system_files.specs.Files.{Absent, AreSteady, Faulty, Long}
 use Rattle.system_files.specs.Loads.{FailsToRead, FileFails, Loads, Nothing, ReadsSome}
 use Rattle.system_files.specs.Order.{Agree, Comes, Fails, Finding, Found}
+use Rattle.system_files.proofs.AskLemmas.{none_here}
 use Rattle.run_program.specs.declared.outcome.Outcome.{Outcome}
 use Rattle.run_program.specs.declared.outcome.Outcome.TheVariants.{Words, Memory, File, Start, Ran, Checked, Untold}
 use Rattle.run_program.specs.declared.outcome.StartCause.TheVariants.{Failed, Unknown}
@@ -27,18 +32,14 @@ use Rattle.run_program.specs.Facts.{LineFacts, LoadFacts, LoadsLine, OfSystem, R
 use Rattle.run_program.specs.Happened.{Happened, Scene, Stage}
 use Rattle.run_program.specs.Peers.{AreKnown, IsFirstUnknown}
 use Rattle.run_program.specs.Runs.{Broke, FailsToStart, HasRun, Task, Went}
-use Rattle.run_program.specs.Rows.{Answers, AnswersOr11, Failing, IsToFind, ReadsFiles, TellsRule, Wanting, Whole, memory_line}
+use Rattle.run_program.specs.Rows.{Answers, AnswersOr11, Failing, IsToFind, ReadsAlike, ReadsFiles, TellsRule, Wanting, Whole, memory_line}
 use Rattle.run_program.proofs.PeerLemmas.{all_got, compare, slice_get-take_front}
 use Rattle.run_program.proofs.When.{HasFacts, HasPut, by_run, start_rose}
 
 -- ---- the line that the words are
 
--- nothing was asked for
-none_asked : (v : FolderView) → v ≡ with_all_asked v []
-none_asked v = ap (λ (asked : List (List ℕ)). record v { asked = asked }) (sym (append-nil v.asked))
-
 reads_none : (line : Line) (old new : FolderView) → new ≡ old → ReadsSome (search_for line) old new
-reads_none line old new same = record { asked = []; some = Nothing [] refl; told = same ∙ none_asked old }
+reads_none line old new same = record { reads = []; asked = []; some = Nothing [] refl; asks = none_here old new same }
 
 pub of_line : (o : Outcome) (h : Happened) → HasFacts o h → (line : Line) → IsLine h.words line → LineFacts o line h.old h.new
 of_line o h (WithLine r) line is = subst (λ (l : Line). LineFacts o l h.old h.new) (r.only line is) r.facts
@@ -76,18 +77,26 @@ Suits (Fails path Long) line o h = o ≡ File path TooBig
 Suits (Fails path (Faulty rule place ports)) line o h = (loop : List PortId) × (o ≡ File path (Broken rule place loop)) × IsToFind h line (Fails path (Faulty rule place loop))
 Suits (Found loaded) line o h = LoadsAlike line h o loaded
 
+-- the reads of the loading are those that are told
+same_reads : (old new : FolderView) (some reads : List ReadNote) → new ≡ with_reads old some → new ≡ with_reads old reads → some ≡ reads
+same_reads old new some reads one other = append_cancel_left old.reads some reads (ap (λ (v : FolderView). v.reads) (sym one ∙ other))
+
 -- what was found is what is to be found
 found_is : (line : Line) (h : Happened) (alone found : Finding) → IsToFind h line found → Loads (search_for line) alone h.old.folder h.new.folder → Agree alone found
-found_is line h alone found to_find loads = by h.old.folder.files to_find.told loads.comes.only
-  where
-    by : (files : Option (List ℕ → Option (List ℕ))) → is_some files ≡ true →
-        IfSome files (λ at. (others : List (List ℕ)) (other : Finding) → Comes (search_for line) h.old.folder others other → (loads.asked ≡ others) × Agree alone other) → Agree alone found
-    by (Some at) told only = (only to_find.asked found to_find.comes).1
-    by None told only = absurd (cc)
+found_is line h alone found to_find loads =
+    let same = same_reads h.old.folder h.new.folder loads.reads to_find.reads loads.asks.told to_find.alike.told in
+    (loads.comes.only (subst AreSteady (sym same) to_find.alike.steady) to_find.asked found
+    (subst (λ (reads : List ReadNote). Comes (search_for line) reads to_find.asked found) (sym same) to_find.comes)).1
 
 -- it is to be found too
 finds_too : (line : Line) (h : Happened) (alone found : Finding) → IsToFind h line found → Loads (search_for line) alone h.old.folder h.new.folder → IsToFind h line alone
-finds_too line h alone found to_find loads = record { unfailed = to_find.unfailed; told = to_find.told; asked = loads.asked; comes = loads.comes.comes }
+finds_too line h alone found to_find loads = record {
+  reads = to_find.reads;
+  alike = to_find.alike;
+  asked = loads.asked;
+  comes = subst (λ (reads : List ReadNote). Comes (search_for line) reads loads.asked alone)
+      (same_reads h.old.folder h.new.folder loads.reads to_find.reads loads.asks.told to_find.alike.told) loads.comes.comes;
+}
 
 missing_suits : (path : List ℕ) (line : Line) (h : Happened) (found : Finding) → Agree (Fails path Absent) found → Suits found line (File path Missing) h
 missing_suits path line h (Fails other Absent) a = ap (λ (p : List ℕ). File p Missing) a.0
@@ -118,18 +127,23 @@ broken_suits path rule place ports line h (Fails other (Faulty another at loop))
 broken_suits path rule place ports line h (Found loaded) a to_find = absurd a
 
 -- the read of a file failed
-longer : {X : Type 0} (xs : List X) (x : X) → xs ++ x ∷ [] ≡ xs → ⊥
-longer xs x e = differ (length xs) (sym (length-append xs (x ∷ [])) ∙ ap length e)
-  where
-    differ : (n : ℕ) → n + 1 ≡ n → ⊥
-    differ n e = omega arith
+last_unfailed : (reads : List ReadNote) (read : ReadNote) → AreUnfailed (reads ++ read ∷ []) → read.answer ≡ Err r.Failed → ⊥
+last_unfailed reads read all =
+    subst (λ (x : ReadNote). x.answer ≡ Err r.Failed → ⊥) (get_or_push reads read read (length reads) refl) (all (length reads) read (omega (arith, length_push reads read)))
 
-failed_more : {A : Type 0} (line : Line) (path : List ℕ) (old new : FolderView) → FailsToRead (search_for line) path old new → new.failed ≡ old.failed → A
-failed_more line path old new f same = absurd (longer old.failed path (sym (ap (λ (v : FolderView). v.failed) f.told) ∙ same))
+failed_more : {A : Type 0} (line : Line) (path : List ℕ) (h : Happened) (reads : List ReadNote) → FailsToRead (search_for line) path h.old.folder h.new.folder → ReadsAlike h reads → A
+failed_more line path h reads f alike =
+    let read : ReadNote = record { path = path; answer = Err r.Failed } in
+    let old = h.old.folder.reads in
+    let behind : h.new.folder.reads ≡ (old ++ f.reads) ++ read ∷ [] =
+    ap (λ (v : FolderView). v.reads) f.told ∙ ap (λ (v : FolderView). v.reads ++ read ∷ []) f.asks.told in
+    let same : f.reads ++ read ∷ [] ≡ reads =
+    append_cancel_left old (f.reads ++ read ∷ []) reads (sym (append_assoc old f.reads (read ∷ [])) ∙ sym behind ∙ ap (λ (v : FolderView). v.reads) alike.told) in
+    absurd (last_unfailed f.reads read (subst AreUnfailed (sym same) alike.unfailed) refl)
 
 file_suits : (fault : FileFault) (path : List ℕ) (line : Line) (h : Happened) (found : Finding) → FileFails (search_for line) fault path h.old.folder h.new.folder →
     IsToFind h line found → Suits found line (File path fault) h
-file_suits Unread path line h found f to_find = failed_more line path h.old.folder h.new.folder f to_find.unfailed
+file_suits Unread path line h found f to_find = failed_more line path h to_find.reads f to_find.alike
 file_suits Missing path line h found f to_find = missing_suits path line h found (found_is line h (Fails path Absent) found to_find f)
 file_suits TooBig path line h found f to_find = long_suits path line h found (found_is line h (Fails path Long) found to_find f)
 file_suits (Broken rule place ports) path line h found f to_find =

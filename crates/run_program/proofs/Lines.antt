@@ -3,6 +3,7 @@ use Rattle.std.proofs.Common.{◌≡◌, inl, inr, ℕ, List, [], ◌∷◌, ◌
 use Rattle.std.specs.Prelude.{All}
 use Rattle.std.proofs.lemmas.List.{append-nil, length-map}
 use Rattle.sim_base.specs.Folder.{FolderView}
+use Rattle.sim_base.specs.declared.read_book.ReadNote.{ReadNote}
 use Rattle.system_model.specs.declared.system.System.{System}
 use Rattle.system_model.specs.Sound.{IsSound}
 use Rattle.command_line.specs.Line.{Line}
@@ -37,13 +38,13 @@ can_run system sound built named = record {
 }
 
 -- a system that was found has a folder for each component
-pub has_folders : (s : Search) (folder : FolderView) (asked : List (List ℕ)) (loaded : Loaded) → Comes s folder asked (Found loaded) → HasFolders loaded.folders loaded.system
-has_folders s folder asked loaded comes = by (Found loaded) refl comes
+pub has_folders : (s : Search) (reads : List ReadNote) (asked : List (List ℕ)) (loaded : Loaded) → Comes s reads asked (Found loaded) → HasFolders loaded.folders loaded.system
+has_folders s reads asked loaded comes = by (Found loaded) refl comes
   where
     found_same : (one other : Loaded) → Found one ≡ Found other → one ≡ other
     found_same one other e = cc
 
-    by : (finding : Finding) → finding ≡ Found loaded → Comes s folder asked finding → HasFolders loaded.folders loaded.system
+    by : (finding : Finding) → finding ≡ Found loaded → Comes s reads asked finding → HasFolders loaded.folders loaded.system
     by finding e (NoOutline flaw a f subject lacks asks is) = absurd (apart (sym is ∙ e))
       where
         apart : {x : _} {y : _} → Fails x y ≡ Found loaded → ⊥
@@ -59,42 +60,42 @@ has_folders s folder asked loaded comes = by (Found loaded) refl comes
 
 -- ---- where memory is wanting behind the files
 
-module _ (s : Search) (folder : FolderView) (o : Outline) (shapes : List Shape) (taken : List Binding) (given : List GivenBinding) (b : Binding) (rest : List Binding)
-    (reaches : ReachesBindings s folder o shapes taken given (b ∷ rest)) where
-  values_asked : (origin : Origin) → b.values ≡ origin → AsksSome s folder (asked_with s o taken ++ part_files s.directory o b.owner origin)
+module _ (s : Search) (reads : List ReadNote) (o : Outline) (shapes : List Shape) (taken : List Binding) (given : List GivenBinding) (b : Binding) (rest : List Binding)
+    (reaches : ReachesBindings s reads o shapes taken given (b ∷ rest)) where
+  values_asked : (origin : Origin) → b.values ≡ origin → AsksSome s reads (asked_with s o taken ++ part_files s.directory o b.owner origin)
   values_asked (File base source) e =
       UpTo _ (part_path s.directory o b.owner base source) (ToPart o shapes taken given b rest (part_path s.directory o b.owner base source ∷ []) _ _ reaches
       (OfValues base source _ _ e (sym (ap (part_files s.directory o b.owner) e)) refl) refl)
   values_asked (Inline node) e = TakenBindings o shapes taken given (b ∷ rest) _ reaches (append-nil (asked_with s o taken))
 
-  mapping_asked : (set : GivenSet) (origin : Origin) → IsValuesPart s.directory folder o b.owner b.values set → b.mapping ≡ Some origin →
-      AsksSome s folder (asked_with s o taken ++ binding_files s.directory o b)
+  mapping_asked : (set : GivenSet) (origin : Origin) → IsValuesPart s.directory reads o b.owner b.values set → b.mapping ≡ Some origin →
+      AsksSome s reads (asked_with s o taken ++ binding_files s.directory o b)
   mapping_asked set (File base source) values m =
       UpTo _ (part_path s.directory o b.owner base source) (ToPart o shapes taken given b rest (binding_files s.directory o b) _ _ reaches (OfMapping set base source _ _ values m refl refl) refl)
   mapping_asked set (Inline node) values m =
-      subst (λ (files : List (List ℕ)). AsksSome s folder (asked_with s o taken ++ files))
+      subst (λ (files : List (List ℕ)). AsksSome s reads (asked_with s o taken ++ files))
       (sym (append-nil (part_files s.directory o b.owner b.values)) ∙ ap (λ (x : Option Origin). part_files s.directory o b.owner b.values ++ mapping_files s.directory o b.owner x) (sym m))
       (values_asked b.values refl)
 
   -- up to a part of a binding that isn't taken
-  part_asked : (files : List (List ℕ)) (path : List ℕ) (flaw : Flaw) → LacksBinding s folder o b files path flaw → AsksSome s folder (asked_with s o taken ++ files)
-  part_asked files path flaw (InValues f p x lacks e told) = subst (λ (z : List (List ℕ)). AsksSome s folder (asked_with s o taken ++ z)) (sym e) (values_asked b.values refl)
+  part_asked : (files : List (List ℕ)) (path : List ℕ) (flaw : Flaw) → LacksBinding s reads o b files path flaw → AsksSome s reads (asked_with s o taken ++ files)
+  part_asked files path flaw (InValues f p x lacks e told) = subst (λ (z : List (List ℕ)). AsksSome s reads (asked_with s o taken ++ z)) (sym e) (values_asked b.values refl)
   part_asked files path flaw (InMapping origin set f p x values m lacks e told) =
-      subst (λ (z : List (List ℕ)). AsksSome s folder (asked_with s o taken ++ z)) (sym e) (mapping_asked set origin values m)
+      subst (λ (z : List (List ℕ)). AsksSome s reads (asked_with s o taken ++ z)) (sym e) (mapping_asked set origin values m)
 
 -- what was asked for to an end was asked for in the order of reading
-asks_some : (s : Search) (folder : FolderView) (asked : List (List ℕ)) (finding : Finding) → Comes s folder asked finding → AsksSome s folder asked
-asks_some s folder asked finding (NoOutline flaw a f subject lacks asks is) = UpTo asked _ (ToOutline asked _ subject asks refl)
-asks_some s folder asked finding (NoShape o taken shapes c rest flaw a f reaches lacks asks is) = UpTo asked _ (ToShape o taken shapes c rest asked _ reaches asks refl)
-asks_some s folder asked finding (NoSet o shapes taken given b rest files path flaw a f reaches lacks asks is) =
-    subst (AsksSome s folder) (sym asks) (part_asked s folder o shapes taken given b rest reaches files path flaw lacks)
-asks_some s folder asked finding (NoBinding o shapes given n in_mapping rule place path a f reaches breaks told asks is) = TakenBindings o shapes o.systems.bindings given [] asked reaches asks
-asks_some s folder asked finding (NoSystem o shapes given bound component rule place ports path a f reaches binds breaks told asks is) =
+asks_some : (s : Search) (reads : List ReadNote) (asked : List (List ℕ)) (finding : Finding) → Comes s reads asked finding → AsksSome s reads asked
+asks_some s reads asked finding (NoOutline flaw a f subject lacks asks is) = UpTo asked _ (ToOutline asked _ subject asks refl)
+asks_some s reads asked finding (NoShape o taken shapes c rest flaw a f reaches lacks asks is) = UpTo asked _ (ToShape o taken shapes c rest asked _ reaches asks refl)
+asks_some s reads asked finding (NoSet o shapes taken given b rest files path flaw a f reaches lacks asks is) =
+    subst (AsksSome s reads) (sym asks) (part_asked s reads o shapes taken given b rest reaches files path flaw lacks)
+asks_some s reads asked finding (NoBinding o shapes given n in_mapping rule place path a f reaches breaks told asks is) = TakenBindings o shapes o.systems.bindings given [] asked reaches asks
+asks_some s reads asked finding (NoSystem o shapes given bound component rule place ports path a f reaches binds breaks told asks is) =
     TakenBindings o shapes o.systems.bindings given [] asked reaches asks
-asks_some s folder asked finding (Whole o shapes given one a f reaches binds makes folders asks is) = TakenBindings o shapes o.systems.bindings given [] asked reaches asks
+asks_some s reads asked finding (Whole o shapes given one a f reaches binds makes folders asks is) = TakenBindings o shapes o.systems.bindings given [] asked reaches asks
 
 pub reads_some : (s : Search) (finding : Finding) (old new : FolderView) → Loads s finding old new → ReadsSome s old new
-reads_some s finding old new l = record { asked = l.asked; some = asks_some s old l.asked finding l.comes.comes; told = l.told }
+reads_some s finding old new l = record { reads = l.reads; asked = l.asked; some = asks_some s l.reads l.asked finding l.comes.comes; asks = l.asks }
 
 -- ---- where nothing is loaded
 

@@ -61,7 +61,7 @@ higher o h f p (inr more) = err_higher (message o) (status_of o) h p more
 
 trace_row : (o : Outcome) (h : Happened) → HasFacts o h → HasPut o h → TraceRow h
 trace_row o h f p = record {
-  when = λ line asked loaded is is_asked to_find knows calm quiet. trace_exact o line asked loaded h (of_line o h f line is) p is_asked knows calm quiet
+  when = λ line asked loaded is is_asked to_find knows calm quiet. trace_exact o line asked loaded h is (of_line o h f line is) p is_asked knows calm quiet
       (suits o line h (Found loaded) (of_line o h f line is) to_find);
 }
 
@@ -108,7 +108,7 @@ keeps_rows behave o h f p = let trace = trace_row o h f p in record {
   peer = peer_case h o (course o h f);
   trace = trace;
   check = record {
-    when = λ line loaded is none to_find quiet. check_exact o line loaded h (of_line o h f line is) p none quiet (suits o line h (Found loaded) (of_line o h f line is) to_find);
+    when = λ line loaded is none to_find quiet. check_exact o line loaded h is (of_line o h f line is) p none quiet (suits o line h (Found loaded) (of_line o h f line is) to_find);
   };
   built_in = built_in_exact behave h trace;
 }

@@ -16,7 +16,7 @@ use Rattle.run_program.specs.Rows.{Idle, IsIdle, IsOfRun, IsUncalled, OnCheck, P
 use Rattle.run_program.specs.Rows as R
 use Rattle.run_program.specs.Runs.{HasRun, IsEndOf, names_of}
 use Rattle.run_program.proofs.Outs.{TellsOut, tells_out}
-use Rattle.run_program.proofs.When.{HasFacts, HasPut, by_run, line_idle, same_idle, same_uncalled, taken_idle, unstarted_idle}
+use Rattle.run_program.proofs.When.{HasFacts, HasPut, by_run, for_run, line_idle, same_idle, same_uncalled, taken_idle, unstarted_idle}
 
 -- a run of the line's system, whose end the outcome tells
 pub record HasRunOne (o : Outcome) (h : Happened) : Type 0 where
@@ -42,9 +42,9 @@ pub data Course (o : Outcome) (h : Happened) : Type 0 where
 
 of_run : (o : Outcome) (line : Line) (h : Happened) → IsLine h.words line → (it : IsOfRun h line) → RunFacts o (task_of it.asked it.loaded) it.loaded.system h.old.run h.new.run → Course o h
 of_run Words line h is it f = absurd f
-of_run Memory line h is it f = Still (taken_idle (task_of it.asked it.loaded) it.loaded.system h f)
+of_run Memory line h is it f = Still (taken_idle (task_of it.asked it.loaded) it.loaded.system h (for_run line h is it) f)
 of_run (File path fault) line h is it f = absurd f
-of_run (Start name cause) line h is it f = Still (unstarted_idle (task_of it.asked it.loaded) it.loaded.system name cause h f)
+of_run (Start name cause) line h is it f = Still (unstarted_idle (task_of it.asked it.loaded) it.loaded.system name cause h (for_run line h is it) f)
 of_run (Ran e) line h is it f = OfRun (record { line = line; is = is; it = it; end = f.0; e = e; outcome = refl; named = f.1; run = f.2 })
 of_run Checked line h is it f = absurd f
 of_run Untold line h is it f = absurd f

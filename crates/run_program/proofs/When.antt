@@ -3,7 +3,6 @@ use Rattle.std.proofs.Common.{◌≡◌, ◌⊎◌, inl, inr, ℕ, ◌+◌, List
 use Rattle.std.proofs.lemmas.List.{append-nil}
 use Rattle.std.proofs.lemmas.List.Elements.{All-nil}
 use Rattle.sim_base.specs.Causes.{Rose, one_more}
-use Rattle.sim_base.specs.Folder.{FolderView}
 use Rattle.sim_base.specs.Sink.{SinkView}
 use Rattle.fmu_peer.specs.declared.ended.Why.{Why}
 use Rattle.fmu_peer.specs.declared.ended.Why.TheVariants.{Refused, Misreply, Link}
@@ -26,9 +25,10 @@ use Rattle.system_files.specs.declared.loaded.Loaded.{Loaded}
 use Rattle.system_files.specs.Loads.{FileFails}
 use Rattle.run_program.specs.Facts.{Calm, CheckFacts, Facts, LineFacts, LoadFacts, LoadedFacts, LoadsLine, OfSystem, RunFacts, Unloaded, WithLine, WithoutLine, search_for, task_of}
 use Rattle.run_program.specs.Happened.{Happened, Scene, Stage}
-use Rattle.run_program.specs.Peers.{with_all_started}
-use Rattle.run_program.specs.Rows.{Ended, IsOfRun, IsUncalled, Told, Says, IsIdle, IsSilent, IsMute, memory_line, OnLine, IsNoLine, HasEnded, LacksFile, IsUnread, IsMissing, IsTooBig, BreaksRule, BreaksOffBy, LosesPeer, NotStarted, NotKnown, NotAnswering, IsRefusedWhy, IsMisreplyWhy, LacksSize, ReachesLimit}
+use Rattle.run_program.specs.Peers.{AreStarted, with_all_started}
+use Rattle.run_program.specs.Rows.{AreStartedFor, Ended, ForRun, IsOfRun, IsUncalled, IsUnfailed, Nobody, Told, Says, IsIdle, IsSilent, IsMute, memory_line, OnLine, IsNoLine, HasEnded, LacksFile, IsUnread, IsMissing, IsTooBig, BreaksRule, BreaksOffBy, LosesPeer, NotStarted, NotKnown, NotAnswering, IsRefusedWhy, IsMisreplyWhy, LacksSize, ReachesLimit}
 use Rattle.run_program.specs.Runs.{FailsToStart, HasRun, IsEndOf, NotesUnstarted, TakesBack, Task, names_of}
+use Rattle.system_files.proofs.AskLemmas.{none_here}
 use Rattle.run_program.proofs.Outs.{tells_out}
 use Rattle.run_program.proofs.PeerLemmas.{unasked}
 use Rattle.run_program.proofs.Statuses.{Status, Done, WrongWords, NoFile, BrokenRule, NoPeer, Refusal, WrongReply, ManyInstants, FixedSize, Unwritten, NoMemory, number, of_file, of_end, of_outcome, numbered, same_number}
@@ -69,7 +69,7 @@ WhenIs WrongReply h = OnLine h (λ line. BreaksOffBy h line IsMisreplyWhy)
 WhenIs ManyInstants h = OnLine h (ReachesLimit h)
 WhenIs FixedSize h = OnLine h (LacksSize h)
 WhenIs Unwritten h = Says h (codes "write\n") × Rose h.old.run.out.faults h.new.run.out.faults
-WhenIs NoMemory h = IsIdle h × (h.new.run.spawner.faults ≡ h.old.run.spawner.faults) × (h.new.folder.failed ≡ h.old.folder.failed) × Says h memory_line
+WhenIs NoMemory h = IsIdle h × (h.new.run.spawner.faults ≡ h.old.run.spawner.faults) × IsUnfailed h × Says h memory_line
 
 file_when : (fault : FileFault) (path : List ℕ) (line : Line) (h : Happened) → IsLine h.words line → Calm h.old.run h.new.run →
     FileFails (search_for line) fault path h.old.folder h.new.folder → Says h (file_message path fault) → WhenIs (of_file fault) h
@@ -84,6 +84,7 @@ file_when (Broken rule place ports) path line h is calm f says = (line, is, (cal
 pub same_uncalled : (h : Happened) → h.new.run.spawner ≡ h.old.run.spawner → IsUncalled h
 same_uncalled h same = record {
   peers = [];
+  whose = Nobody refl;
   unasked = All-nil _;
   started = ap (λ (s : SpawnerView). s.started) same ∙ omega arith;
   retired = ap (λ (s : SpawnerView). s.retired) same ∙ sym (append-nil h.old.run.spawner.retired);
@@ -95,10 +96,18 @@ calm_idle h calm = record {
   out = ap (λ (s : Scene). s.out) calm;
 }
 
-pub taken_idle : (task : Task) (system : System) (h : Happened) → TakesBack task system h.old.run h.new.run → IsIdle h
-taken_idle task system h t = record {
+-- peers that are started for a task are started for the line
+abbrev pub Fits : Task → System → Happened → Type 0
+Fits task system h = (peers : List View) → AreStarted task.host task.folders system.components peers → AreStartedFor h peers
+
+pub for_run : (line : Line) (h : Happened) → IsLine h.words line → (it : IsOfRun h line) → Fits (task_of it.asked it.loaded) it.loaded.system h
+for_run line h is it = λ peers are. ForRun line is it are
+
+pub taken_idle : (task : Task) (system : System) (h : Happened) → Fits task system h → TakesBack task system h.old.run h.new.run → IsIdle h
+taken_idle task system h how t = record {
   uncalled = record {
     peers = t.peers;
+    whose = how t.peers t.are;
     unasked = unasked task.host task.folders system.components t.peers t.are;
     started = ap (λ (s : SpawnerView). s.started) t.told;
     retired = ap (λ (s : SpawnerView). s.retired) t.told;
@@ -110,12 +119,13 @@ pub noted_failure : (host : List ℕ) (cause : StartCause) (c : _) (s t : Spawne
 noted_failure host Failed c s t n = (ap (λ (x : SpawnerView). x.started) n, ap (λ (x : SpawnerView). x.retired) n)
 noted_failure host Unknown c s t n = (ap (λ (x : SpawnerView). x.started) n.0, ap (λ (x : SpawnerView). x.retired) n.0)
 
-pub unstarted_idle : (task : Task) (system : System) (name : List ℕ) (cause : StartCause) (h : Happened) → FailsToStart task system name cause h.old.run h.new.run → IsIdle h
-unstarted_idle task system name cause h f =
+pub unstarted_idle : (task : Task) (system : System) (name : List ℕ) (cause : StartCause) (h : Happened) → Fits task system h → FailsToStart task system name cause h.old.run h.new.run → IsIdle h
+unstarted_idle task system name cause h how f =
     let n = noted_failure task.host cause f.component (with_all_started h.old.run.spawner f.place) f.failed f.noted in
     record {
       uncalled = record {
         peers = f.peers;
+        whose = how f.peers f.are;
         unasked = unasked task.host task.folders system.components f.peers f.are;
         started = ap (λ (s : SpawnerView). s.started) f.told ∙ n.0 ∙ ap (λ (k : ℕ). h.old.run.spawner.started + k) (sym f.each);
         retired = ap (λ (s : SpawnerView). s.retired) f.told ∙ ap (λ (vs : List View). vs ++ f.peers) n.1;
@@ -123,21 +133,25 @@ unstarted_idle task system name cause h f =
       out = f.out;
     }
 
+-- nothing was read
+unread : (h : Happened) → h.new ≡ h.old → IsUnfailed h
+unread h same = let none = none_here h.old.folder h.new.folder (ap (λ (s : Stage). s.folder) same) in ([], none.told, none.unfailed)
+
 -- for want of memory nothing was called, and no read failed
 abbrev pub IsWanting : Happened → Type 0
-IsWanting h = IsIdle h × (h.new.run.spawner.faults ≡ h.old.run.spawner.faults) × (h.new.folder.failed ≡ h.old.folder.failed)
+IsWanting h = IsIdle h × (h.new.run.spawner.faults ≡ h.old.run.spawner.faults) × IsUnfailed h
 
-pub wants_idle : (line : Line) (h : Happened) → LineFacts Memory line h.old h.new → IsWanting h
-wants_idle line h (Unloaded calm some) = (calm_idle h calm, ap (λ (s : Scene). s.spawner.faults) calm, ap (λ (v : FolderView). v.failed) some.told)
-wants_idle line h (OfSystem loaded loads facts) = by (run_in line) facts
+pub wants_idle : (line : Line) (h : Happened) → IsLine h.words line → LineFacts Memory line h.old h.new → IsWanting h
+wants_idle line h is (Unloaded calm some) = (calm_idle h calm, ap (λ (s : Scene). s.spawner.faults) calm, (some.reads, some.asks.told, some.asks.unfailed))
+wants_idle line h is (OfSystem loaded loads facts) = by (run_in line) refl facts
   where
-    by : (asked : Option RunLine) → LoadedFacts asked Memory loaded h.old.run h.new.run → IsWanting h
-    by (Some asked) back = (
-      taken_idle (task_of asked loaded) loaded.system h back,
+    by : (asked : Option RunLine) → run_in line ≡ asked → LoadedFacts asked Memory loaded h.old.run h.new.run → IsWanting h
+    by (Some asked) e back = (
+      taken_idle (task_of asked loaded) loaded.system h (for_run line h is (record { asked = asked; is_asked = e; loaded = loaded; loads = loads })) back,
       ap (λ (s : SpawnerView). s.faults) back.told,
-      ap (λ (v : FolderView). v.failed) loads.told,
+      (loads.reads, loads.asks.told, loads.asks.unfailed),
     )
-    by None back = absurd back
+    by None e back = absurd back
 
 pub same_idle : (h : Happened) → h.new ≡ h.old → IsIdle h
 same_idle h same = calm_idle h (ap (λ (s : Stage). s.run) same)
@@ -212,9 +226,9 @@ run_case : (o : Outcome) (line : Line) (h : Happened) → IsLine h.words line �
     Put h (message o) → WhenIs (of_outcome o) h
 run_case Words line h is it f says = absurd f
 run_case Memory line h is it f says = (
-  taken_idle (task_of it.asked it.loaded) it.loaded.system h f,
+  taken_idle (task_of it.asked it.loaded) it.loaded.system h (for_run line h is it) f,
   ap (λ (s : SpawnerView). s.faults) f.told,
-  ap (λ (v : FolderView). v.failed) it.loads.told,
+  (it.loads.reads, it.loads.asks.told, it.loads.asks.unfailed),
   says,
 )
 run_case (File path fault) line h is it f says = absurd f
@@ -247,7 +261,7 @@ by_run {A} o line h loaded loads facts on_run on_check = by (run_in line) refl f
 
 unloaded_when : (o : Outcome) (line : Line) (h : Happened) → IsLine h.words line → Calm h.old.run h.new.run → LoadFacts o line h.old.folder h.new.folder → Put h (message o) → WhenIs (of_outcome o) h
 unloaded_when Words line h is calm f says = absurd f
-unloaded_when Memory line h is calm f says = let i = wants_idle line h (Unloaded calm f) in (i.0, i.1, i.2, says)
+unloaded_when Memory line h is calm f says = let i = wants_idle line h is (Unloaded calm f) in (i.0, i.1, i.2, says)
 unloaded_when (File path fault) line h is calm f says = file_when fault path line h is calm f says
 unloaded_when (Start name cause) line h is calm f says = absurd f
 unloaded_when (Ran e) line h is calm f says = absurd f
@@ -263,7 +277,7 @@ outcome_when : (o : Outcome) (h : Happened) → HasFacts o h → Put h (message 
 outcome_when o h (WithLine r) says = line_when o r.line h r.is r.facts says
 outcome_when Words h (WithoutLine w) says = (w.why, w.same, says)
 outcome_when Memory h (WithoutLine w) says =
-    (same_idle h w.same, ap (λ (s : Stage). s.run.spawner.faults) w.same, ap (λ (s : Stage). s.folder.failed) w.same, says)
+    (same_idle h w.same, ap (λ (s : Stage). s.run.spawner.faults) w.same, unread h w.same, says)
 outcome_when (File path fault) h (WithoutLine w) says = absurd w.why
 outcome_when (Start name cause) h (WithoutLine w) says = absurd w.why
 outcome_when (Ran e) h (WithoutLine w) says = absurd w.why

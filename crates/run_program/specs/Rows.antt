@@ -1,10 +1,12 @@
 -- When each status comes, and what stands then.
-use Rattle.std.specs.Prelude.{◌≡◌, ◌⊎◌, ℕ, ◌+◌, ◌<◌, ◌≤◌, true, List, [], ◌∷◌, ◌++◌, length, map, All, Contains, Some, None, IsSomeAnd, is_some, codes, slice_index_or, unwrap_or}
+use Rattle.std.specs.Prelude.{◌≡◌, ◌⊎◌, ℕ, ◌+◌, ◌<◌, ◌≤◌, List, [], ◌∷◌, ◌++◌, length, map, All, Contains, Some, None, IsSomeAnd, codes, slice_index_or, unwrap_or}
 use Rattle.std.specs.List.{slice_get}
+use Rattle.sim_base.specs.Asking.{AreUnfailed, with_reads}
 use Rattle.sim_base.specs.Causes.{Rose}
 use Rattle.sim_base.specs.Sink.{with_piece}
 use Rattle.sim_base.specs.declared.numbers.CompId.{CompId}
 use Rattle.sim_base.specs.declared.numbers.PortId.{PortId}
+use Rattle.sim_base.specs.declared.read_book.ReadNote.{ReadNote}
 use Rattle.value_types.specs.declared.shape.Shape.{Shape}
 use Rattle.doc_tree.specs.declared.place.Place.{Place}
 use Rattle.doc_tree.specs.declared.rule.Rule.{Rule}
@@ -22,6 +24,7 @@ use Rattle.system_model.specs.declared.system.Component.{Component}
 use Rattle.system_model.specs.declared.system.System.{System}
 use Rattle.system_model.specs.Sound.{IsSound}
 use Rattle.system_model.specs.Text.{Instant}
+use Rattle.run_model.specs.Machines.{AreMachines}
 use Rattle.run_model.specs.Run.{Run}
 use Rattle.run_model.specs.Trace.{IsTrace}
 use Rattle.run_model.specs.Behaved.{WellBehaved}
@@ -42,12 +45,12 @@ use Rattle.run_program.specs.declared.outcome.StartCause.TheVariants.{Failed, Un
 use Rattle.system_loading.specs.Assembly.{HaveSameParts}
 use Rattle.system_files.specs.declared.loaded.Loaded.{Loaded}
 use Rattle.system_files.specs.declared.named.FileFault.TheVariants.{Unread, Missing, TooBig, Broken}
-use Rattle.system_files.specs.Files.{Absent, Faulty, Long}
+use Rattle.system_files.specs.Files.{Absent, AreSteady, Faulty, Long}
 use Rattle.system_files.specs.Loads.{FailsToRead, Loads, ReadsSome}
 use Rattle.system_files.specs.Order.{Comes, Fails, Finding, Found}
 use Rattle.run_program.specs.Facts.{Calm, FailsToTell, LoadsLine, TellsSize, search_for, task_of}
 use Rattle.run_program.specs.Happened.{Happened, Scene}
-use Rattle.run_program.specs.Peers.{AreKnown, IsFirstUnknown}
+use Rattle.run_program.specs.Peers.{AreKnown, AreStarted, IsFirstUnknown}
 use Rattle.run_program.specs.Message.{CutsShort, file_message, start_message, limit_message, fixed_message, bad_message, why_status}
 use Rattle.run_program.specs.Runs.{FailsToStart, HasRun, IsUnasked, RunsPeers, Task, names_of}
 
@@ -87,12 +90,23 @@ OnLine h P = (line : Line) × IsLine h.words line × P line
 abbrev pub IsNoLine : Happened → Type 0
 IsNoLine h = (line : Line) → IsLine h.words line → ⊥
 
--- the folder tells its files, the order of reading comes to this, and no read failed
+-- the folder tells these reads more, none of them failed, and no path was read with two answers
+pub record ReadsAlike (h : Happened) (reads : List ReadNote) : Type 0 where
+  pub told : h.new.folder ≡ with_reads h.old.folder reads
+  pub unfailed : AreUnfailed reads
+  pub steady : AreSteady reads
+
+-- and by what these reads got the order of reading comes to this
 pub record IsToFind (h : Happened) (line : Line) (finding : Finding) : Type 0 where
-  pub unfailed : h.new.folder.failed ≡ h.old.folder.failed
-  pub told : is_some h.old.folder.files ≡ true
+  pub reads : List ReadNote
+  pub alike : ReadsAlike h reads
   pub asked : List (List ℕ)
-  pub comes : Comes (search_for line) h.old.folder asked finding
+  pub comes : Comes (search_for line) reads asked finding
+
+-- no read failed
+abbrev pub IsUnfailed : Happened → Type 0
+IsUnfailed h =
+    (reads : List ReadNote) × (h.new.folder ≡ with_reads h.old.folder reads) × AreUnfailed reads
 
 -- the files are asked for in their order, each once: to an end, or to one whose read fails, which is answered, or until memory is wanting
 pub data ReadsFiles (h : Happened) (line : Line) : Type 0 where
@@ -314,9 +328,17 @@ pub record WriteRow (h : Happened) : Type 0 where
   pub higher : (h.old.run.out.faults < h.new.run.out.faults) ⊎
       (h.err.faults < h.err_after.faults) → h.status ≡ 10
 
+-- there are none, or they were started for the first components of what a line asks to be run: each by its host, by its component's name and shape, in the folder of its FMU
+pub data AreStartedFor (h : Happened) (peers : List View) : Type 0 where
+  Nobody : peers ≡ [] → AreStartedFor h peers
+  ForRun : (line : Line) → IsLine h.words line → (it : IsOfRun h line) →
+      AreStarted it.asked.host it.loaded.folders it.loaded.system.components peers →
+      AreStartedFor h peers
+
 -- each peer that was started was taken back, and none of them was called
 pub record IsUncalled (h : Happened) : Type 0 where
   pub peers : List View
+  pub whose : AreStartedFor h peers
   pub unasked : All IsUnasked peers
   pub started : h.new.run.spawner.started ≡ h.old.run.spawner.started + length peers
   pub retired : h.new.run.spawner.retired ≡ h.old.run.spawner.retired ++ peers
@@ -329,7 +351,7 @@ pub record IsIdle (h : Happened) : Type 0 where
 -- 11: no read and no start failed, no peer was called, and nothing was put
 pub record MemoryRow (h : Happened) : Type 0 where
   pub when : h.status ≡ 11 → IsIdle h × (h.new.run.spawner.faults ≡ h.old.run.spawner.faults) ×
-      (h.new.folder.failed ≡ h.old.folder.failed) × Says h memory_line
+      IsUnfailed h × Says h memory_line
 
 -- the statuses that can come
 abbrev pub IsStatus : ℕ → Type 0
@@ -352,14 +374,21 @@ ReportsEnd h r Fixed point = (h.status ≡ 9) × (place : ℕ) × (name : List �
     Says h (fixed_message name point bound)
 ReportsEnd h r Fault point = ⊥
 
+-- the machines are of their components' shapes and lawful, these instants and this end are the trace of the run, and no others are
+pub record IsOneTrace (r : Run) (is : List Instant) (kind : EndKind) (point : ℕ) : Type 0 where
+  pub machines : AreMachines r
+  pub trace : IsTrace r is kind point
+  pub only : (js : List Instant) (l : EndKind) (q : ℕ) → IsTrace r js l q → (is ≡ js) × (kind ≡ l)
+      × (point ≡ q)
+
 -- out has the text of the one trace, one piece a put, and the status is that of its end; or the put of one of its pieces failed, out has those before it and a front of that, and the status is 10
 pub data WritesTrace (h : Happened) (r : Run) : Type 0 where
-  Whole : (is : List Instant) (kind : EndKind) (point : ℕ) → IsTrace r is kind point →
+  Whole : (is : List Instant) (kind : EndKind) (point : ℕ) → IsOneTrace r is kind point →
       ReportsEnd h r kind point →
       h.new.run.out ≡ with_pieces h.old.run.out (trace_pieces r.system r.plan is kind point) →
       WritesTrace h r
   Front : (is : List Instant) (kind : EndKind) (point : ℕ) (pieces : List (List ℕ)) (piece : List ℕ)
-      (rest : List (List ℕ)) → IsTrace r is kind point → h.status ≡ 10 →
+      (rest : List (List ℕ)) → IsOneTrace r is kind point → h.status ≡ 10 →
       trace_pieces r.system r.plan is kind point ≡ pieces ++ piece ∷ rest →
       CutsPiece (with_pieces h.old.run.out pieces) piece h.new.run.out → WritesTrace h r
 

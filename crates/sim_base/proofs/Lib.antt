@@ -2,3 +2,4 @@ pub mod EscapeLemmas
 pub mod PathLemmas
 pub mod SinkLemmas
 pub mod SourceLemmas
+pub mod ReadLemmas

@@ -1,38 +1,36 @@
 -- What a folder tells, and what reading a file answers and changes.
 use Rattle.std.specs.Prelude.{◌≡◌, ◌⊎◌, ℕ, ◌<◌, ◌≤◌, List, [], ◌∷◌, ◌++◌, length, Option, Some, None, Vec, Result, Ok, Err, if◌then◌else◌, bytes_eq}
 use Rattle.std.specs.declared.alloc.Global.{Global}
-use Rattle.sim_base.specs.Causes.{one_more}
 use Rattle.sim_base.specs.declared.folder.ReadFault.{ReadFault}
 use Rattle.sim_base.specs.declared.folder.ReadFault.TheVariants.{Failed, Missing, TooBig, Memory}
 use Rattle.sim_base.specs.declared.folder.MemFile.{MemFile}
-use Rattle.sim_base.specs.ReadNotes.{ReadNotes}
+use Rattle.sim_base.specs.declared.read_book.ReadNote.{ReadNote}
+use Rattle.sim_base.specs.ReadNotes.{ReadNotes, faults_after, read_of}
 
--- what a folder tells: the bytes at each path, where it tells them, and its notes of its reads
+-- what a folder tells: the bytes at each path, where it tells them; and, always, each read with its answer, the newest last, and how often one has failed
 pub record FolderView : Type 0 where
   pub files : Option (List ℕ → Option (List ℕ))
-  pub asked : List (List ℕ)
-  pub failed : List (List ℕ)
+  pub reads : List ReadNote
   pub faults : ℕ
 
 -- what a folder tells that has these files and these notes
 abbrev pub folder_view : Option (List ℕ → Option (List ℕ)) → ReadNotes → FolderView
-folder_view files notes = record { files = files; asked = notes.asked; failed = notes.failed; faults = notes.faults }
+folder_view files notes = record { files = files; reads = notes.reads; faults = notes.faults }
 
--- one more path was asked for
-abbrev pub with_asked : FolderView → List ℕ → FolderView
-with_asked view path = record view { asked = view.asked ++ path ∷ [] }
+-- one read more of a path, with this answer
+abbrev pub with_read : FolderView → List ℕ → Result (List ℕ) ReadFault → FolderView
+with_read view path answer = record view {
+  reads = view.reads ++ read_of path answer ∷ [];
+  faults = faults_after view.faults answer;
+}
 
--- the read of one more path failed
-abbrev pub with_failed : FolderView → List ℕ → FolderView
-with_failed view path = record view { failed = view.failed ++ path ∷ []; faults = one_more view.faults }
-
--- what a read of a path makes of what a folder tells. For want of memory the path may not be noted
+-- what a read of a path makes of what a folder tells. For want of memory it may not be noted
 abbrev pub NotesRead : FolderView → FolderView → List ℕ → Result (Vec ℕ Global) ReadFault → Type 0
-NotesRead old new path (Ok bytes) = new ≡ with_asked old path
-NotesRead old new path (Err Missing) = new ≡ with_asked old path
-NotesRead old new path (Err (TooBig n)) = new ≡ with_asked old path
-NotesRead old new path (Err Failed) = new ≡ with_failed (with_asked old path) path
-NotesRead old new path (Err Memory) = (new ≡ with_asked old path) ⊎ (new ≡ old)
+NotesRead old new path (Ok bytes) = new ≡ with_read old path (Ok bytes.items)
+NotesRead old new path (Err Missing) = new ≡ with_read old path (Err Missing)
+NotesRead old new path (Err (TooBig n)) = new ≡ with_read old path (Err (TooBig n))
+NotesRead old new path (Err Failed) = new ≡ with_read old path (Err Failed)
+NotesRead old new path (Err Memory) = (new ≡ with_read old path (Err Memory)) ⊎ (new ≡ old)
 
 -- the answer to a read of what stands at a path: all of it, or why not
 abbrev pub Reads : Option (List ℕ) → ℕ → Result (Vec ℕ Global) ReadFault → Type 0

@@ -23,7 +23,7 @@ pub enum ReadFault {
 pub trait Folder {
     ghost use Rattle.sim_base.specs.Folder.{FolderView};
 
-    /// What it tells: the bytes at each path, if it tells them, and its notes of its reads.
+    /// What it tells: the bytes at each path, if it tells them, and each read with its answer.
     ghost view: { Self → FolderView };
 
     /// Reads the whole file at a path, of at most `limit` bytes.
@@ -56,8 +56,7 @@ impl MemFolder {
     pub fn new(alloc: Global, files: Vec<MemFile>, failing: Vec<u64>) -> MemFolder
         ensures files { result.files ≡ files.items }
         ensures failing { result.failing ≡ failing.items }
-        ensures quiet { (result.reads ≡ 0) × (result.book.asked ≡ []) × (result.book.failed ≡ []) ×
-            (result.book.faults ≡ 0) }
+        ensures quiet { (result.reads ≡ 0) × (result.book.reads ≡ []) × (result.book.faults ≡ 0) }
     {
         MemFolder {
             files: Items::from_vec(files),
@@ -99,14 +98,15 @@ impl Folder for MemFolder {
     {
         let is_failing = is_listed(self.failing.as_slice(), self.reads);
         self.reads = self.reads.saturating_add(1);
-        let Ok(asked) = self.book.ask(alloc, path) else {
+        let Ok(()) = self.book.ask(alloc, path) else {
             return Err(ReadFault::Memory);
         };
-        if is_failing {
-            self.book.fail(asked);
-            return Err(ReadFault::Failed);
-        }
-        read_from(alloc, self.files.as_slice(), path, limit)
+        let answer = if is_failing {
+            Err(ReadFault::Failed)
+        } else {
+            read_from(alloc, self.files.as_slice(), path, limit)
+        };
+        self.book.answer(alloc, answer)
     }
 }
 

@@ -18,7 +18,7 @@ pub use items::Items;
 pub use limits::{MOST_COUNTS, MOST_FILE_BYTES, MOST_INSTANTS, MOST_NAME_BYTES};
 pub use numbers::{CompId, PortId, SourceId};
 pub use path::{join_path, kept_segments, plain_path};
-pub use read_book::ReadBook;
+pub use read_book::{ReadBook, ReadNote};
 pub use sink::{MemSink, Sink, SinkFault};
 pub use source::{MemSource, Source, SourceFault};
 pub use text::Text;

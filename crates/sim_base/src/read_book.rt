@@ -1,84 +1,86 @@
-ghost use Rattle.std.specs.Prelude.{◌≡◌, ◌<◌, ◌++◌, [], ◌∷◌, IfOk, OnOk, OnErr, length};
-ghost use Rattle.sim_base.specs.Causes.{one_more};
+ghost use Rattle.std.specs.Prelude.{◌≡◌, ◌⊎◌, ◌<◌, ◌++◌, [], ◌∷◌, OnOk, OnErr, Err, length};
+ghost use Rattle.sim_base.specs.ReadNotes.{faults_after, read_of, told_answer, with_last};
 
-use crate::Text;
+use crate::{Items, ReadFault, Text};
 use std::alloc::{AllocError, Global};
 use std::marker::Model;
 
-/// What a folder notes of its reads: the paths that it was asked for, and those whose read failed, the newest last;
-/// and how often a read has failed.
+/// A read: the path that was asked for, and what it answered.
+#[derive(Debug, Drop)]
+pub struct ReadNote {
+    pub path: Text,
+    pub answer: Result<Items<u8>, ReadFault>,
+}
+
+/// What a folder notes of its reads: each with its answer, the newest last; and how often one has failed.
 #[derive(Debug, Drop)]
 pub struct ReadBook {
-    asked: Vec<Text>,
-    failed: Vec<Text>,
+    reads: Vec<ReadNote>,
     faults: u64,
 }
 
 impl Model for ReadBook {
-    ghost use Rattle.std.specs.Prelude.{◌≤◌, length, vec_capacity};
     ghost use Rattle.sim_base.specs.ReadNotes.{ReadNotes};
 
     ghost Value = { ReadNotes };
 
-    ghost view = { λ b. record { asked = b.asked.items; failed = b.failed.items; faults = b.faults } };
+    ghost view = { λ b. record { reads = b.reads.items; faults = b.faults } };
 
-    ghost invariant = { λ b. (length b.failed.items ≤ length b.asked.items)
-        × (length b.asked.items ≤ vec_capacity b.failed) };
+    ghost invariant = { λ b. Unit {0} };
 }
 
 impl ReadBook {
     /// A book before the first read. It takes no memory.
     pub fn new(alloc: Global) -> ReadBook
-        ensures asked { result.asked ≡ [] }
-        ensures failed { result.failed ≡ [] }
+        ensures reads { result.reads ≡ [] }
         ensures quiet { result.faults ≡ 0 }
     {
         ReadBook {
-            asked: Vec::new(alloc),
-            failed: Vec::new(alloc),
+            reads: Vec::new(alloc),
             faults: 0,
         }
     }
 
-    /// Notes that a path is asked for, and answers it, to be handed back where its read fails.
-    pub fn ask(&mut self, alloc: Global, path: &str) -> Result<Text, AllocError>
-        ensures path { IfOk result (λ text. text ≡ path.now) }
-        ensures ok { OnOk result
-            (self.new ≡ record self.old { asked = self.old.asked ++ path.now ∷ [] }) }
-        ensures room { OnOk result (length self.new.failed < length self.new.asked) }
+    /// Notes that a path is asked for, before there is an answer.
+    pub fn ask(&mut self, alloc: Global, path: &str) -> Result<(), AllocError>
+        ensures ok { OnOk result (self.new ≡ record self.old {
+          reads = self.old.reads ++ read_of path.now (Err ReadFault.Memory) ∷ [];
+        }) }
         ensures err { OnErr result (self.new ≡ self.old) }
     {
-        let text = Text::from_str(alloc, path)?;
-        let noted = text.copy(alloc)?;
-        self.failed
-            .reserve(self.asked.len() - self.failed.len() + 1)?;
-        self.asked.push(noted)?;
-        Ok(text)
+        let path = Text::from_str(alloc, path)?;
+        self.reads.push(ReadNote {
+            path,
+            answer: Err(ReadFault::Memory),
+        })?;
+        Ok(())
     }
 
-    /// Notes that the read of a path failed that was asked for.
-    pub fn fail(&mut self, path: Text)
-        requires { length self.old.failed < length self.old.asked }
-        ensures asked { self.new.asked ≡ self.old.asked }
-        ensures failed { self.new.failed ≡ self.old.failed ++ path ∷ [] }
-        ensures counted { self.new.faults ≡ one_more self.old.faults }
+    /// Notes the answer to what was asked for last, and hands it on; or that there is no memory to note it.
+    pub fn answer(
+        &mut self,
+        alloc: Global,
+        answer: Result<Vec<u8>, ReadFault>,
+    ) -> Result<Vec<u8>, ReadFault>
+        requires { 0 < length self.old.reads }
+        ensures reads { self.new.reads ≡ with_last self.old.reads (told_answer result) }
+        ensures faults { self.new.faults ≡ faults_after self.old.faults (told_answer result) }
+        ensures same { (result ≡ answer) ⊎ (result ≡ Err ReadFault.Memory) }
     {
-        self.failed.push_reserved(path);
-        self.faults = self.faults.saturating_add(1);
+        let Some(last) = self.reads.pop() else {
+            unreachable!()
+        };
+        let (result, note) = copied(alloc, answer);
+        self.reads.push_reserved(answered(last, note));
+        self.faults = counted(self.faults, &result);
+        result
     }
 
-    /// The paths that were asked for, the newest last.
-    pub fn asked_paths(&self) -> &[Text]
-        ensures { result.now ≡ self.now.asked }
+    /// The reads, the newest last.
+    pub fn reads(&self) -> &[ReadNote]
+        ensures { result.now ≡ self.now.reads }
     {
-        self.asked.as_slice()
-    }
-
-    /// The paths whose read failed, the newest last.
-    pub fn failed_paths(&self) -> &[Text]
-        ensures { result.now ≡ self.now.failed }
-    {
-        self.failed.as_slice()
+        self.reads.as_slice()
     }
 
     /// How often a read has failed. The count stands still at its last value.
@@ -86,5 +88,42 @@ impl ReadBook {
         ensures { result ≡ self.now.faults }
     {
         self.faults
+    }
+}
+
+// The count of failed reads behind an answer.
+fn counted(faults: u64, answer: &Result<Vec<u8>, ReadFault>) -> u64
+    ensures { result ≡ faults_after faults (told_answer answer.now) }
+{
+    match answer {
+        Err(ReadFault::Failed) => faults.saturating_add(1),
+        _ => faults,
+    }
+}
+
+// The read with this answer.
+fn answered(read: ReadNote, answer: Result<Items<u8>, ReadFault>) -> ReadNote
+    ensures { result ≡ record read { answer = answer } }
+{
+    ReadNote {
+        path: read.path,
+        answer,
+    }
+}
+
+// An answer and its note, or that there is no memory for a note.
+fn copied(
+    alloc: Global,
+    answer: Result<Vec<u8>, ReadFault>,
+) -> (Result<Vec<u8>, ReadFault>, Result<Items<u8>, ReadFault>)
+    ensures note { result.1 ≡ told_answer result.0 }
+    ensures same { (result.0 ≡ answer) ⊎ (result.0 ≡ Err ReadFault.Memory) }
+{
+    match answer {
+        Ok(bytes) => match bytes.as_slice().to_vec(alloc) {
+            Ok(copy) => (Ok(bytes), Ok(Items::from_vec(copy))),
+            Err(_) => (Err(ReadFault::Memory), Err(ReadFault::Memory)),
+        },
+        Err(fault) => (Err(fault), Err(fault)),
     }
 }

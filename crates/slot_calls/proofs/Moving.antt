@@ -1,6 +1,6 @@
 -- One call of a peer, and of what is held.
-use Rattle.std.proofs.Common.{◌≡◌, ℕ, Bool, false, true, [], ◌∷◌, Ok, Err, Result, Some, refl, sym, ap, ◌∙◌, subst, ℤ, arith, to_z, of_z}
-use Rattle.std.specs.Prelude.{FitsSigned, if◌then◌else◌, ◌||◌, IfOk, IfErr, MatchResult, is_some}
+use Rattle.std.proofs.Common.{◌≡◌, Bool, false, true, [], ◌∷◌, Ok, Err, Result, Some, refl, sym, ap, ap₂, ◌∙◌, subst, ℤ, arith, to_z, of_z}
+use Rattle.std.specs.Prelude.{FitsSigned, if◌then◌else◌, ◌||◌, IfOk, IfErr, MatchResult, OnOk, is_some}
 use Rattle.std.specs.Int.{w128}
 use Rattle.std.proofs.lemmas.Int.{ints, to_z-of_z}
 use Rattle.value_types.specs.Values.{Fits}
@@ -15,6 +15,7 @@ use Rattle.fmi_calls.specs.declared.call.Reply.TheVariants as R
 use Rattle.fmi_calls.specs.declared.call.Grade.{Grade}
 use Rattle.fmi_calls.specs.declared.call.Grade.TheVariants as G
 use Rattle.fmi_calls.specs.declared.phase.Phase.{Phase}
+use Rattle.fmi_calls.specs.declared.phase.InstanceState.TheVariants as P
 use Rattle.fmi_calls.specs.KindFacts.{keeps_state}
 use Rattle.fmi_calls.specs.Next.{graded, counted, entered}
 use Rattle.fmi_calls.specs.Permission.{Permitted}
@@ -23,7 +24,7 @@ use Rattle.fmu_peer.specs.declared.ended.Why.{Why}
 use Rattle.fmu_peer.specs.declared.ended.Why.TheVariants.{Refused, Misreply, Link}
 use Rattle.fmu_peer.specs.declared.peer.Exchange.{Exchange}
 use Rattle.fmu_peer.specs.declared.slot.Held.{Held}
-use Rattle.fmu_peer.specs.Answer.{Answered, Failed}
+use Rattle.fmu_peer.specs.Answer.{Answered, Failed, IsWhy}
 use Rattle.fmu_peer.specs.declared.peer.PeerFault.{PeerFault}
 use Rattle.fmu_peer.specs.declared.slot.Slot.{Slot}
 use Rattle.fmu_peer.specs.Close.{any_fatal, is_fatal_answer, is_fatal_reply, is_fatal_status}
@@ -32,9 +33,9 @@ use Rattle.fmu_peer.specs.View.{View}
 use Rattle.run_model.specs.Stepping.{is_terminating}
 use Rattle.slot_calls.specs.Carried.{reply_in, with_some}
 use Rattle.slot_calls.specs.Log.{One, Worth}
-use Rattle.slot_calls.specs.Slots.{Moves, Called, IsLive, is_fatal_result, call_of, keeps_mode}
-use Rattle.slot_calls.specs.declared.ask.Ask.{Ask}
-use Rattle.slot_calls.specs.declared.ask.Ask.TheVariants as Asks
+use Rattle.slot_calls.specs.Slots.{Moves, Called, IsLive, LiveSlot, Stays, is_fatal_result, keeps_mode}
+use Rattle.slot_calls.specs.SavedStates.{if_good, saved_by}
+use Rattle.slot_calls.proofs.Leading.{led}
 use Rattle.slot_calls.proofs.States.{saved_same}
 
 -- the phase after a good answer
@@ -83,32 +84,35 @@ module _ {L T : Type 0} {g : _} (view : L → View) (old new : Held L g) (call :
       Moves view old call value new (Err why)
   moves_bad why may f = record { called = called_bad (view (peer_in old)) (view (peer_in new)) call value why may f; live = tt }
 
+-- ---- a call that leaves an FMU in Step Mode
+
+module _ {T : Type 0} (old new : View) (call : Call) (value : Exchange → T) (had has : Bool) where
+  pub stays_good : (reply : Reply) (x : T) → Permitted old.fixed.shape old.phase call → Answered old call reply new → x ≡ value (record { call = call; result = Ok reply }) →
+      (entered old.fixed.shape (counted old.phase call) call reply).state ≡ P.Step → has ≡ saved_by old.fixed.shape call (Ok reply) had → Stays call value old new had has (Ok x)
+  unfolding called_good
+  stays_good reply x may a is state token = record { called = called_good old new call value reply x may a is; state = state_by_good old new call reply a ∙ state; token = token }
+
+  pub stays_bad : (why : Why) → Permitted old.fixed.shape old.phase call → Failed old call why new → ((e : Exchange) → e.call ≡ call → IsWhy old.fixed.shape why e → has ≡ saved_by old.fixed.shape e.call e.result had) →
+      Stays call value old new had has (Err why)
+  stays_bad why may f token =
+      let called = called_bad old new call value why may f in
+      record { called = called; state = tt; token = token called.exchange called.is called.worth }
+
 -- ---- no answer but a step's asks for the end
+
+abbrev is_step : Call → Bool
+is_step (C.DoStep at size) = true
+is_step call = false
 
 module _ (shape : Shape) where
   pub grade_no : (b : Bool) → b ≡ false → (if b then G.Good else G.Misreply) ≡ G.Good → ⊥
   grade_no true h k = absurd (cc)
   grade_no false h k = absurd (cc)
 
-  pub ends_instantiate : (event_mode early : Bool) (reply : Reply) → grade_of shape (C.Instantiate event_mode early) reply ≡ G.Good → false ≡ is_terminating reply
-  ends_instantiate event_mode early (R.Done is_warning (A.DoStep event_needed terminate e end)) h = absurd (grade_no false refl h)
-  ends_instantiate event_mode early reply h = refl
-
-  pub ends_enter : (start stop : ℕ) (reply : Reply) → grade_of shape (C.EnterInitialization start stop) reply ≡ G.Good → false ≡ is_terminating reply
-  ends_enter start stop (R.Done is_warning (A.DoStep event_needed terminate e end)) h = absurd (grade_no false refl h)
-  ends_enter start stop reply h = refl
-
-  pub ends_exit : (reply : Reply) → grade_of shape C.ExitInitialization reply ≡ G.Good → false ≡ is_terminating reply
-  ends_exit (R.Done is_warning (A.DoStep event_needed terminate e end)) h = absurd (grade_no false refl h)
-  ends_exit reply h = refl
-
-  pub ends_enter_event : (reply : Reply) → grade_of shape C.EnterEvent reply ≡ G.Good → false ≡ is_terminating reply
-  ends_enter_event (R.Done is_warning (A.DoStep event_needed terminate e end)) h = absurd (grade_no false refl h)
-  ends_enter_event reply h = refl
-
-  pub ends_enter_step : (reply : Reply) → grade_of shape C.EnterStep reply ≡ G.Good → false ≡ is_terminating reply
-  ends_enter_step (R.Done is_warning (A.DoStep event_needed terminate e end)) h = absurd (grade_no false refl h)
-  ends_enter_step reply h = refl
+  pub ends_none : (call : Call) → is_step call ≡ false → (reply : Reply) → grade_of shape call reply ≡ G.Good → false ≡ is_terminating reply
+  ends_none (C.DoStep at size) none reply h = absurd (cc)
+  ends_none call none (R.Done is_warning (A.DoStep event_needed terminate e end)) h = absurd (grade_no false refl h)
+  ends_none call none reply h = refl
 
 -- ---- a call that leaves the mode
 
@@ -144,6 +148,10 @@ pub fatal_some : {A : Type 0} (r : Result A Why) → is_fatal_result (with_some 
 fatal_some (Ok x) = refl
 fatal_some (Err why) = refl
 
+pub ok_some : {A : Type 0} (P : Type 0) (r : Result A Why) → OnOk (with_some r) P → OnOk r P
+ok_some P (Ok x) p = p
+ok_some P (Err why) p = tt
+
 -- the calls that are sent to a slot keep no state
 pub mode_keeps : (call : Call) → keeps_mode call ≡ true → keeps_state call ≡ false
 mode_keeps C.Save mode = absurd (cc)
@@ -151,28 +159,44 @@ mode_keeps C.Restore mode = absurd (cc)
 mode_keeps C.Free mode = absurd (cc)
 mode_keeps call mode = refl
 
-pub ask_keeps : (ask : Ask) (shape : Shape) → keeps_state (call_of ask shape) ≡ false
-ask_keeps Asks.Instantiate shape = refl
-ask_keeps (Asks.EnterInitialization start stop) shape = refl
-ask_keeps Asks.ExitInitialization shape = refl
-ask_keeps Asks.EnterEvent shape = refl
-ask_keeps Asks.EnterStep shape = refl
-ask_keeps (Asks.DoStep at size) shape = refl
+-- a slot that is marked by its result, and has its token by the call, from the call to its peer
+pub one_called : {L T : Type 0} {g : _} (view : L → View) (old new : Slot L g) (call : Call) (value : Exchange → T) (r : Result T Why) → (called : Called call value (view (peer_in old.held)) (view (peer_in new.held)) r) →
+    new.source.0 ≡ old.source.0 → is_some new.saved ≡ saved_by (view (peer_in old.held)).fixed.shape called.exchange.call called.exchange.result (is_some old.saved) → new.is_fatal ≡ (old.is_fatal || is_fatal_result r) →
+    One call value (instance_in view old) (instance_in view new) r
+one_called view old new call value r called source saved fatal = record {
+  exchange = called.exchange;
+  is = called.is;
+  has = record {
+    talks = called.talks;
+    source = source;
+    saved = saved;
+    fatal = fatal ∙ ap (λ (b : Bool). old.is_fatal || b) (fatal_one (view (peer_in old.held)).fixed.shape value called.exchange r called.worth);
+  };
+  worth = called.worth;
+}
 
--- a slot that is marked by its result, from what it holds
+-- a call that keeps no state leaves the token
 pub one_moved : {L T : Type 0} {g : _} (view : L → View) (old new : Slot L g) (call : Call) (value : Exchange → T) (r : Result T Why) → Moves view old.held call value new.held r →
     new.source.0 ≡ old.source.0 → is_some new.saved ≡ is_some old.saved → keeps_state call ≡ false → new.is_fatal ≡ (old.is_fatal || is_fatal_result r) → One call value (instance_in view old) (instance_in view new) r
-one_moved view old new call value r moves source saved keeps fatal = record {
-  exchange = moves.called.exchange;
-  is = moves.called.is;
-  has = record {
-    talks = moves.called.talks;
-    source = source;
-    saved = saved ∙ sym (saved_same (view (peer_in old.held)).fixed.shape moves.called.exchange.call moves.called.exchange.result (is_some old.saved) (ap keeps_state moves.called.is ∙ keeps));
-    fatal = fatal ∙ ap (λ (b : Bool). old.is_fatal || b) (fatal_one (view (peer_in old.held)).fixed.shape value moves.called.exchange r moves.called.worth);
-  };
-  worth = moves.called.worth;
-}
+one_moved view old new call value r moves source saved keeps fatal =
+    one_called view old new call value r moves.called source
+    (saved ∙ sym (saved_same (view (peer_in old.held)).fixed.shape moves.called.exchange.call moves.called.exchange.result (is_some old.saved) (ap keeps_state moves.called.is ∙ keeps))) fatal
+
+-- a good answer leaves a slot the token of a saved state exactly where the phase has one
+full_by : (shape : Shape) (p : Phase) (call : Call) (reply : Reply) → grade_of shape call reply ≡ G.Good → (entered shape (counted p call) call reply).slot.is_full ≡ saved_by shape call (Ok reply) p.slot.is_full
+full_by shape p C.Save reply good = sym (ap (λ (g : Grade). if_good g p.slot.is_full) good)
+full_by shape p call reply good = refl
+
+pub live_on : {L T : Type 0} {g : _} (view : L → View) (old new : Slot L g) (call : Call) (value : Exchange → T) (r : Result T Why) → One call value (instance_in view old) (instance_in view new) r → LiveSlot view old → OnOk r (IsLive view new.held) →
+    OnOk r (LiveSlot view new)
+live_on view old new call value (Ok x) o live held =
+    let l = led (view (peer_in old.held)) (view (peer_in new.held)) o.exchange o.has.talks o.worth.0 in
+    let before = view (peer_in old.held) in
+    record {
+      held = held;
+      token = o.has.saved ∙ ap₂ (saved_by before.fixed.shape o.exchange.call) l.is live.token ∙ sym (full_by before.fixed.shape before.phase o.exchange.call l.reply l.good) ∙ ap (λ (p : Phase). p.slot.is_full) (sym l.phase);
+    }
+live_on view old new call value (Err why) o live held = tt
 
 -- ---- values
 

@@ -1,5 +1,5 @@
 -- Which saved state is held behind a list of exchanges.
-use Rattle.std.proofs.Common.{◌≡◌, Bool, false, List, [], ◌∷◌, ◌++◌, Result, refl}
+use Rattle.std.proofs.Common.{◌≡◌, Bool, false, List, [], ◌∷◌, ◌++◌, Option, Result, refl}
 use Rattle.value_types.specs.declared.shape.Shape.{Shape}
 use Rattle.fmi_calls.specs.declared.call.Call.{Call}
 use Rattle.fmi_calls.specs.declared.call.Call.TheVariants as C
@@ -7,11 +7,20 @@ use Rattle.fmi_calls.specs.declared.call.Reply.{Reply}
 use Rattle.fmi_calls.specs.KindFacts.{keeps_state}
 use Rattle.fmu_peer.specs.declared.peer.Exchange.{Exchange}
 use Rattle.fmu_peer.specs.declared.peer.PeerFault.{PeerFault}
-use Rattle.slot_calls.specs.SavedStates.{saved_after, saved_by}
+use Rattle.slot_calls.specs.SavedStates.{has_stepped, last_step, saved_after, saved_by, step_or, steps}
 
 pub saved_on : (shape : Shape) (saved : Bool) (es fs : List Exchange) → saved_after shape saved (es ++ fs) ≡ saved_after shape (saved_after shape saved es) fs
 saved_on shape saved [] fs = refl
 saved_on shape saved (e ∷ es) fs = saved_on shape (saved_by shape e.call e.result saved) es fs
+
+-- the last step behind a list, and whether one stands behind the last Save
+pub last_on : (before : Option Exchange) (es fs : List Exchange) → last_step before (es ++ fs) ≡ last_step (last_step before es) fs
+last_on before [] fs = refl
+last_on before (e ∷ es) fs = last_on (step_or e e.call before) es fs
+
+pub stepped_on : (stepped : Bool) (es fs : List Exchange) → has_stepped stepped (es ++ fs) ≡ has_stepped (has_stepped stepped es) fs
+stepped_on stepped [] fs = refl
+stepped_on stepped (e ∷ es) fs = stepped_on (steps e.call stepped) es fs
 
 -- a call that keeps no state leaves it
 pub saved_same : (shape : Shape) (call : Call) (result : Result Reply PeerFault) (saved : Bool) → keeps_state call ≡ false → saved_by shape call result saved ≡ saved

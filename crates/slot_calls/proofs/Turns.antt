@@ -13,7 +13,7 @@ use Rattle.fmu_peer.specs.CloseAll.{Instance}
 use Rattle.slot_calls.specs.Carried.{any_asks_to_end, asks_to_end}
 use Rattle.slot_calls.specs.Log.{One, Asking, Sent, Told}
 use Rattle.slot_calls.specs.Rounds.{joined}
-use Rattle.slot_calls.specs.Stage.{everyone, FailsIn, IsAnswered, RoundSays, StopsAt, shapes, to_each, to_those}
+use Rattle.slot_calls.specs.Stage.{FailsIn, IsAnswered, RoundSays, StopsAt, shapes, to_those}
 use Rattle.slot_calls.specs.declared.bad_answer.BadAnswer.{BadAnswer}
 use Rattle.slot_calls.proofs.Logs.{askings_append, told_on, told_one}
 use Rattle.slot_calls.proofs.Answered.{IsShapeAt, answered_on, answered_one, first_here, map_at, one_log, shape_of, shapes_same, stops_front, stops_on, stops_one, those_more, those_same, those_split}
@@ -114,6 +114,12 @@ module _ {A : Type 0} (f : A → Instance) (call : Shape → Call) (olds news : 
     each_left unasked answered =
         subst (λ (cs : List Asking). IsAnswered (shapes (map f olds)) cs log) (sym (those_same test call (shapes (map f olds)) place (shape_of (f (get_or news place d))) in_shapes here unasked)) answered
 
+    -- the same in a round
+    pub round_left : test (shape_of (f (get_or news place d))) ≡ false → (so_far : Result Bool BadAnswer) → RoundSays (shapes (map f olds)) (to_those test call (take place (shapes (map f olds)))) any_asks_to_end log so_far →
+        RoundSays (shapes (map f olds)) (to_those test call (take (place + 1) (shapes (map f olds)))) any_asks_to_end log so_far
+    round_left unasked so_far says =
+        subst (λ (cs : List Asking). RoundSays (shapes (map f olds)) cs any_asks_to_end log so_far) (sym (those_same test call (shapes (map f olds)) place (shape_of (f (get_or news place d))) in_shapes here unasked)) says
+
     -- one that is asked
     module _ (asked : test (shape_of (f (get_or news place d))) ≡ true) where
       pub calls_more : to_those test call (take (place + 1) (shapes (map f olds))) ≡ to_those test call (take place (shapes (map f olds))) ++ record { component = place; call = call (shape_of (f (get_or news place d))) } ∷ []
@@ -133,51 +139,51 @@ module _ {A : Type 0} (f : A → Instance) (call : Shape → Call) (olds news : 
             (sym (those_split test call (shapes (map f olds)) place (shape_of (f (get_or news place d))) in_shapes here asked))
             (stops_front (shapes (map f olds)) _ _ bad _ (turn_stops f (map f olds) news log told place d y new_within (call (shape_of (f (get_or news place d)))) value _ answered bad at o))
 
-  -- the same in a round
-  module _ (bad : BadAnswer) (fails : FailsIn (shapes (map f olds)) (to_each call (take place (shapes (map f olds)))) bad log) where
-    pub round_failed : (r : Result Bool Why) (o : One (call (shape_of (f (get_or news place d)))) asks_to_end (f (get_or news place d)) (f y) r) →
-        FailsIn (shapes (map f olds)) (to_each call (take (place + 1) (shapes (map f olds)))) bad (log ++ one_log place o.exchange)
-    round_failed r o = record {
-      front = fails.front;
-      last = fails.last;
-      back = fails.back ++ one_log place o.exchange;
-      log_is = ap (λ (l : List Sent). l ++ one_log place o.exchange) fails.log_is ∙ append_assoc fails.front (fails.last ∷ fails.back) (one_log place o.exchange);
-      calls_are = askings_append log (one_log place o.exchange)
-          ∙ ap₂ (λ (cs : List Asking) (c : Call). cs ++ record { component = place; call = c } ∷ []) fails.calls_are o.is ∙ sym (calls_more everyone refl);
-      first = fails.first;
-    }
+      -- the same in a round
+      module _ (bad : BadAnswer) (fails : FailsIn (shapes (map f olds)) (to_those test call (take place (shapes (map f olds)))) bad log) where
+        pub round_failed : (r : Result Bool Why) (o : One (call (shape_of (f (get_or news place d)))) asks_to_end (f (get_or news place d)) (f y) r) →
+            FailsIn (shapes (map f olds)) (to_those test call (take (place + 1) (shapes (map f olds)))) bad (log ++ one_log place o.exchange)
+        round_failed r o = record {
+          front = fails.front;
+          last = fails.last;
+          back = fails.back ++ one_log place o.exchange;
+          log_is = ap (λ (l : List Sent). l ++ one_log place o.exchange) fails.log_is ∙ append_assoc fails.front (fails.last ∷ fails.back) (one_log place o.exchange);
+          calls_are = askings_append log (one_log place o.exchange)
+              ∙ ap₂ (λ (cs : List Asking) (c : Call). cs ++ record { component = place; call = c } ∷ []) fails.calls_are o.is ∙ sym (calls_more);
+          first = fails.first;
+        }
 
-  round_fails : IsAnswered (shapes (map f olds)) (to_each call (take place (shapes (map f olds)))) log → (bad : BadAnswer) → bad.component.0 ≡ place →
-      (o : One (call (shape_of (f (get_or news place d)))) asks_to_end (f (get_or news place d)) (f y) (Err bad.why)) →
-      FailsIn (shapes (map f olds)) (to_each call (take (place + 1) (shapes (map f olds)))) bad (log ++ one_log place o.exchange)
-  round_fails answered bad at o = record {
-    front = log;
-    last = record { component = place; exchange = o.exchange };
-    back = [];
-    log_is = refl;
-    calls_are = askings_append log (one_log place o.exchange)
-        ∙ ap₂ (λ (cs : List Asking) (c : Call). cs ++ record { component = place; call = c } ∷ []) answered.calls_are o.is ∙ sym (calls_more everyone refl);
-    first = first_here (shapes (map f olds)) place (shape_of (f (get_or news place d))) here o.exchange bad log at answered.good o.worth;
-  }
+      round_fails : IsAnswered (shapes (map f olds)) (to_those test call (take place (shapes (map f olds)))) log → (bad : BadAnswer) → bad.component.0 ≡ place →
+          (o : One (call (shape_of (f (get_or news place d)))) asks_to_end (f (get_or news place d)) (f y) (Err bad.why)) →
+          FailsIn (shapes (map f olds)) (to_those test call (take (place + 1) (shapes (map f olds)))) bad (log ++ one_log place o.exchange)
+      round_fails answered bad at o = record {
+        front = log;
+        last = record { component = place; exchange = o.exchange };
+        back = [];
+        log_is = refl;
+        calls_are = askings_append log (one_log place o.exchange)
+            ∙ ap₂ (λ (cs : List Asking) (c : Call). cs ++ record { component = place; call = c } ∷ []) answered.calls_are o.is ∙ sym (calls_more);
+        first = first_here (shapes (map f olds)) place (shape_of (f (get_or news place d))) here o.exchange bad log at answered.good o.worth;
+      }
 
-  round_joined : (so_far : Result Bool BadAnswer) (component : CompId) (r : Result Bool Why) → component.0 ≡ place →
-      RoundSays (shapes (map f olds)) (to_each call (take place (shapes (map f olds)))) any_asks_to_end log so_far →
-      (o : One (call (shape_of (f (get_or news place d)))) asks_to_end (f (get_or news place d)) (f y) r) →
-      RoundSays (shapes (map f olds)) (to_each call (take (place + 1) (shapes (map f olds)))) any_asks_to_end (log ++ one_log place o.exchange) (joined so_far component r)
-  round_joined (Ok was) component (Ok asks) at says o = (
-    each_sent everyone refl asks_to_end says.0 asks o,
-    or_more log place o.exchange was asks says.1 o.worth.1,
-  )
-  round_joined (Ok was) component (Err why) at says o = round_fails says.0 (record { component = component; why = why }) at o
-  round_joined (Err bad) component r at says o = round_failed bad says r o
+      round_joined : (so_far : Result Bool BadAnswer) (component : CompId) (r : Result Bool Why) → component.0 ≡ place →
+          RoundSays (shapes (map f olds)) (to_those test call (take place (shapes (map f olds)))) any_asks_to_end log so_far →
+          (o : One (call (shape_of (f (get_or news place d)))) asks_to_end (f (get_or news place d)) (f y) r) →
+          RoundSays (shapes (map f olds)) (to_those test call (take (place + 1) (shapes (map f olds)))) any_asks_to_end (log ++ one_log place o.exchange) (joined so_far component r)
+      round_joined (Ok was) component (Ok asks) at says o = (
+        each_sent asks_to_end says.0 asks o,
+        or_more log place o.exchange was asks says.1 o.worth.1,
+      )
+      round_joined (Ok was) component (Err why) at says o = round_fails says.0 (record { component = component; why = why }) at o
+      round_joined (Err bad) component r at says o = round_failed bad says r o
 
-  -- one more answer in a round
-  pub round_more : (so_far now : Result Bool BadAnswer) (component : CompId) (r : Result Bool Why) → now ≡ joined so_far component r → component.0 ≡ place →
-      RoundSays (shapes (map f olds)) (to_each call (take place (shapes (map f olds)))) any_asks_to_end log so_far →
-      (o : One (call (shape_of (f (get_or news place d)))) asks_to_end (f (get_or news place d)) (f y) r) →
-      RoundSays (shapes (map f olds)) (to_each call (take (place + 1) (shapes (map f olds)))) any_asks_to_end (log ++ one_log place o.exchange) now
-  round_more so_far now component r is at says o =
-      subst (RoundSays (shapes (map f olds)) (to_each call (take (place + 1) (shapes (map f olds)))) any_asks_to_end (log ++ one_log place o.exchange)) (sym is) (round_joined so_far component r at says o)
+      -- one more answer in a round
+      pub round_more : (so_far now : Result Bool BadAnswer) (component : CompId) (r : Result Bool Why) → now ≡ joined so_far component r → component.0 ≡ place →
+          RoundSays (shapes (map f olds)) (to_those test call (take place (shapes (map f olds)))) any_asks_to_end log so_far →
+          (o : One (call (shape_of (f (get_or news place d)))) asks_to_end (f (get_or news place d)) (f y) r) →
+          RoundSays (shapes (map f olds)) (to_those test call (take (place + 1) (shapes (map f olds)))) any_asks_to_end (log ++ one_log place o.exchange) now
+      round_more so_far now component r is at says o =
+          subst (RoundSays (shapes (map f olds)) (to_those test call (take (place + 1) (shapes (map f olds)))) any_asks_to_end (log ++ one_log place o.exchange)) (sym is) (round_joined so_far component r at says o)
 
 good_joined : {A : Type 0} (P : A → Type 0) (xs : List A) (place : ℕ) (y : A) (so_far : Result Bool BadAnswer) (component : CompId) (r : Result Bool Why) →
     OnOk so_far (All P xs) → OnOk r (P y) → OnOk (joined so_far component r) (All P (set xs place y))

@@ -41,7 +41,7 @@ pub record Talk : Type 0 where
   pub exchanges : List Exchange
 
 -- the last DoStep of a talk, or the one before it
-abbrev step_or : Exchange → Call → Option Exchange → Option Exchange
+abbrev pub step_or : Exchange → Call → Option Exchange → Option Exchange
 step_or e (C.DoStep at size) before = Some e
 step_or e call before = before
 
@@ -61,7 +61,7 @@ AgreeAtLast talks =
     (λ e. IsGood t.shape e × EndsAt m e.result)) talks
 
 -- the talk has a DoStep behind its last Save
-abbrev steps : Call → Bool → Bool
+abbrev pub steps : Call → Bool → Bool
 steps (C.DoStep at size) stepped = true
 steps C.Save stepped = false
 steps call stepped = stepped

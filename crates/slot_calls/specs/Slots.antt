@@ -1,5 +1,5 @@
 -- The slots of a run: in which typed state each FMU is held (FMI 3.0, 4.2.1), and what one call makes of it.
-use Rattle.std.specs.Prelude.{◌≡◌, Bool, true, false, List, [], ◌∷◌, map, Option, Some, None, Ok, Err, Result, OnOk, ⊤}
+use Rattle.std.specs.Prelude.{◌≡◌, Bool, true, false, List, [], ◌∷◌, map, Option, Some, None, Ok, Err, Result, OnOk, ⊤, is_some}
 use Rattle.value_types.specs.declared.shape.Shape.{Shape}
 use Rattle.fmi_calls.specs.declared.call.Call.{Call}
 use Rattle.fmi_calls.specs.declared.call.Call.TheVariants as C
@@ -17,6 +17,7 @@ use Rattle.fmu_peer.specs.CloseAll.{Instance, instance_in, peer_in}
 use Rattle.fmu_peer.specs.Mode.{instantiate_of}
 use Rattle.fmu_peer.specs.View.{View}
 use Rattle.slot_calls.specs.Log.{Talks, Worth}
+use Rattle.slot_calls.specs.SavedStates.{saved_by}
 use Rattle.slot_calls.specs.Stage.{everyone, has_events}
 use Rattle.slot_calls.specs.declared.ask.Ask.{Ask}
 use Rattle.slot_calls.specs.declared.ask.Ask.TheVariants as A
@@ -39,8 +40,10 @@ state_of (Closed peer) = None
 abbrev pub IsLive : {L : Type 0} {g : _} → (L → View) → Held L g → Type 0
 IsLive view held = state_of held ≡ Some (view (peer_in held)).phase.state
 
-abbrev pub LiveSlot : {L : Type 0} {g : _} → (L → View) → Slot L g → Type 0
-LiveSlot view slot = IsLive view slot.held
+-- likewise of a slot, which has the token of a saved state exactly where the phase has one
+pub record LiveSlot {L : Type 0} {g : _} (view : L → View) (slot : Slot L g) : Type 0 where
+  pub held : IsLive view slot.held
+  pub token : is_some slot.saved ≡ (view (peer_in slot.held)).phase.slot.is_full
 
 -- the slot's instance stands so
 abbrev pub Stands : {L : Type 0} {g : _} → (View → Type 0) → (L → View) → Slot L g → Type 0
@@ -66,7 +69,12 @@ is_asked A.EnterEvent = has_events
 is_asked A.EnterStep = has_events
 is_asked (A.DoStep at size) = everyone
 
--- the FMU leaves its state by the call, if the answer is good: each does but a step
+-- the FMU stays in Step Mode by the call
+abbrev pub IsStay : Ask → Type 0
+IsStay (A.DoStep at size) = ⊤
+IsStay ask = ⊥
+
+-- by the others it leaves its state, if the answer is good
 abbrev pub IsTransition : Ask → Type 0
 IsTransition (A.DoStep at size) = ⊥
 IsTransition ask = ⊤
@@ -107,6 +115,13 @@ pub record Moves {L T : Type 0} {g : _} (view : L → View) (old : Held L g) (ca
     (value : Exchange → T) (new : Held L g) (result : Result T Why) : Type 0 where
   pub called : Called call value (view (peer_in old)) (view (peer_in new)) result
   pub live : OnOk result (IsLive view new)
+
+-- in Step Mode the FMU was asked this call alone, and is there behind a good answer; its slot, which had or hadn't the token of a saved state, has it by the answer
+pub record Stays {T : Type 0} (call : Call) (value : Exchange → T) (old new : View) (had has : Bool)
+    (result : Result T Why) : Type 0 where
+  pub called : Called call value old new result
+  pub state : OnOk result (new.phase.state ≡ P.Step)
+  pub token : has ≡ saved_by old.fixed.shape called.exchange.call called.exchange.result had
 
 -- ---- Fatal
 

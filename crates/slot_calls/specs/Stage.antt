@@ -87,16 +87,16 @@ nothing log = tt
 
 -- ---- one call to each, or to some
 
--- from the i-th component on, to those whose shape passes the test
-abbrev pub to_those_from : ℕ → (Shape → Bool) → (Shape → Call) → List Shape → List Asking
+-- from the i-th component on, to those that pass the test, by their shapes or what else is known of them
+abbrev pub to_those_from : {A : Type 0} → ℕ → (A → Bool) → (A → Call) → List A → List Asking
 to_those_from i test call [] = []
-to_those_from i test call (s ∷ ss) =
-    if test s then record { component = i; call = call s } ∷ to_those_from (i + 1) test call ss
-    else to_those_from (i + 1) test call ss
+to_those_from i test call (x ∷ xs) =
+    if test x then record { component = i; call = call x } ∷ to_those_from (i + 1) test call xs
+    else to_those_from (i + 1) test call xs
 
--- in their order, to those whose shape passes the test, the call that each shape says
-abbrev pub to_those : (Shape → Bool) → (Shape → Call) → List Shape → List Asking
-to_those test call ss = to_those_from 0 test call ss
+-- in their order, to those that pass the test, the call that each says
+abbrev pub to_those : {A : Type 0} → (A → Bool) → (A → Call) → List A → List Asking
+to_those test call xs = to_those_from 0 test call xs
 
 abbrev pub everyone : Shape → Bool
 everyone shape = true

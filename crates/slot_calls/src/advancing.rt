@@ -1,4 +1,4 @@
-ghost use Rattle.std.specs.Prelude.{◌≡◌, ◌||◌, OnOk, Some};
+ghost use Rattle.std.specs.Prelude.{◌≡◌, ◌||◌, Bool, OnOk, Some, is_some};
 ghost use Rattle.fmi_calls.specs.Permission.{Permitted};
 ghost use Rattle.fmi_calls.specs.declared.call.Call.TheVariants as C;
 ghost use Rattle.fmi_calls.specs.declared.phase.InstanceState.TheVariants as P;
@@ -9,7 +9,7 @@ ghost use Rattle.fmu_peer.specs.Running.{peer_of, running_mode};
 ghost use Rattle.run_model.specs.Stepping.{is_terminating};
 ghost use Rattle.slot_calls.specs.Carried.{asks_to_end};
 ghost use Rattle.slot_calls.specs.Log.{One};
-ghost use Rattle.slot_calls.specs.Slots.{IsLive, IsTransition, MayBeAsked, Moves, call_of, is_fatal_result, is_fatal_why, state_of};
+ghost use Rattle.slot_calls.specs.Slots.{IsLive, IsStay, IsTransition, LiveSlot, MayBeAsked, Moves, Stays, call_of, is_fatal_result, is_fatal_why, state_of};
 
 use crate::Ask;
 use core::mem::replace_with;
@@ -20,28 +20,28 @@ use fmu_peer::{
 
 /// Sends the call to the FMU in a slot, and says whether its answer asks for the end of the run.
 pub fn advance<L: Peer>(slot: &mut Slot<L>, ask: Ask) -> Result<bool, Why>
-    requires live { IsLive L.view slot.old.held }
+    requires live { LiveSlot L.view slot.old }
     requires permitted { MayBeAsked ask (L.view (peer_in slot.old.held)) }
-    ensures live { OnOk result (IsLive L.view slot.new.held) }
+    ensures live { OnOk result (LiveSlot L.view slot.new) }
     ensures one { One (call_of ask (L.view (peer_in slot.old.held)).fixed.shape) asks_to_end
         (instance_in L.view slot.old) (instance_in L.view slot.new) result }
 {
     match ask {
-        Ask::DoStep { at, size } => return step(slot, at, size),
+        Ask::DoStep { .. } => return stay(slot, ask),
         _ => return change(slot, ask),
     }
 }
 
-// Makes a step where the FMU stands, and says whether its answer asks for the end of the run.
-fn step<L: Peer>(slot: &mut Slot<L>, at: u64, size: u64) -> Result<bool, Why>
-    requires live { IsLive L.view slot.old.held }
-    requires permitted { Permitted (L.view (peer_in slot.old.held)).fixed.shape
-        (L.view (peer_in slot.old.held)).phase (C.DoStep at size) }
-    ensures live { OnOk result (IsLive L.view slot.new.held) }
-    ensures one { One (C.DoStep at size) asks_to_end (instance_in L.view slot.old)
-        (instance_in L.view slot.new) result }
+// Sends a call that leaves the FMU in Step Mode.
+fn stay<L: Peer>(slot: &mut Slot<L>, ask: Ask) -> Result<bool, Why>
+    requires live { LiveSlot L.view slot.old }
+    requires permitted { MayBeAsked ask (L.view (peer_in slot.old.held)) }
+    requires stays { IsStay ask }
+    ensures live { OnOk result (LiveSlot L.view slot.new) }
+    ensures one { One (call_of ask (L.view (peer_in slot.old.held)).fixed.shape) asks_to_end
+        (instance_in L.view slot.old) (instance_in L.view slot.new) result }
 {
-    match step_held(&mut slot.held, at, size) {
+    match send_in_step(slot, ask) {
         Ok(asks) => return Ok(asks),
         Err(why) => {
             slot.is_fatal = slot.is_fatal || is_fatal_why(&why);
@@ -53,10 +53,10 @@ fn step<L: Peer>(slot: &mut Slot<L>, at: u64, size: u64) -> Result<bool, Why>
 // Sends a call by which the FMU leaves its typed state.
 #[inline(never)]
 fn change<L: Peer>(slot: &mut Slot<L>, ask: Ask) -> Result<bool, Why>
-    requires live { IsLive L.view slot.old.held }
+    requires live { LiveSlot L.view slot.old }
     requires permitted { MayBeAsked ask (L.view (peer_in slot.old.held)) }
     requires transition { IsTransition ask }
-    ensures live { OnOk result (IsLive L.view slot.new.held) }
+    ensures live { OnOk result (LiveSlot L.view slot.new) }
     ensures one { One (call_of ask (L.view (peer_in slot.old.held)).fixed.shape) asks_to_end
         (instance_in L.view slot.old) (instance_in L.view slot.new) result }
 {
@@ -66,7 +66,7 @@ fn change<L: Peer>(slot: &mut Slot<L>, ask: Ask) -> Result<bool, Why>
 }
 
 /// Whether a result is a refusal with Fatal.
-pub(crate) fn is_fatal<T>(answer: &Result<T, Why>) -> bool
+pub fn is_fatal<T>(answer: &Result<T, Why>) -> bool
     ensures { result ≡ is_fatal_result answer.now }
 {
     match answer {
@@ -106,14 +106,22 @@ fn move_held<L: Peer>(held: &mut Held<L>, ask: Ask) -> Result<bool, Why>
     )
 }
 
-fn step_held<L: Peer>(held: &mut Held<L>, at: u64, size: u64) -> Result<bool, Why>
-    requires live { IsLive L.view held.old }
-    requires permitted { Permitted (L.view (peer_in held.old)).fixed.shape
-        (L.view (peer_in held.old)).phase (C.DoStep at size) }
-    ensures { Moves L.view held.old (C.DoStep at size) asks_to_end held.new result }
+fn send_in_step<L: Peer>(slot: &mut Slot<L>, ask: Ask) -> Result<bool, Why>
+    requires live { LiveSlot L.view slot.old }
+    requires permitted { MayBeAsked ask (L.view (peer_in slot.old.held)) }
+    requires stays { IsStay ask }
+    ensures stays { Stays (call_of ask (L.view (peer_in slot.old.held)).fixed.shape) asks_to_end
+        (L.view (peer_in slot.old.held)) (L.view (peer_in slot.new.held))
+        (is_some slot.old.saved) (is_some slot.new.saved) result }
+    ensures held { state_of slot.new.held ≡ Some P.Step }
+    ensures source { slot.new.source ≡ slot.old.source }
+    ensures fatal { slot.new.is_fatal ≡ slot.old.is_fatal }
 {
-    match held {
-        Held::Stepping(fmu) => do_step(fmu, at, size),
+    match &mut slot.held {
+        Held::Stepping(fmu) => match ask {
+            Ask::DoStep { at, size } => return do_step(fmu, at, size),
+            _ => unreachable!(),
+        },
         _ => unreachable!(),
     }
 }
@@ -239,8 +247,8 @@ fn enter_step<L: Peer>(fmu: Fmu<L, Eventing>) -> (Held<L>, Result<bool, Why>)
 fn do_step<L: Peer>(fmu: &mut Fmu<L, Stepping>, at: u64, size: u64) -> Result<bool, Why>
     requires permitted { Permitted (L.view fmu.old.peer).fixed.shape (L.view fmu.old.peer).phase
         (C.DoStep at size) }
-    ensures { Moves L.view (Held.Stepping fmu.old) (C.DoStep at size) asks_to_end
-        (Held.Stepping fmu.new) result }
+    ensures { (has : Bool) → Stays (C.DoStep at size) asks_to_end (L.view fmu.old.peer)
+        (L.view fmu.new.peer) has has result }
 {
     match fmu.do_step(at, size) {
         Ok(reply) => return Ok(is_terminating(&reply)),
@@ -248,7 +256,8 @@ fn do_step<L: Peer>(fmu: &mut Fmu<L, Stepping>, at: u64, size: u64) -> Result<bo
     }
 }
 
-fn is_terminating(reply: &Reply) -> bool
+/// Whether the reply to a step asks for the end of the run (FMI 3.0, 4.2.1.2: terminateSimulation of fmi3DoStep).
+pub fn is_terminating(reply: &Reply) -> bool
     ensures { result ≡ is_terminating reply.now }
 {
     match reply {

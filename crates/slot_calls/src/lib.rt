@@ -7,7 +7,7 @@ mod bad_answer;
 mod sending;
 mod stage;
 
-pub use advancing::advance;
+pub use advancing::{advance, is_fatal, is_terminating};
 pub use ask::Ask;
 pub use bad_answer::BadAnswer;
 pub use sending::{send, value_in};

@@ -4,7 +4,7 @@ ghost use Rattle.fmu_peer.specs.CloseAll.{instance_in, peer_in};
 ghost use Rattle.run_model.specs.Equations.{value_in};
 ghost use Rattle.slot_calls.specs.Carried.{IsWide, reply_in, with_some};
 ghost use Rattle.slot_calls.specs.Log.{One};
-ghost use Rattle.slot_calls.specs.Slots.{Called, IsLive, Moves, keeps_mode, reads_or_sets};
+ghost use Rattle.slot_calls.specs.Slots.{Called, IsLive, LiveSlot, Moves, keeps_mode, reads_or_sets};
 
 use crate::advancing::is_fatal;
 use fmi_calls::{Call, Content, Reply};
@@ -13,11 +13,11 @@ use value_types::{PortType, from_word};
 
 /// Sends a call that reads or sets a variable or a Clock, or an Update, to the FMU in a slot.
 pub fn send<L: Peer>(slot: &mut Slot<L>, call: Call) -> Result<Reply, Why>
-    requires live { IsLive L.view slot.old.held }
+    requires live { LiveSlot L.view slot.old }
     requires permitted { Permitted (L.view (peer_in slot.old.held)).fixed.shape
         (L.view (peer_in slot.old.held)).phase call }
     requires sort { IsTrue (keeps_mode call) }
-    ensures live { OnOk result (IsLive L.view slot.new.held) }
+    ensures live { OnOk result (LiveSlot L.view slot.new) }
     ensures one { One call reply_in (instance_in L.view slot.old) (instance_in L.view slot.new)
         (with_some result) }
 {

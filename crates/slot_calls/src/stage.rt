@@ -1,9 +1,9 @@
 ghost use Rattle.std.specs.Prelude.{◌≡◌, ◌≤◌, ◌^◌, OnOk, All, length};
 ghost use Rattle.fmu_peer.specs.CloseAll.{instance_in, peer_in};
 ghost use Rattle.slot_calls.specs.Carried.{any_asks_to_end};
-ghost use Rattle.slot_calls.specs.Stage.{Round, Stage, nothing, shapes, to_each, to_those};
+ghost use Rattle.slot_calls.specs.Stage.{Round, Stage, nothing, shapes, to_those};
 ghost use Rattle.slot_calls.specs.Rounds.{joined};
-ghost use Rattle.slot_calls.specs.Slots.{LiveSlot, MayBeAsked, MayTakePart, Stands, call_of, instances, is_asked};
+ghost use Rattle.slot_calls.specs.Slots.{LiveSlot, MayTakePart, Stands, call_of, instances, is_asked};
 
 use crate::advancing::advance;
 use crate::{Ask, BadAnswer};
@@ -50,18 +50,22 @@ fn is_asked<L: Peer>(slot: &Slot<L>, ask: Ask) -> bool
     }
 }
 
-/// Sends the call to each FMU, whatever the others answer, and says whether an answer asks for the end of the run, or
-/// tells the first answer that isn't good.
+/// Sends the call to each FMU that it is for, whatever the others answer, and says whether an answer asks for the end of the
+/// run, or tells the first answer that isn't good.
 pub fn round<L: Peer>(slots: &mut [Slot<L>], ask: Ask) -> Result<bool, BadAnswer>
     requires few { length slots.old ≤ 2 ^ 32 }
     requires live { All (LiveSlot L.view) slots.old }
-    requires permitted { All (Stands (MayBeAsked ask) L.view) slots.old }
+    requires permitted { All (Stands (MayTakePart ask) L.view) slots.old }
     ensures live { OnOk result (All (LiveSlot L.view) slots.new) }
-    ensures round { Round (to_each (call_of ask) (shapes (instances L.view slots.old)))
-        any_asks_to_end (instances L.view slots.old) (instances L.view slots.new) result }
+    ensures round { Round (to_those (is_asked ask) (call_of ask)
+        (shapes (instances L.view slots.old))) any_asks_to_end (instances L.view slots.old)
+        (instances L.view slots.new) result }
 {
     let mut so_far = Ok(false);
     for place in 0..slots.len() {
+        if !is_asked(&slots[place], ask) {
+            continue;
+        }
         let answer = advance(&mut slots[place], ask);
         so_far = with_answer(so_far, CompId(place as u32), answer);
     }

@@ -14,7 +14,7 @@ use Rattle.fmu_peer.specs.declared.peer.PeerFault.{PeerFault}
 use Rattle.fmu_peer.specs.Close.{SendsInTurn}
 use Rattle.fmu_peer.specs.Talk.{LegalFrom, phase_from, Closed, EndsFreed, EndsKeeping, IsGood, Legal, StartsBadly, next_by, phase_after}
 use Rattle.fmu_peer.specs.View.{View, Fixed, talked}
-use Rattle.step_master.specs.Lives.{Counts, is_unanswered, Freed, IsLife, IsOver, Keeping, Life, LostHere, Unasked, shape_in, talk_in}
+use Rattle.step_master.specs.Lives.{ComeInTurn, Counts, is_unanswered, Freed, IsLife, IsOver, Keeping, Life, LostHere, Unasked, shape_in, talk_in}
 use Rattle.course_laws.specs.Laws.{calls_in}
 use Rattle.slot_calls.specs.Log.{Talks, Has}
 use Rattle.value_types.specs.declared.shape.Shape.{Shape}
@@ -108,6 +108,20 @@ pub turn_talks : (cs : List Call) (v : View) (es : List Exchange) (w : View) →
 turn_talks [] v es w (none, same) = subst (λ (l : List Exchange). Talks v l w) (sym none) same
 turn_talks (c ∷ cs) v es w (inl (may, (result, rest, mid, is, asked, more))) = subst (λ (l : List Exchange). Talks v l w) (sym is) (mid, may, asked, turn_talks cs mid rest w more)
 turn_talks (c ∷ cs) v es w (inr (never, more)) = turn_talks cs v es w more
+
+-- by the phases they come in turn
+pub turn_comes : (cs : List Call) (v : View) (es : List Exchange) (w : View) → SendsInTurn cs v es w → ComeInTurn v.fixed.shape v.phase cs es
+turn_comes [] v es w (none, same) = none
+turn_comes (c ∷ cs) v es w (inl (may, (result, rest, mid, is, asked, more))) = inl (
+  may,
+  (
+    result,
+    rest,
+    is,
+    subst (λ (p : Phase). ComeInTurn v.fixed.shape p cs rest) asked.phase (subst (λ (f : Fixed). ComeInTurn f.shape mid.phase cs rest) asked.fixed (turn_comes cs mid rest w more)),
+  ),
+)
+turn_comes (c ∷ cs) v es w (inr (never, more)) = inr (never, turn_comes cs v es w more)
 
 -- what holds of the calls holds of those that were sent
 pub turn_all : (P : Call → Type 0) (cs : List Call) (v : View) (es : List Exchange) (w : View) → All P cs → SendsInTurn cs v es w → All P (calls_in es)

@@ -19,12 +19,13 @@ use Rattle.fmu_peer.specs.Siblings.{IsSpared, Member, Siblings, SparesLater}
 use Rattle.fmu_peer.specs.Talk as T
 use Rattle.fmu_peer.specs.View.{Fixed, View}
 use Rattle.fmu_peer.proofs.CallerLemmas.{same_number, spared_from, spares_later}
-use Rattle.step_master.specs.Lives.{IsLife, Life, any_fatal_closing, any_fatal_run, member_in, shape_in, talk_in}
+use Rattle.step_master.specs.Lives.{ClosesInTurn, ComeInTurn, IsLife, Life, any_fatal_closing, any_fatal_run, member_in, shape_in, talk_in}
 use Rattle.course_laws.specs.Laws.{calls_in}
 use Rattle.slot_calls.specs.Log.{Has, Sent, Talks, part}
 use Rattle.slot_calls.specs.SavedStates.{IsParted, LeavesState, Talk, saved_after}
-use Rattle.step_master.proofs.Leaving.{counts_of, leaves_one, talk_is, talks_legal, talks_phase, turn_all, turn_talks}
-use Rattle.step_master.proofs.Parted.{Closes, is_parted, turn_closes, unsaved}
+use Rattle.step_master.proofs.Leaving.{counts_of, leaves_one, talk_is, talks_legal, talks_phase, turn_all, turn_comes, turn_talks}
+use Rattle.course_laws.proofs.StatesLeft.{unsaved}
+use Rattle.step_master.proofs.Parted.{Closes, is_parted, turn_closes}
 use Rattle.slot_calls.proofs.CallerLemmas.{talks_fixed, talks_on, replies_of}
 use Rattle.step_master.proofs.SeatLemmas.{IsSeat}
 
@@ -107,12 +108,29 @@ module _ (talks : List Talk) (log : List Sent) (row : Row) (r : IsRow talks log 
     both : All IsClosingCall (closing_calls false)
     both = All-cons IsClosingCall C.Terminate (C.FreeInstance ∷ []) refl (All-cons IsClosingCall C.FreeInstance [] refl (All-nil IsClosingCall))
 
+  none_saved : row.closing.old.has_saved ≡ false
+  none_saved = r.has.saved ∙ unsaved row.seat.view.fixed.shape row.seat.has_saved life.run r.runs ∙ r.new.unsaved
+
+  saved_is : row.closing.old.has_saved ≡ saved_after row.seat.view.fixed.shape false life.run
+  saved_is = r.has.saved ∙ ap (λ (b : Bool). saved_after row.seat.view.fixed.shape b life.run) r.new.unsaved
+
+  in_turn : ClosesInTurn life
+  in_turn = (
+    r.spared,
+    subst (λ (p : Phase). ComeInTurn row.seat.view.fixed.shape p (if r.spared then [] else closing_calls (saved_after row.seat.view.fixed.shape false life.run)) life.closing)
+        (talks_phase row.seat.view life.run mid r.has.talks ∙ ap (λ (p : Phase). T.phase_from row.seat.view.fixed.shape p life.run) r.new.first)
+        (subst (λ (f : Fixed). ComeInTurn f.shape mid.phase (if r.spared then [] else closing_calls (saved_after row.seat.view.fixed.shape false life.run)) life.closing) mid_fixed
+        (subst (λ (b : Bool). ComeInTurn mid.fixed.shape mid.phase (if r.spared then [] else closing_calls b) life.closing) saved_is
+        (turn_comes _ mid life.closing life.new r.one.turn))),
+  )
+
   pub is_life : IsLife life
   is_life = record {
     fixed = talks_fixed row.seat.view (talk_in life) life.new all_talks;
     run_calls = r.runs;
     lean = r.lean;
-    closing_calls = turn_all IsClosingCall _ mid life.closing life.new (closing_all r.spared row.closing.old.has_saved (r.has.saved ∙ unsaved row.seat.view.fixed.shape row.seat.has_saved life.run r.runs ∙ r.new.unsaved)) r.one.turn;
+    closing_calls = turn_all IsClosingCall _ mid life.closing life.new (closing_all r.spared row.closing.old.has_saved none_saved) r.one.turn;
+    turn = in_turn;
     legal = subst (λ (p : Phase). T.LegalFrom row.seat.view.fixed.shape p (talk_in life)) r.new.first (talks_legal row.seat.view (talk_in life) life.new all_talks);
     phase = talks_phase row.seat.view (talk_in life) life.new all_talks ∙ ap (λ (p : Phase). T.phase_from row.seat.view.fixed.shape p (talk_in life)) r.new.first;
     talk = talk_is row.seat.view (talk_in life) life.new r.new.untold all_talks;

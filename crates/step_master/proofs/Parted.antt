@@ -1,17 +1,16 @@
 -- Whose a call is, by the talks of all, is told by its place: it stands in the run or in the closing.
-use Rattle.std.proofs.Common.{◌≡◌, inl, inr, Bool, true, false, List, [], ◌∷◌, ◌++◌, refl, sym, ap, ◌∙◌, subst}
+use Rattle.std.proofs.Common.{◌≡◌, inl, inr, Bool, true, false, List, [], ◌∷◌, ◌++◌, Option, refl, sym, ap, ◌∙◌, subst}
 use Rattle.std.specs.Prelude.{All, if◌then◌else◌}
 use Rattle.std.proofs.lemmas.List.{append-nil}
 use Rattle.std.proofs.lemmas.List.Elements.{All-cons, All-head, All-nil, All-tail}
 use Rattle.value_types.specs.declared.shape.Shape.{Shape}
 use Rattle.fmi_calls.specs.declared.call.Call.{Call}
 use Rattle.fmi_calls.specs.declared.call.Call.TheVariants as C
-use Rattle.fmi_calls.specs.KindFacts.{IsRunCall, keeps_state}
+use Rattle.fmi_calls.specs.KindFacts.{IsRunCall}
 use Rattle.fmu_peer.specs.declared.peer.Exchange.{Exchange}
 use Rattle.fmu_peer.specs.Close.{SendsInTurn, closing_calls}
 use Rattle.fmu_peer.specs.View.{View}
-use Rattle.slot_calls.specs.SavedStates.{IsEnding, IsOfClosing, IsParted, LeavesState, Talk, saved_after, saved_by}
-use Rattle.slot_calls.proofs.CallerLemmas.{saved_same}
+use Rattle.slot_calls.specs.SavedStates.{IsEnding, IsOfClosing, IsParted, LeavesState, Talk, last_step, saved_after, step_or}
 use Rattle.course_laws.specs.Laws.{calls_in}
 use Rattle.step_master.proofs.Leaving.{turn_all}
 use Rattle.step_master.proofs.SeatLemmas.{all_under}
@@ -98,28 +97,19 @@ module _ (talks : List Talk) (shape : Shape) (run closing : List Exchange) (runs
   pub is_parted : Closes (saved_after shape false run) closing → IsParted talks run closing
   is_parted closes = record { of_run = of_run; of_closing = of_closing closes }
 
--- ---- a run that saves no state
+-- ---- the steps of a talk are those of its run
 
-no_state : (call : Call) → IsRunCall call → keeps_state call ≡ false
-no_state C.Save run = absurd (cc)
-no_state C.Restore run = absurd (cc)
-no_state C.Free run = absurd (cc)
-no_state call run = refl
+no_step : (call : Call) → IsEnding call → (e : Exchange) (o : Option Exchange) → e.call ≡ call → last_step o (e ∷ []) ≡ o
+no_step C.Terminate ends e o is = ap (λ (c : Call). step_or e c o) is
+no_step C.FreeInstance ends e o is = ap (λ (c : Call). step_or e c o) is
+no_step call ends e o is = absurd ends
 
-pub unsaved : (shape : Shape) (saved : Bool) (run : List Exchange) → All IsRunCall (calls_in run) → saved_after shape saved run ≡ saved
-unsaved shape saved [] runs = refl
-unsaved shape saved (e ∷ es) runs =
-    unsaved shape (saved_by shape e.call e.result saved) es (All-tail IsRunCall e.call (calls_in es) runs)
-    ∙ saved_same shape e.call e.result saved (no_state e.call (All-head IsRunCall e.call (calls_in es) runs))
+ending_steps : (es : List Exchange) (o : Option Exchange) → All IsEnding (calls_in es) → last_step o es ≡ o
+ending_steps [] o all = refl
+ending_steps (e ∷ es) o all =
+    ap (λ (p : Option Exchange). last_step p es) (no_step e.call (All-head IsEnding e.call (calls_in es) all) e o refl) ∙ ending_steps es o (All-tail IsEnding e.call (calls_in es) all)
 
-pub leaves_none : (talks : List Talk) (shape : Shape) (run : List Exchange) → All IsRunCall (calls_in run) → LeavesState talks shape run
-leaves_none talks shape run runs = record {
-  held = λ held. absurd (let none = unsaved shape false run runs in let same : true ≡ false = sym held ∙ none in cc);
-  freed = λ front e is frees. absurd (frees_none front [] e is frees);
-  last = λ front rest e is given. absurd (frees_none front rest e is given.frees);
-} where
-  frees_none : (front rest : List Exchange) (e : Exchange) → run ≡ front ++ e ∷ rest → e.call ≡ C.Free → ⊥
-  frees_none front rest e is frees =
-      let here = All-head IsRunCall e.call (calls_in rest) (all_behind IsRunCall front rest e run is runs) in
-      let none : keeps_state C.Free ≡ false = ap keeps_state (sym frees) ∙ no_state e.call here in
-      absurd (cc)
+pub closing_steps : (saved : Bool) (es : List Exchange) (o : Option Exchange) → Closes saved es → last_step o es ≡ o
+closing_steps saved es o (Plainly all) = ending_steps es o all
+closing_steps saved es o (Freeing held e rest is frees all) =
+    ap (last_step o) is ∙ ap (λ (c : Call). last_step (step_or e c o) rest) frees ∙ ending_steps rest o all

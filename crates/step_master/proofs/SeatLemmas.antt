@@ -110,9 +110,9 @@ module _ (system : System) (views : List View) (peers : ArePeersOf system views)
   pub slots_length : {S : Type 0} (f : S → Instance) (slots : List S) → map f slots ≡ seated system.components views → length slots ≡ length system.components
   slots_length f slots same = sym (length-map slots f) ∙ ap length same ∙ length_seated system.components views (sym peers.len) ∙ peers.len
 
-  pub peers_fresh : {L : Type 0} (view : L → View) (ps : List L) → views ≡ map view ps → All (λ (p : L). (view p).phase.state ≡ P.Fresh) ps
-  peers_fresh view ps same = all_under view (λ (v : View). v.phase.state ≡ P.Fresh) ps views (sym same)
-      (all_views (λ (v : View). v.phase.state ≡ P.Fresh) system.components views peers.len (λ i c v at_c at_v. ap (λ (p : Phase). p.state) (peers.each i c v at_c at_v).phase))
+  pub peers_fresh : {L : Type 0} (view : L → View) (ps : List L) → views ≡ map view ps → All (λ (p : L). (view p).phase ≡ fresh (view p).fixed.shape) ps
+  peers_fresh view ps same = all_under view (λ (v : View). v.phase ≡ fresh v.fixed.shape) ps views (sym same)
+      (all_views (λ (v : View). v.phase ≡ fresh v.fixed.shape) system.components views peers.len (λ i c v at_c at_v. let new = peers.each i c v at_c at_v in new.phase ∙ ap fresh (sym new.shape_is)))
 
   module _ (built : IsBuilt system) where
     new_is_fresh : (i : ℕ) (c : Component) (v : View) → slice_get system.components i ≡ Some c → slice_get views i ≡ Some v → IsFresh v

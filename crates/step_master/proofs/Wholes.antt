@@ -28,13 +28,13 @@ use Rattle.system_model.specs.declared.system.Component.{Component}
 use Rattle.system_model.specs.declared.system.System.{System}
 use Rattle.slot_calls.specs.declared.bad_answer.BadAnswer.{BadAnswer}
 use Rattle.slot_calls.specs.Log.{Has, Sent, Told, part}
-use Rattle.slot_calls.specs.SavedStates.{IsParted, Talk}
+use Rattle.slot_calls.specs.SavedStates.{IsParted, LeavesState, Talk, last_step}
 use Rattle.slot_calls.specs.Stage.{shapes, shapes_of}
-use Rattle.slot_calls.proofs.CallerLemmas.{told_on}
+use Rattle.slot_calls.proofs.CallerLemmas.{last_on, told_on}
 use Rattle.calling_sequence.specs.declared.run_end.RunEnd.{RunEnd}
 use Rattle.calling_sequence.specs.declared.run_end.RunEnd.TheVariants as E
 use Rattle.calling_sequence.specs.Ends.{EndsBy}
-use Rattle.course_laws.specs.Laws.{AnswersAre, AreNeeded, AreTalks, FirstBadAnswer, IsFirstBadOf, NoCallTwice, UpdatesAskedFor, calls_in}
+use Rattle.course_laws.specs.Laws.{AnswersAre, AreNeeded, AreTalks, EndAs, FirstBadAnswer, IsFirstBadOf, NoCallTwice, StatesAreLeft, UpdatesAskedFor, calls_in}
 use Rattle.course_laws.specs.Runs.{Comes, EndsCome, TellsEnd, Unmade}
 use Rattle.step_master.specs.Lived.{LivesAreOver, RunIsLived, UnmadeIsClosed}
 use Rattle.step_master.specs.Lives.{AreGood, AreLives, EndsLives, IsLeastBad, IsLife, Life, is_spared, is_unanswered, shape_in, talk_in, talks_in}
@@ -43,7 +43,7 @@ use Rattle.step_master.specs.Seats.{seated, views_of}
 use Rattle.step_master.specs.System.{ArePeersOf}
 use Rattle.step_master.proofs.Living.{IsRow, Row, at_turn, closings_are, is_life, life_of, one_each, row_at, row_closed, row_parted, row_siblings, rows_from, seats_are, turn_open}
 use Rattle.step_master.proofs.Leaving.{closed_over}
-use Rattle.step_master.proofs.Parted.{leaves_none}
+use Rattle.step_master.proofs.Parted.{closing_steps, turn_closes}
 use Rattle.step_master.proofs.SeatLemmas.{IsSeat, are_seats, length_seated, seated_shapes, sources_seated, unmapped, views_seated}
 
 -- what a mapped list has at a place
@@ -52,7 +52,8 @@ mapped f xs k x is = slice_get-map f xs k ∙ ap (option_map f) is
 
 -- a log whose calls are needed, and whose Updates are asked for
 module _ (system : System) (olds : List View) (peers : ArePeersOf system olds) (log : List Sent) (mids : List Instance) (news : List View) (told : Told log (seated system.components olds) mids) (closes : Closes mids news)
-    (needed : (k : ℕ) → k < length system.components → AreNeeded (calls_in (part k log))) (updates : (talks : List (List Exchange)) → AreTalks (length system.components) log talks → AreUpdatesNeeded talks) where
+    (needed : (k : ℕ) → k < length system.components → AreNeeded (calls_in (part k log))) (updates : (talks : List (List Exchange)) → AreTalks (length system.components) log talks → AreUpdatesNeeded talks)
+    (left : (talks : List Talk) → EndAs system log talks → (k : ℕ) (d : Shape) → k < length system.components → LeavesState talks (get_or (shapes_of system) k d) (part k log)) where
   abbrev closings : List Closing
   closings = closes.closes.closings
 
@@ -73,6 +74,33 @@ module _ (system : System) (olds : List View) (peers : ArePeersOf system olds) (
 
   abbrev talks : List Talk
   talks = talks_in lives
+
+  len_rows : length rows ≡ length system.components
+  len_rows = sym (length-map rows (λ (r : Row). r.seat)) ∙ ap length (seats_are 0 seats closings beside) ∙ len_seats
+
+  row_here : (k : ℕ) → k < length system.components → (row : Row) × (slice_get rows k ≡ Some row)
+  row_here k w = by rows refl where
+    by : (rs : List Row) → rs ≡ rows → (row : Row) × (slice_get rows k ≡ Some row)
+    by [] same = absurd (let e = ap length same in let f = len_rows in omega (arith, e, f, w))
+    by (r ∷ rs) same = (get_or rows k r, slice_get-get_or rows k r (let f = len_rows in omega (arith, f, w)))
+
+  -- the talks end with the steps of their runs
+  ends_as : EndAs system log talks
+  ends_as = record {
+    shapes = map-map (λ (t : Talk). t.shape) (λ (l : Life). record { shape = shape_in l; exchanges = talk_in l }) lives ∙ map-map shape_in (life_of log) rows
+        ∙ sym (map-map (λ (i : Instance). i.view.fixed.shape) (λ (r : Row). r.seat) rows) ∙ ap shapes (seats_are 0 seats closings beside) ∙ seated_shapes system olds peers;
+    steps = λ k d w.
+        let x = row_here k w in
+        let r = row_at 0 seats closings k x.0 x.1 in
+        let inside = slice_get_within closings k x.0.closing r.closing in
+        let one : (b : Bool) × ClosesOne b x.0.closing =
+        subst (λ (c : Closing). (b : Bool) × ClosesOne b c) (get_or_from_slice_get closings k x.0.closing x.0.closing r.closing) (one_each talks log [] closings closes.closes.order k x.0.closing inside) in
+        ap (λ (t : Talk). last_step None t.exchanges) (get_or_from_slice_get talks k (record { shape = shape_in (life_of log x.0); exchanges = talk_in (life_of log x.0) }) d
+        (mapped (λ (l : Life). record { shape = shape_in l; exchanges = talk_in l }) lives k (life_of log x.0) (mapped (life_of log) rows k x.0 x.1)))
+        ∙ last_on None (part x.0.number log) x.0.closing.sent
+        ∙ closing_steps x.0.closing.old.has_saved x.0.closing.sent (last_step None (part x.0.number log)) (turn_closes one.0 x.0.closing.old.has_saved x.0.closing.old.view x.0.closing.sent x.0.closing.new.view one.1.turn)
+        ∙ ap (λ (n : ℕ). last_step None (part n log)) (r.number ∙ omega arith);
+  }
 
   row_is : (n : ℕ) (row : Row) → slice_get rows n ≡ Some row → IsRow talks log row
   row_is n row at =
@@ -95,7 +123,12 @@ module _ (system : System) (olds : List View) (peers : ArePeersOf system olds) (
         one = one.1;
         runs = need.runs;
         lean = need.lean;
-        leaves = leaves_none talks row.seat.view.fixed.shape (part row.number log) need.runs;
+        leaves =
+            let shape = row.seat.view.fixed.shape in
+            let shape_is : get_or (shapes_of system) n shape ≡ shape = ap (λ (l : List Shape). get_or l n shape) (sym (seated_shapes system olds peers))
+            ∙ get_or_from_slice_get (shapes seats) n shape shape (mapped (λ (i : Instance). i.view.fixed.shape) seats n row.seat r.seat) in
+            subst (λ (s : Shape). LeavesState talks s (part row.number log)) shape_is
+            (subst (λ (k : ℕ). LeavesState talks (get_or (shapes_of system) n shape) (part k log)) number (left talks ends_as n shape (let e = len_seats in omega (arith, e, inside))));
       }
 
   all_rows : All (IsRow talks log) rows
@@ -122,20 +155,11 @@ module _ (system : System) (olds : List View) (peers : ArePeersOf system olds) (
       subst (λ (l : Life). T.Closed (shape_in l) (talk_in l)) (sym u.2)
       (row_closed talks log row r (subst (λ (b : Bool). ClosesOne b row.closing) open_turn turn))
 
-  len_rows : length rows ≡ length system.components
-  len_rows = sym (length-map rows (λ (r : Row). r.seat)) ∙ ap length (seats_are 0 seats closings beside) ∙ len_seats
-
   len_lives : length lives ≡ length system.components
   len_lives = length-map rows (life_of log) ∙ len_rows
 
   run_at : (k : ℕ) (life : Life) → slice_get lives k ≡ Some life → life.run ≡ part k log
   run_at k life at = let u = run_is k life at in ap (λ (l : Life). l.run) u.2 ∙ ap (λ (n : ℕ). part n log) u.3
-
-  row_here : (k : ℕ) → k < length system.components → (row : Row) × (slice_get rows k ≡ Some row)
-  row_here k w = by rows refl where
-    by : (rs : List Row) → rs ≡ rows → (row : Row) × (slice_get rows k ≡ Some row)
-    by [] same = absurd (let e = ap length same in let f = len_rows in omega (arith, e, f, w))
-    by (r ∷ rs) same = (get_or rows k r, slice_get-get_or rows k r (let f = len_rows in omega (arith, f, w)))
 
   talk_at : (k : ℕ) (d : List Exchange) → k < length system.components → get_or (map (λ (l : Life). l.run) lives) k d ≡ part k log
   talk_at k d w =
@@ -230,7 +254,7 @@ module _ (system : System) (olds : List View) (peers : ArePeersOf system olds) (
 
 -- ---- the laws, from those of a run's calls
 
-module _ (answers : FirstBadAnswer) (once : NoCallTwice) (asked_for : UpdatesAskedFor) (ends : EndsCome) where
+module _ (answers : FirstBadAnswer) (once : NoCallTwice) (asked_for : UpdatesAskedFor) (states : StatesAreLeft) (ends : EndsCome) where
   pub run_is_lived : RunIsLived
   run_is_lived a ready done sound binds counts peers prepares runs closes count =
       let text : EndsBy a.system a.bound a.plan runs.log runs.is a.end a.before a.after =
@@ -243,16 +267,17 @@ module _ (answers : FirstBadAnswer) (once : NoCallTwice) (asked_for : UpdatesAsk
       let come = ends a.system a.bound a.plan prepares.log runs.log runs.is a.end a.before a.after binds counts prepares.answered text in
       let needed = once a.system come.0 log sound come.2 in
       let updates = λ (talks : List (List Exchange)) (are : AreTalks (length a.system.components) log talks). asked_for a.system come.0 log talks sound come.2 are in
+      let left = λ (talks : List Talk) (are : EndAs a.system log talks). states a.system come.0 log talks sound come.2 are in
       record {
         made = prepares.log;
         log = runs.log;
         is = runs.is;
-        lives = lives a.system a.olds peers log done.instances a.news told closes needed updates;
+        lives = lives a.system a.olds peers log done.instances a.news told closes needed updates left;
         making = prepares.answered;
-        are = are_lives a.system a.olds peers log done.instances a.news told closes needed updates;
+        are = are_lives a.system a.olds peers log done.instances a.news told closes needed updates left;
         text = text;
         counted = count ∙ runs.counted;
-        ends = ends_lives a.system a.olds peers log done.instances a.news told closes needed updates a.end come.0 come.1 (answers a.system come.0 log sound come.2);
+        ends = ends_lives a.system a.olds peers log done.instances a.news told closes needed updates left a.end come.0 come.1 (answers a.system come.0 log sound come.2);
         machines = prepares.machines;
       }
 
@@ -261,12 +286,13 @@ module _ (answers : FirstBadAnswer) (once : NoCallTwice) (asked_for : UpdatesAsk
       let come : Comes system (Some bad) u.log = Unmade bad u.log u.stops in
       let needed = once system (Some bad) u.log sound come in
       let updates = λ (talks : List (List Exchange)) (are : AreTalks (length system.components) u.log talks). asked_for system (Some bad) u.log talks sound come are in
+      let left = λ (talks : List Talk) (are : EndAs system u.log talks). states system (Some bad) u.log talks sound come are in
       record {
         log = u.log;
-        lives = lives system olds peers u.log u.mids news u.told u.closes needed updates;
+        lives = lives system olds peers u.log u.mids news u.told u.closes needed updates left;
         stops = u.stops;
-        are = are_lives system olds peers u.log u.mids news u.told u.closes needed updates;
-        least = bad_lives system olds peers u.log u.mids news u.told u.closes needed updates bad (answers system (Some bad) u.log sound come);
+        are = are_lives system olds peers u.log u.mids news u.told u.closes needed updates left;
+        least = bad_lives system olds peers u.log u.mids news u.told u.closes needed updates left bad (answers system (Some bad) u.log sound come);
       }
 
 pub lives_are_over : LivesAreOver

@@ -1,14 +1,19 @@
 -- The lives of a system's peers, each from before its first call through the run to its closing (FMI 3.0, 4.2.1; 2.2.3: Fatal).
-use Rattle.std.specs.Prelude.{◌≡◌, ◌⊎◌, ℕ, ◌≤◌, ◌==◌, Bool, true, false, ◌&&◌, ◌||◌, List, ◌++◌, map, take, All, Some, IfSome}
+use Rattle.std.specs.Prelude.{◌≡◌, ◌⊎◌, ℕ, ◌≤◌, ◌==◌, Bool, true, false, ◌&&◌, ◌||◌, if◌then◌else◌, List, [], ◌∷◌, ◌++◌, map, take, All, Some, IfSome, Result}
 use Rattle.std.specs.List.{list_any, slice_get}
 use Rattle.std.specs.Result.{is_err}
 use Rattle.sim_base.specs.Causes.{Rose}
 use Rattle.value_types.specs.declared.shape.Shape.{Shape}
 use Rattle.fmi_calls.specs.KindFacts.{IsClosingCall, IsRunCall}
+use Rattle.fmi_calls.specs.Permission.{Permitted}
+use Rattle.fmi_calls.specs.declared.call.Call.{Call}
+use Rattle.fmi_calls.specs.declared.call.Reply.{Reply}
+use Rattle.fmi_calls.specs.declared.phase.Phase.{Phase}
 use Rattle.fmi_calls.specs.declared.phase.InstanceState.TheVariants as P
 use Rattle.fmu_peer.specs.declared.peer.Exchange.{Exchange}
+use Rattle.fmu_peer.specs.declared.peer.PeerFault.{PeerFault}
 use Rattle.fmu_peer.specs.Answer.{IsFirstBad, IsLink}
-use Rattle.fmu_peer.specs.Close.{any_fatal}
+use Rattle.fmu_peer.specs.Close.{any_fatal, closing_calls}
 use Rattle.fmu_peer.specs.Lean.{IsLean}
 use Rattle.fmu_peer.specs.Machine.{Machine, MachineState}
 use Rattle.fmu_peer.specs.Siblings.{Member, Siblings}
@@ -23,7 +28,7 @@ use Rattle.calling_sequence.specs.declared.run_end.RunEnd.{RunEnd}
 use Rattle.calling_sequence.specs.declared.run_end.RunEnd.TheVariants as E
 use Rattle.slot_calls.specs.Replies.{RepliesBy}
 use Rattle.slot_calls.specs.Log.{Sent, part}
-use Rattle.slot_calls.specs.SavedStates.{IsParted, Talk}
+use Rattle.slot_calls.specs.SavedStates.{IsParted, Talk, saved_after}
 
 -- ---- one life
 
@@ -52,12 +57,29 @@ pub record Counts (before after : ℕ) (es : List Exchange) : Type 0 where
   pub quiet : list_any is_unanswered es ≡ false → after ≡ before
   pub rose : list_any is_unanswered es ≡ true → Rose before after
 
--- what stays has stayed; the calls of the run are all needed, and those of the closing follow; all of them are legal and lead to the phase, and a told talk has them and no others; a told machine's replies are those to them
+-- by the phases these calls come in their order, each once where it is permitted when its turn comes, and nothing else comes
+abbrev pub ComeInTurn : Shape → Phase → List Call → List Exchange → Type 0
+ComeInTurn shape phase [] sent = sent ≡ []
+ComeInTurn shape phase (c ∷ cs) sent =
+    (Permitted shape phase c ×
+    ((result : Result Reply PeerFault) × (rest : List Exchange) ×
+    (sent ≡ record { call = c; result = result } ∷ rest) ×
+    ComeInTurn shape (T.next_by shape phase (record { call = c; result = result })) cs rest))
+    ⊎ ((Permitted shape phase c → ⊥) × ComeInTurn shape phase cs sent)
+
+-- behind its run a peer was sent Free where its state is still saved, Terminate and then FreeInstance, each once where it was permitted, or nothing
+abbrev pub ClosesInTurn : Life → Type 0
+ClosesInTurn life =
+    (spared : Bool) × ComeInTurn (shape_in life) (T.phase_after (shape_in life) life.run)
+    (if spared then [] else closing_calls (saved_after (shape_in life) false life.run)) life.closing
+
+-- what stays has stayed; the calls of the run are all needed, and those of the closing follow in turn; all of them are legal and lead to the phase, and a told talk has them and no others; a told machine's replies are those to them
 pub record IsLife (life : Life) : Type 0 where
   pub fixed : life.new.fixed ≡ life.old.fixed
   pub run_calls : All IsRunCall (calls_in life.run)
   pub lean : IsLean (calls_in life.run)
   pub closing_calls : All IsClosingCall (calls_in life.closing)
+  pub turn : ClosesInTurn life
   pub legal : T.Legal (shape_in life) (talk_in life)
   pub phase : life.new.phase ≡ T.phase_after (shape_in life) (talk_in life)
   pub talk : IfSome life.new.talk (λ es. es ≡ talk_in life)

@@ -16,7 +16,7 @@ pub(crate) struct Seats<L: Peer> {
 
 impl<L: Peer> Seats<L> {
     ghost use Rattle.std.specs.Prelude.{◌^◌, All, IfOk, IfErr, OnOk, map};
-    ghost use Rattle.fmi_calls.specs.declared.phase.InstanceState.TheVariants as P;
+    ghost use Rattle.fmi_calls.specs.Next.{fresh};
     ghost use Rattle.fmu_peer.specs.Mode.{instantiate_of};
     ghost use Rattle.step_master.specs.Master.{Closes};
     ghost use Rattle.calling_sequence.specs.Place.{IsMade};
@@ -27,7 +27,7 @@ impl<L: Peer> Seats<L> {
     /// Puts each peer into the slot of its component. Where memory is wanting it gives the peers back.
     pub fn new(alloc: Global, components: &[Component], peers: Vec<L>) -> Result<Seats<L>, Vec<L>>
         requires each { length components.now ≡ vec_len peers }
-        requires fresh { All (λ p. (L.view p).phase.state ≡ P.Fresh) peers.items }
+        requires fresh { All (λ p. (L.view p).phase ≡ fresh (L.view p).fixed.shape) peers.items }
         ensures ok { IfOk result (λ seats. instances L.view seats.slots.items ≡
             seated components.now (map L.view peers.items)) }
         ensures live { IfOk result (λ seats. All (LiveSlot L.view) seats.slots.items) }

@@ -1,5 +1,5 @@
 ghost use Rattle.std.specs.Prelude.{◌≡◌, ◌≤◌, ◌^◌, [], false, is_some, All, OnOk, length, map, vec_len, vec_capacity};
-ghost use Rattle.fmi_calls.specs.declared.phase.InstanceState.TheVariants as P;
+ghost use Rattle.fmi_calls.specs.Next.{fresh};
 ghost use Rattle.fmu_peer.specs.CloseAll.{instance_in, peer_in};
 ghost use Rattle.step_master.specs.Seats.{IsFresh, seat, seated};
 ghost use Rattle.fmu_peer.specs.Mode.{instantiate_of};
@@ -7,7 +7,7 @@ ghost use Rattle.calling_sequence.specs.Place.{IsMade};
 ghost use Rattle.slot_calls.specs.Slots.{LiveSlot, Stands, instances};
 ghost use Rattle.slot_calls.specs.Stage.{Stage, nothing, shapes, to_each};
 
-use fmu_peer::{Fmu, Held, Peer, Slot};
+use fmu_peer::{Fmu, Held, Job, Peer, Slot};
 use slot_calls::{Ask, BadAnswer, each};
 use system_model::Component;
 
@@ -20,7 +20,7 @@ pub(crate) fn take_seats<L: Peer>(
     requires empty { empty.items ≡ [] }
     requires room { vec_len peers ≤ vec_capacity empty }
     requires each { length components.now ≡ vec_len peers }
-    requires fresh { All (λ p. (L.view p).phase.state ≡ P.Fresh) peers.items }
+    requires fresh { All (λ p. (L.view p).phase ≡ fresh (L.view p).fixed.shape) peers.items }
     ensures slots { instances L.view result.items ≡ seated components.now (map L.view peers.items) }
     ensures live { All (LiveSlot L.view) result.items }
 {
@@ -35,7 +35,7 @@ pub(crate) fn take_seats<L: Peer>(
 }
 
 fn take_seat<L: Peer>(component: &Component, peer: L) -> Slot<L>
-    requires { (L.view peer).phase.state ≡ P.Fresh }
+    requires { (L.view peer).phase ≡ fresh (L.view peer).fixed.shape }
     ensures slot { instance_in L.view result ≡ seat component.now (L.view peer) }
     ensures live { LiveSlot L.view result }
 {
@@ -44,6 +44,8 @@ fn take_seat<L: Peer>(component: &Component, peer: L) -> Slot<L>
         held: Held::Fresh(Fmu::new(peer)),
         saved: None,
         is_fatal: false,
+        job: Job::Nothing,
+        answer: None,
     }
 }
 
@@ -72,6 +74,8 @@ fn peer_of<L: Peer>(slot: Slot<L>) -> L
         held,
         saved,
         is_fatal: _,
+        job: _,
+        answer: _,
     } = slot;
     match saved {
         None => held.into_peer(),

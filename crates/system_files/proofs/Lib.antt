@@ -3,6 +3,9 @@ pub mod FileLemmas
 pub mod PartLemmas
 pub mod OnlyLemmas
 pub mod UseLemmas
+pub mod AskLemmas
+pub mod MoreLemmas
+pub mod ComesLemmas
 pub mod ShapeLemmas
 pub mod BindingLemmas
 pub mod EndLemmas

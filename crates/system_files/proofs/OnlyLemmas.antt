@@ -1,11 +1,11 @@
 -- Where a folder tells its files, what is found alone is all that the order of reading comes to.
-use Rattle.std.proofs.Common.{◌≡◌, ℕ, Bool, ap₂, List, [], ◌∷◌, ◌++◌, Option, Some, None, IfSome, refl, sym, ap, ◌∙◌, subst}
+use Rattle.std.proofs.Common.{◌≡◌, ℕ, Bool, ap₂, List, [], ◌∷◌, ◌++◌, Option, Some, None, refl, sym, ap, ◌∙◌, subst}
 use Rattle.std.specs.Prelude.{IsSomeAnd, slice_get}
 use Rattle.std.specs.List.{AllZip}
 use Rattle.std.proofs.lemmas.List.{append-nil}
-use Rattle.sim_base.specs.Folder.{FolderView}
 use Rattle.sim_base.specs.declared.numbers.PortId.{PortId}
 use Rattle.value_types.specs.declared.shape.Shape.{Shape}
+use Rattle.sim_base.specs.declared.read_book.ReadNote.{ReadNote}
 use Rattle.doc_tree.specs.declared.place.Place.{Place}
 use Rattle.doc_tree.specs.declared.rule.Rule.{Rule}
 use Rattle.system_model.specs.declared.bound.Bound.{Bound}
@@ -20,7 +20,7 @@ use Rattle.system_loading.specs.Readings.{BreaksModel, BreaksStructure, IsModel,
 use Rattle.system_files.specs.declared.loaded.Loaded.{Loaded}
 use Rattle.system_files.specs.declared.subject.Subject.{Subject}
 use Rattle.system_files.specs.declared.subject.Subject.TheVariants as what
-use Rattle.system_files.specs.Files.{Faulty, Flaw, LacksFile, structure_path}
+use Rattle.system_files.specs.Files.{AreSteady, Faulty, Flaw, LacksFile, structure_path}
 use Rattle.system_files.specs.Order.{Agree, Comes, ComesAlone, Fails, Finding, Found, HasShape, IsBindingToldIn, IsGiven, IsToldIn, LacksBinding, NoBinding, NoOutline, NoSet, NoShape, NoSystem, Outlines, Reaches, ReachesBindings, Search, Whole, asked_for, asked_with, folders_of, model_path, origin_of, part_told}
 use Rattle.system_files.specs.Steps.{FailsModel, FailsStructure, HasShapeAlone, IsGivenAlone, IsLoaded, OutlinesAlone}
 use Rattle.system_files.proofs.FileLemmas.{flawed_once, flawed_unsaid, is_flawed, is_said, said_once, said_unflawed}
@@ -29,28 +29,28 @@ use Rattle.system_files.proofs.PartLemmas.{LacksBindingAlone, binding_once, bind
 
 -- ---- what is found alone is found
 
-pub is_outline : (subject : Subject) (directory : List ℕ) (folder : FolderView) (o : Outline) → OutlinesAlone subject directory folder o → Outlines subject directory folder o
-is_outline what.Fmu directory folder o a = a
-is_outline what.System directory folder o a = is_said IsStructure BreaksStructure folder (structure_path directory) o a
+pub is_outline : (subject : Subject) (directory : List ℕ) (reads : List ReadNote) (o : Outline) → OutlinesAlone subject directory reads o → Outlines subject directory reads o
+is_outline what.Fmu directory reads o a = a
+is_outline what.System directory reads o a = is_said IsStructure BreaksStructure reads (structure_path directory) o a
 
 -- the first components have shapes of their own
-pub record ReachesAlone (s : Search) (folder : FolderView) (o : Outline) (taken : List ComponentPart) (shapes : List Shape) (rest : List ComponentPart) : Type 0 where
-  pub outline : OutlinesAlone s.subject s.directory folder o
+pub record ReachesAlone (s : Search) (reads : List ReadNote) (o : Outline) (taken : List ComponentPart) (shapes : List Shape) (rest : List ComponentPart) : Type 0 where
+  pub outline : OutlinesAlone s.subject s.directory reads o
   pub is : o.systems.components ≡ taken ++ rest
-  pub each : AllZip (HasShapeAlone s.per_second s.directory folder) taken shapes
+  pub each : AllZip (HasShapeAlone s.per_second s.directory reads) taken shapes
 
-pub reached : (s : Search) (folder : FolderView) (o : Outline) (taken : List ComponentPart) (shapes : List Shape) (rest : List ComponentPart) → ReachesAlone s folder o taken shapes rest →
-    Reaches s folder o taken shapes rest
-reached s folder o taken shapes rest a = record {
-  outline = is_outline s.subject s.directory folder o a.outline;
+pub reached : (s : Search) (reads : List ReadNote) (o : Outline) (taken : List ComponentPart) (shapes : List Shape) (rest : List ComponentPart) → ReachesAlone s reads o taken shapes rest →
+    Reaches s reads o taken shapes rest
+reached s reads o taken shapes rest a = record {
+  outline = is_outline s.subject s.directory reads o a.outline;
   is = a.is;
-  each = zip_then (HasShapeAlone s.per_second s.directory folder) (HasShape s folder)
-      (λ c shape h. is_said (IsModel s.per_second) (BreaksModel s.per_second) folder (model_path s.directory c) shape h) taken shapes a.each;
+  each = zip_then (HasShapeAlone s.per_second s.directory reads) (HasShape s reads)
+      (λ c shape h. is_said (IsModel s.per_second) (BreaksModel s.per_second) reads (model_path s.directory c) shape h) taken shapes a.each;
 }
 
-pub reached_all : (s : Search) (folder : FolderView) (o : Outline) (shapes : List Shape) → OutlinesAlone s.subject s.directory folder o →
-    AllZip (HasShapeAlone s.per_second s.directory folder) o.systems.components shapes → ReachesAlone s folder o o.systems.components shapes []
-reached_all s folder o shapes outline each = record { outline = outline; is = sym (append-nil o.systems.components); each = each }
+pub reached_all : (s : Search) (reads : List ReadNote) (o : Outline) (shapes : List Shape) → OutlinesAlone s.subject s.directory reads o →
+    AllZip (HasShapeAlone s.per_second s.directory reads) o.systems.components shapes → ReachesAlone s reads o o.systems.components shapes []
+reached_all s reads o shapes outline each = record { outline = outline; is = sym (append-nil o.systems.components); each = each }
 
 -- the file of a part of a binding is one
 binding_told_once : (s : Search) (o : Outline) (n : ℕ) (in_mapping : Bool) (one other : List ℕ) → IsBindingToldIn s o n in_mapping one → IsBindingToldIn s o n in_mapping other → one ≡ other
@@ -76,35 +76,35 @@ told_once s o (Some n) one other a b = by (slice_get o.systems.components n) a b
     by (Some c) a b = a ∙ sym b
 
 -- all that is come to agrees with this
-abbrev pub Agrees : Search → FolderView → List (List ℕ) → Finding → Type 0
-Agrees s folder asked finding = (others : List (List ℕ)) (other : Finding) → Comes s folder others other → (asked ≡ others) × Agree finding other
+abbrev pub Agrees : Search → List ReadNote → List (List ℕ) → Finding → Type 0
+Agrees s reads asked finding = (others : List (List ℕ)) (other : Finding) → Comes s reads others other → (asked ≡ others) × Agree finding other
 
 -- ---- where the folder tells its files
 
-module _ (s : Search) (folder : FolderView) (at : List ℕ → Option (List ℕ)) (is : folder.files ≡ Some at) where
-  outline_once : (subject : Subject) (directory : List ℕ) (o other : Outline) → OutlinesAlone subject directory folder o → Outlines subject directory folder other → o ≡ other
+module _ (s : Search) (reads : List ReadNote) (steady : AreSteady reads) where
+  outline_once : (subject : Subject) (directory : List ℕ) (o other : Outline) → OutlinesAlone subject directory reads o → Outlines subject directory reads other → o ≡ other
   outline_once what.Fmu directory o other a f = a ∙ sym f
-  outline_once what.System directory o other a f = said_once IsStructure BreaksStructure folder at is (structure_path directory) o other a f
+  outline_once what.System directory o other a f = said_once IsStructure BreaksStructure reads steady (structure_path directory) o other a f
 
-  outline_unflawed : (o : Outline) (flaw : Flaw) → OutlinesAlone s.subject s.directory folder o → s.subject ≡ what.System → LacksFile BreaksStructure folder (structure_path s.directory) flaw → ⊥
+  outline_unflawed : (o : Outline) (flaw : Flaw) → OutlinesAlone s.subject s.directory reads o → s.subject ≡ what.System → LacksFile BreaksStructure reads (structure_path s.directory) flaw → ⊥
   outline_unflawed o flaw a sys f =
-      said_unflawed IsStructure BreaksStructure folder at is (structure_path s.directory) o flaw (subst (λ (subject : Subject). OutlinesAlone subject s.directory folder o) sys a) f
+      said_unflawed IsStructure BreaksStructure reads steady (structure_path s.directory) o flaw (subst (λ (subject : Subject). OutlinesAlone subject s.directory reads o) sys a) f
 
-  no_outline : (o : Outline) (flaw : Flaw) → s.subject ≡ what.System → LacksFile FailsStructure folder (structure_path s.directory) flaw → Outlines s.subject s.directory folder o → ⊥
+  no_outline : (o : Outline) (flaw : Flaw) → s.subject ≡ what.System → LacksFile FailsStructure reads (structure_path s.directory) flaw → Outlines s.subject s.directory reads o → ⊥
   no_outline o flaw sys a f =
-      flawed_unsaid IsStructure BreaksStructure folder at is (structure_path s.directory) o flaw a (subst (λ (subject : Subject). Outlines subject s.directory folder o) sys f)
+      flawed_unsaid IsStructure BreaksStructure reads steady (structure_path s.directory) o flaw a (subst (λ (subject : Subject). Outlines subject s.directory reads o) sys f)
 
-  shape_once : (c : ComponentPart) (one other : Shape) → HasShapeAlone s.per_second s.directory folder c one → HasShape s folder c other → one ≡ other
-  shape_once c one other a f = said_once (IsModel s.per_second) (BreaksModel s.per_second) folder at is (model_path s.directory c) one other a f
+  shape_once : (c : ComponentPart) (one other : Shape) → HasShapeAlone s.per_second s.directory reads c one → HasShape s reads c other → one ≡ other
+  shape_once c one other a f = said_once (IsModel s.per_second) (BreaksModel s.per_second) reads steady (model_path s.directory c) one other a f
 
   -- ---- no structure
 
-  pub no_outline_only : (flaw : Flaw) → s.subject ≡ what.System → LacksFile FailsStructure folder (structure_path s.directory) flaw →
-      Agrees s folder (structure_path s.directory ∷ []) (Fails (structure_path s.directory) flaw)
+  pub no_outline_only : (flaw : Flaw) → s.subject ≡ what.System → LacksFile FailsStructure reads (structure_path s.directory) flaw →
+      Agrees s reads (structure_path s.directory ∷ []) (Fails (structure_path s.directory) flaw)
   no_outline_only flaw sys a others other (NoOutline flaw2 asked finding sys2 f asked_is finding_is) = (
     sym asked_is,
     subst (Agree (Fails (structure_path s.directory) flaw)) (sym finding_is)
-        (refl, flawed_once IsStructure BreaksStructure folder at is (structure_path s.directory) flaw flaw2 a f),
+        (refl, flawed_once IsStructure BreaksStructure reads steady (structure_path s.directory) flaw flaw2 a f),
   )
   no_outline_only flaw sys a others other (NoShape o taken shapes c rest flaw2 asked finding reach f asked_is finding_is) = absurd (no_outline o flaw sys a reach.outline)
   no_outline_only flaw sys a others other (NoSet o2 shapes2 taken2 given2 b2 rest2 files2 path2 flaw2 asked finding reach f asked_is finding_is) = absurd (no_outline o2 flaw sys a reach.reaches.outline)
@@ -115,45 +115,45 @@ module _ (s : Search) (folder : FolderView) (at : List ℕ → Option (List ℕ)
   -- ---- components with a shape, or with a flaw
 
   abbrev Good : ComponentPart → Type 0
-  Good c = (shape : Shape) × HasShape s folder c shape
+  Good c = (shape : Shape) × HasShape s reads c shape
 
   abbrev Bad : ComponentPart → Type 0
-  Bad c = (flaw : Flaw) × LacksFile (BreaksModel s.per_second) folder (model_path s.directory c) flaw
+  Bad c = (flaw : Flaw) × LacksFile (BreaksModel s.per_second) reads (model_path s.directory c) flaw
 
-  good : (c : ComponentPart) (shape : Shape) → HasShapeAlone s.per_second s.directory folder c shape → Bad c → ⊥
-  good c shape a bad = said_unflawed (IsModel s.per_second) (BreaksModel s.per_second) folder at is (model_path s.directory c) shape bad.0 a bad.1
+  good : (c : ComponentPart) (shape : Shape) → HasShapeAlone s.per_second s.directory reads c shape → Bad c → ⊥
+  good c shape a bad = said_unflawed (IsModel s.per_second) (BreaksModel s.per_second) reads steady (model_path s.directory c) shape bad.0 a bad.1
 
-  bad : (c : ComponentPart) (flaw : Flaw) → LacksFile (FailsModel s.per_second) folder (model_path s.directory c) flaw → Good c → ⊥
-  bad c flaw a good = flawed_unsaid (IsModel s.per_second) (BreaksModel s.per_second) folder at is (model_path s.directory c) good.0 flaw a good.1
+  bad : (c : ComponentPart) (flaw : Flaw) → LacksFile (FailsModel s.per_second) reads (model_path s.directory c) flaw → Good c → ⊥
+  bad c flaw a good = flawed_unsaid (IsModel s.per_second) (BreaksModel s.per_second) reads steady (model_path s.directory c) good.0 flaw a good.1
 
-  each_sound : (cs : List ComponentPart) (shapes : List Shape) → AllZip (HasShapeAlone s.per_second s.directory folder) cs shapes → Each (λ c. Bad c → ⊥) cs
-  each_sound cs shapes a = zip_left (HasShapeAlone s.per_second s.directory folder) (λ c. Bad c → ⊥) good cs shapes a
+  each_sound : (cs : List ComponentPart) (shapes : List Shape) → AllZip (HasShapeAlone s.per_second s.directory reads) cs shapes → Each (λ c. Bad c → ⊥) cs
+  each_sound cs shapes a = zip_left (HasShapeAlone s.per_second s.directory reads) (λ c. Bad c → ⊥) good cs shapes a
 
-  each_good : (cs : List ComponentPart) (shapes : List Shape) → AllZip (HasShape s folder) cs shapes → Each Good cs
-  each_good cs shapes f = zip_left (HasShape s folder) Good (λ c shape h. (shape, h)) cs shapes f
+  each_good : (cs : List ComponentPart) (shapes : List Shape) → AllZip (HasShape s reads) cs shapes → Each Good cs
+  each_good cs shapes f = zip_left (HasShape s reads) Good (λ c shape h. (shape, h)) cs shapes f
 
   -- ---- a description isn't taken
 
   module _ (o : Outline) (taken : List ComponentPart) (shapes : List Shape) (c : ComponentPart) (rest : List ComponentPart) (flaw : Flaw)
-      (a : ReachesAlone s folder o taken shapes (c ∷ rest)) (lacks : LacksFile (FailsModel s.per_second) folder (model_path s.directory c) flaw) where
+      (a : ReachesAlone s reads o taken shapes (c ∷ rest)) (lacks : LacksFile (FailsModel s.per_second) reads (model_path s.directory c) flaw) where
     -- some components cannot all have a shape
-    not_all : (other : Outline) (more : List Shape) → Outlines s.subject s.directory folder other → AllZip (HasShape s folder) other.systems.components more → ⊥
+    not_all : (other : Outline) (more : List Shape) → Outlines s.subject s.directory reads other → AllZip (HasShape s reads) other.systems.components more → ⊥
     not_all other more outline each =
         let same = outline_once s.subject s.directory o other a.outline outline in
         let all : other.systems.components ≡ taken ++ c ∷ rest = ap (λ (x : Outline). x.systems.components) (sym same) ∙ a.is in
         bad c flaw lacks (each_in Good taken c rest (subst (Each Good) all (each_good other.systems.components more each)))
 
-    pub no_shape_only : Agrees s folder (asked_for s (taken ++ c ∷ [])) (Fails (model_path s.directory c) flaw)
+    pub no_shape_only : Agrees s reads (asked_for s (taken ++ c ∷ [])) (Fails (model_path s.directory c) flaw)
     no_shape_only others other (NoOutline flaw2 asked finding sys f asked_is finding_is) = absurd (outline_unflawed o flaw2 a.outline sys f)
     no_shape_only others other (NoShape o2 taken2 shapes2 c2 rest2 flaw2 asked finding reach f asked_is finding_is) =
         let same = outline_once s.subject s.directory o o2 a.outline reach.outline in
         let all : taken ++ c ∷ rest ≡ taken2 ++ c2 ∷ rest2 = sym a.is ∙ ap (λ (x : Outline). x.systems.components) same ∙ reach.is in
         let stops = stops_once Good Bad taken taken2 c c2 rest rest2 all (each_sound taken shapes a.each) (bad c flaw lacks) (each_good taken2 shapes2 reach.each) (flaw2, f) in
-        let here : LacksFile (BreaksModel s.per_second) folder (model_path s.directory c) flaw2 =
-        subst (λ (x : ComponentPart). LacksFile (BreaksModel s.per_second) folder (model_path s.directory x) flaw2) (sym stops.1) f in (
+        let here : LacksFile (BreaksModel s.per_second) reads (model_path s.directory c) flaw2 =
+        subst (λ (x : ComponentPart). LacksFile (BreaksModel s.per_second) reads (model_path s.directory x) flaw2) (sym stops.1) f in (
           ap (λ (cs : List ComponentPart). asked_for s (cs ++ c ∷ [])) stops.0 ∙ ap (λ (x : ComponentPart). asked_for s (taken2 ++ x ∷ [])) stops.1 ∙ sym asked_is,
           subst (Agree (Fails (model_path s.directory c) flaw)) (sym finding_is)
-              (ap (model_path s.directory) stops.1, flawed_once (IsModel s.per_second) (BreaksModel s.per_second) folder at is (model_path s.directory c) flaw flaw2 lacks here),
+              (ap (model_path s.directory) stops.1, flawed_once (IsModel s.per_second) (BreaksModel s.per_second) reads steady (model_path s.directory c) flaw flaw2 lacks here),
         )
     no_shape_only others other (NoSet o2 shapes2 taken2 given2 b2 rest2 files2 path2 flaw2 asked finding reach f asked_is finding_is) = absurd (not_all o2 shapes2 reach.reaches.outline reach.reaches.each)
     no_shape_only others other (NoBinding o2 shapes2 given2 n2 in_mapping2 rule2 place2 path2 asked finding reach f told2 asked_is finding_is) = absurd (not_all o2 shapes2 reach.reaches.outline reach.reaches.each)
@@ -162,25 +162,25 @@ module _ (s : Search) (folder : FolderView) (at : List ℕ → Option (List ℕ)
 
   -- ---- all descriptions are taken
 
-  module _ (o : Outline) (shapes : List Shape) (outline : OutlinesAlone s.subject s.directory folder o)
-      (each : AllZip (HasShapeAlone s.per_second s.directory folder) o.systems.components shapes) where
+  module _ (o : Outline) (shapes : List Shape) (outline : OutlinesAlone s.subject s.directory reads o)
+      (each : AllZip (HasShapeAlone s.per_second s.directory reads) o.systems.components shapes) where
     no_flaw : (o2 : Outline) (taken2 : List ComponentPart) (shapes2 : List Shape) (c2 : ComponentPart) (rest2 : List ComponentPart) (flaw2 : Flaw) →
-        Reaches s folder o2 taken2 shapes2 (c2 ∷ rest2) → LacksFile (BreaksModel s.per_second) folder (model_path s.directory c2) flaw2 → ⊥
+        Reaches s reads o2 taken2 shapes2 (c2 ∷ rest2) → LacksFile (BreaksModel s.per_second) reads (model_path s.directory c2) flaw2 → ⊥
     no_flaw o2 taken2 shapes2 c2 rest2 flaw2 reach f =
         let same = outline_once s.subject s.directory o o2 outline reach.outline in
         let all : o.systems.components ≡ taken2 ++ c2 ∷ rest2 = ap (λ (x : Outline). x.systems.components) same ∙ reach.is in
         each_in (λ c. Bad c → ⊥) taken2 c2 rest2 (subst (Each (λ c. Bad c → ⊥)) all (each_sound o.systems.components shapes each)) (flaw2, f)
 
     -- another outline with shapes is this one with these
-    same_parts : (o2 : Outline) (shapes2 : List Shape) → Reaches s folder o2 o2.systems.components shapes2 [] → (o ≡ o2) × (shapes ≡ shapes2)
+    same_parts : (o2 : Outline) (shapes2 : List Shape) → Reaches s reads o2 o2.systems.components shapes2 [] → (o ≡ o2) × (shapes ≡ shapes2)
     same_parts o2 shapes2 reach =
         let same = outline_once s.subject s.directory o o2 outline reach.outline in (
           same,
-          zip_once (HasShapeAlone s.per_second s.directory folder) (HasShape s folder) shape_once o.systems.components shapes shapes2 each
-              (subst (λ (x : Outline). AllZip (HasShape s folder) x.systems.components shapes2) (sym same) reach.each),
+          zip_once (HasShapeAlone s.per_second s.directory reads) (HasShape s reads) shape_once o.systems.components shapes shapes2 each
+              (subst (λ (x : Outline). AllZip (HasShape s reads) x.systems.components shapes2) (sym same) reach.each),
         )
 
-    back : (P : Outline → List Shape → Type 0) (o2 : Outline) (shapes2 : List Shape) → Reaches s folder o2 o2.systems.components shapes2 [] → P o2 shapes2 → P o shapes
+    back : (P : Outline → List Shape → Type 0) (o2 : Outline) (shapes2 : List Shape) → Reaches s reads o2 o2.systems.components shapes2 [] → P o2 shapes2 → P o shapes
     back P o2 shapes2 reach p =
         let same = same_parts o2 shapes2 reach in
         subst (λ (x : Outline). P x shapes) (sym same.0) (subst (P o2) (sym same.1) p)
@@ -188,41 +188,41 @@ module _ (s : Search) (folder : FolderView) (at : List ℕ → Option (List ℕ)
     -- ---- the bindings
 
     abbrev GoodBinding : Binding → Type 0
-    GoodBinding b = (given : GivenBinding) × IsGiven s.directory folder o b given
+    GoodBinding b = (given : GivenBinding) × IsGiven s.directory reads o b given
 
     abbrev BadBinding : Binding → Type 0
-    BadBinding b = (files : List (List ℕ)) × ((path : List ℕ) × ((flaw : Flaw) × LacksBinding s folder o b files path flaw))
+    BadBinding b = (files : List (List ℕ)) × ((path : List ℕ) × ((flaw : Flaw) × LacksBinding s reads o b files path flaw))
 
-    bindings_sound : (bs : List Binding) (given : List GivenBinding) → AllZip (IsGivenAlone s.directory folder o) bs given → Each (λ b. BadBinding b → ⊥) bs
+    bindings_sound : (bs : List Binding) (given : List GivenBinding) → AllZip (IsGivenAlone s.directory reads o) bs given → Each (λ b. BadBinding b → ⊥) bs
     bindings_sound bs given a =
-        zip_left (IsGivenAlone s.directory folder o) (λ b. BadBinding b → ⊥) (λ b g h bad. given_sound s folder o b at is g bad.0 bad.1.0 bad.1.1.0 h bad.1.1.1) bs given a
+        zip_left (IsGivenAlone s.directory reads o) (λ b. BadBinding b → ⊥) (λ b g h bad. given_sound s reads o b steady g bad.0 bad.1.0 bad.1.1.0 h bad.1.1.1) bs given a
 
-    bindings_good : (bs : List Binding) (given : List GivenBinding) → AllZip (IsGiven s.directory folder o) bs given → Each GoodBinding bs
-    bindings_good bs given f = zip_left (IsGiven s.directory folder o) GoodBinding (λ b g h. (g, h)) bs given f
+    bindings_good : (bs : List Binding) (given : List GivenBinding) → AllZip (IsGiven s.directory reads o) bs given → Each GoodBinding bs
+    bindings_good bs given f = zip_left (IsGiven s.directory reads o) GoodBinding (λ b g h. (g, h)) bs given f
 
     -- ---- a binding isn't taken
 
     module _ (taken : List Binding) (given : List GivenBinding) (b : Binding) (rest : List Binding) (files : List (List ℕ)) (path : List ℕ) (flaw : Flaw)
-        (bindings_are : o.systems.bindings ≡ taken ++ b ∷ rest) (gives : AllZip (IsGivenAlone s.directory folder o) taken given) (lacks : LacksBindingAlone s folder o b files path flaw) where
+        (bindings_are : o.systems.bindings ≡ taken ++ b ∷ rest) (gives : AllZip (IsGivenAlone s.directory reads o) taken given) (lacks : LacksBindingAlone s reads o b files path flaw) where
       stop : GoodBinding b → ⊥
-      stop good = binding_stop s folder o b at is good.0 files path flaw lacks good.1
+      stop good = binding_stop s reads o b steady good.0 files path flaw lacks good.1
 
       -- some bindings cannot all be taken
-      not_all_given : (o2 : Outline) (shapes2 : List Shape) (given2 : List GivenBinding) → ReachesBindings s folder o2 shapes2 o2.systems.bindings given2 [] → ⊥
+      not_all_given : (o2 : Outline) (shapes2 : List Shape) (given2 : List GivenBinding) → ReachesBindings s reads o2 shapes2 o2.systems.bindings given2 [] → ⊥
       not_all_given o2 shapes2 given2 reach =
-          let here = back (λ x xs. ReachesBindings s folder x xs x.systems.bindings given2 []) o2 shapes2 reach.reaches reach in
+          let here = back (λ x xs. ReachesBindings s reads x xs x.systems.bindings given2 []) o2 shapes2 reach.reaches reach in
           stop (each_in GoodBinding taken b rest (subst (Each GoodBinding) bindings_are (bindings_good o.systems.bindings given2 here.each)))
 
-      pub no_set_only : Agrees s folder (asked_with s o taken ++ files) (Fails path flaw)
+      pub no_set_only : Agrees s reads (asked_with s o taken ++ files) (Fails path flaw)
       no_set_only others other (NoOutline flaw2 asked finding sys f asked_is finding_is) = absurd (outline_unflawed o flaw2 outline sys f)
       no_set_only others other (NoShape o2 taken2 shapes2 c2 rest2 flaw2 asked finding reach f asked_is finding_is) = absurd (no_flaw o2 taken2 shapes2 c2 rest2 flaw2 reach f)
       no_set_only others other (NoSet o2 shapes2 taken2 given2 b2 rest2 files2 path2 flaw2 asked finding reach f asked_is finding_is) =
-          let here = back (λ x xs. ReachesBindings s folder x xs taken2 given2 (b2 ∷ rest2)) o2 shapes2 reach.reaches reach in
-          let bad : LacksBinding s folder o b2 files2 path2 flaw2 = back (λ x xs. LacksBinding s folder x b2 files2 path2 flaw2) o2 shapes2 reach.reaches f in
+          let here = back (λ x xs. ReachesBindings s reads x xs taken2 given2 (b2 ∷ rest2)) o2 shapes2 reach.reaches reach in
+          let bad : LacksBinding s reads o b2 files2 path2 flaw2 = back (λ x xs. LacksBinding s reads x b2 files2 path2 flaw2) o2 shapes2 reach.reaches f in
           let is2 : asked ≡ asked_with s o taken2 ++ files2 = back (λ x xs. asked ≡ asked_with s x taken2 ++ files2) o2 shapes2 reach.reaches asked_is in
           let stops = stops_once GoodBinding BadBinding taken taken2 b b2 rest rest2 (sym bindings_are ∙ here.is) (bindings_sound taken given gives) stop
           (bindings_good taken2 given2 here.each) (files2, (path2, (flaw2, bad))) in
-          let once = binding_once s folder o b at is files files2 path path2 flaw flaw2 lacks (subst (λ (x : Binding). LacksBinding s folder o x files2 path2 flaw2) (sym stops.1) bad) in (
+          let once = binding_once s reads o b steady files files2 path path2 flaw flaw2 lacks (subst (λ (x : Binding). LacksBinding s reads o x files2 path2 flaw2) (sym stops.1) bad) in (
             ap₂ (λ (bs : List Binding) (more : List (List ℕ)). asked_with s o bs ++ more) stops.0 once.0 ∙ sym is2,
             subst (Agree (Fails path flaw)) (sym finding_is) (once.1, once.2),
           )
@@ -232,31 +232,31 @@ module _ (s : Search) (folder : FolderView) (at : List ℕ → Option (List ℕ)
 
     -- ---- all bindings are taken
 
-    module _ (given : List GivenBinding) (gives : AllZip (IsGivenAlone s.directory folder o) o.systems.bindings given) where
+    module _ (given : List GivenBinding) (gives : AllZip (IsGivenAlone s.directory reads o) o.systems.bindings given) where
       no_bad : (o2 : Outline) (shapes2 : List Shape) (taken2 : List Binding) (given2 : List GivenBinding) (b2 : Binding) (rest2 : List Binding) (files2 : List (List ℕ)) (path2 : List ℕ) (flaw2 : Flaw) →
-          ReachesBindings s folder o2 shapes2 taken2 given2 (b2 ∷ rest2) → LacksBinding s folder o2 b2 files2 path2 flaw2 → ⊥
+          ReachesBindings s reads o2 shapes2 taken2 given2 (b2 ∷ rest2) → LacksBinding s reads o2 b2 files2 path2 flaw2 → ⊥
       no_bad o2 shapes2 taken2 given2 b2 rest2 files2 path2 flaw2 reach f =
-          let here = back (λ x xs. ReachesBindings s folder x xs taken2 given2 (b2 ∷ rest2)) o2 shapes2 reach.reaches reach in
-          let bad : LacksBinding s folder o b2 files2 path2 flaw2 = back (λ x xs. LacksBinding s folder x b2 files2 path2 flaw2) o2 shapes2 reach.reaches f in
+          let here = back (λ x xs. ReachesBindings s reads x xs taken2 given2 (b2 ∷ rest2)) o2 shapes2 reach.reaches reach in
+          let bad : LacksBinding s reads o b2 files2 path2 flaw2 = back (λ x xs. LacksBinding s reads x b2 files2 path2 flaw2) o2 shapes2 reach.reaches f in
           each_in (λ x. BadBinding x → ⊥) taken2 b2 rest2 (subst (Each (λ x. BadBinding x → ⊥)) here.is (bindings_sound o.systems.bindings given gives)) (files2, (path2, (flaw2, bad)))
 
-      same_given : (given2 : List GivenBinding) → AllZip (IsGiven s.directory folder o) o.systems.bindings given2 → given ≡ given2
+      same_given : (given2 : List GivenBinding) → AllZip (IsGiven s.directory reads o) o.systems.bindings given2 → given ≡ given2
       same_given given2 f =
-          zip_once (IsGivenAlone s.directory folder o) (IsGiven s.directory folder o) (λ b one other h k. given_once s folder o b at is one other h k) o.systems.bindings given given2 gives f
+          zip_once (IsGivenAlone s.directory reads o) (IsGiven s.directory reads o) (λ b one other h k. given_once s reads o b steady one other h k) o.systems.bindings given given2 gives f
 
       -- another outline with shapes and bindings is this one with these
       all_back : (P : Outline → List Shape → List GivenBinding → Type 0) (o2 : Outline) (shapes2 : List Shape) (given2 : List GivenBinding) →
-          ReachesBindings s folder o2 shapes2 o2.systems.bindings given2 [] → P o2 shapes2 given2 → P o shapes given
+          ReachesBindings s reads o2 shapes2 o2.systems.bindings given2 [] → P o2 shapes2 given2 → P o shapes given
       all_back P o2 shapes2 given2 reach p =
-          let here = back (λ x xs. ReachesBindings s folder x xs x.systems.bindings given2 []) o2 shapes2 reach.reaches reach in
+          let here = back (λ x xs. ReachesBindings s reads x xs x.systems.bindings given2 []) o2 shapes2 reach.reaches reach in
           subst (P o shapes) (sym (same_given given2 here.each)) (back (λ x xs. P x xs given2) o2 shapes2 reach.reaches p)
 
-      all_asked : (o2 : Outline) (shapes2 : List Shape) (given2 : List GivenBinding) → ReachesBindings s folder o2 shapes2 o2.systems.bindings given2 [] →
+      all_asked : (o2 : Outline) (shapes2 : List Shape) (given2 : List GivenBinding) → ReachesBindings s reads o2 shapes2 o2.systems.bindings given2 [] →
           asked_with s o o.systems.bindings ≡ asked_with s o2 o2.systems.bindings
       all_asked o2 shapes2 given2 reach = all_back (λ x xs gs. asked_with s x x.systems.bindings ≡ asked_with s o2 o2.systems.bindings) o2 shapes2 given2 reach refl
 
       pub no_binding_only : (n : ℕ) (in_mapping : Bool) (rule : Rule) (place : Place) (path : List ℕ) → BreaksBindingAlone o shapes given n in_mapping rule place →
-          IsBindingToldIn s o n in_mapping path → Agrees s folder (asked_with s o o.systems.bindings) (Fails path (Faulty rule place []))
+          IsBindingToldIn s o n in_mapping path → Agrees s reads (asked_with s o o.systems.bindings) (Fails path (Faulty rule place []))
       no_binding_only n in_mapping rule place path a told others other (NoOutline flaw2 asked finding sys f asked_is finding_is) = absurd (outline_unflawed o flaw2 outline sys f)
       no_binding_only n in_mapping rule place path a told others other (NoShape o2 taken2 shapes2 c2 rest2 flaw2 asked finding reach f asked_is finding_is) =
           absurd (no_flaw o2 taken2 shapes2 c2 rest2 flaw2 reach f)
@@ -275,12 +275,12 @@ module _ (s : Search) (folder : FolderView) (at : List ℕ → Option (List ℕ)
 
       module _ (bound : Bound) (binds : BindsAlone o shapes given bound) where
         no_broken : (o2 : Outline) (shapes2 : List Shape) (given2 : List GivenBinding) (n2 : ℕ) (in_mapping2 : Bool) (rule2 : Rule) (place2 : Place) →
-            ReachesBindings s folder o2 shapes2 o2.systems.bindings given2 [] → BreaksBinding o2 shapes2 given2 n2 in_mapping2 rule2 place2 → ⊥
+            ReachesBindings s reads o2 shapes2 o2.systems.bindings given2 [] → BreaksBinding o2 shapes2 given2 n2 in_mapping2 rule2 place2 → ⊥
         no_broken o2 shapes2 given2 n2 in_mapping2 rule2 place2 reach f =
             binds.none n2 in_mapping2 rule2 place2 (all_back (λ x xs gs. BreaksBinding x xs gs n2 in_mapping2 rule2 place2) o2 shapes2 given2 reach f)
 
         pub no_system_only : (component : Option ℕ) (rule : Rule) (place : Place) (ports : List PortId) (path : List ℕ) → BreaksTogetherAlone o shapes component rule place ports →
-            IsToldIn s o component path → Agrees s folder (asked_with s o o.systems.bindings) (Fails path (Faulty rule place ports))
+            IsToldIn s o component path → Agrees s reads (asked_with s o o.systems.bindings) (Fails path (Faulty rule place ports))
         no_system_only component rule place ports path a told others other (NoOutline flaw2 asked finding sys f asked_is finding_is) = absurd (outline_unflawed o flaw2 outline sys f)
         no_system_only component rule place ports path a told others other (NoShape o2 taken2 shapes2 c2 rest2 flaw2 asked finding reach f asked_is finding_is) =
             absurd (no_flaw o2 taken2 shapes2 c2 rest2 flaw2 reach f)
@@ -295,7 +295,7 @@ module _ (s : Search) (folder : FolderView) (at : List ℕ → Option (List ℕ)
             )
         no_system_only component rule place ports path a told others other (Whole o2 shapes2 given2 loaded2 asked finding reach binds2 f folders2 asked_is finding_is) = absurd (a.none loaded2.system (all_back (λ x xs gs. Makes x xs loaded2.system) o2 shapes2 given2 reach f))
 
-      pub whole_only : (loaded : Loaded) → IsLoaded s.directory o shapes given loaded → Agrees s folder (asked_with s o o.systems.bindings) (Found loaded)
+      pub whole_only : (loaded : Loaded) → IsLoaded s.directory o shapes given loaded → Agrees s reads (asked_with s o o.systems.bindings) (Found loaded)
       whole_only loaded a others other (NoOutline flaw2 asked finding sys f asked_is finding_is) = absurd (outline_unflawed o flaw2 outline sys f)
       whole_only loaded a others other (NoShape o2 taken2 shapes2 c2 rest2 flaw2 asked finding reach f asked_is finding_is) = absurd (no_flaw o2 taken2 shapes2 c2 rest2 flaw2 reach f)
       whole_only loaded a others other (NoSet o2 shapes2 taken2 given2 b2 rest2 files2 path2 flaw2 asked finding reach f asked_is finding_is) = absurd (no_bad o2 shapes2 taken2 given2 b2 rest2 files2 path2 flaw2 reach f)
@@ -313,78 +313,66 @@ module _ (s : Search) (folder : FolderView) (at : List ℕ → Option (List ℕ)
 
 -- ---- alone
 
--- what holds whatever a folder tells
-known : (folder : FolderView) (P : Type 0) → ((at : List ℕ → Option (List ℕ)) → folder.files ≡ Some at → P) → IfSome folder.files (λ at. P)
-known folder P so = by folder.files refl
-  where
-    by : (files : Option (List ℕ → Option (List ℕ))) → folder.files ≡ files → IfSome files (λ at. P)
-    by None e = tt
-    by (Some at) e = so at e
-
-pub no_outline_alone : (s : Search) (folder : FolderView) (flaw : Flaw) → s.subject ≡ what.System → LacksFile FailsStructure folder (structure_path s.directory) flaw →
-    ComesAlone s folder (structure_path s.directory ∷ []) (Fails (structure_path s.directory) flaw)
-no_outline_alone s folder flaw sys a = record {
-  comes = NoOutline flaw _ _ sys (is_flawed IsStructure BreaksStructure folder (structure_path s.directory) flaw a) refl refl;
-  only = known folder (Agrees s folder (structure_path s.directory ∷ []) (Fails (structure_path s.directory) flaw)) (λ at is. no_outline_only s folder at is flaw sys a);
+pub no_outline_alone : (s : Search) (reads : List ReadNote) (flaw : Flaw) → s.subject ≡ what.System → LacksFile FailsStructure reads (structure_path s.directory) flaw →
+    ComesAlone s reads (structure_path s.directory ∷ []) (Fails (structure_path s.directory) flaw)
+no_outline_alone s reads flaw sys a = record {
+  comes = NoOutline flaw _ _ sys (is_flawed IsStructure BreaksStructure reads (structure_path s.directory) flaw a) refl refl;
+  only = (λ steady. no_outline_only s reads steady flaw sys a);
 }
 
-pub no_shape_alone : (s : Search) (folder : FolderView) (o : Outline) (taken : List ComponentPart) (shapes : List Shape) (c : ComponentPart) (rest : List ComponentPart) (flaw : Flaw) →
-    ReachesAlone s folder o taken shapes (c ∷ rest) → LacksFile (FailsModel s.per_second) folder (model_path s.directory c) flaw →
-    ComesAlone s folder (asked_for s (taken ++ c ∷ [])) (Fails (model_path s.directory c) flaw)
-no_shape_alone s folder o taken shapes c rest flaw a lacks = record {
-  comes = NoShape o taken shapes c rest flaw _ _ (reached s folder o taken shapes (c ∷ rest) a)
-      (is_flawed (IsModel s.per_second) (BreaksModel s.per_second) folder (model_path s.directory c) flaw lacks) refl refl;
-  only = known folder (Agrees s folder (asked_for s (taken ++ c ∷ [])) (Fails (model_path s.directory c) flaw))
-      (λ at is. no_shape_only s folder at is o taken shapes c rest flaw a lacks);
+pub no_shape_alone : (s : Search) (reads : List ReadNote) (o : Outline) (taken : List ComponentPart) (shapes : List Shape) (c : ComponentPart) (rest : List ComponentPart) (flaw : Flaw) →
+    ReachesAlone s reads o taken shapes (c ∷ rest) → LacksFile (FailsModel s.per_second) reads (model_path s.directory c) flaw →
+    ComesAlone s reads (asked_for s (taken ++ c ∷ [])) (Fails (model_path s.directory c) flaw)
+no_shape_alone s reads o taken shapes c rest flaw a lacks = record {
+  comes = NoShape o taken shapes c rest flaw _ _ (reached s reads o taken shapes (c ∷ rest) a)
+      (is_flawed (IsModel s.per_second) (BreaksModel s.per_second) reads (model_path s.directory c) flaw lacks) refl refl;
+  only = (λ steady. no_shape_only s reads steady o taken shapes c rest flaw a lacks);
 }
 
 -- the outline has these shapes, and the first bindings give what they give alone
-pub record ReachesBindingsAlone (s : Search) (folder : FolderView) (o : Outline) (shapes : List Shape) (taken : List Binding) (given : List GivenBinding) (rest : List Binding) : Type 0 where
-  pub outline : OutlinesAlone s.subject s.directory folder o
-  pub shaped : AllZip (HasShapeAlone s.per_second s.directory folder) o.systems.components shapes
+pub record ReachesBindingsAlone (s : Search) (reads : List ReadNote) (o : Outline) (shapes : List Shape) (taken : List Binding) (given : List GivenBinding) (rest : List Binding) : Type 0 where
+  pub outline : OutlinesAlone s.subject s.directory reads o
+  pub shaped : AllZip (HasShapeAlone s.per_second s.directory reads) o.systems.components shapes
   pub is : o.systems.bindings ≡ taken ++ rest
-  pub each : AllZip (IsGivenAlone s.directory folder o) taken given
+  pub each : AllZip (IsGivenAlone s.directory reads o) taken given
 
-pub reached_bindings : (s : Search) (folder : FolderView) (o : Outline) (shapes : List Shape) (taken : List Binding) (given : List GivenBinding) (rest : List Binding) →
-    ReachesBindingsAlone s folder o shapes taken given rest → ReachesBindings s folder o shapes taken given rest
-reached_bindings s folder o shapes taken given rest a = record {
-  reaches = reached s folder o o.systems.components shapes [] (reached_all s folder o shapes a.outline a.shaped);
+pub reached_bindings : (s : Search) (reads : List ReadNote) (o : Outline) (shapes : List Shape) (taken : List Binding) (given : List GivenBinding) (rest : List Binding) →
+    ReachesBindingsAlone s reads o shapes taken given rest → ReachesBindings s reads o shapes taken given rest
+reached_bindings s reads o shapes taken given rest a = record {
+  reaches = reached s reads o o.systems.components shapes [] (reached_all s reads o shapes a.outline a.shaped);
   is = a.is;
-  each = zip_then (IsGivenAlone s.directory folder o) (IsGiven s.directory folder o) (λ b g h. is_given s folder o b g h) taken given a.each;
+  each = zip_then (IsGivenAlone s.directory reads o) (IsGiven s.directory reads o) (λ b g h. is_given s reads o b g h) taken given a.each;
 }
 
-pub no_set_alone : (s : Search) (folder : FolderView) (o : Outline) (shapes : List Shape) (taken : List Binding) (given : List GivenBinding) (b : Binding) (rest : List Binding)
-    (files : List (List ℕ)) (path : List ℕ) (flaw : Flaw) → ReachesBindingsAlone s folder o shapes taken given (b ∷ rest) → LacksBindingAlone s folder o b files path flaw →
-    ComesAlone s folder (asked_with s o taken ++ files) (Fails path flaw)
-no_set_alone s folder o shapes taken given b rest files path flaw a lacks = record {
-  comes = NoSet o shapes taken given b rest files path flaw _ _ (reached_bindings s folder o shapes taken given (b ∷ rest) a) (lacks_binding s folder o b files path flaw lacks) refl refl;
-  only = known folder (Agrees s folder (asked_with s o taken ++ files) (Fails path flaw))
-      (λ at is. no_set_only s folder at is o shapes a.outline a.shaped taken given b rest files path flaw a.is a.each lacks);
+pub no_set_alone : (s : Search) (reads : List ReadNote) (o : Outline) (shapes : List Shape) (taken : List Binding) (given : List GivenBinding) (b : Binding) (rest : List Binding)
+    (files : List (List ℕ)) (path : List ℕ) (flaw : Flaw) → ReachesBindingsAlone s reads o shapes taken given (b ∷ rest) → LacksBindingAlone s reads o b files path flaw →
+    ComesAlone s reads (asked_with s o taken ++ files) (Fails path flaw)
+no_set_alone s reads o shapes taken given b rest files path flaw a lacks = record {
+  comes = NoSet o shapes taken given b rest files path flaw _ _ (reached_bindings s reads o shapes taken given (b ∷ rest) a) (lacks_binding s reads o b files path flaw lacks) refl refl;
+  only = (λ steady. no_set_only s reads steady o shapes a.outline a.shaped taken given b rest files path flaw a.is a.each lacks);
 }
 
 -- all bindings give what they give alone
-module _ (s : Search) (folder : FolderView) (o : Outline) (shapes : List Shape) (given : List GivenBinding) (a : ReachesBindingsAlone s folder o shapes o.systems.bindings given []) where
-  reach_all : ReachesBindings s folder o shapes o.systems.bindings given []
-  reach_all = reached_bindings s folder o shapes o.systems.bindings given [] a
+module _ (s : Search) (reads : List ReadNote) (o : Outline) (shapes : List Shape) (given : List GivenBinding) (a : ReachesBindingsAlone s reads o shapes o.systems.bindings given []) where
+  reach_all : ReachesBindings s reads o shapes o.systems.bindings given []
+  reach_all = reached_bindings s reads o shapes o.systems.bindings given [] a
 
   pub no_binding_alone : (n : ℕ) (in_mapping : Bool) (rule : Rule) (place : Place) (path : List ℕ) → BreaksBindingAlone o shapes given n in_mapping rule place →
-      IsBindingToldIn s o n in_mapping path → ComesAlone s folder (asked_with s o o.systems.bindings) (Fails path (Faulty rule place []))
+      IsBindingToldIn s o n in_mapping path → ComesAlone s reads (asked_with s o o.systems.bindings) (Fails path (Faulty rule place []))
   no_binding_alone n in_mapping rule place path broken told = record {
     comes = NoBinding o shapes given n in_mapping rule place path _ _ reach_all broken.broken told refl refl;
-    only = known folder (Agrees s folder (asked_with s o o.systems.bindings) (Fails path (Faulty rule place [])))
-        (λ at is. no_binding_only s folder at is o shapes a.outline a.shaped given a.each n in_mapping rule place path broken told);
+    only = (λ steady. no_binding_only s reads steady o shapes a.outline a.shaped given a.each n in_mapping rule place path broken told);
   }
 
   pub no_system_alone : (bound : Bound) (component : Option ℕ) (rule : Rule) (place : Place) (ports : List PortId) (path : List ℕ) → BindsAlone o shapes given bound →
-      BreaksTogetherAlone o shapes component rule place ports → IsToldIn s o component path → ComesAlone s folder (asked_with s o o.systems.bindings) (Fails path (Faulty rule place ports))
+      BreaksTogetherAlone o shapes component rule place ports → IsToldIn s o component path → ComesAlone s reads (asked_with s o o.systems.bindings) (Fails path (Faulty rule place ports))
   no_system_alone bound component rule place ports path binds broken told = record {
     comes = NoSystem o shapes given bound component rule place ports path _ _ reach_all binds.is broken.broken told refl refl;
-    only = known folder (Agrees s folder (asked_with s o o.systems.bindings) (Fails path (Faulty rule place ports)))
-        (λ at is. no_system_only s folder at is o shapes a.outline a.shaped given a.each bound binds component rule place ports path broken told);
+    only = (λ steady. no_system_only s reads steady o shapes a.outline a.shaped given a.each bound binds component rule place ports path broken told);
   }
 
-  pub whole_alone : (loaded : Loaded) → IsLoaded s.directory o shapes given loaded → ComesAlone s folder (asked_with s o o.systems.bindings) (Found loaded)
+  pub whole_alone : (loaded : Loaded) → IsLoaded s.directory o shapes given loaded → ComesAlone s reads (asked_with s o o.systems.bindings) (Found loaded)
   whole_alone loaded l = record {
     comes = Whole o shapes given loaded _ _ reach_all l.binds.is l.makes.is l.folders refl refl;
-    only = known folder (Agrees s folder (asked_with s o o.systems.bindings) (Found loaded)) (λ at is. whole_only s folder at is o shapes a.outline a.shaped given a.each loaded l);
+    only = (λ steady. whole_only s reads steady o shapes a.outline a.shaped given a.each loaded l);
   }

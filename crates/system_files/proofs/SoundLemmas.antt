@@ -6,8 +6,8 @@ use Rattle.std.specs.Option.{option_map}
 use Rattle.std.proofs.lemmas.List.Elements.{All-cons, All-nil}
 use Rattle.std.proofs.lemmas.List.Quantifiers.{position-Some}
 use Rattle.std.proofs.lemmas.Slice.Zip.{AllZip-long}
-use Rattle.sim_base.specs.Folder.{FolderView}
 use Rattle.sim_base.specs.declared.numbers.PortId.{PortId}
+use Rattle.sim_base.specs.declared.read_book.ReadNote.{ReadNote}
 use Rattle.value_types.specs.declared.shape.Shape.{Shape}
 use Rattle.system_model.specs.Shapes.{IsSoundShape}
 use Rattle.system_model.specs.declared.system.Component.{Component}
@@ -67,60 +67,60 @@ abbrev pub HasShortNames : Outline → Type 0
 HasShortNames o = All (λ (c : ComponentPart). length c.name ≤ 2 ^ 24) o.systems.components
 
 pub outline_whole : ((bytes : List ℕ) (o : Outline) → IsStructure bytes o → IsWhole o.systems) → IsWhole lone_tree →
-    (subject : Subject) (directory : List ℕ) (folder : FolderView) (o : Outline) → OutlinesAlone subject directory folder o → IsWhole o.systems
-outline_whole law lone what.Fmu directory folder o a = subst (λ (x : Outline). IsWhole x.systems) (sym a) lone
-outline_whole law lone what.System directory folder o a = law a.2.0 o a.2.3.is
+    (subject : Subject) (directory : List ℕ) (reads : List ReadNote) (o : Outline) → OutlinesAlone subject directory reads o → IsWhole o.systems
+outline_whole law lone what.Fmu directory reads o a = subst (λ (x : Outline). IsWhole x.systems) (sym a) lone
+outline_whole law lone what.System directory reads o a = law a.2.0 o a.2.3.is
 
 within : (m n : ℕ) → m ≤ n → n ≤ 2 ^ 24 → m ≤ 2 ^ 24
 within m n a b = omega arith
 
 pub outline_short : ((bytes : List ℕ) (o : Outline) → IsStructure bytes o → All (λ (c : ComponentPart). length c.name ≤ length bytes) o.systems.components) →
-    (subject : Subject) (directory : List ℕ) (folder : FolderView) (o : Outline) → OutlinesAlone subject directory folder o → HasShortNames o
-outline_short law what.Fmu directory folder o a =
+    (subject : Subject) (directory : List ℕ) (reads : List ReadNote) (o : Outline) → OutlinesAlone subject directory reads o → HasShortNames o
+outline_short law what.Fmu directory reads o a =
     subst HasShortNames (sym a) (All-cons (λ (c : ComponentPart). length c.name ≤ 2 ^ 24) (record { node = 0; system = 0; name = lone_name; source = [] }) [] (omega arith)
     (All-nil (λ (c : ComponentPart). length c.name ≤ 2 ^ 24)))
-outline_short law what.System directory folder o a = all_by_place (λ (c : ComponentPart). length c.name ≤ 2 ^ 24) o.systems.components
+outline_short law what.System directory reads o a = all_by_place (λ (c : ComponentPart). length c.name ≤ 2 ^ 24) o.systems.components
     (λ k c at. within (length c.name) (length a.2.0) (all_at (λ (c : ComponentPart). length c.name ≤ length a.2.0) o.systems.components k c (law a.2.0 o a.2.3.is) at) a.2.2)
 
 pub outline_named : ((bytes : List ℕ) (o : Outline) → IsStructure bytes o → IsNamedTree o.systems) → IsNamedTree lone_tree →
-    (subject : Subject) (directory : List ℕ) (folder : FolderView) (o : Outline) → OutlinesAlone subject directory folder o → IsNamedTree o.systems
-outline_named law lone what.Fmu directory folder o a = subst (λ (x : Outline). IsNamedTree x.systems) (sym a) lone
-outline_named law lone what.System directory folder o a = law a.2.0 o a.2.3.is
+    (subject : Subject) (directory : List ℕ) (reads : List ReadNote) (o : Outline) → OutlinesAlone subject directory reads o → IsNamedTree o.systems
+outline_named law lone what.Fmu directory reads o a = subst (λ (x : Outline). IsNamedTree x.systems) (sym a) lone
+outline_named law lone what.System directory reads o a = law a.2.0 o a.2.3.is
 
 none_below : HasDocument lone_outline
 none_below n below = absurd (omega (arith, below))
 
-pub outline_document : (subject : Subject) (directory : List ℕ) (folder : FolderView) (o : Outline) → OutlinesAlone subject directory folder o → HasDocument o
-outline_document what.Fmu directory folder o a = subst HasDocument (sym a) none_below
-outline_document what.System directory folder o a = λ n below. subst (λ (d : Option (List Node)). IsSome d) (sym a.2.3.is.describes.0) refl
+pub outline_document : (subject : Subject) (directory : List ℕ) (reads : List ReadNote) (o : Outline) → OutlinesAlone subject directory reads o → HasDocument o
+outline_document what.Fmu directory reads o a = subst HasDocument (sym a) none_below
+outline_document what.System directory reads o a = λ n below. subst (λ (d : Option (List Node)). IsSome d) (sym a.2.3.is.describes.0) refl
 
 -- ---- the shapes
 
 pub are_shapes : ((per_second : ℕ) (bytes : List ℕ) (shape : Shape) → IsModel per_second bytes shape → IsSoundShape shape) →
     ((per_second : ℕ) (bytes : List ℕ) (shape : Shape) → IsModel per_second bytes shape → shape.resolution ≡ per_second) →
-    (per_second : ℕ) (directory : List ℕ) (folder : FolderView) (t : SystemTree) (shapes : List Shape) → 1 ≤ per_second → per_second ≤ 2 ^ 62 →
-    AllZip (HasShapeAlone per_second directory folder) t.components shapes → AreShapesOf t shapes
-are_shapes sound resolution per_second directory folder t shapes above most each = record {
-  len = AllZip-long (HasShapeAlone per_second directory folder) t.components shapes each;
-  sound = all_by_place IsSoundShape shapes (λ k shape at. let h = zip_at (HasShapeAlone per_second directory folder) t.components shapes each k shape at in sound per_second h.2.2.0 shape h.2.2.3.is);
+    (per_second : ℕ) (directory : List ℕ) (reads : List ReadNote) (t : SystemTree) (shapes : List Shape) → 1 ≤ per_second → per_second ≤ 2 ^ 62 →
+    AllZip (HasShapeAlone per_second directory reads) t.components shapes → AreShapesOf t shapes
+are_shapes sound resolution per_second directory reads t shapes above most each = record {
+  len = AllZip-long (HasShapeAlone per_second directory reads) t.components shapes each;
+  sound = all_by_place IsSoundShape shapes (λ k shape at. let h = zip_at (HasShapeAlone per_second directory reads) t.components shapes each k shape at in sound per_second h.2.2.0 shape h.2.2.3.is);
   per_second = per_second;
   above = omega arith;
   within = most;
   resolutions = all_by_place (λ (s : Shape). s.resolution ≡ per_second) shapes
-      (λ k shape at. let h = zip_at (HasShapeAlone per_second directory folder) t.components shapes each k shape at in resolution per_second h.2.2.0 shape h.2.2.3.is);
+      (λ k shape at. let h = zip_at (HasShapeAlone per_second directory reads) t.components shapes each k shape at in resolution per_second h.2.2.0 shape h.2.2.3.is);
 }
 
 -- ---- the components
 
 pub are_named : ((per_second : ℕ) (bytes : List ℕ) (shape : Shape) → IsModel per_second bytes shape → length shape.token ≤ length bytes) →
-    (per_second : ℕ) (directory : List ℕ) (folder : FolderView) (o : Outline) (shapes : List Shape) (system : System) → IsWhole o.systems → HasShortNames o →
-    AllZip (HasShapeAlone per_second directory folder) o.systems.components shapes → Makes o shapes system → All IsNamed system.components
-are_named law per_second directory folder o shapes system whole short each makes = all_by_place IsNamed system.components named
+    (per_second : ℕ) (directory : List ℕ) (reads : List ReadNote) (o : Outline) (shapes : List Shape) (system : System) → IsWhole o.systems → HasShortNames o →
+    AllZip (HasShapeAlone per_second directory reads) o.systems.components shapes → Makes o shapes system → All IsNamed system.components
+are_named law per_second directory reads o shapes system whole short each makes = all_by_place IsNamed system.components named
   where
     named : (k : ℕ) (c : Component) → slice_get system.components k ≡ Some c → IsNamed c
     named k c at =
         let i = makes.flattens.flat.components.each k c at in
-        let h = zip_at (HasShapeAlone per_second directory folder) o.systems.components shapes each k c.shape i.shape in
+        let h = zip_at (HasShapeAlone per_second directory reads) o.systems.components shapes each k c.shape i.shape in
         let long : 0 < length i.part.name = all_at (λ (p : ComponentPart). 0 < length p.name) o.systems.components k i.part whole.named i.at in
         let few : length i.part.name ≤ 2 ^ 24 = all_at (λ (p : ComponentPart). length p.name ≤ 2 ^ 24) o.systems.components k i.part short i.at in
         let same : length c.name ≡ length i.part.name = ap length i.name in
@@ -132,14 +132,14 @@ are_named law per_second directory folder o shapes system whole short each makes
 
 -- each counts as it was read
 pub are_counting : ((per_second : ℕ) (bytes : List ℕ) (shape : Shape) → IsModel per_second bytes shape → shape.resolution ≡ per_second) →
-    (per_second : ℕ) (directory : List ℕ) (folder : FolderView) (o : Outline) (shapes : List Shape) (system : System) →
-    AllZip (HasShapeAlone per_second directory folder) o.systems.components shapes → Makes o shapes system → All (λ (c : Component). c.shape.resolution ≡ per_second) system.components
-are_counting law per_second directory folder o shapes system each makes = all_by_place (λ (c : Component). c.shape.resolution ≡ per_second) system.components counts
+    (per_second : ℕ) (directory : List ℕ) (reads : List ReadNote) (o : Outline) (shapes : List Shape) (system : System) →
+    AllZip (HasShapeAlone per_second directory reads) o.systems.components shapes → Makes o shapes system → All (λ (c : Component). c.shape.resolution ≡ per_second) system.components
+are_counting law per_second directory reads o shapes system each makes = all_by_place (λ (c : Component). c.shape.resolution ≡ per_second) system.components counts
   where
     counts : (k : ℕ) (c : Component) → slice_get system.components k ≡ Some c → c.shape.resolution ≡ per_second
     counts k c at =
         let i = makes.flattens.flat.components.each k c at in
-        let h = zip_at (HasShapeAlone per_second directory folder) o.systems.components shapes each k c.shape i.shape in law per_second h.2.2.0 c.shape h.2.2.3.is
+        let h = zip_at (HasShapeAlone per_second directory reads) o.systems.components shapes each k c.shape i.shape in law per_second h.2.2.0 c.shape h.2.2.3.is
 
 -- ---- rules that files break together
 
@@ -168,34 +168,34 @@ sets_long : (n : ℕ) (given : List GivenBinding) → length (sets_from n given)
 sets_long n [] = refl
 sets_long n (g ∷ given) = ap suc (sets_long (suc n) given)
 
-sets_in_range : (directory : List ℕ) (folder : FolderView) (o : Outline) (n : ℕ) (bs : List Binding) (given : List GivenBinding) → AllZip (IsGivenAlone directory folder o) bs given →
+sets_in_range : (directory : List ℕ) (reads : List ReadNote) (o : Outline) (n : ℕ) (bs : List Binding) (given : List GivenBinding) → AllZip (IsGivenAlone directory reads o) bs given →
     All (λ (sets : BindingSets). AreInRange sets.values.set) (sets_from n given)
-sets_in_range directory folder o n [] [] each = All-nil (λ (sets : BindingSets). AreInRange sets.values.set)
-sets_in_range directory folder o n [] (g ∷ given) each = absurd each
-sets_in_range directory folder o n (b ∷ bs) [] each = absurd each
-sets_in_range directory folder o n (b ∷ bs) (g ∷ given) each =
-    All-cons (λ (sets : BindingSets). AreInRange sets.values.set) (sets_at n g) (sets_from (suc n) given) each.0.range (sets_in_range directory folder o (suc n) bs given each.1)
+sets_in_range directory reads o n [] [] each = All-nil (λ (sets : BindingSets). AreInRange sets.values.set)
+sets_in_range directory reads o n [] (g ∷ given) each = absurd each
+sets_in_range directory reads o n (b ∷ bs) [] each = absurd each
+sets_in_range directory reads o n (b ∷ bs) (g ∷ given) each =
+    All-cons (λ (sets : BindingSets). AreInRange sets.values.set) (sets_at n g) (sets_from (suc n) given) each.0.range (sets_in_range directory reads o (suc n) bs given each.1)
 
-pub are_ready : (directory : List ℕ) (folder : FolderView) (o : Outline) (shapes : List Shape) (given : List GivenBinding) → IsNamedTree o.systems → AreShapesOf o.systems shapes →
-    AllZip (IsGivenAlone directory folder o) o.systems.bindings given → AreReady o shapes given
-are_ready directory folder o shapes given tree a each = record {
+pub are_ready : (directory : List ℕ) (reads : List ReadNote) (o : Outline) (shapes : List Shape) (given : List GivenBinding) → IsNamedTree o.systems → AreShapesOf o.systems shapes →
+    AllZip (IsGivenAlone directory reads o) o.systems.bindings given → AreReady o shapes given
+are_ready directory reads o shapes given tree a each = record {
   tree = tree;
   shapes_len = a.len;
   sound = a.sound;
-  sets_len = sets_long 0 given ∙ AllZip-long (IsGivenAlone directory folder o) o.systems.bindings given each;
-  ranges = sets_in_range directory folder o 0 o.systems.bindings given each;
+  sets_len = sets_long 0 given ∙ AllZip-long (IsGivenAlone directory reads o) o.systems.bindings given each;
+  ranges = sets_in_range directory reads o 0 o.systems.bindings given each;
 }
 
-mapping_there : (directory : List ℕ) (folder : FolderView) (o : Outline) (owner : Owner) (origin : Option Origin) (given : Option GivenMapping) →
-    IsMappingAlone directory folder o owner origin given → IsSome given → IsSome origin
-mapping_there directory folder o owner None None h some = some
-mapping_there directory folder o owner None (Some given) h some = absurd h
-mapping_there directory folder o owner (Some origin) given h some = refl
+mapping_there : (directory : List ℕ) (reads : List ReadNote) (o : Outline) (owner : Owner) (origin : Option Origin) (given : Option GivenMapping) →
+    IsMappingAlone directory reads o owner origin given → IsSome given → IsSome origin
+mapping_there directory reads o owner None None h some = some
+mapping_there directory reads o owner None (Some given) h some = absurd h
+mapping_there directory reads o owner (Some origin) given h some = refl
 
-pub has_parts : (directory : List ℕ) (folder : FolderView) (o : Outline) (bs : List Binding) (given : List GivenBinding) → AllZip (IsGivenAlone directory folder o) bs given → HasParts bs given
-has_parts directory folder o bs given each =
-    zip_then (IsGivenAlone directory folder o) (λ (b : Binding) (g : GivenBinding). IsSome g.mapping → IsSome b.mapping)
-    (λ b g h some. mapping_there directory folder o b.owner b.mapping g.mapping h.mapping some) bs given each
+pub has_parts : (directory : List ℕ) (reads : List ReadNote) (o : Outline) (bs : List Binding) (given : List GivenBinding) → AllZip (IsGivenAlone directory reads o) bs given → HasParts bs given
+has_parts directory reads o bs given each =
+    zip_then (IsGivenAlone directory reads o) (λ (b : Binding) (g : GivenBinding). IsSome g.mapping → IsSome b.mapping)
+    (λ b g h some. mapping_there directory reads o b.owner b.mapping g.mapping h.mapping some) bs given each
 
 -- ---- rules of what they give
 

@@ -1,6 +1,9 @@
 -- What a loading does: what it asks a folder for, and what it answers.
-use Rattle.std.specs.Prelude.{◌≡◌, ℕ, ◌≤◌, ◌^◌, List, [], ◌∷◌, ◌++◌, Some, length}
-use Rattle.sim_base.specs.Folder.{FolderView, with_failed}
+use Rattle.std.specs.Prelude.{◌≡◌, ℕ, ◌≤◌, ◌^◌, List, [], ◌∷◌, ◌++◌, Some, Err, length}
+use Rattle.sim_base.specs.Asking.{Asks}
+use Rattle.sim_base.specs.Folder.{FolderView, with_read}
+use Rattle.sim_base.specs.declared.folder.ReadFault.TheVariants as r
+use Rattle.sim_base.specs.declared.read_book.ReadNote.{ReadNote}
 use Rattle.value_types.specs.declared.shape.Shape.{Shape}
 use Rattle.ssd_tree.specs.declared.tree.Binding.{Binding}
 use Rattle.ssd_tree.specs.declared.tree.ComponentPart.{ComponentPart}
@@ -15,68 +18,73 @@ use Rattle.system_files.specs.declared.loading.LoadEnd.TheVariants as end
 use Rattle.system_files.specs.declared.named.FileFault.{FileFault}
 use Rattle.system_files.specs.declared.named.FileFault.TheVariants.{Unread, Missing, TooBig, Broken}
 use Rattle.system_files.specs.declared.subject.Subject.TheVariants as what
-use Rattle.system_files.specs.Files.{Absent, Faulty, Long, structure_path, with_all_asked}
+use Rattle.system_files.specs.Files.{Absent, Faulty, Long, structure_path}
 use Rattle.system_files.specs.Order.{ComesAlone, Fails, Finding, IsValuesPart, Reaches, ReachesBindings, Search, asked_for, asked_with, binding_files, model_path, part_files, part_path}
 
--- these files were asked for, no read failed, and the order of reading comes to this
+-- these files were read, no read failed, and by what the reads got the order of reading comes to this
 pub record Loads (s : Search) (finding : Finding) (old new : FolderView) : Type 0 where
+  pub reads : List ReadNote
   pub asked : List (List ℕ)
-  pub comes : ComesAlone s old asked finding
-  pub told : new ≡ with_all_asked old asked
+  pub comes : ComesAlone s reads asked finding
+  pub asks : Asks reads asked old new
 
 -- the file at a path, the last of these, is that of a binding's values, or that of its mapping where the values are taken
-pub data ReachesPart (directory : List ℕ) (folder : FolderView) (o : Outline) (b : Binding) : List
+pub data ReachesPart (directory : List ℕ) (reads : List ReadNote) (o : Outline) (b : Binding) : List
     (List ℕ) → List ℕ → Type 0 where
   OfValues : (base : SourceBase) (source : List ℕ) (files : List (List ℕ)) (path : List ℕ) →
       b.values ≡ File base source →
       files ≡ part_files directory o b.owner b.values →
-      path ≡ part_path directory o b.owner base source → ReachesPart directory folder o b files path
+      path ≡ part_path directory o b.owner base source → ReachesPart directory reads o b files path
   OfMapping : (given : GivenSet) (base : SourceBase) (source : List ℕ)
       (files : List (List ℕ)) (path : List ℕ) →
-      IsValuesPart directory folder o b.owner b.values given → b.mapping ≡ Some (File base source) →
+      IsValuesPart directory reads o b.owner b.values given → b.mapping ≡ Some (File base source) →
       files ≡ binding_files directory o b → path ≡ part_path directory o b.owner base source →
-      ReachesPart directory folder o b files path
+      ReachesPart directory reads o b files path
 
 -- the order of reading comes to the file at a path, the last of these
-pub data ComesTo (s : Search) (folder : FolderView) : List (List ℕ) → List ℕ → Type 0 where
+pub data ComesTo (s : Search) (reads : List ReadNote) : List (List ℕ) → List ℕ → Type 0 where
   ToOutline : (asked : List (List ℕ)) (path : List ℕ) → s.subject ≡ what.System →
       asked ≡ structure_path s.directory ∷ [] →
-      path ≡ structure_path s.directory → ComesTo s folder asked path
+      path ≡ structure_path s.directory → ComesTo s reads asked path
   ToShape : (o : Outline) (taken : List ComponentPart) (shapes : List Shape) (c : ComponentPart)
       (rest : List ComponentPart) (asked : List (List ℕ)) (path : List ℕ) →
-      Reaches s folder o taken shapes (c ∷ rest) → asked ≡ asked_for s (taken ++ c ∷ []) →
-      path ≡ model_path s.directory c → ComesTo s folder asked path
+      Reaches s reads o taken shapes (c ∷ rest) → asked ≡ asked_for s (taken ++ c ∷ []) →
+      path ≡ model_path s.directory c → ComesTo s reads asked path
   ToPart : (o : Outline) (shapes : List Shape) (taken : List Binding) (given : List GivenBinding)
       (b : Binding) (rest : List Binding) (files : List (List ℕ))
       (asked : List (List ℕ)) (path : List ℕ) →
-      ReachesBindings s folder o shapes taken given (b ∷ rest) →
-      ReachesPart s.directory folder o b files path →
-      asked ≡ asked_with s o taken ++ files → ComesTo s folder asked path
+      ReachesBindings s reads o shapes taken given (b ∷ rest) →
+      ReachesPart s.directory reads o b files path →
+      asked ≡ asked_with s o taken ++ files → ComesTo s reads asked path
 
--- these files were asked for, and the read of the last one failed, and no other
+-- these files were read, then comes the one at this path, and its read failed, and no other
 pub record FailsToRead (s : Search) (path : List ℕ) (old new : FolderView) : Type 0 where
+  pub reads : List ReadNote
   pub asked : List (List ℕ)
-  pub comes : ComesTo s old asked path
-  pub told : new ≡ with_failed (with_all_asked old asked) path
+  pub mid : FolderView
+  pub comes : ComesTo s reads (asked ++ path ∷ []) path
+  pub asks : Asks reads asked old mid
+  pub told : new ≡ with_read mid path (Err r.Failed)
 
 -- these are the first that the order of reading asks for
-pub data AsksSome (s : Search) (folder : FolderView) : List (List ℕ) → Type 0 where
-  Nothing : (asked : List (List ℕ)) → asked ≡ [] → AsksSome s folder asked
-  UpTo : (asked : List (List ℕ)) (path : List ℕ) → ComesTo s folder asked path →
-      AsksSome s folder asked
+pub data AsksSome (s : Search) (reads : List ReadNote) : List (List ℕ) → Type 0 where
+  Nothing : (asked : List (List ℕ)) → asked ≡ [] → AsksSome s reads asked
+  UpTo : (asked : List (List ℕ)) (path : List ℕ) → ComesTo s reads asked path →
+      AsksSome s reads asked
   Taken : (o : Outline) (taken : List ComponentPart) (shapes : List Shape)
       (rest : List ComponentPart) (asked : List (List ℕ)) →
-      Reaches s folder o taken shapes rest → asked ≡ asked_for s taken → AsksSome s folder asked
+      Reaches s reads o taken shapes rest → asked ≡ asked_for s taken → AsksSome s reads asked
   TakenBindings : (o : Outline) (shapes : List Shape) (taken : List Binding)
       (given : List GivenBinding) (rest : List Binding) (asked : List (List ℕ)) →
-      ReachesBindings s folder o shapes taken given rest → asked ≡ asked_with s o taken →
-      AsksSome s folder asked
+      ReachesBindings s reads o shapes taken given rest → asked ≡ asked_with s o taken →
+      AsksSome s reads asked
 
--- some files were asked for, and no read failed
+-- some files were read, and no read failed
 pub record ReadsSome (s : Search) (old new : FolderView) : Type 0 where
+  pub reads : List ReadNote
   pub asked : List (List ℕ)
-  pub some : AsksSome s old asked
-  pub told : new ≡ with_all_asked old asked
+  pub some : AsksSome s reads asked
+  pub asks : Asks reads asked old new
 
 -- why the file at a path isn't taken
 abbrev pub FileFails : Search → FileFault → List ℕ → FolderView → FolderView → Type 0

@@ -1,12 +1,12 @@
 -- The order of reading: what the files in a directory come to (SSP 1.0, SystemStructure.ssd, SSV and SSM; FMI 3.0, 2.4). First the structure of the system,
 -- then the description of each FMU in the order of its first use, then the values and the mapping of each binding, then the rules that they break together.
-use Rattle.std.specs.Prelude.{◌≡◌, ℕ, Bool, true, false, ◌==◌, if◌then◌else◌, List, [], ◌∷◌, ◌++◌, length, map, Option, Some, None, IfSome, IsSomeAnd, slice_get}
+use Rattle.std.specs.Prelude.{◌≡◌, ℕ, Bool, true, false, ◌==◌, if◌then◌else◌, List, [], ◌∷◌, ◌++◌, length, map, Option, Some, None, IsSomeAnd, slice_get}
 use Rattle.std.specs.List.{AllZip, flat_map}
 use Rattle.std.specs.Option.{option_map_or}
-use Rattle.sim_base.specs.Folder.{FolderView}
 use Rattle.sim_base.specs.declared.numbers.PortId.{PortId}
 use Rattle.value_types.specs.declared.shape.Shape.{Shape}
 use Rattle.system_model.specs.declared.bound.Bound.{Bound}
+use Rattle.sim_base.specs.declared.read_book.ReadNote.{ReadNote}
 use Rattle.doc_tree.specs.declared.place.Place.{Place}
 use Rattle.doc_tree.specs.declared.rule.Rule.{Rule}
 use Rattle.ssd_tree.specs.declared.tree.Binding.{Binding}
@@ -28,7 +28,7 @@ use Rattle.system_loading.specs.Readings.{BreaksMapping, BreaksMappingWithin, Br
 use Rattle.system_files.specs.declared.subject.Subject.{Subject}
 use Rattle.system_files.specs.declared.subject.Subject.TheVariants as what
 use Rattle.system_files.specs.declared.loaded.Loaded.{Loaded}
-use Rattle.system_files.specs.Files.{Absent, Faulty, Flaw, HasFile, LacksFile, Long, description_path, first_uses, structure_path}
+use Rattle.system_files.specs.Files.{Absent, AreSteady, Faulty, Flaw, HasFile, LacksFile, Long, description_path, first_uses, structure_path}
 
 -- what is asked for, in which directory, and how many counts a second has
 pub record Search : Type 0 where
@@ -70,20 +70,20 @@ asked_for s components =
 -- ---- the outline and the shapes
 
 -- the outline of a subject: an FMU alone has one by itself, and a system that of its structure
-abbrev pub Outlines : Subject → List ℕ → FolderView → Outline → Type 0
-Outlines what.Fmu directory folder o = o ≡ lone_outline
-Outlines what.System directory folder o = HasFile IsStructure folder (structure_path directory) o
+abbrev pub Outlines : Subject → List ℕ → List ReadNote → Outline → Type 0
+Outlines what.Fmu directory reads o = o ≡ lone_outline
+Outlines what.System directory reads o = HasFile IsStructure reads (structure_path directory) o
 
 -- the description of the component's FMU is that of this shape
-abbrev pub HasShape : Search → FolderView → ComponentPart → Shape → Type 0
-HasShape s folder c shape = HasFile (IsModel s.per_second) folder (model_path s.directory c) shape
+abbrev pub HasShape : Search → List ReadNote → ComponentPart → Shape → Type 0
+HasShape s reads c shape = HasFile (IsModel s.per_second) reads (model_path s.directory c) shape
 
 -- the first components of the outline have these shapes, and the others stand behind them
-pub record Reaches (s : Search) (folder : FolderView) (o : Outline) (taken : List ComponentPart)
+pub record Reaches (s : Search) (reads : List ReadNote) (o : Outline) (taken : List ComponentPart)
     (shapes : List Shape) (rest : List ComponentPart) : Type 0 where
-  pub outline : Outlines s.subject s.directory folder o
+  pub outline : Outlines s.subject s.directory reads o
   pub is : o.systems.components ≡ taken ++ rest
-  pub each : AllZip (HasShape s folder) taken shapes
+  pub each : AllZip (HasShape s reads) taken shapes
 
 -- ---- the bindings
 
@@ -109,38 +109,38 @@ part_told subject directory o owner (Inline node) = outline_path subject directo
 
 -- a part is this, in its file or in the outline
 abbrev pub IsPart : {A : Type 0} → (List ℕ → A → Type 0) → (Outline → ℕ → A → Type 0) → List ℕ →
-    FolderView → Outline → Owner → Origin → A → Type 0
-IsPart Says Within directory folder o owner (File base path) given =
-    HasFile Says folder (part_path directory o owner base path) given
-IsPart Says Within directory folder o owner (Inline node) given = Within o node given
+    List ReadNote → Outline → Owner → Origin → A → Type 0
+IsPart Says Within directory reads o owner (File base path) given =
+    HasFile Says reads (part_path directory o owner base path) given
+IsPart Says Within directory reads o owner (Inline node) given = Within o node given
 
 -- it isn't taken, with this flaw
 abbrev pub LacksPart : (List ℕ → Rule → Place → Type 0) → (Outline → ℕ → Rule → Place → Type 0) →
-    List ℕ → FolderView → Outline → Owner → Origin → Flaw → Type 0
-LacksPart Breaks Within directory folder o owner (File base path) flaw =
-    LacksFile Breaks folder (part_path directory o owner base path) flaw
-LacksPart Breaks Within directory folder o owner (Inline node) flaw =
+    List ℕ → List ReadNote → Outline → Owner → Origin → Flaw → Type 0
+LacksPart Breaks Within directory reads o owner (File base path) flaw =
+    LacksFile Breaks reads (part_path directory o owner base path) flaw
+LacksPart Breaks Within directory reads o owner (Inline node) flaw =
     (rule : Rule) × ((place : Place) × Within o node rule place × (flaw ≡ Faulty rule place []))
 
 -- the values of a binding are these
-abbrev pub IsValuesPart : List ℕ → FolderView → Outline → Owner → Origin → GivenSet → Type 0
-IsValuesPart directory folder o owner origin given =
-    IsPart IsValues IsValuesWithin directory folder o owner origin given
+abbrev pub IsValuesPart : List ℕ → List ReadNote → Outline → Owner → Origin → GivenSet → Type 0
+IsValuesPart directory reads o owner origin given =
+    IsPart IsValues IsValuesWithin directory reads o owner origin given
 
 -- the mapping of a binding is this, where it has one
-abbrev pub IsMappingPart : List ℕ → FolderView → Outline → Owner → Option Origin →
+abbrev pub IsMappingPart : List ℕ → List ReadNote → Outline → Owner → Option Origin →
     Option GivenMapping → Type 0
-IsMappingPart directory folder o owner None None = Unit {0}
-IsMappingPart directory folder o owner None (Some given) = ⊥
-IsMappingPart directory folder o owner (Some origin) None = ⊥
-IsMappingPart directory folder o owner (Some origin) (Some given) =
-    IsPart IsMapping IsMappingWithin directory folder o owner origin given
+IsMappingPart directory reads o owner None None = Unit {0}
+IsMappingPart directory reads o owner None (Some given) = ⊥
+IsMappingPart directory reads o owner (Some origin) None = ⊥
+IsMappingPart directory reads o owner (Some origin) (Some given) =
+    IsPart IsMapping IsMappingWithin directory reads o owner origin given
 
 -- the binding gives this
-pub record IsGiven (directory : List ℕ) (folder : FolderView) (o : Outline) (b : Binding)
+pub record IsGiven (directory : List ℕ) (reads : List ReadNote) (o : Outline) (b : Binding)
     (given : GivenBinding) : Type 0 where
-  pub values : IsValuesPart directory folder o b.owner b.values given.values
-  pub mapping : IsMappingPart directory folder o b.owner b.mapping given.mapping
+  pub values : IsValuesPart directory reads o b.owner b.values given.values
+  pub mapping : IsMappingPart directory reads o b.owner b.mapping given.mapping
 
 abbrev pub mapping_files : List ℕ → Outline → Owner → Option Origin → List (List ℕ)
 mapping_files directory o owner None = []
@@ -152,27 +152,27 @@ binding_files directory o b =
     part_files directory o b.owner b.values ++ mapping_files directory o b.owner b.mapping
 
 -- its values aren't taken, or its mapping isn't: the files that are asked for up to there, the file in which it is told, and the flaw
-pub data LacksBinding (s : Search) (folder : FolderView) (o : Outline) (b : Binding) : List
+pub data LacksBinding (s : Search) (reads : List ReadNote) (o : Outline) (b : Binding) : List
     (List ℕ) → List ℕ → Flaw → Type 0 where
   InValues : (files : List (List ℕ)) (path : List ℕ) (flaw : Flaw) →
-      LacksPart BreaksValues BreaksValuesWithin s.directory folder o b.owner b.values flaw →
+      LacksPart BreaksValues BreaksValuesWithin s.directory reads o b.owner b.values flaw →
       files ≡ part_files s.directory o b.owner b.values →
       path ≡ part_told s.subject s.directory o b.owner b.values →
-      LacksBinding s folder o b files path flaw
+      LacksBinding s reads o b files path flaw
   InMapping : (origin : Origin) (given : GivenSet) (files : List (List ℕ))
       (path : List ℕ) (flaw : Flaw) →
-      IsValuesPart s.directory folder o b.owner b.values given → b.mapping ≡ Some origin →
-      LacksPart BreaksMapping BreaksMappingWithin s.directory folder o b.owner origin flaw →
+      IsValuesPart s.directory reads o b.owner b.values given → b.mapping ≡ Some origin →
+      LacksPart BreaksMapping BreaksMappingWithin s.directory reads o b.owner origin flaw →
       files ≡ binding_files s.directory o b →
       path ≡ part_told s.subject s.directory o b.owner origin →
-      LacksBinding s folder o b files path flaw
+      LacksBinding s reads o b files path flaw
 
 -- each component has its shape, and the first bindings give this
-pub record ReachesBindings (s : Search) (folder : FolderView) (o : Outline) (shapes : List Shape)
+pub record ReachesBindings (s : Search) (reads : List ReadNote) (o : Outline) (shapes : List Shape)
     (taken : List Binding) (given : List GivenBinding) (rest : List Binding) : Type 0 where
-  pub reaches : Reaches s folder o o.systems.components shapes []
+  pub reaches : Reaches s reads o o.systems.components shapes []
   pub is : o.systems.bindings ≡ taken ++ rest
-  pub each : AllZip (IsGiven s.directory folder o) taken given
+  pub each : AllZip (IsGiven s.directory reads o) taken given
 
 -- what is asked for up to these bindings
 abbrev pub asked_with : Search → Outline → List Binding → List (List ℕ)
@@ -205,51 +205,51 @@ pub data Finding : Type 0 where
   Found : Loaded → Finding
 
 -- the order of reading asks for these files, and comes to this
-pub data Comes (s : Search) (folder : FolderView) : List (List ℕ) → Finding → Type 0 where
+pub data Comes (s : Search) (reads : List ReadNote) : List (List ℕ) → Finding → Type 0 where
   -- there is no outline
   NoOutline : (flaw : Flaw) (asked : List (List ℕ)) (finding : Finding) → s.subject ≡ what.System →
-      LacksFile BreaksStructure folder (structure_path s.directory) flaw →
+      LacksFile BreaksStructure reads (structure_path s.directory) flaw →
       asked ≡ structure_path s.directory ∷ [] →
-      finding ≡ Fails (structure_path s.directory) flaw → Comes s folder asked finding
+      finding ≡ Fails (structure_path s.directory) flaw → Comes s reads asked finding
   -- the descriptions before that of a component are taken, and its own isn't
   NoShape : (o : Outline) (taken : List ComponentPart) (shapes : List Shape) (c : ComponentPart)
       (rest : List ComponentPart) (flaw : Flaw)
-      (asked : List (List ℕ)) (finding : Finding) → Reaches s folder o taken shapes (c ∷ rest) →
-      LacksFile (BreaksModel s.per_second) folder (model_path s.directory c) flaw →
+      (asked : List (List ℕ)) (finding : Finding) → Reaches s reads o taken shapes (c ∷ rest) →
+      LacksFile (BreaksModel s.per_second) reads (model_path s.directory c) flaw →
       asked ≡ asked_for s (taken ++ c ∷ []) →
-      finding ≡ Fails (model_path s.directory c) flaw → Comes s folder asked finding
+      finding ≡ Fails (model_path s.directory c) flaw → Comes s reads asked finding
   -- all descriptions and the bindings before one are taken, and its own values or mapping aren't
   NoSet : (o : Outline) (shapes : List Shape) (taken : List Binding) (given : List GivenBinding)
       (b : Binding) (rest : List Binding) (files : List (List ℕ)) (path : List ℕ)
       (flaw : Flaw) (asked : List (List ℕ)) (finding : Finding) →
-      ReachesBindings s folder o shapes taken given (b ∷ rest) →
-      LacksBinding s folder o b files path flaw →
+      ReachesBindings s reads o shapes taken given (b ∷ rest) →
+      LacksBinding s reads o b files path flaw →
       asked ≡ asked_with s o taken ++ files → finding ≡ Fails path flaw →
-      Comes s folder asked finding
+      Comes s reads asked finding
   -- all are taken, and what a binding gives breaks a rule by the parameters that it reaches
   NoBinding : (o : Outline) (shapes : List Shape) (given : List GivenBinding) (n : ℕ)
       (in_mapping : Bool) (rule : Rule) (place : Place) (path : List ℕ)
       (asked : List (List ℕ)) (finding : Finding) →
-      ReachesBindings s folder o shapes o.systems.bindings given [] →
+      ReachesBindings s reads o shapes o.systems.bindings given [] →
       parameters.BreaksBinding o shapes given n in_mapping rule place →
       IsBindingToldIn s o n in_mapping path → asked ≡ asked_with s o o.systems.bindings →
-      finding ≡ Fails path (Faulty rule place []) → Comes s folder asked finding
+      finding ≡ Fails path (Faulty rule place []) → Comes s reads asked finding
   -- the bindings give values, and the structure and the descriptions break a rule together
   NoSystem : (o : Outline) (shapes : List Shape) (given : List GivenBinding) (bound : Bound)
       (component : Option ℕ) (rule : Rule) (place : Place) (ports : List PortId)
       (path : List ℕ) (asked : List (List ℕ)) (finding : Finding) →
-      ReachesBindings s folder o shapes o.systems.bindings given [] →
+      ReachesBindings s reads o shapes o.systems.bindings given [] →
       parameters.Binds o shapes given bound →
       BreaksTogether o shapes component rule place ports → IsToldIn s o component path →
       asked ≡ asked_with s o o.systems.bindings →
-      finding ≡ Fails path (Faulty rule place ports) → Comes s folder asked finding
+      finding ≡ Fails path (Faulty rule place ports) → Comes s reads asked finding
   -- they make a system
   Whole : (o : Outline) (shapes : List Shape) (given : List GivenBinding) (loaded : Loaded)
       (asked : List (List ℕ)) (finding : Finding) →
-      ReachesBindings s folder o shapes o.systems.bindings given [] →
+      ReachesBindings s reads o shapes o.systems.bindings given [] →
       parameters.Binds o shapes given loaded.bound → Makes o shapes loaded.system →
       loaded.folders ≡ folders_of s.directory o → asked ≡ asked_with s o o.systems.bindings →
-      finding ≡ Found loaded → Comes s folder asked finding
+      finding ≡ Found loaded → Comes s reads asked finding
 
 -- ---- in one way
 
@@ -269,9 +269,9 @@ Agree (Found one) (Found other) =
 Agree (Fails path flaw) (Found other) = ⊥
 Agree (Found one) (Fails path flaw) = ⊥
 
--- it comes to this, and where the folder tells its files, to nothing else
-pub record ComesAlone (s : Search) (folder : FolderView) (asked : List (List ℕ))
+-- it comes to this, and where no path was read twice with two answers, to nothing else
+pub record ComesAlone (s : Search) (reads : List ReadNote) (asked : List (List ℕ))
     (finding : Finding) : Type 0 where
-  pub comes : Comes s folder asked finding
-  pub only : IfSome folder.files (λ at. (others : List (List ℕ)) (other : Finding) →
-      Comes s folder others other → (asked ≡ others) × Agree finding other)
+  pub comes : Comes s reads asked finding
+  pub only : AreSteady reads → (others : List (List ℕ)) (other : Finding) →
+      Comes s reads others other → (asked ≡ others) × Agree finding other

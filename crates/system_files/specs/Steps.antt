@@ -1,10 +1,12 @@
 -- What each step of a loading finds alone, and how it ends.
-use Rattle.std.specs.Prelude.{◌≡◌, ◌⊎◌, ℕ, ◌<◌, Bool, List, [], ◌∷◌, ◌++◌, map, Option, Some, None, IfSome, IsSome, IsSomeAnd, length, slice_get}
+use Rattle.std.specs.Prelude.{◌≡◌, ◌⊎◌, ℕ, ◌<◌, Bool, List, [], ◌∷◌, ◌++◌, map, Option, Some, None, IfSome, IsSome, IsSomeAnd, Err, length, slice_get}
 use Rattle.std.specs.List.{AllZip, flat_map}
-use Rattle.sim_base.specs.Folder.{FolderView, with_asked, with_failed}
+use Rattle.sim_base.specs.Asking.{Asks}
+use Rattle.sim_base.specs.Folder.{FolderView, with_read}
 use Rattle.sim_base.specs.declared.folder.ReadFault.{ReadFault}
 use Rattle.sim_base.specs.declared.folder.ReadFault.TheVariants as r
 use Rattle.sim_base.specs.declared.numbers.PortId.{PortId}
+use Rattle.sim_base.specs.declared.read_book.ReadNote.{ReadNote}
 use Rattle.value_types.specs.declared.shape.Shape.{Shape}
 use Rattle.doc_tree.specs.declared.place.Place.{Place}
 use Rattle.doc_tree.specs.declared.rule.Rule.{Rule}
@@ -38,8 +40,8 @@ use Rattle.system_files.specs.declared.named.FileFault.{FileFault}
 use Rattle.system_files.specs.declared.named.FileFault.TheVariants.{Unread, Missing, TooBig, Broken}
 use Rattle.system_files.specs.declared.subject.Subject.{Subject}
 use Rattle.system_files.specs.declared.subject.Subject.TheVariants as what
-use Rattle.system_files.specs.Files.{Absent, Faulty, HasFile, LacksFile, Long, first_uses, structure_path, with_all_asked}
-use Rattle.system_files.specs.Order.{IsBindingToldIn, IsPart, IsToldIn, Search, binding_files, folders_of, model_path, origin_of, outline_path, part_files, part_path}
+use Rattle.system_files.specs.Files.{Absent, Faulty, HasFile, LacksFile, Flaw, Long, first_uses, structure_path}
+use Rattle.system_files.specs.Order.{IsBindingToldIn, IsPart, IsToldIn, Search, binding_files, files_before, folders_of, model_path, origin_of, outline_path, part_files, part_path}
 
 -- ---- a file alone
 
@@ -89,21 +91,39 @@ abbrev pub FailsMappingWithin : Outline → ℕ → Rule → Place → Type 0
 FailsMappingWithin o node rule place =
     BreaksAlone (IsMappingWithin o node) (BreaksMappingWithin o node) rule place
 
+-- the file at a path was read, and says this
+pub record TakesFile {A : Type 0} (Says : List ℕ → A → Type 0) (path : List ℕ) (said : A)
+    (old new : FolderView) : Type 0 where
+  pub reads : List ReadNote
+  pub has : HasFile Says reads path said
+  pub asks : Asks reads (path ∷ []) old new
+
+-- it was read, and isn't taken, with this flaw
+pub record LeavesFile (Breaks : List ℕ → Rule → Place → Type 0) (path : List ℕ) (flaw : Flaw)
+    (old new : FolderView) : Type 0 where
+  pub reads : List ReadNote
+  pub lacks : LacksFile Breaks reads path flaw
+  pub asks : Asks reads (path ∷ []) old new
+
+-- it was read, and the read didn't fail, or nothing was
+abbrev pub MayAsk : List ℕ → FolderView → FolderView → Type 0
+MayAsk path old new = ((reads : List ReadNote) × Asks reads (path ∷ []) old new) ⊎ (new ≡ old)
+
 -- why the file at a path isn't taken
 abbrev pub FaultAt : (List ℕ → Rule → Place → Type 0) → List ℕ → FileFault → FolderView →
     FolderView → Type 0
-FaultAt Breaks path Unread old new = new ≡ with_failed (with_asked old path) path
-FaultAt Breaks path Missing old new = (new ≡ with_asked old path) × LacksFile Breaks old path Absent
-FaultAt Breaks path TooBig old new = (new ≡ with_asked old path) × LacksFile Breaks old path Long
+FaultAt Breaks path Unread old new = new ≡ with_read old path (Err r.Failed)
+FaultAt Breaks path Missing old new = LeavesFile Breaks path Absent old new
+FaultAt Breaks path TooBig old new = LeavesFile Breaks path Long old new
 FaultAt Breaks path (Broken rule place ports) old new =
-    (new ≡ with_asked old path) × LacksFile Breaks old path (Faulty rule place ports)
+    LeavesFile Breaks path (Faulty rule place ports) old new
 
 -- the end at the file at a path
 abbrev pub EndsAt : (List ℕ → Rule → Place → Type 0) → List ℕ → LoadEnd → FolderView →
     FolderView → Type 0
 EndsAt Breaks path (end.File file fault) old new =
     (file.path ≡ path) × FaultAt Breaks path fault old new
-EndsAt Breaks path end.Memory old new = (new ≡ with_asked old path) ⊎ (new ≡ old)
+EndsAt Breaks path end.Memory old new = MayAsk path old new
 
 -- the end at the file at a path of which nothing is asked but its bytes
 abbrev pub EndsUnread : List ℕ → LoadEnd → FolderView → FolderView → Type 0
@@ -124,10 +144,17 @@ fault_end file f.Memory = end.Memory
 -- ---- the outline
 
 -- the outline of a subject, found alone
-abbrev pub OutlinesAlone : Subject → List ℕ → FolderView → Outline → Type 0
-OutlinesAlone what.Fmu directory folder o = o ≡ lone_outline
-OutlinesAlone what.System directory folder o =
-    HasFile SaysStructure folder (structure_path directory) o
+abbrev pub OutlinesAlone : Subject → List ℕ → List ReadNote → Outline → Type 0
+OutlinesAlone what.Fmu directory reads o = o ≡ lone_outline
+OutlinesAlone what.System directory reads o =
+    HasFile SaysStructure reads (structure_path directory) o
+
+-- it was taken, and its file was read where it has one
+pub record TakesOutline (subject : Subject) (directory : List ℕ) (o : Outline)
+    (old new : FolderView) : Type 0 where
+  pub reads : List ReadNote
+  pub is : OutlinesAlone subject directory reads o
+  pub asks : Asks reads (files_before subject directory) old new
 
 -- the end before there is an outline
 pub data EndsOutline (subject : Subject) (directory : List ℕ) (ended : LoadEnd)
@@ -140,9 +167,9 @@ pub data EndsOutline (subject : Subject) (directory : List ℕ) (ended : LoadEnd
 -- ---- the shapes
 
 -- the description of the component's FMU is that of this shape alone
-abbrev pub HasShapeAlone : ℕ → List ℕ → FolderView → ComponentPart → Shape → Type 0
-HasShapeAlone per_second directory folder c shape =
-    HasFile (SaysModel per_second) folder (model_path directory c) shape
+abbrev pub HasShapeAlone : ℕ → List ℕ → List ReadNote → ComponentPart → Shape → Type 0
+HasShapeAlone per_second directory reads c shape =
+    HasFile (SaysModel per_second) reads (model_path directory c) shape
 
 -- the descriptions of these components, each once
 abbrev pub paths_of : List ℕ → List ComponentPart → List (List ℕ)
@@ -158,8 +185,8 @@ pub data TakesNext (per_second : ℕ) (directory : List ℕ) (components : List 
   Copied : (first : ℕ) → source_at components first ≡ Some c.source →
       slice_get shapes first ≡ Some shape → new ≡ old →
       TakesNext per_second directory components n c shapes shape old new
-  Read : IsNew components n c.source → HasShapeAlone per_second directory old c shape →
-      new ≡ with_asked old (model_path directory c) →
+  Read : IsNew components n c.source →
+      TakesFile (SaysModel per_second) (model_path directory c) shape old new →
       TakesNext per_second directory components n c shapes shape old new
 
 -- the end at the next component
@@ -171,28 +198,26 @@ pub data EndsNext (per_second : ℕ) (directory : List ℕ) (components : List C
       EndsAt (FailsModel per_second) (model_path directory c) ended old new →
       EndsNext per_second directory components n c ended old new
 
--- each component has its shape, and their descriptions were asked for
+-- each component has its shape, and their descriptions were read
 pub record TakesShapes (per_second : ℕ) (directory : List ℕ) (components : List ComponentPart)
     (shapes : List Shape) (old new : FolderView) : Type 0 where
-  pub each : AllZip (HasShapeAlone per_second directory old) components shapes
-  pub told : new ≡ with_all_asked old (paths_of directory components)
+  pub reads : List ReadNote
+  pub each : AllZip (HasShapeAlone per_second directory reads) components shapes
+  pub asks : Asks reads (paths_of directory components) old new
 
 -- the end before each component has its shape: at the description of one, or without memory
 pub data EndsShapes (per_second : ℕ) (directory : List ℕ) (components : List ComponentPart)
     (ended : LoadEnd) (old new : FolderView) : Type 0 where
   AtShape : (taken : List ComponentPart) (shapes : List Shape) (c : ComponentPart)
-      (rest : List ComponentPart) → components ≡ taken ++ c ∷ rest →
-      AllZip (HasShapeAlone per_second directory old) taken shapes →
+      (rest : List ComponentPart) (mid : FolderView) → components ≡ taken ++ c ∷ rest →
+      TakesShapes per_second directory taken shapes old mid →
       paths_of directory (taken ++ c ∷ []) ≡ paths_of directory taken ++
       model_path directory c ∷ [] →
-      EndsAt (FailsModel per_second) (model_path directory c) ended
-      (with_all_asked old (paths_of directory taken)) new →
+      EndsAt (FailsModel per_second) (model_path directory c) ended mid new →
       EndsShapes per_second directory components ended old new
   NoShapeRoom : (taken : List ComponentPart) (shapes : List Shape) (rest : List ComponentPart) →
-      components ≡ taken ++ rest →
-      AllZip (HasShapeAlone per_second directory old) taken shapes → ended ≡ end.Memory →
-      new ≡ with_all_asked old (paths_of directory taken) →
-      EndsShapes per_second directory components ended old new
+      components ≡ taken ++ rest → TakesShapes per_second directory taken shapes old new →
+      ended ≡ end.Memory → EndsShapes per_second directory components ended old new
 
 -- ---- the bindings
 
@@ -223,31 +248,45 @@ EndsPart Breaks Within subject directory o owner (Inline node) ended old new =
     (new ≡ old) × EndsWithin (Within o node) (outline_path subject directory) ended
 
 -- the values of a binding, found alone
-abbrev pub IsValuesAlone : List ℕ → FolderView → Outline → Owner → Origin → GivenSet → Type 0
-IsValuesAlone directory folder o owner origin given =
-    IsPart SaysValues SaysValuesWithin directory folder o owner origin given
+abbrev pub IsValuesAlone : List ℕ → List ReadNote → Outline → Owner → Origin → GivenSet → Type 0
+IsValuesAlone directory reads o owner origin given =
+    IsPart SaysValues SaysValuesWithin directory reads o owner origin given
 
 -- the mapping of a binding, found alone, where it has one
-abbrev pub IsMappingAlone : List ℕ → FolderView → Outline → Owner → Option Origin →
+abbrev pub IsMappingAlone : List ℕ → List ReadNote → Outline → Owner → Option Origin →
     Option GivenMapping → Type 0
-IsMappingAlone directory folder o owner None None = Unit {0}
-IsMappingAlone directory folder o owner None (Some given) = ⊥
-IsMappingAlone directory folder o owner (Some origin) None = ⊥
-IsMappingAlone directory folder o owner (Some origin) (Some given) =
-    IsPart SaysMapping SaysMappingWithin directory folder o owner origin given
+IsMappingAlone directory reads o owner None None = Unit {0}
+IsMappingAlone directory reads o owner None (Some given) = ⊥
+IsMappingAlone directory reads o owner (Some origin) None = ⊥
+IsMappingAlone directory reads o owner (Some origin) (Some given) =
+    IsPart SaysMapping SaysMappingWithin directory reads o owner origin given
 
 -- the binding gives this, found alone
-pub record IsGivenAlone (directory : List ℕ) (folder : FolderView) (o : Outline) (b : Binding)
+pub record IsGivenAlone (directory : List ℕ) (reads : List ReadNote) (o : Outline) (b : Binding)
     (given : GivenBinding) : Type 0 where
-  pub values : IsValuesAlone directory folder o b.owner b.values given.values
-  pub mapping : IsMappingAlone directory folder o b.owner b.mapping given.mapping
+  pub values : IsValuesAlone directory reads o b.owner b.values given.values
+  pub mapping : IsMappingAlone directory reads o b.owner b.mapping given.mapping
   pub range : AreInRange given.values.set
 
--- the binding gives this, and its files were asked for
+-- a part of a binding is this, and its file was read where it has one
+pub record TakesPart {A : Type 0} (Says : List ℕ → A → Type 0) (Within : Outline → ℕ → A → Type 0)
+    (directory : List ℕ) (o : Outline) (owner : Owner) (origin : Origin) (given : A)
+    (old new : FolderView) : Type 0 where
+  pub reads : List ReadNote
+  pub is : IsPart Says Within directory reads o owner origin given
+  pub asks : Asks reads (part_files directory o owner origin) old new
+
+-- the values of a binding are these, and their file was read where they have one
+abbrev pub TakesValues : List ℕ → Outline → Binding → GivenSet → FolderView → FolderView → Type 0
+TakesValues directory o b given old new =
+    TakesPart SaysValues SaysValuesWithin directory o b.owner b.values given old new
+
+-- the binding gives this, and its files were read
 pub record TakesBinding (directory : List ℕ) (o : Outline) (b : Binding) (given : GivenBinding)
     (old new : FolderView) : Type 0 where
-  pub gives : IsGivenAlone directory old o b given
-  pub told : new ≡ with_all_asked old (binding_files directory o b)
+  pub reads : List ReadNote
+  pub gives : IsGivenAlone directory reads o b given
+  pub asks : Asks reads (binding_files directory o b) old new
 
 -- the end at a binding: at its values, or at its mapping where the values were taken
 pub data EndsBinding (subject : Subject) (directory : List ℕ) (o : Outline) (b : Binding)
@@ -255,16 +294,16 @@ pub data EndsBinding (subject : Subject) (directory : List ℕ) (o : Outline) (b
   AtValues : EndsPart FailsValues FailsValuesWithin subject directory o b.owner b.values ended old
       new → EndsBinding subject directory o b ended old new
   AtMapping : (given : GivenSet) (origin : Origin) (mid : FolderView) →
-      IsValuesAlone directory old o b.owner b.values given →
-      mid ≡ with_all_asked old (part_files directory o b.owner b.values) → b.mapping ≡ Some origin →
+      TakesValues directory o b given old mid → b.mapping ≡ Some origin →
       EndsPart FailsMapping FailsMappingWithin subject directory o b.owner origin ended mid new →
       EndsBinding subject directory o b ended old new
 
--- each binding gives what it gives, and their files were asked for
+-- each binding gives what it gives, and their files were read
 pub record TakesBindings (directory : List ℕ) (o : Outline) (bindings : List Binding)
     (given : List GivenBinding) (old new : FolderView) : Type 0 where
-  pub each : AllZip (IsGivenAlone directory old o) bindings given
-  pub told : new ≡ with_all_asked old (flat_map (binding_files directory o) bindings)
+  pub reads : List ReadNote
+  pub each : AllZip (IsGivenAlone directory reads o) bindings given
+  pub asks : Asks reads (flat_map (binding_files directory o) bindings) old new
 
 -- the end before each binding is taken: at one of them, or without memory
 pub data EndsBindings (subject : Subject) (directory : List ℕ) (o : Outline) (ended : LoadEnd)

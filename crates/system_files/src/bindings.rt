@@ -1,9 +1,8 @@
 //! What bindings of parameters give, whose files are read in document order.
 ghost use Rattle.std.specs.Prelude.{◌≡◌, IfErr, IfOk, IsSome};
 ghost use Rattle.parameter_values.specs.Ranges.{AreInRange};
-ghost use Rattle.system_files.specs.Files.{with_all_asked};
-ghost use Rattle.system_files.specs.Order.{IsPart, outline_path, part_files, part_path, part_told};
-ghost use Rattle.system_files.specs.Steps.{EndsBinding, EndsBindings, EndsPart, EndsWithin, FailsMapping, FailsMappingWithin, FailsValues, FailsValuesWithin, HasDocument, IsValuesAlone, SaysMapping, SaysMappingWithin, TakesBinding, TakesBindings, TellsWithin};
+ghost use Rattle.system_files.specs.Order.{outline_path, part_path, part_told};
+ghost use Rattle.system_files.specs.Steps.{EndsBinding, EndsBindings, EndsPart, EndsWithin, FailsMapping, FailsMappingWithin, FailsValues, FailsValuesWithin, HasDocument, SaysMapping, SaysMappingWithin, SaysValues, SaysValuesWithin, TakesBinding, TakesBindings, TakesPart, TellsWithin};
 
 use crate::loading::LoadEnd;
 use crate::named::NamedFile;
@@ -107,11 +106,9 @@ fn load_values<F: Folder>(
     folder: &mut F,
 ) -> Result<GivenSet, LoadEnd>
     requires { IsSome outline.now.document }
-    ensures ok { IfOk result (IsValuesAlone directory.now (F.view folder.old) outline.now owner
-        origin.now) }
+    ensures ok { IfOk result (λ given. TakesPart SaysValues SaysValuesWithin directory.now
+        outline.now owner origin.now given (F.view folder.old) (F.view folder.new)) }
     ensures range { IfOk result (λ given. AreInRange given.set) }
-    ensures told { IfOk result (λ given. F.view folder.new ≡ with_all_asked (F.view folder.old)
-        (part_files directory.now outline.now owner origin.now)) }
     ensures err { IfErr result (λ end. EndsPart FailsValues FailsValuesWithin subject directory.now
         outline.now owner origin.now end (F.view folder.old) (F.view folder.new)) }
 {
@@ -145,10 +142,8 @@ fn load_mapping<F: Folder>(
     folder: &mut F,
 ) -> Result<GivenMapping, LoadEnd>
     requires { IsSome outline.now.document }
-    ensures ok { IfOk result (IsPart SaysMapping SaysMappingWithin directory.now
-        (F.view folder.old) outline.now owner origin.now) }
-    ensures told { IfOk result (λ given. F.view folder.new ≡ with_all_asked (F.view folder.old)
-        (part_files directory.now outline.now owner origin.now)) }
+    ensures ok { IfOk result (λ given. TakesPart SaysMapping SaysMappingWithin directory.now
+        outline.now owner origin.now given (F.view folder.old) (F.view folder.new)) }
     ensures err { IfErr result (λ end. EndsPart FailsMapping FailsMappingWithin subject
         directory.now outline.now owner origin.now end (F.view folder.old) (F.view folder.new)) }
 {

@@ -8,10 +8,9 @@ ghost use Rattle.system_model.specs.Sound.{IsSound};
 ghost use Rattle.flatten.specs.Given.{AreShapesOf, IsWhole};
 ghost use Rattle.system_loading.specs.Assembly.{IsBuilt};
 ghost use Rattle.system_loading.specs.Binding.{AreReady};
-ghost use Rattle.system_files.specs.Files.{with_all_asked};
 ghost use Rattle.system_files.specs.Loads.{EndsLoading, IsNamed, Loads};
-ghost use Rattle.system_files.specs.Order.{Found, files_before, search_of};
-ghost use Rattle.system_files.specs.Steps.{EndsModels, EndsOutline, EndsTogether, HasDocument, HasParts, IsLoaded, OutlinesAlone, TakesModels};
+ghost use Rattle.system_files.specs.Order.{Found, search_of};
+ghost use Rattle.system_files.specs.Steps.{EndsModels, EndsOutline, EndsTogether, HasDocument, HasParts, IsLoaded, TakesModels, TakesOutline};
 
 use crate::bindings::load_bindings;
 use crate::loaded::Loaded;
@@ -76,9 +75,8 @@ fn load_outline<F: Folder>(
     directory: &str,
     folder: &mut F,
 ) -> Result<Outline, LoadEnd>
-    ensures ok { IfOk result (OutlinesAlone subject directory.now (F.view folder.old)) }
-    ensures told { IfOk result (λ outline. F.view folder.new ≡ with_all_asked (F.view folder.old)
-        (files_before subject directory.now)) }
+    ensures ok { IfOk result (λ outline. TakesOutline subject directory.now outline
+        (F.view folder.old) (F.view folder.new)) }
     ensures err { IfErr result (λ end. EndsOutline subject directory.now end (F.view folder.old)
         (F.view folder.new)) }
 {

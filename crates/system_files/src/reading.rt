@@ -1,9 +1,8 @@
 //! One file, read and understood.
 ghost use Rattle.std.specs.Prelude.{◌≡◌, IfErr, IfOk};
-ghost use Rattle.sim_base.specs.Folder.{with_asked};
 ghost use Rattle.parameter_values.specs.Ranges.{AreInRange};
-ghost use Rattle.system_files.specs.Files.{HasFile, description_path, structure_path};
-ghost use Rattle.system_files.specs.Steps.{EndsAt, EndsUnread, FailsMapping, FailsModel, FailsStructure, FailsValues, SaysMapping, SaysModel, SaysStructure, SaysValues, fault_end, unread_end};
+ghost use Rattle.system_files.specs.Files.{description_path, structure_path};
+ghost use Rattle.system_files.specs.Steps.{EndsAt, EndsUnread, FailsMapping, FailsModel, FailsStructure, FailsValues, SaysMapping, SaysModel, SaysStructure, SaysValues, TakesFile, fault_end, unread_end};
 
 use crate::loading::LoadEnd;
 use crate::named::{FileFault, NamedFile};
@@ -18,10 +17,8 @@ use value_types::Shape;
 
 /// Reads the bytes of the file at a path, of which there are at most 16 MiB, whatever they say.
 pub fn read_file<F: Folder>(alloc: Global, path: &str, folder: &mut F) -> Result<Vec<u8>, LoadEnd>
-    ensures ok { IfOk result (λ bytes. HasFile (λ read given. read ≡ given)
-        (F.view folder.old) path.now bytes.items) }
-    ensures told { IfOk result (λ bytes. F.view folder.new ≡ with_asked
-        (F.view folder.old) path.now) }
+    ensures ok { IfOk result (λ bytes. TakesFile (λ read given. read ≡ given) path.now bytes.items
+        (F.view folder.old) (F.view folder.new)) }
     ensures err { IfErr result (λ end. EndsUnread path.now end (F.view folder.old)
         (F.view folder.new)) }
 {
@@ -47,9 +44,8 @@ pub(crate) fn read_structure<F: Folder>(
     file: NamedFile,
     folder: &mut F,
 ) -> Result<Outline, LoadEnd>
-    ensures ok { IfOk result (HasFile SaysStructure (F.view folder.old) file.path) }
-    ensures told { IfOk result (λ outline. F.view folder.new ≡ with_asked
-        (F.view folder.old) file.path) }
+    ensures ok { IfOk result (λ outline. TakesFile SaysStructure file.path outline
+        (F.view folder.old) (F.view folder.new)) }
     ensures err { IfErr result (λ end. EndsAt FailsStructure file.path end (F.view folder.old)
         (F.view folder.new)) }
 {
@@ -69,9 +65,8 @@ pub(crate) fn read_model<F: Folder>(
     resolution: u64,
     folder: &mut F,
 ) -> Result<Shape, LoadEnd>
-    ensures ok { IfOk result (HasFile (SaysModel resolution) (F.view folder.old) file.path) }
-    ensures told { IfOk result (λ shape. F.view folder.new ≡ with_asked
-        (F.view folder.old) file.path) }
+    ensures ok { IfOk result (λ shape. TakesFile (SaysModel resolution) file.path shape
+        (F.view folder.old) (F.view folder.new)) }
     ensures err { IfErr result (λ end. EndsAt (FailsModel resolution) file.path end
         (F.view folder.old) (F.view folder.new)) }
 {
@@ -90,10 +85,9 @@ pub(crate) fn read_set<F: Folder>(
     file: NamedFile,
     folder: &mut F,
 ) -> Result<GivenSet, LoadEnd>
-    ensures ok { IfOk result (HasFile SaysValues (F.view folder.old) file.path) }
+    ensures ok { IfOk result (λ given. TakesFile SaysValues file.path given
+        (F.view folder.old) (F.view folder.new)) }
     ensures range { IfOk result (λ given. AreInRange given.set) }
-    ensures told { IfOk result (λ given. F.view folder.new ≡ with_asked
-        (F.view folder.old) file.path) }
     ensures err { IfErr result (λ end. EndsAt FailsValues file.path end (F.view folder.old)
         (F.view folder.new)) }
 {
@@ -112,9 +106,8 @@ pub(crate) fn read_names<F: Folder>(
     file: NamedFile,
     folder: &mut F,
 ) -> Result<GivenMapping, LoadEnd>
-    ensures ok { IfOk result (HasFile SaysMapping (F.view folder.old) file.path) }
-    ensures told { IfOk result (λ given. F.view folder.new ≡ with_asked
-        (F.view folder.old) file.path) }
+    ensures ok { IfOk result (λ given. TakesFile SaysMapping file.path given
+        (F.view folder.old) (F.view folder.new)) }
     ensures err { IfErr result (λ end. EndsAt FailsMapping file.path end (F.view folder.old)
         (F.view folder.new)) }
 {

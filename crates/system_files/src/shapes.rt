@@ -1,11 +1,10 @@
 //! The shapes of components, whose descriptions are read in the order of their first uses.
 ghost use Rattle.std.specs.Prelude.{◌≡◌, ℕ, List, IfErr, IfOk, IfSome, length, slice_get};
-ghost use Rattle.sim_base.specs.Folder.{with_asked};
 ghost use Rattle.doc_tables.specs.Places.{found_name};
 ghost use Rattle.doc_tables.specs.Tables.{IsTableBelow};
 ghost use Rattle.flatten.specs.Flat.{source_at};
 ghost use Rattle.system_files.specs.Order.{model_path};
-ghost use Rattle.system_files.specs.Steps.{EndsAt, EndsNext, EndsShapes, FailsModel, HasShapeAlone, IsNew, TakesNext, TakesShapes};
+ghost use Rattle.system_files.specs.Steps.{EndsAt, EndsNext, EndsShapes, FailsModel, IsNew, SaysModel, TakesFile, TakesNext, TakesShapes};
 
 use crate::loading::LoadEnd;
 use crate::named::NamedFile;
@@ -100,10 +99,8 @@ fn load_shape<F: Folder>(
     resolution: u64,
     folder: &mut F,
 ) -> Result<Shape, LoadEnd>
-    ensures ok { IfOk result (HasShapeAlone resolution directory.now
-        (F.view folder.old) component.now) }
-    ensures told { IfOk result (λ shape. F.view folder.new ≡ with_asked (F.view folder.old)
-        (model_path directory.now component.now)) }
+    ensures ok { IfOk result (λ shape. TakesFile (SaysModel resolution)
+        (model_path directory.now component.now) shape (F.view folder.old) (F.view folder.new)) }
     ensures err { IfErr result (λ end. EndsAt (FailsModel resolution)
         (model_path directory.now component.now) end (F.view folder.old) (F.view folder.new)) }
 {

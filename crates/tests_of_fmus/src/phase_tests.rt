@@ -355,7 +355,7 @@ static EVENT_PROBES: [Call; 16] = [
     FREE,
 ];
 
-static EVENT_PATHS: [Row; 13] = [
+static EVENT_PATHS: [Row; 15] = [
     (
         &[STARTED_EVENTS, ENTERED],
         InstanceState::Initialization,
@@ -419,6 +419,36 @@ static EVENT_PATHS: [Row; 13] = [
             ENTERED,
             EXITED,
             SETTLED,
+            IN_STEP,
+            STEPPED,
+            IN_EVENT,
+        ],
+        InstanceState::Event,
+        40,
+        &[UPDATE, GET, SET, TERMINATE, FREE],
+    ),
+    // What was set after the last Update may be set in the next stay in Event Mode, with a step between and without one.
+    (
+        &[
+            STARTED_EVENTS,
+            ENTERED,
+            EXITED,
+            SETTLED,
+            GIVEN,
+            IN_STEP,
+            IN_EVENT,
+        ],
+        InstanceState::Event,
+        10,
+        &[UPDATE, GET, SET, TERMINATE, FREE],
+    ),
+    (
+        &[
+            STARTED_EVENTS,
+            ENTERED,
+            EXITED,
+            SETTLED,
+            GIVEN,
             IN_STEP,
             STEPPED,
             IN_EVENT,

@@ -12,4 +12,6 @@ mod shape_tests;
 #[cfg(test)]
 mod structure_tests;
 #[cfg(test)]
+mod text_tests;
+#[cfg(test)]
 mod value_tests;

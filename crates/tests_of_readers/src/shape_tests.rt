@@ -7,13 +7,13 @@ use value_types::{ByReference, Dependency, Knowns, Shape, Variable};
 const COUNTER: &str =
     r#"<fmiModelDescription fmiVersion="3.0" modelName="counter" instantiationToken="{c}"><CoSimulation modelIdentifier="counter" canGetAndSetFMUState="true" canHandleVariableCommunicationStepSize="true"/><ModelVariables><Int32 name="inc" valueReference="1" causality="parameter" variability="fixed" start="2"/><Int32 name="y" valueReference="2" causality="output" variability="discrete"/></ModelVariables><ModelStructure><Output valueReference="2" dependencies=""/></ModelStructure></fmiModelDescription>"#;
 
-const FRONT: &str =
+pub(crate) const FRONT: &str =
     r#"<fmiModelDescription fmiVersion="3.0" modelName="m" instantiationToken="t"><CoSimulation modelIdentifier="i" hasEventMode="true"/>"#;
 
-const BACK: &str = "</fmiModelDescription>";
+pub(crate) const BACK: &str = "</fmiModelDescription>";
 
 /// What stands in a description; its variables, Clocks, dependencies, and those of Initialization Mode.
-static PARTS: [(&str, &str); 6] = [
+static PARTS: [(&str, &str); 7] = [
     ("", "|||"),
     // Aliases, foreign variables, two lists of variables, and an exact start value.
     (
@@ -39,6 +39,11 @@ static PARTS: [(&str, &str); 6] = [
     (
         r#"<ModelVariables><Clock name="c" valueReference="1" causality="input" intervalVariability="constant" intervalDecimal="0.01" shiftDecimal="1e-1"/><Clock name="d" valueReference="2" causality="input" intervalVariability="fixed" supportsFraction="true" intervalCounter="1" resolution="4" shiftCounter="3"/><Clock name="e" valueReference="3" causality="input" intervalVariability="fixed" supportsFraction="true"/><Clock name="o" valueReference="4" causality="output" intervalVariability="triggered"/><Clock name="l" valueReference="5" intervalVariability="triggered"/><Int32 name="k" valueReference="6" causality="input" clocks="1  2" canHandleMultipleSetPerTimeInstant="false"/><Int32 name="g" valueReference="7" causality="output" clocks="5"/><Clock name="n" valueReference="8" causality="input" intervalVariability="constant" supportsFraction="true" intervalCounter="1" resolution="2" intervalDecimal="0.25"/></ModelVariables>"#,
         "c 1 Some(Clock) Input None;d 2 Some(Clock) Input None;e 3 Some(Clock) Input None;o 4 Some(Clock) Output None;l 5 None Local None;k 6 Some(Int32) Input None @1 @2 once;g 7 None Output None @5;n 8 Some(Clock) Input None;|1 Constant false 1/100 1/10;2 Fixed true 1/4 3/4;3 Fixed true - -;4 Triggered false - -;8 Constant true 1/2 0/2;|4: all;|4: all;",
+    ),
+    // Clocks that name one another in a circle, and others that hang on a local one, with what they clock.
+    (
+        r#"<ModelVariables><Clock name="a" valueReference="1" causality="input" clocks="2" intervalVariability="triggered"/><Clock name="b" valueReference="2" causality="input" clocks="3 1" intervalVariability="triggered"/><Clock name="c" valueReference="3"/><Clock name="d" valueReference="4" causality="input" clocks="5" intervalVariability="triggered"/><Clock name="e" valueReference="5" causality="input" clocks="4" intervalVariability="triggered"/><Int32 name="f" valueReference="6" causality="output" clocks="5  1"/><Int32 name="g" valueReference="7" causality="input" clocks="4"/></ModelVariables>"#,
+        "a 1 None Input None @2;b 2 None Input None @3 @1;c 3 None Local None;d 4 Some(Clock) Input None @5;e 5 Some(Clock) Input None @4;f 6 None Output None @5 @1;g 7 Some(Int32) Input None @4;|4 Triggered false - -;5 Triggered false - -;||",
     ),
 ];
 
@@ -102,7 +107,7 @@ fn put_dependencies(
     Ok(())
 }
 
-fn shape_text(alloc: Global, shape: &Shape) -> Result<String, AllocError> {
+pub(crate) fn shape_text(alloc: Global, shape: &Shape) -> Result<String, AllocError> {
     let mut text = String::new(alloc);
     for variable in shape.variables.as_slice() {
         put_variable(alloc, &mut text, variable)?;

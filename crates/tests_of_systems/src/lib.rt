@@ -1,6 +1,8 @@
-//! Tests of the crates of systems: orders and loops, paths of connections, orders of ports.
+//! Tests of the crates of systems: orders and loops, paths of connections, orders of ports, generated systems.
 #![tactic(auto)]
 
+#[cfg(test)]
+mod generated_tests;
 #[cfg(test)]
 mod order_tests;
 #[cfg(test)]

@@ -2,7 +2,7 @@ ghost use Rattle.std.specs.Prelude.{◌≤◌, length};
 
 use sim_base::{
     Folder, Items, MOST_COUNTS, MOST_FILE_BYTES, MOST_INSTANTS, MOST_NAME_BYTES, MemFile,
-    MemFolder, MemSink, MemSource, ReadFault, Sink, Source, SourceFault, Text, escape,
+    MemFolder, MemSink, MemSource, ReadFault, ReadNote, Sink, Source, SourceFault, Text, escape,
     escaped_byte, join_path,
 };
 use std::alloc::{AllocError, Global};
@@ -105,12 +105,22 @@ fn answers_as(alloc: Global, folder: &mut MemFolder, at: usize) -> bool {
     }
 }
 
-fn are_paths(paths: &[Text], want: &[&str]) -> bool {
-    paths.len() == want.len()
-        && paths
+fn are_paths(reads: &[ReadNote], want: &[&str]) -> bool {
+    reads.len() == want.len()
+        && reads
             .iter()
             .zip(want)
-            .all(|(path, text)| path.as_str() == *text)
+            .all(|(read, text)| read.path.as_str() == *text)
+}
+
+fn are_failed(reads: &[ReadNote], want: &[&str]) -> bool {
+    let failed = reads
+        .iter()
+        .filter(|read| matches!(read.answer, Err(ReadFault::Failed)));
+    failed.count() == want.len()
+        && reads.iter().all(|read| {
+            !matches!(read.answer, Err(ReadFault::Failed)) || want.contains(&read.path.as_str())
+        })
 }
 
 #[test]
@@ -119,8 +129,8 @@ fn a_folder_answers_by_its_lists(rt: HostRuntime) -> Result<(), Fail> {
     for at in 0..READS.len() {
         assert!(rt; answers_as(rt.alloc(), &mut folder, at));
     }
-    assert!(rt; are_paths(folder.book.asked_paths(), &["b", "a", "a", "a"]));
-    assert!(rt; are_paths(folder.book.failed_paths(), &["a"]) && folder.book.faults() == 1);
+    assert!(rt; are_paths(folder.book.reads(), &["b", "a", "a", "a"]));
+    assert!(rt; are_failed(folder.book.reads(), &["a"]) && folder.book.faults() == 1);
     Ok(())
 }
 

@@ -4,6 +4,7 @@ ghost use Rattle.tick_schedule.specs.Cost.{TakesTurns};
 ghost use Rattle.tick_schedule.specs.Points.{past};
 
 use crate::clock::PAST;
+use crate::points::Points;
 use crate::sift::{first_point, put};
 use crate::steps::Steps;
 use std::alloc::{AllocError, Global};
@@ -13,7 +14,7 @@ use std::sync::ledger::Ledger;
 /// The next point of each Clock, by the Clock's number. All Clocks stay in it; one that doesn't tick has `PAST`.
 #[derive(Drop)]
 pub(crate) struct Heap {
-    points: Vec<u64>,
+    points: Points,
     /// the Clock at each place: the one at `i` isn't later than those at `2 * i + 1` and `2 * i + 2`
     order: Vec<usize>,
     /// the place of each Clock
@@ -26,9 +27,9 @@ impl Model for Heap {
 
     ghost Value = { List ℕ };
 
-    ghost view = { λ h. h.points.items };
+    ghost view = { λ h. h.points };
 
-    ghost invariant = { λ h. IsHeap h.points.items h.order.items h.places.items × (length h.points.items < 2 ^ 63) };
+    ghost invariant = { λ h. IsHeap h.points h.order.items h.places.items × (length h.points < 2 ^ 63) };
 }
 
 impl Heap {
@@ -37,7 +38,7 @@ impl Heap {
         ensures { IfOk result (λ heap. heap ≡ replicate count past) }
     {
         Ok(Heap {
-            points: vec![in alloc; PAST; count]?,
+            points: Points::all(alloc, PAST, count)?,
             order: in_order(alloc, count)?,
             places: in_order(alloc, count)?,
         })
@@ -50,7 +51,7 @@ impl Heap {
         ensures cost { TakesTurns 2 (length self.old) (steps.old + 1) steps.new }
     {
         put(
-            self.points.as_mut_slice(),
+            &mut self.points,
             self.order.as_mut_slice(),
             self.places.as_mut_slice(),
             clock,
@@ -65,8 +66,7 @@ impl Heap {
         ensures point { result ≡ slice_index self.now clock }
         ensures cost { steps.new ≡ steps.old + 1 }
     {
-        steps.tick();
-        self.points[clock]
+        self.points.at(clock, steps)
     }
 
     /// The least point.
@@ -77,11 +77,11 @@ impl Heap {
         ensures one { IfSome result (λ _. steps.new ≡ steps.old + 1) }
         ensures no_step { IfNone result (steps.new ≡ steps.old) }
     {
-        if self.points.is_empty() {
+        if self.points.len() == 0 {
             return None;
         }
         Some(first_point(
-            self.points.as_slice(),
+            &self.points,
             self.order.as_slice(),
             self.places.as_slice(),
             steps,

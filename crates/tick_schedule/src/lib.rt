@@ -4,6 +4,7 @@
 mod clock;
 mod heap;
 pub mod plain;
+mod points;
 mod schedule;
 mod sift;
 mod steps;

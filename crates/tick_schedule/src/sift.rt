@@ -2,6 +2,7 @@ ghost use Rattle.std.specs.Prelude.{◌≡◌, ◌≢◌, ◌<◌, ◌≤◌, �
 ghost use Rattle.tick_schedule.specs.Cost.{TakesTurns};
 ghost use Rattle.tick_schedule.specs.HeapOrder.{IsHeap, IsBelow, IsPlaced, IsOrdered, IsOrderedButDown, IsOrderedButUp, key_at};
 
+use crate::points::Points;
 use crate::steps::Steps;
 use std::sync::ledger::Ledger;
 
@@ -13,18 +14,17 @@ struct Entry {
 }
 
 /// Reads the entry at a place, which is one step.
-fn read<L: Ledger>(points: &[u64], order: &[usize], place: usize, steps: &mut Steps<L>) -> Entry
+fn read<L: Ledger>(points: &Points, order: &[usize], place: usize, steps: &mut Steps<L>) -> Entry
     requires place { place < length order.now }
     requires clock { slice_index order.now place < length points.now }
     ensures clock { result.clock ≡ slice_index order.now place }
     ensures point { result.point ≡ key_at points.now order.now place }
     ensures cost { steps.new ≡ steps.old + 1 }
 {
-    steps.tick();
     let clock = order[place];
     Entry {
         clock,
-        point: points[clock],
+        point: points.at(clock, steps),
     }
 }
 
@@ -49,7 +49,7 @@ fn exchange(order: &mut [usize], places: &mut [usize], a: usize, at_a: usize, b:
 
 /// Which of two places below the hole has the earlier entry, with this entry.
 fn least_below<L: Ledger>(
-    points: &[u64],
+    points: &Points,
     order: &[usize],
     hole: usize,
     steps: &mut Steps<L>,
@@ -82,7 +82,7 @@ fn least_below<L: Ledger>(
 
 /// Moves the Clock at the hole down until none below it is earlier.
 fn sift_down<L: Ledger>(
-    points: &[u64],
+    points: &Points,
     order: &mut [usize],
     places: &mut [usize],
     hole: usize,
@@ -112,7 +112,7 @@ fn sift_down<L: Ledger>(
 
 /// Moves the Clock at the hole up until none above it is later.
 fn sift_up<L: Ledger>(
-    points: &[u64],
+    points: &Points,
     order: &mut [usize],
     places: &mut [usize],
     hole: usize,
@@ -143,7 +143,7 @@ fn sift_up<L: Ledger>(
 
 /// Gives a Clock another point, and moves it to its place.
 pub(crate) fn put<L: Ledger>(
-    points: &mut [u64],
+    points: &mut Points,
     order: &mut [usize],
     places: &mut [usize],
     clock: usize,
@@ -157,10 +157,9 @@ pub(crate) fn put<L: Ledger>(
     ensures heap { IsHeap points.new order.new places.new }
     ensures cost { TakesTurns 2 (length points.old) (steps.old + 1) steps.new }
 {
-    steps.tick();
     let hole = places[clock];
-    let old = points[clock];
-    points[clock] = point;
+    let old = points.at(clock, steps);
+    points.set(clock, point);
     let moved = Entry { clock, point };
     if point < old {
         sift_up(points, order, places, hole, moved, steps);
@@ -171,7 +170,7 @@ pub(crate) fn put<L: Ledger>(
 
 /// The least point.
 pub(crate) fn first_point<L: Ledger>(
-    points: &[u64],
+    points: &Points,
     order: &[usize],
     places: &[usize],
     steps: &mut Steps<L>,

@@ -40,7 +40,7 @@ fn number(digit: u8) -> u8
 }
 
 /// The name that a word writes with its bytes escaped, where it is the word of one. A name isn't empty.
-pub(crate) fn name(alloc: Global, word: &[u8]) -> Result<Option<Vec<u8>>, AllocError>
+pub fn name(alloc: Global, word: &[u8]) -> Result<Option<Vec<u8>>, AllocError>
     ensures found { IfOk result
         (λ o. IfSome o (λ v. (v.items ≢ []) × (word.now ≡ escaped v.items))) }
     ensures none { (whole : List ℕ) → whole ≢ [] → word.now ≡ escaped whole → result ≡ Ok None → ⊥ }

@@ -40,13 +40,18 @@ fn port_before(
     let Some((line, behind)) = split_once(text, b'\n') else {
         return Ok(None);
     };
-    match read_port(alloc, number, line)? {
+    match read_port_line(alloc, number, line)? {
         Some(port) => Ok(Some((port, behind))),
         None => Ok(None),
     }
 }
 
-fn read_port(alloc: Global, number: u64, line: &[u8]) -> Result<Option<TracePort>, AllocError>
+/// The port of this number whose line this is, where it is in form. The line is without its line feed.
+pub fn read_port_line(
+    alloc: Global,
+    number: u64,
+    line: &[u8],
+) -> Result<Option<TracePort>, AllocError>
     ensures found { IfOk result
         (λ o. IfSome o (λ port. IsNamed port × (line.now ≡ port_line number port))) }
     ensures none { (port : TracePort) → IsNamed port → line.now ≡ port_line number port →

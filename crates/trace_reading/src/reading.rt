@@ -9,7 +9,7 @@ use crate::fault::TraceFault;
 use crate::lines::read_header;
 use crate::ports::{clock_table, read_ports};
 use crate::rows::read_rows;
-use crate::trace::Trace;
+use crate::trace::{Header, Trace};
 use sim_base::{Items, MOST_COUNTS};
 use std::alloc::Global;
 
@@ -49,13 +49,6 @@ fn read(alloc: Global, bytes: &[u8]) -> Result<Trace, TraceFault>
     }
 }
 
-#[derive(Clone, Copy)]
-struct Header {
-    resolution: u64,
-    start: u64,
-    stop: u64,
-}
-
 // The header whose line stands at the front of a text, and what is left behind it.
 fn header_before(text: &[u8]) -> Option<(Header, &[u8])>
     ensures found { IfSome result (λ p. text.now ≡ header_line p.0.resolution p.0.start p.0.stop ++
@@ -65,16 +58,24 @@ fn header_before(text: &[u8]) -> Option<(Header, &[u8])>
         text.now ≡ header_line resolution start stop ++ (10 ∷ rest) → IfNone result ⊥ }
 {
     let (line, rest) = split_once(text, b'\n')?;
+    let header = read_header_line(line)?;
+    Some((header, rest))
+}
+
+/// What the first line of a trace tells, where it is in form. The line is without its line feed.
+pub fn read_header_line(line: &[u8]) -> Option<Header>
+    ensures found { IfSome result (λ h. line.now ≡ header_line h.resolution h.start h.stop) }
+    ensures range { IfSome result (λ h. IsRange h.resolution h.start h.stop) }
+    ensures none { (resolution start stop : ℕ) → IsRange resolution start stop →
+        line.now ≡ header_line resolution start stop → IfNone result ⊥ }
+{
     let (resolution, start, stop) = read_header(line)?;
     if is_range(resolution, start, stop) {
-        Some((
-            Header {
-                resolution,
-                start,
-                stop,
-            },
-            rest,
-        ))
+        Some(Header {
+            resolution,
+            start,
+            stop,
+        })
     } else {
         None
     }

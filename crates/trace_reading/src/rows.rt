@@ -1,4 +1,4 @@
-ghost use Rattle.std.specs.Prelude.{◌≡◌, ◌+◌, ◌≤◌, ℕ, [], Err, None, IfOk, IfSome, OnOk, map, length, nat_le, ◌&&◌, ◌==◌};
+ghost use Rattle.std.specs.Prelude.{◌≡◌, ◌+◌, ◌≤◌, ℕ, [], Err, None, IfOk, IfSome, OnOk, count_by, map, length, nat_le, ◌&&◌, ◌==◌};
 ghost use Rattle.system_model.specs.declared.plan.EndKind.{EndKind};
 ghost use Rattle.trace_reading.specs.declared.fault.TraceFault.TheVariants.{Line};
 ghost use Rattle.trace_reading.specs.Form.{kinds_of};
@@ -75,7 +75,9 @@ fn ending(place: Place, rest: &[u8]) -> Option<(EndKind, u64)>
 }
 
 // The room for the lines is made at once, so that it isn't twice what they need.
-fn count_lines(text: &[u8]) -> usize {
+fn count_lines(text: &[u8]) -> usize
+    ensures { result ≡ count_by (λ byte. byte == 10) text.now }
+{
     text.iter().filter(|byte| **byte == b'\n').count()
 }
 
@@ -102,7 +104,12 @@ fn next_number(lines: &Vec<TraceLine>, place: Place) -> u64
 }
 
 // Where the reading stands behind the line; none where the line may not stand there.
-fn place_behind(ports: &[TracePort], clocks: &[usize], place: Place, item: Item) -> Option<Place>
+pub(crate) fn place_behind(
+    ports: &[TracePort],
+    clocks: &[usize],
+    place: Place,
+    item: Item,
+) -> Option<Place>
     requires { IsClockTable (kinds_of ports.now) clocks.now }
     ensures { result ≡ place_behind (kinds_of ports.now) place item }
 {

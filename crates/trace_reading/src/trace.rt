@@ -12,6 +12,14 @@ pub struct TracePort {
     pub variable: Items<u8>,
 }
 
+/// What the first line of a trace tells: counts in a second, and the points from and up to which the run goes, in counts.
+#[derive(Clone, Copy, Debug, PartialEq, Eq)]
+pub struct Header {
+    pub resolution: u64,
+    pub start: u64,
+    pub stop: u64,
+}
+
 /// A line of an instant.
 #[derive(Clone, Copy, Debug, PartialEq, Eq)]
 pub enum TraceLine {

@@ -7,7 +7,7 @@ use crate::exchanges::{
 use crate::scripts::make_script;
 use bench_fmus::Script;
 use fmi_calls::{BadStatus, Call, Kind, Reply};
-use fmu_peer::{Exchange, Held, PeerFault, Slot, Why, close_all};
+use fmu_peer::{Exchange, Held, Job, PeerFault, Slot, Why, close_all};
 use sim_base::SourceId;
 use std::alloc::Global;
 use std::process::Abort;
@@ -237,6 +237,8 @@ fn run_part(rt: &impl Abort, alloc: Global, part: &Part) -> Slot<Script> {
         held,
         saved,
         is_fatal: is_fatal(why),
+        job: Job::Nothing,
+        answer: None,
     }
 }
 
@@ -247,6 +249,8 @@ fn assert_closed(rt: &impl Abort, slot: Slot<Script>, part: &Part) {
         held,
         saved,
         is_fatal: _,
+        job: _,
+        answer: _,
     } = slot;
     assert_eq!(rt; source, SourceId(part.source));
     assert_unsaved(rt, saved);

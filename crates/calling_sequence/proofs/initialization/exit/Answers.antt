@@ -36,4 +36,4 @@ returns-clause-goes g c =
     let none = with_items_is c.args.buffers.now.values c.clear.new.values (c.clear.auto.values ∙ c.deref_mut.ensures.len) ∙ no_values_are e.system (length c.deref_mut.result.now) c.clear.new.values c.clear.ensures len in
     let first : List (Option ℤ) → Spot = λ vs. record { t = e.plan.start; n = 0; values = vs; timers = timers_in c.args.buffers.now.schedule } in
     by_stage e (timed c.args.buffers.now) _ (λ x. refl) _ _ _ c.requires.ready.shapes_are (λ ss. to_each (λ shape. C.ExitInitialization) ss) nothing refl
-    (λ x log is. Exits _ _ log _ _ (ap first none) (begins e.system e.plan _ e.plan.start 0 true _ (ap length none ∙ length-map e.system.ports _) t.starts t.stands refl)) c.each.result c.each.ensures.stage
+    (λ x log done is. Exits _ _ log _ _ (ap first none) (begins e.system e.plan _ e.plan.start 0 true _ (ap length none ∙ length-map e.system.ports _) t.starts t.stands refl)) c.each.result c.each.ensures.stage

@@ -1,11 +1,26 @@
-use Rattle.std.proofs.Common.{Bool, true, refl, subst, sym, arith, ◌∙◌, ◌+◌, ◌<◌}
+use Rattle.std.proofs.Common.{Bool, List, true, refl, subst, sym, arith, ℕ, ◌∙◌, ◌+◌, ◌<◌}
+use Rattle.sim_base.specs.Sink.{SinkView}
+use Rattle.fmu_peer.specs.CloseAll.{Instance}
 use Rattle.event_iteration.specs.Clocks.{timers_in}
+use Rattle.calling_sequence.specs.declared.ending.Break.{Break}
+use Rattle.calling_sequence.specs.declared.ending.Break.TheVariants as B
+use Rattle.calling_sequence.specs.declared.experiment.Experiment.{Experiment}
 use Rattle.calling_sequence.specs.Calls.{IsBoundOf}
-use Rattle.calling_sequence.specs.Goes.{spot}
+use Rattle.calling_sequence.specs.Course.{Place}
+use Rattle.calling_sequence.specs.Goes.{Breaks, Onward, spot}
 use Rattle.calling_sequence.specs.Ready.{AreTimed}
 use Rattle.calling_sequence.proofs.ScheduleSteps.{begins, never_first, timed_behind}
 use Rattle.calling_sequence.proofs.Ways.{again_there, asked_by_step, asked_there, done_there, limited_there, stepped_there, stops_there, unfit_there}
 use Rattle.calling_sequence.proofs.run.follow.Goals as goal
+
+-- what breaks off behind a place breaks off behind those that lead to it
+breaks_from : (e : Experiment) (p q : Place) (firsts mids news : List Instance) (first present after : SinkView) (start count counted : ℕ) → Onward e p q firsts mids first present start count → (broken : Break) →
+    Breaks e q mids news present after count counted broken → Breaks e p firsts news first after start counted broken
+breaks_from e p q firsts mids news first present after start count counted onward (B.Ends ending) breaks = λ olds before h. breaks olds before (onward olds before h)
+breaks_from e p q firsts mids news first present after start count counted onward B.Write breaks = λ olds before h. breaks olds before (onward olds before h)
+
+pub returns-in-Err-take-clause-arrives : goal.returns-in-Err-take-clause-arrives
+returns-in-Err-take-clause-arrives g c = breaks_from c.args.experiment.now _ _ _ _ _ _ _ _ _ _ _ c.instants.invariant.onward c.in-Err-take.broken c.in-Err-take.ensures.puts
 
 pub returns-then-updated-clause-arrives : goal.returns-then-updated-clause-arrives
 returns-then-updated-clause-arrives g c olds before h = asked_there c.args.experiment.now _ _ c.take.new.buffers c.in-Ok-take.updated olds before _ _ _ (c.in-Ok-take.ensures.puts olds before (c.instants.invariant.onward olds before h)) c.if-updated.true
@@ -37,6 +52,9 @@ returns-in-Some-clause-arrives g c olds before h =
     let before_stop : c.instants.t < c.args.experiment.now.plan.stop = let other = c.if-t-plan.false in omega (arith, other, within, stops) in
     let bound : IsBoundOf c.args.experiment.now.plan (timers_in c.take.new.buffers.schedule) c.instants.t c.next_bound-to.result = record { before_stop = before_stop; bound = c.next_bound-to.ensures } in
     unfit_there c.args.experiment.now _ _ c.take.new.buffers c.in-Ok-take.updated olds before _ _ _ (c.in-Ok-take.ensures.puts olds before (c.instants.invariant.onward olds before h)) c.if-updated-2.false c.if-updated.false c.in-Some.component _ bound (sym c.in-Some.ensures)
+
+pub cross-requires-clause-ready : goal.cross-requires-clause-ready
+cross-requires-clause-ready g c κs within = c.in-Ok-take.ensures.settled c.if-updated-2.false
 
 pub cross-requires-clause-step : goal.cross-requires-clause-step
 cross-requires-clause-step g c κs lives =

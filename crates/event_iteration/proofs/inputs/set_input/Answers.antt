@@ -1,4 +1,4 @@
-use Rattle.std.proofs.Common.{◌<◌, ap, ◌∙◌, length, sym, subst, get_or, refl, arith}
+use Rattle.std.proofs.Common.{rules, ◌<◌, ap, ◌∙◌, length, sym, subst, get_or, refl, arith}
 use Rattle.std.specs.Prelude.{None, if◌then◌else◌}
 use Rattle.std.proofs.lemmas.List.Elements.{All-set}
 use Rattle.fmu_peer.specs.CloseAll.{instance_in}
@@ -9,6 +9,30 @@ use Rattle.event_iteration.specs.Turns.{MayAsk}
 use Rattle.event_iteration.proofs.Setting.{set_same}
 use Rattle.event_iteration.proofs.Taking.{component_at, instance_at, port_at, shape_in_slot, slots_many, stopped, took}
 use Rattle.event_iteration.proofs.inputs.set_input.Goals as goal
+
+pub bounds-slots-port : goal.bounds-slots-port
+bounds-slots-port g c =
+    let system = c.args.system.now in
+    let is = port_at _ system.ports c.args.p c.index-as_slice-p.result c.as_slice.ensures c.index-as_slice-p.is c.requires.port in
+    let there = component_at system c.args.p c.index-as_slice-p.result c.requires.there is in
+    let within : c.index-as_slice-p.result.component.0 < length c.args.slots.now = (let m = slots_many (λ s. instance_in g.L.Peer.view s) system c.args.slots.now c.requires.shapes in let w = there.within in omega (arith, m, w)) in
+    within
+
+pub offset_bounds-slots-port : goal.offset_bounds-slots-port
+offset_bounds-slots-port g c =
+    let system = c.args.system.now in
+    let is = port_at _ system.ports c.args.p c.index-as_slice-p.result c.as_slice.ensures c.index-as_slice-p.is c.requires.port in
+    let there = component_at system c.args.p c.index-as_slice-p.result c.requires.there is in
+    let within : c.index-as_slice-p.result.component.0 < length c.args.slots.now = (let m = slots_many (λ s. instance_in g.L.Peer.view s) system c.args.slots.now c.requires.shapes in let w = there.within in omega (arith, m, w)) in
+    search rules
+
+pub ask_if-requires-clause-live : goal.ask_if-requires-clause-live
+ask_if-requires-clause-live g c κs lives =
+    let system = c.args.system.now in
+    let is = port_at _ system.ports c.args.p c.index-as_slice-p.result c.as_slice.ensures c.index-as_slice-p.is c.requires.port in
+    let there = component_at system c.args.p c.index-as_slice-p.result c.requires.there is in
+    let within : c.index-as_slice-p.result.component.0 < length c.args.slots.now = (let m = slots_many (λ s. instance_in g.L.Peer.view s) system c.args.slots.now c.requires.shapes in let w = there.within in omega (arith, m, w)) in
+    c.requires.live c.index-as_slice-p.result.component.0 c.index-slots-port.result within
 
 pub ask_if-requires-clause-may : goal.ask_if-requires-clause-may
 ask_if-requires-clause-may g c κs lives =

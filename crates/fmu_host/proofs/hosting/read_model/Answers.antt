@@ -1,10 +1,20 @@
-use Rattle.std.proofs.Common.{◌∙◌}
+use Rattle.std.proofs.Common.{refl, sym, subst}
+use Rattle.fmu_host.specs.declared.hosting.HostEnd.{HostEnd}
+use Rattle.fmu_host.specs.Description.{LacksShape}
 use Rattle.fmu_host.specs.Line.{line_of}
-use Rattle.fmu_host.proofs.ReadLemmas.{reads_long}
+use Rattle.fmu_host.proofs.ReadLemmas.{is_read, refused}
 use Rattle.fmu_host.proofs.hosting.read_model.Goals as goal
 
-pub returns-in-Err-TooBig-clause-err : goal.returns-in-Err-TooBig-clause-err
-returns-in-Err-TooBig-clause-err g c =
-    let it = c.in-Err-TooBig in
-    reads_long (g.F.Folder.view c.args.folder.now) (g.F.Folder.view c.read.new.self) (line_of c.args.line) c.as_str.result.now it.field-0 it.field-0-0
-    (c.as_str.ensures.value ∙ c.in-Ok.ensures) it.field-0-is it.ensures.reads it.ensures.within it.ensures.noted
+pub returns-in-Ok-read_shape-clause-ok : goal.returns-in-Ok-read_shape-clause-ok
+returns-in-Ok-read_shape-clause-ok g c =
+    let line = line_of c.args.line in
+    is_read line (g.F.Folder.view c.args.folder.now) (g.F.Folder.view c.read_description.new.folder) c.in-Ok.bytes.items c.deref.result.now c.in-Ok-read_shape.shape c.deref.ensures.value
+    (c.in-Ok.ensures.ok line refl) c.in-Ok-read_shape.ensures.ok
+
+pub returns-in-Ok-clause-err : goal.returns-in-Ok-clause-err
+returns-in-Ok-clause-err g c =
+    let line = line_of c.args.line in
+    let old = g.F.Folder.view c.args.folder.now in
+    let new = g.F.Folder.view c.read_description.new.folder in
+    subst (λ (e : HostEnd). LacksShape e line old new) (sym c.refused_end.ensures)
+    (refused line old new c.in-Ok.bytes.items c.deref.result.now c.in-Err-read_shape.fault c.deref.ensures.value (c.in-Ok.ensures.ok line refl) c.in-Err-read_shape.ensures.err)

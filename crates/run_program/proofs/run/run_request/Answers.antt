@@ -11,7 +11,7 @@ use Rattle.run_program.proofs.run.run_request.Goals as goal
 pub run_system-requires-clause-folders : goal.run_system-requires-clause-folders
 run_system-requires-clause-folders g c κs within =
     let loads = c.in-Ok.ensures.ok in
-    has_folders _ (g.F.Folder.view c.args.folder.now) loads.asked c.in-Ok.loaded loads.comes.comes
+    has_folders _ loads.reads loads.asked c.in-Ok.loaded loads.comes.comes
 
 pub returns-in-Some : goal.returns-in-Some
 returns-in-Some g c = λ line asks.

@@ -1,11 +1,12 @@
-use Rattle.std.proofs.Common.{sym, ap, Some}
+use Rattle.std.proofs.Common.{refl, sym, ap, Some}
+use Rattle.fmi_calls.specs.declared.call.Call.TheVariants as C
 use Rattle.fmi_calls.specs.declared.phase.InstanceState.{InstanceState}
-use Rattle.slot_calls.proofs.Moving.{moves_good, moves_bad, state_by_good, ends_enter_event}
+use Rattle.slot_calls.proofs.Moving.{moves_good, moves_bad, state_by_good, ends_none}
 use Rattle.slot_calls.proofs.advancing.enter_event.Goals as goal
 
 pub returns-in-Ok : goal.returns-in-Ok
 returns-in-Ok g c = moves_good g.L.Peer.view _ _ _ _ c.in-Ok.ensures.ok.0 _ c.requires.permitted c.in-Ok.ensures.ok.1
-    (ends_enter_event (g.L.Peer.view c.args.fmu.peer).fixed.shape c.in-Ok.ensures.ok.0 c.in-Ok.ensures.ok.1.good)
+    (ends_none (g.L.Peer.view c.args.fmu.peer).fixed.shape C.EnterEvent refl c.in-Ok.ensures.ok.0 c.in-Ok.ensures.ok.1.good)
     (ap (λ (s : InstanceState). Some s) (sym (state_by_good _ _ _ c.in-Ok.ensures.ok.0 c.in-Ok.ensures.ok.1)))
 
 pub returns-in-Err : goal.returns-in-Err

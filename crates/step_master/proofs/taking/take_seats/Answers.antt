@@ -1,7 +1,7 @@
 use Rattle.std.proofs.Common.{arith, All, subst, ◌≡◌, [], vec_len, sym, get_or}
 use Rattle.std.proofs.lemmas.List.Elements.{All-append, All-cons, All-head, All-nil, All-tail}
 use Rattle.std.specs.Vec.Iter.{into_iter_items}
-use Rattle.fmi_calls.specs.declared.phase.InstanceState.TheVariants as P
+use Rattle.fmi_calls.specs.Next.{fresh}
 use Rattle.fmu_peer.specs.CloseAll.{instance_in}
 use Rattle.slot_calls.specs.Slots.{LiveSlot}
 use Rattle.step_master.proofs.SeatLemmas.{seats_more}
@@ -9,7 +9,7 @@ use Rattle.step_master.proofs.taking.take_seats.Goals as goal
 
 pub take_seat-requires-after_bounds : goal.take_seat-requires-after_bounds
 take_seat-requires-after_bounds g c κs within =
-    All-head (λ p. (g.L.Peer.view p).phase.state ≡ P.Fresh) c.in-Some.peer (into_iter_items c.next.new.self) (subst (All (λ p. (g.L.Peer.view p).phase.state ≡ P.Fresh)) c.in-Some.ensures.items c.loop-peer.invariant.fresh)
+    All-head (λ p. (g.L.Peer.view p).phase ≡ fresh (g.L.Peer.view p).fixed.shape) c.in-Some.peer (into_iter_items c.next.new.self) (subst (All (λ p. (g.L.Peer.view p).phase ≡ fresh (g.L.Peer.view p).fixed.shape)) c.in-Some.ensures.items c.loop-peer.invariant.fresh)
 
 pub loop-peer-preserved : goal.loop-peer-preserved
 loop-peer-preserved g c =
@@ -24,7 +24,7 @@ loop-peer-preserved g c =
           i.given c.in-Some.ensures.items more (omega (arith, len, i.each)) (subst (λ k. c.index-components-len.result ≡ get_or c.args.components.now k c.index-components-len.result) n c.index-components-len.is)
           c.push_reserved.ensures.items c.take_seat.ensures.slot;
       live = subst (All (LiveSlot view)) (sym c.push_reserved.ensures.items) (All-append (LiveSlot view) c.loop-peer.slots.items _ i.live (All-cons (LiveSlot view) c.take_seat.result [] c.take_seat.ensures.live (All-nil (LiveSlot view))));
-      fresh = All-tail (λ p. (view p).phase.state ≡ P.Fresh) c.in-Some.peer rest (subst (All (λ p. (view p).phase.state ≡ P.Fresh)) c.in-Some.ensures.items i.fresh);
+      fresh = All-tail (λ p. (view p).phase ≡ fresh (view p).fixed.shape) c.in-Some.peer rest (subst (All (λ p. (view p).phase ≡ fresh (view p).fixed.shape)) c.in-Some.ensures.items i.fresh);
       room = omega (arith, len, more, c.push_reserved.ensures.capacity, i.room);
       each = omega (arith, len, more, i.each);
     }

@@ -1,6 +1,6 @@
 use Rattle.std.proofs.Common.{◌≡◌, ◌≤◌, ◌+◌, ◌++◌, All, drop, length, map, vec_len, vec_capacity}
 use Rattle.std.specs.Vec.Iter.{into_iter_items, into_iter_len}
-use Rattle.fmi_calls.specs.declared.phase.InstanceState.TheVariants as P
+use Rattle.fmi_calls.specs.Next.{fresh}
 use Rattle.step_master.specs.Seats.{seated}
 use Rattle.slot_calls.specs.Slots.{LiveSlot, instances}
 use Rattle.step_master.proofs.taking.take_seats.Given as goal
@@ -11,7 +11,7 @@ invariant-loop-peer g l =
     record {
       given : instances view l.slots.items ++ seated (drop (vec_len l.slots) l.components) (map view (into_iter_items l.left)) ≡ seated l.components (map view l.fn.peers.items);
       live : All (LiveSlot view) l.slots.items;
-      fresh : All (λ p. (view p).phase.state ≡ P.Fresh) (into_iter_items l.left);
+      fresh : All (λ p. (view p).phase ≡ fresh (view p).fixed.shape) (into_iter_items l.left);
       room : vec_len l.slots + into_iter_len l.left ≤ vec_capacity l.slots;
       each : vec_len l.slots + into_iter_len l.left ≡ length l.components;
     }

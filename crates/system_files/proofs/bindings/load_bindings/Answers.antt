@@ -1,8 +1,17 @@
-use Rattle.std.proofs.Common.{◌<◌, ◌≤◌, ◌+◌, length, take, List, sym, subst, arith}
+use Rattle.std.proofs.Common.{◌<◌, ◌≤◌, ◌+◌, length, take, List, [], sym, subst, arith}
 use Rattle.system_loading.specs.declared.parameters.GivenBinding.{GivenBinding}
 use Rattle.system_files.specs.Steps.{TakesBindings}
-use Rattle.system_files.proofs.BindingLemmas.{as_many, ends_more, taken_more}
+use Rattle.system_files.proofs.BindingLemmas.{as_many, ends_more, none_taken, taken_more}
 use Rattle.system_files.proofs.bindings.load_bindings.Goals as goal
+
+pub loop-place-init : goal.loop-place-init
+loop-place-init g c =
+    let old = g.F.Folder.view c.args.folder.now in
+    record {
+      takes = subst (λ (given : List GivenBinding). TakesBindings c.args.directory.now c.args.outline.now [] given old old) (sym c.in-Ok.ensures.items)
+          (none_taken c.args.directory.now c.args.outline.now old);
+      room = let cap = c.in-Ok.ensures.capacity in omega (arith, cap);
+    }
 
 pub push_reserved-requires : goal.push_reserved-requires
 push_reserved-requires g c =

@@ -18,18 +18,18 @@ err_so (Err end) P Q h p = h end p
 
 pub load_models-requires-clause-whole : goal.load_models-requires-clause-whole
 load_models-requires-clause-whole g c =
-    outline_whole c.loading_laws.ensures.whole c.loading_laws.ensures.lone c.args.subject c.args.directory.now (g.F.Folder.view c.args.folder.now) c.in-Ok.outline c.in-Ok.ensures.ok
+    outline_whole c.loading_laws.ensures.whole c.loading_laws.ensures.lone c.args.subject c.args.directory.now c.in-Ok.ensures.ok.reads c.in-Ok.outline c.in-Ok.ensures.ok.is
 
 pub load_models-requires-clause-tree : goal.load_models-requires-clause-tree
 load_models-requires-clause-tree g c =
-    outline_named c.loading_laws.ensures.named c.loading_laws.ensures.lone_named c.args.subject c.args.directory.now (g.F.Folder.view c.args.folder.now) c.in-Ok.outline c.in-Ok.ensures.ok
+    outline_named c.loading_laws.ensures.named c.loading_laws.ensures.lone_named c.args.subject c.args.directory.now c.in-Ok.ensures.ok.reads c.in-Ok.outline c.in-Ok.ensures.ok.is
 
 pub load_models-requires-clause-document : goal.load_models-requires-clause-document
-load_models-requires-clause-document g c = outline_document c.args.subject c.args.directory.now (g.F.Folder.view c.args.folder.now) c.in-Ok.outline c.in-Ok.ensures.ok
+load_models-requires-clause-document g c = outline_document c.args.subject c.args.directory.now c.in-Ok.ensures.ok.reads c.in-Ok.outline c.in-Ok.ensures.ok.is
 
 pub load_models-requires-clause-short : goal.load_models-requires-clause-short
 load_models-requires-clause-short g c =
-    outline_short c.loading_laws.ensures.names c.args.subject c.args.directory.now (g.F.Folder.view c.args.folder.now) c.in-Ok.outline c.in-Ok.ensures.ok
+    outline_short c.loading_laws.ensures.names c.args.subject c.args.directory.now c.in-Ok.ensures.ok.reads c.in-Ok.outline c.in-Ok.ensures.ok.is
 
 pub returns-in-Ok-clause-ok : goal.returns-in-Ok-clause-ok
 returns-in-Ok-clause-ok g c =
@@ -38,7 +38,7 @@ returns-in-Ok-clause-ok g c =
     let mid = g.F.Folder.view c.load_outline.new.folder in
     let new = g.F.Folder.view c.load_models.new.folder in
     ok_so c.load_models.result (λ (loaded : Loaded). TakesModels s c.in-Ok.outline loaded mid new) (λ (loaded : Loaded). Loads s (Found loaded) old new)
-    (λ loaded t. loads s c.in-Ok.outline old mid c.in-Ok.ensures.ok c.in-Ok.ensures.told loaded new t) c.load_models.ensures.ok
+    (λ loaded t. loads s c.in-Ok.outline old mid c.in-Ok.ensures.ok loaded new t) c.load_models.ensures.ok
 
 pub returns-in-Ok-clause-err : goal.returns-in-Ok-clause-err
 returns-in-Ok-clause-err g c =
@@ -47,7 +47,7 @@ returns-in-Ok-clause-err g c =
     let mid = g.F.Folder.view c.load_outline.new.folder in
     let new = g.F.Folder.view c.load_models.new.folder in
     err_so c.load_models.result (λ (end : LoadEnd). EndsModels s c.in-Ok.outline end mid new) (λ (end : LoadEnd). EndsLoading s end old new)
-    (λ end h. ends_models s c.in-Ok.outline old mid c.in-Ok.ensures.ok c.in-Ok.ensures.told end new h) c.load_models.ensures.err
+    (λ end h. ends_models s c.in-Ok.outline old mid c.in-Ok.ensures.ok end new h) c.load_models.ensures.err
 
 pub returns-in-Err-clause-err : goal.returns-in-Err-clause-err
 returns-in-Err-clause-err g c =

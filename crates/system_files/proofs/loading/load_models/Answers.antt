@@ -27,7 +27,7 @@ put_together-requires-clause-shapes g c =
     let mid = g.F.Folder.view c.load_shapes.new.folder in
     let t = subst (λ (cs : List ComponentPart). TakesShapes c.args.resolution c.args.directory.now cs c.in-Ok.shapes.items old mid) c.as_slice-components.ensures c.in-Ok.ensures.ok in
     subst (AreShapesOf c.args.outline.now.systems) (sym c.deref.ensures.value)
-    (are_shapes c.loading_laws.ensures.shape c.loading_laws.ensures.resolution c.args.resolution c.args.directory.now old c.args.outline.now.systems c.in-Ok.shapes.items
+    (are_shapes c.loading_laws.ensures.shape c.loading_laws.ensures.resolution c.args.resolution c.args.directory.now t.reads c.args.outline.now.systems c.in-Ok.shapes.items
     c.requires.above c.requires.within t.each)
 
 pub put_together-requires-clause-ready : goal.put_together-requires-clause-ready
@@ -36,22 +36,22 @@ put_together-requires-clause-ready g c =
     let mid = g.F.Folder.view c.load_shapes.new.folder in
     let t = subst (λ (cs : List ComponentPart). TakesShapes c.args.resolution c.args.directory.now cs c.in-Ok.shapes.items old mid) c.as_slice-components.ensures c.in-Ok.ensures.ok in
     let shapes = subst (AreShapesOf c.args.outline.now.systems) (sym c.deref.ensures.value)
-    (are_shapes c.loading_laws.ensures.shape c.loading_laws.ensures.resolution c.args.resolution c.args.directory.now old c.args.outline.now.systems c.in-Ok.shapes.items
+    (are_shapes c.loading_laws.ensures.shape c.loading_laws.ensures.resolution c.args.resolution c.args.directory.now t.reads c.args.outline.now.systems c.in-Ok.shapes.items
     c.requires.above c.requires.within t.each) in
-    are_ready c.args.directory.now mid c.args.outline.now c.deref.result.now c.in-Ok-load_bindings.given.items c.requires.tree shapes c.in-Ok-load_bindings.ensures.ok.each
+    are_ready c.args.directory.now c.in-Ok-load_bindings.ensures.ok.reads c.args.outline.now c.deref.result.now c.in-Ok-load_bindings.given.items c.requires.tree shapes c.in-Ok-load_bindings.ensures.ok.each
 
 pub put_together-requires-clause-parts : goal.put_together-requires-clause-parts
 put_together-requires-clause-parts g c =
-    has_parts c.args.directory.now (g.F.Folder.view c.load_shapes.new.folder) c.args.outline.now c.args.outline.now.systems.bindings c.in-Ok-load_bindings.given.items c.in-Ok-load_bindings.ensures.ok.each
+    has_parts c.args.directory.now c.in-Ok-load_bindings.ensures.ok.reads c.args.outline.now c.args.outline.now.systems.bindings c.in-Ok-load_bindings.given.items c.in-Ok-load_bindings.ensures.ok.each
 
 pub returns-in-Ok-load_bindings-clause-named : goal.returns-in-Ok-load_bindings-clause-named
 returns-in-Ok-load_bindings-clause-named g c =
     let old = g.F.Folder.view c.args.folder.now in
     let mid = g.F.Folder.view c.load_shapes.new.folder in
     let t = subst (λ (cs : List ComponentPart). TakesShapes c.args.resolution c.args.directory.now cs c.in-Ok.shapes.items old mid) c.as_slice-components.ensures c.in-Ok.ensures.ok in
-    let each = subst (AllZip (HasShapeAlone c.args.resolution c.args.directory.now old) c.args.outline.now.systems.components) (sym c.deref.ensures.value) t.each in
+    let each = subst (AllZip (HasShapeAlone c.args.resolution c.args.directory.now t.reads) c.args.outline.now.systems.components) (sym c.deref.ensures.value) t.each in
     ok_so c.put_together.result (IsLoaded c.args.directory.now c.args.outline.now c.deref.result.now c.in-Ok-load_bindings.given.items) (λ (loaded : Loaded). All IsNamed loaded.system.components)
-    (λ loaded is. are_named c.loading_laws.ensures.token c.args.resolution c.args.directory.now old c.args.outline.now c.deref.result.now loaded.system c.requires.whole c.requires.short each is.makes.is)
+    (λ loaded is. are_named c.loading_laws.ensures.token c.args.resolution c.args.directory.now t.reads c.args.outline.now c.deref.result.now loaded.system c.requires.whole c.requires.short each is.makes.is)
     c.put_together.ensures.ok
 
 pub returns-in-Ok-load_bindings-clause-counts : goal.returns-in-Ok-load_bindings-clause-counts
@@ -59,10 +59,10 @@ returns-in-Ok-load_bindings-clause-counts g c =
     let old = g.F.Folder.view c.args.folder.now in
     let mid = g.F.Folder.view c.load_shapes.new.folder in
     let t = subst (λ (cs : List ComponentPart). TakesShapes c.args.resolution c.args.directory.now cs c.in-Ok.shapes.items old mid) c.as_slice-components.ensures c.in-Ok.ensures.ok in
-    let each = subst (AllZip (HasShapeAlone c.args.resolution c.args.directory.now old) c.args.outline.now.systems.components) (sym c.deref.ensures.value) t.each in
+    let each = subst (AllZip (HasShapeAlone c.args.resolution c.args.directory.now t.reads) c.args.outline.now.systems.components) (sym c.deref.ensures.value) t.each in
     ok_so c.put_together.result (IsLoaded c.args.directory.now c.args.outline.now c.deref.result.now c.in-Ok-load_bindings.given.items)
     (λ (loaded : Loaded). All (λ (x : Component). x.shape.resolution ≡ c.args.resolution) loaded.system.components)
-    (λ loaded is. are_counting c.loading_laws.ensures.resolution c.args.resolution c.args.directory.now old c.args.outline.now c.deref.result.now loaded.system each is.makes.is)
+    (λ loaded is. are_counting c.loading_laws.ensures.resolution c.args.resolution c.args.directory.now t.reads c.args.outline.now c.deref.result.now loaded.system each is.makes.is)
     c.put_together.ensures.ok
 
 pub returns-in-Ok-load_bindings-clause-err : goal.returns-in-Ok-load_bindings-clause-err

@@ -3,24 +3,27 @@ use Rattle.std.specs.Prelude.{Ok, Err}
 use Rattle.sim_base.specs.Folder.{NotesRead}
 use Rattle.system_files.specs.declared.loading.LoadEnd.{LoadEnd}
 use Rattle.system_files.specs.Steps.{EndsUnread}
-use Rattle.system_files.proofs.EndLemmas.{ends_unread}
-use Rattle.system_files.proofs.FileLemmas.{Answers, read_file}
+use Rattle.system_files.proofs.AskLemmas.{Answers, ends_unread, takes_file}
 use Rattle.system_files.proofs.reading.read_file.Goals as goal
 
 pub returns-in-Ok-read-clause-ok : goal.returns-in-Ok-read-clause-ok
 returns-in-Ok-read-clause-ok g c =
     let old = g.F.Folder.view c.args.folder.now in
+    let new = g.F.Folder.view c.read.new.self in
     let bytes = c.in-Ok-read.bytes in
-    read_file (λ (b : List ℕ). b ≡ bytes.items) old c.args.path.now bytes bytes.items refl c.in-Ok-read.ensures.within
-    (subst (λ (p : List ℕ). Answers old p (Ok bytes)) (c.as_str.ensures ∙ c.in-Ok.ensures) c.in-Ok-read.ensures.reads) refl
+    let path = c.as_str.ensures ∙ c.in-Ok.ensures in
+    takes_file c.args.path.now bytes bytes.items old new refl c.in-Ok-read.ensures.within
+    (subst (λ (p : List ℕ). Answers old p (Ok bytes)) path c.in-Ok-read.ensures.reads)
+    (subst (λ (p : List ℕ). NotesRead old new p (Ok bytes)) path c.in-Ok-read.ensures.noted)
+    (λ (read given : List ℕ). read ≡ given) bytes.items refl
 
 pub returns-in-Err-clause-err : goal.returns-in-Err-clause-err
 returns-in-Err-clause-err g c =
     let old = g.F.Folder.view c.args.folder.now in
     let new = g.F.Folder.view c.read.new.self in
     let fault = c.in-Err.fault in
-    subst (λ (p : List ℕ). EndsUnread p c.leave_unread.result old new) c.in-Ok.ensures
-    (subst (λ (e : LoadEnd). EndsUnread c.in-Ok.file.path e old new) (sym c.leave_unread.ensures)
-    (ends_unread (λ bytes rule place. ⊥) c.in-Ok.file fault old new
-    (subst (λ (p : List ℕ). Answers old p (Err fault)) c.as_str.ensures c.in-Err.ensures.reads) c.in-Err.ensures.within
-    (subst (λ (p : List ℕ). NotesRead old new p (Err fault)) c.as_str.ensures c.in-Err.ensures.noted)))
+    let path = c.as_str.ensures ∙ c.in-Ok.ensures in
+    subst (λ (e : LoadEnd). EndsUnread c.args.path.now e old new) (sym c.leave_unread.ensures)
+    (ends_unread (λ bytes rule place. ⊥) c.args.path.now c.in-Ok.file fault old new c.in-Ok.ensures
+    (subst (λ (p : List ℕ). Answers old p (Err fault)) path c.in-Err.ensures.reads) c.in-Err.ensures.within
+    (subst (λ (p : List ℕ). NotesRead old new p (Err fault)) path c.in-Err.ensures.noted))

@@ -1,19 +1,21 @@
-use Rattle.std.proofs.Common.{List, ℕ, sym, subst}
+use Rattle.std.proofs.Common.{List, ℕ, refl, sym, subst}
 use Rattle.std.specs.Prelude.{Ok, Err}
 use Rattle.sim_base.specs.Folder.{NotesRead}
 use Rattle.system_loading.specs.Readings.{BreaksValues, IsValues}
 use Rattle.system_files.specs.declared.loading.LoadEnd.{LoadEnd}
 use Rattle.system_files.specs.Steps.{EndsAt, FailsValues, SaysValues}
-use Rattle.system_files.proofs.EndLemmas.{ends_fault, ends_unread}
-use Rattle.system_files.proofs.FileLemmas.{Answers, read_file}
+use Rattle.system_files.proofs.AskLemmas.{Answers, ends_fault, ends_unread, takes_file}
 use Rattle.system_files.proofs.reading.read_set.Goals as goal
 
 pub returns-in-Ok-read_values-clause-ok : goal.returns-in-Ok-read_values-clause-ok
 returns-in-Ok-read_values-clause-ok g c =
     let old = g.F.Folder.view c.args.folder.now in
+    let new = g.F.Folder.view c.read.new.self in
     let bytes = c.in-Ok.bytes in
-    read_file (λ (b : List ℕ). SaysValues b c.in-Ok-read_values.given) old c.args.file.path bytes c.deref.result.now c.deref.ensures.value c.in-Ok.ensures.within
-    (subst (λ (p : List ℕ). Answers old p (Ok bytes)) c.as_str.ensures c.in-Ok.ensures.reads) c.in-Ok-read_values.ensures.ok
+    takes_file c.args.file.path bytes c.deref.result.now old new c.deref.ensures.value c.in-Ok.ensures.within
+    (subst (λ (p : List ℕ). Answers old p (Ok bytes)) c.as_str.ensures c.in-Ok.ensures.reads)
+    (subst (λ (p : List ℕ). NotesRead old new p (Ok bytes)) c.as_str.ensures c.in-Ok.ensures.noted)
+    SaysValues c.in-Ok-read_values.given c.in-Ok-read_values.ensures.ok
 
 pub returns-in-Err-read_values-clause-err : goal.returns-in-Err-read_values-clause-err
 returns-in-Err-read_values-clause-err g c =
@@ -21,10 +23,10 @@ returns-in-Err-read_values-clause-err g c =
     let new = g.F.Folder.view c.read.new.self in
     let bytes = c.in-Ok.bytes in
     subst (λ (e : LoadEnd). EndsAt FailsValues c.args.file.path e old new) (sym c.refuse.ensures)
-    (ends_fault IsValues BreaksValues c.args.file c.in-Err-read_values.fault bytes c.deref.result.now old new c.deref.ensures.value c.in-Ok.ensures.within
+    (ends_fault c.args.file.path bytes c.deref.result.now old new c.deref.ensures.value c.in-Ok.ensures.within
     (subst (λ (p : List ℕ). Answers old p (Ok bytes)) c.as_str.ensures c.in-Ok.ensures.reads)
     (subst (λ (p : List ℕ). NotesRead old new p (Ok bytes)) c.as_str.ensures c.in-Ok.ensures.noted)
-    c.in-Err-read_values.ensures.err)
+    IsValues BreaksValues c.args.file c.in-Err-read_values.fault refl c.in-Err-read_values.ensures.err)
 
 pub returns-in-Err-clause-err : goal.returns-in-Err-clause-err
 returns-in-Err-clause-err g c =
@@ -32,6 +34,6 @@ returns-in-Err-clause-err g c =
     let new = g.F.Folder.view c.read.new.self in
     let fault = c.in-Err.fault in
     subst (λ (e : LoadEnd). EndsAt FailsValues c.args.file.path e old new) (sym c.leave_unread.ensures)
-    (ends_unread FailsValues c.args.file fault old new
+    (ends_unread FailsValues c.args.file.path c.args.file fault old new refl
     (subst (λ (p : List ℕ). Answers old p (Err fault)) c.as_str.ensures c.in-Err.ensures.reads) c.in-Err.ensures.within
     (subst (λ (p : List ℕ). NotesRead old new p (Err fault)) c.as_str.ensures c.in-Err.ensures.noted))

@@ -1,8 +1,8 @@
 use Rattle.std.proofs.Common.{ℕ, List, subst}
 use Rattle.trace_reading.specs.Faults.{IsFirstFault}
 use Rattle.trace_reading.specs.Form.{IsTextOf}
-use Rattle.trace_judging.specs.Judging.{Question}
-use Rattle.trace_judging.proofs.JudgeLemmas.{LawsOfTexts, as_said, fault_judged, if_err_too, if_ok_too, lacks_behind, unread_lacking, verdict_behind}
+use Rattle.trace_judging.specs.Judging.{Question, TheTrace}
+use Rattle.trace_judging.proofs.JudgeLemmas.{LawsOfTexts, fault_judged, if_err_too, if_ok_too, lacks_verdict, takes_said, unread_lacking, verdict_judged}
 use Rattle.trace_judging.proofs.judging.judge.Goals as goal
 
 pub returns-in-Ok-read_trace-clause-ok : goal.returns-in-Ok-read_trace-clause-ok
@@ -11,8 +11,9 @@ returns-in-Ok-read_trace-clause-ok g c =
     let old = g.F.Folder.view c.args.folder.now in
     let t = c.in-Ok-read_trace.trace in
     let laws : LawsOfTexts = record { one = c.texts_of_traces.ensures.one; none = c.texts_of_traces.ensures.none; first = c.texts_of_traces.ensures.first } in
-    let holds = as_said IsTextOf old q.file c.in-Ok.bytes.items t c.in-Ok.ensures.ok (subst (λ (b : List ℕ). IsTextOf b t) c.deref.ensures.value c.in-Ok-read_trace.ensures.found) in
-    if_ok_too c.judge_trace.result _ _ (verdict_behind laws q old (g.F.Folder.view c.read_file.new.folder) (g.F.Folder.view c.judge_trace.new.folder) t holds c.in-Ok.ensures.told) c.judge_trace.ensures.ok
+    let mid = g.F.Folder.view c.read_file.new.folder in
+    let takes = takes_said IsTextOf q.file c.in-Ok.bytes.items t old mid c.in-Ok.ensures.ok (subst (λ (b : List ℕ). IsTextOf b t) c.deref.ensures.value c.in-Ok-read_trace.ensures.found) in
+    if_ok_too c.judge_trace.result _ _ (verdict_judged laws q old (g.F.Folder.view c.judge_trace.new.folder) t mid takes) c.judge_trace.ensures.ok
 
 pub returns-in-Ok-read_trace-clause-err : goal.returns-in-Ok-read_trace-clause-err
 returns-in-Ok-read_trace-clause-err g c =
@@ -20,8 +21,9 @@ returns-in-Ok-read_trace-clause-err g c =
     let old = g.F.Folder.view c.args.folder.now in
     let t = c.in-Ok-read_trace.trace in
     let laws : LawsOfTexts = record { one = c.texts_of_traces.ensures.one; none = c.texts_of_traces.ensures.none; first = c.texts_of_traces.ensures.first } in
-    let holds = as_said IsTextOf old q.file c.in-Ok.bytes.items t c.in-Ok.ensures.ok (subst (λ (b : List ℕ). IsTextOf b t) c.deref.ensures.value c.in-Ok-read_trace.ensures.found) in
-    if_err_too c.judge_trace.result _ _ (lacks_behind laws q old (g.F.Folder.view c.read_file.new.folder) (g.F.Folder.view c.judge_trace.new.folder) t holds c.in-Ok.ensures.told) c.judge_trace.ensures.err
+    let mid = g.F.Folder.view c.read_file.new.folder in
+    let takes = takes_said IsTextOf q.file c.in-Ok.bytes.items t old mid c.in-Ok.ensures.ok (subst (λ (b : List ℕ). IsTextOf b t) c.deref.ensures.value c.in-Ok-read_trace.ensures.found) in
+    if_err_too c.judge_trace.result _ _ (lacks_verdict laws q old (g.F.Folder.view c.judge_trace.new.folder) t mid takes) c.judge_trace.ensures.err
 
 pub returns-in-Err-Line-clause-ok : goal.returns-in-Err-Line-clause-ok
 returns-in-Err-Line-clause-ok g c =
@@ -33,10 +35,13 @@ returns-in-Err-Line-clause-ok g c =
     let inner = c.in-Err-Line.field-0-is in
     let fault = c.read_trace.ensures.fault c.in-Err-Line.line (cc (is, inner)) in
     rw inner (fault_judged laws q old new c.in-Err-Line.line
-    (as_said IsFirstFault old q.file c.in-Ok.bytes.items c.in-Err-Line.line c.in-Ok.ensures.ok (subst (λ (b : List ℕ). IsFirstFault b c.in-Err-Line.line) c.deref.ensures.value fault)) c.in-Ok.ensures.told)
+    (takes_said IsFirstFault q.file c.in-Ok.bytes.items c.in-Err-Line.line old new c.in-Ok.ensures.ok (subst (λ (b : List ℕ). IsFirstFault b c.in-Err-Line.line) c.deref.ensures.value fault)))
 
 pub returns-clause-err : goal.returns-clause-err
 returns-clause-err g c =
     let q : Question = record { directory = c.args.directory.now; file = c.args.file.now } in
     let laws : LawsOfTexts = record { one = c.texts_of_traces.ensures.one; none = c.texts_of_traces.ensures.none; first = c.texts_of_traces.ensures.first } in
     unread_lacking laws q (g.F.Folder.view c.args.folder.now) (g.F.Folder.view c.read_file.new.folder) c.in-Err.end c.in-Err.ensures.err
+
+pub returns-in-Ok-clause-err : goal.returns-in-Ok-clause-err
+returns-in-Ok-clause-err g c = TheTrace c.in-Ok.ensures.ok.reads c.in-Ok.ensures.ok.asks

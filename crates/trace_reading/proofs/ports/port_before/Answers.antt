@@ -9,4 +9,4 @@ returns-in_default-clause-none c = λ port rest named e is. let found = c.split_
 pub returns-in-None-clause-none : goal.returns-in-None-clause-none
 returns-in-None-clause-none c = λ port rest named e is.
     let here = c.in-Some.ensures.exact (port_line c.args.number port) rest (is_port_line c.args.number port (omega arith)) e in
-    c.read_port.ensures.none port named here.0 (search rules)
+    c.read_port_line.ensures.none port named here.0 (search rules)

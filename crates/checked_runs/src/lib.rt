@@ -1,0 +1,6 @@
+//! What the check of a trace says of the trace that the program itself wrote.
+#![tactic(auto)]
+
+mod laws;
+
+pub use laws::runs_are_checked;

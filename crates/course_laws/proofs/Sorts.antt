@@ -1,0 +1,99 @@
+-- Of which sort the calls are that are sent from a place, and what holds of each call of a part.
+use Rattle.std.proofs.Common.{◌≡◌, ℕ, ◌<◌, ◌==◌, ℤ, Bool, true, false, List, [], ◌∷◌, Option, refl, sym, ap, ◌∙◌, subst, arith}
+use Rattle.std.specs.Prelude.{All, if◌then◌else◌}
+use Rattle.std.proofs.lemmas.List.Elements.{All-cons, All-head, All-nil, All-tail, All-weaker}
+use Rattle.value_types.specs.declared.shape.Shape.{Shape}
+use Rattle.fmi_calls.specs.declared.call.Call.{Call}
+use Rattle.fmi_calls.specs.declared.call.Kind.{Kind}
+use Rattle.fmi_calls.specs.declared.call.Kind.TheVariants as K
+use Rattle.fmi_calls.specs.Kinds.{kind_of}
+use Rattle.system_model.specs.declared.bound.Bound.{Bound}
+use Rattle.system_model.specs.declared.plan.Plan.{Plan}
+use Rattle.system_model.specs.declared.system.System.{System}
+use Rattle.system_model.specs.Bounds.{BindsParameters}
+use Rattle.system_model.specs.Sound.{IsSound}
+use Rattle.slot_calls.specs.declared.bad_answer.BadAnswer.{BadAnswer}
+use Rattle.slot_calls.specs.Log.{Asking, Sent, askings}
+use Rattle.slot_calls.specs.Stage.{shapes_of, to_those}
+use Rattle.slot_calls.proofs.CallerLemmas.{those_calls}
+use Rattle.event_iteration.specs.WalkCalls.{AreNew, Front, IsUse, Span, UsesAre, WalkUses, WalksBy, Whole, has_events_at, initial_span, instant_span, interval_span, own, step_span, use_in}
+use Rattle.event_iteration.specs.Turns.{Rules}
+use Rattle.event_iteration.proofs.ByLog.{each_call_once, own_append}
+use Rattle.calling_sequence.specs.Course.{Before, Configured, Departing, Entered, Found, Left, Leaving, Made, Place, Read, Rearmed, Seen, Stepped, Timed, part_at}
+use Rattle.calling_sequence.specs.Parts.{Calls, Does, Falls, Part, Round, Walk}
+use Rattle.course_laws.proofs.BoundSets.{binding_new, setting_span}
+use Rattle.course_laws.proofs.Once.{front_all}
+use Rattle.course_laws.proofs.UpdatesNeeded.{Throughout}
+
+-- calls that name ports, or those of one kind
+pub data Sort : Type 0 where
+  Uses : Sort
+  Only : (kind : Kind) → Sort
+
+abbrev pub IsOf : Sort → Call → Type 0
+IsOf Uses c = 0 < use_in c
+IsOf (Only kind) c = kind_of c ≡ kind
+
+-- what is sent from a place; from behind an instant nothing is
+abbrev pub sort_at : Place → Sort
+sort_at Configured = Only K.EnterInitialization
+sort_at (Timed timers) = Only K.ExitInitialization
+sort_at (Rearmed s) = Only K.Update
+sort_at (Leaving w) = Only K.EnterStep
+sort_at (Departing w) = Only K.DoStep
+sort_at (Stepped s asked) = Only K.EnterEvent
+sort_at p = Uses
+
+-- what holds of each call holds of those to one
+own_all : (P : Call → Type 0) (i : ℕ) (calls : List Asking) → All (λ (a : Asking). P a.call) calls → All P (own i calls)
+own_all P i [] all = All-nil P
+own_all P i (a ∷ calls) all = by (a.component == i) (own_all P i calls (All-tail (λ (x : Asking). P x.call) a calls all)) where
+  by : (b : Bool) → All P (own i calls) → All P (if b then a.call ∷ own i calls else own i calls)
+  by true rest = All-cons P a.call (own i calls) (All-head (λ (x : Asking). P x.call) a calls all) rest
+  by false rest = rest
+
+-- this holds of each call of a part
+abbrev pub IsThroughout : System → (Call → Type 0) → Part → Type 0
+IsThroughout system P (Calls calls) = (i : ℕ) → All P (own i calls)
+IsThroughout system P (Round calls) = (i : ℕ) → All P (own i calls)
+IsThroughout system P (Walk rules before order) = (log : List Sent) → WalksBy system rules before order log → Throughout system P log
+
+module _ (system : System) (P : Call → Type 0) where
+  pub those : (test : Shape → Bool) (call : Shape → Call) → ((s : Shape) → P (call s)) → (i : ℕ) → All P (own i (to_those test call (shapes_of system)))
+  those test call h i = own_all P i (to_those test call (shapes_of system)) (those_calls test call P (λ s passes. h s) 0 (shapes_of system))
+
+  pub does_all : (part : Part) → IsThroughout system P part → (values : List (Option ℤ)) (log : List Sent) → Does system part values log → Throughout system P log
+  does_all (Calls calls) all values log does = λ i. subst (λ (l : List Asking). All P (own i l)) (sym does.calls_are) (all i)
+  does_all (Round calls) all values log does = λ i. subst (λ (l : List Asking). All P (own i l)) (sym does.calls_are) (all i)
+  does_all (Walk rules before order) all values log does = all log (Whole values log does)
+
+  pub falls_all : (part : Part) → IsThroughout system P part → (bad : BadAnswer) (log : List Sent) → Falls system part bad log → Throughout system P log
+  falls_all (Calls calls) all bad log falls = λ i. front_all P (own i (askings log)) (own i falls.left) (subst (All P) (ap (own i) falls.calls_are ∙ own_append i (askings log) falls.left) (all i))
+  falls_all (Round calls) all bad log falls = λ i. subst (λ (l : List Asking). All P (own i l)) (sym falls.calls_are) (all i)
+  falls_all (Walk rules before order) all bad log (values, falls) = all log (Front bad values log falls)
+
+module _ (system : System) (sound : IsSound system) (bound : Bound) (plan : Plan) (binds : BindsParameters system bound) where
+  uses : UsesAre system
+  uses = each_call_once system sound
+
+  name_ports : (span : Span) (calls : List Call) → AreNew span calls → All (IsOf Uses) calls
+  name_ports span calls new = All-weaker (IsUse span) (IsOf Uses) (λ c u. let n = new.names in let f = u.from in omega (arith, n, f)) calls new.uses
+
+  walk_sort : (rules : Rules) (before : List (Option ℤ)) (order : List ℕ) (span : Bool → Span) → WalkUses system rules order span → IsThroughout system (IsOf Uses) (Walk rules before order)
+  walk_sort rules before order span are log walks i = name_ports (span (has_events_at system i)) (own i (askings log)) (are before log walks i)
+
+  pub sorts_are : (p : Place) → IsThroughout system (IsOf (sort_at p)) (part_at system bound plan p)
+  sorts_are Made = λ i. name_ports setting_span _ (binding_new system bound i binds)
+  sorts_are Configured = those system (IsOf (Only K.EnterInitialization)) _ _ (λ s. refl)
+  sorts_are Entered = walk_sort _ _ _ initial_span uses.initial
+  sorts_are Found = λ i. name_ports _ _ (uses.timing i)
+  sorts_are (Timed timers) = those system (IsOf (Only K.ExitInitialization)) _ _ (λ s. refl)
+  sorts_are (Before s ticks) = walk_sort _ _ _ (instant_span (s.n == 0)) (uses.instant ticks (s.n == 0))
+  sorts_are (Read s) = walk_sort _ _ _ interval_span uses.interval
+  sorts_are (Rearmed s) = those system (IsOf (Only K.Update)) _ _ (λ s. refl)
+  sorts_are (Seen s again asked) = λ i. All-nil (IsOf Uses)
+  sorts_are (Leaving w) = those system (IsOf (Only K.EnterStep)) _ _ (λ s. refl)
+  sorts_are (Left w) = walk_sort _ _ _ step_span (uses.step w.s.values)
+  sorts_are (Departing w) = those system (IsOf (Only K.DoStep)) _ _ (λ s. refl)
+  sorts_are (Stepped s true) = λ i. All-nil (IsOf (Only K.EnterEvent))
+  sorts_are (Stepped s false) = those system (IsOf (Only K.EnterEvent)) _ _ (λ s. refl)

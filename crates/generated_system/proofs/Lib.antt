@@ -1,0 +1,7 @@
+mod Blocks
+mod ByNumber
+mod SystemPorts
+mod SystemSound
+mod DrawnSound
+mod Making
+mod TalkCounts

@@ -1,0 +1,33 @@
+ghost use Rattle.std.specs.Prelude.{None, IsOk};
+ghost use Rattle.sim_base.specs.Sink.{NotesPut};
+
+use sim_base::{Sink, SinkFault};
+use system_model::Plan;
+
+/// The plan that a generated system is run by: ten steps of ten counts, of which a second has 1000.
+pub const BENCH_PLAN: Plan = Plan {
+    resolution: 1000,
+    start: 0,
+    step: 10,
+    stop: 100,
+    limit: 100,
+};
+
+/// A sink that takes all bytes and keeps none, for a run whose trace isn't wanted. It tells nothing, and no put fails.
+#[derive(Debug, Drop)]
+pub struct EmptySink;
+
+impl Sink for EmptySink {
+    ghost view = { λ _. record { content = None; puts = None; faults = 0 } };
+
+    ghost joined = { λ sink. tt };
+
+    fn put(&mut self, bytes: &[u8]) -> Result<(), SinkFault>
+        ensures noted { NotesPut (record { content = None; puts = None; faults = 0 })
+            (record { content = None; puts = None; faults = 0 }) bytes.now result }
+        ensures taken { IsOk result }
+    {
+        let _ = bytes;
+        Ok(())
+    }
+}

@@ -1,0 +1,5 @@
+pub mod CallerLemmas
+mod Pairs
+mod Doing
+mod Lifting
+mod Firsts

@@ -1,0 +1,11 @@
+pub mod CallerLemmas
+mod Standing
+mod Sending
+mod Resting
+mod Moving
+mod OneAsking
+mod Turning
+mod Going
+mod SavedSteps
+mod Least
+mod EndsAsked

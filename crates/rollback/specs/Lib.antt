@@ -1,0 +1,4 @@
+pub mod StepsBy
+pub mod Standing
+pub mod Places
+pub mod Asked

@@ -1,0 +1,170 @@
+ghost use Rattle.std.specs.Prelude.{◌≡◌, ◌≤◌, ◌<◌, ◌-◌, ◌^◌, All, IfSome, length};
+ghost use Rattle.slot_calls.specs.Slots.{instances};
+ghost use Rattle.slot_calls.specs.Stage.{shapes};
+ghost use Rattle.step_agreement.specs.Agreement.{unfit};
+ghost use Rattle.step_agreement.specs.Saving.{early_count};
+ghost use Rattle.rollback.specs.Asked.{AgreedOver, AskedOver, IsFitting, IsSavedBy, IsTested, MayGoBack, MeansHome, RoundsOver, TurnOver};
+ghost use Rattle.rollback.specs.Places.{passes, stands};
+ghost use Rattle.rollback.specs.Standing.{Placed};
+
+use crate::StepEnd;
+use crate::asking::{Turn, send};
+use crate::places::{Who, are_at, first_unvaried, reached};
+use fmu_peer::{Peer, Slot};
+use sim_base::CompId;
+use slot_calls::BadAnswer;
+
+/// What a turn of an agreement comes to.
+pub(crate) enum Turned {
+    /// All stand at a point.
+    Met { point: u64 },
+    /// All begin anew, with this bound.
+    Anew { bound: u64 },
+}
+
+/// Asks all for a step from t to a bound, and those that pass the least end for that, turn after turn, until all stand at
+/// one point.
+pub(crate) fn agree<L: Peer>(
+    slots: &mut [Slot<L>],
+    t: u64,
+    bound: u64,
+    step: u64,
+    workers: u32,
+) -> Result<u64, StepEnd>
+    requires few { length slots.old ≤ 2 ^ 32 }
+    requires later { t < bound }
+    requires placed { All (Placed L.view t bound step) slots.old }
+    requires saved { All (IsSavedBy L.view
+        (early_count (shapes (instances L.view slots.old)))) slots.old }
+    requires begin { All (MayGoBack L.view t Who.Everyone) slots.old }
+    ensures { AgreedOver L.view t step bound slots.old slots.new result }
+{
+    let mut bound = bound;
+    loop {
+        match take_turn(slots, t, bound, step, workers) {
+            Ok(Turned::Met { point }) => return Ok(point),
+            Ok(Turned::Anew { bound: next }) => bound = next,
+            Err(end) => return Err(end),
+        }
+    }
+}
+
+// Asks all for a step to the bound, and where they don't meet those that pass the least end for a step to that.
+fn take_turn<L: Peer>(
+    slots: &mut [Slot<L>],
+    t: u64,
+    bound: u64,
+    step: u64,
+    workers: u32,
+) -> Result<Turned, StepEnd>
+    requires few { length slots.old ≤ 2 ^ 32 }
+    requires later { t < bound }
+    requires placed { All (Placed L.view t bound step) slots.old }
+    requires saved { All (IsSavedBy L.view
+        (early_count (shapes (instances L.view slots.old)))) slots.old }
+    requires begin { All (MayGoBack L.view t Who.Everyone) slots.old }
+    ensures { TurnOver L.view t step bound slots.old slots.new result }
+{
+    match ask(slots, Who::Everyone, Who::Everyone, t, bound, step, workers) {
+        Ok(()) => {}
+        Err(end) => return Err(end),
+    }
+    let m = reached(slots, t, bound);
+    if are_at(slots, m) {
+        return Ok(Turned::Met { point: m });
+    }
+    match ask(
+        slots,
+        Who::EndElsewhere { t, bound, m },
+        Who::Elsewhere { m },
+        t,
+        m,
+        step,
+        workers,
+    ) {
+        Ok(()) => {}
+        Err(end) => return Err(end),
+    }
+    if are_at(slots, m) {
+        return Ok(Turned::Met { point: m });
+    }
+    Ok(Turned::Anew {
+        bound: reached(slots, t, m),
+    })
+}
+
+// Asks those that are meant for a step, once each that is tested takes one of that size; those of them that stand behind
+// t go back first.
+fn ask<L: Peer>(
+    slots: &mut [Slot<L>],
+    sized: Who,
+    asked: Who,
+    t: u64,
+    end: u64,
+    step: u64,
+    workers: u32,
+) -> Result<(), StepEnd>
+    requires few { length slots.old ≤ 2 ^ 32 }
+    requires later { t < end }
+    requires home { MeansHome t asked }
+    requires placed { All (Placed L.view t end step) slots.old }
+    requires tested { All (IsTested L.view sized asked) slots.old }
+    requires back { All (MayGoBack L.view t asked) slots.old }
+    ensures { AskedOver L.view t step sized asked end slots.old slots.new result }
+{
+    match first_unfit(slots, sized, step, end - t) {
+        None => {}
+        Some(place) => {
+            return Err(StepEnd::FixedStep {
+                component: CompId(place as u32),
+                at: t,
+                end,
+            });
+        }
+    }
+    match ask_all(slots, asked, t, end, step, workers) {
+        Ok(()) => Ok(()),
+        Err(bad) => Err(StepEnd::Bad(bad)),
+    }
+}
+
+/// Of those that are meant, the least that takes no step of this size.
+pub(crate) fn first_unfit<L: Peer>(
+    slots: &[Slot<L>],
+    who: Who,
+    step: u64,
+    size: u64,
+) -> Option<usize>
+    ensures first { result ≡ unfit step size (passes who) (stands L.view slots.now) }
+    ensures within { IfSome result (λ place. place < length slots.now) }
+{
+    if size == step {
+        None
+    } else {
+        first_unvaried(slots, who)
+    }
+}
+
+// Puts those back that are meant and stand behind t, and then asks all that are meant for a step.
+fn ask_all<L: Peer>(
+    slots: &mut [Slot<L>],
+    asked: Who,
+    t: u64,
+    end: u64,
+    step: u64,
+    workers: u32,
+) -> Result<(), BadAnswer>
+    requires few { length slots.old ≤ 2 ^ 32 }
+    requires later { t < end }
+    requires home { MeansHome t asked }
+    requires placed { All (Placed L.view t end step) slots.old }
+    requires fitting { All (IsFitting L.view asked step (end - t)) slots.old }
+    requires back { All (MayGoBack L.view t asked) slots.old }
+    ensures { RoundsOver L.view t step asked end slots.old slots.new result }
+{
+    match send(slots, asked, Turn::Back { t }, workers) {
+        Ok(()) => {}
+        Err(bad) => return Err(bad),
+    }
+    send(slots, asked, Turn::Step { t, end }, workers)
+}

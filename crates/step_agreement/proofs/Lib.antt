@@ -1,0 +1,11 @@
+pub mod CallerLemmas
+mod Lists
+mod Rounds
+mod Moves
+mod Agreed
+mod Tracks
+mod Machines
+mod Existence
+mod Falling
+mod Saving
+mod GoingBack

@@ -1,0 +1,4 @@
+pub mod CallerLemmas
+mod StreamLemmas
+mod ValueLemmas
+mod ReadLemmas

@@ -1,0 +1,3 @@
+pub mod Cut
+pub mod Reading
+pub mod Streams
