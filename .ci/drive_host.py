@@ -4,6 +4,7 @@
     drive_host.py HOST DIR R STEP STOP      the calls of `ssprun one DIR`, and the trace on standard output
     drive_host.py --page PAGE HOST DIR R    the dump of a page: its calls are sent, and each reply has to be the page's
     drive_host.py --sampler HOST DIR R      the calls of a run with a Clock, for the sampler
+    drive_host.py --alarm HOST DIR R        steps that end early, and are undone, for the alarm
     drive_host.py --odd HOST DIR R          what is no frame, ends inside one, or is no call for a counter
 
 Status and error line are those of ssprun where the link fails (5), a call is refused (6) or a reply is of another kind
@@ -223,6 +224,42 @@ def drive_sampler(program, directory, resolution):
     expect("behind FreeInstance", host.end(), (b"", 0))
 
 
+def drive_alarm(program, directory, resolution):
+    """The alarm at 7: a step to 10 is undone, and so is one to 4; then one to 3 is kept, and one that rings."""
+    int32 = TYPES.index("Int32") + 1
+    host = Host(program, directory, resolution)
+    host.instantiate("a", "{alarm}", event_mode=True, early_return=True)
+    host.ask("Set", type=int32, reference=1, first=7)
+    host.ask("EnterInitialization", first=0, second=20)
+    host.ask("ExitInitialization")
+
+    def instant(point):
+        print(f"at {point}: y {number_of(int32, host.ask('Get', type=int32, reference=2)[2])}")
+        host.ask("Update")
+
+    def step(point, size, undo):
+        flags, _, end, _ = host.ask("DoStep", first=point, second=size)
+        host.ask("Restore" if undo else "Free")
+        print(f"step to {end}, flags {flags}{', undone' if undo else ''}")
+
+    instant(0)
+    host.ask("EnterStep")
+    host.ask("Save")
+    step(0, 10, True)
+    step(0, 4, True)
+    step(0, 3, False)
+    host.ask("EnterEvent")
+    instant(3)
+    host.ask("EnterStep")
+    host.ask("Save")
+    step(3, 7, False)
+    host.ask("EnterEvent")
+    instant(7)
+    host.ask("Terminate")
+    host.ask("FreeInstance")
+    expect("behind FreeInstance", host.end(), (b"", 0))
+
+
 # What is no frame of a call: its bytes, each behind a good Instantiate.
 NO_FRAMES = (
     ("the kind 0", FRAME.pack(0, 0, 0, 0, 0, 0, 0)),
@@ -305,6 +342,8 @@ def main(words):
             play_page(words[1], words[2], words[3], words[4])
         elif len(words) == 4 and words[0] == "--sampler":
             drive_sampler(*words[1:])
+        elif len(words) == 4 and words[0] == "--alarm":
+            drive_alarm(*words[1:])
         elif len(words) == 4 and words[0] == "--odd":
             drive_odd(*words[1:])
         elif len(words) == 5:

@@ -61,7 +61,8 @@ LINES = (
     (
         r"fixed (?P<component>\S+) (?P<point>\d+) (?P<end>\d+)",
         "The step from {point} to {end} has another size than H, and this FMU takes steps of H alone.",
-        "Choose T - S as a multiple of H, and H such that each tick of a Clock is at a point of the grid.",
+        "Choose T - S as a multiple of H, and H such that each tick of a Clock is at a point of the grid. "
+        "An FMU that ends steps early needs canHandleVariableCommunicationStepSize of each, itself too.",
     ),
     (r"write", "A write failed, to standard output or standard error.", "See whether the disk is full, or who reads the output ended."),
     (r"memory", "There isn't enough memory; nothing was called.", "docs/PERFORMANCE.md says what large files take."),

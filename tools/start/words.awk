@@ -8,7 +8,7 @@
 # compares the two.
 BEGIN {
     most = "4611686018427387904"
-    run = "resolution step stop start max-iterations host"
+    run = "resolution step stop start workers max-iterations host"
     options["one"] = options["run"] = run
     options["check"] = "resolution"
     options["trace-check"] = ""
@@ -16,12 +16,14 @@ BEGIN {
     needed["check"] = "resolution"
     positionals["one"] = positionals["run"] = positionals["check"] = "DIR"
     positionals["trace-check"] = "DIR FILE"
-    least_of["resolution"] = least_of["step"] = least_of["max-iterations"] = "1"
+    least_of["resolution"] = least_of["step"] = least_of["workers"] = least_of["max-iterations"] = "1"
     least_of["stop"] = least_of["start"] = "0"
     most_of["resolution"] = most_of["step"] = most_of["stop"] = most_of["start"] = most
+    most_of["workers"] = "64"
     most_of["max-iterations"] = "10000"
     is["resolution"] = "counts a second"
     is["step"] = is["stop"] = is["start"] = "counts"
+    is["workers"] = "workers"
     is["max-iterations"] = "instants at a point"
 
     if (ARGC < 2) fault("a command is missing: one, run, check or trace-check")

@@ -2,6 +2,7 @@ pub mod Wrapping
 pub mod BuiltIn
 pub mod Counter
 pub mod Gain
+pub mod Rooms
 pub mod Sampler
 pub mod Alarm
 pub mod Timer

@@ -1,16 +1,28 @@
-ghost use Rattle.std.specs.Prelude.{◌≡◌, ◌↔◌, ◌+◌, ◌-◌, ◌^◌, ◌<◌, ◌≤◌, ◌++◌, min, [], ◌∷◌, length, Some, Err, IfOk, IfSome, Contains, option_map};
-ghost use Rattle.std.specs.Option.{ForSome};
+ghost use Rattle.std.specs.Prelude.{◌≡◌, ◌↔◌, ◌+◌, ◌-◌, ◌^◌, ◌<◌, ◌≤◌, ◌==◌, ◌++◌, find, min, [], ◌∷◌, length, Some, Err, IfOk, IfSome, Contains, option_map};
+ghost use Rattle.std.specs.Option.{ForSome, option_copied};
+ghost use Rattle.bench_fmus.specs.Rooms.{room_of, room_up_to};
 
 use crate::{BuiltIn, Model, Origin, Retired, StartPlan};
 use fmu_peer::{Spawner, StartFault, TalkRoom};
+use sim_base::Items;
 use std::alloc::{AllocError, Global};
 use value_types::Shape;
 
+/// A call of a peer that is to fail: the start that gives the peer, and the call, both by their numbers from 0. After it the peer
+/// gets no other.
+#[derive(Clone, Copy, Debug, Drop)]
+pub struct FailingCall {
+    pub start: u64,
+    pub call: u32,
+}
+
 /// A spawner of the built-in machines, which are known by their names. The starts that are planned to fail do, and no
-/// others. Where it has a room, each peer keeps its talk, and fails at the call that fills the room with exchanges.
+/// others. Where it has a room, each peer keeps its talk, and fails at the call that fills the room with exchanges; a peer that
+/// is to fail at a call has room for the exchanges up to that one.
 #[derive(Debug, Drop)]
 pub struct Bench {
     pub room: Option<usize>,
+    pub failing_calls: Items<FailingCall>,
     pub plan: StartPlan,
     pub retired: Retired<BuiltIn>,
     ghost fits: { ForSome room (λ n. 0 < n) },
@@ -20,18 +32,41 @@ impl Bench {
     ghost use Rattle.fmu_peer.specs.Start.{IsStarted};
     ghost use Rattle.bench_fmus.specs.BuiltInView.{built_in_view};
 
-    /// A spawner before its first start.
+    /// A spawner before its first start, whose peers don't fail before their room is full.
     pub fn new(alloc: Global, room: Option<usize>, failing: Vec<u64>) -> Bench
         requires { IfSome room (λ n. 0 < n) }
         ensures room { result.room ≡ room }
+        ensures calls { result.failing_calls ≡ [] }
         ensures failing { result.plan.failing ≡ failing.items }
         ensures quiet { (result.plan.starts ≡ 0) × (result.plan.faults ≡ 0) }
         ensures none { (result.retired.started ≡ 0) × (result.retired.peers.items ≡ []) }
     {
         Bench {
             room,
+            failing_calls: Items::from_vec(Vec::new(alloc)),
             plan: StartPlan::new(failing),
             retired: Retired::new(alloc),
+        }
+    }
+
+    /// The same with calls that are to fail. Of several to one peer the first of the list counts.
+    pub fn with_failing_calls(self, calls: Vec<FailingCall>) -> Bench
+        ensures calls { result.failing_calls ≡ calls.items }
+        ensures room { result.room ≡ self.room }
+        ensures plan { result.plan ≡ self.plan }
+        ensures retired { result.retired ≡ self.retired }
+    {
+        let Bench {
+            room,
+            failing_calls: _,
+            plan,
+            retired,
+        } = self;
+        Bench {
+            room,
+            failing_calls: Items::from_vec(calls),
+            plan,
+            retired,
         }
     }
 
@@ -45,6 +80,7 @@ impl Bench {
     fn make(
         &self,
         alloc: Global,
+        start: u64,
         model: Model,
         host: &str,
         name: &str,
@@ -54,13 +90,41 @@ impl Bench {
         ensures fresh { IfOk result (λ b. IsStarted host.now name.now directory.now shape.now
             (built_in_view b)) }
         ensures model { IfOk result (λ b. b.model ≡ model) }
-        ensures talk { IfOk result (λ b. option_map (λ t. t.room) b.book.talk ≡ self.now.room) }
+        ensures talk { IfOk result (λ b. option_map (λ t. t.room) b.book.talk ≡
+            room_of self.now.room self.now.failing_calls start) }
     {
-        let talk = make_talk(alloc, self.room)?;
+        let room = room_of(self.room, self.failing_calls.as_slice(), start);
+        let talk = make_talk(alloc, room)?;
         let origin = Origin::from_texts(alloc, host, name, directory)?;
         let peer = BuiltIn::new(alloc, model, origin, shape, talk)?;
         Ok(peer)
     }
+}
+
+// The first of the calls that is one of the peer that a start gives.
+fn failing_call(calls: &[FailingCall], start: u64) -> Option<&FailingCall>
+    ensures { option_copied result ≡ find (λ (c : FailingCall). c.start == start) calls.now }
+{
+    calls.iter().find(|failing| failing.start == start)
+}
+
+// The room up to that call, else the one of each peer.
+fn room_up_to(failing: Option<&FailingCall>, room: Option<usize>) -> Option<usize>
+    ensures room { result ≡ room_up_to (option_copied failing.entry) room }
+    ensures positive { IfSome room (λ n. 0 < n) → IfSome result (λ n. 0 < n) }
+{
+    match failing {
+        Some(failing) => Some(failing.call as usize + 1),
+        None => room,
+    }
+}
+
+// The room of the peer that a start gives.
+fn room_of(room: Option<usize>, calls: &[FailingCall], start: u64) -> Option<usize>
+    ensures room { result ≡ room_of room calls.now start }
+    ensures positive { IfSome room (λ n. 0 < n) → IfSome result (λ n. 0 < n) }
+{
+    room_up_to(failing_call(calls, start), room)
 }
 
 fn make_talk(alloc: Global, room: Option<usize>) -> Result<Option<TalkRoom>, AllocError>
@@ -100,8 +164,10 @@ impl Spawner for Bench {
         ensures fresh { IfOk result (λ b. IsStarted host.now name.now directory.now shape.now
             (built_in_view b)) }
         ensures model { IfOk result (λ b. model_named shape.now.identifier ≡ Some b.model) }
-        ensures talk { IfOk result (λ b. option_map (λ t. t.room) b.book.talk ≡ self.old.room) }
+        ensures talk { IfOk result (λ b. option_map (λ t. t.room) b.book.talk ≡
+            room_of self.old.room self.old.failing_calls self.old.plan.starts) }
         ensures room { self.new.room ≡ self.old.room }
+        ensures calls { self.new.failing_calls ≡ self.old.failing_calls }
         ensures failing { self.new.plan.failing ≡ self.old.plan.failing }
         ensures counted { self.new.plan.starts ≡ min (self.old.plan.starts + 1) (2 ^ 64 - 1) }
         ensures failed { (result ≡ Err Failed) ↔ Contains self.old.plan.failing
@@ -112,11 +178,12 @@ impl Spawner for Bench {
         ensures memory { IsErrOf result Memory → is_model shape.now.identifier ≡ true }
         ensures noted { NotesStart (bench_view self.old) (bench_view self.new) result }
     {
+        let start = self.plan.starts;
         self.plan.begin()?;
         let Some(model) = Model::from_identifier(shape.identifier.as_str()) else {
             return Err(StartFault::Unknown);
         };
-        let Ok(peer) = self.make(alloc, model, host, name, directory, shape) else {
+        let Ok(peer) = self.make(alloc, start, model, host, name, directory, shape) else {
             return Err(StartFault::Memory);
         };
         match self.retired.count(peer) {
@@ -130,6 +197,7 @@ impl Spawner for Bench {
         ensures retired { self.new.retired.peers.items ≡ self.old.retired.peers.items ++ link ∷ [] }
         ensures started { self.new.retired.started ≡ self.old.retired.started }
         ensures room { self.new.room ≡ self.old.room }
+        ensures calls { self.new.failing_calls ≡ self.old.failing_calls }
         ensures plan { self.new.plan ≡ self.old.plan }
     {
         self.retired.push(link);

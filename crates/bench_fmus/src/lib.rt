@@ -20,7 +20,7 @@ mod start_plan;
 mod timer;
 mod wrap;
 
-pub use bench::Bench;
+pub use bench::{Bench, FailingCall};
 pub use built_in::BuiltIn;
 pub use built_in_state::{BuiltInState, Numbers};
 pub use model::Model;

@@ -17,7 +17,7 @@ use Rattle.fmi_calls.specs.Permission.{Permitted, can_be_set, none_marked}
 use Rattle.fmu_peer.specs.declared.peer.Exchange.{Exchange}
 use Rattle.fmu_peer.specs.declared.ended.Why.{Why}
 use Rattle.fmu_peer.specs.CloseAll.{Instance}
-use Rattle.fmu_peer.specs.View.{Fixed, View}
+use Rattle.fmu_peer.specs.View.{View}
 use Rattle.system_model.specs.declared.bound.Bound.{Bound}
 use Rattle.system_model.specs.declared.bound.BoundValue.{BoundValue}
 use Rattle.system_model.specs.declared.system.Component.{Component}
@@ -31,7 +31,7 @@ use Rattle.slot_calls.specs.Stage.{IsAnswered, Stage, StopsAt, nothing, shapes, 
 use Rattle.slot_calls.proofs.CallerLemmas.{one_log, shape_of, stage_cut, stage_cut_later, stage_on, stops_front, Led, led, shape_there, turn_answered, turn_stops, turn_told}
 use Rattle.event_iteration.proofs.ByLog.{value_type}
 use Rattle.calling_sequence.specs.Calls.{binding_from, sets_of}
-use Rattle.calling_sequence.specs.Place.{IsMade, IsPlain}
+use Rattle.calling_sequence.specs.Place.{IsMade}
 use Rattle.calling_sequence.proofs.Chains.{IsSet}
 use Rattle.calling_sequence.proofs.Phases.{room_on, set_leads}
 
@@ -56,7 +56,6 @@ set_stays v w e h l set =
     let phase : w.phase ≡ counted v.phase e.call =
     set_leads v w e l set ∙ ap (λ (s : InstanceState). record (counted v.phase e.call) { marks = marks_after_set s v.fixed.shape v.phase.marks set.1 }) h.state in
     record {
-      plain = subst (λ (f : Fixed). IsPlain f.shape) (sym l.fixed) h.plain;
       state = ap (λ (p : Phase). p.state) phase ∙ h.state;
       unstepped = ap (λ (p : Phase). p.first_size) phase ∙ h.unstepped;
       clear = record { unset = ap (λ (p : Phase). none_marked p.marks) phase ∙ h.clear.unset; empty = ap (λ (p : Phase). p.slot.is_full) phase ∙ h.clear.empty };

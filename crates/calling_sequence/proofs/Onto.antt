@@ -15,7 +15,7 @@ use Rattle.calling_sequence.specs.declared.experiment.Experiment.{Experiment}
 use Rattle.calling_sequence.specs.declared.run_end.RunEnd.{RunEnd}
 use Rattle.calling_sequence.specs.declared.run_end.RunEnd.TheVariants as E
 use Rattle.calling_sequence.specs.Course.{Course, LeadsTo, On, Place, part_at, shown}
-use Rattle.calling_sequence.specs.Ends.{Badly, EndsAt, RunsSlots, Shown, Well, header_of, pieces_of, point_of, text_of}
+use Rattle.calling_sequence.specs.Ends.{Badly, EndsAt, Finishes, RunsSlots, Shown, Well, header_of, pieces_of, point_of, text_of}
 use Rattle.calling_sequence.specs.Here.{Follows, Here}
 use Rattle.calling_sequence.specs.Parts.{Calls, Does, Falls, Part}
 use Rattle.calling_sequence.specs.Puts.{CutsPiece, with_pieces}
@@ -69,16 +69,31 @@ module _ (e : Experiment) (olds : List Instance) (before : SinkView) (p : Place)
         counted_is = h.counted;
       }
 
-  -- a bad answer
-  pub off : (bad : BadAnswer) → Falls e.system (part_at e.system e.bound e.plan p) bad more → Follows e olds before (record { end = E.Bad bad; point = point_of e.plan p }) news present count
-  off bad falls = record {
+  -- several parts, behind which no instant stands
+  pub on_far : (q : Place) → ((front : List Sent) (is : List Instant) → Course e.system e.bound e.plan p front is → Course e.system e.bound e.plan q (front ++ more) is) → Here e olds before q news present count
+  on_far q leads = record {
     log = h.log ++ more;
     is = h.is;
     told = told_on olds mids news h.log more h.told told;
-    finishes = Badly p bad h.log more h.is h.course falls;
+    course = leads h.log h.is h.course;
     put = h.put;
     counted = h.counted;
   }
+
+  -- and up to an end
+  pub off_far : (end : RunEnd) (point : ℕ) → ((front : List Sent) (is : List Instant) → Course e.system e.bound e.plan p front is → Finishes e.system e.bound e.plan end point (front ++ more) is) → Follows e olds before (record { end = end; point = point }) news present count
+  off_far end point leads = record {
+    log = h.log ++ more;
+    is = h.is;
+    told = told_on olds mids news h.log more h.told told;
+    finishes = leads h.log h.is h.course;
+    put = h.put;
+    counted = h.counted;
+  }
+
+  -- a bad answer
+  pub off : (bad : BadAnswer) → Falls e.system (part_at e.system e.bound e.plan p) bad more → Follows e olds before (record { end = E.Bad bad; point = point_of e.plan p }) news present count
+  off bad falls = off_far (E.Bad bad) (point_of e.plan p) (λ front is course. Badly p bad front more is course falls)
 
 module _ (e : Experiment) (olds : List Instance) (before : SinkView) (p : Place) (mids : List Instance) (present : SinkView) (count : ℕ) (h : Here e olds before p mids present count) where
   -- where nothing is sent

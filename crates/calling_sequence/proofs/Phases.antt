@@ -1,11 +1,9 @@
 -- Where a good answer leads.
-use Rattle.std.proofs.Common.{◌≡◌, ℕ, ◌+◌, ◌<◌, ◌≤◌, Bool, true, false, List, inl, inr, refl, sym, ap, ◌∙◌, subst, arith, length, not, replicate, set, zero, suc, ◌-◌}
-use Rattle.std.specs.Prelude.{◌||◌, ◌==◌, if◌then◌else◌, All, IfSome, MatchResult, Result, Ok, Err, get_or, IsTrue, Option, Some, None, unwrap_or}
+use Rattle.std.proofs.Common.{◌≡◌, ℕ, Bool, true, false, List, inl, inr, refl, sym, ap, ◌∙◌, subst, arith, length, not, replicate, set, zero, suc, ◌-◌}
+use Rattle.std.specs.Prelude.{if◌then◌else◌, IfSome, Option, Some, None}
 use Rattle.std.specs.List.{list_any}
 use Rattle.std.specs.Option.{option_map_or}
-use Rattle.std.proofs.lemmas.Bool.Decides.{nat_tests}
-use Rattle.std.proofs.lemmas.List.{get_or_default, length-map, length-replicate, length-set}
-use Rattle.std.proofs.lemmas.List.Elements.{All-get_or}
+use Rattle.std.proofs.lemmas.List.{length-replicate, length-set}
 use Rattle.value_types.specs.Shape.{place_of}
 use Rattle.value_types.specs.declared.shape.Shape.{Shape}
 use Rattle.value_types.specs.declared.shape.Variable.{Variable}
@@ -21,26 +19,20 @@ use Rattle.fmi_calls.specs.declared.call.Grade.TheVariants as G
 use Rattle.fmi_calls.specs.declared.phase.Phase.{Phase}
 use Rattle.fmi_calls.specs.declared.phase.InstanceState.{InstanceState}
 use Rattle.fmi_calls.specs.declared.phase.InstanceState.TheVariants as P
-use Rattle.fmi_calls.specs.Next.{counted, entered, end_of, is_tick, marked, marks_after_set, running_state, settles, unmarked}
+use Rattle.fmi_calls.specs.Next.{counted, entered, is_tick, marked, marks_after_set, running_state, settles, unmarked}
 use Rattle.fmi_calls.specs.Permission.{Permitted, can_be_ticked, is_input_clock, is_output_clock, none_marked}
 use Rattle.fmi_calls.specs.Worth.{grade_of}
 use Rattle.fmu_peer.specs.declared.peer.Exchange.{Exchange}
-use Rattle.fmu_peer.specs.declared.peer.PeerFault.{PeerFault}
-use Rattle.fmu_peer.specs.Talk.{IsGood}
 use Rattle.fmu_peer.specs.View.{View, Fixed}
-use Rattle.slot_calls.specs.Log.{Asking, Sent, asking_of, askings}
-use Rattle.slot_calls.specs.SavedStates.{EndsAt}
-use Rattle.slot_calls.specs.Stage.{IsAnswered, everyone, to_each}
-use Rattle.slot_calls.proofs.CallerLemmas.{Led, map_at, those_calls, those_within}
+use Rattle.slot_calls.proofs.CallerLemmas.{Led}
+use Rattle.rollback.specs.Standing.{TakesSize}
 use Rattle.system_model.proofs.CallerLemmas.{true_false}
 use Rattle.run_model.specs.AfterInstant.{asks_again}
 use Rattle.event_iteration.specs.Instants.{BeginsInstant, IsRunning}
 use Rattle.event_iteration.specs.Settings.{IsUnset}
 use Rattle.event_iteration.specs.Updates.{answer_passes}
-use Rattle.calling_sequence.specs.Course.{AllEndAt}
-use Rattle.calling_sequence.specs.Place.{CanStep, HasRoom, IsAt, IsDeparting, IsInInstant, IsInitializing, IsMade, IsPlain, IsSettled, IsStepping, IsTaking, IsThere, TakesSize, no_one}
+use Rattle.calling_sequence.specs.Place.{HasRoom, IsAt, IsDeparting, IsInInstant, IsInitializing, IsMade, IsSettled, IsStepping, IsTaking, IsThere}
 use Rattle.calling_sequence.proofs.Chains.{IsGet, IsOfClock, IsQuestion, IsSet}
-use Rattle.calling_sequence.proofs.Sizes.{there_is}
 use Rattle.calling_sequence.proofs.Walks.{IsGetOrSet, IsOfInstant}
 
 -- ---- what is kept of Clocks
@@ -111,7 +103,6 @@ pub enter_leads : (start stop : ℕ) (v w : View) (e : Exchange) → IsMade v �
 enter_leads start stop v w e h l is =
     let phase : w.phase ≡ entered v.fixed.shape (counted v.phase e.call) (C.EnterInitialization start stop) l.reply = l.phase ∙ ap (λ (c : Call). entered v.fixed.shape (counted v.phase e.call) c l.reply) is in
     record {
-      plain = subst (λ (f : Fixed). IsPlain f.shape) (sym l.fixed) h.plain;
       state = ap (λ (p : Phase). p.state) phase;
       point = ap (λ (p : Phase). p.point) phase;
       stop_is = ap (λ (p : Phase). p.stop) phase;
@@ -122,7 +113,6 @@ enter_leads start stop v w e h l is =
 
 initializing_on : (start stop : ℕ) (v w : View) (call : Call) → w.fixed ≡ v.fixed → w.phase ≡ counted v.phase call → IsInitializing start stop v → IsInitializing start stop w
 initializing_on start stop v w call fixed phase h = record {
-  plain = subst (λ (f : Fixed). IsPlain f.shape) (sym fixed) h.plain;
   state = ap (λ (p : Phase). p.state) phase ∙ h.state;
   point = ap (λ (p : Phase). p.point) phase ∙ h.point;
   stop_is = ap (λ (p : Phase). p.stop) phase ∙ h.stop_is;
@@ -147,15 +137,13 @@ timing_keeps start stop v w e h l q = initializing_on start stop v w e.call l.fi
 sized_on : (new old : Option ℕ) (step : ℕ) → new ≡ old → {a b : Shape} → b ≡ a → IfSome old (λ n. TakesSize step n a) → IfSome new (λ n. TakesSize step n b)
 sized_on new old step is {a} {b} same h = subst (λ (o : Option ℕ). IfSome o (λ n. TakesSize step n b)) (sym is) (subst (λ (x : Shape). IfSome old (λ n. TakesSize step n x)) (sym same) h)
 
--- what leaves the point, the stop and the first size leaves it there, whoever's state is saved
-there_on : {saved now : Shape → Bool} (t stop step : ℕ) (v w : View) → w.fixed ≡ v.fixed → w.phase.point ≡ v.phase.point → w.phase.stop ≡ v.phase.stop → w.phase.first_size ≡ v.phase.first_size → w.phase.slot.is_full ≡ now w.fixed.shape → length w.phase.active ≡ length v.phase.active →
-    IsThere saved t stop step v → IsThere now t stop step w
+-- what leaves the point, the stop and the first size leaves it there
+there_on : (t stop step : ℕ) (v w : View) → w.fixed ≡ v.fixed → w.phase.point ≡ v.phase.point → w.phase.stop ≡ v.phase.stop → w.phase.first_size ≡ v.phase.first_size → w.phase.slot.is_full ≡ false → length w.phase.active ≡ length v.phase.active → IsThere t stop step v → IsThere t stop step w
 there_on t stop step v w fixed point stop_is first slot active h = record {
-  plain = subst (λ (f : Fixed). IsPlain f.shape) (sym fixed) h.plain;
   point = point ∙ h.point;
   stop_is = stop_is ∙ h.stop_is;
   sized = sized_on w.phase.first_size v.phase.first_size step first (ap (λ (f : Fixed). f.shape) fixed) h.sized;
-  full = slot;
+  empty = slot;
   room = room_on v w fixed active h.room;
 }
 
@@ -165,11 +153,10 @@ exit_leads start stop step v w e h l is =
     record {
       in_instant = record {
         there = record {
-          plain = subst (λ (f : Fixed). IsPlain f.shape) (sym l.fixed) h.plain;
           point = ap (λ (p : Phase). p.point) phase ∙ h.point;
           stop_is = ap (λ (p : Phase). p.stop) phase ∙ h.stop_is;
           sized = subst (λ (o : Option ℕ). IfSome o (λ n. TakesSize step n w.fixed.shape)) (sym (ap (λ (p : Phase). p.first_size) phase ∙ h.unstepped)) tt;
-          full = ap (λ (p : Phase). p.slot.is_full) phase ∙ h.clear.empty;
+          empty = ap (λ (p : Phase). p.slot.is_full) phase ∙ h.clear.empty;
           room = room_on v w l.fixed (ap (λ (p : Phase). length p.active) phase) h.room;
         };
         state = ap (λ (p : Phase). p.state) phase ∙ ap (λ (f : Fixed). running_state f.shape) (sym l.fixed);
@@ -185,7 +172,7 @@ running_on v w fixed state h = state ∙ h ∙ ap (λ (f : Fixed). running_state
 instant_on : (t stop step : ℕ) (v w : View) (call : Call) (marks active : List Bool) → length active ≡ length v.phase.active → w.fixed ≡ v.fixed → w.phase ≡ record (counted v.phase call) { marks = marks; active = active } →
     IsInInstant t stop step v → IsInInstant t stop step w
 instant_on t stop step v w call marks active same fixed phase h = record {
-  there = there_on t stop step v w fixed (ap (λ (p : Phase). p.point) phase) (ap (λ (p : Phase). p.stop) phase) (ap (λ (p : Phase). p.first_size) phase) (ap (λ (p : Phase). p.slot.is_full) phase ∙ h.there.full) (ap (λ (p : Phase). length p.active) phase ∙ same) h.there;
+  there = there_on t stop step v w fixed (ap (λ (p : Phase). p.point) phase) (ap (λ (p : Phase). p.stop) phase) (ap (λ (p : Phase). p.first_size) phase) (ap (λ (p : Phase). p.slot.is_full) phase ∙ h.there.empty) (ap (λ (p : Phase). length p.active) phase ∙ same) h.there;
   state = running_on v w fixed (ap (λ (p : Phase). p.state) phase) h.state;
 }
 
@@ -232,7 +219,7 @@ update_leads t stop step v w e h l is =
     let phase = update_phase v w e l is in
     record {
       in_instant = record {
-        there = there_on t stop step v w l.fixed (ap (λ (p : Phase). p.point) phase) (ap (λ (p : Phase). p.stop) phase) (ap (λ (p : Phase). p.first_size) phase) (ap (λ (p : Phase). p.slot.is_full) phase ∙ h.in_instant.there.full)
+        there = there_on t stop step v w l.fixed (ap (λ (p : Phase). p.point) phase) (ap (λ (p : Phase). p.stop) phase) (ap (λ (p : Phase). p.first_size) phase) (ap (λ (p : Phase). p.slot.is_full) phase ∙ h.in_instant.there.empty)
             (ap (λ (p : Phase). length p.active) phase ∙ length-replicate (length v.fixed.shape.variables) false ∙ sym h.in_instant.there.room) h.in_instant.there;
         state = running_on v w l.fixed (ap (λ (p : Phase). p.state) phase) h.in_instant.state;
       };
@@ -270,128 +257,48 @@ update_stays_settled t stop step v h none = record { at = update_stays t stop st
 running_is : (shape : Shape) (b : Bool) → shape.has_event_mode ≡ b → running_state shape ≡ (if b then P.Event else P.Step)
 running_is shape b is = ap (λ (c : Bool). if c then P.Event else P.Step) is
 
-pub enter_step_leads : (t stop step : ℕ) (v w : View) (e : Exchange) → IsSettled t stop step v → Led v e w → e.call ≡ C.EnterStep → IsStepping no_one t stop step w
+pub enter_step_leads : (t stop step : ℕ) (v w : View) (e : Exchange) → IsSettled t stop step v → Led v e w → e.call ≡ C.EnterStep → IsStepping t stop step w
 enter_step_leads t stop step v w e h l is =
     let phase : w.phase ≡ record (counted v.phase e.call) { state = P.Step } = l.phase ∙ ap (λ (c : Call). entered v.fixed.shape (counted v.phase e.call) c l.reply) is in
     record {
       departing = record {
-        there = there_on t stop step v w l.fixed (ap (λ (p : Phase). p.point) phase) (ap (λ (p : Phase). p.stop) phase) (ap (λ (p : Phase). p.first_size) phase) (ap (λ (p : Phase). p.slot.is_full) phase ∙ h.at.in_instant.there.full) (ap (λ (p : Phase). length p.active) phase) h.at.in_instant.there;
+        there = there_on t stop step v w l.fixed (ap (λ (p : Phase). p.point) phase) (ap (λ (p : Phase). p.stop) phase) (ap (λ (p : Phase). p.first_size) phase) (ap (λ (p : Phase). p.slot.is_full) phase ∙ h.at.in_instant.there.empty) (ap (λ (p : Phase). length p.active) phase) h.at.in_instant.there;
         state = ap (λ (p : Phase). p.state) phase;
       };
       unset = ap (λ (p : Phase). none_marked p.marks) phase ∙ h.at.unset;
     }
 
-pub enter_step_stays : (t stop step : ℕ) (v : View) → IsSettled t stop step v → v.fixed.shape.has_event_mode ≡ false → IsStepping no_one t stop step v
+pub enter_step_stays : (t stop step : ℕ) (v : View) → IsSettled t stop step v → v.fixed.shape.has_event_mode ≡ false → IsStepping t stop step v
 enter_step_stays t stop step v h none = record {
   departing = record { there = h.at.in_instant.there; state = h.at.in_instant.state ∙ running_is v.fixed.shape false none };
   unset = h.at.unset;
 }
 
-pub set_keeps : (t stop step : ℕ) (v w : View) (e : Exchange) → IsDeparting no_one t stop step v → Led v e w → IsSet e → IsDeparting no_one t stop step w
+pub set_keeps : (t stop step : ℕ) (v w : View) (e : Exchange) → IsDeparting t stop step v → Led v e w → IsSet e → IsDeparting t stop step w
 set_keeps t stop step v w e h l set =
     let phase = set_leads v w e l set in
     record {
-      there = there_on t stop step v w l.fixed (ap (λ (p : Phase). p.point) phase) (ap (λ (p : Phase). p.stop) phase) (ap (λ (p : Phase). p.first_size) phase) (ap (λ (p : Phase). p.slot.is_full) phase ∙ h.there.full) (ap (λ (p : Phase). length p.active) phase) h.there;
+      there = there_on t stop step v w l.fixed (ap (λ (p : Phase). p.point) phase) (ap (λ (p : Phase). p.stop) phase) (ap (λ (p : Phase). p.first_size) phase) (ap (λ (p : Phase). p.slot.is_full) phase ∙ h.there.empty) (ap (λ (p : Phase). length p.active) phase) h.there;
       state = ap (λ (p : Phase). p.state) phase ∙ h.state;
     }
 
-pub unset_at : (t stop step : ℕ) (v : View) → IsStepping no_one t stop step v → IsUnset v
+pub unset_at : (t stop step : ℕ) (v : View) → IsStepping t stop step v → IsUnset v
 unset_at t stop step v h = record { state = h.departing.state; unset = h.unset }
 
--- ---- a step
+-- ---- behind a step
 
-refused_step : (shape : Shape) (at size : ℕ) (kind : Kind) (status : BadStatus) → grade_of shape (C.DoStep at size) (R.Refused kind status) ≡ G.Good → ⊥
-refused_step shape at size K.DoStep status h = absurd (cc)
-refused_step shape at size kind status h = absurd (cc)
-
--- a step that may not end early ends at its bound
-pub good_step_end : (shape : Shape) (at size : ℕ) (reply : Reply) → shape.might_return_early ≡ false →
-    grade_of shape (C.DoStep at size) reply ≡ G.Good → end_of reply at ≡ at + size
-good_step_end shape at size (R.Done w (A.DoStep event_needed terminate flag end)) early good = grind (arith, nat_tests)
-good_step_end shape at size (R.Done w content) early good = absurd (cc)
-good_step_end shape at size (R.Refused kind status) early good = absurd (refused_step shape at size kind status good)
-
--- so do those of all
-ends_by : (shape : Shape) (t to : ℕ) → t < to → IsPlain shape → (result : Result Reply PeerFault) → MatchResult result (λ reply. grade_of shape (C.DoStep t (to - t)) reply ≡ G.Good) (λ fault. ⊥) → EndsAt to result
-ends_by shape t to later plain (Ok (R.Done w (A.DoStep event_needed terminate flag end))) good = good_step_end shape t (to - t) (R.Done w (A.DoStep event_needed terminate flag end)) plain good ∙ omega arith
-ends_by shape t to later plain (Ok (R.Done w content)) good = absurd (cc)
-ends_by shape t to later plain (Ok (R.Refused kind status)) good = absurd (refused_step shape t (to - t) kind status good)
-ends_by shape t to later plain (Err fault) good = absurd good
-
-module _ (ss : List Shape) (t to : ℕ) (later : t < to) (plain : All IsPlain ss) (log : List Sent) (done : IsAnswered ss (to_each (λ (shape : Shape). C.DoStep t (to - t)) ss) log) where
-  pub all_end : AllEndAt to log
-  all_end = λ k d w.
-      let s = get_or log k d in
-      let at : asking_of s ≡ get_or (askings log) k (asking_of s) = map_at asking_of log k s (asking_of s) w (get_or_default log k d s w) in
-      let within : k < length (askings log) = let m = length-map log asking_of in omega (arith, m, w) in
-      let inside : s.component < length ss =
-      subst (λ (a : Asking). a.component < length ss) (sym at) (subst (All (λ (a : Asking). a.component < length ss)) (sym done.calls_are) (those_within everyone (λ shape. C.DoStep t (to - t)) (length ss) 0 ss (omega arith)) k (asking_of s) within) in
-      let call : s.exchange.call ≡ C.DoStep t (to - t) =
-      subst (λ (a : Asking). a.call ≡ C.DoStep t (to - t)) (sym at)
-      (subst (All (λ (a : Asking). a.call ≡ C.DoStep t (to - t))) (sym done.calls_are) (those_calls everyone (λ shape. C.DoStep t (to - t)) (λ c. c ≡ C.DoStep t (to - t)) (λ z passes. refl) 0 ss) k (asking_of s) within) in
-      let shape = there_is ss s.component inside in
-      ends_by shape.0 t to later (subst IsPlain (sym shape.1) (All-get_or IsPlain ss s.component shape.0 inside plain)) s.exchange.result
-      (subst (λ (c : Call). MatchResult s.exchange.result (λ reply. grade_of shape.0 c reply ≡ G.Good) (λ fault. ⊥)) call (subst (λ (z : Shape). IsGood z s.exchange) (sym shape.1) (done.good k d w shape.0)))
-
--- the size of the first step, behind one more
-sized_next : (step size : ℕ) (shape : Shape) (o : Option ℕ) → IfSome o (λ n. TakesSize step n shape) → TakesSize step size shape → TakesSize step (unwrap_or o size) shape
-sized_next step size shape None h takes = takes
-sized_next step size shape (Some n) h takes = h
-
-pub step_leads : {saved : Shape → Bool} (t b stop step : ℕ) → t < b → (v w : View) (e : Exchange) → CanStep saved t b stop step v → Led v e w → e.call ≡ C.DoStep t (b - t) → IsStepping saved b stop step w
-step_leads {saved} t b stop step later v w e can l is =
-    let h = can.departing in
-    let phase : w.phase ≡ entered v.fixed.shape (counted v.phase e.call) (C.DoStep t (b - t)) l.reply = l.phase ∙ ap (λ (c : Call). entered v.fixed.shape (counted v.phase e.call) c l.reply) is in
-    let good : grade_of v.fixed.shape (C.DoStep t (b - t)) l.reply ≡ G.Good = subst (λ (c : Call). grade_of v.fixed.shape c l.reply ≡ G.Good) is l.good in
-    let end : end_of l.reply t ≡ t + (b - t) = good_step_end v.fixed.shape t (b - t) l.reply h.there.plain good in
-    record {
-      departing = record {
-        there = record {
-          plain = subst (λ (f : Fixed). IsPlain f.shape) (sym l.fixed) h.there.plain;
-          point = ap (λ (p : Phase). p.point) phase ∙ ap (end_of l.reply) h.there.point ∙ end ∙ omega arith;
-          stop_is = ap (λ (p : Phase). p.stop) phase ∙ h.there.stop_is;
-          sized = subst (λ (o : Option ℕ). IfSome o (λ n. TakesSize step n w.fixed.shape)) (sym (ap (λ (p : Phase). p.first_size) phase))
-              (subst (λ (f : Fixed). TakesSize step (unwrap_or v.phase.first_size (b - t)) f.shape) (sym l.fixed) (sized_next step (b - t) v.fixed.shape v.phase.first_size h.there.sized can.takes));
-          full = ap (λ (p : Phase). p.slot.is_full) phase ∙ h.there.full ∙ ap (λ (f : Fixed). saved f.shape) (sym l.fixed);
-          room = room_on v w l.fixed (ap (λ (p : Phase). length p.active) phase) h.there.room;
-        };
-        state = ap (λ (p : Phase). p.state) phase ∙ h.state;
-      };
-      unset = ap (λ (p : Phase). none_marked p.marks) phase ∙ unmarked_is (length v.fixed.shape.variables);
-    }
-
--- a step that the plan's size allows has the size of the first
-size_for : (variable : Bool) (o : Option ℕ) (step size : ℕ) → IfSome o (λ n. IsTrue (variable || n == step)) → IsTrue (variable || size == step) → IsTrue (variable || unwrap_or o size == size)
-size_for true o step size h takes = refl
-size_for false None step size h takes = grind (arith, nat_tests)
-size_for false (Some n) step size h takes = grind (arith, nat_tests)
-
-pub may_step : {saved : Shape → Bool} (t b stop step : ℕ) (v : View) → CanStep saved t b stop step v → t < b → b ≤ stop → Permitted v.fixed.shape v.phase (C.DoStep t (b - t))
-may_step t b stop step v can later within =
-    let there = can.departing.there in
-    let stop_is : v.phase.stop ≡ stop = there.stop_is in (
-      can.departing.state,
-      sym there.point,
-      omega arith,
-      omega arith,
-      size_for v.fixed.shape.has_variable_steps v.phase.first_size step (b - t) there.sized can.takes,
-      can.of_point,
-    )
-
--- ---- behind it
-
-pub enter_event_leads : (t stop step : ℕ) (v w : View) (e : Exchange) → IsStepping no_one t stop step v → v.fixed.shape.has_event_mode ≡ true → Led v e w → e.call ≡ C.EnterEvent → IsAt t stop step w
+pub enter_event_leads : (t stop step : ℕ) (v w : View) (e : Exchange) → IsStepping t stop step v → v.fixed.shape.has_event_mode ≡ true → Led v e w → e.call ≡ C.EnterEvent → IsAt t stop step w
 enter_event_leads t stop step v w e h events l is =
     let phase : w.phase ≡ record (counted v.phase e.call) { state = P.Event; settled = false; marks = unmarked v.fixed.shape } = l.phase ∙ ap (λ (c : Call). entered v.fixed.shape (counted v.phase e.call) c l.reply) is in
     record {
       in_instant = record {
-        there = there_on t stop step v w l.fixed (ap (λ (p : Phase). p.point) phase) (ap (λ (p : Phase). p.stop) phase) (ap (λ (p : Phase). p.first_size) phase) (ap (λ (p : Phase). p.slot.is_full) phase ∙ h.departing.there.full) (ap (λ (p : Phase). length p.active) phase) h.departing.there;
+        there = there_on t stop step v w l.fixed (ap (λ (p : Phase). p.point) phase) (ap (λ (p : Phase). p.stop) phase) (ap (λ (p : Phase). p.first_size) phase) (ap (λ (p : Phase). p.slot.is_full) phase ∙ h.departing.there.empty) (ap (λ (p : Phase). length p.active) phase) h.departing.there;
         state = ap (λ (p : Phase). p.state) phase ∙ sym (running_is v.fixed.shape true events) ∙ ap (λ (f : Fixed). running_state f.shape) (sym l.fixed);
       };
       unset = ap (λ (p : Phase). none_marked p.marks) phase ∙ unmarked_is (length v.fixed.shape.variables);
     }
 
-pub enter_event_stays : (t stop step : ℕ) (v : View) → IsStepping no_one t stop step v → v.fixed.shape.has_event_mode ≡ false → IsAt t stop step v
+pub enter_event_stays : (t stop step : ℕ) (v : View) → IsStepping t stop step v → v.fixed.shape.has_event_mode ≡ false → IsAt t stop step v
 enter_event_stays t stop step v h none = record {
   in_instant = record { there = h.departing.there; state = h.departing.state ∙ sym (running_is v.fixed.shape false none) };
   unset = h.unset;

@@ -167,31 +167,31 @@ pub never_first : (m n : ℕ) → m ≡ suc n → (m == 0) ≡ false
 never_first m n is = grind (arith, nat_tests)
 
 module _ (system : System) (plan : Plan) (table : Timetable) (t to : ℕ) (stands : StandsAt system t false table) (none : is_some_armed t (timers_in table) ≡ false)
-    (starts : table.start ≡ plan.start) (stops : table.stop ≡ plan.stop) (before : t < plan.stop) (b : IsBound plan (timers_in table) t to) where
-  up_to : (clock : ℕ) (state : ClockState) → slice_get table.clocks clock ≡ Some state → (point : ℕ) → t < point → TimerTicksAt table.start (timer_in state) point → to ≤ point
+    (starts : table.start ≡ plan.start) (stops : table.stop ≡ plan.stop) (before : t < plan.stop) (b : IsBound plan (timers_in table) t to) (m : ℕ) (past : t < m) (within : m ≤ to) where
+  up_to : (clock : ℕ) (state : ClockState) → slice_get table.clocks clock ≡ Some state → (point : ℕ) → t < point → TimerTicksAt table.start (timer_in state) point → m ≤ point
   up_to clock state is point later ticks =
-      b.least point later (AtTick (subst (λ (s : ℕ). SomeTicksAt s (timers_in table) point) starts (clock, timer_in state, timer_at table.clocks clock state is, ticks)))
+      let least = b.least point later (AtTick (subst (λ (s : ℕ). SomeTicksAt s (timers_in table) point) starts (clock, timer_in state, timer_at table.clocks clock state is, ticks))) in
+      omega (arith, least, within)
 
-  next_by : (clock : ℕ) (state : ClockState) → slice_get table.clocks clock ≡ Some state → IsNextFrom table.start t false state → is_armed_for t (timer_in state) ≡ false → IsNextFrom table.start to true state
+  next_by : (clock : ℕ) (state : ClockState) → slice_get table.clocks clock ≡ Some state → IsNextFrom table.start t false state → is_armed_for t (timer_in state) ≡ false → IsNextFrom table.start m true state
   next_by clock S.Unasked is next unarmed = tt
-  next_by clock (S.Periodic interval shift ticks) is next unarmed =
-      let later = b.later in (
-        up_to clock (S.Periodic interval shift ticks) is (table.start + shift + ticks * interval) next.0 (ticks, refl),
-        λ k w. let made = next.1 k w in omega (arith, made, later),
-      )
+  next_by clock (S.Periodic interval shift ticks) is next unarmed = (
+    up_to clock (S.Periodic interval shift ticks) is (table.start + shift + ticks * interval) next.0 (ticks, refl),
+    λ k w. let made = next.1 k w in omega (arith, made, past),
+  )
   next_by clock (S.Countdown None) is next unarmed = tt
   next_by clock (S.Countdown (Some armed)) is next unarmed =
       let later : t < armed = grind (arith, nat_tests) in up_to clock (S.Countdown (Some armed)) is armed later refl
 
-  -- a step to its bound passes over no tick
-  pub stands_behind : StandsAt system to true table
+  -- a step to at most its bound passes over no tick
+  pub stands_behind : StandsAt system m true table
   stands_behind = record {
     len = stands.len;
     places = stands.places;
     next = λ k d w.
         let is = slice_get-get_or table.clocks k d w in
         next_by k (get_or table.clocks k d) is (stands.next k d w) (none_armed_at t table.clocks none k (get_or table.clocks k d) is);
-    within = let most : to ≤ plan.stop = b.least plan.stop before (OnStop refl) in omega (arith, most, stops);
+    within = let most : to ≤ plan.stop = b.least plan.stop before (OnStop refl) in omega (arith, most, stops, within);
   }
 
 -- ---- the schedule before a run, and the ticks of one that begins where the run does
@@ -207,15 +207,15 @@ begins system plan table t n is_first values known starts stands first = record 
   are_ticks = subst (λ (s : ℕ). AreTicks system s (timers_in table) t n (is_due_at table t)) starts (are_ticks system t is_first table stands n first);
 }
 
--- the buffers at the end of a step to its bound
-pub timed_behind : (e : Experiment) (t n to : ℕ) (b : Buffers) → IsPlan e.plan → AreTimed e t (n + 1) false b → is_some_armed t (timers_in b.schedule) ≡ false → IsBoundOf e.plan (timers_in b.schedule) t to → AreTimed e to 0 true b
-timed_behind e t n to b plan h none bound = record {
+-- the buffers at the end of a step to at most its bound
+pub timed_behind : (e : Experiment) (t n to m : ℕ) (b : Buffers) → IsPlan e.plan → AreTimed e t (n + 1) false b → is_some_armed t (timers_in b.schedule) ≡ false → IsBoundOf e.plan (timers_in b.schedule) t to → t < m → m ≤ to → AreTimed e m 0 true b
+timed_behind e t n to m b plan h none bound later within = record {
   starts = h.starts;
   stops = h.stops;
-  stands = stands_behind e.system e.plan b.schedule t to h.stands none h.starts h.stops bound.before_stop bound.bound;
+  stands = stands_behind e.system e.plan b.schedule t to h.stands none h.starts h.stops bound.before_stop bound.bound m later within;
   places = h.places;
   fitting = h.fitting;
   holds = h.holds;
   limited = omega arith;
-  few = let few = h.few in let limited = h.limited in let limit = plan.limit_within in let later = bound.bound.later in omega (arith, few, limited, limit, later);
+  few = let few = h.few in let limited = h.limited in let limit = plan.limit_within in omega (arith, few, limited, limit, later);
 }

@@ -2,7 +2,6 @@
 use Rattle.std.proofs.Common.{◌≡◌, ℕ, ℤ, Bool, true, false, List, [], Option, Result, Ok, Err, refl, sym, ap, subst, arith, ◌∙◌, ◌+◌}
 use Rattle.std.specs.Prelude.{All, IfOk, OnOk, ◌||◌}
 use Rattle.std.proofs.lemmas.List.{length-map}
-use Rattle.std.proofs.lemmas.List.Elements.{All-map}
 use Rattle.sim_base.specs.Sink.{SinkView, with_piece}
 use Rattle.system_model.specs.Text.{instant_text}
 use Rattle.event_iteration.specs.Updates.{updated_by, updating}
@@ -19,23 +18,21 @@ use Rattle.event_iteration.specs.Settings.{before_step, port_order}
 use Rattle.event_iteration.specs.Turns.{Rules}
 use Rattle.run_model.specs.Run.{Timer}
 use Rattle.system_model.specs.declared.system.System.{System}
-use Rattle.slot_calls.specs.Carried.{any_asks_to_end}
 use Rattle.slot_calls.specs.declared.bad_answer.BadAnswer.{BadAnswer}
 use Rattle.slot_calls.specs.Log.{Asking, Sent, Told}
 use Rattle.slot_calls.specs.Slots.{LiveSlot, Stands, instances}
-use Rattle.slot_calls.specs.Stage.{FailsIn, IsAnswered, Stage, StopsAt, shapes, shapes_of, to_each, to_those}
-use Rattle.slot_calls.specs.Stage.{Round as RoundOf}
-use Rattle.slot_calls.proofs.CallerLemmas.{Led, shape_of, stage_all, stage_those}
+use Rattle.slot_calls.specs.Stage.{IsAnswered, Stage, StopsAt, shapes, shapes_of, to_each, to_those}
+use Rattle.slot_calls.proofs.CallerLemmas.{Led, stage_all, stage_those}
 use Rattle.calling_sequence.specs.declared.experiment.Experiment.{Experiment}
 use Rattle.calling_sequence.specs.Course.{Found, LeadsTo, Place, Read, Rearmed, Rearming, Seen, Spot, Timed, Times, Updates, part_at, shown}
 use Rattle.calling_sequence.specs.Ends.{RunsSlots, point_of}
-use Rattle.calling_sequence.specs.Goes.{Comes, Goes, Onward, Puts}
+use Rattle.calling_sequence.specs.Goes.{Comes, Crosses, Goes, Onward, Puts}
 use Rattle.calling_sequence.specs.Here.{Follows, Here}
 use Rattle.calling_sequence.specs.declared.ending.Break.{Break}
+use Rattle.calling_sequence.specs.declared.ending.Ending.{Ending}
 use Rattle.calling_sequence.specs.declared.ending.Break.TheVariants as B
 use Rattle.calling_sequence.specs.declared.run_end.RunEnd.TheVariants as E
-use Rattle.calling_sequence.specs.Place.{IsPlain}
-use Rattle.calling_sequence.specs.Parts.{Calls, Does, Falls, Part, Round, Walk}
+use Rattle.calling_sequence.specs.Parts.{Calls, Does, Falls, Part, Walk}
 use Rattle.calling_sequence.specs.Ready.{Ready}
 use Rattle.calling_sequence.proofs.Chains.{IsGoodly, IsQuestion, fits_on, keep_all}
 use Rattle.calling_sequence.proofs.Walks.{asking_goodly, timing_goodly}
@@ -57,14 +54,6 @@ module _ {T : Type 0} (e : Experiment) (p : Place) (q : T → Place) (quiet : (x
         on_quietly e olds before p mids news v count h s.log s.told (q x) [] (subst (λ (part : Part). Does e.system part [] s.log) (sym is) done) (leads x s.log done s.says.1) (quiet x)
     by_stage is leads (Err bad) s = λ v olds before h.
         off e olds before p mids news v count h s.log s.told bad (subst (λ (part : Part). Falls e.system part bad s.log) (sym is) (subst (λ (ss : List Shape). StopsAt ss (calls ss) bad s.log) fits s.says))
-
-    -- calls that are all sent
-    pub by_round : part_at e.system e.bound e.plan p ≡ Round (calls (shapes_of e.system)) → LeadsBy → (r : Result T BadAnswer) → RoundOf (calls (shapes mids)) value mids news r → Goes e p q mids news count count r
-    by_round is leads (Ok x) s = λ v olds before h.
-        let done = subst (λ (ss : List Shape). IsAnswered ss (calls ss) s.log) fits s.says.0 in
-        on_quietly e olds before p mids news v count h s.log s.told (q x) [] (subst (λ (part : Part). Does e.system part [] s.log) (sym is) done) (leads x s.log done s.says.1) (quiet x)
-    by_round is leads (Err bad) s = λ v olds before h.
-        off e olds before p mids news v count h s.log s.told bad (subst (λ (part : Part). Falls e.system part bad s.log) (sym is) (subst (λ (ss : List Shape). FailsIn ss (calls ss) bad s.log) fits s.says))
 
 -- a walk
 pub by_walk : (e : Experiment) (p q : Place) → shown q ≡ [] → (mids news : List Instance) (count : ℕ) (rules : Rules) (past : List (Option ℤ)) (order : List ℕ) (values : List (Option ℤ)) → part_at e.system e.bound e.plan p ≡ Walk rules past order →
@@ -129,17 +118,16 @@ module _ {T : Type 0} (e : Experiment) (p q : Place) (r : T → Place) (olds mid
   then_goes same first (Err bad) s = λ v starts before h.
       subst (λ (point : ℕ). Follows e starts before (record { end = E.Bad bad; point = point }) news v counted) same (s v starts before (first v starts before h))
 
+  pub then_crosses : ((v : SinkView) → Onward e p q olds mids v v count now) → (x : Result T Ending) → Crosses e q r mids news now counted x → Crosses e p r olds news count counted x
+  then_crosses first (Ok x) s = λ v starts before h. s v starts before (first v starts before h)
+  then_crosses first (Err ending) s = λ v starts before h. s v starts before (first v starts before h)
+
   pub then_puts : (present after : SinkView) → Onward e p q olds mids present present count now → (x : Result T Break) → Puts e q r mids news present after now counted x → Puts e p r olds news present after count counted x
   then_puts present after first (Ok x) s = λ starts before h. s starts before (first starts before h)
   then_puts present after first (Err (B.Ends ending)) s = λ starts before h. s starts before (first starts before h)
   then_puts present after first (Err B.Write) s = λ starts before h. s starts before (first starts before h)
 
 -- ---- where it leaves the slots
-
--- what holds of each view's shape holds of each component's
-pub all_shapes : {L : Type 0} {g : _} (view : L → View) (system : System) (P : Shape → Type 0) (Q : View → Type 0) → ((v : View) → Q v → P v.fixed.shape) → (slots : List (Slot L g)) → shapes (instances view slots) ≡ shapes_of system → All (Stands Q view) slots → All P (shapes_of system)
-all_shapes view system P Q h slots fits stand =
-    subst (All P) fits (All-map P shape_of (instances view slots) (All-map (λ (i : Instance). P i.view.fixed.shape) (λ s. instance_in view s) slots (λ k d w. h _ (stand k d w))))
 
 abbrev pub At : Experiment → ((stop step : ℕ) → View → Type 0) → View → Type 0
 At e P = P e.plan.stop e.plan.step
@@ -151,7 +139,7 @@ module _ {L : Type 0} {g : _} (view : L → View) (e : Experiment) where
 
   module _ (P : (stop step : ℕ) → View → Type 0) (olds news : List (Slot L g)) (ready : Ready view e P olds) where
     -- a log leaves as many slots, of the same shapes
-    still_so : (Q : (stop step : ℕ) → View → Type 0) (log : List Sent) → Told log (instances view olds) (instances view news) → All (LiveSlot view) news → All (Stands (At e Q) view) news → Ready view e Q news
+    pub still_so : (Q : (stop step : ℕ) → View → Type 0) (log : List Sent) → Told log (instances view olds) (instances view news) → All (LiveSlot view) news → All (Stands (At e Q) view) news → Ready view e Q news
     still_so Q log told live stand = record {
       may = ready.may;
       few = let a = length-map olds (λ s. instance_in view s) in let b = length-map news (λ s. instance_in view s) in let same = told.len in let few = ready.few in omega (arith, a, b, same, few);
@@ -178,14 +166,6 @@ module _ {L : Type 0} {g : _} (view : L → View) (e : Experiment) where
     still_each Q call leads value (Ok x) s live = still_so Q s.log s.told live (stage_all (λ s. instance_in view s) call (At e P) (At e Q) leads olds news s.log s.told s.says.0 ready.stand)
     still_each Q call leads value (Err bad) s live = tt
 
-    -- the same of a round
-    pub still_round : {T : Type 0} (Q : (stop step : ℕ) → View → Type 0) (test : Shape → Bool) (call : Shape → Call) → ((v w : View) (x : Exchange) → At e P v → test v.fixed.shape ≡ true → Led v x w → x.call ≡ call v.fixed.shape → At e Q w) →
-        ((v : View) → At e P v → test v.fixed.shape ≡ false → At e Q v) → (value : List Sent → T) (r : Result T BadAnswer) → RoundOf (to_those test call (shapes (instances view olds))) value (instances view olds) (instances view news) r →
-        OnOk r (All (LiveSlot view) news) → OnOk r (Ready view e Q news)
-    still_round Q test call leads stays value (Ok x) s live =
-        still_so Q s.log s.told live (stage_those (λ s. instance_in view s) test call olds news s.log s.told s.says.0 (At e P) (At e Q) leads stays ready.stand)
-    still_round Q test call leads stays value (Err bad) s live = tt
-
     -- calls each of which leaves an instance as it stands
     module _ (K : Shape → Exchange → Type 0) (keeps : (v w : View) (x : Exchange) → At e P v → Led v x w → K v.fixed.shape x → At e P w) where
       pub keeping : {T : Type 0} (r : Result T BadAnswer) (log : List Sent) → Told log (instances view olds) (instances view news) → OnOk r (All (IsGoodly K (shapes_of e.system)) log) → OnOk r (All (LiveSlot view) news) → OnOk r (Ready view e P news)
@@ -204,33 +184,3 @@ fixes_goodly system per_second timers olds news (Err bad) f = tt
 pub asks_goodly : (system : System) (per_second t : ℕ) (values : List (Option ℤ)) (timers next : List Timer) (olds news : List Instance) (r : Result Bool BadAnswer) → (a : AsksIntervals system per_second t values timers next olds news r) → OnOk r (All (IsGoodly (λ shape. IsQuestion) (shapes_of system)) a.log)
 asks_goodly system per_second t values timers next olds news (Ok x) a = asking_goodly system values (port_order system) values a.log a.says.0.explains
 asks_goodly system per_second t values timers next olds news (Err bad) a = tt
-
--- ---- rounds one behind the other
-
--- at a place, where instances stand so, a call to those whose shape passes a test leads to another place, where they stand in another way
-pub record IsRound (e : Experiment) (p : Spot → Place) (q : Spot → Bool → Place) (P Q : (stop step : ℕ) → View → Type 0) (test : Shape → Bool) (call : Call) : Type 0 where
-  pub quiet : (s : Spot) (x : Bool) → shown (q s x) ≡ []
-  pub part_is : (s : Spot) → part_at e.system e.bound e.plan (p s) ≡ Round (to_those test (λ (shape : Shape). call) (shapes_of e.system))
-  pub plain : (v : View) → At e P v → IsPlain v.fixed.shape
-  pub arrow : All IsPlain (shapes_of e.system) → (s : Spot) (x : Bool) (log : List Sent) → IsAnswered (shapes_of e.system) (to_those test (λ (shape : Shape). call) (shapes_of e.system)) log → x ≡ any_asks_to_end log →
-      LeadsTo e.system e.plan (p s) [] log (q s x)
-  pub leads : (v w : View) (x : Exchange) → At e P v → test v.fixed.shape ≡ true → Led v x w → x.call ≡ call → At e Q w
-  pub stays : (v : View) → At e P v → test v.fixed.shape ≡ false → At e Q v
-
--- such rounds lead from the one place to the other, and leave the slots so
-pub record Rounds {L : Type 0} {g : _} (view : L → View) (e : Experiment) (p : Spot → Place) (q : Spot → Bool → Place) (Q : (stop step : ℕ) → View → Type 0) (olds news : List (Slot L g)) (r : Result Bool BadAnswer) : Type 0 where
-  pub goes : (s : Spot) (count : ℕ) → Goes e (p s) (q s) (instances view olds) (instances view news) count count r
-  pub ready : OnOk r (Ready view e Q news)
-
-module _ {L : Type 0} {g : _} (view : L → View) (e : Experiment) (p : Spot → Place) (olds : List (Slot L g)) where
-  pub no_round : (P : (stop step : ℕ) → View → Type 0) → Ready view e P olds → Rounds view e p (λ (s : Spot) (x : Bool). p s) P olds olds (Ok true)
-  no_round P ready = record { goes = λ s count v starts before h. h; ready = ready }
-
-  pub round_on : (m q : Spot → Bool → Place) (x : Bool) (P Q : (stop step : ℕ) → View → Type 0) (test : Shape → Bool) (call : Call) → IsRound e (λ (s : Spot). m s x) q P Q test call → ((s : Spot) → point_of e.plan (m s x) ≡ point_of e.plan (p s)) →
-      (mids news : List (Slot L g)) → Rounds view e p m P olds mids (Ok x) → (r : Result Bool BadAnswer) →
-      RoundOf (to_those test (λ (shape : Shape). call) (shapes (instances view mids))) any_asks_to_end (instances view mids) (instances view news) r → OnOk r (All (LiveSlot view) news) → Rounds view e p q Q olds news r
-  round_on m q x P Q test call is point mids news front r round live = record {
-    goes = λ s count. then_goes e (p s) (m s x) (q s) _ _ _ count count count (point s) (front.goes s count) r
-        (by_round e (m s x) (q s) (is.quiet s) _ _ count front.ready.shapes_are (λ ss. to_those test (λ (shape : Shape). call) ss) any_asks_to_end (is.part_is s) (is.arrow (all_shapes view e.system IsPlain (At e P) is.plain mids front.ready.shapes_are front.ready.stand) s) r round);
-    ready = still_round view e P mids news front.ready Q test (λ (shape : Shape). call) is.leads is.stays any_asks_to_end r round live;
-  }

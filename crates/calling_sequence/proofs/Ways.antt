@@ -19,7 +19,7 @@ use Rattle.calling_sequence.specs.declared.run_end.RunEnd.TheVariants as E
 use Rattle.calling_sequence.specs.Calls.{IsBoundOf, first_unfit}
 use Rattle.calling_sequence.specs.Course.{Again, Place, Seen, Spot, Stepped}
 use Rattle.calling_sequence.specs.Ends.{AtLimit, AtStop, ByStep, ByUpdate, EndLine, EndsAt, EndsBy, Finishes, PutsWhole, RunsSlots, Unfit, Well, kind_of_end, pieces_of}
-use Rattle.calling_sequence.specs.Goes.{Arrives, before_instant, seen, spot}
+use Rattle.calling_sequence.specs.Goes.{Arrives, Breaks, Onward, before_instant, seen, spot}
 use Rattle.calling_sequence.specs.Here.{Concludes, Follows, Here, PutsEnd}
 use Rattle.calling_sequence.specs.Puts.{CutsPiece}
 use Rattle.calling_sequence.specs.Ready.{AreTimed}
@@ -69,6 +69,11 @@ module _ (e : Experiment) (s : Spot) (asked : Bool) (olds : List Instance) (befo
 
   pub stepped_there : asked ≡ false → Here e olds before (Stepped s false) mids present count
   stepped_there is = subst (λ (x : Bool). Here e olds before (Stepped s x) mids present count) is h
+
+-- a stage that breaks off, behind others
+pub breaks_on : (e : Experiment) (p q : Place) (olds mids news : List Instance) (present middle after : SinkView) (count now counted : ℕ) → Onward e p q olds mids present middle count now → (b : Break) → Breaks e q mids news middle after now counted b → Breaks e p olds news present after count counted b
+breaks_on e p q olds mids news present middle after count now counted first (B.Ends ending) s = λ starts before h. s starts before (first starts before h)
+breaks_on e p q olds mids news present middle after count now counted first B.Write s = λ starts before h. s starts before (first starts before h)
 
 -- ---- the end line
 

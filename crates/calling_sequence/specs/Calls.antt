@@ -13,6 +13,7 @@ use Rattle.run_model.specs.Run.{Timer}
 use Rattle.run_model.specs.Steps.{IsBound}
 use Rattle.slot_calls.specs.Log.{Asking}
 use Rattle.slot_calls.specs.Stage.{has_events, shapes_of, to_each, to_those}
+use Rattle.rollback.specs.StepsBy.{to_saved}
 
 -- ---- the calls, in their order
 
@@ -49,9 +50,12 @@ entering_step system = to_those has_events (λ (shape : Shape). C.EnterStep) (sh
 abbrev pub entering_event : System → List Asking
 entering_event system = to_those has_events (λ (shape : Shape). C.EnterEvent) (shapes_of system)
 
--- each steps from one point to another
-abbrev pub stepping : System → ℕ → ℕ → List Asking
-stepping system from to = to_each (λ (shape : Shape). C.DoStep from (to - from)) (shapes_of system)
+-- in a step the states of those are saved beside which another might return early, and freed behind it
+abbrev pub saving : System → List Asking
+saving system = to_saved C.Save (shapes_of system)
+
+abbrev pub freeing : System → List Asking
+freeing system = to_saved C.Free (shapes_of system)
 
 -- ---- steps
 
@@ -61,12 +65,12 @@ first_unfit system plan size =
     if size == plan.step then None
     else position (λ (c : Component). not c.shape.has_variable_steps) system.components
 
--- a step before the stop goes from one point to its bound, the next grid point, tick or the stop
+-- a step before the stop goes from one point to at most its bound, the next grid point, tick or the stop
 pub record IsBoundOf (plan : Plan) (timers : List Timer) (from to : ℕ) : Type 0 where
   pub before_stop : from < plan.stop
   pub bound : IsBound plan timers from to
 
--- and each takes a step of its size
+-- and each takes a step to the bound
 pub record IsStep (system : System) (plan : Plan) (timers : List Timer) (from to : ℕ) : Type 0 where
   pub bound : IsBoundOf plan timers from to
   pub fit : first_unfit system plan (to - from) ≡ None

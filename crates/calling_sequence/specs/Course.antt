@@ -1,5 +1,5 @@
 -- The run of a system by its plan, for any replies, part by part (FMI 3.0, 4.2.1: the calling sequence of Co-Simulation).
-use Rattle.std.specs.Prelude.{◌≡◌, ℕ, suc, ℤ, ◌==◌, ◌||◌, Bool, true, false, List, [], ◌∷◌, ◌++◌, All, Option, length}
+use Rattle.std.specs.Prelude.{◌≡◌, ℕ, suc, ℤ, ◌==◌, ◌||◌, Bool, true, false, List, [], ◌∷◌, ◌++◌, Option, length}
 use Rattle.system_model.specs.declared.bound.Bound.{Bound}
 use Rattle.system_model.specs.declared.plan.Plan.{Plan}
 use Rattle.system_model.specs.declared.system.System.{System}
@@ -12,12 +12,12 @@ use Rattle.event_iteration.specs.Instants.{in_instant}
 use Rattle.event_iteration.specs.Intervals.{Rearms, first_told, intervals, is_some_armed, timing_calls}
 use Rattle.event_iteration.specs.Settings.{before_step, port_order}
 use Rattle.event_iteration.specs.Updates.{updated_by, updating}
-use Rattle.slot_calls.specs.Carried.{any_asks_to_end}
 use Rattle.slot_calls.specs.Log.{Sent}
-use Rattle.slot_calls.specs.SavedStates.{EndsAt}
 use Rattle.slot_calls.specs.Stage.{shapes_of}
-use Rattle.calling_sequence.specs.Calls.{IsStep, binding, entering, entering_event, entering_step, leaving, stepping}
-use Rattle.calling_sequence.specs.Parts.{Calls, Does, Part, Round, Walk}
+use Rattle.step_agreement.specs.Agreement.{Meets, Unfit}
+use Rattle.rollback.specs.StepsBy.{some_ask_from}
+use Rattle.calling_sequence.specs.Calls.{IsStep, binding, entering, entering_event, entering_step, freeing, leaving, saving}
+use Rattle.calling_sequence.specs.Parts.{Agreement, AllAgree, Calls, Does, Part, Round, Walk}
 
 -- ---- places
 
@@ -28,7 +28,7 @@ pub record Spot : Type 0 where
   pub values : List (Option ℤ)
   pub timers : List Timer
 
--- a step from there to another point
+-- a step from there, with its bound
 pub record Way : Type 0 where
   pub s : Spot
   pub to : ℕ
@@ -49,11 +49,16 @@ pub data Place : Type 0 where
   Rearmed : (s : Spot) → Place
   -- behind an instant: whether another is asked for at the point, and whether the end is
   Seen : (s : Spot) (again asked : Bool) → Place
-  -- on the way to a step: the point is done; those with event mode are in Step Mode; the inputs of the others were set
+  -- on the way to a step: the point is done; those with event mode are in Step Mode; the inputs of the others were set; the states were saved
   Leaving : (w : Way) → Place
   Left : (w : Way) → Place
   Departing : (w : Way) → Place
-  -- behind a step, at its end: whether one of the answers asks for the end
+  Saved : (w : Way) → Place
+  -- the agreement stops before a step to this end, whose size the component doesn't take, the least of those
+  Short : (w : Way) (component end : ℕ) → Place
+  -- all stand at this point: whether the answer to a last step asks for the end
+  Agreed : (w : Way) (point : ℕ) (asked : Bool) → Place
+  -- behind a step, at the point that all reached, where the states were freed
   Stepped : (s : Spot) (asked : Bool) → Place
 
 -- what is sent from there
@@ -71,7 +76,10 @@ part_at system bound plan (Rearmed s) = Calls (updating (shapes_of system))
 part_at system bound plan (Seen s again asked) = Calls []
 part_at system bound plan (Leaving w) = Calls (entering_step system)
 part_at system bound plan (Left w) = Walk (before_step w.s.values) w.s.values (port_order system)
-part_at system bound plan (Departing w) = Round (stepping system w.s.t w.to)
+part_at system bound plan (Departing w) = Round (saving system)
+part_at system bound plan (Saved w) = Agreement w.s.t plan.step w.to
+part_at system bound plan (Short w component end) = Calls []
+part_at system bound plan (Agreed w point asked) = Round (freeing system)
 part_at system bound plan (Stepped s true) = Calls []
 part_at system bound plan (Stepped s false) = Calls (entering_event system)
 
@@ -81,10 +89,6 @@ part_at system bound plan (Stepped s false) = Calls (entering_event system)
 pub record Begins (system : System) (plan : Plan) (s : Spot) (ticks : ℕ → Bool) : Type 0 where
   pub known : length s.values ≡ length system.ports
   pub are_ticks : AreTicks system plan.start s.timers s.t s.n ticks
-
--- each of the answers says that its step ended there
-abbrev pub AllEndAt : ℕ → List Sent → Type 0
-AllEndAt t log = All (λ (s : Sent). EndsAt t s.exchange.result) log
 
 -- where a part's good answers lead: the values are those that a walk found, and the log is the part's
 pub data LeadsTo (system : System) (plan : Plan) : Place → List (Option ℤ) → List Sent → Place →
@@ -127,10 +131,19 @@ pub data LeadsTo (system : System) (plan : Plan) : Place → List (Option ℤ) �
       LeadsTo system plan (Leaving w) values log (Left w)
   Sets : (w : Way) (values : List (Option ℤ)) (log : List Sent) →
       LeadsTo system plan (Left w) values log (Departing w)
-  Steps : (w : Way) (values : List (Option ℤ)) (log : List Sent) (asked : Bool) →
-      asked ≡ any_asks_to_end log → AllEndAt w.to log →
-      LeadsTo system plan (Departing w) values log
-      (Stepped (record w.s { t = w.to; n = 0 }) asked)
+  Saves : (w : Way) (values : List (Option ℤ)) (log : List Sent) →
+      LeadsTo system plan (Departing w) values log (Saved w)
+  -- all come to one point, which isn't computed anew
+  Agreeing : (w : Way) (values : List (Option ℤ)) (log : List Sent) (point : ℕ) (asked : Bool) →
+      AllAgree system w.s.t plan.step w.to log (Meets point) →
+      asked ≡ some_ask_from 0 (shapes_of system) log →
+      LeadsTo system plan (Saved w) values log (Agreed w point asked)
+  Stopping : (w : Way) (values : List (Option ℤ)) (log : List Sent) (component end : ℕ) →
+      AllAgree system w.s.t plan.step w.to log (Unfit component end) →
+      LeadsTo system plan (Saved w) values log (Short w component end)
+  Frees : (w : Way) (point : ℕ) (asked : Bool) (values : List (Option ℤ)) (log : List Sent) →
+      LeadsTo system plan (Agreed w point asked) values log
+      (Stepped (record w.s { t = point; n = 0 }) asked)
   Arrives : (s : Spot) (values : List (Option ℤ)) (log : List Sent) (ticks : ℕ → Bool) →
       Begins system plan (record s { n = 0 }) ticks →
       LeadsTo system plan (Stepped s false) values log (Before (record s { n = 0 }) ticks)

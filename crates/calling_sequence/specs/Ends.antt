@@ -12,9 +12,11 @@ use Rattle.system_model.specs.Text.{Instant, end_text, header_text, instant_text
 use Rattle.calling_sequence.specs.declared.run_end.RunEnd.{RunEnd}
 use Rattle.calling_sequence.specs.declared.run_end.RunEnd.TheVariants as E
 use Rattle.slot_calls.specs.declared.bad_answer.BadAnswer.{BadAnswer}
+use Rattle.rollback.specs.declared.step_end.StepEnd.{StepEnd}
+use Rattle.rollback.specs.declared.step_end.StepEnd.TheVariants.{Bad, FixedStep}
 use Rattle.slot_calls.specs.Log.{Sent, Told}
 use Rattle.calling_sequence.specs.Calls.{IsBoundOf, first_unfit}
-use Rattle.calling_sequence.specs.Course.{Before, Configured, Course, Departing, Entered, Found, Left, Leaving, Made, Place, Read, Rearmed, Seen, Spot, Stepped, Timed, part_at, shown}
+use Rattle.calling_sequence.specs.Course.{Agreed, Before, Configured, Course, Departing, Entered, Found, Left, Leaving, Made, Place, Read, Rearmed, Saved, Seen, Short, Spot, Stepped, Timed, Way, part_at, shown}
 use Rattle.calling_sequence.specs.Parts.{Falls}
 use Rattle.calling_sequence.specs.Puts.{CutsPiece, with_pieces}
 
@@ -34,6 +36,9 @@ point_of plan (Seen s again asked) = s.t
 point_of plan (Leaving w) = w.s.t
 point_of plan (Left w) = w.s.t
 point_of plan (Departing w) = w.s.t
+point_of plan (Saved w) = w.s.t
+point_of plan (Short w component end) = w.s.t
+point_of plan (Agreed w point asked) = w.s.t
 point_of plan (Stepped s asked) = s.t
 
 -- at this place a run ends so, but for a bad answer
@@ -50,6 +55,9 @@ pub data EndsAt (system : System) (plan : Plan) : RunEnd → Place → Type 0 wh
   Unfit : (s : Spot) (component : CompId) (end : ℕ) → IsBoundOf plan s.timers s.t end →
       first_unfit system plan (end - s.t) ≡ Some component.0 →
       EndsAt system plan (E.FixedStep component s.t end) (Seen s false false)
+  -- and so is that of the one which it would be asked for next, on the way to an agreement
+  AtShort : (w : Way) (component : CompId) (end : ℕ) →
+      EndsAt system plan (E.FixedStep component w.s.t end) (Short w component.0 end)
 
 -- with this log and behind these instants a run ends so, and its end line names the point: at a place, or by the first bad answer of the part that is sent from one
 pub data Finishes (system : System) (bound : Bound) (plan : Plan) : RunEnd → ℕ → List Sent →
@@ -69,6 +77,11 @@ ends_well (E.EventLimit at) = true
 ends_well (E.FixedStep component at end) = true
 ends_well (E.Bad bad) = false
 ends_well E.WriteFault = false
+
+-- how a run ends whose step isn't made
+abbrev pub end_of_step : StepEnd → RunEnd
+end_of_step (FixedStep component at end) = E.FixedStep component at end
+end_of_step (Bad bad) = E.Bad bad
 
 -- ---- what is put
 

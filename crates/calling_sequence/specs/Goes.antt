@@ -5,13 +5,14 @@ use Rattle.fmu_peer.specs.CloseAll.{Instance}
 use Rattle.event_iteration.specs.Clocks.{is_due_at, timers_in}
 use Rattle.event_iteration.specs.declared.updates.Updated.{Updated}
 use Rattle.slot_calls.specs.declared.bad_answer.BadAnswer.{BadAnswer}
+use Rattle.rollback.specs.declared.step_end.Agreed.{Agreed}
 use Rattle.calling_sequence.specs.declared.experiment.Experiment.{Experiment}
 use Rattle.calling_sequence.specs.declared.buffers.Buffers.{Buffers}
 use Rattle.calling_sequence.specs.declared.ending.Break.{Break}
 use Rattle.calling_sequence.specs.declared.ending.Break.TheVariants as B
 use Rattle.calling_sequence.specs.declared.ending.Ending.{Ending}
 use Rattle.calling_sequence.specs.declared.run_end.RunEnd.TheVariants as E
-use Rattle.calling_sequence.specs.Course.{Before, Place, Seen, Spot, Timed, Way}
+use Rattle.calling_sequence.specs.Course.{Before, Place, Seen, Spot, Stepped, Timed, Way}
 use Rattle.calling_sequence.specs.Ends.{RunsSlots, point_of}
 use Rattle.calling_sequence.specs.Here.{Follows, Here}
 
@@ -31,6 +32,10 @@ seen t n b u = Seen (spot t n b) u.again u.asked
 
 abbrev pub way : (t n : ℕ) → Buffers → (to : ℕ) → Way
 way t n b to = record { s = spot t n b; to = to }
+
+-- behind a step, at the point that all reached
+abbrev pub stepped_to : Spot → Agreed → Place
+stepped_to s agreed = Stepped (record s { t = agreed.point; n = 0 }) agreed.asked
 
 -- ---- stages
 
@@ -56,6 +61,14 @@ Goes e p q mids news count counted (Ok x) =
 Goes e p q mids news count counted (Err bad) =
     (v : SinkView) →
     Comes e p (record { end = E.Bad bad; point = point_of e.plan p }) mids news v v count counted
+
+-- a stage that puts nothing and may come to any end
+abbrev pub Crosses : {T : Type 0} → Experiment → Place → (T → Place) → (mids news : List Instance) →
+    (count counted : ℕ) → Result T Ending → Type 0
+Crosses e p q mids news count counted (Ok x) =
+    (v : SinkView) → Onward e p (q x) mids news v v count counted
+Crosses e p q mids news count counted (Err ending) =
+    (v : SinkView) → Comes e p ending mids news v v count counted
 
 -- the run breaks off so
 abbrev pub Breaks : Experiment → Place → (mids news : List Instance) → (present after : SinkView) →

@@ -1,5 +1,4 @@
 pub mod Plans
-pub mod Systems
 pub mod Place
 pub mod Calls
 pub mod Parts

@@ -4,21 +4,32 @@ use Rattle.value_types.specs.declared.shape.Shape.{Shape}
 use Rattle.system_model.specs.declared.system.System.{System}
 use Rattle.slot_calls.specs.declared.bad_answer.BadAnswer.{BadAnswer}
 use Rattle.slot_calls.specs.Log.{Asking, Sent, part}
-use Rattle.slot_calls.specs.Stage.{FailsIn, IsAnswered, IsFirst, StopsAt, shapes_of}
+use Rattle.slot_calls.specs.Stage.{FailsIn, IsAnswered, IsFirst, StopsAt, everyone, shapes_of}
+use Rattle.step_agreement.specs.Agreement.{Agrees, Fails, Outcome}
+use Rattle.step_agreement.specs.Saving.{IsGoodOutcome}
+use Rattle.rollback.specs.StepsBy.{all_at}
 use Rattle.event_iteration.specs.Explains.{Explains, ExplainsUntil}
 use Rattle.event_iteration.specs.Turns.{Rules}
 
--- calls up to the first bad answer, calls that are all sent whatever is answered, or a walk through ports, from the values before it
+-- calls up to the first bad answer, calls that are all sent whatever is answered, a walk through ports, from the values before it, or the agreement of all components from t on, with the plan's step and this bound
 pub data Part : Type 0 where
   Calls : (calls : List Asking) → Part
   Round : (calls : List Asking) → Part
   Walk : (rules : Rules) (before : List (Option ℤ)) (order : List ℕ) → Part
+  Agreement : (t step bound : ℕ) → Part
 
--- by this log the part was done, and each answer is good; these are the values that a walk found
+-- so all components agree from t on, each of which is asked first
+abbrev pub AllAgree : System → (t step bound : ℕ) → List Sent → Outcome → Type 0
+AllAgree system t step bound log outcome =
+    Agrees t step everyone bound (all_at t (shapes_of system)) log outcome
+
+-- by this log the part was done, and each answer is good; these are the values that a walk found. An agreement is done at a point, or before a size that a component doesn't take
 abbrev pub Does : System → Part → List (Option ℤ) → List Sent → Type 0
 Does system (Calls calls) values log = IsAnswered (shapes_of system) calls log
 Does system (Round calls) values log = IsAnswered (shapes_of system) calls log
 Does system (Walk rules before order) values log = Explains system rules before order values log
+Does system (Agreement t step bound) values log =
+    (o : Outcome) × IsGoodOutcome o × AllAgree system t step bound log o
 
 -- by this log the part came to this bad answer
 abbrev pub Falls : System → Part → BadAnswer → List Sent → Type 0
@@ -26,6 +37,7 @@ Falls system (Calls calls) bad log = StopsAt (shapes_of system) calls bad log
 Falls system (Round calls) bad log = FailsIn (shapes_of system) calls bad log
 Falls system (Walk rules before order) bad log =
     (values : List (Option ℤ)) × ExplainsUntil system rules before order bad values log
+Falls system (Agreement t step bound) bad log = AllAgree system t step bound log (Fails bad)
 
 -- the first bad answer of a log: behind it the instances up to that have no exchange
 pub record EndsBadly (shapes : List Shape) (bad : BadAnswer) (log : List Sent) : Type 0 where

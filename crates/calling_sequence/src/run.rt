@@ -13,20 +13,22 @@ use crate::text::{conclude, put_head};
 use crate::{Break, Buffers, Ending, Experiment, RunEnd};
 use fmu_peer::{Peer, Slot};
 use sim_base::Sink;
+use std::thread::Threads;
 
 /// Follows the calling sequence of Co-Simulation from instances that were made to the end line of the trace. It puts the
 /// header, sets the bound parameters, and leads each instance through Initialization Mode, where it asks fixed Clocks for
 /// interval and shift. At each point it takes one instant after the other, until no Update asks for another and no Clock is
 /// armed for the point: it finds the values, asks each countdown Clock for its interval and each FMU with event mode for what
-/// follows, and puts the instant. Then it steps all instances to the next grid point, the next tick or the stop: those with
-/// event mode go into Step Mode and behind the step into Event Mode, and the connected inputs of the others are set before
-/// it. It puts one piece for the header, one for each instant, and one for the end line, but behind a put that failed. Points
+/// follows, and puts the instant. Then it steps all instances until they stand at one point, at most at the next grid point,
+/// the next tick or the stop: those with event mode go into Step Mode and behind the step into Event Mode, and the connected
+/// inputs of the others are set before it. It puts one piece for the header, one for each instant, and one for the end line, but behind a put that failed. Points
 /// and sizes of steps are counts over the plan's resolution.
 ///
 /// Each FMU counts by the plan's resolution, and the bound values are for parameters of the components. There is a slot for
 /// each component, in their order and of its shape; each instance was made, and is held in the state of its phase. The
 /// buffers were made for the experiment (`Buffers::new`). No memory is taken.
-pub fn run_slots<L: Peer, O: Sink>(
+pub fn run_slots<R: Threads + Sync, L: Peer, O: Sink>(
+    rt: &R,
     slots: &mut [Slot<L>],
     experiment: &Experiment,
     buffers: &mut Buffers,
@@ -41,12 +43,13 @@ pub fn run_slots<L: Peer, O: Sink>(
         Ok(()) => {}
         Err(_) => return RunEnd::WriteFault,
     }
-    let outcome = follow(slots, experiment, buffers, out);
+    let outcome = follow(rt, slots, experiment, buffers, out);
     conclude(outcome, &mut buffers.text, out)
 }
 
 // Runs instances that were made to the end of the run, and puts each instant.
-fn follow<L: Peer, O: Sink>(
+fn follow<R: Threads + Sync, L: Peer, O: Sink>(
+    rt: &R,
     slots: &mut [Slot<L>],
     experiment: &Experiment,
     buffers: &mut Buffers,
@@ -97,29 +100,24 @@ fn follow<L: Peer, O: Sink>(
                 point: t,
             });
         }
-        let to = next_bound(plan, &buffers.schedule, t);
-        if let Some(component) = first_unfit(&experiment.system, plan, to - t) {
+        let bound = next_bound(plan, &buffers.schedule, t);
+        if let Some(component) = first_unfit(&experiment.system, plan, bound - t) {
             return Ok(Ending {
                 end: RunEnd::FixedStep {
                     component,
                     at: t,
-                    end: to,
+                    end: bound,
                 },
                 point: t,
             });
         }
-        let is_asked = match cross(slots, experiment, buffers, t, n, to) {
-            Ok(is_asked) => is_asked,
-            Err(bad) => {
-                return Err(Break::Ends(Ending {
-                    end: RunEnd::Bad(bad),
-                    point: t,
-                }));
-            }
+        let agreed = match cross(rt, slots, experiment, buffers, t, n, bound) {
+            Ok(agreed) => agreed,
+            Err(ending) => return Ok(ending),
         };
-        t = to;
+        t = agreed.point;
         n = 0;
-        if is_asked {
+        if agreed.asked {
             return Ok(Ending {
                 end: RunEnd::Asked { point: t },
                 point: t,

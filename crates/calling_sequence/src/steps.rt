@@ -1,47 +1,65 @@
-ghost use Rattle.std.specs.Prelude.{◌≡◌, ◌≤◌, ◌<◌, ◌-◌, ◌+◌, ℕ, Bool, false, true, OnOk, IfOk, length};
+ghost use Rattle.std.specs.Prelude.{◌≡◌, ◌≤◌, ◌<◌, ◌-◌, ◌+◌, ℕ, Bool, None, false, true, OnOk, IfOk, length};
 ghost use Rattle.run_model.specs.Machines.{AreFitting};
 ghost use Rattle.event_iteration.specs.Clocks.{timers_in};
 ghost use Rattle.slot_calls.specs.Slots.{instances};
-ghost use Rattle.calling_sequence.specs.Calls.{IsStep};
+ghost use Rattle.calling_sequence.specs.Calls.{IsStep, first_unfit};
 ghost use Rattle.calling_sequence.specs.Course.{Before, Begins, Departing, Leaving, Left, Seen, Spot, Stepped, Way};
-ghost use Rattle.calling_sequence.specs.Goes.{Goes, spot};
-ghost use Rattle.calling_sequence.specs.Place.{CanStep, IsAt, IsDeparting, IsSettled, IsStepping, no_one};
+ghost use Rattle.calling_sequence.specs.Ends.{end_of_step};
+ghost use Rattle.calling_sequence.specs.Goes.{Crosses, Goes, spot, stepped_to};
+ghost use Rattle.calling_sequence.specs.Place.{IsAt, IsDeparting, IsSettled, IsStepping};
 ghost use Rattle.calling_sequence.specs.Ready.{AreTimed, Ready};
 
-use crate::{BadAnswer, Buffers, Experiment};
+use crate::{BadAnswer, Buffers, Ending, Experiment, RunEnd};
 use event_iteration::set_inputs;
 use fmu_peer::{Peer, Slot};
-use slot_calls::{Ask, each, round};
+use rollback::{Agreed, StepEnd, agreed_step};
+use slot_calls::{Ask, each};
+use std::thread::Threads;
 
-/// Steps all FMUs from a point that is done to another, up to the first answer that isn't good: those with event mode go into
-/// Step Mode, the connected inputs of the others are set, and all are stepped. It is told whether an answer to the step asks
-/// for the end.
-pub(crate) fn cross<L: Peer>(
+/// Steps all FMUs from a point that is done until they stand at one point, at most at the bound, up to the first answer that
+/// isn't good or a size that one doesn't take: those with event mode go into Step Mode, the connected inputs of the others are
+/// set, and all are stepped. It is told where they stand, and whether the answer to a last step asks for the end.
+pub(crate) fn cross<R: Threads + Sync, L: Peer>(
+    rt: &R,
     slots: &mut [Slot<L>],
     experiment: &Experiment,
     buffers: &Buffers,
     t: u64,
     n: u64,
-    to: u64,
-) -> Result<bool, BadAnswer>
+    bound: u64,
+) -> Result<Agreed, Ending>
     requires ready { Ready L.view experiment.now (IsSettled t) slots.old }
     requires timed { AreTimed experiment.now t (n + 1) false buffers.now }
     requires step { IsStep experiment.now.system experiment.now.plan
-        (timers_in buffers.now.schedule) t to }
-    ensures ready { OnOk result (Ready L.view experiment.now (IsStepping no_one to) slots.new) }
-    ensures goes { (count : ℕ) → Goes experiment.now (Seen (spot t n buffers.now) false false)
-        (λ asked. Stepped (spot to 0 buffers.now) asked) (instances L.view slots.old)
+        (timers_in buffers.now.schedule) t bound }
+    ensures later { IfOk result (λ agreed. t < agreed.point) }
+    ensures within { IfOk result (λ agreed. agreed.point ≤ bound) }
+    ensures ready { IfOk result (λ agreed.
+        Ready L.view experiment.now (IsStepping agreed.point) slots.new) }
+    ensures crosses { (count : ℕ) →
+        Crosses experiment.now (Seen (spot t n buffers.now) false false)
+        (stepped_to (spot t n buffers.now)) (instances L.view slots.old)
         (instances L.view slots.new) count count result }
 {
     match enter_step(slots, experiment, t) {
         Ok(()) => {}
-        Err(bad) => return Err(bad),
+        Err(bad) => {
+            return Err(Ending {
+                end: RunEnd::Bad(bad),
+                point: t,
+            });
+        }
     }
     match set(slots, experiment, buffers, t) {
         Ok(()) => {}
-        Err(bad) => return Err(bad),
+        Err(bad) => {
+            return Err(Ending {
+                end: RunEnd::Bad(bad),
+                point: t,
+            });
+        }
     }
-    step(slots, experiment, t, to)
+    step(rt, slots, experiment, t, bound)
 }
 
 // Leads each FMU with event mode into Step Mode.
@@ -51,7 +69,7 @@ fn enter_step<L: Peer>(
     t: u64,
 ) -> Result<(), BadAnswer>
     requires { Ready L.view experiment.now (IsSettled t) slots.old }
-    ensures ready { OnOk result (Ready L.view experiment.now (IsStepping no_one t) slots.new) }
+    ensures ready { OnOk result (Ready L.view experiment.now (IsStepping t) slots.new) }
     ensures goes { (w : Way) (count : ℕ) → Goes experiment.now (Leaving w) (λ x. Left w)
         (instances L.view slots.old) (instances L.view slots.new) count count result }
 {
@@ -65,10 +83,10 @@ fn set<L: Peer>(
     buffers: &Buffers,
     t: u64,
 ) -> Result<(), BadAnswer>
-    requires ready { Ready L.view experiment.now (IsStepping no_one t) slots.old }
+    requires ready { Ready L.view experiment.now (IsStepping t) slots.old }
     requires places { length buffers.now.values.items ≡ length experiment.now.system.ports }
     requires fitting { AreFitting experiment.now.system buffers.now.values.items }
-    ensures ready { OnOk result (Ready L.view experiment.now (IsDeparting no_one t) slots.new) }
+    ensures ready { OnOk result (Ready L.view experiment.now (IsDeparting t) slots.new) }
     ensures goes { (s : Spot) (to count : ℕ) →
         Goes experiment.now (Left (record {
           s = record s { values = buffers.now.values.items };
@@ -80,29 +98,51 @@ fn set<L: Peer>(
     set_inputs(slots, &experiment.system, &buffers.values)
 }
 
-// Steps all.
-fn step<L: Peer>(
+// Steps all until they stand at one point, at most at the bound.
+fn step<R: Threads + Sync, L: Peer>(
+    rt: &R,
     slots: &mut [Slot<L>],
     experiment: &Experiment,
     t: u64,
-    to: u64,
-) -> Result<bool, BadAnswer>
-    requires ready { Ready L.view experiment.now (CanStep no_one t to) slots.old }
-    requires later { t < to }
-    requires within { to ≤ experiment.now.plan.stop }
-    ensures ready { OnOk result (Ready L.view experiment.now (IsStepping no_one to) slots.new) }
-    ensures goes { (s : Spot) (count : ℕ) →
-        Goes experiment.now (Departing (record { s = record s { t = t }; to = to }))
-        (λ asked. Stepped (record s { t = to; n = 0 }) asked) (instances L.view slots.old)
-        (instances L.view slots.new) count count result }
+    bound: u64,
+) -> Result<Agreed, Ending>
+    requires ready { Ready L.view experiment.now (IsDeparting t) slots.old }
+    requires later { t < bound }
+    requires within { bound ≤ experiment.now.plan.stop }
+    requires fit { first_unfit experiment.now.system experiment.now.plan (bound - t) ≡ None }
+    ensures later { IfOk result (λ agreed. t < agreed.point) }
+    ensures within { IfOk result (λ agreed. agreed.point ≤ bound) }
+    ensures ready { IfOk result (λ agreed.
+        Ready L.view experiment.now (IsStepping agreed.point) slots.new) }
+    ensures crosses { (s : Spot) (count : ℕ) →
+        Crosses experiment.now (Departing (record { s = record s { t = t }; to = bound }))
+        (stepped_to s) (instances L.view slots.old) (instances L.view slots.new) count count
+        result }
 {
-    round(
+    match agreed_step(
+        rt,
         slots,
-        Ask::DoStep {
-            at: t,
-            size: to - t,
-        },
-    )
+        t,
+        bound,
+        experiment.plan.step,
+        experiment.plan.workers,
+    ) {
+        Ok(agreed) => Ok(agreed),
+        Err(end) => Err(Ending {
+            end: end_of_step(end),
+            point: t,
+        }),
+    }
+}
+
+// How a run ends whose step isn't made.
+fn end_of_step(end: StepEnd) -> RunEnd
+    ensures { result ≡ end_of_step end }
+{
+    match end {
+        StepEnd::FixedStep { component, at, end } => RunEnd::FixedStep { component, at, end },
+        StepEnd::Bad(bad) => RunEnd::Bad(bad),
+    }
 }
 
 /// Leads each FMU with event mode into Event Mode at the point that a step reached.
@@ -111,7 +151,7 @@ pub(crate) fn enter_event<L: Peer>(
     experiment: &Experiment,
     t: u64,
 ) -> Result<(), BadAnswer>
-    requires { Ready L.view experiment.now (IsStepping no_one t) slots.old }
+    requires { Ready L.view experiment.now (IsStepping t) slots.old }
     ensures ready { OnOk result (Ready L.view experiment.now (IsAt t) slots.new) }
     ensures goes { (s : Spot) (ticks : ℕ → Bool) (count : ℕ) →
         Begins experiment.now.system experiment.now.plan (record s { n = 0 }) ticks →

@@ -1,5 +1,5 @@
--- The command lines of the program: `one DIR --resolution R --step H --stop T [--start S] [--max-iterations N]
--- [--host PROGRAM]`, `run` with the same words behind it, `check DIR --resolution R`, and `trace-check DIR FILE`.
+-- The command lines of the program: `one DIR --resolution R --step H --stop T [--start S] [--workers W]
+-- [--max-iterations N] [--host PROGRAM]`, `run` with the same words behind it, `check DIR --resolution R`, and `trace-check DIR FILE`.
 use Rattle.std.specs.Prelude.{◌≡◌, ℕ, ◌^◌, ◌≤◌, Bool, true, false, List, [], ◌∷◌, map, find, Option, Some, None, if◌then◌else◌, codes, decimal, String, string_bytes}
 use Rattle.std.specs.Str.{bytes_eq}
 use Rattle.std.specs.declared.alloc.Global.{Global}
@@ -57,6 +57,10 @@ stop_row = count_row (codes "stop") 0 (2 ^ 62) None
 abbrev pub start_row : CountRow
 start_row = count_row (codes "start") 0 (2 ^ 62) (Some 0)
 
+-- how many workers make the calls of a step
+abbrev pub workers_row : CountRow
+workers_row = count_row (codes "workers") 1 64 (Some 1)
+
 -- the most instants at one point
 abbrev pub limit_row : CountRow
 limit_row = count_row (codes "max-iterations") 1 10000 (Some 100)
@@ -76,7 +80,7 @@ host_row = text_row (codes "host") built_in_host
 abbrev pub run_options : List OptionRow
 run_options =
     CountOption resolution_row ∷ CountOption step_row ∷ CountOption stop_row ∷
-    CountOption start_row ∷ CountOption limit_row
+    CountOption start_row ∷ CountOption workers_row ∷ CountOption limit_row
     ∷ TextOption host_row ∷ []
 
 -- a command with a directory and these options
@@ -203,6 +207,7 @@ pub record GivesPlan (get : Lookup) (plan : Plan) : Type 0 where
   pub stop : Counts stop_row (get stop_row.name) plan.stop
   pub start : Counts start_row (get start_row.name) plan.start
   pub limit : Counts limit_row (get limit_row.name) plan.limit
+  pub workers : Counts workers_row (get workers_row.name) plan.workers
   pub ordered : plan.start ≤ plan.stop
 
 -- a line of a run gives the directory, the host and the plan
@@ -266,6 +271,7 @@ pub record IsWithin (plan : Plan) : Type 0 where
   pub stop : plan.stop ≤ 2 ^ 62
   pub start : plan.start ≤ plan.stop
   pub limit : (1 ≤ plan.limit) × (plan.limit ≤ 10000)
+  pub workers : (1 ≤ plan.workers) × (plan.workers ≤ 64)
 
 -- the counts of a line keep their limits
 abbrev pub KeepsLimits : Line → Type 0

@@ -13,6 +13,3 @@ pub use values::read_count;
 pub use words::{
     BUILT_IN_HOST, CheckOptions, CommandLine, Options, Request, TraceOptions, read_words,
 };
-
-#[cfg(test)]
-mod tests;

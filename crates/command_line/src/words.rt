@@ -1,7 +1,7 @@
-ghost use Rattle.std.specs.Prelude.{◌≡◌, ◌≤◌, ◌^◌, IfOk, IfErr, IfSome, IsSomeAnd};
+ghost use Rattle.std.specs.Prelude.{◌≡◌, ℕ, ◌≤◌, ◌^◌, IfOk, IfErr, IfSome, IsSomeAnd};
 ghost use Rattle.clap.specs.Words.{app_of, first_of, found_of, rows_of, subcommand_rows_of};
 ghost use Rattle.command_line.specs.App.{app_of_rows};
-ghost use Rattle.command_line.specs.Line.{Asked, Asks, AsksCheck, AsksRun, AsksTrace, CheckLine, GivesPlan, IsAsked, IsLineOf, IsWithin, IsWithinLimits, Lookup, RunLine, TraceLine, asked_of, check_of, commands, run_of, texts, trace_of};
+ghost use Rattle.command_line.specs.Line.{Asked, Asks, AsksCheck, AsksRun, AsksTrace, CheckLine, Counts, GivesPlan, IsAsked, IsLineOf, IsWithin, IsWithinLimits, Lookup, RunLine, TraceLine, asked_of, check_of, commands, run_of, texts, trace_of, workers_row};
 ghost use Rattle.command_line.specs.Table.{GivesLine, SubAsks};
 ghost use Rattle.command_line.specs.Words.{Word};
 ghost use Rattle.command_line.specs.declared.fault.WordsFault.TheVariants.{NoLine};
@@ -17,11 +17,12 @@ use std::alloc::{AllocError, Global};
 use system_model::Plan;
 
 // The options of a run.
-const RUN_OPTIONS: [&str; 6] = [
+const RUN_OPTIONS: [&str; 7] = [
     "resolution",
     "step",
     "stop",
     "start",
+    "workers",
     "max-iterations",
     "host",
 ];
@@ -31,6 +32,9 @@ pub const BUILT_IN_HOST: &str = "builtin";
 
 // The most instants at a point, where no option says it.
 const DEFAULT_LIMIT: u64 = 100;
+
+// The most workers.
+const MOST_WORKERS: u64 = 64;
 
 /// What a command line asks for.
 #[derive(Clone, Copy, Debug)]
@@ -196,6 +200,19 @@ fn read_trace_check<'a>(matches: &ArgMatches<'a>) -> Option<TraceOptions<'a>>
     })
 }
 
+// The number of workers, which is 1 where no option says it.
+fn read_workers(matches: &ArgMatches<'_>) -> Option<u32>
+    ensures ok { IfSome result
+        (Counts workers_row (first_of workers_row.name (rows_of (found_of matches.now)))) }
+    ensures only { (n : ℕ) →
+        Counts workers_row (first_of workers_row.name (rows_of (found_of matches.now))) n →
+        result ≡ Some n }
+    ensures within { IfSome result (λ n. (1 ≤ n) × (n ≤ 64)) }
+{
+    let workers = option_count(matches, "workers", 1, MOST_WORKERS, Some(1))?;
+    Some(workers as u32)
+}
+
 fn read_plan(matches: &ArgMatches<'_>) -> Option<Plan>
     ensures ok { IfSome result (GivesPlan (λ n. first_of n (rows_of (found_of matches.now)))) }
     ensures only { (plan : Plan) → GivesPlan (λ n. first_of n (rows_of (found_of matches.now)))
@@ -213,6 +230,7 @@ fn read_plan(matches: &ArgMatches<'_>) -> Option<Plan>
             MOST_INSTANTS,
             Some(DEFAULT_LIMIT),
         )?,
+        workers: read_workers(matches)?,
     };
     if plan.start <= plan.stop {
         Some(plan)

@@ -1,15 +1,17 @@
 -- The calls of one component along a run: each is one of a run, and none stands twice where it isn't needed.
-use Rattle.std.proofs.Common.{◌≡◌, ℕ, zero, suc, ◌-◌, ◌<◌, ◌≤◌, ◌==◌, Bool, true, false, List, [], ◌∷◌, ◌++◌, Option, Some, ℤ, refl, sym, ap, ◌∙◌, subst, append_assoc, append-nil, arith, length}
+use Rattle.std.proofs.Common.{◌≡◌, ℕ, zero, suc, ◌-◌, ◌<◌, ◌≤◌, ◌==◌, Bool, true, false, List, [], ◌∷◌, ◌++◌, ◌⊎◌, inl, inr, Option, Some, ℤ, refl, sym, ap, ◌∙◌, subst, append_assoc, append-nil, arith, length}
 use Rattle.std.specs.Prelude.{None, if◌then◌else◌}
 use Rattle.std.specs.List.{slice_get}
-use Rattle.std.specs.Option.{option_map_or}
+use Rattle.std.specs.Option.{option_map, option_map_or}
 use Rattle.std.proofs.lemmas.List.Elements.{All-cons, All-nil}
+use Rattle.std.proofs.lemmas.Option.{slice_get-map}
 use Rattle.value_types.specs.declared.shape.Shape.{Shape}
 use Rattle.fmi_calls.specs.declared.call.Call.{Call}
 use Rattle.fmi_calls.specs.declared.call.Call.TheVariants as C
 use Rattle.fmi_calls.specs.declared.call.Kind.{Kind}
 use Rattle.fmi_calls.specs.declared.call.Kind.TheVariants as K
 use Rattle.fmi_calls.specs.KindFacts.{IsRunCall, may_repeat, moves_on}
+use Rattle.fmu_peer.specs.Lean.{SizesFall}
 use Rattle.fmu_peer.specs.Mode.{instantiate_of}
 use Rattle.system_model.specs.declared.bound.Bound.{Bound}
 use Rattle.system_model.specs.declared.plan.Plan.{Plan}
@@ -24,15 +26,22 @@ use Rattle.slot_calls.specs.Stage.{IsAnswered, StopsAt, everyone, has_events, sh
 use Rattle.slot_calls.proofs.CallerLemmas.{other}
 use Rattle.event_iteration.specs.WalkCalls.{Front, UsesAre, WalksBy, Whole, has_events_at, initial_span, instant_span, interval_span, own, step_span, timing_span}
 use Rattle.event_iteration.proofs.ByLog.{Differ, each_call_once, own_append}
-use Rattle.calling_sequence.specs.Calls.{making}
-use Rattle.calling_sequence.specs.Course.{Again, Before, Configured, Course, Departing, Entered, Exits, Found, GoesOn, LeadsTo, Leaves, Leaving, Left, Made, Place, Read, Rearmed, Seen, Sets, Spot, Stepped, Timed, part_at}
-use Rattle.calling_sequence.specs.Parts.{Calls, Does, Falls, Part, Round, Walk}
+use Rattle.step_agreement.specs.Agreement.{Fails, Meets, Outcome, Stand, Unfit}
+use Rattle.step_agreement.specs.Saving.{early_count, is_saved}
+use Rattle.step_agreement.proofs.CallerLemmas.{Alternates, alternates_from, ends_so, sizes_fall_along}
+use Rattle.rollback.specs.StepsBy.{all_at}
+use Rattle.calling_sequence.specs.Calls.{leaving, making}
+use Rattle.calling_sequence.specs.Course.{Again, Agreed, Agreeing, Before, Configured, Course, Departing, Entered, Exits, Found, GoesOn, LeadsTo, Leaves, Leaving, Left, Made, Place, Read, Rearmed, Saved, Saves, Seen, Sets, Short, Spot, Stepped, Stopping, Timed, Way, part_at}
+use Rattle.calling_sequence.specs.Parts.{Agreement, AllAgree, Calls, Does, Falls, Part, Round, Walk}
 use Rattle.calling_sequence.proofs.Along.{along}
+use Rattle.calling_sequence.proofs.Sizes.{shapes_all}
 use Rattle.course_laws.specs.Laws.{AreNeeded, NoCallTwice}
 use Rattle.course_laws.specs.Runs.{Comes, Falling, Stands, Unmade}
 use Rattle.course_laws.proofs.BoundSets.{binding_new, setting_span}
-use Rattle.course_laws.proofs.Once.{IsBefore, IsBelow, IsSeen, IsSo, Keep, Limit, NamesNone, NamesPort, differ_by, differ_step, named, needed, needed_front, open_by, Open, switched, weaker}
+use Rattle.course_laws.proofs.LastSteps.{BeginsAll, all_home, begins_where_met, none_both}
+use Rattle.course_laws.proofs.Once.{IsBefore, IsBelow, IsSeen, IsSo, Keep, Limit, NamesNone, NamesPort, differ_by, named, needed, needed_front, open_by, Open, switched, weaker}
 use Rattle.course_laws.proofs.OwnCalls.{own_calls, own_log, own_there}
+use Rattle.course_laws.proofs.RoundCalls.{IsSomehow, free_runs, freed_kept, rounds_so, save_runs}
 
 -- ---- of which kinds the calls are that name no port, since the last that moved the FMU on
 
@@ -46,6 +55,8 @@ initial_kinds kind = false
 
 abbrev stepped_kinds : Kind → Bool
 stepped_kinds K.DoStep = true
+stepped_kinds K.Restore = true
+stepped_kinds K.Free = true
 stepped_kinds kind = false
 
 abbrev point_kinds : Kind → Bool
@@ -58,25 +69,47 @@ abbrev leaving_kinds : Kind → Bool
 leaving_kinds K.EnterStep = true
 leaving_kinds kind = point_kinds kind
 
+abbrev saved_kinds : Kind → Bool
+saved_kinds K.Save = true
+saved_kinds kind = leaving_kinds kind
+
+leaving_saved : (kind : Kind) → leaving_kinds kind ≡ true → saved_kinds kind ≡ true
+leaving_saved K.Save is = refl
+leaving_saved kind is = is
+
 stepped_at_point : (kind : Kind) → stepped_kinds kind ≡ true → point_kinds kind ≡ true
 stepped_at_point K.DoStep is = refl
+stepped_at_point K.Restore is = refl
+stepped_at_point K.Free is = refl
 stepped_at_point kind is = absurd (cc)
 
 point_leaving : (kind : Kind) → point_kinds kind ≡ true → leaving_kinds kind ≡ true
 point_leaving K.EnterStep is = refl
 point_leaving kind is = is
 
--- more kinds, and later uses
+later_before : (t u : ℕ) → t ≤ u → (c : Call) → IsBefore t c → IsBefore u c
+later_before t u high (C.DoStep at size) before = omega (arith, high, before)
+later_before t u high c before = tt
+
+-- more kinds, later steps, and later uses
+more_by : (l m : Limit) → ((kind : Kind) → l.kinds kind ≡ true → m.kinds kind ≡ true) → l.t ≤ m.t → l.below ≤ m.below → Keep l m
+more_by l m kinds late high c (NamesNone u is before) = NamesNone u (kinds _ is) (later_before l.t m.t late c before)
+more_by l m kinds late high c (NamesPort u less) = NamesPort u (omega (arith, less, high))
+
 more_seen : (l m : Limit) → ((kind : Kind) → l.kinds kind ≡ true → m.kinds kind ≡ true) → l.t ≡ m.t → l.below ≤ m.below → Keep l m
-more_seen l m kinds same high c (NamesNone u is before) = NamesNone u (kinds _ is) (subst (λ (t : ℕ). IsBefore t c) same before)
-more_seen l m kinds same high c (NamesPort u less) = NamesPort u (omega (arith, less, high))
+more_seen l m kinds same high = more_by l m kinds (omega (arith, same)) high
 
 abbrev limit : (Kind → Bool) → ℕ → ℕ → Limit
 limit kinds t below = record { kinds = kinds; t = t; below = below; kept = None }
 
--- what of an FMU its calls go by: event mode
+-- what of an FMU its calls go by: event mode, and whether its state is saved in steps
 record Traits : Type 0 where
   events : Bool
+  saved : Bool
+
+-- behind its Save, if there was one, no step was made
+abbrev kept_by : Bool → Open
+kept_by saved = if saved then Some None else None
 
 -- with event mode or without, behind the Updates of an instant
 abbrev below_seen : Bool → ℕ
@@ -96,6 +129,9 @@ limit_at e (Seen s again asked) = limit point_kinds s.t (below_seen e.events)
 limit_at e (Leaving w) = limit point_kinds w.s.t (below_seen e.events)
 limit_at e (Left w) = limit leaving_kinds w.s.t (below_seen e.events)
 limit_at e (Departing w) = limit leaving_kinds w.s.t (step_span e.events).below
+limit_at e (Saved w) = record (limit saved_kinds w.s.t (step_span e.events).below) { kept = kept_by e.saved }
+limit_at e (Short w component end) = limit saved_kinds (suc w.s.t) (step_span e.events).below
+limit_at e (Agreed w point asked) = limit stepped_kinds point 1
 limit_at e (Stepped s asked) = limit stepped_kinds s.t 1
 
 -- and behind what is sent from there
@@ -111,20 +147,25 @@ limit_behind e plan (Rearmed s) = limit point_kinds s.t (below_seen e.events)
 limit_behind e plan (Seen s again asked) = limit point_kinds s.t (below_seen e.events)
 limit_behind e plan (Leaving w) = limit_at e (Left w)
 limit_behind e plan (Left w) = limit_at e (Departing w)
-limit_behind e plan (Departing w) = limit stepped_kinds w.to 1
+limit_behind e plan (Departing w) = limit_at e (Saved w)
+limit_behind e plan (Saved w) = limit saved_kinds (suc w.s.t) (step_span e.events).below
+limit_behind e plan (Short w component end) = limit_at e (Short w component end)
+limit_behind e plan (Agreed w point asked) = limit stepped_kinds point 1
 limit_behind e plan (Stepped s asked) = limit point_kinds s.t (instant_span true e.events).from
 
--- a step goes to a later point
-abbrev IsLater : Place → Type 0
+-- the bound of a step is a later point
+abbrev pub IsLater : Place → Type 0
 IsLater (Leaving w) = w.s.t < w.to
 IsLater (Left w) = w.s.t < w.to
 IsLater (Departing w) = w.s.t < w.to
+IsLater (Saved w) = w.s.t < w.to
 IsLater p = Unit {0}
 
-later_on : (system : System) (plan : Plan) (p q : Place) (values : List (Option ℤ)) (log : List Sent) → LeadsTo system plan p values log q → IsLater p → IsLater q
+pub later_on : (system : System) (plan : Plan) (p q : Place) (values : List (Option ℤ)) (log : List Sent) → LeadsTo system plan p values log q → IsLater p → IsLater q
 later_on system plan _ _ _ _ (GoesOn w values log step) later = step.bound.bound.later
 later_on system plan _ _ _ _ (Leaves w values log) later = later
 later_on system plan _ _ _ _ (Sets w values log) later = later
+later_on system plan _ _ _ _ (Saves w values log) later = later
 later_on system plan _ _ _ _ leads later = tt
 
 -- ---- spans one behind the other
@@ -161,7 +202,7 @@ some_at (c ∷ cs) (suc k) w = some_at cs k (omega (arith, w))
 
 module _ (system : System) (sound : IsSound system) (k : ℕ) (c : Component) (of : slice_get system.components k ≡ Some c) where
   abbrev e : Traits
-  e = record { events = has_events_at system k }
+  e = record { events = has_events_at system k; saved = is_saved (early_count (shapes_of system)) c.shape }
 
   uses : UsesAre system
   uses = each_call_once system sound
@@ -188,6 +229,56 @@ module _ (system : System) (sound : IsSound system) (k : ℕ) (c : Component) (o
   Adds (Calls cs) calls l = IsSo l (calls ++ own k cs)
   Adds (Round cs) calls l = IsSo l (calls ++ own k cs)
   Adds (Walk rules before order) calls l = (log : List Sent) → WalksBy system rules before order log → IsSo l (calls ++ mine log)
+  Adds (Agreement t step b) calls l = (log : List Sent) (o : Outcome) → AllAgree system t step b log o → AreNeeded (calls ++ mine log)
+
+  -- and what then holds of them
+  abbrev AddedBy : Part → List Call → Limit → Type 0
+  AddedBy (Agreement t step b) calls l = Unit {0}
+  AddedBy part calls l = IsSo l calls
+
+  -- the calls up to a place; in a step some size may be kept
+  abbrev AtPlace : Place → List Call → Type 0
+  AtPlace (Short w component end) calls = IsSomehow (limit_at e (Saved w)) (limit_at e (Short w component end)) calls
+  AtPlace (Agreed w point asked) calls = IsSomehow (limit_at e (Saved w)) (limit_at e (Agreed w point asked)) calls
+  AtPlace p calls = IsSo (limit_at e p) calls
+
+  -- those of an agreement
+  module _ (t step b : ℕ) (later : t < b) (log : List Sent) (o : Outcome) (agrees : AllAgree system t step b log o) where
+    stand : (s : Stand) × (slice_get (all_at t (shapes_of system)) k ≡ Some s) × (s.point ≡ t)
+    stand =
+        let shape_is : slice_get (shapes_of system) k ≡ Some c.shape = slice_get-map (λ (x : Component). x.shape) system.components k ∙ ap (option_map (λ (x : Component). x.shape)) of in
+        (record { shape = c.shape; point = t; ask = t }, slice_get-map (λ (z : Shape). record { shape = z; point = t; ask = t }) (shapes_of system) k ∙ ap (option_map (λ (z : Shape). record { shape = z; point = t; ask = t })) shape_is, refl)
+
+    alternate : Alternates t false (mine log)
+    alternate = subst (Alternates t false) (own_calls k log) (alternates_from t step everyone k b (all_at t (shapes_of system)) log o agrees stand.0 stand.1 stand.2)
+
+    fall : SizesFall None (mine log)
+    fall = subst (SizesFall None) (own_calls k log) (sizes_fall_along everyone t step b (all_at t (shapes_of system)) log o later (λ i s at. refl) agrees k stand.0 stand.1)
+
+    -- where a step of each was made one of it was
+    begun : BeginsAll t (shapes_of system) log → mine log ≡ [] → ⊥
+    begun x none =
+        let whole : (mine x.backs ++ mine x.steps) ++ mine x.rest ≡ [] = ap (λ (cs : List Call). cs ++ mine x.rest) (sym (own_log k x.backs x.steps)) ∙ sym (own_log k (x.backs ++ x.steps) x.rest) ∙ ap mine (sym x.log_is) ∙ none in
+        let steps_none : mine x.steps ≡ [] = (none_both (mine x.backs) (mine x.steps) (none_both (mine x.backs ++ mine x.steps) (mine x.rest) whole).0).1 in
+        let one : mine x.steps ≡ C.DoStep t x.size ∷ [] = ap (own k) x.asked ∙ own_there everyone (λ (shape : Shape). C.DoStep t x.size) system k c of in
+        absurd (let wrong : [] ≡ C.DoStep t x.size ∷ [] = sym steps_none ∙ one in cc)
+
+    module _ (calls : List Call) (w : Way) (at : w.s.t ≡ t) (so : IsSo (limit_at e (Saved w)) calls) where
+      kept_is : (x : Bool) → e.saved ≡ x → ((limit_at e (Saved w)).kept ≡ None) ⊎ ((limit_at e (Saved w)).kept ≡ Some None)
+      kept_is true is = inr (ap kept_by is)
+      kept_is false is = inl (ap kept_by is)
+
+      own_alternate : Alternates w.s.t false (mine log)
+      own_alternate = subst (λ (n : ℕ). Alternates n false (mine log)) (sym at) alternate
+
+      -- whatever the agreement comes to
+      anyhow : IsSomehow (limit_at e (Saved w)) (limit saved_kinds (suc w.s.t) (step_span e.events).below) (calls ++ mine log)
+      anyhow = rounds_so (limit_at e (Saved w)) (limit saved_kinds (suc w.s.t) (step_span e.events).below) calls (mine log) so own_alternate fall refl refl (omega arith)
+          (inr (λ x. more_by (limit_at e (Saved w)) (record (limit saved_kinds (suc w.s.t) (step_span e.events).below) { kept = x }) (λ kind is. is) (omega arith) (omega arith))) (kept_is e.saved refl)
+
+      -- where it meets
+      met : (m : ℕ) → t < m → (mine log ≡ [] → ⊥) → IsSomehow (limit_at e (Saved w)) (limit stepped_kinds m 1) (calls ++ mine log)
+      met m after some = rounds_so (limit_at e (Saved w)) (limit stepped_kinds m 1) calls (mine log) so own_alternate fall refl refl (omega (arith, after, at)) (inl some) (kept_is e.saved refl)
 
   module _ (bound : Bound) (plan : Plan) (binds : BindsParameters system bound) where
     -- one call to those whose shape passes a test
@@ -215,7 +306,12 @@ module _ (system : System) (sound : IsSound system) (k : ℕ) (c : Component) (o
         to_some has_events l m calls so call run other is (λ none. absurd (let wrong : true ≡ false = sym moves ∙ none in cc)) below (λ none. h (has_its ∙ none))
         (ap (λ (o : Open). if c.shape.has_event_mode then o else l.kept) same ∙ same_open c.shape.has_event_mode l.kept ∙ kept)
 
-    adds : (p : Place) (calls : List Call) → IsLater p → IsSo (limit_at e p) calls → Adds (part_at system bound plan p) calls (limit_behind e plan p)
+    -- from before an end that nothing is sent from there is nothing to say
+    abbrev AddsAt : Place → List Call → Type 0
+    AddsAt (Short w component end) calls = Unit {0}
+    AddsAt p calls = Adds (part_at system bound plan p) calls (limit_behind e plan p)
+
+    adds : (p : Place) (calls : List Call) → IsLater p → AtPlace p calls → AddsAt p calls
     adds Made calls later so = named (limit_at e Made) setting_span calls _ so (omega arith) (omega arith) (binding_new system bound k binds)
     adds Configured calls later so =
         let enter = C.EnterInitialization plan.start plan.stop in
@@ -240,7 +336,16 @@ module _ (system : System) (sound : IsSound system) (k : ℕ) (c : Component) (o
     adds (Left w) calls later so = λ log walks. let r = left_set e.events in named (limit_at e (Left w)) (step_span e.events) calls (mine log) so r.0 r.1 (uses.step w.s.values _ log walks k)
     adds (Departing w) calls later so =
         let l = limit_at e (Departing w) in
-        to_all l (limit stepped_kinds w.to 1) calls so (C.DoStep w.s.t (w.to - w.s.t)) refl (differ_step l (w.to - w.s.t)) refl (NamesNone refl refl later) tt refl
+        let m = limit_at e (Saved w) in
+        to_some (is_saved (early_count (shapes_of system))) l m calls so C.Save save_runs (λ once. differ_by l C.Save refl refl) (NamesNone refl refl tt) (λ stays. more_seen l m leaving_saved refl (omega arith)) tt (λ none. more_seen l m leaving_saved refl (omega arith)) refl
+    adds (Saved w) calls later so = λ log o agrees.
+        let some = anyhow w.s.t plan.step w.to later log o agrees calls w refl so in
+        needed (record (limit saved_kinds (suc w.s.t) (step_span e.events).below) { kept = some.kept }) (calls ++ mine log) some.so
+    adds (Short w i x) calls later some = tt
+    adds (Agreed w m asked) calls later some =
+        let l = record (limit_at e (Agreed w m asked)) { kept = some.kept } in
+        let n = limit stepped_kinds m 1 in
+        to_some (is_saved (early_count (shapes_of system))) l n calls some.so C.Free free_runs (λ once. absurd (let wrong : true ≡ false = once in cc)) (NamesNone refl refl tt) (λ stays. more_seen l n (λ kind is. is) refl (omega arith)) tt (λ none. more_seen l n (λ kind is. is) refl (omega arith)) (freed_kept e.saved some.kept some.kept_so)
     adds (Stepped s true) calls later so =
         let l = limit_at e (Stepped s true) in
         let m = limit_behind e plan (Stepped s true) in
@@ -250,10 +355,11 @@ module _ (system : System) (sound : IsSound system) (k : ℕ) (c : Component) (o
         let m = limit_behind e plan (Stepped s false) in
         to_events l m calls so C.EnterEvent refl (λ once. differ_by l C.EnterEvent refl refl) refl (NamesNone refl refl tt) (λ none. more_seen l m stepped_at_point refl (stepped_seen e.events)) tt refl refl
 
-    added : (part : Part) (l : Limit) (calls : List Call) → Adds part calls l → (values : List (Option ℤ)) (log : List Sent) → Does system part values log → IsSo l (calls ++ mine log)
+    added : (part : Part) (l : Limit) (calls : List Call) → Adds part calls l → (values : List (Option ℤ)) (log : List Sent) → Does system part values log → AddedBy part (calls ++ mine log) l
     added (Calls cs) l calls a values log does = subst (λ (x : List Call). IsSo l (calls ++ x)) (sym (ap (own k) does.calls_are)) a
     added (Round cs) l calls a values log does = subst (λ (x : List Call). IsSo l (calls ++ x)) (sym (ap (own k) does.calls_are)) a
     added (Walk rules before order) l calls a values log does = a log (Whole values log does)
+    added (Agreement t step b) l calls a values log does = tt
 
     -- up to one of the calls
     stopped : (l : Limit) (calls : List Call) (cs : List Asking) (bad : BadAnswer) (log : List Sent) → IsSo l (calls ++ own k cs) → StopsAt (shapes_of system) cs bad log → AreNeeded (calls ++ mine log)
@@ -264,12 +370,28 @@ module _ (system : System) (sound : IsSound system) (k : ℕ) (c : Component) (o
     fallen (Calls cs) l calls a bad log falls = stopped l calls cs bad log a falls
     fallen (Round cs) l calls a bad log falls = needed l (calls ++ mine log) (subst (λ (x : List Call). IsSo l (calls ++ x)) (sym (ap (own k) falls.calls_are)) a)
     fallen (Walk rules before order) l calls a bad log (values, falls) = needed l (calls ++ mine log) (a log (Front bad values log falls))
+    fallen (Agreement t step b) l calls a bad log agrees = a log (Fails bad) agrees
 
-    leads_so : (calls : List Call) (p q : Place) (values : List (Option ℤ)) (log : List Sent) → LeadsTo system plan p values log q → IsSo (limit_behind e plan p) calls → IsSo (limit_at e q) calls
-    leads_so calls _ _ _ _ (Exits timers values log s ticks is begins) so = subst (λ (z : Spot). IsSo (limit_at e (Before z ticks)) calls) (sym is) so
-    leads_so calls _ _ _ _ (Again s values log ticks below begins) so =
-        subst (λ (b : Bool). IsSo (limit point_kinds s.t (instant_span b e.events).from) calls) (sym (other (suc s.n) 0 (λ same. absurd (omega (arith, same))))) so
-    leads_so calls _ _ _ _ leads so = so
+    none_stops : (bad : BadAnswer) (log : List Sent) → StopsAt (shapes_of system) [] bad log → ⊥
+    none_stops bad log stops = by stops.front (stops.calls_are ∙ ap (λ (l : List Sent). askings l ++ stops.left) stops.log_is) where
+      by : (front : List Sent) → [] ≡ askings (front ++ stops.last ∷ []) ++ stops.left → ⊥
+      by [] is = absurd (cc)
+      by (s ∷ front) is = absurd (cc)
+
+    fallen_at : (p : Place) (calls : List Call) → AddsAt p calls → (bad : BadAnswer) (log : List Sent) → Falls system (part_at system bound plan p) bad log → AreNeeded (calls ++ mine log)
+    fallen_at (Short w i x) calls a bad log falls = absurd (none_stops bad log falls)
+    fallen_at p calls a bad log falls = fallen (part_at system bound plan p) (limit_behind e plan p) calls a bad log falls
+
+    leads_so : (calls : List Call) (p q : Place) (values : List (Option ℤ)) (log : List Sent) → LeadsTo system plan p values log q → IsLater p → AtPlace p calls → AddsAt p calls → Does system (part_at system bound plan p) values log → AtPlace q (calls ++ mine log)
+    leads_so calls _ _ _ _ (Exits timers values log s ticks is begins) later at a does =
+        subst (λ (z : Spot). IsSo (limit_at e (Before z ticks)) (calls ++ mine log)) (sym is) (added (Calls (leaving system)) (limit_behind e plan (Timed timers)) calls a values log does)
+    leads_so calls _ _ _ _ (Again s values log ticks below begins) later at a does =
+        subst (λ (b : Bool). IsSo (limit point_kinds s.t (instant_span b e.events).from) (calls ++ mine log)) (sym (other (suc s.n) 0 (λ same. absurd (omega (arith, same))))) (added (Calls []) (limit_behind e plan (Seen s true false)) calls a values log does)
+    leads_so calls _ _ _ _ (Agreeing w values log m asked agrees is) later at a does =
+        let ends = ends_so w.s.t plan.step (shapes_of system) w.to later (all_at w.s.t (shapes_of system)) log (Meets m) (shapes_all w.s.t (shapes_of system)) (inl (all_home w.s.t (shapes_of system))) agrees in
+        met w.s.t plan.step w.to later log (Meets m) agrees calls w refl at m ends.2 (begun w.s.t plan.step w.to later log (Meets m) agrees (begins_where_met w.s.t plan.step (shapes_of system) w.to log m (all_at w.s.t (shapes_of system)) refl agrees))
+    leads_so calls _ _ _ _ (Stopping w values log i x agrees) later at a does = anyhow w.s.t plan.step w.to later log (Unfit i x) agrees calls w refl at
+    leads_so calls p q values log leads later at a does = added (part_at system bound plan p) (limit_behind e plan p) calls a values log does
 
     -- the calls that made it and those of a log
     abbrev upto : List Sent → List Call
@@ -278,18 +400,22 @@ module _ (system : System) (sound : IsSound system) (k : ℕ) (c : Component) (o
     upto_on : (a b : List Sent) → upto a ++ mine b ≡ upto (a ++ b)
     upto_on a b = append_assoc (own k (making system)) (mine a) (mine b) ∙ ap (λ (l : List Call). own k (making system) ++ l) (sym (own_log k a b))
 
-    course_so : (p : Place) (log : List Sent) (is : List Instant) → Course system bound plan p log is → IsLater p × IsSo (limit_at e p) (upto log)
-    course_so = along system bound plan (λ p log is. IsLater p × IsSo (limit_at e p) (upto log)) (tt, subst (IsSo (limit_at e Made)) (sym (append-nil (own k (making system)))) made_so)
+    course_so : (p : Place) (log : List Sent) (is : List Instant) → Course system bound plan p log is → IsLater p × AtPlace p (upto log)
+    course_so = along system bound plan (λ p log is. IsLater p × AtPlace p (upto log)) (tt, subst (IsSo (limit_at e Made)) (sym (append-nil (own k (making system)))) made_so)
         (λ p q values front more is course so does leads. (
           later_on system plan p q values more leads so.0,
-          subst (IsSo (limit_at e q)) (upto_on front more)
-              (leads_so (upto front ++ mine more) p q values more leads (added (part_at system bound plan p) (limit_behind e plan p) (upto front) (adds p (upto front) so.0 so.1) values more does)),
+          subst (AtPlace q) (upto_on front more) (leads_so (upto front) p q values more leads so.0 so.1 (adds p (upto front) so.0 so.1) does),
         ))
+
+    needed_at : (p : Place) (calls : List Call) → AtPlace p calls → AreNeeded calls
+    needed_at (Short w i x) calls some = needed _ calls some.so
+    needed_at (Agreed w m asked) calls some = needed _ calls some.so
+    needed_at p calls so = needed (limit_at e p) calls so
 
     falls_needed : (p : Place) (front more : List Sent) (is : List Instant) (bad : BadAnswer) → Course system bound plan p front is → Falls system (part_at system bound plan p) bad more → AreNeeded (upto (front ++ more))
     falls_needed p front more is bad course falls =
         let so = course_so p front is course in
-        subst AreNeeded (upto_on front more) (fallen (part_at system bound plan p) (limit_behind e plan p) (upto front) (adds p (upto front) so.0 so.1) bad more falls)
+        subst AreNeeded (upto_on front more) (fallen_at p (upto front) (adds p (upto front) so.0 so.1) bad more falls)
 
 module _ (system : System) (sound : IsSound system) (k : ℕ) (c : Component) (of : slice_get system.components k ≡ Some c) where
   -- the calls from the first on
@@ -304,7 +430,7 @@ module _ (system : System) (sound : IsSound system) (k : ℕ) (c : Component) (o
       let l = limit_at (e system sound k c of) Made in
       needed_front l [] (all log) (own k stops.left) (subst (IsSo l) (ap (own k) stops.calls_are ∙ own_append k (askings log) stops.left) (made_so system sound k c of))
   comes_needed _ _ (Stands bound plan p made log is binds counts answered course halts) =
-      behind_made made log answered (needed (limit_at (e system sound k c of) p) _ (course_so system sound k c of bound plan binds p log is course).1)
+      behind_made made log answered (needed_at system sound k c of bound plan binds p _ (course_so system sound k c of bound plan binds p log is course).1)
   comes_needed _ _ (Falling bound plan p bad made front more is binds counts answered course falls) =
       behind_made made (front ++ more) answered (falls_needed system sound k c of bound plan binds p front more is bad course falls)
 

@@ -1,5 +1,5 @@
 -- The answers of a run: all are good, or up to the first that isn't.
-use Rattle.std.proofs.Common.{ℕ, suc, ◌+◌, ◌<◌, ◌≤◌, ◌≡◌, ℤ, Bool, true, false, List, [], ◌∷◌, ◌++◌, Option, Some, refl, arith, length, subst, append_assoc}
+use Rattle.std.proofs.Common.{ℕ, suc, ◌+◌, ◌<◌, ◌≤◌, ◌≡◌, ℤ, Bool, true, false, List, [], ◌∷◌, ◌++◌, Option, Some, refl, arith, length, subst, ap, append_assoc}
 use Rattle.std.specs.Prelude.{All}
 use Rattle.std.specs.List.{slice_get}
 use Rattle.std.proofs.lemmas.List.{length-map}
@@ -28,15 +28,20 @@ use Rattle.slot_calls.specs.declared.bad_answer.BadAnswer.{BadAnswer}
 use Rattle.slot_calls.specs.Log.{Sent}
 use Rattle.slot_calls.specs.Stage.{IsGoodOf, everyone, shapes_of, to_those}
 use Rattle.slot_calls.proofs.CallerLemmas.{those_within}
+use Rattle.step_agreement.specs.Agreement.{Fails, Meets, Outcome, Stand, Unfit, to_some}
+use Rattle.step_agreement.specs.Saving.{IsGoodOutcome}
+use Rattle.step_agreement.proofs.CallerLemmas.{HasAlong, IsAlong, along_agreement}
+use Rattle.rollback.specs.StepsBy.{all_at}
 use Rattle.event_iteration.specs.Intervals.{timing_calls_in, timing_calls_of}
 use Rattle.event_iteration.proofs.ByLog.{last_alone_is_bad}
 use Rattle.calling_sequence.specs.Calls.{binding_from, making, sets_of}
-use Rattle.calling_sequence.specs.Course.{Before, Configured, Course, Departing, Entered, Found, Left, Leaving, Made, Place, Read, Rearmed, Seen, Stepped, Timed, part_at}
-use Rattle.calling_sequence.specs.Parts.{Calls, Does, EndsBadly, Falls, Part, Round, Walk}
+use Rattle.calling_sequence.specs.Course.{Agreed, Before, Configured, Course, Departing, Entered, Found, Left, Leaving, Made, Place, Read, Rearmed, Saved, Seen, Short, Stepped, Timed, part_at}
+use Rattle.calling_sequence.proofs.Sizes.{shapes_all}
+use Rattle.calling_sequence.specs.Parts.{Agreement, AllAgree, Calls, Does, EndsBadly, Falls, Part, Round, Walk}
 use Rattle.calling_sequence.proofs.Along.{along}
 use Rattle.course_laws.specs.Laws.{FirstBadAnswer}
 use Rattle.course_laws.specs.Runs.{Falling, Stands, Unmade}
-use Rattle.course_laws.proofs.Goods.{AreInOrder, IsToOne, fails_badly, first_of_parts, good_part, in_order_from, stops_badly, walks_badly}
+use Rattle.course_laws.proofs.Goods.{AreInOrder, IsToOne, fails_badly, first_of_parts, good_part, in_order_from, more_badly, stops_badly, to_ones, walks_badly}
 
 -- ---- calls to components that are there
 
@@ -75,19 +80,43 @@ module _ (system : System) where
   IsPlaced (Calls calls) = All (IsToOne (length ss)) calls
   IsPlaced (Round calls) = All (IsToOne (length ss)) calls × AreInOrder 0 calls
   IsPlaced (Walk rules before order) = Unit {0}
+  IsPlaced (Agreement t step b) = Unit {0}
 
   those : (test : Shape → Bool) (call : Shape → Call) → All (IsToOne (length ss)) (to_those test call ss)
   those test call = those_within test call (length ss) 0 ss (omega arith)
+
+  -- an agreement, whose rounds are sent whole
+  along_steps : (t : ℕ) → IsAlong t ss Good (λ (bad : BadAnswer) (log : List Sent). EndsBadly ss bad log)
+  along_steps t = record {
+    none = All-nil (IsGoodOf ss);
+    joined = λ front back f b. All-append (IsGoodOf ss) front back f b;
+    behind = λ bad front back f b. more_badly ss bad front back f b;
+    well = λ test call stands log is same a. a.good;
+    badly = λ test call stands bad log is same f.
+        let len = length-map stands (λ (s : Stand). s.shape) in
+        let all = ap length same in
+        fails_badly ss bad [] log (All-nil (IsGoodOf ss)) (to_some test call stands) (to_ones test (λ x. call) (length ss) 0 stands (omega (arith, len, all))) (in_order_from test (λ x. call) 0 0 stands (omega arith)) f;
+  }
+
+  pub agreement_has : (t step b : ℕ) (log : List Sent) (o : Outcome) → AllAgree system t step b log o → HasAlong Good (λ (bad : BadAnswer) (l : List Sent). EndsBadly ss bad l) o log
+  agreement_has t step b log o agrees = along_agreement t step everyone ss Good (λ (bad : BadAnswer) (l : List Sent). EndsBadly ss bad l) (along_steps t) b (all_at t ss) log o (shapes_all t ss) agrees
+
+  agreement_good : (log : List Sent) (o : Outcome) → IsGoodOutcome o → HasAlong Good (λ (bad : BadAnswer) (l : List Sent). EndsBadly ss bad l) o log → Good log
+  agreement_good log (Meets m) is h = h
+  agreement_good log (Unfit i e) is h = h
+  agreement_good log (Fails bad) is h = absurd is
 
   pub part_good : (part : Part) (values : List (Option ℤ)) (log : List Sent) → Does system part values log → Good log
   part_good (Calls calls) values log does = does.good
   part_good (Round calls) values log does = does.good
   part_good (Walk rules before order) values log does = (last_alone_is_bad system rules before order values log).good does
+  part_good (Agreement t step b) values log (o, is, agrees) = agreement_good log o is (agreement_has t step b log o agrees)
 
   part_badly : (part : Part) (bad : BadAnswer) (front more : List Sent) → IsPlaced part → Good front → Falls system part bad more → EndsBadly ss bad (front ++ more)
   part_badly (Calls calls) bad front more placed good falls = stops_badly ss bad front more good calls placed falls
   part_badly (Round calls) bad front more placed good falls = fails_badly ss bad front more good calls placed.0 placed.1 falls
   part_badly (Walk rules before order) bad front more placed good (values, falls) = walks_badly ss bad front more good ((last_alone_is_bad system rules before order values more).bad bad falls)
+  part_badly (Agreement t step b) bad front more placed good agrees = more_badly ss bad front more good (agreement_has t step b more (Fails bad) agrees)
 
   module _ (bound : Bound) (plan : Plan) (sound : IsSound system) (binds : BindsParameters system bound) where
     part_placed : (p : Place) → IsPlaced (part_at system bound plan p)
@@ -108,6 +137,9 @@ module _ (system : System) where
     part_placed (Leaving w) = those _ _
     part_placed (Left w) = tt
     part_placed (Departing w) = (those _ _, in_order_from _ _ 0 0 ss (omega arith))
+    part_placed (Saved w) = tt
+    part_placed (Short w i e) = All-nil (IsToOne (length ss))
+    part_placed (Agreed w m asked) = (those _ _, in_order_from _ _ 0 0 ss (omega arith))
     part_placed (Stepped s true) = All-nil (IsToOne (length ss))
     part_placed (Stepped s false) = those _ _
 

@@ -70,11 +70,11 @@ none_before i j [] order w = refl
 none_before i j (s ∷ log) (at, order) w =
     skips (s.component == j) s.exchange (part j log) (other s.component j (λ e. absurd (omega (arith, e, at, w)))) ∙ none_before (suc s.component) j log order (omega (arith, at, w))
 
-alone_behind : (i : ℕ) (front : List Sent) (last : Sent) (back : List Sent) → AreInOrder i (askings (front ++ last ∷ back)) → (j : ℕ) → j ≤ last.component → part j back ≡ []
+pub alone_behind : (i : ℕ) (front : List Sent) (last : Sent) (back : List Sent) → AreInOrder i (askings (front ++ last ∷ back)) → (j : ℕ) → j ≤ last.component → part j back ≡ []
 alone_behind i [] last back (at, order) j w = none_before (suc last.component) j back order (omega (arith, w))
 alone_behind i (f ∷ front) last back (at, order) j w = alone_behind (suc f.component) front last back order j w
 
-pub in_order_from : (test : Shape → Bool) (call : Shape → Call) (i j : ℕ) (ss : List Shape) → i ≤ j → AreInOrder i (to_those_from j test call ss)
+pub in_order_from : {A : Type 0} (test : A → Bool) (call : A → Call) (i j : ℕ) (ss : List A) → i ≤ j → AreInOrder i (to_those_from j test call ss)
 in_order_from test call i j [] w = tt
 in_order_from test call i j (s ∷ ss) w = by (test s) (in_order_from test call (suc j) (j + 1) ss (omega arith)) (in_order_from test call i (j + 1) ss (omega (arith, w))) where
   by : (b : Bool) → AreInOrder (suc j) (to_those_from (j + 1) test call ss) → AreInOrder i (to_those_from (j + 1) test call ss) →
@@ -87,6 +87,13 @@ in_order_from test call i j (s ∷ ss) w = by (test s) (in_order_from test call 
 -- the call is to one of so many
 abbrev pub IsToOne : ℕ → Asking → Type 0
 IsToOne n a = a.component < n
+
+pub to_ones : {A : Type 0} (test : A → Bool) (call : A → Call) (n k : ℕ) (xs : List A) → k + length xs ≤ n → All (IsToOne n) (to_those_from k test call xs)
+to_ones test call n k [] w = All-nil (IsToOne n)
+to_ones test call n k (x ∷ xs) w = by (test x) (to_ones test call n (k + 1) xs (omega (arith, w))) where
+  by : (b : Bool) → All (IsToOne n) (to_those_from (k + 1) test call xs) → All (IsToOne n) (if b then record { component = k; call = call x } ∷ to_those_from (k + 1) test call xs else to_those_from (k + 1) test call xs)
+  by true rest = All-cons (IsToOne n) (record { component = k; call = call x }) (to_those_from (k + 1) test call xs) (omega (arith, w)) rest
+  by false rest = rest
 
 -- so is one in their midst
 pub amid : (n : ℕ) (front : List Sent) (last : Sent) (back : List Sent) (left : List Asking) → All (IsToOne n) (askings (front ++ last ∷ back) ++ left) → last.component < n
@@ -116,6 +123,9 @@ module _ (ss : List Shape) (bad : BadAnswer) (before log : List Sent) (good : Al
       behind f.front f.last f.back f.log_is f.first
       (amid (length ss) f.front f.last f.back [] (subst (All (IsToOne (length ss))) (is ∙ sym (append-nil (askings (f.front ++ f.last ∷ f.back)))) to))
       (alone_behind 0 f.front f.last f.back (subst (AreInOrder 0) is order))
+
+  pub more_badly : EndsBadly ss bad log → EndsBadly ss bad (before ++ log)
+  more_badly b = behind b.front b.last b.back b.log_is b.first b.within b.alone
 
   pub walks_badly : LastIsBad ss bad log → EndsBadly ss bad (before ++ log)
   walks_badly l = behind l.front l.last [] l.log_is l.first l.within (λ j w. refl)

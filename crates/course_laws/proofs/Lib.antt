@@ -2,8 +2,10 @@ mod Goods
 mod RunEnds
 mod FirstBad
 mod OwnCalls
+mod LastSteps
 mod BoundSets
 mod Once
+mod RoundCalls
 mod CallsOnce
 mod ArmedClocks
 mod UpdateMarks
@@ -11,4 +13,4 @@ mod UpdateTables
 mod UpdatesNeeded
 mod Sorts
 mod UpdatesAlong
-pub mod StatesLeft
+mod StatesLeft

@@ -14,7 +14,7 @@ use Rattle.course_laws.specs.Laws.{AreNeeded}
 
 -- ---- lists
 
-seen_append : (seen a b : List Call) → seen_behind seen (a ++ b) ≡ seen_behind (seen_behind seen a) b
+pub seen_append : (seen a b : List Call) → seen_behind seen (a ++ b) ≡ seen_behind (seen_behind seen a) b
 seen_append seen [] b = refl
 seen_append seen (c ∷ a) b = seen_append (seen_after seen c) a b
 
@@ -70,11 +70,11 @@ steps_fall kept [] below = tt
 steps_fall kept (C.Save ∷ cs) below = (sizes_fall None cs below.1, steps_fall (Some None) cs below.1)
 steps_fall kept (c ∷ cs) below = steps_fall (open_by c kept) cs below.1
 
-open_append : (kept : Open) (a b : List Call) → open_behind kept (a ++ b) ≡ open_behind (open_behind kept a) b
+pub open_append : (kept : Open) (a b : List Call) → open_behind kept (a ++ b) ≡ open_behind (open_behind kept a) b
 open_append kept [] b = refl
 open_append kept (c ∷ a) b = open_append (open_by c kept) a b
 
-below_append : (kept : Open) (a b : List Call) → AreBelow kept a → AreBelow (open_behind kept a) b → AreBelow kept (a ++ b)
+pub below_append : (kept : Open) (a b : List Call) → AreBelow kept a → AreBelow (open_behind kept a) b → AreBelow kept (a ++ b)
 below_append kept [] b below more = more
 below_append kept (c ∷ a) b below more = (below.0, below_append (open_by c kept) a b below.1 more)
 

@@ -1,7 +1,7 @@
 -- Of which sort the calls are that are sent from a place, and what holds of each call of a part.
-use Rattle.std.proofs.Common.{◌≡◌, ℕ, ◌<◌, ◌==◌, ℤ, Bool, true, false, List, [], ◌∷◌, Option, refl, sym, ap, ◌∙◌, subst, arith}
+use Rattle.std.proofs.Common.{◌≡◌, ℕ, ◌<◌, ◌==◌, ℤ, Bool, true, false, List, [], ◌∷◌, inl, inr, Option, refl, sym, ap, ◌∙◌, subst, arith}
 use Rattle.std.specs.Prelude.{All, if◌then◌else◌}
-use Rattle.std.proofs.lemmas.List.Elements.{All-cons, All-head, All-nil, All-tail, All-weaker}
+use Rattle.std.proofs.lemmas.List.Elements.{All-append, All-cons, All-head, All-map, All-nil, All-tail, All-weaker}
 use Rattle.value_types.specs.declared.shape.Shape.{Shape}
 use Rattle.fmi_calls.specs.declared.call.Call.{Call}
 use Rattle.fmi_calls.specs.declared.call.Kind.{Kind}
@@ -13,26 +13,37 @@ use Rattle.system_model.specs.declared.system.System.{System}
 use Rattle.system_model.specs.Bounds.{BindsParameters}
 use Rattle.system_model.specs.Sound.{IsSound}
 use Rattle.slot_calls.specs.declared.bad_answer.BadAnswer.{BadAnswer}
-use Rattle.slot_calls.specs.Log.{Asking, Sent, askings}
-use Rattle.slot_calls.specs.Stage.{shapes_of, to_those}
+use Rattle.slot_calls.specs.Log.{Asking, Sent, asking_of, askings}
+use Rattle.slot_calls.specs.Stage.{everyone, shapes_of, to_those}
 use Rattle.slot_calls.proofs.CallerLemmas.{those_calls}
+use Rattle.step_agreement.specs.Agreement.{Fails, Meets, Outcome, Unfit}
+use Rattle.step_agreement.proofs.CallerLemmas.{HasAlong, IsAlong, IsOfRound, along_agreement, round_calls}
+use Rattle.rollback.specs.StepsBy.{all_at}
 use Rattle.event_iteration.specs.WalkCalls.{AreNew, Front, IsUse, Span, UsesAre, WalkUses, WalksBy, Whole, has_events_at, initial_span, instant_span, interval_span, own, step_span, use_in}
 use Rattle.event_iteration.specs.Turns.{Rules}
 use Rattle.event_iteration.proofs.ByLog.{each_call_once, own_append}
-use Rattle.calling_sequence.specs.Course.{Before, Configured, Departing, Entered, Found, Left, Leaving, Made, Place, Read, Rearmed, Seen, Stepped, Timed, part_at}
-use Rattle.calling_sequence.specs.Parts.{Calls, Does, Falls, Part, Round, Walk}
+use Rattle.calling_sequence.specs.Course.{Agreed, Before, Configured, Departing, Entered, Found, Left, Leaving, Made, Place, Read, Rearmed, Saved, Seen, Short, Stepped, Timed, part_at}
+use Rattle.calling_sequence.proofs.Sizes.{shapes_all}
+use Rattle.calling_sequence.specs.Parts.{Agreement, AllAgree, Calls, Does, Falls, Part, Round, Walk}
 use Rattle.course_laws.proofs.BoundSets.{binding_new, setting_span}
 use Rattle.course_laws.proofs.Once.{front_all}
 use Rattle.course_laws.proofs.UpdatesNeeded.{Throughout}
 
--- calls that name ports, or those of one kind
+-- calls that name ports, those of one kind, or those of an agreement
 pub data Sort : Type 0 where
   Uses : Sort
   Only : (kind : Kind) → Sort
+  Rounds : Sort
+
+abbrev pub is_of_rounds : Kind → Bool
+is_of_rounds K.DoStep = true
+is_of_rounds K.Restore = true
+is_of_rounds kind = false
 
 abbrev pub IsOf : Sort → Call → Type 0
 IsOf Uses c = 0 < use_in c
 IsOf (Only kind) c = kind_of c ≡ kind
+IsOf Rounds c = is_of_rounds (kind_of c) ≡ true
 
 -- what is sent from a place; from behind an instant nothing is
 abbrev pub sort_at : Place → Sort
@@ -40,7 +51,9 @@ sort_at Configured = Only K.EnterInitialization
 sort_at (Timed timers) = Only K.ExitInitialization
 sort_at (Rearmed s) = Only K.Update
 sort_at (Leaving w) = Only K.EnterStep
-sort_at (Departing w) = Only K.DoStep
+sort_at (Departing w) = Only K.Save
+sort_at (Saved w) = Rounds
+sort_at (Agreed w m asked) = Only K.Free
 sort_at (Stepped s asked) = Only K.EnterEvent
 sort_at p = Uses
 
@@ -57,20 +70,48 @@ abbrev pub IsThroughout : System → (Call → Type 0) → Part → Type 0
 IsThroughout system P (Calls calls) = (i : ℕ) → All P (own i calls)
 IsThroughout system P (Round calls) = (i : ℕ) → All P (own i calls)
 IsThroughout system P (Walk rules before order) = (log : List Sent) → WalksBy system rules before order log → Throughout system P log
+IsThroughout system P (Agreement t step b) = (call : Call) → IsOfRound t call → P call
 
 module _ (system : System) (P : Call → Type 0) where
   pub those : (test : Shape → Bool) (call : Shape → Call) → ((s : Shape) → P (call s)) → (i : ℕ) → All P (own i (to_those test call (shapes_of system)))
   those test call h i = own_all P i (to_those test call (shapes_of system)) (those_calls test call P (λ s passes. h s) 0 (shapes_of system))
 
+  -- the calls of an agreement
+  own_sent : (log : List Sent) → All (λ (s : Sent). P s.exchange.call) log → (i : ℕ) → All P (own i (askings log))
+  own_sent log all i = own_all P i (askings log) (All-map (λ (a : Asking). P a.call) asking_of log all)
+
+  abbrev AllSo : List Sent → Type 0
+  AllSo log = All (λ (s : Sent). P s.exchange.call) log
+
+  along_rounds : (t : ℕ) → ((call : Call) → IsOfRound t call → P call) → IsAlong t (shapes_of system) AllSo (λ (bad : BadAnswer). AllSo)
+  along_rounds t all = record {
+    none = All-nil (λ (s : Sent). P s.exchange.call);
+    joined = λ front back f b. All-append (λ (s : Sent). P s.exchange.call) front back f b;
+    behind = λ bad front back f b. All-append (λ (s : Sent). P s.exchange.call) front back f b;
+    well = λ test call stands l is same a. round_calls P test call (all call is) stands l a.calls_are;
+    badly = λ test call stands bad l is same f. round_calls P test call (all call is) stands l f.calls_are;
+  }
+
+  all_along : (log : List Sent) (o : Outcome) → HasAlong AllSo (λ (bad : BadAnswer). AllSo) o log → AllSo log
+  all_along log (Meets m) h = h
+  all_along log (Unfit i e) h = h
+  all_along log (Fails bad) h = h
+
+  agreement_all : (t step b : ℕ) → ((call : Call) → IsOfRound t call → P call) → (log : List Sent) (o : Outcome) → AllAgree system t step b log o → Throughout system P log
+  agreement_all t step b all log o agrees =
+      own_sent log (all_along log o (along_agreement t step everyone (shapes_of system) AllSo (λ (bad : BadAnswer). AllSo) (along_rounds t all) b (all_at t (shapes_of system)) log o (shapes_all t (shapes_of system)) agrees))
+
   pub does_all : (part : Part) → IsThroughout system P part → (values : List (Option ℤ)) (log : List Sent) → Does system part values log → Throughout system P log
   does_all (Calls calls) all values log does = λ i. subst (λ (l : List Asking). All P (own i l)) (sym does.calls_are) (all i)
   does_all (Round calls) all values log does = λ i. subst (λ (l : List Asking). All P (own i l)) (sym does.calls_are) (all i)
   does_all (Walk rules before order) all values log does = all log (Whole values log does)
+  does_all (Agreement t step b) all values log (o, is, agrees) = agreement_all t step b all log o agrees
 
   pub falls_all : (part : Part) → IsThroughout system P part → (bad : BadAnswer) (log : List Sent) → Falls system part bad log → Throughout system P log
   falls_all (Calls calls) all bad log falls = λ i. front_all P (own i (askings log)) (own i falls.left) (subst (All P) (ap (own i) falls.calls_are ∙ own_append i (askings log) falls.left) (all i))
   falls_all (Round calls) all bad log falls = λ i. subst (λ (l : List Asking). All P (own i l)) (sym falls.calls_are) (all i)
   falls_all (Walk rules before order) all bad log (values, falls) = all log (Front bad values log falls)
+  falls_all (Agreement t step b) all bad log agrees = agreement_all t step b all log (Fails bad) agrees
 
 module _ (system : System) (sound : IsSound system) (bound : Bound) (plan : Plan) (binds : BindsParameters system bound) where
   uses : UsesAre system
@@ -81,6 +122,10 @@ module _ (system : System) (sound : IsSound system) (bound : Bound) (plan : Plan
 
   walk_sort : (rules : Rules) (before : List (Option ℤ)) (order : List ℕ) (span : Bool → Span) → WalkUses system rules order span → IsThroughout system (IsOf Uses) (Walk rules before order)
   walk_sort rules before order span are log walks i = name_ports (span (has_events_at system i)) (own i (askings log)) (are before log walks i)
+
+  of_rounds : (t : ℕ) (call : Call) → IsOfRound t call → IsOf Rounds call
+  of_rounds t call (inl is) = subst (IsOf Rounds) (sym is) refl
+  of_rounds t call (inr (size, is)) = subst (IsOf Rounds) (sym is) refl
 
   pub sorts_are : (p : Place) → IsThroughout system (IsOf (sort_at p)) (part_at system bound plan p)
   sorts_are Made = λ i. name_ports setting_span _ (binding_new system bound i binds)
@@ -94,6 +139,9 @@ module _ (system : System) (sound : IsSound system) (bound : Bound) (plan : Plan
   sorts_are (Seen s again asked) = λ i. All-nil (IsOf Uses)
   sorts_are (Leaving w) = those system (IsOf (Only K.EnterStep)) _ _ (λ s. refl)
   sorts_are (Left w) = walk_sort _ _ _ step_span (uses.step w.s.values)
-  sorts_are (Departing w) = those system (IsOf (Only K.DoStep)) _ _ (λ s. refl)
+  sorts_are (Departing w) = those system (IsOf (Only K.Save)) _ _ (λ s. refl)
+  sorts_are (Saved w) = λ call is. of_rounds w.s.t call is
+  sorts_are (Short w i e) = λ i. All-nil (IsOf Uses)
+  sorts_are (Agreed w m asked) = those system (IsOf (Only K.Free)) _ _ (λ s. refl)
   sorts_are (Stepped s true) = λ i. All-nil (IsOf (Only K.EnterEvent))
   sorts_are (Stepped s false) = those system (IsOf (Only K.EnterEvent)) _ _ (λ s. refl)

@@ -1,10 +1,11 @@
 -- How a run leaves the states that were saved: one is still held only where the steps haven't come to one point.
-use Rattle.std.proofs.Common.{◌≡◌, ◌⊎◌, inl, inr, ℕ, ◌-◌, ◌<◌, ◌==◌, Bool, true, false, List, [], ◌∷◌, ◌++◌, Option, Some, None, Result, Ok, Err, refl, sym, ap, ◌∙◌, subst, append-nil, append_assoc, arith, length, get_or, ℤ}
+use Rattle.std.proofs.Common.{◌≡◌, ◌≢◌, ◌⊎◌, inl, inr, ℕ, ◌<◌, ◌==◌, Bool, true, false, List, [], ◌∷◌, ◌++◌, Option, Some, None, Result, Ok, Err, refl, sym, ap, ◌∙◌, subst, append-nil, append_assoc, arith, length, get_or, ℤ}
 use Rattle.std.specs.Prelude.{All, IfSome, MatchResult, if◌then◌else◌}
 use Rattle.std.specs.Option.{option_map}
 use Rattle.std.proofs.lemmas.List.{get_or_default, length-map}
 use Rattle.std.proofs.lemmas.List.Elements.{All-append, All-cons, All-head, All-nil, All-tail, All-weaker}
-use Rattle.std.proofs.lemmas.Option.{get_or_from_slice_get, slice_get-map}
+use Rattle.std.specs.List.{slice_get}
+use Rattle.std.proofs.lemmas.Option.{get_or_from_slice_get, same_Some, slice_get-map, slice_get_within}
 use Rattle.value_types.specs.declared.shape.Shape.{Shape}
 use Rattle.fmi_calls.specs.declared.call.Call.{Call}
 use Rattle.fmi_calls.specs.declared.call.Call.TheVariants as C
@@ -13,7 +14,6 @@ use Rattle.fmi_calls.specs.declared.call.Grade.TheVariants as G
 use Rattle.fmi_calls.specs.declared.call.Kind.{Kind}
 use Rattle.fmi_calls.specs.declared.call.Kind.TheVariants as K
 use Rattle.fmi_calls.specs.declared.call.Reply.{Reply}
-use Rattle.fmi_calls.specs.KindFacts.{IsRunCall, keeps_state}
 use Rattle.fmi_calls.specs.Worth.{grade_of}
 use Rattle.fmu_peer.specs.declared.ended.Why.{Why}
 use Rattle.fmu_peer.specs.declared.ended.Why.TheVariants.{Refused, Misreply, Link}
@@ -33,34 +33,29 @@ use Rattle.system_model.specs.Text.{Instant}
 use Rattle.slot_calls.specs.declared.bad_answer.BadAnswer.{BadAnswer}
 use Rattle.slot_calls.specs.Log.{Asking, Sent, askings, part}
 use Rattle.slot_calls.specs.SavedStates.{AgreeAtLast, EndsAt, IsGivenUp, LeavesState, Talk, has_stepped, if_good, last_step, saved_after, saved_by, step_or, steps}
-use Rattle.slot_calls.specs.Stage.{FailsIn, IsAnswered, IsGoodOf, everyone, shapes_of, to_those}
-use Rattle.slot_calls.proofs.CallerLemmas.{first_same, last_on, map_at, part_append, rest_same, same, saved_on, saved_same, stepped_on, takes, those_within}
+use Rattle.slot_calls.specs.Stage.{FailsIn, IsAnswered, IsGoodOf, StopsAt, everyone, shapes_of, to_those}
+use Rattle.slot_calls.proofs.CallerLemmas.{first_same, last_on, map_at, part_append, rest_same, same, saved_on, stepped_on, takes}
 use Rattle.event_iteration.specs.WalkCalls.{own}
 use Rattle.calling_sequence.specs.Calls.{making}
-use Rattle.calling_sequence.specs.Course.{AllEndAt, Course, Departing, LeadsTo, Place, Sets, Steps, part_at}
-use Rattle.calling_sequence.specs.Place.{no_one}
-use Rattle.calling_sequence.specs.Parts.{Calls, Does, Falls}
+use Rattle.step_agreement.specs.Agreement as A
+use Rattle.step_agreement.specs.Agreement.{Fails, Meets, Stand, Unfit, are_at, stand_by, stands_by}
+use Rattle.step_agreement.specs.Saving.{early_count, is_saved}
+use Rattle.step_agreement.proofs.CallerLemmas.{AreApart, AreGoodSteps, IsBroken, IsOfRound, all_there, ends_so, round_calls, there_all}
+use Rattle.rollback.specs.StepsBy.{all_at}
+use Rattle.calling_sequence.specs.Course.{Agreed, Agreeing, Course, Departing, LeadsTo, Made, Place, Saved, Saves, Short, Stopping, part_at}
+use Rattle.calling_sequence.specs.Parts.{Calls, Does, Falls, AllAgree as AgreeBy}
 use Rattle.calling_sequence.proofs.Along.{along}
+use Rattle.calling_sequence.proofs.Chains.{part_all}
+use Rattle.calling_sequence.proofs.Sizes.{shapes_all}
 use Rattle.course_laws.specs.Laws.{EndAs, StatesAreLeft, calls_in}
 use Rattle.course_laws.specs.Runs.{Falling, IsHalt, Stands, Unmade}
-use Rattle.course_laws.proofs.CallsOnce.{some_at}
-use Rattle.course_laws.proofs.FirstBad.{part_good}
-use Rattle.course_laws.proofs.Goods.{IsToOne, amid, good_part}
+use Rattle.course_laws.proofs.CallsOnce.{IsLater, later_on, some_at}
+use Rattle.course_laws.proofs.FirstBad.{agreement_has, part_good}
+use Rattle.course_laws.proofs.Goods.{AreInOrder, alone_behind, good_part, in_order_from}
+use Rattle.course_laws.proofs.LastSteps.{IsGoodRound, IsLast, all_home, begins_all, each_behind, ends_same, none_both, rounds_saved, stand_behind, tracks}
 use Rattle.course_laws.proofs.OwnCalls.{own_calls, own_there}
-use Rattle.course_laws.proofs.Sorts.{IsOf, Only, Sort, Uses, does_all, falls_all, sort_at, sorts_are, those}
+use Rattle.course_laws.proofs.Sorts.{IsOf, Only, Rounds, Sort, Uses, does_all, falls_all, sort_at, sorts_are, those}
 use Rattle.course_laws.proofs.UpdatesNeeded.{Throughout}
-
-no_state : (call : Call) → IsRunCall call → keeps_state call ≡ false
-no_state C.Save run = absurd (cc)
-no_state C.Restore run = absurd (cc)
-no_state C.Free run = absurd (cc)
-no_state call run = refl
-
-pub unsaved : (shape : Shape) (saved : Bool) (run : List Exchange) → All IsRunCall (calls_in run) → saved_after shape saved run ≡ saved
-unsaved shape saved [] runs = refl
-unsaved shape saved (e ∷ es) runs =
-    unsaved shape (saved_by shape e.call e.result saved) es (All-tail IsRunCall e.call (calls_in es) runs)
-    ∙ saved_same shape e.call e.result saved (no_state e.call (All-head IsRunCall e.call (calls_in es) runs))
 
 -- ---- other calls leave the state and the steps
 
@@ -74,6 +69,7 @@ abbrev is_plain : Sort → Bool
 is_plain (Only K.Save) = false
 is_plain (Only K.Free) = false
 is_plain (Only K.DoStep) = false
+is_plain Rounds = false
 is_plain sort = true
 
 other_of : (sort : Sort) → is_plain sort ≡ true → (c : Call) → IsOf sort c → IsOther c
@@ -83,6 +79,7 @@ other_of Uses plain (C.DoStep at size) is = absurd (omega (arith, is))
 other_of (Only kind) plain C.Save is = absurd (let wrong : false ≡ true = ap (λ (k : Kind). is_plain (Only k)) is ∙ plain in cc)
 other_of (Only kind) plain C.Free is = absurd (let wrong : false ≡ true = ap (λ (k : Kind). is_plain (Only k)) is ∙ plain in cc)
 other_of (Only kind) plain (C.DoStep at size) is = absurd (let wrong : false ≡ true = ap (λ (k : Kind). is_plain (Only k)) is ∙ plain in cc)
+other_of Rounds plain c is = absurd (cc)
 other_of sort plain c is = tt
 
 other_saved : (shape : Shape) (c : Call) → IsOther c → (r : Result Reply PeerFault) (saved : Bool) → saved_by shape c r saved ≡ saved
@@ -125,9 +122,13 @@ split_last (x ∷ es) (f ∷ fs) [] e is = absurd (never es f fs (rest_same x e 
 split_last (x ∷ es) (f ∷ fs) (y ∷ front) e is = split_last es (f ∷ fs) front e (rest_same x y (es ++ f ∷ fs) (front ++ e ∷ []) is)
 
 -- what holds of each holds of one
-all_at : (P : Exchange → Type 0) (front rest : List Exchange) (e : Exchange) → All P (front ++ e ∷ rest) → P e
-all_at P [] rest e all = All-head P e rest all
-all_at P (x ∷ front) rest e all = all_at P front rest e (All-tail P x (front ++ e ∷ rest) all)
+all_at_one : {X : Type 0} (P : X → Type 0) (front rest : List X) (e : X) → All P (front ++ e ∷ rest) → P e
+all_at_one P [] rest e all = All-head P e rest all
+all_at_one P (x ∷ front) rest e all = all_at_one P front rest e (All-tail P x (front ++ e ∷ rest) all)
+
+to_calls : (P : Call → Type 0) (es : List Exchange) → All (λ (e : Exchange). P e.call) es → All P (calls_in es)
+to_calls P [] all = All-nil P
+to_calls P (e ∷ es) all = All-cons P e.call (calls_in es) (All-head (λ (x : Exchange). P x.call) e es all) (to_calls P es (All-tail (λ (x : Exchange). P x.call) e es all))
 
 of_calls : (P : Call → Type 0) (es : List Exchange) → All P (calls_in es) → All (λ (e : Exchange). P e.call) es
 of_calls P [] all = All-nil (λ (e : Exchange). P e.call)
@@ -162,13 +163,6 @@ why_bad shape (Refused call status) e (reply, is, result, same, grade) good =
 why_bad shape (Misreply call reply) e (is, result, grade) good =
     absurd (let wrong : G.Misreply ≡ G.Good = sym grade ∙ subst (λ (c : Call). grade_of shape c reply ≡ G.Good) is (subst (λ (r : Result Reply PeerFault). MatchResult r (λ z. grade_of shape e.call z ≡ G.Good) (λ fault. ⊥)) result good) in cc)
 why_bad shape (Link call fault) e (is, result) good = subst (λ (r : Result Reply PeerFault). MatchResult r (λ z. grade_of shape e.call z ≡ G.Good) (λ fault. ⊥)) result good
-
-part_each : (P : Exchange → Type 0) (i : ℕ) (log : List Sent) → All (λ (s : Sent). P s.exchange) log → All P (part i log)
-part_each P i [] all = All-nil P
-part_each P i (s ∷ log) all = by (s.component == i) (part_each P i log (All-tail (λ (x : Sent). P x.exchange) s log all)) where
-  by : (b : Bool) → All P (part i log) → All P (if b then s.exchange ∷ part i log else part i log)
-  by true more = All-cons P s.exchange (part i log) (All-head (λ (x : Sent). P x.exchange) s log all) more
-  by false more = more
 
 -- ---- one call, or none
 
@@ -239,6 +233,11 @@ sends_other b call _ other (NoOne unable) = All-nil (λ (x : Exchange). x.call �
 before_free : (front : List Exchange) (e : Exchange) → e.call ≡ C.Free → has_stepped false (front ++ e ∷ []) ≡ has_stepped false front
 before_free front e frees = stepped_on false front (e ∷ []) ∙ ap (λ (c : Call). steps c (has_stepped false front)) frees
 
+-- neither is a call of an agreement's rounds
+round_no_free : (t : ℕ) (c : Call) → IsOfRound t c → c ≡ C.Free → ⊥
+round_no_free t c (inl is) frees = absurd (let wrong : C.Restore ≡ C.Free = sym is ∙ frees in cc)
+round_no_free t c (inr (size, is)) frees = absurd (let wrong : C.DoStep t size ≡ C.Free = sym is ∙ frees in cc)
+
 no_free : (es : List Exchange) → All IsOther (calls_in es) → NoFree es
 no_free es all = λ k d w frees. subst IsOther frees (of_calls IsOther es all k d w)
 
@@ -253,17 +252,37 @@ module _ (system : System) where
   abbrev AllAgree : List Sent → Type 0
   AllAgree log = (m : ℕ) × ((k : ℕ) (d : Shape) → k < n → IfSome (last_step None (part k log)) (λ e. IsGood (get_or ss k d) e × EndsAt m e.result))
 
-  -- no state is held, and behind a Free all agree
+  -- behind a Free all agree
+  abbrev IsFreed : List Sent → ℕ → Type 0
+  IsFreed log k = (front : List Exchange) (e : Exchange) → part k log ≡ front ++ e ∷ [] → e.call ≡ C.Free → AllAgree log × (has_stepped false front ≡ true)
+
+  -- no state is held
   record IsPast (log : List Sent) (k : ℕ) (d : Shape) : Type 0 where
     unheld : saved_after (get_or ss k d) false (part k log) ≡ false
-    freed : (front : List Exchange) (e : Exchange) → part k log ≡ front ++ e ∷ [] → e.call ≡ C.Free → AllAgree log × (has_stepped false front ≡ true)
+    freed : IsFreed log k
 
   abbrev ArePast : List Sent → Type 0
   ArePast log = (k : ℕ) (d : Shape) → k < n → IsPast log k d
 
-  -- of the FMUs whose shape passes a test a state is held
+  -- a state is held where the shape passes a test, since which no step was made
+  record IsHeld (test : Shape → Bool) (log : List Sent) (k : ℕ) (d : Shape) : Type 0 where
+    held : saved_after (get_or ss k d) false (part k log) ≡ test (get_or ss k d)
+    unstepped : test (get_or ss k d) ≡ true → has_stepped false (part k log) ≡ false
+    freed : IsFreed log k
+
   abbrev AreHeld : (Shape → Bool) → List Sent → Type 0
-  AreHeld test log = (k : ℕ) (d : Shape) → k < n → saved_after (get_or ss k d) false (part k log) ≡ test (get_or ss k d)
+  AreHeld test log = (k : ℕ) (d : Shape) → k < n → IsHeld test log k d
+
+  -- a state is held only where the last steps don't agree, or none was made since it was saved
+  record IsLeft (log : List Sent) (k : ℕ) (d : Shape) : Type 0 where
+    held : saved_after (get_or ss k d) false (part k log) ≡ true → (AllAgree log → ⊥) ⊎ (has_stepped false (part k log) ≡ false)
+    freed : IsFreed log k
+
+  abbrev AreLeft : List Sent → Type 0
+  AreLeft log = (k : ℕ) (d : Shape) → k < n → IsLeft log k d
+
+  past_left : (log : List Sent) → ArePast log → AreLeft log
+  past_left log past k d w = record { held = λ held. absurd (let wrong : true ≡ false = sym held ∙ (past k d w).unheld in cc); freed = (past k d w).freed }
 
   -- the same, behind steps that agree
   abbrev HaveMet : (Shape → Bool) → List Sent → Type 0
@@ -289,26 +308,32 @@ module _ (system : System) where
 
   module _ (log more : List Sent) where
     -- calls that are no Frees and no steps leave what a Free at the end says
-    freed_on : (k : ℕ) (d : Shape) → NoFree (part k more) → ((i : ℕ) → i < n → All IsNoStep (calls_in (part i more))) → IsPast log k d → (front : List Exchange) (e : Exchange) → part k (log ++ more) ≡ front ++ e ∷ [] → e.call ≡ C.Free → AllAgree (log ++ more) × (has_stepped false front ≡ true)
-    freed_on k d none still past front e is frees = by (split_last (part k log) (part k more) front e (sym (part_append k log more) ∙ is)) where
+    freed_on : (k : ℕ) → NoFree (part k more) → ((i : ℕ) → i < n → All IsNoStep (calls_in (part i more))) → IsFreed log k → IsFreed (log ++ more) k
+    freed_on k none still freed front e is frees = by (split_last (part k log) (part k more) front e (sym (part_append k log more) ∙ is)) where
       by : (part k more ≡ []) ⊎ ((rest : List Exchange) × (part k more ≡ rest ++ e ∷ [])) → AllAgree (log ++ more) × (has_stepped false front ≡ true)
       by (inl empty) =
-          let f = past.freed front e (sym (append-nil (part k log)) ∙ ap (λ (es : List Exchange). part k log ++ es) (sym empty) ∙ sym (part_append k log more) ∙ is) frees in
+          let f = freed front e (sym (append-nil (part k log)) ∙ ap (λ (es : List Exchange). part k log ++ es) (sym empty) ∙ sym (part_append k log more) ∙ is) frees in
           (agree_on log more still f.0, f.1)
-      by (inr (rest, last)) = absurd (all_at (λ (x : Exchange). x.call ≡ C.Free → ⊥) rest [] e (subst NoFree last none) frees)
+      by (inr (rest, last)) = absurd (all_at_one (λ (x : Exchange). x.call ≡ C.Free → ⊥) rest [] e (subst NoFree last none) frees)
 
     -- other calls, whatever is answered
     others_on : ((k : ℕ) → All IsOther (calls_in (part k more))) → ArePast log → ArePast (log ++ more)
     others_on others past k d w = record {
       unheld = ap (saved_after (get_or ss k d) false) (part_append k log more) ∙ saved_on (get_or ss k d) false (part k log) (part k more) ∙ others_saved (get_or ss k d) (part k more) _ (others k) ∙ (past k d w).unheld;
-      freed = freed_on k d (no_free (part k more) (others k)) (λ i v. All-weaker IsOther IsNoStep other_no (calls_in (part i more)) (others i)) (past k d w);
+      freed = freed_on k (no_free (part k more) (others k)) (λ i v. All-weaker IsOther IsNoStep other_no (calls_in (part i more)) (others i)) (past k d w).freed;
     }
 
     module _ (test : Shape → Bool) where
       saves_on : All (IsGoodOf ss) more → askings more ≡ to_those test (λ (z : Shape). C.Save) ss → ArePast log → AreHeld test (log ++ more)
       saves_on good is past k d w =
-          ap (saved_after (get_or ss k d) false) (part_append k log more)
-          ∙ after_save (get_or ss k d) (part k log) (test (get_or ss k d)) (part k more) (sent_to test C.Save more is k d w) (good_part ss more good k d) (past k d w).unheld
+          let s = get_or ss k d in
+          let sends = sent_to test C.Save more is k d w in
+          let held = after_save s (part k log) (test s) (part k more) sends (good_part ss more good k d) (past k d w).unheld in
+          record {
+            held = ap (saved_after s false) (part_append k log more) ∙ held;
+            unstepped = λ able. ap (has_stepped false) (part_append k log more) ∙ unstepped s (part k log) (test s) (part k more) sends (past k d w).unheld (held ∙ able);
+            freed = freed_on k (sends_other _ C.Save (part k more) (λ e. absurd (cc)) sends) (λ i v. sends_no _ C.Save (part i more) tt (sent_to test C.Save more is i d v)) (past k d w).freed;
+          }
 
       frees_on : askings more ≡ to_those test (λ (z : Shape). C.Free) ss → HaveMet test log → ArePast (log ++ more)
       frees_on is (agree, held) k d w =
@@ -322,26 +347,182 @@ module _ (system : System) where
             );
           }
 
-      steps_on : (at size m : ℕ) → All (IsGoodOf ss) more → AllEndAt m more → askings more ≡ to_those everyone (λ (z : Shape). C.DoStep at size) ss → AreHeld test log → HaveMet test (log ++ more)
-      steps_on at size m good ends is held = (
-        (
-          m,
-          λ k d w.
-              let a = after_step (get_or ss k d) (part k log) at size (part k more) (sent_to everyone (C.DoStep at size) more is k d w) in
-              subst (λ (o : Option Exchange). IfSome o (λ e. IsGood (get_or ss k d) e × EndsAt m e.result)) (sym (ap (last_step None) (part_append k log more) ∙ a.2))
-              (All-head (IsGood (get_or ss k d)) a.0 [] (subst (All (IsGood (get_or ss k d))) a.1 (good_part ss more good k d)), All-head (λ (e : Exchange). EndsAt m e.result) a.0 [] (subst (All (λ (e : Exchange). EndsAt m e.result)) a.1 (part_each (λ (e : Exchange). EndsAt m e.result) k more ends))),
-        ),
-        λ k d w.
-            let a = after_step (get_or ss k d) (part k log) at size (part k more) (sent_to everyone (C.DoStep at size) more is k d w) in
-            (ap (saved_after (get_or ss k d) false) (part_append k log more) ∙ a.4 ∙ held k d w, ap (has_stepped false) (part_append k log more) ∙ a.3),
-      )
+  -- ---- an agreement
 
-  -- where they agree and no state is held
-  met_past : (log : List Sent) → HaveMet no_one log → ArePast log
-  met_past log (agree, held) k d w = record {
-    unheld = (held k d w).0;
-    freed = λ front e last frees. (agree, sym (before_free front e frees) ∙ ap (has_stepped false) (sym last) ∙ (held k d w).1);
-  }
+  module _ (t step b : ℕ) (later : t < b) (log more : List Sent) where
+    -- one of the FMUs at its beginning
+    record Own (k : ℕ) (d : Shape) : Type 0 where
+      stand : Stand
+      at : slice_get (all_at t ss) k ≡ Some stand
+      shape : get_or ss k d ≡ stand.shape
+      home : stand.point ≡ t
+
+    own_at : (k : ℕ) (d : Shape) → k < n → Own k d
+    own_at k d w =
+        let c = some_at system.components k w in
+        let s : Stand = record { shape = c.0.shape; point = t; ask = t } in
+        let shape_is : slice_get ss k ≡ Some c.0.shape = slice_get-map (λ (x : Component). x.shape) system.components k ∙ ap (option_map (λ (x : Component). x.shape)) c.1 in
+        record {
+          stand = s;
+          at = slice_get-map (λ (z : Shape). record { shape = z; point = t; ask = t }) ss k ∙ ap (option_map (λ (z : Shape). record { shape = z; point = t; ask = t })) shape_is;
+          shape = get_or_from_slice_get ss k c.0.shape d shape_is;
+          home = refl;
+        }
+
+    -- its calls of the agreement
+    rounds : AreGoodSteps t ss more → (k : ℕ) (d : Shape) → All (IsGoodRound t (get_or ss k d)) (part k more)
+    rounds good k d =
+        All-weaker (λ (e : Exchange). ((z : Shape) → IsGood (get_or ss k z) e) × IsOfRound t e.call) (IsGoodRound t (get_or ss k d)) (λ e x. (x.0 d, x.1)) (part k more)
+        (part_all (λ i e. ((z : Shape) → IsGood (get_or ss i z) e) × IsOfRound t e.call) k more good)
+
+    -- its last step
+    last_of_own : AreGoodSteps t ss more → (k : ℕ) (d : Shape) (w : k < n) → (stand_by t (own_at k d w).stand (part k more)).point ≢ t →
+        IsLast t (get_or ss k d) (stand_by t (own_at k d w).stand (part k more)).point (last_step None (part k (log ++ more))) (has_stepped false (part k (log ++ more)))
+    last_of_own good k d w away =
+        let s = (own_at k d w).stand in
+        let led = tracks t (get_or ss k d) (part k more) (rounds good k d) s (last_step None (part k log)) (has_stepped false (part k log)) (λ other. absurd (other (own_at k d w).home)) away in
+        let last_is = ap (last_step None) (part_append k log more) ∙ last_on None (part k log) (part k more) in
+        let stepped_is = ap (has_stepped false) (part_append k log more) ∙ stepped_on false (part k log) (part k more) in
+        record { exchange = led.exchange; is = last_is ∙ led.is; good = led.good; end = led.end; stepped = stepped_is ∙ led.stepped }
+
+    -- behind which all agree
+    met_on : (test : Shape → Bool) (m : ℕ) → AreHeld test log → AgreeBy system t step b more (Meets m) → HaveMet test (log ++ more)
+    met_on test m held agrees = (
+      (
+        m,
+        λ k d w.
+            let l = last k d w in
+            subst (λ (o : Option Exchange). IfSome o (λ e. IsGood (get_or ss k d) e × EndsAt m e.result)) (sym l.is) (l.good, subst (λ (p : ℕ). EndsAt p l.exchange.result) (there k d w) l.end),
+      ),
+      λ k d w. (
+        ap (saved_after (get_or ss k d) false) (part_append k log more) ∙ saved_on (get_or ss k d) false (part k log) (part k more)
+            ∙ rounds_saved t (get_or ss k d) (part k more) (All-weaker (IsGoodRound t (get_or ss k d)) (λ (e : Exchange). IsOfRound t e.call) (λ e x. x.1) (part k more) (rounds so.0 k d)) _ ∙ (held k d w).held,
+        (last k d w).stepped,
+      ),
+    ) where
+      so : AreGoodSteps t ss more × (are_at m (stands_by t (all_at t ss) more) ≡ true) × (t < m)
+      so = ends_so t step ss b later (all_at t ss) more (Meets m) (shapes_all t ss) (inl (all_home t ss)) agrees
+
+      there : (k : ℕ) (d : Shape) (w : k < n) → (stand_by t (own_at k d w).stand (part k more)).point ≡ m
+      there k d w = all_there m (stands_by t (all_at t ss) more) so.1 k (stand_by t (own_at k d w).stand (part k more)) (stand_behind t (all_at t ss) more k (own_at k d w).stand (own_at k d w).at)
+
+      last : (k : ℕ) (d : Shape) (w : k < n) → IsLast t (get_or ss k d) (stand_by t (own_at k d w).stand (part k more)).point (last_step None (part k (log ++ more))) (has_stepped false (part k (log ++ more)))
+      last k d w = last_of_own so.0 k d w (λ same. absurd (let at = there k d w in let after = so.2 in omega (arith, same, at, after)))
+
+    module _ (good : AreGoodSteps t ss more) (are : AreApart t (stands_by t (all_at t ss) more)) where
+      away : (k : ℕ) (d : Shape) (w : k < n) → (stand_by t (own_at k d w).stand (part k more)).point ≢ t
+      away k d w same = absurd (let after = are.behind k (stand_by t (own_at k d w).stand (part k more)) (stand_behind t (all_at t ss) more k (own_at k d w).stand (own_at k d w).at) in omega (arith, same, after))
+
+      -- where all stand apart the last steps don't agree, whatever calls follow that are no steps
+      apart_on : (rest : List Sent) → ((k : ℕ) → All IsNoStep (calls_in (part k rest))) → AllAgree ((log ++ more) ++ rest) → ⊥
+      apart_on rest still (m, all) = are.apart m (there_all m (stands_by t (all_at t ss) more) (each_behind (λ (y : Stand). y.point ≡ m) t (all_at t ss) more (λ k s at. same k s at))) where
+        same : (k : ℕ) (s : Stand) → slice_get (all_at t ss) k ≡ Some s → (stand_by t s (part k more)).point ≡ m
+        same k s at =
+            let at_t : Shape → Stand = λ z. record { shape = z; point = t; ask = t } in
+            let w : k < n = let l = length-map ss at_t in let q = length-map system.components (λ (c : Component). c.shape) in let i = slice_get_within (all_at t ss) k s at in omega (arith, l, q, i) in
+            let d = s.shape in
+            let own = own_at k d w in
+            let is : own.stand ≡ s = same_Some own.stand s (sym own.at ∙ at) in
+            let l = last_of_own good k d w (away k d w) in
+            let all_is : IfSome (last_step None (part k ((log ++ more) ++ rest))) (λ e. IsGood (get_or ss k d) e × EndsAt m e.result) = all k d w in
+            let last_is : last_step None (part k ((log ++ more) ++ rest)) ≡ Some l.exchange = ap (last_step None) (part_append k (log ++ more) rest) ∙ last_on None (part k (log ++ more)) (part k rest) ∙ no_steps (part k rest) _ (still k) ∙ l.is in
+            let ends = subst (λ (o : Option Exchange). IfSome o (λ e. IsGood (get_or ss k d) e × EndsAt m e.result)) last_is all_is in
+            ap (λ (x : Stand). (stand_by t x (part k more)).point) (sym is) ∙ ends_same (stand_by t own.stand (part k more)).point m l.exchange.result l.end ends.1
+
+      stepped_there : (k : ℕ) (d : Shape) (w : k < n) → part k more ≡ [] → ⊥
+      stepped_there k d w empty = away k d w (ap (λ (es : List Exchange). (stand_by t (own_at k d w).stand es).point) empty ∙ (own_at k d w).home)
+
+    -- a talk that ends with a round doesn't end with a Free
+    no_free_last : AreGoodSteps t ss more → (rest : List Sent) → ((k : ℕ) → NoFree (part k rest)) → (k : ℕ) → (part k (more ++ rest) ≡ [] → ⊥) → IsFreed (log ++ (more ++ rest)) k
+    no_free_last good rest none k begun front e is frees = by (split_last (part k log) (part k (more ++ rest)) front e (sym (part_append k log (more ++ rest)) ∙ is)) where
+      all_none : NoFree (part k (more ++ rest))
+      all_none = subst NoFree (sym (part_append k more rest)) (All-append (λ (x : Exchange). x.call ≡ C.Free → ⊥) (part k more) (part k rest) (All-weaker (λ (x : Exchange). IsOfRound t x.call) (λ (x : Exchange). x.call ≡ C.Free → ⊥) (λ x round frees. round_no_free t x.call round frees) (part k more) (part_all (λ i x. IsOfRound t x.call) k more (λ i x w. (good i x w).1))) (none k))
+
+      by : (part k (more ++ rest) ≡ []) ⊎ ((r : List Exchange) × (part k (more ++ rest) ≡ r ++ e ∷ [])) → AllAgree (log ++ (more ++ rest)) × (has_stepped false front ≡ true)
+      by (inl empty) = absurd (begun empty)
+      by (inr (r, last)) = absurd (all_at_one (λ (x : Exchange). x.call ≡ C.Free → ⊥) r [] e (subst NoFree last all_none) frees)
+
+  held_left : (test : Shape → Bool) (log : List Sent) → AreHeld test log → AreLeft log
+  held_left test log held k d w = record { held = λ h. inr ((held k d w).unstepped (sym (held k d w).held ∙ h)); freed = (held k d w).freed }
+
+  -- the agreement stops before a size that a component doesn't take
+  short_on : (t step b : ℕ) (later : t < b) (test : Shape → Bool) (log more : List Sent) (i e : ℕ) → AreHeld test log → AgreeBy system t step b more (Unfit i e) → AreLeft (log ++ more)
+  short_on t step b later test log more i e held agrees = by so.1 where
+    so : AreGoodSteps t ss more × ((more ≡ []) ⊎ AreApart t (stands_by t (all_at t ss) more))
+    so = ends_so t step ss b later (all_at t ss) more (Unfit i e) (shapes_all t ss) (inl (all_home t ss)) agrees
+
+    by : (more ≡ []) ⊎ AreApart t (stands_by t (all_at t ss) more) → AreLeft (log ++ more)
+    by (inl none) k d w = subst AreLeft (sym (ap (λ (l : List Sent). log ++ l) none ∙ append-nil log)) (held_left test log held) k d w
+    by (inr are) k d w = record {
+      held = λ h. inl (λ agree. apart_on t step b later log more so.0 are [] (λ j. All-nil IsNoStep) (subst AllAgree (sym (append-nil (log ++ more))) agree));
+      freed = subst (λ (l : List Sent). IsFreed (log ++ l) k) (append-nil more)
+          (no_free_last t step b later log more so.0 [] (λ j. All-nil (λ (x : Exchange). x.call ≡ C.Free → ⊥)) k (λ empty. stepped_there t step b later log more so.0 are k d w (sym (ap (part k) (append-nil more)) ∙ empty)));
+    }
+
+  -- or it comes to a bad answer
+  module _ (t step b : ℕ) (later : t < b) (log more : List Sent) (bad : BadAnswer) (agrees : AgreeBy system t step b more (Fails bad)) where
+    broken : IsBroken t step ss bad (all_at t ss) more
+    broken = ends_so t step ss b later (all_at t ss) more (Fails bad) (shapes_all t ss) (inl (all_home t ss)) agrees
+
+    -- it is that of a component which is there
+    there : bad.component.0 < n
+    there =
+        let e = agreement_has system t step b more (Fails bad) agrees in
+        let is = e.first.component in
+        let w = e.within in
+        let l = length-map system.components (λ (c : Component). c.shape) in
+        omega (arith, is, w, l)
+
+    calls_no : (P : Call → Type 0) → ((size : ℕ) → P (C.DoStep t size)) → P C.Restore → All (λ (s : Sent). P s.exchange.call) broken.more
+    calls_no P steps backs = by broken.by where
+      by : ((size : ℕ) × FailsIn ss (A.to_some broken.test (C.DoStep t size) broken.there) bad broken.more) ⊎ (AreApart t (stands_by t (all_at t ss) broken.front) × FailsIn ss (A.to_some broken.test C.Restore broken.there) bad broken.more) → All (λ (s : Sent). P s.exchange.call) broken.more
+      by (inl (size, f)) = round_calls P broken.test (C.DoStep t size) (steps size) broken.there broken.more f.calls_are
+      by (inr (are, f)) = round_calls P broken.test C.Restore backs broken.there broken.more f.calls_are
+
+    no_free_more : (k : ℕ) → NoFree (part k broken.more)
+    no_free_more k = part_all (λ i x. x.call ≡ C.Free → ⊥) k broken.more (calls_no (λ c. c ≡ C.Free → ⊥) (λ size frees. absurd (cc)) (λ frees. absurd (cc)))
+
+    never_agree : AllAgree ((log ++ broken.front) ++ broken.more) → ⊥
+    never_agree agree = by broken.by where
+      by : ((size : ℕ) × FailsIn ss (A.to_some broken.test (C.DoStep t size) broken.there) bad broken.more) ⊎ (AreApart t (stands_by t (all_at t ss) broken.front) × FailsIn ss (A.to_some broken.test C.Restore broken.there) bad broken.more) → ⊥
+      by (inr (are, f)) = apart_on t step b later log broken.front broken.good are broken.more
+          (λ k. calls_all k (part_all (λ i x. IsNoStep x.call) k broken.more (round_calls IsNoStep broken.test C.Restore tt broken.there broken.more f.calls_are))) agree where
+            calls_all : (k : ℕ) → All (λ (x : Exchange). IsNoStep x.call) (part k broken.more) → All IsNoStep (calls_in (part k broken.more))
+            calls_all k all = to_calls IsNoStep (part k broken.more) all
+      by (inl (size, f)) =
+          let i = f.last.component in
+          let w : f.last.component < n = subst (λ (j : ℕ). j < n) (sym f.first.component) there in
+          let d = get_or ss i (some_at system.components i w).0.shape in
+          let s = get_or ss i d in
+          let none : part f.last.component f.back ≡ [] = alone_behind 0 f.front f.last f.back (subst (AreInOrder 0) (sym f.calls_are ∙ ap askings f.log_is) (in_order_from broken.test (λ x. C.DoStep t size) 0 0 broken.there (omega arith))) i (omega arith) in
+          let here : part i broken.more ≡ part i f.front ++ f.last.exchange ∷ [] =
+          ap (part i) f.log_is ∙ part_append i f.front (f.last ∷ f.back) ∙ ap (λ (es : List Exchange). part i f.front ++ es) (takes (i == i) f.last.exchange (part i f.back) (same i i refl) ∙ ap (λ (es : List Exchange). f.last.exchange ∷ es) none) in
+          let call : f.last.exchange.call ≡ C.DoStep t size = all_at_one (λ (x : Sent). x.exchange.call ≡ C.DoStep t size) f.front f.back f.last (subst (All (λ (x : Sent). x.exchange.call ≡ C.DoStep t size)) f.log_is (round_calls (λ c. c ≡ C.DoStep t size) broken.test (C.DoStep t size) refl broken.there broken.more f.calls_are)) in
+          let last_is : last_step None (part i ((log ++ broken.front) ++ broken.more)) ≡ Some f.last.exchange =
+          ap (last_step None) (part_append i (log ++ broken.front) broken.more ∙ ap (λ (es : List Exchange). part i (log ++ broken.front) ++ es) here)
+          ∙ last_on None (part i (log ++ broken.front)) (part i f.front ++ f.last.exchange ∷ []) ∙ last_on (last_step None (part i (log ++ broken.front))) (part i f.front) (f.last.exchange ∷ [])
+          ∙ ap (λ (c : Call). step_or f.last.exchange c (last_step (last_step None (part i (log ++ broken.front))) (part i f.front))) call in
+          let good = subst (λ (o : Option Exchange). IfSome o (λ e. IsGood s e × EndsAt agree.0 e.result)) last_is (agree.1 i d w) in
+          why_bad s bad.why f.last.exchange (f.first.why d) good.0
+
+    left_broken : AreLeft (log ++ more)
+    left_broken k d w = record {
+      held = λ h. inl (λ agree. never_agree (subst AllAgree (ap (λ (l : List Sent). log ++ l) broken.log_is ∙ sym (append_assoc log broken.front broken.more)) agree));
+      freed = subst (λ (l : List Sent). IsFreed (log ++ l) k) (sym broken.log_is) (no_free_last t step b later log broken.front broken.good broken.more no_free_more k (λ empty. begun (ap (part k) broken.log_is ∙ empty)));
+    } where
+      begun : part k more ≡ [] → ⊥
+      begun empty =
+          let x = begins_all t step ss b more bad (all_at t ss) refl agrees in
+          let whole = sym (ap (part k) x.log_is ∙ part_append k (x.backs ++ x.steps) x.rest ∙ ap (λ (es : List Exchange). es ++ part k x.rest) (part_append k x.backs x.steps)) ∙ empty in
+          let none : part k x.steps ≡ [] = (none_both (part k x.backs) (part k x.steps) (none_both (part k x.backs ++ part k x.steps) (part k x.rest) whole).0).1 in
+          one x.size (part k x.steps) (sent_to everyone (C.DoStep t x.size) x.steps x.asked k d w) none where
+            one : (size : ℕ) (es : List Exchange) → Sends true (C.DoStep t size) es → es ≡ [] → ⊥
+            one size _ (One able e call) none = absurd (cc)
+            one size _ (NoOne unable) none = absurd (cc)
+
+    no_free_whole : (k : ℕ) → NoFree (part k more)
+    no_free_whole k = subst NoFree (sym (ap (part k) broken.log_is ∙ part_append k broken.front broken.more))
+        (All-append (λ (x : Exchange). x.call ≡ C.Free → ⊥) (part k broken.front) (part k broken.more) (part_all (λ i x. x.call ≡ C.Free → ⊥) k broken.front (λ i x w. round_no_free t _ (broken.good i x w).1)) (no_free_more k))
 
   none_past : ArePast []
   none_past k d w = record { unheld = refl; freed = λ front e is frees. absurd (never front e [] (sym is)) }
@@ -387,59 +568,69 @@ module _ (system : System) where
           (subst (Agrees m (get_or ss k d)) (sym (ends.steps k t within)) (all k d within)),
     )
 
-    past_left : ArePast log → (k : ℕ) (d : Shape) → k < n → ((front rest : List Exchange) (e : Exchange) → part k log ≡ front ++ e ∷ rest → IsGivenUp e → rest ≡ []) → LeavesState talks (get_or ss k d) (part k log)
-    past_left past k d w last = record {
-      held = λ held. absurd (let wrong : true ≡ false = sym held ∙ (past k d w).unheld in cc);
-      freed = λ front e is frees. let f = (past k d w).freed front e is frees in (agree_back f.0, f.1);
+    left_so : AreLeft log → (k : ℕ) (d : Shape) → k < n → ((front rest : List Exchange) (e : Exchange) → part k log ≡ front ++ e ∷ rest → IsGivenUp e → rest ≡ []) → LeavesState talks (get_or ss k d) (part k log)
+    left_so left k d w last = record {
+      held = λ held. held_by ((left k d w).held held);
+      freed = λ front e is frees. let f = (left k d w).freed front e is frees in (agree_back f.0, f.1);
       last = last;
-    }
+    } where
+      held_by : (AllAgree log → ⊥) ⊎ (has_stepped false (part k log) ≡ false) → (AgreeAtLast talks → ⊥) ⊎ (has_stepped false (part k log) ≡ false)
+      held_by (inl never) = inl (λ agree. never (agree_all agree))
+      held_by (inr none) = inr none
 
 -- ---- what the calls from a place are to saved states
 
--- other calls; a Save or a Free to those whose shape passes a test, of whom a state is then held or was; or a step of each while theirs are held
+-- other calls; a Save or a Free to those whose shape passes a test, of whom a state is then held or was; an agreement while theirs are held; or nothing more
 data Task : Type 0 where
   Keeping : Task
   Saving : (Shape → Bool) → Task
-  Stepping : (Shape → Bool) → ℕ → ℕ → Task
+  Meeting : (Shape → Bool) → (t step bound : ℕ) → Task
   Freeing : (Shape → Bool) → Task
+  Halting : Task
 
-abbrev task_at : Place → Task
-task_at (Departing w) = Stepping no_one w.s.t (w.to - w.s.t)
-task_at p = Keeping
+-- of those a state is held beside which another might return early
+abbrev saved_in : System → Shape → Bool
+saved_in system = is_saved (early_count (shapes_of system))
+
+abbrev task_at : System → Plan → Place → Task
+task_at system plan (Departing w) = Saving (saved_in system)
+task_at system plan (Saved w) = Meeting (saved_in system) w.s.t plan.step w.to
+task_at system plan (Short w component end) = Halting
+task_at system plan (Agreed w point asked) = Freeing (saved_in system)
+task_at system plan p = Keeping
 
 module _ (system : System) where
   -- how it stands before them, and behind good answers
   abbrev Before : Task → List Sent → Type 0
-  Before (Stepping test at size) log = AreHeld system test log
+  Before (Meeting test t step b) log = AreHeld system test log × (t < b)
   Before (Freeing test) log = HaveMet system test log
+  Before Halting log = AreLeft system log
   Before task log = ArePast system log
 
-  abbrev Behind : Task → List Sent → Type 0
-  Behind (Saving test) log = AreHeld system test log
-  Behind (Stepping test at size) log = HaveMet system test log
-  Behind task log = ArePast system log
+  abbrev Behind : Task → (front more : List Sent) → Type 0
+  Behind (Saving test) front more = AreHeld system test (front ++ more)
+  Behind (Meeting test t step b) front more = AreHeld system test front × (t < b)
+  Behind Halting front more = Unit {0}
+  Behind task front more = ArePast system (front ++ more)
 
   -- such calls are asked
   abbrev Asks : Task → List Sent → Type 0
   Asks Keeping more = (k : ℕ) → All IsOther (calls_in (part k more))
   Asks (Saving test) more = askings more ≡ to_those test (λ (z : Shape). C.Save) (shapes_of system)
-  Asks (Stepping test at size) more = askings more ≡ to_those everyone (λ (z : Shape). C.DoStep at size) (shapes_of system)
   Asks (Freeing test) more = askings more ≡ to_those test (λ (z : Shape). C.Free) (shapes_of system)
+  Asks task more = Unit {0}
 
-  -- steps end at one point
-  abbrev Meet : Task → List Sent → Type 0
-  Meet (Stepping test at size) more = (m : ℕ) × AllEndAt m more
-  Meet task more = Unit {0}
-
-  done : (task : Task) (log more : List Sent) → Before task log → Asks task more → All (IsGoodOf (shapes_of system)) more → Meet task more → Behind task (log ++ more)
-  done Keeping log more at asks good meet = others_on system log more asks at
-  done (Saving test) log more at asks good meet = saves_on system log more test good asks at
-  done (Stepping test t size) log more at asks good (m, ends) = steps_on system log more test t size m good ends asks at
-  done (Freeing test) log more at asks good meet = frees_on system log more test asks at
+  done : (task : Task) (front more : List Sent) → Before task front → Asks task more → All (IsGoodOf (shapes_of system)) more → Behind task front more
+  done Keeping front more at asks good = others_on system front more asks at
+  done (Saving test) front more at asks good = saves_on system front more test good asks at
+  done (Meeting test t step b) front more at asks good = at
+  done (Freeing test) front more at asks good = frees_on system front more test asks at
+  done Halting front more at asks good = tt
 
   -- one of them was answered badly
   abbrev AsksBadly : Task → BadAnswer → List Sent → Type 0
-  AsksBadly (Stepping test at size) bad more = FailsIn (shapes_of system) (to_those everyone (λ (z : Shape). C.DoStep at size) (shapes_of system)) bad more
+  AsksBadly (Meeting test t step b) bad more = AgreeBy system t step b more (Fails bad)
+  AsksBadly Halting bad more = StopsAt (shapes_of system) [] bad more
   AsksBadly task bad more = Asks task more
 
   abbrev Leaves : List Sent → Type 0
@@ -454,7 +645,7 @@ module _ (system : System) where
 
   fell : (task : Task) (front more : List Sent) (bad : BadAnswer) → Before task front → All (IsGoodOf (shapes_of system)) front → AsksBadly task bad more → Leaves (front ++ more)
   fell Keeping front more bad past good others talks ends k d w =
-      past_left system (front ++ more) talks ends (others_on system front more others past) k d w
+      left_so system (front ++ more) talks ends (past_left system (front ++ more) (others_on system front more others past)) k d w
       (λ f rest e is given. kept_last (part k (front ++ more)) f rest e (keeps_on front more good k d (no_free (part k more) (others k))) is given)
   fell (Saving test) front more bad past good asks talks ends k d w =
       let sends = λ (i : ℕ) (v : i < length system.components). sent_to system test C.Save more asks i d v in
@@ -462,44 +653,18 @@ module _ (system : System) where
       record {
         held = λ held. inr (ap (has_stepped false) (part_append k front more)
             ∙ unstepped (get_or (shapes_of system) k d) (part k front) _ (part k more) (sends k w) (past k d w).unheld (ap (saved_after (get_or (shapes_of system) k d) false) (sym (part_append k front more)) ∙ held));
-        freed = λ f e is frees. let x = freed_on system front more k d none (λ i v. sends_no _ C.Save (part i more) tt (sends i v)) (past k d w) f e is frees in (agree_back system (front ++ more) talks ends x.0, x.1);
+        freed = λ f e is frees. let x = freed_on system front more k none (λ i v. sends_no _ C.Save (part i more) tt (sends i v)) (past k d w).freed f e is frees in (agree_back system (front ++ more) talks ends x.0, x.1);
         last = λ f rest e is given. kept_last (part k (front ++ more)) f rest e (keeps_on front more good k d none) is given;
       }
-  fell (Stepping test at size) front more bad held good fails talks ends k d w =
-      let sends = λ (i : ℕ) (v : i < length system.components). sent_to system everyone (C.DoStep at size) more fails.calls_are i d v in
-      let none = sends_other true (C.DoStep at size) (part k more) (λ e. absurd (cc)) (sends k w) in
-      record {
-        held = λ held. inl (λ agree. apart (agree_all system (front ++ more) talks ends agree));
-        freed = λ f e is frees. absurd (by f e is frees (split_last (part k front) (part k more) f e (sym (part_append k front more) ∙ is)) (after_step d (part k front) at size (part k more) (sends k w)));
-        last = λ f rest e is given. kept_last (part k (front ++ more)) f rest e (keeps_on front more good k d none) is given;
-      }
-    where
-      by : (f : List Exchange) (e : Exchange) → part k (front ++ more) ≡ f ++ e ∷ [] → e.call ≡ C.Free → (part k more ≡ []) ⊎ ((rest : List Exchange) × (part k more ≡ rest ++ e ∷ [])) →
-          ((x : Exchange) × (part k more ≡ x ∷ []) × (last_step None (part k front ++ part k more) ≡ Some x) × (has_stepped false (part k front ++ part k more) ≡ true) × (saved_after d false (part k front ++ part k more) ≡ saved_after d false (part k front))) → ⊥
-      by f e is frees (inl empty) a = absurd (let wrong : a.0 ∷ [] ≡ [] = sym a.1 ∙ empty in cc)
-      by f e is frees (inr (rest, last)) a =
-          all_at (λ (x : Exchange). x.call ≡ C.Free → ⊥) rest [] e (subst NoFree last (sends_other true (C.DoStep at size) (part k more) (λ q. absurd (cc)) (sent_to system everyone (C.DoStep at size) more fails.calls_are k d w))) frees
-
-      there : fails.last.component < length system.components
-      there =
-          let all = subst (λ (cs : List Asking). All (IsToOne (length (shapes_of system))) cs) (sym fails.calls_are ∙ ap askings fails.log_is ∙ sym (append-nil (askings (fails.front ++ fails.last ∷ fails.back))))
-          (those_within everyone (λ (z : Shape). C.DoStep at size) (length (shapes_of system)) 0 (shapes_of system) (omega arith)) in
-          let inside = amid (length (shapes_of system)) fails.front fails.last fails.back [] all in
-          let same = length-map system.components (λ (c : Component). c.shape) in
-          omega (arith, inside, same)
-
-      apart : AllAgree system (front ++ more) → ⊥
-      apart (m, all) =
-          let i = fails.last.component in
-          let s = get_or (shapes_of system) i d in
-          let a = after_step s (part i front) at size (part i more) (sent_to system everyone (C.DoStep at size) more fails.calls_are i d there) in
-          let agrees = subst (λ (o : Option Exchange). IfSome o (λ e. IsGood s e × EndsAt m e.result)) (ap (last_step None) (part_append i front more) ∙ a.2) (all i d there) in
-          let here : part i more ≡ part i fails.front ++ fails.last.exchange ∷ part i fails.back =
-          ap (part i) fails.log_is ∙ part_append i fails.front (fails.last ∷ fails.back) ∙ ap (λ (es : List Exchange). part i fails.front ++ es) (takes (i == i) fails.last.exchange (part i fails.back) (same i i refl)) in
-          why_bad s bad.why fails.last.exchange (fails.first.why d)
-          (all_at (IsGood s) (part i fails.front) (part i fails.back) fails.last.exchange (subst (All (IsGood s)) (sym a.1 ∙ here) (All-cons (IsGood s) a.0 [] agrees.0 (All-nil (IsGood s)))))
+  fell (Meeting test t step b) front more bad (held, later) good agrees talks ends k d w =
+      left_so system (front ++ more) talks ends (left_broken system t step b later front more bad agrees) k d w
+      (λ f rest e is given. kept_last (part k (front ++ more)) f rest e (keeps_on front more good k d (no_free_whole system t step b later front more bad agrees k)) is given)
+  fell Halting front more bad left good stops talks ends k d w = absurd (never_stops stops.front (stops.calls_are ∙ ap (λ (l : List Sent). askings l ++ stops.left) stops.log_is)) where
+    never_stops : (f : List Sent) → [] ≡ askings (f ++ stops.last ∷ []) ++ stops.left → ⊥
+    never_stops [] is = absurd (cc)
+    never_stops (x ∷ f) is = absurd (cc)
   fell (Freeing test) front more bad met good asks talks ends k d w =
-      past_left system (front ++ more) talks ends (frees_on system front more test asks met) k d w
+      left_so system (front ++ more) talks ends (past_left system (front ++ more) (frees_on system front more test asks met)) k d w
       (λ f rest e is given. last_of (part k front) (part k more) f rest e (good_keeps front good k d) (sends_short _ C.Free (part k more) (sent_to system test C.Free more asks k d w)) (sym (part_append k front more) ∙ is) given)
 
 -- ---- along a course
@@ -511,37 +676,54 @@ module _ (system : System) (sound : IsSound system) (bound : Bound) (plan : Plan
   others_of : (p : Place) (more : List Sent) → is_plain (sort_at p) ≡ true → parts p more → (k : ℕ) → All IsOther (calls_in (part k more))
   others_of p more plain sorts k = mine system k IsOther more (λ i. All-weaker (IsOf (sort_at p)) IsOther (other_of (sort_at p) plain) (own i (askings more)) (sorts i))
 
-  asks_at : (p : Place) (values : List (Option ℤ)) (more : List Sent) → parts p more → Does system (part_at system bound plan p) values more → Asks system (task_at p) more
+  abbrev task : Place → Task
+  task p = task_at system plan p
+
+  asks_at : (p : Place) (values : List (Option ℤ)) (more : List Sent) → parts p more → Does system (part_at system bound plan p) values more → Asks system (task p) more
   asks_at (Departing w) values more sorts does = does.calls_are
+  asks_at (Saved w) values more sorts does = tt
+  asks_at (Short w i e) values more sorts does = tt
+  asks_at (Agreed w m asked) values more sorts does = does.calls_are
   asks_at p values more sorts does = others_of p more refl sorts
 
-  falls_at : (p : Place) (bad : BadAnswer) (more : List Sent) → parts p more → Falls system (part_at system bound plan p) bad more → AsksBadly system (task_at p) bad more
-  falls_at (Departing w) bad more sorts falls = falls
+  falls_at : (p : Place) (bad : BadAnswer) (more : List Sent) → parts p more → Falls system (part_at system bound plan p) bad more → AsksBadly system (task p) bad more
+  falls_at (Departing w) bad more sorts falls = falls.calls_are
+  falls_at (Saved w) bad more sorts falls = falls
+  falls_at (Short w i e) bad more sorts falls = falls
+  falls_at (Agreed w m asked) bad more sorts falls = falls.calls_are
   falls_at p bad more sorts falls = others_of p more refl sorts
 
-  meet : (p q : Place) (values : List (Option ℤ)) (more : List Sent) → LeadsTo system plan p values more q → Meet system (task_at p) more
-  meet _ _ _ _ (Steps w values log asked is ends) = (w.to, ends)
-  meet _ _ _ _ leads = tt
+  next : (front : List Sent) (p q : Place) (values : List (Option ℤ)) (more : List Sent) → LeadsTo system plan p values more q → IsLater p → Behind system (task p) front more → Before system (task q) (front ++ more)
+  next front _ _ _ _ (Saves w values more) later held = (held, later)
+  next front _ _ _ _ (Agreeing w values more m asked agrees is) later (held, after) = met_on system w.s.t plan.step w.to after front more (saved_in system) m held agrees
+  next front _ _ _ _ (Stopping w values more i e agrees) later (held, after) = short_on system w.s.t plan.step w.to after (saved_in system) front more i e held agrees
+  next front _ _ _ _ leads later past = past
 
-  next : (log : List Sent) (p q : Place) (values : List (Option ℤ)) (more : List Sent) → LeadsTo system plan p values more q → Behind system (task_at p) log → Before system (task_at q) log
-  next log _ _ _ _ (Sets w values more) past = λ k d v. (past k d v).unheld
-  next log _ _ _ _ (Steps w values more asked is ends) met = met_past system log met
-  next log _ _ _ _ leads past = past
-
-  -- where a run may stop no state is held
-  halted : (p : Place) → IsHalt p → (log : List Sent) → Before system (task_at p) log → ArePast system log
+  -- where a run may stop
+  halted : (p : Place) → IsHalt p → (log : List Sent) → Before system (task p) log → AreLeft system log
   halted (Departing w) halts log at = absurd halts
-  halted p halts log at = at
+  halted (Saved w) halts log at = absurd halts
+  halted (Short w i e) halts log at = at
+  halted (Agreed w m asked) halts log at = absurd halts
+  halted p halts log at = past_left system log at
 
   module _ (made : List Sent) (answered : IsAnswered (shapes_of system) (making system) made) where
-    course_at : (p : Place) (log : List Sent) (is : List Instant) → Course system bound plan p log is → Before system (task_at p) (made ++ log) × All (IsGoodOf (shapes_of system)) (made ++ log)
-    course_at = along system bound plan (λ p log is. Before system (task_at p) (made ++ log) × All (IsGoodOf (shapes_of system)) (made ++ log))
-        (subst (λ (l : List Sent). ArePast system l × All (IsGoodOf (shapes_of system)) l) (sym (append-nil made)) (made_past system made answered.calls_are, answered.good))
+    record IsAt (p : Place) (log : List Sent) : Type 0 where
+      later : IsLater p
+      before : Before system (task p) log
+      good : All (IsGoodOf (shapes_of system)) log
+
+    course_at : (p : Place) (log : List Sent) (is : List Instant) → Course system bound plan p log is → IsAt p (made ++ log)
+    course_at = along system bound plan (λ p log is. IsAt p (made ++ log))
+        (subst (IsAt Made) (sym (append-nil made)) (record { later = tt; before = made_past system made answered.calls_are; good = answered.good }))
         (λ p q values front more is course at does leads.
         let good = part_good system (part_at system bound plan p) values more does in
         let sorts = does_all system (IsOf (sort_at p)) (part_at system bound plan p) (sorts_are system sound bound plan binds p) values more does in
-        subst (λ (l : List Sent). Before system (task_at q) l × All (IsGoodOf (shapes_of system)) l) (append_assoc made front more)
-        (next ((made ++ front) ++ more) p q values more leads (done system (task_at p) (made ++ front) more at.0 (asks_at p values more sorts does) good (meet p q values more leads)), All-append (IsGoodOf (shapes_of system)) (made ++ front) more at.1 good))
+        subst (IsAt q) (append_assoc made front more) (record {
+          later = later_on system plan p q values more leads at.later;
+          before = next (made ++ front) p q values more leads at.later (done system (task p) (made ++ front) more at.before (asks_at p values more sorts does) good);
+          good = All-append (IsGoodOf (shapes_of system)) (made ++ front) more at.good good;
+        }))
 
 pub states_are_left : StatesAreLeft
 states_are_left system _ _ talks sound (Unmade bad log stops) ends k d w =
@@ -549,11 +731,11 @@ states_are_left system _ _ talks sound (Unmade bad log stops) ends k d w =
     (λ i. mine system i IsOther log (falls_all system IsOther (Calls (making system)) (those system IsOther everyone instantiate_of (λ s. tt)) bad log stops)) talks ends k d w
 states_are_left system _ _ talks sound (Stands bound plan p made log is binds counts answered course halts) ends k d w =
     let at = course_at system sound bound plan binds made answered p log is course in
-    past_left system (made ++ log) talks ends (halted system sound bound plan binds p halts (made ++ log) at.0) k d w
-    (λ f rest e is given. kept_last (part k (made ++ log)) f rest e (good_keeps system (made ++ log) at.1 k d) is given)
+    left_so system (made ++ log) talks ends (halted system sound bound plan binds p halts (made ++ log) at.before) k d w
+    (λ f rest e is given. kept_last (part k (made ++ log)) f rest e (good_keeps system (made ++ log) at.good k d) is given)
 states_are_left system _ _ talks sound (Falling bound plan p bad made front more is binds counts answered course falls) ends k d w =
     let at = course_at system sound bound plan binds made answered p front is course in
     let sorts = falls_all system (IsOf (sort_at p)) (part_at system bound plan p) (sorts_are system sound bound plan binds p) bad more falls in
     subst (λ (l : List Sent). LeavesState talks (get_or (shapes_of system) k d) (part k l)) (append_assoc made front more)
-    (fell system (task_at p) (made ++ front) more bad at.0 at.1 (falls_at system sound bound plan binds p bad more sorts falls) talks
+    (fell system (task_at system plan p) (made ++ front) more bad at.before at.good (falls_at system sound bound plan binds p bad more sorts falls) talks
     (subst (λ (l : List Sent). EndAs system l talks) (sym (append_assoc made front more)) ends) k d w)

@@ -24,14 +24,14 @@ use Rattle.event_iteration.specs.Clocks.{AreTicks}
 use Rattle.event_iteration.specs.Intervals.{is_some_armed}
 use Rattle.event_iteration.specs.WalkCalls.{own, use_in}
 use Rattle.calling_sequence.specs.Calls.{making}
-use Rattle.calling_sequence.specs.Course.{Again, Arrives, Before, Binds, Configured, Course, Departing, Entered, Enters, Exits, Finds, Found, GoesOn, LeadsTo, Leaves, Leaving, Left, Made, Place, Read, Reads, Rearmed, Rearming, Seen, Sets, Spot, Stepped, Steps, Timed, Times, Updates, part_at}
+use Rattle.calling_sequence.specs.Course.{Again, Agreed, Agreeing, Arrives, Before, Binds, Configured, Course, Departing, Entered, Enters, Exits, Finds, Found, Frees, GoesOn, LeadsTo, Leaves, Leaving, Left, Made, Place, Read, Reads, Rearmed, Rearming, Saved, Saves, Seen, Sets, Short, Spot, Stepped, Stopping, Timed, Times, Updates, part_at}
 use Rattle.calling_sequence.specs.Parts.{Calls, Does, Falls}
 use Rattle.calling_sequence.specs.Plans.{CountsBy}
 use Rattle.calling_sequence.proofs.Along.{along}
 use Rattle.course_laws.specs.Laws.{UpdatesAskedFor}
 use Rattle.course_laws.specs.Runs.{Comes, Falling, Stands, Unmade}
 use Rattle.course_laws.proofs.ArmedClocks.{AreArmable, AreTaken, first_armable, instant_takes, rearmed_armable, rearmed_armed}
-use Rattle.course_laws.proofs.Sorts.{IsOf, does_all, falls_all, sort_at, sorts_are, those}
+use Rattle.course_laws.proofs.Sorts.{IsOf, does_all, falls_all, is_of_rounds, sort_at, sorts_are, those}
 use Rattle.course_laws.proofs.UpdateMarks.{IsNoUpdate, IsQuiet, quiet_no}
 use Rattle.course_laws.proofs.UpdateTables.{AreAskedFor, marks_in, talks_needed}
 use Rattle.course_laws.proofs.UpdatesNeeded.{Asked, SomeArmed, Talks, Throughout, arm, asks, calm, leave, nothing_yet, quiet, still, still_asked, stopped, updated}
@@ -58,6 +58,13 @@ quiet_kind kind C.EnterStep is so = absurd (let wrong : false ≡ true = ap is_q
 quiet_kind kind C.ExitInitialization is so = absurd (let wrong : false ≡ true = ap is_quiet is ∙ so in cc)
 quiet_kind kind c is so = tt
 
+-- nor is a call of an agreement
+rounds_quiet : (c : Call) → is_of_rounds (kind_of c) ≡ true → IsQuiet c
+rounds_quiet C.Update is = absurd (cc)
+rounds_quiet C.EnterStep is = absurd (cc)
+rounds_quiet C.ExitInitialization is = absurd (cc)
+rounds_quiet c is = tt
+
 abbrev is_other : Kind → Bool
 is_other K.Update = false
 is_other kind = true
@@ -81,7 +88,9 @@ module _ (system : System) (sound : IsSound system) (bound : Bound) (plan : Plan
   calls_are (Timed timers) c is = no_update_kind K.ExitInitialization c is refl
   calls_are (Rearmed s) c is = tt
   calls_are (Leaving w) c is = no_update_kind K.EnterStep c is refl
-  calls_are (Departing w) c is = quiet_kind K.DoStep c is refl
+  calls_are (Departing w) c is = quiet_kind K.Save c is refl
+  calls_are (Saved w) c is = rounds_quiet c is
+  calls_are (Agreed w m asked) c is = quiet_kind K.Free c is refl
   calls_are (Stepped s asked) c is = quiet_kind K.EnterEvent c is refl
   calls_are p c is = use_quiet c is
 
@@ -96,6 +105,9 @@ module _ (system : System) (sound : IsSound system) (bound : Bound) (plan : Plan
   TimersAt (Leaving w) = AreArmable system w.s.timers
   TimersAt (Left w) = AreArmable system w.s.timers
   TimersAt (Departing w) = AreArmable system w.s.timers
+  TimersAt (Saved w) = AreArmable system w.s.timers
+  TimersAt (Short w i e) = AreArmable system w.s.timers
+  TimersAt (Agreed w m asked) = AreArmable system w.s.timers
   TimersAt (Stepped s asked) = AreArmable system s.timers
   TimersAt p = Unit {0}
 
@@ -167,7 +179,10 @@ module _ (system : System) (sound : IsSound system) (bound : Bound) (plan : Plan
     on _ _ _ _ timers a does all (Leaves w values log) =
         record { m = a.m; flag = false; talks = leave system front log a.m (subst (Talks system front a.m) a.besides a.talks) all does.calls_are; besides = refl }
     on _ _ _ _ timers a does all (Sets w values log) = onward (Left w) (Departing w) log all a a.besides
-    on _ _ _ _ timers a does all (Steps w values log asked is ends) = onward (Departing w) (Stepped (record w.s { t = w.to; n = 0 }) asked) log all a a.besides
+    on _ _ _ _ timers a does all (Saves w values log) = onward (Departing w) (Saved w) log all a a.besides
+    on _ _ _ _ timers a does all (Agreeing w values log m asked agrees is) = onward (Saved w) (Agreed w m asked) log all a a.besides
+    on _ _ _ _ timers a does all (Stopping w values log i e agrees) = onward (Saved w) (Short w i e) log all a a.besides
+    on _ _ _ _ timers a does all (Frees w m asked values log) = onward (Agreed w m asked) (Stepped (record w.s { t = m; n = 0 }) asked) log all a a.besides
     on _ _ _ _ timers a does all (Arrives s values log ticks begins) =
         onward (Stepped s false) (Before (record s { n = 0 }) ticks) log all a (λ is. absurd (let wrong : true ≡ false = sym is ∙ a.besides in cc))
 

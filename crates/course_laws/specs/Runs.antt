@@ -13,15 +13,16 @@ use Rattle.calling_sequence.specs.declared.run_end.RunEnd.{RunEnd}
 use Rattle.calling_sequence.specs.declared.run_end.RunEnd.TheVariants as E
 use Rattle.calling_sequence.specs.Plans.{CountsBy}
 use Rattle.calling_sequence.specs.Calls.{making}
-use Rattle.calling_sequence.specs.Course.{Course, Made, Place, Seen, Stepped, part_at}
+use Rattle.calling_sequence.specs.Course.{Course, Made, Place, Seen, Short, Stepped, part_at}
 use Rattle.calling_sequence.specs.Ends.{EndsBy}
 use Rattle.calling_sequence.specs.Parts.{Falls}
 
--- where a run may stop without a bad answer: before its header or behind it, behind an instant, behind a step
+-- where a run may stop without a bad answer: before its header or behind it, behind an instant, behind a step, and before a size on the way to an agreement that a component doesn't take
 abbrev pub IsHalt : Place → Type 0
 IsHalt Made = Unit {0}
 IsHalt (Seen s again asked) = Unit {0}
 IsHalt (Stepped s asked) = Unit {0}
+IsHalt (Short w component end) = Unit {0}
 IsHalt p = ⊥
 
 -- the log of a run of a system that came to a bad answer, or to none so far: an instance couldn't be made; or all were made, and with these parameters and this plan the run stands where it may stop, or came from there to that answer

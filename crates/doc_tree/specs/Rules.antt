@@ -3,7 +3,7 @@ use Rattle.std.specs.Prelude.{ℕ}
 use Rattle.doc_grammar.specs.declared.reasons.Rule as grammar
 use Rattle.doc_grammar.specs.declared.reasons.Rule.TheVariants.{NotUtf8, Malformed, Doctype, TooDeep, AttributeTwice}
 use Rattle.doc_tree.specs.declared.rule.Rule.{Rule}
-use Rattle.doc_tree.specs.declared.rule.Rule.TheVariants.{Document, Description, Unbuilt, System, Flattening, Loop, TooManyPorts, Parameters}
+use Rattle.doc_tree.specs.declared.rule.Rule.TheVariants.{Document, Description, System, Flattening, Loop, SavesNoState, TooManyPorts, Parameters}
 use Rattle.doc_tree.specs.declared.rule.DescriptionRule.{DescriptionRule}
 use Rattle.doc_tree.specs.declared.rule.DescriptionRule.TheVariants as d
 use Rattle.doc_tree.specs.declared.rule.SystemRule.{SystemRule}
@@ -75,9 +75,9 @@ parameter_number p.NamesTwo = 56
 abbrev pub number : Rule → ℕ
 number (Document rule) = document_number rule
 number (Description rule) = description_number rule
-number Unbuilt = 29
 number (System rule) = system_number rule
 number (Flattening rule) = flattening_number rule
 number Loop = 46
+number SavesNoState = 47
 number TooManyPorts = 49
 number (Parameters rule) = parameter_number rule

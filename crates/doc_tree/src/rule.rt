@@ -10,14 +10,14 @@ pub enum Rule {
     Document(DocumentRule),
     /// 10 to 24: a rule of model descriptions, at an element
     Description(DescriptionRule),
-    /// 29: an FMU asks for a part that isn't built yet
-    Unbuilt,
     /// 30 to 38 and 48: a rule of system structure descriptions, at an element
     System(SystemRule),
     /// 40 to 45: a rule of connectors and connections together with the variables that they name, at an element
     Flattening(FlatteningRule),
     /// 46: ports need each other in a loop, which is told with it
     Loop,
+    /// 47: a component's state can't be saved, and another component might return early
+    SavesNoState,
     /// 49: the ports are more than a system may have
     TooManyPorts,
     /// 50 to 56: a rule of sets of parameter values and of their mappings, at an element
@@ -173,10 +173,10 @@ impl Rule {
         match self {
             Rule::Document(rule) => document_number(rule),
             Rule::Description(rule) => rule.number(),
-            Rule::Unbuilt => 29,
             Rule::System(rule) => rule.number(),
             Rule::Flattening(rule) => rule.number(),
             Rule::Loop => 46,
+            Rule::SavesNoState => 47,
             Rule::TooManyPorts => 49,
             Rule::Parameters(rule) => rule.number(),
         }

@@ -7,7 +7,7 @@ use Rattle.doc_tree.specs.Rules.{number}
 use Rattle.doc_tree.specs.declared.refusal.Refusal.{Refusal}
 use Rattle.doc_tree.specs.declared.refusal.Refusal.TheVariants.{At, Memory}
 use Rattle.doc_tree.specs.declared.rule.Rule.{Rule}
-use Rattle.doc_tree.specs.declared.rule.Rule.TheVariants.{Document, Description, Unbuilt, System as OfSystem, Flattening, Loop, TooManyPorts, Parameters}
+use Rattle.doc_tree.specs.declared.rule.Rule.TheVariants.{Document, Description, System as OfSystem, Flattening, Loop, SavesNoState, TooManyPorts, Parameters}
 use Rattle.doc_tree.specs.declared.rule.FlatteningRule.TheVariants as f
 use Rattle.doc_tables.specs.Answers.{IsRefusal, Refuses}
 use Rattle.doc_tables.proofs.CallerLemmas.{refuses, none_sound}
@@ -19,7 +19,7 @@ use Rattle.system_model.specs.Sound.{IsSound}
 use Rattle.port_orders.specs.Outcome.{HasOrders, unordered}
 use Rattle.ssd_tree.specs.declared.tree.SystemTree.{SystemTree}
 use Rattle.flatten.specs.Answers.{Faults, GivesParts, IsAnswer}
-use Rattle.flatten.specs.Flat.{AreComponentsOf, Flattens, HasFeeds, IsFlat, SavesStates}
+use Rattle.flatten.specs.Flat.{AreComponentsOf, Flattens, HasFeeds, IsFlat}
 use Rattle.flatten.specs.Given.{AreShapesOf, IsWhole}
 use Rattle.flatten.specs.Rules.{IsFirstViolation, IsFitting, Violates}
 use Rattle.flatten.proofs.SameLemmas.{no_loop, same_parts}
@@ -34,13 +34,13 @@ rule_at n =
     else (if n == 41 then Flattening f.OtherCausality
     else (if n == 42 then Flattening f.OtherClass
     else (if n == 43 then Flattening f.EndTwice
-    else (if n == 44 then Flattening f.TooWide else (if n == 45 then Flattening f.FedClock else TooManyPorts)))))
+    else (if n == 44 then Flattening f.TooWide
+    else (if n == 45 then Flattening f.FedClock else (if n == 47 then SavesNoState else TooManyPorts))))))
 
 told : (t : SystemTree) (shapes : List Shape) (rule : Rule) (node : ℕ) → Violates t shapes rule node → rule_at (number rule) ≡ rule
 unfolding rule_at
 told t shapes (Document rule) node h = absurd h
 told t shapes (Description rule) node h = absurd h
-told t shapes Unbuilt node h = absurd h
 told t shapes (OfSystem rule) node h = absurd h
 told t shapes (Flattening f.NoSuchVariable) node h = refl
 told t shapes (Flattening f.OtherCausality) node h = refl
@@ -49,6 +49,7 @@ told t shapes (Flattening f.EndTwice) node h = refl
 told t shapes (Flattening f.TooWide) node h = refl
 told t shapes (Flattening f.FedClock) node h = refl
 told t shapes Loop node h = absurd h
+told t shapes SavesNoState node h = refl
 told t shapes TooManyPorts node h = refl
 told t shapes (Parameters rule) node h = absurd h
 
@@ -111,8 +112,8 @@ module _ (t : SystemTree) (shapes : List Shape) (components : List Component) (p
         absurd (no_loop loop.1.system wanted same.0 same.1 is.orders (numbers nodes) loop.1.loop)
   ]
 
-pub all_sound : (t : SystemTree) (shapes : List Shape) → IsWhole t → AreShapesOf t shapes → IsFitting t shapes → (r : Result System Refusal) → IfOk r (Flattens t shapes) → IfOk r (λ system. SavesStates system → IsSound system)
-all_sound t shapes whole given fitting (Ok system) is = λ saves. sound_system t shapes system whole given fitting is saves
+pub all_sound : (t : SystemTree) (shapes : List Shape) → IsWhole t → AreShapesOf t shapes → IsFitting t shapes → (r : Result System Refusal) → IfOk r (Flattens t shapes) → IfOk r IsSound
+all_sound t shapes whole given fitting (Ok system) is = sound_system t shapes system whole given fitting is
 all_sound t shapes whole given fitting (Err e) is = tt
 
 pub all_fitting : (t : SystemTree) (shapes : List Shape) → IsFitting t shapes → (r : Result System Refusal) → IfOk r (λ system. IsFitting t shapes)

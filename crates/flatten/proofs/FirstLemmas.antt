@@ -5,7 +5,7 @@ use Rattle.std.proofs.lemmas.Bool.{cases_lt, lt-ltb, le-ltb}
 use Rattle.value_types.specs.declared.shape.Shape.{Shape}
 use Rattle.value_types.specs.declared.shape.Variable.{Variable}
 use Rattle.doc_tree.specs.declared.rule.Rule.{Rule}
-use Rattle.doc_tree.specs.declared.rule.Rule.TheVariants.{Document, Description, Unbuilt, System, Flattening, Loop, TooManyPorts, Parameters}
+use Rattle.doc_tree.specs.declared.rule.Rule.TheVariants.{Document, Description, System, Flattening, Loop, SavesNoState, TooManyPorts, Parameters}
 use Rattle.doc_tree.specs.declared.rule.FlatteningRule.{FlatteningRule}
 use Rattle.doc_tree.specs.declared.rule.FlatteningRule.TheVariants.{NoSuchVariable, OtherCausality, OtherClass, EndTwice, TooWide, FedClock}
 use Rattle.doc_tree.specs.Rules.{number}
@@ -137,42 +137,41 @@ module _ (V : Rule → ℕ → Type 0) where
 -- ---- all rules
 
 -- a rule that an element may break stands in the list
-rule_listed : (t : SystemTree) (shapes : List Shape) (rule : Rule) (node : ℕ) → Violates t shapes rule node → (k : ℕ) × (k < 7) × (rule_at k ≡ rule)
+rule_listed : (t : SystemTree) (shapes : List Shape) (rule : Rule) (node : ℕ) → Violates t shapes rule node → (k : ℕ) × (k < 8) × (rule_at k ≡ rule)
 rule_listed t shapes (Flattening NoSuchVariable) node h = (0, lit< tt, refl)
 rule_listed t shapes (Flattening OtherCausality) node h = (1, lit< tt, refl)
 rule_listed t shapes (Flattening OtherClass) node h = (2, lit< tt, refl)
 rule_listed t shapes (Flattening EndTwice) node h = (3, lit< tt, refl)
 rule_listed t shapes (Flattening TooWide) node h = (4, lit< tt, refl)
 rule_listed t shapes (Flattening FedClock) node h = (5, lit< tt, refl)
-rule_listed t shapes TooManyPorts node h = (6, lit< tt, refl)
+rule_listed t shapes SavesNoState node h = (6, lit< tt, refl)
+rule_listed t shapes TooManyPorts node h = (7, lit< tt, refl)
 rule_listed t shapes (Document rule) node h = absurd h
 rule_listed t shapes (Description rule) node h = absurd h
-rule_listed t shapes Unbuilt node h = absurd h
 rule_listed t shapes (System rule) node h = absurd h
 rule_listed t shapes Loop node h = absurd h
 rule_listed t shapes (Parameters rule) node h = absurd h
 
 -- their numbers rise
-numbered : (k : ℕ) → k < 7 → (number (rule_at k) ≡ k + 40) ⊎ ((k ≡ 6) × (number (rule_at k) ≡ 49))
-numbered zero l = inl refl
-numbered (suc zero) l = inl refl
-numbered (suc (suc zero)) l = inl refl
-numbered (suc (suc (suc zero))) l = inl refl
-numbered (suc (suc (suc (suc zero)))) l = inl refl
-numbered (suc (suc (suc (suc (suc zero))))) l = inl refl
-numbered (suc (suc (suc (suc (suc (suc zero)))))) l = inr (refl, refl)
-numbered (suc (suc (suc (suc (suc (suc (suc k))))))) l = absurd (omega (arith, l))
+next_above : (k : ℕ) → k < 7 → number (rule_at k) < number (rule_at (suc k))
+next_above zero l = lit< tt
+next_above (suc zero) l = lit< tt
+next_above (suc (suc zero)) l = lit< tt
+next_above (suc (suc (suc zero))) l = lit< tt
+next_above (suc (suc (suc (suc zero)))) l = lit< tt
+next_above (suc (suc (suc (suc (suc zero))))) l = lit< tt
+next_above (suc (suc (suc (suc (suc (suc zero)))))) l = lit< tt
+next_above (suc (suc (suc (suc (suc (suc (suc k))))))) l = absurd (omega (arith, l))
 
-rising : (j k : ℕ) → j ≤ k → k < 7 → number (rule_at j) ≤ number (rule_at k)
-rising j k l b = by (numbered j (omega (arith, l, b))) (numbered k b)
+rising : (j k : ℕ) → j ≤ k → k < 8 → number (rule_at j) ≤ number (rule_at k)
+rising j zero l b = let same : 0 ≡ j = omega (arith, l) in subst (λ z. number (rule_at z) ≤ number (rule_at 0)) same (omega arith)
+rising j (suc k) l b = by (cases_lt j (suc k)) (λ less. rising j k (omega (arith, less)) (omega (arith, b)))
   where
-    by : (number (rule_at j) ≡ j + 40) ⊎ ((j ≡ 6) × (number (rule_at j) ≡ 49)) → (number (rule_at k) ≡ k + 40) ⊎ ((k ≡ 6) × (number (rule_at k) ≡ 49)) → number (rule_at j) ≤ number (rule_at k)
-    by (inl x) (inl y) = omega (arith, x, y, l)
-    by (inl x) (inr y) = let a = y.0 in let e = y.1 in omega (arith, x, a, e, l)
-    by (inr x) (inl y) = let a = x.0 in let e = x.1 in let same : j ≡ k = omega (arith, a, l, b) in subst (λ z. number (rule_at j) ≤ number (rule_at z)) same (omega arith)
-    by (inr x) (inr y) = let a = x.1 in let e = y.1 in omega (arith, a, e)
+    by : (j < suc k) ⊎ (suc k ≤ j) → (j < suc k → number (rule_at j) ≤ number (rule_at k)) → number (rule_at j) ≤ number (rule_at (suc k))
+    by (inl less) rest = let step = next_above k (omega (arith, b)) in let so_far = rest less in omega (arith, step, so_far)
+    by (inr more) rest = let same : j ≡ suc k = omega (arith, l, more) in subst (λ z. number (rule_at j) ≤ number (rule_at z)) same (omega arith)
 
-pub all_first : (t : SystemTree) (shapes : List Shape) (i : ℕ) (found : Option (ℕ × Rule)) → 7 ≤ i → i ≤ 7 → FindsFirst (Violates t shapes) i found
+pub all_first : (t : SystemTree) (shapes : List Shape) (i : ℕ) (found : Option (ℕ × Rule)) → 8 ≤ i → i ≤ 8 → FindsFirst (Violates t shapes) i found
     → MatchOption found (IsFitting t shapes) (λ violation. IsFirstViolation t shapes violation.0 violation.1)
 all_first t shapes i None past most f = λ rule node h.
     let k = rule_listed t shapes rule node h in
@@ -189,7 +188,7 @@ all_first t shapes i (Some one) past most f = record {
       f.first k.0 node (let b = k.1 in omega (arith, b, past)) lower (subst (λ z. Violates t shapes z node) (sym k.2) h);
 }
   where
-    earlier_place : (k : ℕ) → k < 7 → number (rule_at k) < number one.1 → k < f.place
+    earlier_place : (k : ℕ) → k < 8 → number (rule_at k) < number one.1 → k < f.place
     earlier_place k l lower = by (cases_lt k f.place)
       where
         by : (k < f.place) ⊎ (f.place ≤ k) → k < f.place

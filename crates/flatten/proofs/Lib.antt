@@ -23,4 +23,5 @@ pub mod RuleLemmas
 pub mod SameLemmas
 pub mod SoundLemmas
 pub mod StandsLemmas
+pub mod UnsavedLemmas
 pub mod WholeLemmas

@@ -1,5 +1,5 @@
 -- A flattened system is sound: its components, its feeds, and the numbers that it names.
-use Rattle.std.proofs.Common.{◌≡◌, ℕ, zero, suc, ◌+◌, ◌<◌, ℤ, ◌≤ℤ◌, true, false, List, [], ◌∷◌, length, refl, sym, ◌∙◌, ap, subst, inl, inr, arith, All}
+use Rattle.std.proofs.Common.{◌≡◌, ℕ, zero, suc, ◌+◌, ◌<◌, ℤ, ◌≤ℤ◌, Bool, true, false, List, [], ◌∷◌, length, refl, sym, ◌∙◌, ap, subst, inl, inr, arith, All}
 use Rattle.std.specs.Prelude.{Option, Some, None, slice_get, IsSomeAnd, IfSome}
 use Rattle.std.specs.Int.Signed.{clash_ℤ, lt_z, lt_z_no, lt_z_yes}
 use Rattle.std.proofs.lemmas.Float.{T_from_true, T_from_false}
@@ -17,7 +17,7 @@ use Rattle.value_types.specs.declared.values.PortType.{PortType}
 use Rattle.value_types.specs.declared.shape.Causality.TheVariants as c
 use Rattle.value_types.specs.declared.shape.Variable.{Variable}
 use Rattle.value_types.specs.declared.shape.Shape.{Shape}
-use Rattle.doc_tree.specs.declared.rule.Rule.TheVariants.{Flattening}
+use Rattle.doc_tree.specs.declared.rule.Rule.TheVariants.{Flattening, SavesNoState}
 use Rattle.doc_tree.specs.declared.rule.FlatteningRule.TheVariants.{OtherClass, TooWide}
 use Rattle.system_model.specs.declared.system.Component.{Component}
 use Rattle.system_model.specs.declared.system.Port.{Port}
@@ -35,7 +35,7 @@ use Rattle.ssd_tree.specs.declared.tree.SystemTree.{SystemTree}
 use Rattle.flatten.specs.Points.{Point, variable_at_point}
 use Rattle.flatten.specs.Paths.{Feeds}
 use Rattle.flatten.specs.Rules.{IsFitting}
-use Rattle.flatten.specs.Flat.{AreComponentsOf, Flattens, IsFlat, SavesStates, point_of_port}
+use Rattle.flatten.specs.Flat.{AreComponentsOf, Flattens, IsFlat, point_of_port}
 use Rattle.flatten.specs.Given.{AreShapesOf, IsWhole}
 use Rattle.flatten.proofs.LastLemmas.{EndsAt, ends_at}
 use Rattle.flatten.proofs.RoleLemmas.{some_at, some_of}
@@ -61,8 +61,8 @@ same_ports a b components ports h =
 
 -- ---- components
 
-pub sound_components : (t : SystemTree) (shapes : List Shape) (system : System) → IsWhole t → AreShapesOf t shapes → AreComponentsOf t.components shapes system.components → SavesStates system → HasSoundComponents system
-sound_components t shapes system whole given are saves = record {
+pub sound_components : (t : SystemTree) (shapes : List Shape) (system : System) → IsWhole t → AreShapesOf t shapes → IsFitting t shapes → AreComponentsOf t.components shapes system.components → HasSoundComponents system
+sound_components t shapes system whole given fitting are = record {
   few = omega (arith, are.len, whole.few);
   named = all_by_place (λ (c : Component). 0 < length c.name) system.components (λ i c at.
       let is = are.each i c at in
@@ -74,8 +74,25 @@ sound_components t shapes system whole given are saves = record {
   within = given.within;
   resolutions = all_by_place (λ (c : Component). c.shape.resolution ≡ given.per_second) system.components (λ i c at.
       all_at (λ (s : Shape). s.resolution ≡ given.per_second) shapes i c.shape given.resolutions (are.each i c at).shape);
-  saved = saves;
+  saved = λ i j early other at_early at_other apart returns. saved_or other.shape.can_save_state (λ lacks.
+      let is = are.each j other at_other in
+      fitting SavesNoState is.part.node (
+        j,
+        (
+          is.part,
+          is.at,
+          refl,
+          (
+            some_at (slice_get shapes j) (λ (s : Shape). s.can_save_state ≡ false) other.shape is.shape lacks,
+            (i, apart, some_at (slice_get shapes i) (λ (s : Shape). s.might_return_early ≡ true) early.shape (are.each i early at_early).shape returns),
+          ),
+        ),
+      ));
 }
+  where
+    saved_or : (saves : Bool) → (saves ≡ false → ⊥) → saves ≡ true
+    saved_or true lacks = refl
+    saved_or false lacks = absurd (lacks refl)
 
 pub component_shapes : (t : SystemTree) (shapes : List Shape) (components : List Component) → AreShapesOf t shapes → AreComponentsOf t.components shapes components → All (λ (c : Component). IsSoundShape c.shape) components
 component_shapes t shapes components given are =
@@ -223,9 +240,9 @@ sound_feeds t shapes system fitting given flat = λ p q port at fed.
 
 -- ---- the whole
 
-pub sound_system : (t : SystemTree) (shapes : List Shape) (system : System) → IsWhole t → AreShapesOf t shapes → IsFitting t shapes → Flattens t shapes system → SavesStates system → IsSound system
-sound_system t shapes system whole given fitting is saves = record {
-  components = sound_components t shapes system whole given is.flat.components saves;
+pub sound_system : (t : SystemTree) (shapes : List Shape) (system : System) → IsWhole t → AreShapesOf t shapes → IsFitting t shapes → Flattens t shapes system → IsSound system
+sound_system t shapes system whole given fitting is = record {
+  components = sound_components t shapes system whole given fitting is.flat.components;
   ports = is.flat.ports;
   feeds = sound_feeds t shapes system fitting given is.flat;
   instant_order = is.orders.instant_order;

@@ -15,7 +15,7 @@ use Rattle.ssd_tree.specs.declared.tree.SystemTree.{SystemTree}
 use Rattle.flatten.specs.Rules.{IsFirstViolation, IsFitting}
 use Rattle.system_model.specs.Sound.{IsSound}
 use Rattle.doc_tables.specs.Answers.{Refuses}
-use Rattle.flatten.specs.Flat.{Flattens, IsFlat, SavesStates}
+use Rattle.flatten.specs.Flat.{Flattens, IsFlat}
 
 -- the element of the outermost System
 abbrev pub root_node : SystemTree → ℕ
@@ -49,7 +49,7 @@ pub record IsAnswer (t : SystemTree) (shapes : List Shape)
     (result : Result System Refusal) : Type 0 where
   pub fitting : IfOk result (λ system. IsFitting t shapes)
   pub found : IfOk result (Flattens t shapes)
-  pub sound : IfOk result (λ system. SavesStates system → IsSound system)
+  pub sound : IfOk result IsSound
   pub fault : IfErr result (Faults t shapes)
   pub exact : (rule : Rule) (node : ℕ) → IsFirstViolation t shapes node rule →
       Refuses result rule node

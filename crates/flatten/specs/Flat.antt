@@ -1,5 +1,5 @@
 -- What a tree of systems is without its levels: components, ports and from where each input is fed (SSP 1.0, 5.3.2 and 5.3.3).
-use Rattle.std.specs.Prelude.{◌≡◌, ◌≢◌, ◌↔◌, ℕ, true, List, length, Option, Some, IsSomeAnd, slice_get}
+use Rattle.std.specs.Prelude.{◌≡◌, ◌≢◌, ◌↔◌, ℕ, List, length, Option, Some, IsSomeAnd, slice_get}
 use Rattle.std.specs.Option.{option_map}
 use Rattle.value_types.specs.Shape.{timing_at}
 use Rattle.value_types.specs.declared.shape.ClockTiming.{ClockTiming}
@@ -67,13 +67,6 @@ pub record IsFlat (t : SystemTree) (shapes : List Shape) (system : System) : Typ
 pub record Flattens (t : SystemTree) (shapes : List Shape) (system : System) : Type 0 where
   pub flat : IsFlat t shapes system
   pub orders : HasOrders system
-
--- where a component might return early, each other saves its state
-abbrev pub SavesStates : System → Type 0
-SavesStates system =
-    (i j : ℕ) (early other : Component) → slice_get system.components i ≡ Some early →
-    slice_get system.components j ≡ Some other → i ≢ j →
-    early.shape.might_return_early ≡ true → other.shape.can_save_state ≡ true
 
 -- an input that is no time-based Clock has this source
 abbrev pub IsSourceWith : Shape → Variable → Option Feed → Role → Type 0

@@ -1,5 +1,5 @@
 -- The rules of connectors and connections together with the variables that they name (SSP 1.0, 5.3.2 and 5.3.3; and narrowings of this profile), each a statement about a tree of systems, the shapes of its components, and an element of the document.
-use Rattle.std.specs.Prelude.{◌≡◌, ◌≢◌, ◌⊎◌, ℕ, ◌+◌, ◌<◌, false, List, Option, Some, None, IsSomeAnd, option_and_then, slice_get, take, map, min, sum, count_by}
+use Rattle.std.specs.Prelude.{◌≡◌, ◌≢◌, ◌⊎◌, ℕ, ◌+◌, ◌<◌, true, false, List, Option, Some, None, IsSomeAnd, option_and_then, slice_get, take, map, min, sum, count_by}
 use Rattle.std.specs.Option.{option_map}
 use Rattle.value_types.specs.declared.shape.Causality.{Causality}
 use Rattle.value_types.specs.declared.shape.Causality.TheVariants as causality
@@ -15,7 +15,7 @@ use Rattle.value_types.specs.Joint as types
 use Rattle.value_types.specs.Joint.{class_of}
 use Rattle.value_types.specs.Shape.{is_port, timing_at}
 use Rattle.doc_tree.specs.declared.rule.Rule.{Rule}
-use Rattle.doc_tree.specs.declared.rule.Rule.TheVariants.{Document, Description, Unbuilt, System, Flattening, Loop, TooManyPorts, Parameters}
+use Rattle.doc_tree.specs.declared.rule.Rule.TheVariants.{Document, Description, System, Flattening, Loop, SavesNoState, TooManyPorts, Parameters}
 use Rattle.doc_tree.specs.declared.rule.FlatteningRule.{FlatteningRule}
 use Rattle.doc_tree.specs.declared.rule.FlatteningRule.TheVariants as f
 use Rattle.doc_tree.specs.Rules.{number}
@@ -145,6 +145,26 @@ HasTooManyPorts t shapes node =
     (i : ℕ) × ((c : ComponentPart) × (slice_get t.components i ≡ Some c) × (c.node ≡ node) ×
     (65536 < sum (map ports_in (take (i + 1) shapes))))
 
+-- ---- states
+
+-- another component might return early
+abbrev pub IsBesideEarly : List Shape → ℕ → Type 0
+IsBesideEarly shapes i =
+    (j : ℕ) × (j ≢ i) ×
+    IsSomeAnd (slice_get shapes j) (λ (s : Shape). s.might_return_early ≡ true)
+
+-- the component can't save its state, though another might return early
+abbrev pub IsUnsaved : List Shape → ℕ → Type 0
+IsUnsaved shapes i =
+    IsSomeAnd (slice_get shapes i) (λ (s : Shape). s.can_save_state ≡ false) ×
+    IsBesideEarly shapes i
+
+-- the element is such a component
+abbrev pub HasNoSavedState : SystemTree → List Shape → ℕ → Type 0
+HasNoSavedState t shapes node =
+    (i : ℕ) × ((c : ComponentPart) × (slice_get t.components i ≡ Some c) × (c.node ≡ node) ×
+    IsUnsaved shapes i)
+
 -- ---- the rules
 
 abbrev pub Breaks : SystemTree → List Shape → FlatteningRule → ℕ → Type 0
@@ -166,10 +186,11 @@ Breaks t shapes f.FedClock node = EndsPath (IsTimeBased shapes) t shapes node
 abbrev pub Violates : SystemTree → List Shape → Rule → ℕ → Type 0
 Violates t shapes (Document rule) node = ⊥
 Violates t shapes (Description rule) node = ⊥
-Violates t shapes Unbuilt node = ⊥
 Violates t shapes (System rule) node = ⊥
 Violates t shapes (Flattening rule) node = Breaks t shapes rule node
 Violates t shapes Loop node = ⊥
+-- 47: a component whose state can't be saved, beside one that might return early
+Violates t shapes SavesNoState node = HasNoSavedState t shapes node
 -- 49: a component with which the ports are more than a system may have
 Violates t shapes TooManyPorts node = HasTooManyPorts t shapes node
 Violates t shapes (Parameters rule) node = ⊥

@@ -8,7 +8,7 @@ ghost use Rattle.doc_tables.specs.Answers.{Refuses};
 ghost use Rattle.system_model.specs.Sound.{IsSound};
 ghost use Rattle.system_model.specs.declared.system.System.{System};
 ghost use Rattle.flatten.specs.Answers.{Faults, GivesParts, IsAnswer, TellsLoop, root_node};
-ghost use Rattle.flatten.specs.Flat.{Flattens, IsFlat, SavesStates};
+ghost use Rattle.flatten.specs.Flat.{Flattens, IsFlat};
 ghost use Rattle.flatten.specs.Given.{AreShapesOf, IsWhole};
 ghost use Rattle.flatten.specs.Indexed.{IsIndexed};
 ghost use Rattle.flatten.specs.Rules.{IsFirstViolation, IsFitting};
@@ -115,7 +115,7 @@ pub fn flatten(alloc: Global, tree: &SystemTree, shapes: &[Shape]) -> Result<Sys
     requires shapes { AreShapesOf tree.now shapes.now }
     ensures fitting { IfOk result (λ system. IsFitting tree.now shapes.now) }
     ensures found { IfOk result (Flattens tree.now shapes.now) }
-    ensures sound { IfOk result (λ system. SavesStates system → IsSound system) }
+    ensures sound { IfOk result IsSound }
     ensures fault { IfErr result (Faults tree.now shapes.now) }
     ensures exact { (rule : Rule) (node : ℕ) → IsFirstViolation tree.now shapes.now node rule →
         Refuses result rule node }

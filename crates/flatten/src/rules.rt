@@ -1,5 +1,5 @@
-//! The first element that breaks a rule of connectors, connections and ports.
-ghost use Rattle.std.specs.Prelude.{◌≡◌, ◌≢◌, ◌↔◌, ℕ, ◌+◌, ◌<◌, Contains, IfOk, IsSomeAnd, IsTrue, MatchOption, Some, false, length, option_copied, slice_get};
+//! The first element that breaks a rule of connectors, connections, saved states and ports.
+ghost use Rattle.std.specs.Prelude.{◌≡◌, ◌≢◌, ◌↔◌, ℕ, ◌+◌, ◌<◌, Contains, IfOk, IsSomeAnd, IsTrue, MatchOption, Some, count_by, false, if◌then◌else◌, length, option_copied, slice_get};
 ghost use Rattle.connection_paths.specs.declared.point.Point.{Point};
 ghost use Rattle.ssd_tree.specs.declared.tree.Connection as sides;
 ghost use Rattle.value_types.specs.Joint as types;
@@ -7,12 +7,13 @@ ghost use Rattle.value_types.specs.Shape.{timing_at};
 ghost use Rattle.value_types.specs.declared.joint.Joint.TheVariants.{WrongRange};
 ghost use Rattle.value_types.specs.declared.shape.ClockTiming.{ClockTiming};
 ghost use Rattle.value_types.specs.declared.shape.IntervalVariability.TheVariants.{Triggered};
+ghost use Rattle.value_types.specs.declared.shape.Shape.{Shape};
 ghost use Rattle.value_types.specs.declared.values.PortType.{PortType};
 ghost use Rattle.flatten.specs.Broken.{ConnectorBreaks, IsBrokenConnection, IsBrokenConnector, IsReachedAt, IsReachedBy, TellsOther, TellsTooWide, earlier_violation, input_of, number_of, path_fault};
 ghost use Rattle.flatten.specs.Indexed.{IsIndexed, ends_of};
 ghost use Rattle.flatten.specs.Marks.{HasMarks};
 ghost use Rattle.flatten.specs.Points.{variable_of};
-ghost use Rattle.flatten.specs.Rules.{Breaks, earlier, FindsLeast, GivesOther, HasOtherCausality, HasOtherType, HasTooManyPorts, IsFirstViolation, IsFitting, IsForOther, IsLastOf, IsOtherClass, IsTimeBased, IsTooWide, RepeatsEnd, Violates, ports_in};
+ghost use Rattle.flatten.specs.Rules.{Breaks, earlier, FindsLeast, GivesOther, HasNoSavedState, HasOtherCausality, HasOtherType, HasTooManyPorts, IsBesideEarly, IsFirstViolation, IsFitting, IsForOther, IsLastOf, IsOtherClass, IsTimeBased, IsTooWide, IsUnsaved, RepeatsEnd, Violates, ports_in};
 
 use crate::connectors::FlatTree;
 use crate::marks::{ClassMarks, Marks, TypeMarks, child_class, class_at};
@@ -28,13 +29,14 @@ use value_types::{
 pub const MOST_PORTS: usize = 65_536;
 
 /// The rules that elements are tested for, in the order of their numbers.
-const ELEMENT_RULES: [Rule; 7] = [
+const ELEMENT_RULES: [Rule; 8] = [
     Rule::Flattening(FlatteningRule::NoSuchVariable),
     Rule::Flattening(FlatteningRule::OtherCausality),
     Rule::Flattening(FlatteningRule::OtherClass),
     Rule::Flattening(FlatteningRule::EndTwice),
     Rule::Flattening(FlatteningRule::TooWide),
     Rule::Flattening(FlatteningRule::FedClock),
+    Rule::SavesNoState,
     Rule::TooManyPorts,
 ];
 
@@ -133,6 +135,46 @@ fn ports_in(shape: &Shape) -> usize
         .iter()
         .filter(|variable| variable.is_port())
         .count()
+}
+
+fn might_return_early(shape: &Shape) -> bool
+    ensures { result ≡ shape.now.might_return_early }
+{
+    shape.might_return_early
+}
+
+// How many components might return early.
+fn early_count(shapes: &[Shape]) -> usize
+    ensures { result ≡ count_by (λ (s : Shape). s.might_return_early) shapes.now }
+{
+    shapes
+        .iter()
+        .filter(|shape| might_return_early(*shape))
+        .count()
+}
+
+fn own_count(shape: &Shape) -> usize
+    ensures { result ≡ (if shape.now.might_return_early then 1 else 0) }
+{
+    if might_return_early(shape) { 1 } else { 0 }
+}
+
+// Whether another component might return early, of `early` that might.
+fn is_beside_early(shapes: &[Shape], early: usize, component: usize) -> bool
+    requires early { early ≡ count_by (λ (s : Shape). s.might_return_early) shapes.now }
+    requires component { component < length shapes.now }
+    ensures { IsTrue result ↔ IsBesideEarly shapes.now component }
+{
+    own_count(&shapes[component]) < early
+}
+
+// Whether the component can't save its state, though another might return early, of `early` that might.
+fn is_unsaved(shapes: &[Shape], early: usize, component: usize) -> bool
+    requires early { early ≡ count_by (λ (s : Shape). s.might_return_early) shapes.now }
+    requires component { component < length shapes.now }
+    ensures { IsTrue result ↔ IsUnsaved shapes.now component }
+{
+    !shapes[component].can_save_state && is_beside_early(shapes, early, component)
 }
 
 impl<'a> FlatTree<'a> {
@@ -354,6 +396,21 @@ impl<'a> FlatTree<'a> {
         Ok(first)
     }
 
+    // The first component that can't save its state, though another might return early.
+    fn first_unsaved(&self) -> Option<usize>
+        requires indexed { IsIndexed self.now }
+        ensures { FindsLeast (HasNoSavedState self.now.tree.now self.now.shapes.now) result }
+    {
+        let early = early_count(self.shapes);
+        let mut first = None;
+        for component in 0..self.shapes.len() {
+            if is_unsaved(self.shapes, early, component) {
+                first = earlier(first, Some(self.tree.components.as_slice()[component].node));
+            }
+        }
+        first
+    }
+
     // The first component with which the ports are too many.
     fn first_with_too_many(&self) -> Option<usize>
         requires indexed { IsIndexed self.now }
@@ -403,6 +460,7 @@ impl<'a> FlatTree<'a> {
     {
         match rule {
             Rule::Flattening(rule) => self.first_broken(alloc, marks, rule),
+            Rule::SavesNoState => Ok(self.first_unsaved()),
             Rule::TooManyPorts => Ok(self.first_with_too_many()),
             _ => Ok(None),
         }

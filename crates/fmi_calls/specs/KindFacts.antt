@@ -1,6 +1,7 @@
 -- What holds of each kind of call (FMI 3.0, 4.2: the functions of Co-Simulation; 2.2.6: FMU state): its number in frames, its name as it is printed, what it is for, whether it moves the instance on, so that the same call may be answered otherwise behind it, and whether it may stand twice with no call between.
 use Rattle.std.specs.Prelude.{ℕ, ◌==◌, Bool, true, false, IsTrue, List, codes}
 use Rattle.fmi_calls.specs.declared.call.Call.{Call}
+use Rattle.fmi_calls.specs.declared.call.Call.TheVariants as C
 use Rattle.fmi_calls.specs.declared.call.Kind.{Kind}
 use Rattle.fmi_calls.specs.declared.call.Kind.TheVariants as K
 use Rattle.fmi_calls.specs.declared.kind_facts.Part.{Part}
@@ -56,9 +57,8 @@ may_repeat call = (facts_of (kind_of call)).may_repeat
 abbrev pub same_kind : Kind → Kind → Bool
 same_kind a b = (facts_of a).number == (facts_of b).number
 
--- the call is one of the run: none that keeps a state, and none of the closing
+-- the call is one of the run: none of the closing
 abbrev is_of_run : Part → Bool
-is_of_run SavedStates = false
 is_of_run Closing = false
 is_of_run _ = true
 
@@ -73,10 +73,11 @@ is_of_saved_states _ = false
 abbrev pub keeps_state : Call → Bool
 keeps_state call = is_of_saved_states (facts_of (kind_of call)).part
 
--- the call is one of the closing
+-- the call is one of the closing, which begins with a Free where a state is still saved
 abbrev is_of_closing : Part → Bool
 is_of_closing Closing = true
 is_of_closing _ = false
 
 abbrev pub IsClosingCall : Call → Type 0
+IsClosingCall C.Free = IsTrue true
 IsClosingCall call = IsTrue (is_of_closing (facts_of (kind_of call)).part)

@@ -11,6 +11,7 @@ pub const BENCH_PLAN: Plan = Plan {
     step: 10,
     stop: 100,
     limit: 100,
+    workers: 1,
 };
 
 /// A sink that takes all bytes and keeps none, for a run whose trace isn't wanted. It tells nothing, and no put fails.

@@ -15,17 +15,23 @@ use Rattle.run_model.specs.Trace.{Continues, Further, IsTrace, Last, Leads, Runs
 use Rattle.run_model.proofs.CallerLemmas.{solvable_initially}
 use Rattle.slot_calls.specs.Log.{Sent}
 use Rattle.slot_calls.specs.Replies.{AreReplies, states_by}
-use Rattle.slot_calls.specs.Stage.{IsGoodOf, shapes_of}
+use Rattle.slot_calls.specs.Stage.{IsGoodOf, everyone, shapes_of}
+use Rattle.slot_calls.specs.declared.bad_answer.BadAnswer.{BadAnswer}
+use Rattle.step_agreement.specs.Agreement.{Fails, Meets, Outcome, Unfit}
+use Rattle.step_agreement.specs.OverMachines.{IgnoreSlots}
+use Rattle.step_agreement.specs.Saving.{IsGoodOutcome}
+use Rattle.step_agreement.proofs.CallerLemmas.{HasAlong, IsAlong, along_agreement}
+use Rattle.rollback.specs.StepsBy.{all_at}
 use Rattle.event_iteration.proofs.ByLog.{IsRead, last_alone_is_bad, made_all, reads_stay, replies_first, replies_then, states_on}
-use Rattle.calling_sequence.specs.Course.{Before, Configured, Course, Departing, Entered, Found, Left, Leaving, Made, Place, Read, Rearmed, Seen, Spot, Stepped, Timed, part_at, shown}
-use Rattle.calling_sequence.specs.Parts.{Calls, Does, Part, Round, Walk}
+use Rattle.calling_sequence.specs.Course.{Agreed, Before, Configured, Course, Departing, Entered, Found, Left, Leaving, Made, Place, Read, Rearmed, Saved, Seen, Short, Spot, Stepped, Timed, part_at, shown}
+use Rattle.calling_sequence.specs.Parts.{Agreement, Calls, Does, Part, Round, Walk}
 use Rattle.calling_sequence.specs.Plans.{IsPlan}
-use Rattle.calling_sequence.specs.Systems.{IsBuilt}
 use Rattle.calling_sequence.proofs.Along.{along}
 use Rattle.machine_courses.specs.Fronts as S
 use Rattle.machine_courses.specs.Fronts.{AtFirst, Behind, CameTo, IsFront, Onward}
 use Rattle.machine_courses.proofs.Places.{At, IsSpotOf, IsWithin, Sees}
 use Rattle.machine_courses.proofs.Rows.{row}
+use Rattle.machine_courses.proofs.Steps.{shapes_at}
 
 -- ---- lists
 
@@ -80,7 +86,7 @@ trace_seen r s is x kind end leads =
     subst (λ (xs : List Instant). IsTrace r xs kind end) (sym x.is_is)
     (traced_on r kind end x.z x.earlier (instant_of x.z s.values ∷ []) x.at.came (Last x.z s.values (instant_of x.z s.values ∷ []) kind end x.solves leads refl))
 
-module _ (r : Run) (sound : IsSound r.system) (built : IsBuilt r.system) (plan : IsPlan r.plan) (machines : AreMachines r) where
+module _ (r : Run) (sound : IsSound r.system) (plan : IsPlan r.plan) (machines : AreMachines r) (ignore : IgnoreSlots r) where
   -- ---- all along
 
   -- the log is good, and leads the machines there
@@ -88,28 +94,49 @@ module _ (r : Run) (sound : IsSound r.system) (built : IsBuilt r.system) (plan :
     pub good : All (IsGoodOf (shapes_of r.system)) log
     pub at : At r p is (states_by r (I.instantiated r) log)
 
+  abbrev Good : List Sent → Type 0
+  Good log = All (IsGoodOf (shapes_of r.system)) log
+
+  abbrev Any : BadAnswer → List Sent → Type 0
+  Any bad log = Unit {0}
+
+  good_rounds : (t : ℕ) → IsAlong t (shapes_of r.system) Good Any
+  good_rounds t = record {
+    none = All-nil (IsGoodOf (shapes_of r.system));
+    joined = λ front back f b. All-append (IsGoodOf (shapes_of r.system)) front back f b;
+    behind = λ bad front back f b. tt;
+    well = λ test call stands log is same a. a.good;
+    badly = λ test call stands bad log is same f. tt;
+  }
+
   does_good : (part : Part) (values : List (Option ℤ)) (log : List Sent) → Does r.system part values log → All (IsGoodOf (shapes_of r.system)) log
   does_good (Calls calls) values log does = does.good
   does_good (Round calls) values log does = does.good
   does_good (Walk rules before order) values log does = (last_alone_is_bad r.system rules before order values log).good does
+  does_good (Agreement t step bound) values log (outcome, good, agrees) = all_good t outcome log good
+      (along_agreement t step everyone (shapes_of r.system) Good Any (good_rounds t) bound (all_at t (shapes_of r.system)) log outcome (shapes_at t (shapes_of r.system)) agrees) where
+        all_good : (t : ℕ) (o : Outcome) (log : List Sent) → IsGoodOutcome o → HasAlong Good Any o log → All (IsGoodOf (shapes_of r.system)) log
+        all_good t (Meets point) log good has = has
+        all_good t (Unfit i e) log good has = has
+        all_good t (Fails bad) log good has = absurd good
 
   pub stands : (p : Place) (log : List Sent) (is : List Instant) → Course r.system r.bound r.plan p log is → AreReplies r (I.instantiated r) log → Stands p log is
   stands p log is course = along r.system r.bound r.plan (λ q l js. AreReplies r first l → Stands q l js)
-      (λ replies. record { good = All-nil Good; at = (refl, reads_stay r first (made_all r machines) [] (All-nil IsRead)) })
+      (λ replies. record { good = All-nil GoodSent; at = (refl, reads_stay r first (made_all r machines) [] (All-nil IsRead)) })
       (λ q next values front more js course before does leads replies.
       let old = before (replies_first r first front more replies) in
       let behind = replies_then r first front more old.good replies in
       record {
-        good = All-append Good front more old.good (does_good (part_at r.system r.bound r.plan q) values more does);
-        at = subst (At r next (js ++ shown next)) (sym (states_on r first front more)) (row r sound built plan machines q next values more leads js (states_by r first front) old.at does behind);
+        good = All-append GoodSent front more old.good (does_good (part_at r.system r.bound r.plan q) values more does);
+        at = subst (At r next (js ++ shown next)) (sym (states_on r first front more)) (row r sound plan machines ignore q next values more leads js (states_by r first front) old.at does behind);
       })
       p log is course
     where
       first : List MachineState
       first = I.instantiated r
 
-      Good : Sent → Type 0
-      Good = IsGoodOf (shapes_of r.system)
+      GoodSent : Sent → Type 0
+      GoodSent = IsGoodOf (shapes_of r.system)
 
   -- ---- the instants so far
 
@@ -140,4 +167,7 @@ module _ (r : Run) (sound : IsSound r.system) (built : IsBuilt r.system) (plan :
   front_at (Leaving w) is ss (g, at) = past w.s is g.sees
   front_at (Left w) is ss (g, at) = past w.s is g.sees
   front_at (Departing w) is ss (g, at) = past w.s is g.sees
-  front_at (Stepped s asked) is ss x = past x.w.s is x.goes.sees
+  front_at (Saved w) is ss (g, at) = past w.s is g.sees
+  front_at (Short w component end) is ss (g, lacks) = past w.s is g.sees
+  front_at (Agreed w point asked) is ss (l, at) = past w.s is l.goes.sees
+  front_at (Stepped s asked) is ss x = past x.w.s is x.lands.goes.sees

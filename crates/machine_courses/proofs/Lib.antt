@@ -1,3 +1,4 @@
+pub mod Bare
 pub mod Steps
 pub mod Places
 pub mod Following

@@ -1,9 +1,11 @@
 -- A bad answer to a call that a told machine answers well is none of its: the call failed.
-use Rattle.std.proofs.Common.{◌≡◌, ℕ, suc, ◌+◌, ◌<◌, ◌==◌, Bool, true, false, List, [], ◌∷◌, ◌++◌, Result, Ok, refl, sym, ap, ap₂, ◌∙◌, subst, append_assoc, arith, length, get_or, ℤ, Option}
-use Rattle.std.specs.Prelude.{All, MatchResult, if◌then◌else◌}
+use Rattle.std.proofs.Common.{◌≡◌, ℕ, ◌<◌, ◌==◌, Bool, true, List, [], ◌∷◌, ◌++◌, Result, Ok, Some, refl, sym, ap, ap₂, ◌∙◌, subst, append_assoc, arith, length, get_or, ℤ, Option}
+use Rattle.std.specs.Prelude.{All, MatchResult}
+use Rattle.std.specs.List.{slice_get}
+use Rattle.std.specs.Option.{option_map}
 use Rattle.std.specs.Result.{is_err}
 use Rattle.std.proofs.lemmas.List.{append-nil, length-map}
-use Rattle.std.proofs.lemmas.Option.{same_Some, slice_get_within}
+use Rattle.std.proofs.lemmas.Option.{same_Some, slice_get-map, slice_get_within}
 use Rattle.value_types.specs.declared.shape.Shape.{Shape}
 use Rattle.fmi_calls.specs.declared.call.Call.{Call}
 use Rattle.fmi_calls.specs.declared.call.Grade.TheVariants as G
@@ -19,61 +21,15 @@ use Rattle.system_model.specs.declared.system.Component.{Component}
 use Rattle.run_model.specs.Behaved.{IsAnsweredWell}
 use Rattle.run_model.specs.Run.{IsFmu, Run}
 use Rattle.slot_calls.specs.declared.bad_answer.BadAnswer.{BadAnswer}
-use Rattle.slot_calls.specs.Log.{Asking, Sent, asking_of, askings, part}
-use Rattle.slot_calls.specs.Stage.{FailsIn, IsGoodOf, StopsAt, shapes_of, to_those, to_those_from}
-use Rattle.slot_calls.proofs.CallerLemmas.{first_same, other, rest_same, same, skips, takes}
+use Rattle.slot_calls.specs.Log.{Asking, Sent, askings, part}
+use Rattle.slot_calls.specs.Stage.{FailsIn, IsGoodOf, StopsAt, shapes_of, to_those}
+use Rattle.slot_calls.proofs.CallerLemmas.{same, takes}
 use Rattle.slot_calls.specs.Replies.{AreReplies, RepliesBy, state_by}
+use Rattle.step_agreement.proofs.CallerLemmas.{turn}
 use Rattle.event_iteration.specs.Explains.{ExplainsUntil}
 use Rattle.event_iteration.specs.Turns.{Rules}
 use Rattle.event_iteration.proofs.ByLog.{AreAll, fmu_of, fmu_on, got, last_alone_is_bad, replies_then, shape_of_component}
 use Rattle.machine_courses.specs.Outcomes.{IsLost}
-
--- ---- the turn of a call
-
--- in one call to some, the call of the place, in front of which its FMU wasn't asked
-pub record IsTurn (test : Shape → Bool) (call : Shape → Call) (i : ℕ) (todo : List Shape) (front : List Sent) (last : Sent) : Type 0 where
-  pub place : ℕ
-  pub at : last.component ≡ i + place
-  pub within : place < length todo
-  pub none : part last.component front ≡ []
-  pub asked : (d : Shape) → test (get_or todo place d) ≡ true
-  pub call_is : (d : Shape) → last.exchange.call ≡ call (get_or todo place d)
-
-module _ (test : Shape → Bool) (call : Shape → Call) (last : Sent) (back : List Sent) (left : List Asking) where
-  abbrev behind : List Sent → List Asking
-  behind front = askings (front ++ last ∷ back) ++ left
-
-  turn_first : (i : ℕ) (t : Shape) (todo : List Shape) (b : Bool) (front : List Sent) → test t ≡ b →
-      (if b then record { component = i; call = call t } ∷ to_those_from (i + 1) test call todo else to_those_from (i + 1) test call todo) ≡ behind front →
-      ((more : List Sent) → to_those_from (i + 1) test call todo ≡ behind more → IsTurn test call (i + 1) todo more last) → IsTurn test call i (t ∷ todo) front last
-  turn_first i t todo false front own is rest =
-      let more = rest front is in
-      let more_at = more.at in
-      let more_within = more.within in
-      record { place = suc more.place; at = omega (arith, more_at); within = omega (arith, more_within); none = more.none; asked = more.asked; call_is = more.call_is }
-  turn_first i t todo true [] own is rest =
-      let first = first_same (record { component = i; call = call t }) (asking_of last) (to_those_from (i + 1) test call todo) (askings back ++ left) is in
-      let at : i ≡ last.component = ap (λ (a : Asking). a.component) first in
-      record { place = 0; at = omega (arith, at); within = omega arith; none = refl; asked = λ d. own; call_is = λ d. sym (ap (λ (a : Asking). a.call) first) }
-  turn_first i t todo true (f ∷ front) own is rest =
-      let first = first_same (record { component = i; call = call t }) (asking_of f) (to_those_from (i + 1) test call todo) (behind front) is in
-      let at : i ≡ f.component = ap (λ (a : Asking). a.component) first in
-      let more = rest front (rest_same (record { component = i; call = call t }) (asking_of f) (to_those_from (i + 1) test call todo) (behind front) is) in
-      let more_at = more.at in
-      let more_within = more.within in
-      record {
-        place = suc more.place;
-        at = omega (arith, more_at);
-        within = omega (arith, more_within);
-        none = skips (f.component == last.component) f.exchange (part last.component front) (other f.component last.component (λ e. absurd (omega (arith, at, e, more_at)))) ∙ more.none;
-        asked = more.asked;
-        call_is = more.call_is;
-      }
-
-  pub turn : (i : ℕ) (todo : List Shape) (front : List Sent) → to_those_from i test call todo ≡ behind front → IsTurn test call i todo front last
-  turn i [] [] is = absurd (cc)
-  turn i [] (f ∷ front) is = absurd (cc)
-  turn i (t ∷ todo) front is = turn_first i t todo (test t) front refl is (λ more e. turn (i + 1) todo more e)
 
 -- ---- a call that failed
 
@@ -134,15 +90,16 @@ module _ (r : Run) (ss : List MachineState) (all : AreAll r ss) where
         IsLost (length r.system.components) (front ++ last ∷ back) why
     lost_in_stage test call left calls well =
         let t = turn test call last back left 0 (shapes_of r.system) front calls in
-        let at = t.at in
-        let within = t.within in
+        let at = t.to.at in
+        let within = slice_get_within (shapes_of r.system) t.to.place t.to.one t.to.is in
         let len = length-map r.system.components (λ (c : Component). c.shape) in
         lost_at (omega (arith, at, within, len))
         (λ c m z fmu.
-        let place : t.place ≡ last.component = omega (arith, at) in
-        let own : get_or (shapes_of r.system) t.place c.shape ≡ c.shape = ap (λ (n : ℕ). get_or (shapes_of r.system) n c.shape) place ∙ sym (shape_of_component r.system last.component c fmu.component c.shape) in
+        let place : t.to.place ≡ last.component = omega (arith, at) in
+        let there : slice_get (shapes_of r.system) last.component ≡ Some c.shape = slice_get-map (λ (d : Component). d.shape) r.system.components last.component ∙ ap (option_map (λ (d : Component). d.shape)) fmu.component in
+        let own : t.to.one ≡ c.shape = same_Some t.to.one c.shape (sym t.to.is ∙ ap (slice_get (shapes_of r.system)) place ∙ there) in
         subst (λ (y : MachineState). IsAnsweredWell c.shape m y last.exchange.call) (sym (ap (state_by m z) t.none))
-        (subst (λ (x : Call). IsAnsweredWell c.shape m z x) (sym (t.call_is c.shape ∙ ap call own)) (well last.component c m z fmu (ap test (sym own) ∙ t.asked c.shape))))
+        (subst (λ (x : Call). IsAnsweredWell c.shape m z x) (sym (t.to.call_is ∙ ap call own)) (well last.component c m z fmu (ap test (sym own) ∙ t.to.asked))))
 
 -- ---- where calls stop or fail
 

@@ -12,9 +12,9 @@ use Rattle.run_model.specs.Stepping.{asks_to_end, departing}
 use Rattle.run_model.specs.Trace.{instant_of}
 use Rattle.event_iteration.specs.Settings.{entered_step}
 use Rattle.calling_sequence.specs.Calls.{IsStep}
-use Rattle.calling_sequence.specs.Course.{Before, Begins, Configured, Departing, Entered, Found, Left, Leaving, Made, Place, Read, Rearmed, Seen, Spot, Stepped, Timed, Way}
+use Rattle.calling_sequence.specs.Course.{Agreed, Before, Begins, Configured, Departing, Entered, Found, Left, Leaving, Made, Place, Read, Rearmed, Saved, Seen, Short, Spot, Stepped, Timed, Way}
 use Rattle.machine_courses.specs.Fronts.{CameTo}
-use Rattle.machine_courses.proofs.Steps.{after_step, kept}
+use Rattle.machine_courses.proofs.Steps.{after_step, agreed, saved}
 
 -- a point between start and stop, and an instant below the limit of those there
 pub record IsWithin (plan : Plan) (t n : ℕ) : Type 0 where
@@ -72,16 +72,22 @@ module _ (r : Run) where
     pub done : following r sees.z w.s.values ≡ Done
     pub step : IsStep r.system r.plan (over w.s is sees).timers (over w.s is sees).t w.to
 
+  -- all came to one point behind it, and each keeps what it was asked last
+  pub record Lands (w : Way) (point : ℕ) (asked : Bool) (is : List Instant) : Type 0 where
+    pub goes : Goes w is
+    pub asks : List ℕ
+    pub made : P.IsStep r (over w.s is goes.sees) asks point
+    pub later : (over w.s is goes.sees).t < point
+    pub within : point ≤ w.to
+    pub asked_is : asked ≡ asks_to_end r (over w.s is goes.sees) asks
+
   -- the step was made
   pub record Steps (s : Spot) (asked : Bool) (is : List Instant) (ss : List MachineState) : Type 0 where
     pub w : Way
-    pub goes : Goes w is
-    pub point : w.to ≡ s.t
+    pub lands : Lands w s.t asked is
     pub values : w.s.values ≡ s.values
     pub timers : w.s.timers ≡ s.timers
-    pub made : P.IsStep r (over w.s is goes.sees) (kept r (over w.s is goes.sees) w.to) w.to
-    pub asked_is : asked ≡ asks_to_end r (over w.s is goes.sees) (kept r (over w.s is goes.sees) w.to)
-    pub states : ss ≡ after_step r (over w.s is goes.sees) w.to
+    pub states : ss ≡ after_step r (over w.s is lands.goes.sees) lands.asks
 
   -- in Initialization Mode, with its values written
   pub record Initializes (ss : List MachineState) : Type 0 where
@@ -103,4 +109,7 @@ module _ (r : Run) where
   At (Leaving w) is ss = (g : Goes w is) × (ss ≡ (over w.s is g.sees).states)
   At (Left w) is ss = (g : Goes w is) × (ss ≡ entered_step r (over w.s is g.sees))
   At (Departing w) is ss = (g : Goes w is) × (ss ≡ departing r (over w.s is g.sees))
+  At (Saved w) is ss = (g : Goes w is) × (ss ≡ saved r (over w.s is g.sees))
+  At (Short w component end) is ss = (g : Goes w is) × P.LacksStep r (over w.s is g.sees) component end
+  At (Agreed w point asked) is ss = (l : Lands w point asked is) × (ss ≡ agreed r (over w.s is l.goes.sees) l.asks)
   At (Stepped s asked) is ss = Steps s asked is ss

@@ -1,5 +1,5 @@
 -- Of machines that behave well a trace goes on from each situation that their run comes to.
-use Rattle.std.proofs.Common.{◌≡◌, ℕ, zero, suc, ◌+◌, ◌-◌, ◌<◌, ◌≤◌, ℤ, Bool, true, false, nat_lt, List, [], ◌∷◌, ◌++◌, Option, Some, None, refl, sym, ap, ◌∙◌, subst, append_assoc, arith}
+use Rattle.std.proofs.Common.{◌≡◌, ◌⊎◌, inl, inr, ℕ, zero, suc, ◌+◌, ◌<◌, ◌≤◌, ℤ, Bool, true, false, nat_lt, List, [], ◌∷◌, ◌++◌, Option, refl, sym, ap, ◌∙◌, subst, append_assoc, arith}
 use Rattle.std.specs.Prelude.{◌==◌}
 use Rattle.std.proofs.lemmas.Bool.Decides.{nat_tests}
 use Rattle.system_model.specs.declared.plan.EndKind.{EndKind}
@@ -14,22 +14,22 @@ use Rattle.run_model.specs.Equations.{Solves}
 use Rattle.run_model.specs.Machines.{AreMachines}
 use Rattle.run_model.specs.Run.{Run, Situation}
 use Rattle.run_model.specs.Stepping as P
-use Rattle.run_model.specs.Stepping.{Ends, GoesOn, asks_to_end, stepped}
-use Rattle.run_model.specs.Steps.{OnStop}
+use Rattle.run_model.specs.Stepping.{Ends, GoesOn, asks_to_end, stepped, steppers}
+use Rattle.run_model.specs.Steps.{Agree, OnStop, StopsShort}
 use Rattle.run_model.specs.Trace.{Continues, Further, IsTrace, Last, Leads, instant_of}
 use Rattle.run_model.proofs.CallerLemmas.{situation_reached}
 use Rattle.event_iteration.proofs.ByLog.{AreAll, updated_all}
-use Rattle.calling_sequence.specs.Calls.{IsBoundOf, IsStep, first_unfit}
+use Rattle.step_agreement.specs.Exists.{EndWell}
+use Rattle.step_agreement.proofs.CallerLemmas.{agree_within, agrees_or_stops, end_well}
+use Rattle.calling_sequence.specs.Calls.{IsBoundOf}
 use Rattle.calling_sequence.specs.Plans.{IsPlan}
-use Rattle.calling_sequence.specs.Systems.{IsBuilt}
 use Rattle.machine_courses.proofs.Bounds.{bound_exists}
 use Rattle.machine_courses.proofs.Following.{by_answers, leads_by, reached_by}
 use Rattle.machine_courses.proofs.Fronts.{Ahead, Front, Past, traced_on}
 use Rattle.machine_courses.proofs.Instants.{solution}
 use Rattle.machine_courses.proofs.Places.{IsWithin}
 use Rattle.machine_courses.proofs.Rows.{below_more}
-use Rattle.machine_courses.proofs.StepCalls.{steps_well}
-use Rattle.machine_courses.proofs.Steps.{kept, lacks, step_made}
+use Rattle.machine_courses.proofs.StepCalls.{ends_where}
 
 same_place : (t stop : ℕ) → nat_lt t stop ≡ false → t ≤ stop → t ≡ stop
 same_place t stop e within = grind (arith, nat_tests)
@@ -44,7 +44,7 @@ record Rest (r : Run) (z : Situation) (V : List (Option ℤ)) : Type 0 where
   rest : List Instant
   on : Continues r z (instant_of z V ∷ rest) kind end
 
-module _ (r : Run) (sound : IsSound r.system) (built : IsBuilt r.system) (plan : IsPlan r.plan) (machines : AreMachines r) (well : WellBehaved r) where
+module _ (r : Run) (sound : IsSound r.system) (plan : IsPlan r.plan) (machines : AreMachines r) (well : WellBehaved r) where
   -- from each situation that is so a trace goes on
   abbrev GoesOnWhere : (Situation → Type 0) → Type 0
   GoesOnWhere So = (z : Situation) → So z → Reached r z → IsWithin r.plan z.t z.n → (V : List (Option ℤ)) → Solves r z V → Rest r z V
@@ -73,31 +73,33 @@ module _ (r : Run) (sound : IsSound r.system) (built : IsBuilt r.system) (plan :
       departs next d = leads_by r z V Done next done d
 
       module _ (to : ℕ) (bound : IsBoundOf r.plan u.timers z.t to) where
-        made : first_unfit r.system r.plan (to - z.t) ≡ None → P.IsStep r u (kept r u to) to
-        made fit =
-            let step : IsStep r.system r.plan u.timers u.t to = record { bound = bound; fit = fit } in
-            step_made r built u all to step
-            (steps_well r sound built machines well u all (record { s = z; values = V; reached = reached; solves = solves; done = done; is = refl; before_stop = bound.before_stop }) to step)
+        ends_here : EndWell (steppers r u) z.t r.plan.step to
+        ends_here = end_well (steppers r u) z.t r.plan.step to bound.bound.later
+            (ends_where r sound machines well u all (record { s = z; values = V; reached = reached; solves = solves; done = done; is = refl; before_stop = bound.before_stop }) to bound.bound)
 
-        by_answer : (a : Bool) → first_unfit r.system r.plan (to - z.t) ≡ None → asks_to_end r u (kept r u to) ≡ a → Rest r z V
-        by_answer true fit asks = last K.Asked to (departs (Ends K.Asked to) (P.WhereAsked _ (kept r u to) to (made fit) asks refl))
-        by_answer false fit asks =
-            let next = stepped r u (kept r u to) to in
+        by_answer : (kept : List ℕ) (point : ℕ) → P.IsStep r u kept point → z.t < point → point ≤ to → (a : Bool) → asks_to_end r u kept ≡ a → Rest r z V
+        by_answer kept point made later most true asks = last K.Asked point (departs (Ends K.Asked point) (P.WhereAsked _ kept point made asks refl))
+        by_answer kept point made later most false asks =
+            let next = stepped r u kept point in
             let begun = within.begun in
-            let later = bound.bound.later in
-            further next (departs (GoesOn next) (P.ByStep _ (kept r u to) to (made fit) asks refl))
-            (λ there W solved. onward next later there (record { begun = omega (arith, begun, later); ended = bound.bound.least r.plan.stop bound.before_stop (OnStop refl); below = plan.limit_above }) W solved)
+            let high = bound.bound.least r.plan.stop bound.before_stop (OnStop refl) in
+            further next (departs (GoesOn next) (P.ByStep _ kept point made asks refl))
+            (λ there W solved. onward next later there (record { begun = omega (arith, begun, later); ended = omega (arith, most, high); below = plan.limit_above }) W solved)
 
-        by_size : (o : Option ℕ) → first_unfit r.system r.plan (to - z.t) ≡ o → Rest r z V
-        by_size None fit = by_answer (asks_to_end r u (kept r u to)) fit refl
-        by_size (Some i) unfit = last K.Fixed z.t (departs (Ends K.Fixed z.t) (P.WhereFixed _ i to (lacks r built u all to bound i unfit) refl))
+        -- an agreement is there, or a step that one of them can't make
+        by_end : ((kept : List ℕ) × (point : ℕ) × Agree (steppers r u) z.t r.plan.step to kept point) ⊎ ((i e : ℕ) × StopsShort (steppers r u) z.t r.plan.step to i e) → Rest r z V
+        by_end (inl h) =
+            let span = agree_within (steppers r u) z.t r.plan.step to h.0 h.1 h.2 bound.bound.later ends_here in
+            by_answer h.0 h.1 (record { before_stop = bound.before_stop; bound = to; is_bound = bound.bound; agree = h.2 }) span.0 span.1 (asks_to_end r u h.0) refl
+        by_end (inr h) = last K.Fixed z.t (departs (Ends K.Fixed z.t) (P.WhereFixed _ h.0 h.1 (record { before_stop = bound.before_stop; bound = to; is_bound = bound.bound; stops = h.2 }) refl))
 
       by_place : (c : Bool) → nat_lt z.t r.plan.stop ≡ c → Rest r z V
       by_place false e = last K.Stop z.t (departs (Ends K.Stop z.t) (P.AtStop _ (same_place z.t r.plan.stop e within.ended) refl))
       by_place true e =
           let before = less_place z.t r.plan.stop e in
           let bound = bound_exists r u.timers z.t before in
-          by_size bound.0 (record { before_stop = before; bound = bound.1 }) (first_unfit r.system r.plan (bound.0 - z.t)) refl
+          let own : IsBoundOf r.plan u.timers z.t bound.0 = record { before_stop = before; bound = bound.1 } in
+          by_end bound.0 own (agrees_or_stops (steppers r u) z.t r.plan.step bound.0 bound.1.later (ends_here bound.0 own))
 
     -- or another instant is asked for
     by_following : (Reached r u → IsWithin r.plan u.t u.n → (W : List (Option ℤ)) → Solves r u W → Rest r u W) → (asked goes limited : Bool) → (suc z.n == r.plan.limit) ≡ limited → following r z V ≡ by_answers asked goes limited → Rest r z V

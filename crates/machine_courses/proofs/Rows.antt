@@ -1,5 +1,5 @@
 -- Where each part of a course leads told machines.
-use Rattle.std.proofs.Common.{◌≡◌, ℕ, suc, ◌<◌, ℤ, Bool, true, false, List, [], ◌∷◌, ◌++◌, Option, refl, sym, ap, ap₂, ◌∙◌, subst, append-nil, arith}
+use Rattle.std.proofs.Common.{◌≡◌, ℕ, suc, ◌<◌, ◌≤◌, ℤ, Bool, true, false, List, [], ◌∷◌, ◌++◌, Option, refl, sym, ap, ap₂, ◌∙◌, subst, append-nil, arith}
 use Rattle.std.specs.Prelude.{◌==◌, ◌||◌, if◌then◌else◌}
 use Rattle.std.proofs.lemmas.List.Elements.{All-nil}
 use Rattle.value_types.specs.declared.shape.Shape.{Shape}
@@ -14,27 +14,29 @@ use Rattle.run_model.specs.Initial as I
 use Rattle.run_model.specs.Machines.{AreMachines, IsSituation}
 use Rattle.run_model.specs.Run.{Run, Situation, Timer, each}
 use Rattle.run_model.specs.Stepping as P
-use Rattle.run_model.specs.Stepping.{asks_to_end, departing, stepped}
+use Rattle.run_model.specs.Stepping.{departing, stepped}
 use Rattle.run_model.specs.Steps.{OnStop}
 use Rattle.run_model.specs.Trace.{Leads}
 use Rattle.slot_calls.specs.Log.{Sent, askings}
 use Rattle.slot_calls.specs.Replies.{AreReplies, states_by}
 use Rattle.slot_calls.specs.Stage.{IsAnswered, everyone, has_events, shapes_of, to_those}
+use Rattle.step_agreement.specs.Agreement.{Meets, Outcome, Unfit}
+use Rattle.step_agreement.specs.OverMachines.{IgnoreSlots}
 use Rattle.event_iteration.specs.Clocks.{AreTicks}
 use Rattle.event_iteration.specs.Explains.{Explains}
 use Rattle.event_iteration.specs.Instants.{in_instant}
 use Rattle.event_iteration.specs.Intervals.{Rearms, is_some_armed}
 use Rattle.event_iteration.specs.Settings.{entered_step}
 use Rattle.event_iteration.proofs.ByLog.{AreAll, IsRead, fixed_by_log, initial_by_log, instant_by_log, intervals_by_log, reads_stay, sets_by_log, stage_states, updated_all, updates_by_log}
-use Rattle.calling_sequence.specs.Calls.{IsStep, stepping}
-use Rattle.calling_sequence.specs.Course.{Again, Arrives, Begins, Binds, Departing, Enters, Exits, Finds, GoesOn, Leaves, Leaving, LeadsTo, Left, Place, Reads, Rearming, Sets, Spot, Stepped, Steps, Times, Updates, Way, part_at, shown}
-use Rattle.calling_sequence.specs.Parts.{Does}
+use Rattle.calling_sequence.specs.Calls.{IsStep}
+use Rattle.calling_sequence.specs.Course.{Again, Agreed, Agreeing, Arrives, Begins, Binds, Departing, Enters, Exits, Finds, Frees, GoesOn, Leaves, Leaving, LeadsTo, Left, Place, Reads, Rearming, Saved, Saves, Sets, Short, Spot, Stepped, Stopping, Times, Updates, Way, part_at, shown}
+use Rattle.calling_sequence.specs.Parts.{AllAgree, Does}
 use Rattle.calling_sequence.specs.Plans.{IsPlan}
-use Rattle.calling_sequence.specs.Systems.{IsBuilt}
 use Rattle.machine_courses.specs.Fronts.{AtFirst, CameTo, Onward}
+use Rattle.machine_courses.proofs.Bare.{AreBare, bare_at, bare_updated}
 use Rattle.machine_courses.proofs.Following.{by_answers, leads_by, same_instant, situation_by}
 use Rattle.machine_courses.proofs.Places.{At, Comes, Goes, IsWithin, Says, Sees, over}
-use Rattle.machine_courses.proofs.Steps.{after_step, arrived_is, asks_by_log, kept, states_by_step, step_by_log}
+use Rattle.machine_courses.proofs.Steps.{after_step, agreed, arrived_is, falls_short, freed_by_log, lands, saved, saved_by_log}
 use Rattle.machine_courses.proofs.Parameters.{configured_states}
 
 -- where the limit isn't reached one more instant is below it
@@ -75,7 +77,7 @@ module _ (r : Run) (s : Spot) (ticks : ℕ → Bool) (is : List Instant) (ss : L
   pub walk_at : (P : ℕ → List (Option ℤ) → Type 0) → P s.n s.values → P c.z.n c.z.before
   walk_at P h = subst (λ (n : ℕ). P n c.z.before) (sym c.at.number) (subst (P s.n) (sym c.values) h)
 
-module _ (r : Run) (sound : IsSound r.system) (built : IsBuilt r.system) (plan : IsPlan r.plan) (machines : AreMachines r) where
+module _ (r : Run) (sound : IsSound r.system) (plan : IsPlan r.plan) (machines : AreMachines r) (ignore : IgnoreSlots r) where
   -- behind an instant
   module _ (s : Spot) (is : List Instant) (x : Sees r s is) where
     pub sees_situation : IsSituation r x.z
@@ -83,6 +85,9 @@ module _ (r : Run) (sound : IsSound r.system) (built : IsBuilt r.system) (plan :
 
     pub over_all : AreAll r (over r s is x).states
     over_all = updated_all r machines x.z sees_situation s.values
+
+    pub over_bare : AreBare (over r s is x).states
+    over_bare = bare_updated r x.z (bare_at r machines x.z x.earlier x.at.came) s.values
 
     pub leads_on : (next : Situation) → Leads r x.z s.values (P.GoesOn next) → CameTo r next is
     leads_on next leads = Onward next is x.z s.values x.earlier x.at.came x.solves leads x.is_is
@@ -101,17 +106,23 @@ module _ (r : Run) (sound : IsSound r.system) (built : IsBuilt r.system) (plan :
     pub at_point : u.t ≡ w.s.t
     at_point = g.sees.at.point
 
-    step_within : (s : Spot) → w.to ≡ s.t → IsWithin r.plan s.t 0
-    step_within s at =
+    step_within : (s : Spot) → u.t < s.t → s.t ≤ w.to → IsWithin r.plan s.t 0
+    step_within s later most =
         let begun = g.sees.at.within.begun in
         let here = at_point in
-        let later = g.step.bound.bound.later in
         let last = g.step.bound.bound.least r.plan.stop g.step.bound.before_stop (OnStop refl) in
         let some = plan.limit_above in
-        record { begun = omega (arith, begun, here, later, at); ended = omega (arith, last, at); below = some }
+        record { begun = omega (arith, begun, here, later); ended = omega (arith, last, most); below = some }
 
     pub goes_all : AreAll r u.states
     goes_all = over_all w.s is g.sees
+
+    pub goes_bare : AreBare u.states
+    goes_bare = over_bare w.s is g.sees
+
+    -- the agreement is one of their run
+    pub agrees_here : (log : List Sent) (outcome : Outcome) → AllAgree r.system w.s.t r.plan.step w.to log outcome → AllAgree r.system u.t r.plan.step w.to log outcome
+    agrees_here log outcome agrees = subst (λ (k : ℕ). AllAgree r.system k r.plan.step w.to log outcome) (sym at_point) agrees
 
   -- a row a part
   pub row : (p q : Place) (values : List (Option ℤ)) (more : List Sent) → LeadsTo r.system r.plan p values more q → (is : List Instant) (ss : List MachineState) → At r p is ss → Does r.system (part_at r.system r.bound r.plan p) values more → AreReplies r ss more →
@@ -189,30 +200,40 @@ module _ (r : Run) (sound : IsSound r.system) (built : IsBuilt r.system) (plan :
   row _ _ _ _ (Sets w values more) is ss (g, at) does replies =
       subst (λ (js : List Instant). At r (Departing w) js (states_by r ss more)) (sym (append-nil is))
       (g, behind r more ss (entered_step r (u w is g)) (departing r (u w is g)) at (sets_by_log r (u w is g) values more sound g.sees.solves.places does))
-  row _ _ _ _ (Steps w values more asked asked_is ends) is ss (g, at) does replies =
+  row _ _ _ _ (Saves w values more) is ss (g, at) does replies =
       let z = u w is g in
-      let answered : IsAnswered (shapes_of r.system) (stepping r.system z.t w.to) more = subst (λ (k : ℕ). IsAnswered (shapes_of r.system) (stepping r.system k w.to) more) (sym (at_point w is g)) does in
-      let own = inside r more ss (departing r z) at replies in
-      let all = goes_all w is g in
-      subst (λ (js : List Instant). At r (Stepped (record w.s { t = w.to; n = 0 }) asked) js (states_by r ss more)) (sym (append-nil is)) (record {
+      subst (λ (js : List Instant). At r (Saved w) js (states_by r ss more)) (sym (append-nil is))
+      (g, behind r more ss (departing r z) (saved r z) at (saved_by_log r z (goes_all w is g) (goes_bare w is g) more does))
+  row _ _ _ _ (Agreeing w values more point asked agrees asked_is) is ss (g, at) does replies =
+      let z = u w is g in
+      let l = lands r z (goes_all w is g) w.to g.step.bound ignore more (inside r more ss (saved r z) at replies) point (agrees_here w is g more (Meets point) agrees) in
+      subst (λ (js : List Instant). At r (Agreed w point asked) js (states_by r ss more)) (sym (append-nil is)) (
+        record { goes = g; asks = l.asks; made = l.made; later = l.later; within = l.within; asked_is = asked_is ∙ l.asked },
+        behind r more ss (saved r z) (agreed r z l.asks) at l.states,
+      )
+  row _ _ _ _ (Stopping w values more component end agrees) is ss (g, at) does replies =
+      let z = u w is g in
+      subst (λ (js : List Instant). At r (Short w component end) js (states_by r ss more)) (sym (append-nil is))
+      (g, falls_short r z (goes_all w is g) w.to g.step.bound ignore more (inside r more ss (saved r z) at replies) component end (agrees_here w is g more (Unfit component end) agrees))
+  row _ _ _ _ (Frees w point asked values more) is ss (l, at) does replies =
+      let z = u w is l.goes in
+      subst (λ (js : List Instant). At r (Stepped (record w.s { t = point; n = 0 }) asked) js (states_by r ss more)) (sym (append-nil is)) (record {
         w = w;
-        goes = g;
-        point = refl;
+        lands = l;
         values = refl;
         timers = refl;
-        made = step_by_log r built z all w.to g.step more answered own;
-        asked_is = asked_is ∙ asks_by_log r built z all w.to g.step more answered own;
-        states = behind r more ss (departing r z) (after_step r z w.to) at (states_by_step r built z all w.to g.step more answered own);
+        states = behind r more ss (agreed r z l.asks) (after_step r z l.asks) at (freed_by_log r z (goes_all w is l.goes) (goes_bare w is l.goes) l.asks more does);
       })
   row _ _ _ _ (Arrives s values more ticks begins) is ss x does replies =
-      let z = u x.w is x.goes in
-      let next = stepped r z (kept r z x.w.to) x.w.to in
-      let leads = leads_by r x.goes.sees.z x.w.s.values Done (P.GoesOn next) x.goes.done (P.ByStep (P.GoesOn next) (kept r z x.w.to) x.w.to x.made (sym x.asked_is) refl) in
+      let g = x.lands.goes in
+      let z = u x.w is g in
+      let next = stepped r z x.lands.asks s.t in
+      let leads = leads_by r g.sees.z x.w.s.values Done (P.GoesOn next) g.done (P.ByStep (P.GoesOn next) x.lands.asks s.t x.lands.made (sym x.lands.asked_is) refl) in
       record {
         z = next;
-        at = record { came = subst (CameTo r next) (sym (append-nil is)) (leads_on x.w.s is x.goes.sees next leads); point = x.point; number = refl; within = step_within x.w is x.goes s x.point };
+        at = record { came = subst (CameTo r next) (sym (append-nil is)) (leads_on x.w.s is g.sees next leads); point = refl; number = refl; within = step_within x.w is g s x.lands.later x.lands.within };
         values = x.values;
-        timers = x.goes.sees.timers ∙ x.timers;
+        timers = g.sees.timers ∙ x.timers;
         begins = begins;
-        states = sends r more ss (after_step r z x.w.to) x.states has_events (λ (shape : Shape). C.EnterEvent) does ∙ arrived_is r built z (goes_all x.w is x.goes) x.w.to;
+        states = sends r more ss (after_step r z x.lands.asks) x.states has_events (λ (shape : Shape). C.EnterEvent) does ∙ arrived_is r z (goes_all x.w is g) x.lands.asks s.t;
       }

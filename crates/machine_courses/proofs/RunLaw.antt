@@ -17,34 +17,34 @@ use Rattle.run_model.specs.Trace.{IsTrace, LeadsBy}
 use Rattle.slot_calls.specs.Log.{Sent}
 use Rattle.slot_calls.specs.Replies.{AreReplies, states_by}
 use Rattle.slot_calls.specs.Stage.{IsAnswered, everyone, shapes_of}
+use Rattle.step_agreement.specs.OverMachines.{IgnoreSlots}
 use Rattle.event_iteration.proofs.ByLog.{replies_first, replies_then, stage_states}
 use Rattle.calling_sequence.specs.declared.run_end.RunEnd.{RunEnd}
 use Rattle.calling_sequence.specs.declared.run_end.RunEnd.TheVariants as E
 use Rattle.calling_sequence.specs.Calls.{IsBoundOf, first_unfit, making}
-use Rattle.calling_sequence.specs.Course.{Place, Seen, Spot, Stepped}
-use Rattle.calling_sequence.specs.Ends.{AtLimit as Limited, AtStop, Awaits, Badly, ByStep, ByUpdate, EndLine, EndsAt, EndsBy, Finishes, Header, Shown, Unfit, Well, kind_of_end, point_of, text_of, trace_pieces}
+use Rattle.calling_sequence.specs.Course.{Place, Seen, Spot, Stepped, Way}
+use Rattle.calling_sequence.specs.Ends.{AtLimit as Limited, AtShort, AtStop, Awaits, Badly, ByStep, ByUpdate, EndLine, EndsAt, EndsBy, Finishes, Header, Shown, Unfit, Well, kind_of_end, point_of, text_of, trace_pieces}
 use Rattle.calling_sequence.specs.Plans.{IsPlan}
 use Rattle.calling_sequence.specs.Puts.{CutsPiece, with_pieces}
-use Rattle.calling_sequence.specs.Systems.{IsBuilt}
 use Rattle.machine_courses.specs.Fronts.{LacksStepAt}
 use Rattle.machine_courses.specs.Laws.{RunByLog}
 use Rattle.machine_courses.specs.Outcomes.{CutsFront, Output, PutsRun, PutsTrace}
 use Rattle.machine_courses.proofs.Following.{by_answers, leads_by, reached_by}
 use Rattle.machine_courses.proofs.Fronts.{Front, front_at, front_before, is_front, none, stands, trace_seen}
-use Rattle.machine_courses.proofs.Places.{At, Says, over}
+use Rattle.machine_courses.proofs.Places.{At, Goes, Says, over}
 use Rattle.machine_courses.proofs.Rows.{follows, over_all}
-use Rattle.machine_courses.proofs.Steps.{kept, lacks}
+use Rattle.machine_courses.proofs.Steps.{lacks}
 
 -- once each was made
 pub made_replies : (r : Run) (made log : List Sent) → IsAnswered (shapes_of r.system) (making r.system) made → AreReplies r (I.first_states r) (made ++ log) → AreReplies r (I.instantiated r) log
 made_replies r made log making replies =
     subst (λ (ss : List MachineState). AreReplies r ss log) (stage_states r (I.first_states r) everyone instantiate_of made making) (replies_then r (I.first_states r) made log making.good replies)
 
-module _ (r : Run) (sound : IsSound r.system) (built : IsBuilt r.system) (plan : IsPlan r.plan) (machines : AreMachines r) where
+module _ (r : Run) (sound : IsSound r.system) (plan : IsPlan r.plan) (machines : AreMachines r) (ignore : IgnoreSlots r) where
   -- behind an instant
   module _ (s : Spot) (again asked : Bool) (is : List Instant) (ss : List MachineState) (x : Says r s again asked is ss) (kind : EndKind) (point : ℕ) where
     ends_by : (f : Following) → by_answers asked again (suc s.n == r.plan.limit) ≡ f → LeadsBy f r x.sees.z s.values (Ends kind point) → IsTrace r is kind point
-    ends_by f e leads = trace_seen r s is x.sees kind point (leads_by r x.sees.z s.values f (Ends kind point) (follows r sound built plan machines s again asked is ss x ∙ e) leads)
+    ends_by f e leads = trace_seen r s is x.sees kind point (leads_by r x.sees.z s.values f (Ends kind point) (follows r sound plan machines ignore s again asked is ss x ∙ e) leads)
 
   module _ (s : Spot) (is : List Instant) (ss : List MachineState) (x : Says r s false false is ss) (component end : ℕ) (bound : IsBoundOf r.plan s.timers s.t end) (unfit : first_unfit r.system r.plan (end - s.t) ≡ Some component) where
     abbrev z : Situation
@@ -54,7 +54,7 @@ module _ (r : Run) (sound : IsSound r.system) (built : IsBuilt r.system) (plan :
     bound_here = subst (λ (ts : List Timer). IsBoundOf r.plan ts z.t end) (sym x.sees.timers) (subst (λ (k : ℕ). IsBoundOf r.plan s.timers k end) (sym x.sees.at.point) bound)
 
     lacks_here : P.LacksStep r z component end
-    lacks_here = lacks r built z (over_all r sound built plan machines s is x.sees) end bound_here component (ap (λ (k : ℕ). first_unfit r.system r.plan (end - k)) x.sees.at.point ∙ unfit)
+    lacks_here = lacks r z (over_all r sound plan machines ignore s is x.sees) end bound_here component (ap (λ (k : ℕ). first_unfit r.system r.plan (end - k)) x.sees.at.point ∙ unfit)
 
     lacks_at : LacksStepAt r component s.t end
     lacks_at = record {
@@ -64,7 +64,7 @@ module _ (r : Run) (sound : IsSound r.system) (built : IsBuilt r.system) (plan :
         values = s.values;
         reached = reached_by r x.sees.z x.sees.earlier x.sees.at.came;
         solves = x.sees.solves;
-        done = follows r sound built plan machines s false false is ss x;
+        done = follows r sound plan machines ignore s false false is ss x;
         is = refl;
         before_stop = bound_here.before_stop;
       };
@@ -72,17 +72,40 @@ module _ (r : Run) (sound : IsSound r.system) (built : IsBuilt r.system) (plan :
       lacks = lacks_here;
     }
 
+  -- where the agreement stops
+  module _ (w : Way) (is : List Instant) (g : Goes r w is) (component end : ℕ) (lacking : P.LacksStep r (over r w.s is g.sees) component end) where
+    short_at : LacksStepAt r component w.s.t end
+    short_at = record {
+      z = over r w.s is g.sees;
+      departed = record {
+        s = g.sees.z;
+        values = w.s.values;
+        reached = reached_by r g.sees.z g.sees.earlier g.sees.at.came;
+        solves = g.sees.solves;
+        done = g.done;
+        is = refl;
+        before_stop = g.step.bound.before_stop;
+      };
+      point = g.sees.at.point;
+      lacks = lacking;
+    }
+
+    short_trace : IsTrace r is K.Fixed w.s.t
+    short_trace = trace_seen r w.s is g.sees K.Fixed w.s.t
+        (leads_by r g.sees.z w.s.values Done (Ends K.Fixed w.s.t) g.done (P.WhereFixed (Ends K.Fixed w.s.t) component end lacking (ap (Ends K.Fixed) (sym g.sees.at.point))))
+
   -- at the place where the run ends
   pub trace_at : (end : RunEnd) (p : Place) → EndsAt r.system r.plan end p → (is : List Instant) (ss : List MachineState) → At r p is ss → IsTrace r is (kind_of_end end) (point_of r.plan p)
   trace_at _ _ (AtStop s at) is ss x = ends_by s false false is ss x K.Stop s.t Done refl (P.AtStop (Ends K.Stop s.t) (x.sees.at.point ∙ at) (ap (Ends K.Stop) (sym x.sees.at.point)))
   trace_at _ _ (ByUpdate s again) is ss x = ends_by s again true is ss x K.Asked s.t Ended refl (ap (Ends K.Asked) (sym x.sees.at.point))
   trace_at _ _ (ByStep s) is ss x =
-      let g = x.goes in
+      let g = x.lands.goes in
       trace_seen r x.w.s is g.sees K.Asked s.t
-      (leads_by r g.sees.z x.w.s.values Done (Ends K.Asked s.t) g.done (P.WhereAsked (Ends K.Asked s.t) (kept r (over r x.w.s is g.sees) x.w.to) x.w.to x.made (sym x.asked_is) (ap (Ends K.Asked) (sym x.point))))
+      (leads_by r g.sees.z x.w.s.values Done (Ends K.Asked s.t) g.done (P.WhereAsked (Ends K.Asked s.t) x.lands.asks s.t x.lands.made (sym x.lands.asked_is) refl))
   trace_at _ _ (Limited s limit) is ss x = ends_by s true false is ss x K.Limit s.t AtLimit (ap (by_answers false true) limit) (ap (Ends K.Limit) (sym x.sees.at.point))
   trace_at _ _ (Unfit s component end bound unfit) is ss x =
       ends_by s false false is ss x K.Fixed s.t Done refl (P.WhereFixed (Ends K.Fixed s.t) component.0 end (lacks_here s is ss x component.0 end bound unfit) (ap (Ends K.Fixed) (sym x.sees.at.point)))
+  trace_at _ _ (AtShort w component end) is ss (g, lacking) = short_trace w is g component.0 end lacking
 
   module _ (o : Output) (is : List Instant) (counted : o.counted ≡ length is) where
     abbrev Put : EndKind → ℕ → Type 0
@@ -98,19 +121,20 @@ module _ (r : Run) (sound : IsSound r.system) (built : IsBuilt r.system) (plan :
     puts_at _ _ (Limited s limit) ss x put = puts K.Limit s.t put (trace_at (E.EventLimit s.t) (Seen s true false) (Limited s limit) is ss x)
     puts_at _ _ (Unfit s component end bound unfit) ss x put =
         (puts K.Fixed s.t put (trace_at (E.FixedStep component s.t end) (Seen s false false) (Unfit s component end bound unfit) is ss x), lacks_at s is ss x component.0 end bound unfit)
+    puts_at _ _ (AtShort w component end) ss (g, lacking) put = (puts K.Fixed w.s.t put (short_trace w is g component.0 end lacking), short_at w is g component.0 end lacking)
 
   -- the instants so far
   pub front_finish : (end : RunEnd) (point : ℕ) (log : List Sent) (is : List Instant) → Finishes r.system r.bound r.plan end point log is → AreReplies r (I.instantiated r) log → Front r is
   front_finish _ _ _ _ (Well p end log is course ends) replies =
-      front_at r sound built plan machines p is (states_by r (I.instantiated r) log) (stands r sound built plan machines p log is course replies).at
+      front_at r sound plan machines ignore p is (states_by r (I.instantiated r) log) (stands r sound plan machines ignore p log is course replies).at
   front_finish _ _ _ _ (Badly p bad front more is course falls) replies =
-      front_at r sound built plan machines p is (states_by r (I.instantiated r) front) (stands r sound built plan machines p front is course (replies_first r (I.instantiated r) front more replies)).at
+      front_at r sound plan machines ignore p is (states_by r (I.instantiated r) front) (stands r sound plan machines ignore p front is course (replies_first r (I.instantiated r) front more replies)).at
 
   module _ (o : Output) where
     puts_whole : (end : RunEnd) (point : ℕ) (log : List Sent) (is : List Instant) → Finishes r.system r.bound r.plan end point log is → AreReplies r (I.instantiated r) log → o.counted ≡ length is →
         o.after ≡ with_pieces o.before (trace_pieces r.system r.plan is (kind_of_end end) point) → PutsRun r o end
     puts_whole _ _ _ _ (Well p end log is course ends) replies counted put =
-        puts_at o is counted end p ends (states_by r (I.instantiated r) log) (stands r sound built plan machines p log is course replies).at put
+        puts_at o is counted end p ends (states_by r (I.instantiated r) log) (stands r sound plan machines ignore p log is course replies).at put
     puts_whole _ _ _ _ (Badly p bad front more is course falls) replies counted put = record {
       is = is;
       point = point_of r.plan p;
@@ -120,9 +144,9 @@ module _ (r : Run) (sound : IsSound r.system) (built : IsBuilt r.system) (plan :
 
     cut_by : (log : List Sent) (is : List Instant) (pieces : List (List ℕ)) (piece : List ℕ) → Awaits r.system r.bound r.plan log is pieces piece → AreReplies r (I.instantiated r) log → o.counted ≡ length is →
         CutsPiece (with_pieces o.before pieces) piece o.after → CutsFront r o
-    cut_by _ _ _ _ Header replies counted cut = record { is = []; front = is_front r [] (none r sound built plan machines [] refl); counted = counted; cut = inl cut }
+    cut_by _ _ _ _ Header replies counted cut = record { is = []; front = is_front r [] (none r sound plan machines ignore [] refl); counted = counted; cut = inl cut }
     cut_by _ _ _ _ (Shown p log is i shows course) replies counted cut =
-        let all = is_front r (is ++ i ∷ []) (front_at r sound built plan machines p (is ++ i ∷ []) (states_by r (I.instantiated r) log) (stands r sound built plan machines p log (is ++ i ∷ []) course replies).at) in
+        let all = is_front r (is ++ i ∷ []) (front_at r sound plan machines ignore p (is ++ i ∷ []) (states_by r (I.instantiated r) log) (stands r sound plan machines ignore p log (is ++ i ∷ []) course replies).at) in
         record { is = is; front = front_before r is i all; counted = counted; cut = inr (text_of i, inl (i, all, refl), cut) }
     cut_by _ _ _ _ (EndLine end point log is finishes) replies counted cut = record {
       is = is;
@@ -140,4 +164,4 @@ module _ (r : Run) (sound : IsSound r.system) (built : IsBuilt r.system) (plan :
     puts_run E.WriteFault log is w replies counted = cut_by log is w.pieces w.piece w.awaits replies counted w.cuts
 
 pub run_by_log : RunByLog
-run_by_log r made log is end o c = puts_run r c.sound c.built c.plan c.machines o end log is c.ends (made_replies r made log c.making c.replies) c.counted
+run_by_log r made log is end o c = puts_run r c.sound c.plan c.machines c.ignore o end log is c.ends (made_replies r made log c.making c.replies) c.counted

@@ -1,5 +1,5 @@
 -- Machines that behave well get no bad answer: of a log of them the text of their trace is put, but for a call or a put that failed.
-use Rattle.std.proofs.Common.{◌≡◌, ◌⊎◌, ℕ, true, false, List, [], ◌∷◌, ◌++◌, inl, inr, refl, sym, ap, ◌∙◌, subst, append_assoc, length, map}
+use Rattle.std.proofs.Common.{◌≡◌, ◌⊎◌, ℕ, true, false, List, [], ◌∷◌, ◌++◌, inl, inr, refl, sym, ap, ◌∙◌, append_assoc, length, map}
 use Rattle.std.specs.Prelude.{◌==◌}
 use Rattle.std.proofs.lemmas.List.{length-map, map-append}
 use Rattle.value_types.specs.declared.shape.Shape.{Shape}
@@ -23,20 +23,20 @@ use Rattle.run_model.specs.Stepping.{departing}
 use Rattle.slot_calls.specs.declared.bad_answer.BadAnswer.{BadAnswer}
 use Rattle.slot_calls.specs.Log.{Sent, askings}
 use Rattle.slot_calls.specs.Replies.{AreReplies, states_by}
-use Rattle.slot_calls.specs.Stage.{FailsIn, StopsAt, everyone, shapes_of}
+use Rattle.slot_calls.specs.Stage.{StopsAt, everyone, shapes_of}
+use Rattle.step_agreement.specs.Agreement.{Fails}
+use Rattle.step_agreement.specs.OverMachines.{IgnoreSlots}
 use Rattle.event_iteration.specs.Explains.{ExplainsUntil}
 use Rattle.event_iteration.specs.Instants.{in_instant}
 use Rattle.event_iteration.specs.Settings.{entered_step}
 use Rattle.event_iteration.proofs.ByLog.{configured_all, initialized_all, replies_first, replies_then}
 use Rattle.calling_sequence.specs.declared.run_end.RunEnd.{RunEnd}
 use Rattle.calling_sequence.specs.declared.run_end.RunEnd.TheVariants as E
-use Rattle.calling_sequence.specs.Calls.{stepping}
-use Rattle.calling_sequence.specs.Course.{Before, Configured, Course, Departing, Entered, Found, Left, Leaving, Made, Place, Read, Rearmed, Seen, Stepped, Timed, Way, part_at}
+use Rattle.calling_sequence.specs.Course.{Agreed, Before, Configured, Course, Departing, Entered, Found, Left, Leaving, Made, Place, Read, Rearmed, Saved, Seen, Short, Stepped, Timed, Way, part_at}
 use Rattle.calling_sequence.specs.Ends.{Awaits, Badly, EndLine, EndsBy, Finishes, Header, Shown, Well, header_of, kind_of_end, pieces_of, point_of, text_of, trace_pieces}
 use Rattle.calling_sequence.specs.Parts.{Falls}
 use Rattle.calling_sequence.specs.Plans.{IsPlan}
 use Rattle.calling_sequence.specs.Puts.{CutsPiece, with_pieces}
-use Rattle.calling_sequence.specs.Systems.{IsBuilt}
 use Rattle.machine_courses.specs.Laws.{TraceByLog, UnmadeByLog}
 use Rattle.machine_courses.specs.Outcomes.{CutsTrace, IsLost, Output, PutsRun, TracesWell}
 use Rattle.machine_courses.proofs.Following.{reached_by}
@@ -46,10 +46,10 @@ use Rattle.machine_courses.proofs.Instants.{lost_found, lost_rearming, lost_upda
 use Rattle.machine_courses.proofs.Lost.{lost_behind, lost_stops}
 use Rattle.machine_courses.proofs.Places.{At, Goes, over}
 use Rattle.machine_courses.proofs.Rest.{whole}
-use Rattle.machine_courses.proofs.Rows.{goes_all, inside, ticks_at, walk_at}
+use Rattle.machine_courses.proofs.Rows.{agrees_here, goes_all, inside, ticks_at, walk_at}
 use Rattle.machine_courses.proofs.RunLaw.{made_replies, puts_run, trace_at}
-use Rattle.machine_courses.proofs.StepCalls.{lost_entering, lost_leaving, lost_setting, lost_stepping}
-use Rattle.machine_courses.proofs.Steps.{after_step}
+use Rattle.machine_courses.proofs.StepCalls.{lost_agreeing, lost_entering, lost_freeing, lost_leaving, lost_saving, lost_setting}
+use Rattle.machine_courses.proofs.Steps.{after_step, agreed, saved}
 
 -- nothing that isn't sent is answered badly
 none_falls : (shapes : List Shape) (bad : BadAnswer) (log : List Sent) → StopsAt shapes [] bad log → ⊥
@@ -66,7 +66,7 @@ pieces_behind system plan is i rest kind point =
     ∙ ap (λ (ps : List (List ℕ)). header_of system plan ∷ (ps ++ end_text kind point ∷ [])) (map-append text_of is (i ∷ rest))
     ∙ ap (λ (ps : List (List ℕ)). header_of system plan ∷ ps) (append_assoc (map text_of is) (text_of i ∷ map text_of rest) (end_text kind point ∷ []))
 
-module _ (r : Run) (sound : IsSound r.system) (built : IsBuilt r.system) (plan : IsPlan r.plan) (machines : AreMachines r) (binds : BindsParameters r.system r.bound) (well : WellBehaved r) where
+module _ (r : Run) (sound : IsSound r.system) (plan : IsPlan r.plan) (machines : AreMachines r) (ignore : IgnoreSlots r) (binds : BindsParameters r.system r.bound) (well : WellBehaved r) where
   abbrev count : ℕ
   count = length r.system.components
 
@@ -105,22 +105,29 @@ module _ (r : Run) (sound : IsSound r.system) (built : IsBuilt r.system) (plan :
   lost (Seen s again asked) is ss x bad log falls replies = absurd (none_falls (shapes_of r.system) bad log falls)
   lost (Leaving w) is ss (g, at) bad log falls replies =
       let z = over r w.s is g.sees in
-      lost_leaving r sound built machines well z (goes_all r sound built plan machines w is g) (departed w is g) bad log (inside r log ss z.states at replies) falls
+      lost_leaving r sound machines well z (goes_all r sound plan machines ignore w is g) (departed w is g) bad log (inside r log ss z.states at replies) falls
   lost (Left w) is ss (g, at) bad log (values, falls) replies =
       let z = over r w.s is g.sees in
-      lost_setting r sound built machines well z (goes_all r sound built plan machines w is g) (departed w is g) bad log (inside r log ss (entered_step r z) at replies) values falls
+      lost_setting r sound machines well z (goes_all r sound plan machines ignore w is g) (departed w is g) bad log (inside r log ss (entered_step r z) at replies) values falls
   lost (Departing w) is ss (g, at) bad log falls replies =
       let z = over r w.s is g.sees in
-      lost_stepping r sound built machines well z (goes_all r sound built plan machines w is g) (departed w is g) bad log w.to g.step (inside r log ss (departing r z) at replies)
-      (subst (λ (t : ℕ). FailsIn (shapes_of r.system) (stepping r.system t w.to) bad log) (sym g.sees.at.point) falls)
+      lost_saving r sound machines well z (goes_all r sound plan machines ignore w is g) (departed w is g) bad log (inside r log ss (departing r z) at replies) falls
+  lost (Saved w) is ss (g, at) bad log falls replies =
+      let z = over r w.s is g.sees in
+      lost_agreeing r sound machines well z (goes_all r sound plan machines ignore w is g) (departed w is g) bad log ignore w.to g.step.bound (inside r log ss (saved r z) at replies) (agrees_here r sound plan machines ignore w is g log (Fails bad) falls)
+  lost (Short w component end) is ss (g, lacks) bad log falls replies = absurd (none_falls (shapes_of r.system) bad log falls)
+  lost (Agreed w point asked) is ss (l, at) bad log falls replies =
+      let z = over r w.s is l.goes.sees in
+      lost_freeing r sound machines well z (goes_all r sound plan machines ignore w is l.goes) (departed w is l.goes) bad log l.asks point l.made (inside r log ss (agreed r z l.asks) at replies) falls
   lost (Stepped s true) is ss x bad log falls replies = absurd (none_falls (shapes_of r.system) bad log falls)
   lost (Stepped s false) is ss x bad log falls replies =
-      let z = over r x.w.s is x.goes.sees in
-      lost_entering r sound built machines well z (goes_all r sound built plan machines x.w is x.goes) (departed x.w is x.goes) bad log x.w.to x.made (sym x.asked_is) (inside r log ss (after_step r z x.w.to) x.states replies) falls
+      let g = x.lands.goes in
+      let z = over r x.w.s is g.sees in
+      lost_entering r sound machines well z (goes_all r sound plan machines ignore x.w is g) (departed x.w is g) bad log x.lands.asks s.t x.lands.made (sym x.lands.asked_is) (inside r log ss (after_step r z x.lands.asks) x.states replies) falls
 
   lost_by : (p : Place) (bad : BadAnswer) (front more : List Sent) (is : List Instant) → Course r.system r.bound r.plan p front is → Falls r.system (part_at r.system r.bound r.plan p) bad more → AreReplies r first (front ++ more) → IsLost count (front ++ more) bad.why
   lost_by p bad front more is course falls replies =
-      let at = stands r sound built plan machines p front is course (replies_first r first front more replies) in
+      let at = stands r sound plan machines ignore p front is course (replies_first r first front more replies) in
       lost_behind count front more bad.why (lost p is (states_by r first front) at.at bad more falls (replies_then r first front more at.good replies))
 
   lost_end : (bad : BadAnswer) (point : ℕ) (log : List Sent) (is : List Instant) → Finishes r.system r.bound r.plan (E.Bad bad) point log is → AreReplies r first log → IsLost count log bad.why
@@ -133,11 +140,11 @@ module _ (r : Run) (sound : IsSound r.system) (built : IsBuilt r.system) (plan :
 
     cut_by : (log : List Sent) (is : List Instant) (pieces : List (List ℕ)) (piece : List ℕ) → Awaits r.system r.bound r.plan log is pieces piece → AreReplies r first log → CutsPiece (with_pieces o.before pieces) piece o.after → Cut log
     cut_by _ _ _ _ Header replies cut =
-        let w = whole r sound built plan machines well [] (none r sound built plan machines [] refl) in
+        let w = whole r sound plan machines well [] (none r sound plan machines ignore [] refl) in
         inr (record { is = w.rest; kind = w.kind; point = w.point; trace = w.trace; pieces = []; piece = header_of r.system r.plan; rest = map text_of w.rest ++ end_text w.kind w.point ∷ []; are = refl; cut = cut })
     cut_by _ _ _ _ (Shown p log is i shows course) replies cut =
-        let at = stands r sound built plan machines p log (is ++ i ∷ []) course replies in
-        let w = whole r sound built plan machines well (is ++ i ∷ []) (front_at r sound built plan machines p (is ++ i ∷ []) (states_by r first log) at.at) in
+        let at = stands r sound plan machines ignore p log (is ++ i ∷ []) course replies in
+        let w = whole r sound plan machines well (is ++ i ∷ []) (front_at r sound plan machines ignore p (is ++ i ∷ []) (states_by r first log) at.at) in
         inr (record {
           is = (is ++ i ∷ []) ++ w.rest;
           kind = w.kind;
@@ -156,7 +163,7 @@ module _ (r : Run) (sound : IsSound r.system) (built : IsBuilt r.system) (plan :
             is = is;
             kind = kind_of_end end;
             point = point_of r.plan p;
-            trace = trace_at r sound built plan machines end p ends is (states_by r first log) (stands r sound built plan machines p log is course replies).at;
+            trace = trace_at r sound plan machines ignore end p ends is (states_by r first log) (stands r sound plan machines ignore p log is course replies).at;
             pieces = pieces_of r.system r.plan is;
             piece = end_text (kind_of_end end) (point_of r.plan p);
             rest = [];
@@ -176,7 +183,7 @@ module _ (r : Run) (sound : IsSound r.system) (built : IsBuilt r.system) (plan :
 pub trace_by_log : TraceByLog
 trace_by_log r made log is end o binds well c =
     let replies = made_replies r made log c.making c.replies in
-    traces_well r c.sound c.built c.plan c.machines binds well o end log is c.ends replies (puts_run r c.sound c.built c.plan c.machines o end log is c.ends replies c.counted)
+    traces_well r c.sound c.plan c.machines c.ignore binds well o end log is c.ends replies (puts_run r c.sound c.plan c.machines c.ignore o end log is c.ends replies c.counted)
 
 pub unmade_by_log : UnmadeByLog
 unmade_by_log r bad log machines well replies stops =

@@ -11,20 +11,20 @@ use Rattle.slot_calls.specs.declared.bad_answer.BadAnswer.{BadAnswer}
 use Rattle.slot_calls.specs.Log.{Sent}
 use Rattle.slot_calls.specs.Replies.{AreReplies}
 use Rattle.slot_calls.specs.Stage.{IsAnswered, StopsAt, shapes_of}
+use Rattle.step_agreement.specs.OverMachines.{IgnoreSlots}
 use Rattle.calling_sequence.specs.declared.run_end.RunEnd.{RunEnd}
 use Rattle.calling_sequence.specs.Calls.{making}
 use Rattle.calling_sequence.specs.Ends.{EndsBy}
 use Rattle.calling_sequence.specs.Plans.{IsPlan}
-use Rattle.calling_sequence.specs.Systems.{IsBuilt}
 use Rattle.machine_courses.specs.Outcomes.{IsLost, Output, PutsRun, TracesWell}
 
 -- each machine was made, and then a run of the system by its plan, whose replies are theirs, ended so with this log behind these instants, and put this
 pub record IsRunOf (r : Run) (made log : List Sent) (is : List Instant) (end : RunEnd)
     (o : Output) : Type 0 where
   pub sound : IsSound r.system
-  pub built : IsBuilt r.system
   pub plan : IsPlan r.plan
   pub machines : AreMachines r
+  pub ignore : IgnoreSlots r
   pub making : IsAnswered (shapes_of r.system) (making r.system) made
   pub replies : AreReplies r (first_states r) (made ++ log)
   pub ends : EndsBy r.system r.bound r.plan log is end o.before o.after

@@ -3,3 +3,4 @@ mod Pairs
 mod Doing
 mod Lifting
 mod Firsts
+mod Sharing

@@ -1,5 +1,5 @@
 -- Turns of an agreement, one behind the other.
-use Rattle.std.proofs.Common.{◌≡◌, ℕ, suc, ◌<◌, Bool, true, List, [], ◌∷◌, ◌++◌, Some, Ok, Err, refl, sym, ap, ap₂, ◌∙◌, subst, arith, append_assoc, is_some, length, get_or}
+use Rattle.std.proofs.Common.{◌≡◌, ℕ, suc, ◌<◌, ◌≤◌, Bool, true, List, [], ◌∷◌, ◌++◌, Some, Ok, Err, refl, sym, ap, ap₂, ◌∙◌, subst, arith, append_assoc, is_some, length, get_or}
 use Rattle.std.specs.Prelude.{All}
 use Rattle.fmu_peer.specs.declared.peer.Exchange.{Exchange}
 use Rattle.fmu_peer.specs.declared.peer.Peer.{Ghosts}
@@ -37,6 +37,7 @@ pub record Going {L : Type 0} {g : Ghosts L} (view : L → View) (t step b : ℕ
   pub begin : All (MayGoBack view t W.Everyone) news
   pub saved : All (IsSavedBy view (early_count (shapes (instances view news)))) news
   pub later : t < c
+  pub within : c ≤ b
 
 stands_none : (t k : ℕ) (ss : List Stand) → stands_from t k ss [] ≡ ss
 stands_none t k [] = refl
@@ -54,6 +55,7 @@ module _ {L : Type 0} {g : Ghosts L} (view : L → View) (t step b : ℕ) where
     begin = begin;
     saved = saved;
     later = later;
+    within = omega arith;
   }
 
   module _ (olds : List (Slot L g)) (c : ℕ) (mids : List (Slot L g)) (so_far : Going view t step b olds c mids) where
@@ -81,6 +83,7 @@ module _ {L : Type 0} {g : Ghosts L} (view : L → View) (t step b : ℕ) where
           moved = λ i d w. subst (λ (es : List Exchange). Moved view t m step true (get_or olds i d) es (get_or news i d)) (sym (part_append i so_far.log turn.log)) (moved i d w);
           there = turn.says.there;
           later = turn.says.later;
+          within = let l = turn.says.within in let k = so_far.within in omega (arith, l, k);
         };
       } where
         moved : (i : ℕ) (d : Slot L g) → i < length olds → Moved view t m step true (get_or olds i d) (part i so_far.log ++ part i turn.log) (get_or news i d)
@@ -120,4 +123,5 @@ module _ {L : Type 0} {g : Ghosts L} (view : L → View) (t step b : ℕ) where
             let same = shapes_same turn.log (instances view mids) (instances view news) turn.told in
             x.saved ∙ so_far.saved k d inside ∙ ap₂ is_saved (ap early_count (sym same)) (sym shape);
         later = turn.says.later;
+        within = let l = turn.says.before in let k = so_far.within in omega (arith, l, k);
       }

@@ -67,7 +67,7 @@ pub shape_by : (v w : View) (x : Exchange) → Led v x w → w.fixed.shape ≡ v
 shape_by v w x l = ap (λ (f : Fixed). f.shape) l.fixed
 
 lower_step : (t b c step : ℕ) (saves : Bool) (v : View) → c ≤ b → InStep t b step saves v → InStep t c step saves v
-lower_step t b c step saves v h p = record { state = p.state; stop = (let stop = p.stop in omega (arith, h, stop)); sized = p.sized; full = p.full; saved = p.saved; may_save = p.may_save }
+lower_step t b c step saves v h p = record { state = p.state; stop = (let stop = p.stop in omega (arith, h, stop)); sized = p.sized; full = p.full; saved = p.saved; may_save = p.may_save; unset = p.unset }
 
 module _ {L : Type 0} {g : Ghosts L} (view : L → View) where
   abbrev seen : Slot L g → View

@@ -9,6 +9,7 @@ use Rattle.fmi_calls.specs.declared.call.Call.TheVariants as C
 use Rattle.fmi_calls.specs.declared.call.Grade.{Grade}
 use Rattle.fmi_calls.specs.declared.call.Grade.TheVariants as G
 use Rattle.fmi_calls.specs.declared.call.Reply.{Reply}
+use Rattle.fmi_calls.specs.Permission.{none_marked}
 use Rattle.fmi_calls.specs.Worth.{grade_of}
 use Rattle.fmu_peer.specs.declared.peer.Exchange.{Exchange}
 use Rattle.fmu_peer.specs.declared.peer.Peer.{Ghosts}
@@ -29,7 +30,7 @@ use Rattle.step_agreement.specs.Saving.{early_count, is_saved}
 use Rattle.step_agreement.proofs.CallerLemmas.{map_map, shape_kept}
 use Rattle.rollback.specs.Asked.{AgreedOver, IsSavedBy, MayBeSaved, MayGoBack, asks_in}
 use Rattle.rollback.specs.Places.{CanDo, GoodSent, SentTo, Sends, StandSo, WasLeft, passes, stand_in, stands}
-use Rattle.rollback.specs.Standing.{InStep, IsReady, Placed}
+use Rattle.rollback.specs.Standing.{HasStepped, InStep, IsReady, Placed}
 use Rattle.rollback.specs.StepsBy.{Done, FreesBadly, SavesBadly, StepsBadly, StepsOver, StopsShort, Unfitted, all_at, some_ask_from, to_saved}
 use Rattle.rollback.specs.declared.asking.Turn.TheVariants as T
 use Rattle.rollback.specs.declared.places.Who.TheVariants as W
@@ -213,34 +214,30 @@ module _ {L : Type 0} {g : Ghosts L} (view : L → View) where
             }
 
             module _ (len3 : length news ≡ length behind) (f : Sends {T = Unit {0}} view (W.BesideEarly early) T.Free behind news (Ok tt)) where
-              -- all stand there, and no state is saved
-              freed_sent : (o n : Slot L g) (es : List Exchange) → Placed view t m step o → (stand_in view o).point ≡ m → GoodSent view C.Free o es n → IsReady view m m step n
+              -- each has stepped there, and no state is saved
+              at_end : (x : Bool) → x ≡ false → (v : View) → v.phase.point ≡ m → InStep t m step x v → InStep m m step x v × (none_marked v.phase.marks ≡ true)
+              at_end x is v at h =
+                  let unset : none_marked v.phase.marks ≡ true = h.unset (λ same. absurd (let later = a.says.later in omega (arith, later, same, at))) in (
+                    record { state = h.state; stop = h.stop; sized = h.sized; full = h.full; saved = λ q. absurd (let wrong : true ≡ false = sym q ∙ is in cc); may_save = h.may_save; unset = λ away. unset },
+                    unset,
+                  )
+
+              freed_sent : (o n : Slot L g) (es : List Exchange) → Placed view t m step o → (stand_in view o).point ≡ m → GoodSent view C.Free o es n → HasStepped view m step n
               freed_sent o n es p at s =
                   let l = led_of view C.Free o n es s in
                   let r = now_freed t m step (is_some o.saved) (view (peer_in o.held)) p.stands (view (peer_in n.held)) s.exchange l s.call_is in
                   let token : is_some n.saved ≡ false = token_of view C.Free o n es s in
-                  record {
-                    placed = placed_by view m m step false n token s.live (at_end (view (peer_in n.held)) r.0);
-                    unsaved = token;
-                    at = r.1 ∙ at;
-                  } where
-                    at_end : (v : View) → InStep t m step false v → InStep m m step false v
-                    at_end v h = record { state = h.state; stop = h.stop; sized = h.sized; full = h.full; saved = λ q. absurd (cc); may_save = h.may_save }
+                  let end = at_end false refl (view (peer_in n.held)) (r.1 ∙ at) r.0 in
+                  record { ready = record { placed = placed_by view m m step false n token s.live end.0; unsaved = token; at = r.1 ∙ at }; unset = end.1 }
 
-              freed_left : (o n : Slot L g) (es : List Exchange) → Placed view t m step o → (stand_in view o).point ≡ m → is_some o.saved ≡ false → WasLeft o es n → IsReady view m m step n
+              freed_left : (o n : Slot L g) (es : List Exchange) → Placed view t m step o → (stand_in view o).point ≡ m → is_some o.saved ≡ false → WasLeft o es n → HasStepped view m step n
               freed_left o n es p at none w =
-                  subst (IsReady view m m step) (sym w.new_is)
-                  (record {
-                    placed = record { live = p.live; stands = at_end (is_some o.saved) none p.stands };
-                    unsaved = none;
-                    at = at;
-                  }) where
-                    at_end : (x : Bool) → x ≡ false → InStep t m step x (view (peer_in o.held)) → InStep m m step x (view (peer_in o.held))
-                    at_end x is h = record { state = h.state; stop = h.stop; sized = h.sized; full = h.full; saved = λ q. absurd (let wrong : true ≡ false = sym q ∙ is in cc); may_save = h.may_save }
+                  let end = at_end (is_some o.saved) none (view (peer_in o.held)) at p.stands in
+                  subst (HasStepped view m step) (sym w.new_is) (record { ready = record { placed = record { live = p.live; stands = end.0 }; unsaved = none; at = at }; unset = end.1 })
 
-              pub ready_end : All (IsReady view m m step) news
-              ready_end = λ k d w. let here : k < length behind = omega (arith, len3, w) in by k d here (is_saved early (stand_in view (get_or behind k d)).shape) refl (f.well k d here) where
-                by : (k : ℕ) (d : Slot L g) → k < length behind → (x : Bool) → is_saved early (stand_in view (get_or behind k d)).shape ≡ x → SentTo view C.Free x (get_or behind k d) (part k f.log) (get_or news k d) → IsReady view m m step (get_or news k d)
+              pub all_stepped : All (HasStepped view m step) news
+              all_stepped = λ k d w. let here : k < length behind = omega (arith, len3, w) in by k d here (is_saved early (stand_in view (get_or behind k d)).shape) refl (f.well k d here) where
+                by : (k : ℕ) (d : Slot L g) → k < length behind → (x : Bool) → is_saved early (stand_in view (get_or behind k d)).shape ≡ x → SentTo view C.Free x (get_or behind k d) (part k f.log) (get_or news k d) → HasStepped view m step (get_or news k d)
                 by k d w true h s = freed_sent (get_or behind k d) (get_or news k d) (part k f.log) (a.says.moved k d (inside2 k w)).placed (a.says.there k d w) s
                 by k d w false h s = freed_left (get_or behind k d) (get_or news k d) (part k f.log) (a.says.moved k d (inside2 k w)).placed (a.says.there k d w) (shape_behind k d (inside2 k w) ∙ h) s
 

@@ -1,6 +1,9 @@
 -- A turn sent over slots is a round over a log.
 use Rattle.std.proofs.Common.{◌≡◌, ℕ, zero, suc, ◌+◌, ◌-◌, ◌<◌, ◌==◌, Bool, true, false, not, List, [], ◌∷◌, Option, Some, None, Result, Ok, Err, refl, sym, ap, ap₂, ◌∙◌, subst, arith, length, get_or}
-use Rattle.std.specs.Prelude.{All, MatchOption, OnOk, ◌&&◌, if◌then◌else◌}
+use Rattle.std.specs.Prelude.{All, MatchOption, OnOk, nat_lt, ◌&&◌, ◌||◌, if◌then◌else◌}
+use Rattle.std.specs.List.{list_any}
+use Rattle.std.proofs.lemmas.List.Elements.{All-nil}
+use Rattle.std.proofs.lemmas.List.Folds.{list_any_at, list_any_none}
 use Rattle.fmi_calls.specs.declared.call.Call.{Call}
 use Rattle.fmi_calls.specs.declared.call.Call.TheVariants as C
 use Rattle.fmu_peer.specs.declared.ended.Why.{Why}
@@ -13,7 +16,8 @@ use Rattle.fmu_peer.specs.View.{View}
 use Rattle.slot_calls.specs.Carried.{asks_to_end}
 use Rattle.slot_calls.specs.Log.{Asking, Told, Worth, part}
 use Rattle.slot_calls.specs.Slots.{IsLive, instances}
-use Rattle.slot_calls.specs.Stage.{shapes}
+use Rattle.slot_calls.specs.Stage.{IsGoodOf, shapes}
+use Rattle.slot_calls.proofs.CallerLemmas.{told_none}
 use Rattle.slot_calls.specs.declared.bad_answer.BadAnswer.{BadAnswer}
 use Rattle.step_agreement.specs.Agreement.{Stand, to_some, to_some_from}
 use Rattle.parallel_step.specs.Lifted.{AllSent, IsOwn, Lifted, ask_of, bad_from, bad_of, bad_or, jobs_from}
@@ -23,6 +27,7 @@ use Rattle.rollback.specs.Places.{CanDo, GoodSent, SentTo, Sends, WithJob, call_
 use Rattle.rollback.specs.declared.asking.Turn.{Turn}
 use Rattle.rollback.specs.declared.asking.Turn.TheVariants as T
 use Rattle.rollback.specs.declared.places.Who.{Who}
+use Rattle.rollback.specs.declared.places.Who.TheVariants as W
 
 -- ---- the job of one
 
@@ -52,6 +57,28 @@ ask_if false k call rest = refl
 
 one_job : (who : Who) (turn : Turn) (k : ℕ) (s : Stand) (rest : List Asking) → ask_of k (call_in (job_of who turn s)) rest ≡ (if is_sent who turn s then record { component = k; call = call_of turn } ∷ rest else rest)
 one_job who turn k s rest = ap (λ (o : Option Call). ask_of k o rest) (job_call who turn s) ∙ ask_if (is_sent who turn s) k (call_of turn) rest
+
+-- where nobody might return early, nobody is meant
+nobody : (turn : Turn) (s : Stand) → is_sent (W.BesideEarly 0) turn s ≡ false
+nobody T.Save s = by s.shape.might_return_early where
+  by : (b : Bool) → nat_lt (if b then 1 else 0) 0 ≡ false
+  by true = refl
+  by false = refl
+nobody (T.Back t) s = by s.shape.might_return_early where
+  by : (b : Bool) → (nat_lt (if b then 1 else 0) 0 && not (s.point == t)) ≡ false
+  by true = refl
+  by false = refl
+nobody (T.Step t end) s = by s.shape.might_return_early where
+  by : (b : Bool) → nat_lt (if b then 1 else 0) 0 ≡ false
+  by true = refl
+  by false = refl
+nobody T.Free s = by s.shape.might_return_early where
+  by : (b : Bool) → nat_lt (if b then 1 else 0) 0 ≡ false
+  by true = refl
+  by false = refl
+
+pub none_meant : {L : Type 0} {g : Ghosts L} (view : L → View) (turn : Turn) (slots : List (Slot L g)) → list_any (λ (s : Slot L g). is_sent (W.BesideEarly 0) turn (stand_in view s)) slots ≡ false
+none_meant {L = L} {g = g} view turn slots = list_any_none (λ (s : Slot L g). is_sent (W.BesideEarly 0) turn (stand_in view s)) slots (λ k d w. nobody turn (stand_in view (get_or slots k d)))
 
 -- ---- no bad answer
 
@@ -120,6 +147,36 @@ module _ {L : Type 0} {g : Ghosts L} (view : L → View) (who : Who) (turn : Tur
   -- each may be sent its job
   pub can_each : (olds mids : List (Slot L g)) → EachPair (WithJob view who turn) olds mids → All (CanDo view who turn) olds → All (CanWork view) mids
   can_each olds mids p can = λ k d w. let l = p.len in let here : k < length olds = omega (arith, l, w) in subst (CanWork view) (sym (p.each k d here)) (can k d here)
+
+  -- ---- none
+
+  none_asked : (k : ℕ) (olds : List (Slot L g)) → list_any (λ (s : Slot L g). is_sent who turn (stand_in view s)) olds ≡ false → to_some_from k (is_sent who turn) (call_of turn) (stands view olds) ≡ []
+  none_asked k [] h = refl
+  none_asked k (o ∷ os) h = by (is_sent who turn (stand_in view o)) h (none_asked (k + 1) os) where
+    rest : List Asking
+    rest = to_some_from (k + 1) (is_sent who turn) (call_of turn) (stands view os)
+
+    others : Bool
+    others = list_any (λ (s : Slot L g). is_sent who turn (stand_in view s)) os
+
+    by : (b : Bool) → (b || others) ≡ false → (others ≡ false → rest ≡ []) → (if b then record { component = k; call = call_of turn } ∷ rest else rest) ≡ []
+    by true h more = absurd (cc)
+    by false h more = more h
+
+  none_at : (olds : List (Slot L g)) → list_any (λ (s : Slot L g). is_sent who turn (stand_in view s)) olds ≡ false → (i : ℕ) (d : Slot L g) → i < length olds → false ≡ is_sent who turn (stand_in view (get_or olds i d))
+  none_at olds h i d w = by (is_sent who turn (stand_in view (get_or olds i d))) refl where
+    by : (b : Bool) → is_sent who turn (stand_in view (get_or olds i d)) ≡ b → false ≡ b
+    by true e = sym h ∙ list_any_at (λ (s : Slot L g). is_sent who turn (stand_in view s)) olds i d w e
+    by false e = refl
+
+  -- a turn that is for none
+  pub sends_none : (olds : List (Slot L g)) → list_any (λ (s : Slot L g). is_sent who turn (stand_in view s)) olds ≡ false → Sends {T = Unit {0}} view who turn olds olds (Ok tt)
+  sends_none olds h = record {
+    log = [];
+    told = told_none (instances view olds);
+    says = record { calls_are = sym (none_asked 0 olds h); good = All-nil (IsGoodOf (shapes (instances view olds))) };
+    well = λ i d w. subst (λ (b : Bool). SentTo view (call_of turn) b (get_or olds i d) [] (get_or olds i d)) (none_at olds h i d w) (record { is = refl; job = (get_or olds i d).job; new_is = refl });
+  }
 
   module _ (olds mids news : List (Slot L g)) (jobs : EachPair (WithJob view who turn) olds mids) (works : EachPair (Works view) mids news) where
     l : Lifted view mids news

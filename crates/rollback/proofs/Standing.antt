@@ -1,6 +1,7 @@
 -- What an instance may be asked between the rounds of an agreed step, and where that leaves it.
-use Rattle.std.proofs.Common.{◌≡◌, ℕ, ◌-◌, ◌<◌, ◌≤◌, ◌==◌, Bool, true, false, not, Option, Some, None, refl, sym, ap, ◌∙◌, subst, arith}
+use Rattle.std.proofs.Common.{◌≡◌, ℕ, zero, suc, length, replicate, ◌-◌, ◌<◌, ◌≤◌, ◌==◌, Bool, true, false, not, Option, Some, None, refl, sym, ap, ◌∙◌, subst, arith}
 use Rattle.std.specs.Prelude.{IfSome, IsTrue, ◌||◌, unwrap_or}
+use Rattle.std.specs.List.{list_any}
 use Rattle.std.proofs.lemmas.Bool.Decides.{nat_tests}
 use Rattle.value_types.specs.declared.shape.Shape.{Shape}
 use Rattle.fmi_calls.specs.declared.call.Call.{Call}
@@ -8,12 +9,19 @@ use Rattle.fmi_calls.specs.declared.call.Call.TheVariants as C
 use Rattle.fmi_calls.specs.declared.phase.Phase.{Phase}
 use Rattle.fmi_calls.specs.declared.phase.SavedPhase.{SavedPhase}
 use Rattle.fmi_calls.specs.Next.{counted, end_of, entered}
-use Rattle.fmi_calls.specs.Permission.{Permitted}
+use Rattle.fmi_calls.specs.Permission.{Permitted, none_marked}
 use Rattle.fmu_peer.specs.declared.peer.Exchange.{Exchange}
 use Rattle.fmu_peer.specs.View.{Fixed, View}
 use Rattle.slot_calls.proofs.CallerLemmas.{Led}
 use Rattle.step_agreement.specs.Agreement.{end_by}
 use Rattle.rollback.specs.Standing.{InStep, TakesSize}
+
+-- no place of so many is marked
+none_are : (n : ℕ) → none_marked (replicate n false) ≡ true
+none_are n = ap not (by n) where
+  by : (n : ℕ) → list_any (λ (flag : Bool). flag) (replicate n false) ≡ false
+  by zero = refl
+  by (suc n) = by n
 
 -- ---- sizes
 
@@ -76,6 +84,7 @@ module _ (t b step : ℕ) (saves : Bool) (v : View) (h : InStep t b step saves v
             full = ap (λ (q : Phase). q.slot.is_full) p ∙ h.full;
             saved = λ q. ap (λ (z : Phase). z.slot.point) p ∙ h.saved q;
             may_save = λ q. ap (λ (s : Shape). s.can_save_state) fixed_shape ∙ h.may_save q;
+            unset = λ away. ap (λ (z : Phase). none_marked z.marks) p ∙ none_are (length v.fixed.shape.variables);
           },
           ap (λ (q : Phase). q.point) p ∙ ap (end_of l.reply) at ∙ sym (ap (end_by t) l.is),
         )
@@ -92,6 +101,7 @@ module _ (t b step : ℕ) (saves : Bool) (v : View) (h : InStep t b step saves v
             full = ap (λ (q : Phase). q.slot.is_full) p ∙ h.full;
             saved = λ q. ap (λ (z : Phase). z.slot.point) p ∙ h.saved q;
             may_save = λ q. ap (λ (s : Shape). s.can_save_state) fixed_shape ∙ h.may_save q;
+            unset = λ away. absurd (away (ap (λ (q : Phase). q.point) p ∙ h.saved held));
           },
           ap (λ (q : Phase). q.point) p ∙ h.saved held,
         )
@@ -108,6 +118,7 @@ module _ (t b step : ℕ) (saves : Bool) (v : View) (h : InStep t b step saves v
             full = ap (λ (q : Phase). q.slot.is_full) p;
             saved = λ q. ap (λ (z : Phase). z.slot.point) p ∙ at;
             may_save = λ q. ap (λ (s : Shape). s.can_save_state) fixed_shape ∙ can;
+            unset = λ away. absurd (away (ap (λ (q : Phase). q.point) p ∙ at));
           },
           ap (λ (q : Phase). q.point) p ∙ at,
         )
@@ -124,6 +135,7 @@ module _ (t b step : ℕ) (saves : Bool) (v : View) (h : InStep t b step saves v
             full = ap (λ (q : Phase). q.slot.is_full) p;
             saved = λ q. absurd (cc);
             may_save = λ q. absurd (cc);
+            unset = λ away. ap (λ (z : Phase). none_marked z.marks) p ∙ h.unset (λ same. away (ap (λ (q : Phase). q.point) p ∙ same));
           },
           ap (λ (q : Phase). q.point) p,
         )

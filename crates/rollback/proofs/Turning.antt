@@ -102,6 +102,7 @@ module _ {L : Type 0} {g : Ghosts L} (view : L → View) where
           moved = λ i d w. moved_lower view t b m step within true (get_or olds i d) (get_or mids i d) (part i first.log) (first.says.1 i d w);
           there = there_by m mids there;
           later = later_now;
+          within = within;
         };
       }
 
@@ -188,6 +189,7 @@ module _ {L : Type 0} {g : Ghosts L} (view : L → View) where
               moved = moved m (omega arith);
               there = there_by m news there;
               later = later_now;
+              within = within;
             };
           }
 

@@ -1,5 +1,5 @@
 -- One asking over slots, and a turn of the agreement: what the parts of an agreed step say of each other.
-use Rattle.std.specs.Prelude.{◌≡◌, ℕ, ◌++◌, ◌-◌, ◌<◌, Bool, true, false, List, length, slice_index_or, is_some, All, Option, Some, None, Result, Ok, Err}
+use Rattle.std.specs.Prelude.{◌≡◌, ℕ, ◌++◌, ◌-◌, ◌<◌, ◌≤◌, Bool, true, false, List, length, slice_index_or, is_some, All, Option, Some, None, Result, Ok, Err}
 use Rattle.value_types.specs.declared.shape.Shape.{Shape}
 use Rattle.fmi_calls.specs.declared.call.Call.TheVariants as C
 use Rattle.fmu_peer.specs.declared.ended.Why.{Why}
@@ -173,6 +173,7 @@ pub record MeetsAt {L : Type 0} {g : _} (view : L → View) (t step b : ℕ)
   pub moved : AllMoved view t m step W.Everyone olds log news
   pub there : All (IsAt view m) news
   pub later : t < m
+  pub within : m ≤ b
 
 -- all are to begin anew, each with a saved state
 pub record GoesAnewFrom {L : Type 0} {g : _} (view : L → View) (t step b : ℕ)

@@ -13,6 +13,7 @@ use crate::places::{Who, are_at, first_unvaried, reached};
 use fmu_peer::{Peer, Slot};
 use sim_base::CompId;
 use slot_calls::BadAnswer;
+use std::thread::Threads;
 
 /// What a turn of an agreement comes to.
 pub(crate) enum Turned {
@@ -24,7 +25,8 @@ pub(crate) enum Turned {
 
 /// Asks all for a step from t to a bound, and those that pass the least end for that, turn after turn, until all stand at
 /// one point.
-pub(crate) fn agree<L: Peer>(
+pub(crate) fn agree<R: Threads + Sync, L: Peer>(
+    rt: &R,
     slots: &mut [Slot<L>],
     t: u64,
     bound: u64,
@@ -41,7 +43,7 @@ pub(crate) fn agree<L: Peer>(
 {
     let mut bound = bound;
     loop {
-        match take_turn(slots, t, bound, step, workers) {
+        match take_turn(rt, slots, t, bound, step, workers) {
             Ok(Turned::Met { point }) => return Ok(point),
             Ok(Turned::Anew { bound: next }) => bound = next,
             Err(end) => return Err(end),
@@ -50,7 +52,8 @@ pub(crate) fn agree<L: Peer>(
 }
 
 // Asks all for a step to the bound, and where they don't meet those that pass the least end for a step to that.
-fn take_turn<L: Peer>(
+fn take_turn<R: Threads + Sync, L: Peer>(
+    rt: &R,
     slots: &mut [Slot<L>],
     t: u64,
     bound: u64,
@@ -65,7 +68,16 @@ fn take_turn<L: Peer>(
     requires begin { All (MayGoBack L.view t Who.Everyone) slots.old }
     ensures { TurnOver L.view t step bound slots.old slots.new result }
 {
-    match ask(slots, Who::Everyone, Who::Everyone, t, bound, step, workers) {
+    match ask(
+        rt,
+        slots,
+        Who::Everyone,
+        Who::Everyone,
+        t,
+        bound,
+        step,
+        workers,
+    ) {
         Ok(()) => {}
         Err(end) => return Err(end),
     }
@@ -74,6 +86,7 @@ fn take_turn<L: Peer>(
         return Ok(Turned::Met { point: m });
     }
     match ask(
+        rt,
         slots,
         Who::EndElsewhere { t, bound, m },
         Who::Elsewhere { m },
@@ -95,7 +108,8 @@ fn take_turn<L: Peer>(
 
 // Asks those that are meant for a step, once each that is tested takes one of that size; those of them that stand behind
 // t go back first.
-fn ask<L: Peer>(
+fn ask<R: Threads + Sync, L: Peer>(
+    rt: &R,
     slots: &mut [Slot<L>],
     sized: Who,
     asked: Who,
@@ -122,7 +136,7 @@ fn ask<L: Peer>(
             });
         }
     }
-    match ask_all(slots, asked, t, end, step, workers) {
+    match ask_all(rt, slots, asked, t, end, step, workers) {
         Ok(()) => Ok(()),
         Err(bad) => Err(StepEnd::Bad(bad)),
     }
@@ -146,7 +160,8 @@ pub(crate) fn first_unfit<L: Peer>(
 }
 
 // Puts those back that are meant and stand behind t, and then asks all that are meant for a step.
-fn ask_all<L: Peer>(
+fn ask_all<R: Threads + Sync, L: Peer>(
+    rt: &R,
     slots: &mut [Slot<L>],
     asked: Who,
     t: u64,
@@ -162,9 +177,9 @@ fn ask_all<L: Peer>(
     requires back { All (MayGoBack L.view t asked) slots.old }
     ensures { RoundsOver L.view t step asked end slots.old slots.new result }
 {
-    match send(slots, asked, Turn::Back { t }, workers) {
+    match send(rt, slots, asked, Turn::Back { t }, workers) {
         Ok(()) => {}
         Err(bad) => return Err(bad),
     }
-    send(slots, asked, Turn::Step { t, end }, workers)
+    send(rt, slots, asked, Turn::Step { t, end }, workers)
 }

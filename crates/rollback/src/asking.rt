@@ -1,11 +1,13 @@
 ghost use Rattle.std.specs.Prelude.{◌≡◌, ◌≤◌, ◌^◌, All, length};
 ghost use Rattle.parallel_step.specs.Round.{EachPair};
-ghost use Rattle.rollback.specs.Places.{CanAsk, CanDo, Sends, WithJob, job_of, stand_in};
+ghost use Rattle.std.specs.List.{list_any};
+ghost use Rattle.rollback.specs.Places.{CanAsk, CanDo, Sends, WithJob, is_sent, job_of, stand_in};
 
 use crate::places::{Who, passes, point_of};
 use fmu_peer::{Job, Peer, Slot};
 use parallel_step::{first_bad, round};
 use slot_calls::BadAnswer;
+use std::thread::Threads;
 
 /// What those that are meant are to do in a round.
 #[derive(Clone, Copy, Debug, PartialEq, Eq)]
@@ -58,8 +60,29 @@ fn set_job<L: Peer>(slot: &mut Slot<L>, who: Who, turn: Turn)
     slot.job = job_of(slot, who, turn);
 }
 
-/// Sends the call of a turn to those that are meant, whatever they answer, and tells the first answer that isn't good.
-pub(crate) fn send<L: Peer>(
+// Whether a turn's call is for any of them. Where nobody might return early, none is saved.
+fn is_any_sent<L: Peer>(slots: &[Slot<L>], who: Who, turn: Turn) -> bool
+    ensures { result ≡ list_any (λ slot. is_sent who turn (stand_in L.view slot)) slots.now }
+{
+    match who {
+        Who::BesideEarly { early: 0 } => false,
+        _ => slots.iter().any(|slot| is_sent(slot, who, turn)),
+    }
+}
+
+fn is_sent<L: Peer>(slot: &Slot<L>, who: Who, turn: Turn) -> bool
+    ensures { result ≡ is_sent who turn (stand_in L.view slot.now) }
+{
+    match turn {
+        Turn::Back { t } => passes(slot, who) && point_of(slot) != t,
+        _ => passes(slot, who),
+    }
+}
+
+/// Sends the call of a turn to those that are meant, whatever they answer, and tells the first answer that isn't good. Where
+/// it is for none, no thread is begun.
+pub(crate) fn send<R: Threads + Sync, L: Peer>(
+    rt: &R,
     slots: &mut [Slot<L>],
     who: Who,
     turn: Turn,
@@ -70,8 +93,11 @@ pub(crate) fn send<L: Peer>(
     requires can { All (CanDo L.view who turn) slots.old }
     ensures { Sends L.view who turn slots.old slots.new result }
 {
+    if !is_any_sent(slots, who, turn) {
+        return Ok(());
+    }
     set_jobs(slots, who, turn);
-    round(slots, workers);
+    round(rt, slots, workers);
     match first_bad(slots) {
         None => Ok(()),
         Some(bad) => Err(bad),

@@ -4,7 +4,7 @@ ghost use Rattle.slot_calls.specs.Slots.{instances};
 ghost use Rattle.slot_calls.specs.Stage.{shapes};
 ghost use Rattle.step_agreement.specs.Saving.{early_count};
 ghost use Rattle.rollback.specs.Asked.{MayBeSaved, asks_in};
-ghost use Rattle.rollback.specs.Standing.{IsReady};
+ghost use Rattle.rollback.specs.Standing.{HasStepped, IsReady};
 ghost use Rattle.rollback.specs.StepsBy.{StepsOver};
 
 use crate::agreeing::{agree, first_unfit};
@@ -13,12 +13,14 @@ use crate::places::{Who, early_count};
 use crate::{Agreed, StepEnd};
 use fmu_peer::{Peer, Slot};
 use sim_base::CompId;
+use std::thread::Threads;
 
 /// Steps all FMUs from t until they stand at one point, at most at the bound: each is asked for a step to it, and where one
 /// returns early, those that pass the point that it reached go back and are asked for that, until all meet. Beside one that
 /// might return early the state of each is saved first, and freed at the end. Points and sizes are counts; `step` is the size
 /// of the plan's steps. It takes no memory.
-pub fn agreed_step<L: Peer>(
+pub fn agreed_step<R: Threads + Sync, L: Peer>(
+    rt: &R,
     slots: &mut [Slot<L>],
     t: u64,
     bound: u64,
@@ -30,8 +32,10 @@ pub fn agreed_step<L: Peer>(
     requires ready { All (IsReady L.view t bound step) slots.old }
     requires saves { All (MayBeSaved L.view
         (early_count (shapes (instances L.view slots.old)))) slots.old }
-    ensures ready { IfOk result (λ agreed.
-        All (IsReady L.view agreed.point agreed.point step) slots.new) }
+    ensures later { IfOk result (λ agreed. t < agreed.point) }
+    ensures within { IfOk result (λ agreed. agreed.point ≤ bound) }
+    ensures stepped { IfOk result (λ agreed.
+        All (HasStepped L.view agreed.point step) slots.new) }
     ensures steps { StepsOver L.view t step bound slots.old slots.new result }
 {
     match first_unfit(slots, Who::Everyone, step, bound - t) {
@@ -47,16 +51,16 @@ pub fn agreed_step<L: Peer>(
     let saved = Who::BesideEarly {
         early: early_count(slots),
     };
-    match send(slots, saved, Turn::Save, workers) {
+    match send(rt, slots, saved, Turn::Save, workers) {
         Ok(()) => {}
         Err(bad) => return Err(StepEnd::Bad(bad)),
     }
-    let point = match agree(slots, t, bound, step, workers) {
+    let point = match agree(rt, slots, t, bound, step, workers) {
         Ok(point) => point,
         Err(end) => return Err(end),
     };
     let asked = some_ask(slots);
-    match send(slots, saved, Turn::Free, workers) {
+    match send(rt, slots, saved, Turn::Free, workers) {
         Ok(()) => Ok(Agreed { point, asked }),
         Err(bad) => Err(StepEnd::Bad(bad)),
     }

@@ -1,5 +1,5 @@
 -- The trace over built-in machines: they behave well, where they can tell what they are asked of Clocks.
-use Rattle.std.proofs.Common.{◌≡◌, inl, inr, ℕ, ◌<◌, List, [], ◌∷◌, ◌++◌, Option, Some, map, refl, sym, ap, ◌∙◌, subst}
+use Rattle.std.proofs.Common.{◌≡◌, ℕ, ◌<◌, List, [], ◌∷◌, ◌++◌, Option, Some, map, refl, sym, ap, ◌∙◌, subst}
 use Rattle.std.specs.Prelude.{All, Contains, unwrap_or, slice_get, slice_index_or, option_map}
 use Rattle.std.proofs.lemmas.List.{length-map}
 use Rattle.std.proofs.lemmas.List.Elements.{All-cons, All-head, All-map, All-nil, All-tail}
@@ -19,12 +19,12 @@ use Rattle.system_model.specs.declared.system.Component.{Component}
 use Rattle.system_model.specs.declared.system.System.{System}
 use Rattle.run_model.specs.Behaved.{WellBehaved}
 use Rattle.run_model.specs.Run.{Run}
+use Rattle.calling_sequence.specs.declared.run_end.RunEnd.{RunEnd}
 use Rattle.step_master.specs.Traced.{TellMachines}
-use Rattle.command_line.specs.Line.{RunLine}
 use Rattle.system_files.specs.declared.loaded.Loaded.{Loaded}
-use Rattle.run_program.specs.Runs.{Task}
-use Rattle.run_program.specs.Happened.{Happened}
-use Rattle.run_program.specs.Rows.{BuiltInRow, IsOverBuiltIns, IsRunAs, TellTimings, TraceRow, Traces, TracesBuiltIns}
+use Rattle.run_program.specs.Runs.{Broke, HasRun, Task, Traces, Went}
+use Rattle.run_program.specs.Happened.{Happened, Scene}
+use Rattle.run_program.specs.Rows.{HasBuiltIns, IsOverBuiltIns, TellTimings}
 use Rattle.run_program.proofs.PeerLemmas.{all_got, mapped_at, started_at}
 
 -- it tells what one of these peers does
@@ -52,19 +52,22 @@ built_ins_tell peers = λ k d lt. tells k _ (slice_get-get_or (map (λ (v : View
         let b = mapped_at built_in_view peers k v.0 v.1 in
         (b.0, (k, slice_get_within peers k b.0 b.1, get_or_from_slice_get peers k b.0 b.0 b.1), sym v.2 ∙ ap (λ (x : View). x.fixed) (sym b.2))
 
-module _ (behave : BuiltInsBehaveWell) (h : Happened) (task : Task) (system : System) (t : Traces h task system) (b : IsOverBuiltIns h) (quiet : All (λ (v : View). v.faults ≡ 0) h.new.run.spawner.retired) where
-  retired_is : h.new.run.spawner.retired ≡ h.old.run.spawner.retired ++ t.news
+module _ (behave : BuiltInsBehaveWell) (h : Happened) (task : Task) (system : System) (end : RunEnd) (t : Traces task system end h.old.run h.new.run) (b : IsOverBuiltIns h) where
+  abbrev olds : List View
+  olds = t.account.olds
+
+  abbrev news : List View
+  news = t.account.news
+
+  retired_is : h.new.run.spawner.retired ≡ h.old.run.spawner.retired ++ news
   retired_is = ap (λ (s : SpawnerView). s.retired) t.peers.told
 
-  news_quiet : All (λ (v : View). v.faults ≡ 0) t.news
-  news_quiet = all_behind (λ (v : View). v.faults ≡ 0) h.old.run.spawner.retired t.news (subst (All (λ (v : View). v.faults ≡ 0)) retired_is quiet)
-
-  olds_tell : All (λ (v : View). TellsModel b.peers v.fixed) t.olds
+  olds_tell : All (λ (v : View). TellsModel b.peers v.fixed) olds
   olds_tell =
       let all : All (λ (v : View). TellsModel b.peers v.fixed) h.new.run.spawner.retired =
       subst (All (λ (v : View). TellsModel b.peers v.fixed)) (sym b.told) (all_fixed (map built_in_view b.peers) (built_ins_tell b.peers)) in
-      let news = all_behind (λ (v : View). TellsModel b.peers v.fixed) h.old.run.spawner.retired t.news (subst (All (λ (v : View). TellsModel b.peers v.fixed)) retired_is all) in
-      all_fixed t.olds (subst (All (TellsModel b.peers)) t.same (All-map (TellsModel b.peers) (λ (v : View). v.fixed) t.news news))
+      let behind = all_behind (λ (v : View). TellsModel b.peers v.fixed) h.old.run.spawner.retired news (subst (All (λ (v : View). TellsModel b.peers v.fixed)) retired_is all) in
+      all_fixed olds (subst (All (TellsModel b.peers)) t.same (All-map (TellsModel b.peers) (λ (v : View). v.fixed) news behind))
     where
       all_fixed : (vs : List View) → All (TellsModel b.peers) (map (λ (v : View). v.fixed) vs) → All (λ (v : View). TellsModel b.peers v.fixed) vs
       all_fixed [] all = All-nil (λ (v : View). TellsModel b.peers v.fixed)
@@ -74,18 +77,18 @@ module _ (behave : BuiltInsBehaveWell) (h : Happened) (task : Task) (system : Sy
 
   -- their run
   abbrev run : Run
-  run = record { system = system; bound = task.bound; machines = map machine_in t.olds; plan = task.plan }
+  run = record { system = system; bound = task.bound; machines = map machine_in olds; plan = task.plan }
 
-  tell : TellMachines t.olds (map machine_in t.olds)
+  tell : TellMachines olds (map machine_in olds)
   tell = record {
-    count = length-map t.olds machine_in;
+    count = length-map olds machine_in;
     each = λ i v m of_v of_m.
-        let at = mapped_at machine_in t.olds i m of_m in
+        let at = mapped_at machine_in olds i m of_m in
         let same : at.0 ≡ v = same_Some at.0 v (sym at.1 ∙ of_v) in
-        let tells = all_got (λ (x : View). TellsModel b.peers x.fixed) t.olds i v olds_tell of_v in
+        let tells = all_got (λ (x : View). TellsModel b.peers x.fixed) olds i v olds_tell of_v in
         let machine = ap (λ (f : Fixed). f.machine) tells.2 in
         let told : v.fixed.machine ≡ Some m = machine ∙ ap (λ (n : Machine). Some n) (told_is v (machine_of (behaviour_of tells.0.model) (built_in_view tells.0).fixed.shape) m machine (ap machine_in (sym same) ∙ at.2)) in
-        let started = started_at task.host task.folders system.components t.olds i v t.peers.are of_v in
+        let started = started_at task.host task.folders system.components olds i v t.peers.are of_v in
         (told, started.2.1.state ∙ ap (option_map (λ (n : Machine). n.first)) told);
   }
 
@@ -96,12 +99,12 @@ module _ (behave : BuiltInsBehaveWell) (h : Happened) (task : Task) (system : Sy
     shape : (built_in_view peer).fixed.shape ≡ c.shape
     machine : m ≡ machine_of (behaviour_of peer.model) c.shape
 
-  abbrev his : (i : ℕ) (c : Component) (m : Machine) → slice_get system.components i ≡ Some c → slice_get (map machine_in t.olds) i ≡ Some m → IsHis i c m
+  abbrev his : (i : ℕ) (c : Component) (m : Machine) → slice_get system.components i ≡ Some c → slice_get (map machine_in olds) i ≡ Some m → IsHis i c m
   his i c m of_c of_m =
-      let at = mapped_at machine_in t.olds i m of_m in
+      let at = mapped_at machine_in olds i m of_m in
       let v = at.0 in
-      let tells = all_got (λ (x : View). TellsModel b.peers x.fixed) t.olds i v olds_tell at.1 in
-      let started = started_at task.host task.folders system.components t.olds i v t.peers.are at.1 in
+      let tells = all_got (λ (x : View). TellsModel b.peers x.fixed) olds i v olds_tell at.1 in
+      let started = started_at task.host task.folders system.components olds i v t.peers.are at.1 in
       let same : started.0 ≡ c = same_Some started.0 c (sym started.1 ∙ of_c) in
       let shape : (built_in_view tells.0).fixed.shape ≡ c.shape = ap (λ (f : Fixed). f.shape) (sym tells.2) ∙ started.2.1.shape_is ∙ ap (λ (x : Component). x.shape) same in
       let model : machine_of (behaviour_of tells.0.model) (built_in_view tells.0).fixed.shape ≡ m =
@@ -113,7 +116,7 @@ module _ (behave : BuiltInsBehaveWell) (h : Happened) (task : Task) (system : Sy
         machine = sym model ∙ ap (machine_of (behaviour_of tells.0.model)) shape;
       }
 
-  abbrev built_in : (i : ℕ) (c : Component) (m : Machine) → slice_get system.components i ≡ Some c → slice_get (map machine_in t.olds) i ≡ Some m → IsBuiltIn c.shape m
+  abbrev built_in : (i : ℕ) (c : Component) (m : Machine) → slice_get system.components i ≡ Some c → slice_get (map machine_in olds) i ≡ Some m → IsBuiltIn c.shape m
   built_in i c m of_c of_m =
       let is = his i c m of_c of_m in
       let seconds = all_got (λ (x : Component). x.shape.resolution ≡ t.sound.components.per_second) system.components i c t.sound.components.resolutions of_c in
@@ -124,32 +127,25 @@ module _ (behave : BuiltInsBehaveWell) (h : Happened) (task : Task) (system : Sy
         counts = subst (λ (n : ℕ). 0 < n) (sym seconds) above;
       }
 
-  well : (asked : RunLine) (loaded : Loaded) → IsRunAs loaded asked task system → TellTimings b loaded → WellBehaved run
-  well asked loaded same timings i = behave run t.sound i (λ c m of_c of_m.
+  well : (loaded : Loaded) → system.components ≡ loaded.system.components → task.bound ≡ loaded.bound → TellTimings b loaded → WellBehaved run
+  well loaded parts bound timings i = behave run t.sound i (λ c m of_c of_m.
       let is = his i c m of_c of_m in
       record {
         built_in = built_in i c m of_c of_m;
-        timings = subst (λ (bound : Bound). TellsTimings is.peer.model c.shape (slice_index_or bound.components i [])) (sym same.bound_is)
-            (timings i c is.peer (subst (λ (cs : List Component). slice_get cs i ≡ Some c) same.parts.0 of_c) is.among is.shape);
+        timings = subst (λ (x : Bound). TellsTimings is.peer.model c.shape (slice_index_or x.components i [])) (sym bound)
+            (timings i c is.peer (subst (λ (cs : List Component). slice_get cs i ≡ Some c) parts of_c) is.among is.shape);
       })
 
-  pub traced : (asked : RunLine) (loaded : Loaded) → IsRunAs loaded asked task system → TellTimings b loaded → TracesBuiltIns h asked.plan loaded
-  traced asked loaded same timings = record {
+  pub built_ins : (loaded : Loaded) → system.components ≡ loaded.system.components → task.bound ≡ loaded.bound → TellTimings b loaded → HasBuiltIns task system olds
+  built_ins loaded parts bound timings = record {
     run = run;
-    parts = same.parts;
-    plan_is = same.plan_is;
-    bound_is = same.bound_is;
-    built_in = record { count = length-map t.olds machine_in ∙ t.peers.each; each = built_in };
-    sound = t.sound;
-    behaved = well asked loaded same timings;
-    writes = t.writes run (record { system_is = refl; bound_is = refl; tell = tell }) refl (well asked loaded same timings) news_quiet;
+    of = record { system_is = refl; bound_is = refl; tell = tell };
+    plan_is = refl;
+    built_in = built_in;
+    behaved = well loaded parts bound timings;
   }
 
-pub built_in_exact : BuiltInsBehaveWell → (h : Happened) → TraceRow h → BuiltInRow h
-built_in_exact behave h row = record {
-  when = λ b line asked loaded is is_asked to_find timings knows calm put quiet.
-      elim (row.when line asked loaded is is_asked to_find knows calm put) [
-        | inl idle ↦ inl idle
-        | inr t ↦ inr (traced behave h t.task t.system t.traces b quiet asked loaded t.same timings)
-      ];
-}
+-- a run tells its trace
+pub traced : (task : Task) (system : System) (end : RunEnd) (old new : Scene) → HasRun task system end old new → Traces task system end old new
+traced task system end old new (Went g) = g.traces
+traced task system end old new (Broke bad is f) = subst (λ (e : RunEnd). Traces task system e old new) (sym is) f.traces

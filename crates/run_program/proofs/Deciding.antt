@@ -48,20 +48,21 @@ pub record Lives (task : Task) (system : System) (end : RunEnd) (old new : Scene
 
 pub lives_of : (task : Task) (system : System) (end : RunEnd) (old new : Scene) → HasRun task system end old new → Lives task system end old new
 lives_of task system end old new (Went g) =
-    let a = g.account in
+    let t = g.traces in
+    let a = t.account in
     record {
       olds = a.olds;
       news = a.news;
-      peers = g.peers;
+      peers = t.peers;
       log = g.lived.made ++ g.lived.log;
       lives = g.lived.lives;
-      are = subst (λ (s : System). AreLives s a.olds a.news (g.lived.made ++ g.lived.log) g.lived.lives) g.system_is g.lived.are;
-      ends = subst (λ (e : RunEnd). EndsLives e g.lived.lives) g.end_is g.lived.ends;
+      are = subst (λ (s : System). AreLives s a.olds a.news (g.lived.made ++ g.lived.log) g.lived.lives) t.system_is g.lived.are;
+      ends = subst (λ (e : RunEnd). EndsLives e g.lived.lives) t.end_is g.lived.ends;
     }
 lives_of task system end old new (Broke bad is f) = record {
-  olds = f.olds;
-  news = f.news;
-  peers = f.peers;
+  olds = f.traces.account.olds;
+  news = f.traces.account.news;
+  peers = f.traces.peers;
   log = f.unmade.log;
   lives = f.unmade.lives;
   are = f.unmade.are;

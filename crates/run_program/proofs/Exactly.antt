@@ -191,8 +191,8 @@ known_unknown b knows lacks = absurd (apart (sym knows ∙ lacks))
     apart e = cc
 
 pub run_known : (task : Task) (system : System) (end : RunEnd) (old new : Scene) → HasRun task system end old new → AreKnown task.host old.spawner system.components
-run_known task system end old new (Went g) = g.peers.known
-run_known task system end old new (Broke bad is f) = f.peers.known
+run_known task system end old new (Went g) = g.traces.peers.known
+run_known task system end old new (Broke bad is f) = f.traces.peers.known
 
 -- of the first component that isn't known there is one
 first_place : (host : List ℕ) (spawner : SpawnerView) (cs : List Component) (i j : ℕ) (c d : Component) → slice_get cs i ≡ Some c → spawner.knows host c.shape.identifier ≡ false → AreKnown host spawner (take j cs) → i < j → ⊥

@@ -10,8 +10,8 @@ pub mod Lines
 pub mod Outs
 pub mod Runs
 pub mod Deciding
-pub mod Tracing
 pub mod BuiltIns
+pub mod Tracing
 pub mod Rows
 pub mod NameLemmas
 pub mod TraceRows

@@ -1,13 +1,9 @@
 -- From what is loaded to what can be run.
 use Rattle.std.proofs.Common.{◌≡◌, inl, inr, ℕ, List, [], ◌∷◌, ◌++◌, Option, Some, length, refl, sym, ap, ◌∙◌, subst}
-use Rattle.std.specs.Prelude.{All}
 use Rattle.std.proofs.lemmas.List.{append-nil, length-map}
 use Rattle.sim_base.specs.Folder.{FolderView}
 use Rattle.sim_base.specs.declared.read_book.ReadNote.{ReadNote}
-use Rattle.system_model.specs.declared.system.System.{System}
-use Rattle.system_model.specs.Sound.{IsSound}
 use Rattle.command_line.specs.Line.{Line}
-use Rattle.system_loading.specs.Assembly.{IsBuilt}
 use Rattle.system_files.specs.declared.loaded.Loaded.{Loaded}
 use Rattle.value_types.specs.declared.shape.Shape.{Shape}
 use Rattle.ssd_tree.specs.declared.tree.Binding.{Binding}
@@ -17,7 +13,7 @@ use Rattle.system_loading.specs.declared.outline.Outline.{Outline}
 use Rattle.system_loading.specs.declared.parameters.GivenBinding.{GivenBinding}
 use Rattle.system_loading.specs.declared.parameters.GivenSet.{GivenSet}
 use Rattle.system_files.specs.Files.{Faulty, Flaw}
-use Rattle.system_files.specs.Loads.{AsksSome, EndsLoading, FileFails, IsNamed, Loads, OfMapping, OfValues, ReadsSome, TakenBindings, ToOutline, ToPart, ToShape, UpTo}
+use Rattle.system_files.specs.Loads.{AsksSome, EndsLoading, FileFails, Loads, OfMapping, OfValues, ReadsSome, TakenBindings, ToOutline, ToPart, ToShape, UpTo}
 use Rattle.system_files.specs.Order.{Comes, Fails, Finding, Found, InMapping, InValues, IsValuesPart, LacksBinding, NoBinding, NoOutline, NoSet, NoShape, NoSystem, ReachesBindings, Search, Whole, asked_with, binding_files, folder_of, mapping_files, part_files, part_path}
 use Rattle.system_files.specs.declared.loading.LoadEnd.{LoadEnd}
 use Rattle.system_files.specs.declared.loading.LoadEnd.TheVariants as e
@@ -26,16 +22,9 @@ use Rattle.system_files.specs.declared.named.FileFault.TheVariants.{Unread, Miss
 use Rattle.run_program.specs.declared.outcome.Outcome.{Outcome}
 use Rattle.run_program.specs.Facts.{LoadFacts, search_for}
 use Rattle.run_program.specs.Refusing.{TellsEnd, TellsFile}
-use Rattle.run_program.specs.Runs.{CanRun, HasFolders}
+use Rattle.run_program.specs.Runs.{HasFolders}
 
 -- ---- what is loaded
-
-pub can_run : (system : System) → IsSound system → IsBuilt system → All IsNamed system.components → CanRun system
-can_run system sound built named = record {
-  sound = sound;
-  built = record { no_early = built.no_early };
-  each = named;
-}
 
 -- a system that was found has a folder for each component
 pub has_folders : (s : Search) (reads : List ReadNote) (asked : List (List ℕ)) (loaded : Loaded) → Comes s reads asked (Found loaded) → HasFolders loaded.folders loaded.system
@@ -52,7 +41,7 @@ has_folders s reads asked loaded comes = by (Found loaded) refl comes
     by finding e (NoShape o taken shapes c rest flaw a f reaches lacks asks is) = absurd (cc)
     by finding e (NoSet o shapes taken given b rest files path flaw a f reaches lacks asks is) = absurd (cc)
     by finding e (NoBinding o shapes given n in_mapping rule place path a f reaches breaks told asks is) = absurd (cc)
-    by finding e (NoSystem o shapes given bound component rule place ports path a f reaches binds breaks told asks is) = absurd (cc)
+    by finding e (NoSystem o shapes given bound rule place ports path a f reaches binds breaks told asks is) = absurd (cc)
     by finding e (Whole o shapes given one a f reaches binds makes folders asks is) =
         let same = found_same one loaded (sym is ∙ e) in
         ap (λ (x : Loaded). length x.folders) (sym same) ∙ ap (λ (x : List (List ℕ)). length x) folders ∙ length-map o.systems.components (folder_of s.directory)
@@ -90,7 +79,7 @@ asks_some s reads asked finding (NoShape o taken shapes c rest flaw a f reaches 
 asks_some s reads asked finding (NoSet o shapes taken given b rest files path flaw a f reaches lacks asks is) =
     subst (AsksSome s reads) (sym asks) (part_asked s reads o shapes taken given b rest reaches files path flaw lacks)
 asks_some s reads asked finding (NoBinding o shapes given n in_mapping rule place path a f reaches breaks told asks is) = TakenBindings o shapes o.systems.bindings given [] asked reaches asks
-asks_some s reads asked finding (NoSystem o shapes given bound component rule place ports path a f reaches binds breaks told asks is) =
+asks_some s reads asked finding (NoSystem o shapes given bound rule place ports path a f reaches binds breaks told asks is) =
     TakenBindings o shapes o.systems.bindings given [] asked reaches asks
 asks_some s reads asked finding (Whole o shapes given one a f reaches binds makes folders asks is) = TakenBindings o shapes o.systems.bindings given [] asked reaches asks
 

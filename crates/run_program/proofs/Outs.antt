@@ -47,10 +47,11 @@ tells system bound plan log is E.WriteFault before after e = cut_rose before e.p
 
 pub tells_out : (task : Task) (system : System) (end : RunEnd) (old new : Scene) → HasRun task system end old new → TellsOut end old.out.faults new.out.faults
 tells_out task system end old new (Went g) =
-    let a = g.account in
-    subst (λ (e : RunEnd). TellsOut e old.out.faults new.out.faults) g.end_is
-    (subst (λ (s : SinkView). TellsOut a.end s.faults new.out.faults) g.before_is
-    (subst (λ (s : SinkView). TellsOut a.end a.before.faults s.faults) g.after_is
+    let t = g.traces in
+    let a = t.account in
+    subst (λ (e : RunEnd). TellsOut e old.out.faults new.out.faults) t.end_is
+    (subst (λ (s : SinkView). TellsOut a.end s.faults new.out.faults) t.before_is
+    (subst (λ (s : SinkView). TellsOut a.end a.before.faults s.faults) t.after_is
     (tells a.system a.bound a.plan g.lived.log g.lived.is a.end a.before a.after g.lived.text)))
 tells_out task system end old new (Broke bad is fails) =
     subst (λ (e : RunEnd). TellsOut e old.out.faults new.out.faults) (sym is) (ap (λ (s : SinkView). s.faults) fails.out)

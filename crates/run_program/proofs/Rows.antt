@@ -2,7 +2,6 @@
 use Rattle.std.proofs.Common.{◌≡◌, ◌⊎◌, inl, inr, ℕ, ◌<◌, List, Option, Some, None, refl, sym, ap, subst, arith, codes}
 use Rattle.built_in_laws.specs.BuiltInRuns.{BuiltInsBehaveWell}
 use Rattle.run_program.specs.declared.outcome.Outcome.{Outcome}
-use Rattle.run_program.specs.declared.outcome.Outcome.TheVariants.{Memory}
 use Rattle.system_files.specs.declared.named.FileFault.TheVariants.{Missing, TooBig}
 use Rattle.system_files.specs.Files.{Absent, Faulty, Long}
 use Rattle.system_files.specs.Order.{Fails, Found}
@@ -11,11 +10,10 @@ use Rattle.run_program.specs.Facts as W
 use Rattle.run_program.specs.Facts.{WithLine, WithoutLine}
 use Rattle.run_program.specs.Happened.{Happened, Stage}
 use Rattle.run_program.specs.Message.{Reports, message, status_of}
-use Rattle.run_program.specs.Rows.{IsNoLine, AnswersOr11, IsStatus, StatusRow, TraceRow, KeepsSystemRows}
+use Rattle.run_program.specs.Rows.{IsNoLine, AnswersOr11, IsStatus, StatusRow, KeepsSystemRows}
 use Rattle.run_program.proofs.Exactly.{of_line, answers, memory_or, suits, file_exact, rule_exact, unknown_exact, reading_some}
 use Rattle.run_program.proofs.Deciding.{decides}
 use Rattle.run_program.proofs.Runs.{course, err_higher, out_higher, peer_case, uncalled_or_run}
-use Rattle.run_program.proofs.BuiltIns.{built_in_exact}
 use Rattle.run_program.proofs.Tracing.{check_exact, trace_exact}
 use Rattle.run_program.proofs.Statuses.{Status, Done, WrongWords, NoFile, BrokenRule, NoPeer, Refusal, WrongReply, ManyInstants, FixedSize, Unwritten, NoMemory, number, of_outcome, numbered}
 use Rattle.run_program.proofs.When.{HasFacts, HasPut, when_is, when_unwritten}
@@ -59,14 +57,8 @@ higher : (o : Outcome) (h : Happened) → HasFacts o h → HasPut o h → (h.old
 higher o h f p (inl more) = out_higher o h p (course o h f) more
 higher o h f p (inr more) = err_higher (message o) (status_of o) h p more
 
-trace_row : (o : Outcome) (h : Happened) → HasFacts o h → HasPut o h → TraceRow h
-trace_row o h f p = record {
-  when = λ line asked loaded is is_asked to_find knows calm quiet. trace_exact o line asked loaded h is (of_line o h f line is) p is_asked knows calm quiet
-      (suits o line h (Found loaded) (of_line o h f line is) to_find);
-}
-
 pub keeps_rows : BuiltInsBehaveWell → (o : Outcome) (h : Happened) → HasFacts o h → HasPut o h → KeepsSystemRows h
-keeps_rows behave o h f p = let trace = trace_row o h f p in record {
+keeps_rows behave o h f p = record {
   ended = record { when = λ e. when_is Done o h f p (λ ten. omega arith) e };
   words = record {
     when = λ e. when_is WrongWords o h f p (λ ten. omega arith) e;
@@ -105,10 +97,12 @@ keeps_rows behave o h f p = let trace = trace_row o h f p in record {
     none = λ none. reading_none o h f none;
     some = λ line is. reading_some o line h (of_line o h f line is) p;
   };
-  peer = peer_case h o (course o h f);
-  trace = trace;
-  check = record {
-    when = λ line loaded is none to_find quiet. check_exact o line loaded h is (of_line o h f line is) p none quiet (suits o line h (Found loaded) (of_line o h f line is) to_find);
+  peer = peer_case h o p (course o h f);
+  trace = record {
+    when = λ line asked loaded is is_asked to_find knows calm. trace_exact behave o line asked loaded h is (of_line o h f line is) p is_asked knows calm
+        (suits o line h (Found loaded) (of_line o h f line is) to_find);
   };
-  built_in = built_in_exact behave h trace;
+  check = record {
+    when = λ line loaded is none to_find. check_exact o line loaded h is (of_line o h f line is) p none (suits o line h (Found loaded) (of_line o h f line is) to_find);
+  };
 }

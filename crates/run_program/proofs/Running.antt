@@ -1,38 +1,49 @@
 -- From peers that were started to what holds of their run.
-use Rattle.std.proofs.Common.{◌≡◌, ℕ, ◌-◌, ◌<◌, ◌==◌, Bool, true, false, not, List, [], ◌∷◌, ◌++◌, Some, None, refl, sym, ap, ◌∙◌, subst, arith, length}
-use Rattle.std.specs.Prelude.{if◌then◌else◌, position}
+use Rattle.std.proofs.Common.{◌≡◌, ℕ, ℤ, zero, suc, ◌-◌, ◌<◌, ◌==◌, Bool, true, false, not, List, [], ◌∷◌, ◌++◌, Option, Some, None, refl, sym, ap, ◌∙◌, subst, arith, length}
+use Rattle.std.specs.Prelude.{All, ◌&&◌, if◌then◌else◌, map, position, slice_get}
 use Rattle.std.proofs.lemmas.List.{length-map}
+use Rattle.std.proofs.lemmas.List.Elements.{All-head, All-tail}
 use Rattle.std.proofs.lemmas.List.Quantifiers.{position-Some}
 use Rattle.std.proofs.lemmas.Option.{none-some as none_some, same_Some, slice_get_within}
 use Rattle.sim_base.specs.Sink.{SinkView}
 use Rattle.sim_base.specs.declared.numbers.CompId.{CompId}
 use Rattle.fmi_calls.specs.Next.{fresh}
-use Rattle.fmu_peer.specs.View.{View}
+use Rattle.fmu_peer.specs.Machine.{Machine}
+use Rattle.fmu_peer.specs.View.{Fixed, View}
+use Rattle.value_types.specs.declared.shape.Shape.{Shape}
 use Rattle.system_model.specs.declared.bound.Bound.{Bound}
 use Rattle.system_model.specs.declared.plan.Plan.{Plan}
+use Rattle.system_model.specs.Text.{Instant}
 use Rattle.system_model.specs.declared.system.Component.{Component}
 use Rattle.system_model.specs.declared.system.System.{System}
+use Rattle.run_model.specs.Machines.{AreMachines}
+use Rattle.run_model.specs.Run.{Run}
+use Rattle.run_model.proofs.TraceOnce.{trace_once}
+use Rattle.slot_calls.specs.Stage.{everyone, shapes_of}
 use Rattle.slot_calls.specs.declared.bad_answer.BadAnswer.{BadAnswer}
+use Rattle.step_agreement.specs.Agreement as A
+use Rattle.step_agreement.specs.Agreement.{Agrees, Outcome, Stand, Stops, comes_first, ends_elsewhere, is_elsewhere, stands_by}
+use Rattle.step_agreement.proofs.CallerLemmas.{same_shapes}
+use Rattle.rollback.specs.StepsBy.{all_at}
 use Rattle.calling_sequence.specs.declared.run_end.RunEnd.{RunEnd}
 use Rattle.calling_sequence.specs.declared.run_end.RunEnd.TheVariants as E
-use Rattle.calling_sequence.specs.Calls.{first_unfit}
-use Rattle.calling_sequence.specs.Course.{Place}
-use Rattle.calling_sequence.specs.Ends.{EndsAt, EndsBy, Finishes, Unfit, Well}
+use Rattle.calling_sequence.specs.Course.{Course, LeadsTo, On, Place, Short, Stopping, Way}
+use Rattle.calling_sequence.specs.Ends.{AtShort, EndsAt, EndsBy, Finishes, Unfit, Well}
 use Rattle.step_master.specs.declared.prepare_end.PrepareFault.{PrepareFault}
 use Rattle.step_master.specs.declared.prepare_end.PrepareFault.TheVariants as F
 use Rattle.step_master.specs.Lived.{Account, Lived, LivesAreOver, Unmade, UnmadeIsClosed}
 use Rattle.step_master.specs.Master.{FailsToPrepare, Standing}
-use Rattle.step_master.specs.Traced.{IsRunOf, ToldRun, ToldTrace, ToldUnmade}
+use Rattle.step_master.specs.Traced.{IsRunOf, ToldRun, ToldTrace, ToldUnmade, TracesWell}
 use Rattle.system_model.specs.Bounds.{BindsParameters}
 use Rattle.system_model.specs.Sound.{IsSound}
-use Rattle.step_master.specs.Lives.{AreLives, EndsLives, Life}
+use Rattle.step_master.specs.Lives.{AreLives, EndsLives, IsLife, Life}
 use Rattle.slot_calls.specs.Log.{Sent}
 use Rattle.calling_sequence.specs.Plans.{IsPlan}
-use Rattle.step_master.specs.System.{ArePeersOf}
+use Rattle.step_master.specs.System.{ArePeersOf, TellTheirs}
 use Rattle.command_line.specs.Line.{IsWithin}
 use Rattle.run_program.specs.Peers.{AreStarted}
 use Rattle.run_program.specs.Happened.{Scene}
-use Rattle.run_program.specs.Runs.{CanRun, Fails, Goes, NamesOne, RunsPeers, Task}
+use Rattle.run_program.specs.Runs.{CanRun, Fails, Goes, HasOneTrace, NamesOne, RunsPeers, Task, TracesOnce}
 use Rattle.run_program.proofs.PeerLemmas.{started_at}
 
 -- ---- before the run
@@ -62,23 +73,52 @@ plan_within plan w = record {
 
 -- ---- the component that an end names
 
-unfit_within : (system : System) (plan : Plan) (size k : ℕ) → first_unfit system plan size ≡ Some k → k < length system.components
-unfit_within system plan size k is = by (size == plan.step) is
+-- what is at a place found by a test is within the list
+found_within : {X : Type 0} (p : X → Bool) (xs : List X) (none : Bool) (k : ℕ) → (if none then None else position p xs) ≡ Some k → k < length xs
+found_within p xs true k h = absurd (none_some k h)
+found_within p [] false k h = absurd (none_some k h)
+found_within p (x ∷ xs) false k h = (position-Some p (x ∷ xs) k x h).0
+
+-- an agreement stops before the size of one of those that stand
+stops_within : (t step : ℕ) (sized test : Stand → Bool) (e : ℕ) (stands : List Stand) (log : List Sent) (o : Outcome) (k end : ℕ) → o ≡ A.Unfit k end → Stops t step sized test e stands log o → k < length stands
+stops_within t step sized test e stands log o k end at (A.IsUnfit i unfit none is) =
+    subst (λ (n : ℕ). n < length stands) (same i k e end (sym is ∙ at)) (found_within (λ (s : Stand). sized s && not s.shape.has_variable_steps) stands ((e - t) == step) i unfit)
   where
-    placed : (cs : List Component) → position (λ (c : Component). not c.shape.has_variable_steps) cs ≡ Some k → k < length cs
-    placed [] h = absurd (none_some k h)
-    placed (c ∷ cs) h = (position-Some (λ (d : Component). not d.shape.has_variable_steps) (c ∷ cs) k c h).0
+    same : (i j a b : ℕ) → A.Unfit i a ≡ A.Unfit j b → i ≡ j
+    same i j a b eq = cc
+stops_within t step sized test e stands log o k end at (A.InBack bad fits fails is) = absurd (let wrong = sym at ∙ is in cc)
+stops_within t step sized test e stands log o k end at (A.InStep bad backs steps fits back fails log_is is) = absurd (let wrong = sym at ∙ is in cc)
 
-    by : (b : Bool) → (if b then None else position (λ (c : Component). not c.shape.has_variable_steps) system.components) ≡ Some k → k < length system.components
-    by true h = absurd (none_some k h)
-    by false h = placed system.components h
+stands_count : (t step : ℕ) (stands : List Stand) (log : List Sent) (mids : List Stand) → mids ≡ stands_by t stands log → length mids ≡ length stands
+stands_count t step stands log mids is =
+    ap (λ (ss : List Stand). length ss) is ∙ sym (length-map (stands_by t stands log) (λ (s : Stand). s.shape)) ∙ ap (λ (ss : List Shape). length ss) (same_shapes t step stands log) ∙ length-map stands (λ (s : Stand). s.shape)
 
-at_unfit : (system : System) (plan : Plan) (component : CompId) (at end : ℕ) (p : Place) → EndsAt system plan (E.FixedStep component at end) p → first_unfit system plan (end - at) ≡ Some component.0
-at_unfit system plan _ _ _ _ (Unfit s component end bound unfit) = unfit
+agrees_within : (t step : ℕ) (first : Shape → Bool) (b : ℕ) (stands : List Stand) (log : List Sent) (o : Outcome) (k end : ℕ) → o ≡ A.Unfit k end → Agrees t step first b stands log o → k < length stands
+agrees_within t step first _ _ _ _ k end at (A.FirstStops b stands log o stops) = stops_within t step A.everyone (comes_first first) b stands log o k end at stops
+agrees_within t step first _ _ _ _ k end at (A.FirstMeet b stands log o m asks m_is there is) = absurd (let wrong = sym at ∙ is in cc)
+agrees_within t step first _ _ _ _ k end at (A.NextStops b stands log o m front back mids asks mids_is m_is apart stops log_is) =
+    subst (λ (n : ℕ). k < n) (stands_count t step stands front mids mids_is) (stops_within t step (ends_elsewhere t b m) (is_elsewhere m) m mids back o k end at stops)
+agrees_within t step first _ _ _ _ k end at (A.NextMeet b stands log o m front back mids asks mids_is m_is apart others there is log_is) = absurd (let wrong = sym at ∙ is in cc)
+agrees_within t step first _ _ _ _ k end at (A.GoesAnew b stands log o m c front back rest mids ends asks mids_is m_is apart others ends_is behind c_is more log_is) =
+    subst (λ (n : ℕ). k < n) (stands_count t step mids back ends ends_is ∙ stands_count t step stands front mids mids_is) (agrees_within t step first c ends rest o k end at more)
 
-finished_unfit : (system : System) (bound : Bound) (plan : Plan) (point : ℕ) (component : CompId) (at end : ℕ) (log : List Sent) (is : _) → Finishes system bound plan (E.FixedStep component at end) point log is →
-    first_unfit system plan (end - at) ≡ Some component.0
-finished_unfit system bound plan _ component at end _ _ (Well p _ log is course ends) = at_unfit system plan component at end p ends
+-- so does the run of a system: before that of one of its components
+short_leads : (system : System) (plan : Plan) (p : Place) (values : List (Option ℤ)) (log : List Sent) (w : Way) (k end : ℕ) → LeadsTo system plan p values log (Short w k end) → k < length system.components
+short_leads system plan _ _ _ _ _ _ (Stopping w values log k end agrees) =
+    subst (λ (n : ℕ). k < n) (length-map (shapes_of system) (λ (s : Shape). record { shape = s; point = w.s.t; ask = w.s.t }) ∙ length-map system.components (λ (c : Component). c.shape))
+    (agrees_within w.s.t plan.step everyone w.to (all_at w.s.t (shapes_of system)) log (A.Unfit k end) k end refl agrees)
+
+short_comes : (system : System) (bound : Bound) (plan : Plan) (w : Way) (k end : ℕ) (log : List Sent) (is : List Instant) → Course system bound plan (Short w k end) log is → k < length system.components
+short_comes system bound plan w k end _ _ (On p _ values front more is course does leads) = short_leads system plan p values more w k end leads
+
+ends_within : (system : System) (bound : Bound) (plan : Plan) (component : CompId) (at end : ℕ) (p : Place) (log : List Sent) (is : List Instant) → EndsAt system plan (E.FixedStep component at end) p → Course system bound plan p log is →
+    component.0 < length system.components
+ends_within system bound plan _ _ _ _ log is (Unfit s component end b unfit) course = found_within (λ (c : Component). not c.shape.has_variable_steps) system.components ((end - s.t) == plan.step) component.0 unfit
+ends_within system bound plan _ _ _ _ log is (AtShort w component end) course = short_comes system bound plan w component.0 end log is course
+
+finished_within : (system : System) (bound : Bound) (plan : Plan) (point : ℕ) (component : CompId) (at end : ℕ) (log : List Sent) (is : List Instant) → Finishes system bound plan (E.FixedStep component at end) point log is →
+    component.0 < length system.components
+finished_within system bound plan _ component at end _ _ (Well p _ log is course ends) = ends_within system bound plan component at end p log is ends course
 
 lives_count : (system : System) (olds news : List View) (log : List Sent) (lives : List Life) → AreLives system olds news log lives → length lives ≡ length system.components
 lives_count system olds news log lives are =
@@ -89,7 +129,7 @@ ends_named : (system : System) (bound : Bound) (plan : Plan) (olds news : List V
 ends_named system bound plan olds news log run lives is E.Stop before after are ends by = tt
 ends_named system bound plan olds news log run lives is (E.Asked point) before after are ends by = tt
 ends_named system bound plan olds news log run lives is (E.EventLimit point) before after are ends by = tt
-ends_named system bound plan olds news log run lives is (E.FixedStep component at end) before after are ends by = unfit_within system plan (end - at) component.0 (finished_unfit system bound plan by.0 component at end run is by.1)
+ends_named system bound plan olds news log run lives is (E.FixedStep component at end) before after are ends by = finished_within system bound plan by.0 component at end run is by.1
 ends_named system bound plan olds news log run lives is (E.Bad bad) before after are ends by =
     subst (λ (n : ℕ). bad.component.0 < n) (lives_count system olds news log lives are) (slice_get_within lives bad.component.0 ends.life ends.here)
 ends_named system bound plan olds news log run lives is E.WriteFault before after are ends by = tt
@@ -115,34 +155,91 @@ lives_news system olds news log lives are =
 pub lived_news : (a : Account) → Lived a → length a.news ≡ length a.system.components
 lived_news a l = lives_news a.system a.olds a.news (l.made ++ l.log) l.lives l.are
 
+-- a peer for each machine
+peer_there : (machines : List Machine) (views : List View) (i : ℕ) (m : Machine) → length machines ≡ length views → slice_get machines i ≡ Some m → (v : View) × (slice_get views i ≡ Some v)
+peer_there [] views i m len at = absurd (cc)
+peer_there (x ∷ ms) [] i m len at = absurd (omega (arith, len))
+peer_there (x ∷ ms) (v ∷ vs) zero m len at = (v, refl)
+peer_there (x ∷ ms) (v ∷ vs) (suc i) m len at = peer_there ms vs i m (omega (arith, len)) at
+
+-- what the peers tell are machines of their components' shapes
+lawful : (r : Run) (system : System) (bound : Bound) (olds : List View) → IsRunOf system bound olds r → TellTheirs system olds → length olds ≡ length system.components → AreMachines r
+lawful r system bound olds of theirs len = record {
+  count = of.tell.count ∙ len ∙ ap (λ (s : System). length s.components) (sym of.system_is);
+  each = λ i c m at_c at_m.
+      let v = peer_there r.machines olds i m of.tell.count at_m in
+      let its = theirs i c v.0 m (subst (λ (s : System). slice_get s.components i ≡ Some c) of.system_is at_c) v.1 (of.tell.each i v.0 m v.1 at_m).0 in
+      (its.0, its.1);
+}
+
+-- and the run of them has one trace at most
+one_trace : (r : Run) (system : System) (bound : Bound) (olds : List View) → IsSound system → IsRunOf system bound olds r → TellTheirs system olds → length olds ≡ length system.components → HasOneTrace r
+one_trace r system bound olds sound of theirs len =
+    let machines = lawful r system bound olds of theirs len in
+    record {
+      machines = machines;
+      one = λ is js k l p q one other. trace_once r (subst IsSound (sym of.system_is) sound) machines is js k l p q one other;
+    }
+
+-- a peer keeps what stays through its life
+lives_same : (system : System) (olds news : List View) (log : List Sent) (lives : List Life) → AreLives system olds news log lives → map (λ (v : View). v.fixed) news ≡ map (λ (v : View). v.fixed) olds
+lives_same system olds news log lives are =
+    ap (map (λ (v : View). v.fixed)) (sym are.news_are) ∙ same lives are.each ∙ ap (map (λ (v : View). v.fixed)) are.olds_are
+  where
+    same : (ls : List Life) → All IsLife ls → map (λ (v : View). v.fixed) (map (λ (l : Life). l.new) ls) ≡ map (λ (v : View). v.fixed) (map (λ (l : Life). l.old) ls)
+    same [] each = refl
+    same (l ∷ ls) each =
+        ap (λ (f : Fixed). f ∷ map (λ (v : View). v.fixed) (map (λ (x : Life). x.new) ls)) (All-head IsLife l ls each).fixed
+        ∙ ap (λ (fs : List Fixed). l.old.fixed ∷ fs) (same ls (All-tail IsLife l ls each))
+
+once : (a : Account) (r : Run) (end : RunEnd) → HasOneTrace r → TracesWell a r end → TracesOnce a r end
+once a r E.Stop one t = (one, t)
+once a r (E.Asked point) one t = (one, t)
+once a r (E.EventLimit point) one t = (one, t)
+once a r (E.FixedStep component at end) one t = (one, t)
+once a r (E.Bad bad) one t = t
+once a r E.WriteFault one t = (one, t)
+
 pub goes : (a : Account) (task : Task) (old new : Scene) → CanRun a.system → BindsParameters a.system a.bound → IsPlan a.plan → a.bound ≡ task.bound → a.plan ≡ task.plan → a.before ≡ old.out → a.after ≡ new.out →
     RunsPeers task a.system a.olds a.news old.spawner new.spawner → Lived a → LivesAreOver → ToldRun → ToldTrace → Goes task a.system a.end old new
 goes a task old new can binds planned bound plan before after peers lived over run trace = record {
-  account = a;
-  system_is = refl;
-  bound_is = bound;
-  plan_is = plan;
-  end_is = refl;
-  before_is = before;
-  after_is = after;
-  peers = peers;
-  sound = can.sound;
+  traces = record {
+    account = a;
+    system_is = refl;
+    bound_is = bound;
+    plan_is = plan;
+    end_is = refl;
+    before_is = before;
+    after_is = after;
+    peers = peers;
+    same = lives_same a.system a.olds a.news (lived.made ++ lived.log) lived.lives lived.are;
+    sound = can.sound;
+    well = λ r of is well. once a r a.end (one_trace r a.system task.bound a.olds can.sound of lived.machines peers.each)
+        (trace a r can.sound binds planned (subst (λ (b : Bound). IsRunOf a.system b a.olds r) (sym bound) of) (is ∙ sym plan) well lived);
+  };
   lived = lived;
   over = over a.system a.olds a.news (lived.made ++ lived.log) lived.lives lived.are;
-  so_far = λ r of is. run a r can.sound can.built planned (subst (λ (b : Bound). IsRunOf a.system b a.olds r) (sym bound) of) (is ∙ sym plan) lived;
-  well = λ r of is well. trace a r can.sound can.built binds planned (subst (λ (b : Bound). IsRunOf a.system b a.olds r) (sym bound) of) (is ∙ sym plan) well lived;
+  so_far = λ r of is. run a r can.sound planned (subst (λ (b : Bound). IsRunOf a.system b a.olds r) (sym bound) of) (is ∙ sym plan) lived;
 }
 
 pub fails : (task : Task) (system : System) (bad : BadAnswer) (olds news : List View) (old new : Scene) → CanRun system → RunsPeers task system olds news old.spawner new.spawner →
     Unmade system olds bad news → new.out ≡ old.out → LivesAreOver → ToldUnmade → Fails task system bad old new
 fails task system bad olds news old new can peers unmade out over told = record {
-  olds = olds;
-  news = news;
-  peers = peers;
-  sound = can.sound;
+  traces = record {
+    account = record { system = system; bound = task.bound; plan = task.plan; olds = olds; news = news; before = old.out; after = new.out; instants = 0; end = E.Bad bad };
+    system_is = refl;
+    bound_is = refl;
+    plan_is = refl;
+    end_is = refl;
+    before_is = refl;
+    after_is = refl;
+    peers = peers;
+    same = lives_same system olds news unmade.log unmade.lives unmade.are;
+    sound = can.sound;
+    well = λ r of is well. told system task.bound olds news bad r can.sound of well unmade;
+  };
   unmade = unmade;
   over = over system olds news unmade.log unmade.lives unmade.are;
-  well = λ r of well. told system task.bound olds news bad r can.sound of well unmade;
   out = out;
 }
 

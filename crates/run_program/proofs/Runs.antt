@@ -67,12 +67,6 @@ pub course : (o : Outcome) (h : Happened) → HasFacts o h → Course o h
 course o h (WithoutLine w) = Still (same_idle h w.same)
 course o h (WithLine r) = of_line o r.line h r.is r.facts
 
-pub peer_case : (h : Happened) (o : Outcome) → Course o h → PeerRow h
-peer_case h o (Still idle) = Idle idle
-peer_case h o (OfRun one) = R.Ran one.line one.is one.end (one.it, one.run)
-peer_case h o (OfCheck (Tells e line is on)) = R.Checked line is (inl on)
-peer_case h o (OfCheck (Fails e line is on)) = R.Checked line is (inr on)
-
 -- where no run was begun no peer was called
 pub uncalled_or_run : (o : Outcome) (h : Happened) → Course o h → IsUncalled h ⊎ HasRunOne o h
 uncalled_or_run o h (Still idle) = inl idle.uncalled
@@ -85,6 +79,12 @@ pub ran_put : (o : Outcome) (h : Happened) → HasPut o h → (one : HasRunOne o
 ran_put o h p one = subst (λ (x : Outcome). HasPut x h) one.outcome p
 
 -- ---- the status 10
+
+pub peer_case : (h : Happened) (o : Outcome) → HasPut o h → Course o h → PeerRow h
+peer_case h o p (Still idle) = Idle idle
+peer_case h o p (OfRun one) = R.Ran one.line one.is one.end (record { it = one.it; run = one.run; reports = (one.e, one.named, ran_put o h p one) })
+peer_case h o p (OfCheck (Tells e line is on)) = R.Checked line is (inl on)
+peer_case h o p (OfCheck (Fails e line is on)) = R.Checked line is (inr on)
 
 not_higher : {A : Type 0} (a b : ℕ) → b ≡ a → a < b → A
 not_higher a b e higher = absurd (omega arith)

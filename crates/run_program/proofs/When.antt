@@ -4,10 +4,12 @@ use Rattle.std.proofs.lemmas.List.{append-nil}
 use Rattle.std.proofs.lemmas.List.Elements.{All-nil}
 use Rattle.sim_base.specs.Causes.{Rose, one_more}
 use Rattle.sim_base.specs.Sink.{SinkView}
+use Rattle.sim_base.specs.declared.numbers.CompId.{CompId}
 use Rattle.fmu_peer.specs.declared.ended.Why.{Why}
 use Rattle.fmu_peer.specs.declared.ended.Why.TheVariants.{Refused, Misreply, Link}
 use Rattle.fmu_peer.specs.Start.{SpawnerView}
 use Rattle.fmu_peer.specs.View.{View}
+use Rattle.slot_calls.specs.declared.bad_answer.BadAnswer.{BadAnswer}
 use Rattle.calling_sequence.specs.declared.run_end.RunEnd.{RunEnd}
 use Rattle.calling_sequence.specs.declared.run_end.RunEnd.TheVariants as E
 use Rattle.system_model.specs.declared.system.System.{System}
@@ -26,8 +28,8 @@ use Rattle.system_files.specs.Loads.{FileFails}
 use Rattle.run_program.specs.Facts.{Calm, CheckFacts, Facts, LineFacts, LoadFacts, LoadedFacts, LoadsLine, OfSystem, RunFacts, Unloaded, WithLine, WithoutLine, search_for, task_of}
 use Rattle.run_program.specs.Happened.{Happened, Scene, Stage}
 use Rattle.run_program.specs.Peers.{AreStarted, with_all_started}
-use Rattle.run_program.specs.Rows.{AreStartedFor, Ended, ForRun, IsOfRun, IsUncalled, IsUnfailed, Nobody, Told, Says, IsIdle, IsSilent, IsMute, memory_line, OnLine, IsNoLine, HasEnded, LacksFile, IsUnread, IsMissing, IsTooBig, BreaksRule, BreaksOffBy, LosesPeer, NotStarted, NotKnown, NotAnswering, IsRefusedWhy, IsMisreplyWhy, LacksSize, ReachesLimit}
-use Rattle.run_program.specs.Runs.{FailsToStart, HasRun, IsEndOf, NotesUnstarted, TakesBack, Task, names_of}
+use Rattle.run_program.specs.Rows.{AreStartedFor, Ended, ForRun, IsOfRun, IsUncalled, IsUnfailed, Nobody, Told, Says, IsIdle, IsSilent, IsMute, memory_line, OnLine, IsNoLine, HasEnded, LacksFile, IsUnread, IsMissing, IsTooBig, BreaksRule, BreaksOffBy, LosesPeer, NotStarted, NotKnown, NotAnswering, IsRefusedWhy, IsMisreplyWhy, RunsTo}
+use Rattle.run_program.specs.Runs.{FailsToStart, IsEndOf, NotesUnstarted, TakesBack, Task, names_of}
 use Rattle.system_files.proofs.AskLemmas.{none_here}
 use Rattle.run_program.proofs.Outs.{tells_out}
 use Rattle.run_program.proofs.PeerLemmas.{unasked}
@@ -66,8 +68,8 @@ WhenIs BrokenRule h = OnLine h (λ line. Calm h.old.run h.new.run × BreaksRule 
 WhenIs NoPeer h = OnLine h (LosesPeer h)
 WhenIs Refusal h = OnLine h (λ line. BreaksOffBy h line IsRefusedWhy)
 WhenIs WrongReply h = OnLine h (λ line. BreaksOffBy h line IsMisreplyWhy)
-WhenIs ManyInstants h = OnLine h (ReachesLimit h)
-WhenIs FixedSize h = OnLine h (LacksSize h)
+WhenIs ManyInstants h = OnLine h (λ line. (point : ℕ) × RunsTo h line (E.EventLimit point))
+WhenIs FixedSize h = OnLine h (λ line. (component : CompId) × (at : ℕ) × (end : ℕ) × RunsTo h line (E.FixedStep component at end))
 WhenIs Unwritten h = Says h (codes "write\n") × Rose h.old.run.out.faults h.new.run.out.faults
 WhenIs NoMemory h = IsIdle h × (h.new.run.spawner.faults ≡ h.old.run.spawner.faults) × IsUnfailed h × Says h memory_line
 
@@ -174,68 +176,38 @@ start_when Failed name line h is it f says =
     (line, is, NotStarted it name f (start_rose (task_of it.asked it.loaded) it.loaded.system name h.old.run h.new.run f) says)
 start_when Unknown name line h is it f says = (line, is, NotKnown it name f says)
 
--- what holds of this answer holds of the one by which the run was broken off
-breaks_by : (why : Why) (P : Why → Type 0) (line : Line) (h : Happened) → P why → BreaksOffBy h line (λ (w : Why). w ≡ why) → BreaksOffBy h line P
-breaks_by why P line h so b = record { it = b.it; bad = b.bad; so = subst P (sym b.so) so; name = b.name; named = b.named; says = b.says; run = b.run }
+bad_when : (why : Why) (line : Line) (h : Happened) → IsLine h.words line → (bad : BadAnswer) → bad.why ≡ why → RunsTo h line (E.Bad bad) → WhenIs (of_end (O.Bad [] why)) h
+bad_when (Refused call status) line h is bad e to = (line, is, (bad, subst IsRefusedWhy (sym e) tt, to))
+bad_when (Misreply call reply) line h is bad e to = (line, is, (bad, subst IsMisreplyWhy (sym e) tt, to))
+bad_when (Link call fault) line h is bad e to = (line, is, NotAnswering (bad, subst IsLink (sym e) tt, to))
 
-bad_when : (why : Why) (line : Line) (h : Happened) → IsLine h.words line → BreaksOffBy h line (λ (w : Why). w ≡ why) → WhenIs (of_end (O.Bad [] why)) h
-bad_when (Refused call status) line h is b = (line, is, breaks_by (Refused call status) IsRefusedWhy line h tt b)
-bad_when (Misreply call reply) line h is b = (line, is, breaks_by (Misreply call reply) IsMisreplyWhy line h tt b)
-bad_when (Link call fault) line h is b = (line, is, NotAnswering (breaks_by (Link call fault) IsLink line h tt b))
-
-run_when : (end : RunEnd) (e : End) (line : Line) (h : Happened) → IsLine h.words line → (it : IsOfRun h line) → IsEndOf (names_of it.loaded.system) end e →
-    HasRun (task_of it.asked it.loaded) it.loaded.system end h.old.run h.new.run → Put h (end_message e) → WhenIs (of_end e) h
-run_when E.Stop e line h is it named run says =
-    subst (λ (x : End). WhenIs (of_end x) h) (sym named) (line, is, Ended E.Stop tt (it, run) (subst (λ (x : End). Put h (end_message x)) named says))
-run_when (E.Asked point) e line h is it named run says =
-    subst (λ (x : End). WhenIs (of_end x) h) (sym named) (line, is, Ended (E.Asked point) tt (it, run) (subst (λ (x : End). Put h (end_message x)) named says))
-run_when (E.EventLimit point) e line h is it named run says =
-    subst (λ (x : End). WhenIs (of_end x) h) (sym named)
-    (line, is, record { it = it; point = point; says = subst (λ (x : End). Put h (end_message x)) named says; run = run })
-run_when (E.FixedStep component at end) e line h is it named run says =
-    subst (λ (x : End). WhenIs (of_end x) h) (sym named.2) (
-      line,
-      is,
-      record {
-        it = it;
-        component = component;
-        at = at;
-        end = end;
-        name = named.0;
-        named = named.1;
-        says = subst (λ (x : End). Put h (end_message x)) named.2 says;
-        run = run;
-      },
+run_when : (end : RunEnd) (e : End) (line : Line) (h : Happened) → IsLine h.words line → (to : RunsTo h line end) → IsEndOf (names_of to.it.loaded.system) end e → Put h (end_message e) → WhenIs (of_end e) h
+run_when E.Stop e line h is to named says = subst (λ (x : End). WhenIs (of_end x) h) (sym named) (line, is, Ended E.Stop tt to)
+run_when (E.Asked point) e line h is to named says = subst (λ (x : End). WhenIs (of_end x) h) (sym named) (line, is, Ended (E.Asked point) tt to)
+run_when (E.EventLimit point) e line h is to named says = subst (λ (x : End). WhenIs (of_end x) h) (sym named) (line, is, (point, to))
+run_when (E.FixedStep component at end) e line h is to named says = subst (λ (x : End). WhenIs (of_end x) h) (sym named.2) (line, is, (component, at, end, to))
+run_when (E.Bad bad) e line h is to named says = subst (λ (x : End). WhenIs (of_end x) h) (sym named.2) (bad_when bad.why line h is bad refl to)
+run_when E.WriteFault e line h is to named says =
+    subst (λ (x : End). WhenIs (of_end x) h) (sym named) (
+      subst (λ (x : End). Put h (end_message x)) named says,
+      tells_out (task_of to.it.asked to.it.loaded) to.it.loaded.system E.WriteFault h.old.run h.new.run to.run,
     )
-run_when (E.Bad bad) e line h is it named run says =
-    subst (λ (x : End). WhenIs (of_end x) h) (sym named.2) (bad_when bad.why line h is (record {
-      it = it;
-      bad = bad;
-      so = refl;
-      name = named.0;
-      named = named.1;
-      says = subst (λ (x : End). Put h (end_message x)) named.2 says;
-      run = run;
-    }))
-run_when E.WriteFault e line h is it named run says =
-    subst (λ (x : End). WhenIs (of_end x) h) (sym named)
-    (subst (λ (x : End). Put h (end_message x)) named says, tells_out (task_of it.asked it.loaded) it.loaded.system E.WriteFault h.old.run h.new.run run)
 
 -- what is loaded is run
 run_case : (o : Outcome) (line : Line) (h : Happened) → IsLine h.words line → (it : IsOfRun h line) → RunFacts o (task_of it.asked it.loaded) it.loaded.system h.old.run h.new.run →
-    Put h (message o) → WhenIs (of_outcome o) h
-run_case Words line h is it f says = absurd f
-run_case Memory line h is it f says = (
+    HasPut o h → Put h (message o) → WhenIs (of_outcome o) h
+run_case Words line h is it f p says = absurd f
+run_case Memory line h is it f p says = (
   taken_idle (task_of it.asked it.loaded) it.loaded.system h (for_run line h is it) f,
   ap (λ (s : SpawnerView). s.faults) f.told,
   (it.loads.reads, it.loads.asks.told, it.loads.asks.unfailed),
   says,
 )
-run_case (File path fault) line h is it f says = absurd f
-run_case (Start name cause) line h is it f says = start_when cause name line h is it f says
-run_case (Ran e) line h is it f says = run_when f.0 e line h is it f.1 f.2 says
-run_case Checked line h is it f says = absurd f
-run_case Untold line h is it f says = absurd f
+run_case (File path fault) line h is it f p says = absurd f
+run_case (Start name cause) line h is it f p says = start_when cause name line h is it f says
+run_case (Ran e) line h is it f p says = run_when f.0 e line h is (record { it = it; run = f.2; reports = (e, f.1, p) }) f.1 says
+run_case Checked line h is it f p says = absurd f
+run_case Untold line h is it f p says = absurd f
 
 -- or checked
 check_case : (o : Outcome) (line : Line) (h : Happened) (loaded : Loaded) → IsLine h.words line → run_in line ≡ None → LoadsLine line loaded h.old.folder h.new.folder →
@@ -268,21 +240,21 @@ unloaded_when (Ran e) line h is calm f says = absurd f
 unloaded_when Checked line h is calm f says = absurd f
 unloaded_when Untold line h is calm f says = absurd f
 
-line_when : (o : Outcome) (line : Line) (h : Happened) → IsLine h.words line → LineFacts o line h.old h.new → Put h (message o) → WhenIs (of_outcome o) h
-line_when o line h is (Unloaded calm f) says = unloaded_when o line h is calm f says
-line_when o line h is (OfSystem loaded loads f) says =
-    by_run o line h loaded loads f (λ it same g. run_case o line h is it g says) (λ none g. check_case o line h loaded is none loads g says)
+line_when : (o : Outcome) (line : Line) (h : Happened) → IsLine h.words line → LineFacts o line h.old h.new → HasPut o h → Put h (message o) → WhenIs (of_outcome o) h
+line_when o line h is (Unloaded calm f) p says = unloaded_when o line h is calm f says
+line_when o line h is (OfSystem loaded loads f) p says =
+    by_run o line h loaded loads f (λ it same g. run_case o line h is it g p says) (λ none g. check_case o line h loaded is none loads g says)
 
-outcome_when : (o : Outcome) (h : Happened) → HasFacts o h → Put h (message o) → WhenIs (of_outcome o) h
-outcome_when o h (WithLine r) says = line_when o r.line h r.is r.facts says
-outcome_when Words h (WithoutLine w) says = (w.why, w.same, says)
-outcome_when Memory h (WithoutLine w) says =
+outcome_when : (o : Outcome) (h : Happened) → HasFacts o h → HasPut o h → Put h (message o) → WhenIs (of_outcome o) h
+outcome_when o h (WithLine r) p says = line_when o r.line h r.is r.facts p says
+outcome_when Words h (WithoutLine w) p says = (w.why, w.same, says)
+outcome_when Memory h (WithoutLine w) p says =
     (same_idle h w.same, ap (λ (s : Stage). s.run.spawner.faults) w.same, unread h w.same, says)
-outcome_when (File path fault) h (WithoutLine w) says = absurd w.why
-outcome_when (Start name cause) h (WithoutLine w) says = absurd w.why
-outcome_when (Ran e) h (WithoutLine w) says = absurd w.why
-outcome_when Checked h (WithoutLine w) says = absurd w.why
-outcome_when Untold h (WithoutLine w) says = absurd w.why
+outcome_when (File path fault) h (WithoutLine w) p says = absurd w.why
+outcome_when (Start name cause) h (WithoutLine w) p says = absurd w.why
+outcome_when (Ran e) h (WithoutLine w) p says = absurd w.why
+outcome_when Checked h (WithoutLine w) p says = absurd w.why
+outcome_when Untold h (WithoutLine w) p says = absurd w.why
 
 -- a status other than 10 is the outcome's
 pub when_is : (s : Status) (o : Outcome) (h : Happened) → HasFacts o h → HasPut o h → (number s ≡ 10 → ⊥) → h.status ≡ number s → WhenIs s h
@@ -290,7 +262,7 @@ when_is s o h f p other is = choose (said (message o) (status_of o) h p)
   where
     choose : ((h.status ≡ status_of o) × Put h (message o)) ⊎ ((text : List ℕ) × IsMute h text) → WhenIs s h
     choose (inl q) =
-        subst (λ (c : Status). WhenIs c h) (same_number (of_outcome o) s (sym (numbered o) ∙ sym q.0 ∙ is)) (outcome_when o h f q.1)
+        subst (λ (c : Status). WhenIs c h) (same_number (of_outcome o) s (sym (numbered o) ∙ sym q.0 ∙ is)) (outcome_when o h f p q.1)
     choose (inr q) = absurd (other (sym is ∙ q.1.0))
 
 -- at 10 the text couldn't be put, or the line
@@ -299,5 +271,5 @@ when_unwritten o h f p is = choose (said (message o) (status_of o) h p)
   where
     choose : ((h.status ≡ status_of o) × Put h (message o)) ⊎ ((text : List ℕ) × IsMute h text) → WhenIs Unwritten h ⊎ ((text : List ℕ) × IsMute h text)
     choose (inl q) =
-        inl (subst (λ (c : Status). WhenIs c h) (same_number (of_outcome o) Unwritten (sym (numbered o) ∙ sym q.0 ∙ is)) (outcome_when o h f q.1))
+        inl (subst (λ (c : Status). WhenIs c h) (same_number (of_outcome o) Unwritten (sym (numbered o) ∙ sym q.0 ∙ is)) (outcome_when o h f p q.1))
     choose (inr q) = inr q

@@ -17,23 +17,13 @@ use Rattle.fmu_peer.specs.Talk as T
 use Rattle.fmu_peer.specs.Answer.{IsLink, IsWhy}
 use Rattle.fmu_peer.specs.Machine.{Machine}
 use Rattle.fmu_peer.specs.View.{Origin, View}
-use Rattle.system_model.specs.declared.plan.EndKind.{EndKind}
-use Rattle.system_model.specs.declared.plan.EndKind.TheVariants.{Stop, Asked, Limit, Fixed, Fault}
-use Rattle.system_model.specs.declared.plan.Plan.{Plan}
 use Rattle.system_model.specs.declared.system.Component.{Component}
 use Rattle.system_model.specs.declared.system.System.{System}
-use Rattle.system_model.specs.Sound.{IsSound}
-use Rattle.system_model.specs.Text.{Instant}
-use Rattle.run_model.specs.Machines.{AreMachines}
 use Rattle.run_model.specs.Run.{Run}
-use Rattle.run_model.specs.Trace.{IsTrace}
 use Rattle.run_model.specs.Behaved.{WellBehaved}
 use Rattle.slot_calls.specs.declared.bad_answer.BadAnswer.{BadAnswer}
 use Rattle.calling_sequence.specs.declared.run_end.RunEnd.{RunEnd}
 use Rattle.calling_sequence.specs.declared.run_end.RunEnd.TheVariants as E
-use Rattle.calling_sequence.specs.Ends.{trace_pieces}
-use Rattle.calling_sequence.specs.Puts.{CutsPiece, with_pieces}
-use Rattle.machine_courses.specs.Fronts.{LacksStepAt}
 use Rattle.slot_calls.specs.SavedStates.{IsOfClosing, Talk}
 use Rattle.step_master.specs.Traced.{IsRunOf}
 use Rattle.bench_fmus.specs.declared.built_in.BuiltIn.{BuiltIn}
@@ -41,18 +31,18 @@ use Rattle.bench_fmus.specs.BuiltInView.{built_in_view}
 use Rattle.built_in_laws.specs.BuiltInRuns.{IsBuiltIn}
 use Rattle.built_in_laws.specs.Clocks.{TellsTimings}
 use Rattle.command_line.specs.Line.{IsLine, Line, RunLine, run_in}
+use Rattle.run_program.specs.declared.outcome.End.{End}
 use Rattle.run_program.specs.declared.outcome.StartCause.TheVariants.{Failed, Unknown}
-use Rattle.system_loading.specs.Assembly.{HaveSameParts}
 use Rattle.system_files.specs.declared.loaded.Loaded.{Loaded}
 use Rattle.system_files.specs.declared.named.FileFault.TheVariants.{Unread, Missing, TooBig, Broken}
 use Rattle.system_files.specs.Files.{Absent, AreSteady, Faulty, Long}
 use Rattle.system_files.specs.Loads.{FailsToRead, Loads, ReadsSome}
-use Rattle.system_files.specs.Order.{Comes, Fails, Finding, Found}
+use Rattle.system_files.specs.Order.{Agree, Comes, Fails, Finding, Found}
 use Rattle.run_program.specs.Facts.{Calm, FailsToTell, LoadsLine, TellsSize, search_for, task_of}
 use Rattle.run_program.specs.Happened.{Happened, Scene}
 use Rattle.run_program.specs.Peers.{AreKnown, AreStarted, IsFirstUnknown}
-use Rattle.run_program.specs.Message.{CutsShort, file_message, start_message, limit_message, fixed_message, bad_message, why_status}
-use Rattle.run_program.specs.Runs.{FailsToStart, HasRun, IsUnasked, RunsPeers, Task, names_of}
+use Rattle.run_program.specs.Message.{CutsShort, Reports, bad_message, end_message, end_status, file_message, start_message, why_status}
+use Rattle.run_program.specs.Runs.{FailsToStart, HasRun, IsEndOf, IsUnasked, Task, Traces, names_of}
 
 -- ---- what err holds
 
@@ -140,11 +130,17 @@ IsFinished (E.FixedStep component at end) = ⊥
 IsFinished (E.Bad bad) = ⊥
 IsFinished E.WriteFault = ⊥
 
--- the run of the line's system ended so
-abbrev pub RunsTo : Happened → Line → RunEnd → Type 0
-RunsTo h line end =
-    (it : IsOfRun h line) × HasRun (task_of it.asked it.loaded) it.loaded.system end
-    h.old.run h.new.run
+-- the status and the line of a run's end, which names one of these components: 0 and no line at the stop and where a component asked for it, else the end's own, unless the line couldn't be put
+abbrev pub ReportsEnd : Happened → List (List ℕ) → RunEnd → Type 0
+ReportsEnd h names end =
+    (told : End) × IsEndOf names end told ×
+    Reports (end_message told) (end_status told) h.status h.err h.err_after
+
+-- the run of the line's system came to this end, whose status and line these are
+pub record RunsTo (h : Happened) (line : Line) (end : RunEnd) : Type 0 where
+  pub it : IsOfRun h line
+  pub run : HasRun (task_of it.asked it.loaded) it.loaded.system end h.old.run h.new.run
+  pub reports : ReportsEnd h (names_of it.loaded.system) end
 
 -- the line asks for a check of what was loaded, and this holds of it
 abbrev pub OnCheck : Happened → Line → (Loaded → Scene → Scene → Type 0) → Type 0
@@ -154,7 +150,7 @@ OnCheck h line P =
 
 -- 0: the run came to its end, or the size of the system was told, and err holds what it held
 pub data HasEnded (h : Happened) (line : Line) : Type 0 where
-  Ended : (end : RunEnd) → IsFinished end → RunsTo h line end → IsSilent h → HasEnded h line
+  Ended : (end : RunEnd) → IsFinished end → RunsTo h line end → HasEnded h line
   Told : OnCheck h line TellsSize → IsSilent h → HasEnded h line
 
 pub record EndRow (h : Happened) : Type 0 where
@@ -199,15 +195,9 @@ pub record RuleRow (h : Happened) : Type 0 where
       IsLine h.words line →
       IsToFind h line (Fails path (Faulty rule place ports)) → TellsRule h line path rule place
 
--- the run was broken off by an answer that isn't good, of the component with this name, and with its line
-pub record BreaksOffBy (h : Happened) (line : Line) (P : Why → Type 0) : Type 0 where
-  pub it : IsOfRun h line
-  pub bad : BadAnswer
-  pub so : P bad.why
-  pub name : List ℕ
-  pub named : slice_get (names_of it.loaded.system) bad.component.0 ≡ Some name
-  pub says : Says h (bad_message name bad.why)
-  pub run : HasRun (task_of it.asked it.loaded) it.loaded.system (E.Bad bad) h.old.run h.new.run
+-- the run was broken off by an answer that isn't good, which this holds of
+abbrev pub BreaksOffBy : Happened → Line → (Why → Type 0) → Type 0
+BreaksOffBy h line P = (bad : BadAnswer) × P bad.why × RunsTo h line (E.Bad bad)
 
 -- the talks that these peers tell
 abbrev pub talks_of : List View → List Talk
@@ -295,31 +285,15 @@ pub record MisreplyRow (h : Happened) : Type 0 where
   pub when : h.status ≡ 7 → OnLine h (λ line. BreaksOffBy h line IsMisreplyWhy)
   pub exact : DecidesBy h IsMisreplyWhy
 
--- 8: the run ended at a point whose instants reach their limit, and with its line
-pub record ReachesLimit (h : Happened) (line : Line) : Type 0 where
-  pub it : IsOfRun h line
-  pub point : ℕ
-  pub says : Says h (limit_message point)
-  pub run : HasRun (task_of it.asked it.loaded) it.loaded.system (E.EventLimit point)
-      h.old.run h.new.run
-
+-- 8: the run ended at a point whose instants reach their limit
 pub record LimitRow (h : Happened) : Type 0 where
-  pub when : h.status ≡ 8 → OnLine h (ReachesLimit h)
+  pub when : h.status ≡ 8 →
+      OnLine h (λ line. (point : ℕ) × RunsTo h line (E.EventLimit point))
 
--- 9: the run ended before a step whose size a component can't take, the least of those, and with its line
-pub record LacksSize (h : Happened) (line : Line) : Type 0 where
-  pub it : IsOfRun h line
-  pub component : CompId
-  pub at : ℕ
-  pub end : ℕ
-  pub name : List ℕ
-  pub named : slice_get (names_of it.loaded.system) component.0 ≡ Some name
-  pub says : Says h (fixed_message name at end)
-  pub run : HasRun (task_of it.asked it.loaded) it.loaded.system (E.FixedStep component at end)
-      h.old.run h.new.run
-
+-- 9: the run ended before a step whose size a component can't take, the least of those, with the point that the step would go to
 pub record FixedRow (h : Happened) : Type 0 where
-  pub when : h.status ≡ 9 → OnLine h (LacksSize h)
+  pub when : h.status ≡ 9 → OnLine h (λ line. (component : CompId) × (at : ℕ) × (end : ℕ) ×
+      RunsTo h line (E.FixedStep component at end))
 
 -- 10: only where a sink's count rose, and always where one is higher than before
 pub record WriteRow (h : Happened) : Type 0 where
@@ -364,84 +338,6 @@ pub record StatusRow (h : Happened) : Type 0 where
 
 -- ---- the run
 
--- status and line of a run's end: 8 with its line where instants reach their limit; 9 with its line where a step begins that a component can't make, the least of those, with the point that the step would go to; else 0
-abbrev pub ReportsEnd : Happened → Run → EndKind → ℕ → Type 0
-ReportsEnd h r Stop point = (h.status ≡ 0) × IsSilent h
-ReportsEnd h r Asked point = (h.status ≡ 0) × IsSilent h
-ReportsEnd h r Limit point = (h.status ≡ 8) × Says h (limit_message point)
-ReportsEnd h r Fixed point = (h.status ≡ 9) × (place : ℕ) × (name : List ℕ) × (bound : ℕ)
-    × (slice_get (names_of r.system) place ≡ Some name) × LacksStepAt r place point bound ×
-    Says h (fixed_message name point bound)
-ReportsEnd h r Fault point = ⊥
-
--- the machines are of their components' shapes and lawful, these instants and this end are the trace of the run, and no others are
-pub record IsOneTrace (r : Run) (is : List Instant) (kind : EndKind) (point : ℕ) : Type 0 where
-  pub machines : AreMachines r
-  pub trace : IsTrace r is kind point
-  pub only : (js : List Instant) (l : EndKind) (q : ℕ) → IsTrace r js l q → (is ≡ js) × (kind ≡ l)
-      × (point ≡ q)
-
--- out has the text of the one trace, one piece a put, and the status is that of its end; or the put of one of its pieces failed, out has those before it and a front of that, and the status is 10
-pub data WritesTrace (h : Happened) (r : Run) : Type 0 where
-  Whole : (is : List Instant) (kind : EndKind) (point : ℕ) → IsOneTrace r is kind point →
-      ReportsEnd h r kind point →
-      h.new.run.out ≡ with_pieces h.old.run.out (trace_pieces r.system r.plan is kind point) →
-      WritesTrace h r
-  Front : (is : List Instant) (kind : EndKind) (point : ℕ) (pieces : List (List ℕ)) (piece : List ℕ)
-      (rest : List (List ℕ)) → IsOneTrace r is kind point → h.status ≡ 10 →
-      trace_pieces r.system r.plan is kind point ≡ pieces ++ piece ∷ rest →
-      CutsPiece (with_pieces h.old.run.out pieces) piece h.new.run.out → WritesTrace h r
-
--- the peers that were started, which keep their machines, and the trace where they tell machines that behave well and no call of them failed
-pub record Traces (h : Happened) (task : Task) (system : System) : Type 0 where
-  pub olds : List View
-  pub news : List View
-  pub peers : RunsPeers task system olds news h.old.run.spawner h.new.run.spawner
-  pub same : map (λ (v : View). v.fixed) news ≡ map (λ (v : View). v.fixed) olds
-  pub sound : IsSound system
-  pub writes : (r : Run) → IsRunOf system task.bound olds r → r.plan ≡ task.plan → WellBehaved r →
-      All (λ (v : View). v.faults ≡ 0) news → WritesTrace h r
-
--- what is run is a system with the same components and ports, by the same host, in the same folders, with the same values of parameters
-pub record IsRunAs (loaded : Loaded) (asked : RunLine) (task : Task)
-    (system : System) : Type 0 where
-  pub plan_is : task.plan ≡ asked.plan
-  pub host_is : task.host ≡ asked.host
-  pub bound_is : task.bound ≡ loaded.bound
-  pub folders_are : task.folders ≡ loaded.folders
-  pub parts : HaveSameParts system loaded.system
-
--- the trace of what the files say is written
-pub record TracesLoaded (h : Happened) (asked : RunLine) (loaded : Loaded) : Type 0 where
-  pub task : Task
-  pub system : System
-  pub same : IsRunAs loaded asked task system
-  pub traces : Traces h task system
-
--- the trace: where the files say a system, the identifiers are known, and no read, start or put on err failed, or for want of memory nothing
-pub record TraceRow (h : Happened) : Type 0 where
-  pub when : (line : Line) (asked : RunLine) (loaded : Loaded) → IsLine h.words line →
-      run_in line ≡ Some asked → IsToFind h line (Found loaded) →
-      AreKnown asked.host h.old.run.spawner loaded.system.components →
-      (Rose h.old.run.spawner.faults h.new.run.spawner.faults → ⊥) →
-      (Rose h.err.faults h.err_after.faults → ⊥) →
-      ((h.status ≡ 11) × IsIdle h) ⊎ TracesLoaded h asked loaded
-
--- ---- a check
-
--- the line of the size, or a front of it where its put failed and the status is 10
-pub data WritesSize (h : Happened) (loaded : Loaded) : Type 0 where
-  Sized : (h.status ≡ 0) → TellsSize loaded h.old.run h.new.run → WritesSize h loaded
-  Cut : (h.status ≡ 10) → FailsToTell loaded h.old.run h.new.run → WritesSize h loaded
-
--- the size: where the files say a system, and no read or put on err failed, or for want of memory nothing
-pub record CheckRow (h : Happened) : Type 0 where
-  pub when : (line : Line) (loaded : Loaded) → IsLine h.words line → run_in line ≡ None →
-      IsToFind h line (Found loaded) → (Rose h.err.faults h.err_after.faults → ⊥) →
-      ((h.status ≡ 11) × IsIdle h) ⊎ WritesSize h loaded
-
--- ---- built-in machines
-
 -- the peers that were taken back are built-in machines, as are those of a spawner of these
 pub record IsOverBuiltIns (h : Happened) : Type 0 where
   pub peers : List BuiltIn
@@ -454,35 +350,49 @@ TellTimings b loaded =
     Contains b.peers peer → (built_in_view peer).fixed.shape ≡ c.shape →
     TellsTimings peer.model c.shape (slice_index_or loaded.bound.components i [])
 
--- each component has a built-in machine
-pub record HasBuiltIns (r : Run) : Type 0 where
-  pub count : length r.machines ≡ length r.system.components
-  pub each : (i : ℕ) (c : Component) (m : Machine) → slice_get r.system.components i ≡ Some c →
-      slice_get r.machines i ≡ Some m → IsBuiltIn c.shape m
-
--- the trace of the system's built-in machines
-pub record TracesBuiltIns (h : Happened) (plan : Plan) (loaded : Loaded) : Type 0 where
+-- the machines that these peers tell are built-in ones, and behave well along the run of them
+pub record HasBuiltIns (task : Task) (system : System) (olds : List View) : Type 0 where
   pub run : Run
-  pub parts : HaveSameParts run.system loaded.system
-  pub plan_is : run.plan ≡ plan
-  pub bound_is : run.bound ≡ loaded.bound
-  pub built_in : HasBuiltIns run
-  pub sound : IsSound run.system
+  pub of : IsRunOf system task.bound olds run
+  pub plan_is : run.plan ≡ task.plan
+  pub built_in : (i : ℕ) (c : Component) (m : Machine) → slice_get system.components i ≡ Some c →
+      slice_get run.machines i ≡ Some m → IsBuiltIn c.shape m
   pub behaved : WellBehaved run
-  pub writes : WritesTrace h run
 
--- the same trace over built-in machines, of which no premise says that they behave well but for what they are asked of Clocks
-pub record BuiltInRow (h : Happened) : Type 0 where
-  pub when : (b : IsOverBuiltIns h) (line : Line) (asked : RunLine) (loaded : Loaded) →
-      IsLine h.words line → run_in line ≡ Some asked → IsToFind h line (Found loaded) →
-      TellTimings b loaded →
+-- a run of what the files say, but for the orders of its ports, with its trace and the status of its end; where its peers are built-in machines they behave well, but for what they are asked of Clocks
+pub record RunsLoaded (h : Happened) (asked : RunLine) (loaded : Loaded) : Type 0 where
+  pub made : Loaded
+  pub agree : Agree (Found made) (Found loaded)
+  pub end : RunEnd
+  pub traces : Traces (task_of asked made) made.system end h.old.run h.new.run
+  pub reports : ReportsEnd h (names_of made.system) end
+  pub built_in : (b : IsOverBuiltIns h) → TellTimings b loaded →
+      HasBuiltIns (task_of asked made) made.system traces.account.olds
+
+-- the trace: where the files say a system, the identifiers are known and no start failed, that of its run; or for want of memory nothing
+pub record TraceRow (h : Happened) : Type 0 where
+  pub when : (line : Line) (asked : RunLine) (loaded : Loaded) → IsLine h.words line →
+      run_in line ≡ Some asked → IsToFind h line (Found loaded) →
       AreKnown asked.host h.old.run.spawner loaded.system.components →
       (Rose h.old.run.spawner.faults h.new.run.spawner.faults → ⊥) →
-      (Rose h.err.faults h.err_after.faults → ⊥) →
-      All (λ (v : View). v.faults ≡ 0) h.new.run.spawner.retired →
-      ((h.status ≡ 11) × IsIdle h) ⊎ TracesBuiltIns h asked.plan loaded
+      (Answers h 11 memory_line × IsIdle h) ⊎ RunsLoaded h asked loaded
 
--- each peer that was started was taken back once: uncalled, or behind a run in which its talk is legal, lean and closed, and puts and ends are those of the run; a check starts none, and puts the size
+-- ---- a check
+
+-- the line of the size, or a front of it where its put failed and the status is 10
+pub data WritesSize (h : Happened) (loaded : Loaded) : Type 0 where
+  Sized : (h.status ≡ 0) → TellsSize loaded h.old.run h.new.run → WritesSize h loaded
+  Cut : (h.status ≡ 10) → FailsToTell loaded h.old.run h.new.run → WritesSize h loaded
+
+-- the size: where the files say a system, or for want of memory nothing
+pub record CheckRow (h : Happened) : Type 0 where
+  pub when : (line : Line) (loaded : Loaded) → IsLine h.words line → run_in line ≡ None →
+      IsToFind h line (Found loaded) →
+      (Answers h 11 memory_line × IsIdle h) ⊎ WritesSize h loaded
+
+-- ---- the peers
+
+-- each peer that was started was taken back once: uncalled, or behind a run in which its talk is legal, lean and closed, and puts and end are those of the run, and the status that of its end; a check starts none, and puts the size
 pub data PeerRow (h : Happened) : Type 0 where
   Idle : IsIdle h → PeerRow h
   Checked : (line : Line) → IsLine h.words line → OnCheck h line TellsSize ⊎
@@ -509,4 +419,3 @@ pub record KeepsSystemRows (h : Happened) : Type 0 where
   pub peer : PeerRow h
   pub trace : TraceRow h
   pub check : CheckRow h
-  pub built_in : BuiltInRow h

@@ -2,24 +2,26 @@
 use Rattle.std.specs.Prelude.{◌≡◌, ℕ, ◌<◌, false, List, [], map, length, take, All, Some, IfSome}
 use Rattle.std.specs.List.{slice_get}
 use Rattle.fmi_calls.specs.Next.{fresh}
-use Rattle.fmu_peer.specs.Answer.{IsLink}
 use Rattle.fmu_peer.specs.Start.{SpawnerView, with_failure}
 use Rattle.fmu_peer.specs.View.{View}
 use Rattle.system_model.specs.declared.bound.Bound.{Bound}
+use Rattle.system_model.specs.declared.plan.EndKind.{EndKind}
 use Rattle.system_model.specs.declared.plan.Plan.{Plan}
 use Rattle.system_model.specs.declared.system.Component.{Component}
 use Rattle.system_model.specs.declared.system.System.{System}
 use Rattle.system_model.specs.Sound.{IsSound}
+use Rattle.system_model.specs.Text.{Instant}
+use Rattle.run_model.specs.Machines.{AreMachines}
 use Rattle.run_model.specs.Run.{Run}
+use Rattle.run_model.specs.Trace.{IsTrace}
 use Rattle.run_model.specs.Behaved.{WellBehaved}
 use Rattle.slot_calls.specs.declared.bad_answer.BadAnswer.{BadAnswer}
 use Rattle.calling_sequence.specs.declared.run_end.RunEnd.{RunEnd}
 use Rattle.calling_sequence.specs.declared.run_end.RunEnd.TheVariants as E
 use Rattle.step_master.specs.Lived.{Account, Lived, Unmade}
 use Rattle.step_master.specs.Lives.{AreOver}
-use Rattle.calling_sequence.specs.Systems.{IsBuilt}
 use Rattle.machine_courses.specs.Outcomes.{PutsRun}
-use Rattle.step_master.specs.Traced.{IsRunOf, SomeRose, TracesWell, output_of}
+use Rattle.step_master.specs.Traced.{IsRunOf, TracesWell, output_of}
 use Rattle.run_program.specs.declared.outcome.StartCause.{StartCause}
 use Rattle.run_program.specs.declared.outcome.StartCause.TheVariants.{Failed, Unknown}
 use Rattle.run_program.specs.declared.outcome.End.{End}
@@ -38,7 +40,6 @@ pub record Task : Type 0 where
 -- a system that can be run, with names and tokens within their limits
 pub record CanRun (system : System) : Type 0 where
   pub sound : IsSound system
-  pub built : IsBuilt system
   pub each : All IsNamed system.components
 
 -- so many folders as components
@@ -93,8 +94,19 @@ pub record RunsPeers (task : Task) (system : System) (olds news : List View)
   pub are : AreStarted task.host task.folders system.components olds
   pub told : new ≡ with_all_retired (with_all_started old (length olds)) news
 
--- all instances were made, and the run went on to its end. Each peer that isn't spared behind a Fatal of its source is over. What it put is the trace of told machines, up to where it was broken off
-pub record Goes (task : Task) (system : System) (end : RunEnd) (old new : Scene) : Type 0 where
+-- the machines are of their components' shapes and lawful, and the run of them has one trace at most
+pub record HasOneTrace (r : Run) : Type 0 where
+  pub machines : AreMachines r
+  pub one : (is js : List Instant) (k l : EndKind) (p q : ℕ) → IsTrace r is k p →
+      IsTrace r js l q → (is ≡ js) × (k ≡ l) × (p ≡ q)
+
+-- what was put of machines that behave well: all of their one trace, or a front of it where the put of a piece failed; else a call failed
+abbrev pub TracesOnce : Account → Run → RunEnd → Type 0
+TracesOnce a r (E.Bad bad) = TracesWell a r (E.Bad bad)
+TracesOnce a r end = HasOneTrace r × TracesWell a r end
+
+-- a run of the system's peers, which keep their machines, to this end. Of told machines that behave well their one trace was put, unless a call or a put failed
+pub record Traces (task : Task) (system : System) (end : RunEnd) (old new : Scene) : Type 0 where
   pub account : Account
   pub system_is : account.system ≡ system
   pub bound_is : account.bound ≡ task.bound
@@ -103,24 +115,24 @@ pub record Goes (task : Task) (system : System) (end : RunEnd) (old new : Scene)
   pub before_is : account.before ≡ old.out
   pub after_is : account.after ≡ new.out
   pub peers : RunsPeers task system account.olds account.news old.spawner new.spawner
+  pub same : map (λ (v : View). v.fixed) account.news ≡ map (λ (v : View). v.fixed) account.olds
   pub sound : IsSound system
-  pub lived : Lived account
-  pub over : AreOver lived.lives
-  pub so_far : (r : Run) → IsRunOf system task.bound account.olds r → r.plan ≡ task.plan →
-      PutsRun r (output_of account) end
   pub well : (r : Run) → IsRunOf system task.bound account.olds r → r.plan ≡ task.plan →
-      WellBehaved r → TracesWell account r end
+      WellBehaved r → TracesOnce account r end
+
+-- all instances were made, and the run went on to its end. Each peer that isn't spared behind a Fatal of its source is over. What it put of told machines is their run, up to where it was broken off
+pub record Goes (task : Task) (system : System) (end : RunEnd) (old new : Scene) : Type 0 where
+  pub traces : Traces task system end old new
+  pub lived : Lived traces.account
+  pub over : AreOver lived.lives
+  pub so_far : (r : Run) → IsRunOf system task.bound traces.account.olds r →
+      r.plan ≡ task.plan → PutsRun r (output_of traces.account) end
 
 -- the answer to an Instantiate isn't good, and nothing was put; each peer that isn't spared is over
 pub record Fails (task : Task) (system : System) (bad : BadAnswer) (old new : Scene) : Type 0 where
-  pub olds : List View
-  pub news : List View
-  pub peers : RunsPeers task system olds news old.spawner new.spawner
-  pub sound : IsSound system
-  pub unmade : Unmade system olds bad news
+  pub traces : Traces task system (E.Bad bad) old new
+  pub unmade : Unmade system traces.account.olds bad traces.account.news
   pub over : AreOver unmade.lives
-  pub well : (r : Run) → IsRunOf system task.bound olds r → WellBehaved r →
-      IsLink bad.why × SomeRose olds news
   pub out : new.out ≡ old.out
 
 -- a run with this end

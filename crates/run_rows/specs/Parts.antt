@@ -117,7 +117,7 @@ unbound = record { components = []; unreached = 0 }
 
 -- from 0 to 20 by steps of this size
 abbrev pub plan_by : ℕ → ℕ → Plan
-plan_by step limit = record { resolution = 1000; start = 0; step = step; stop = 20; limit = limit }
+plan_by step limit = record { resolution = 1000; start = 0; step = step; stop = 20; limit = limit; workers = 1 }
 
 abbrev pub instant_at : ℕ → ℕ → List (Option ℤ) → Instant
 instant_at t n values = record { t = t; n = n; values = values }

@@ -3,6 +3,7 @@ mod ListingLemmas
 mod ElementLemmas
 mod SourceLemmas
 mod OneLemmas
+mod PlainLemmas
 mod EndLemmas
 mod RuleLemmas
 mod PartLemmas

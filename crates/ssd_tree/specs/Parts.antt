@@ -1,5 +1,5 @@
 -- What a system structure description says (SSP 1.0): the tree of systems that it denotes.
-use Rattle.std.specs.Prelude.{◌≡◌, ℕ, false, List, ◌∷◌, ◌++◌, Option, Some, None, slice_get, codes, bytes_eq, if◌then◌else◌}
+use Rattle.std.specs.Prelude.{◌≡◌, ℕ, false, List, ◌∷◌, ◌++◌, All, Option, Some, None, IfSome, slice_get, codes, bytes_eq, if◌then◌else◌}
 use Rattle.std.specs.List.{AllZip}
 use Rattle.std.specs.Option.{option_map_or}
 use Rattle.sim_base.specs.Path.{plain_path}
@@ -65,6 +65,10 @@ owner_node nodes (Component place) = slice_get nodes.components place
 abbrev pub HasPath : List Node → ℕ → List ℕ → Type 0
 HasPath t k path =
     (source : List ℕ) × (attribute t k (codes "source") ≡ Some source) × (path ≡ plain_path source)
+
+-- it has no segment that leads nowhere
+abbrev pub IsPlain : List ℕ → Type 0
+IsPlain path = path ≡ plain_path path
 
 -- ---- where values and mappings of parameters are given (SSP 1.0: ParameterBinding, ParameterMapping; source, sourceBase)
 
@@ -143,3 +147,16 @@ pub record Describes (t : List Node) (tree : SystemTree) : Type 0 where
   pub connectors : AllZip (IsConnectorPart t nodes) nodes.connectors tree.connectors
   pub connections : AllZip (IsConnectionPart t nodes) nodes.connections tree.connections
   pub bindings : AllZip (IsBindingPart t nodes) nodes.bindings tree.bindings
+
+-- ---- the files that it names
+
+-- the path of its file is plain
+abbrev pub IsPlainOrigin : Origin → Type 0
+IsPlainOrigin (File base path) = IsPlain path
+IsPlainOrigin (Inline node) = Unit {0}
+
+-- the paths of all files are plain: of the components' FMUs, and of the bindings' values and mappings
+pub record NamesPlainPaths (tree : SystemTree) : Type 0 where
+  pub components : All (λ (c : ComponentPart). IsPlain c.source) tree.components
+  pub values : All (λ (b : Binding). IsPlainOrigin b.values) tree.bindings
+  pub mappings : All (λ (b : Binding). IfSome b.mapping IsPlainOrigin) tree.bindings

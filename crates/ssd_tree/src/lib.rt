@@ -14,6 +14,7 @@ mod sources;
 mod tree;
 
 pub use indexed::MOST_COMPONENTS;
+pub use law::plain_paths;
 pub use reader::read_ssd;
 pub use tree::{
     Binding, ComponentPart, Connection, Connector, ConnectorKind, Origin, Owner, SourceBase,

@@ -36,7 +36,7 @@ all_map : {A B : Type 0} (f : A → B) (p : B → Bool) (xs : List A) → list_a
 all_map f p [] = refl
 all_map f p (x ∷ xs) = ap (λ b. p (f x) && b) (all_map f p xs)
 
-at_map : {A B : Type 0} (f : A → B) (xs : List A) (i : ℕ) (x : A) → slice_get xs i ≡ Some x → slice_get (map f xs) i ≡ Some (f x)
+pub at_map : {A B : Type 0} (f : A → B) (xs : List A) (i : ℕ) (x : A) → slice_get xs i ≡ Some x → slice_get (map f xs) i ≡ Some (f x)
 at_map f xs i x at = slice_get-map f xs i ∙ ap (option_map f) at
 
 unmap : {A B : Type 0} (f : A → B) (xs : List A) (i : ℕ) (y : B) → slice_get (map f xs) i ≡ Some y → (x : A) × (slice_get xs i ≡ Some x) × (y ≡ f x)
@@ -96,22 +96,22 @@ unfit_some true size step i o e h = absurd (none_some i h)
 unfit_some false size step i o e h = (unequal size step e, h)
 
 module _ (t step : ℕ) (fmus : List Fmu) where
-  abbrev steppers : List Stepper
+  abbrev pub steppers : List Stepper
   steppers = map stepper_of fmus
 
   module _ (stand : Fmu → Stand) (test : Stand → Bool) (is_asked : Stepper → Bool) (e : ℕ)
       (same : Each (λ (f : Fmu). (test (stand f) && not (stand f).shape.has_variable_steps) ≡ (is_asked (stepper_of f) && not f.shape.has_variable_steps)) fmus) where
-    abbrev unvaried : Stand → Bool
+    abbrev pub unvaried : Stand → Bool
     unvaried s = test s && not s.shape.has_variable_steps
 
-    abbrev fixed : Stepper → Bool
+    abbrev pub fixed : Stepper → Bool
     fixed x = is_asked x && not x.has_variable_steps
 
     places : position unvaried (map stand fmus) ≡ position fixed steppers
     places =
         position-map stand unvaried fmus ∙ position_same (λ f. unvaried (stand f)) (λ f. fixed (stepper_of f)) fmus same ∙ sym (position-map stepper_of fixed fmus)
 
-    may : unfit step (e - t) test (map stand fmus) ≡ None → (i : ℕ) → FixedStep steppers is_asked t step i e → ⊥
+    pub may : unfit step (e - t) test (map stand fmus) ≡ None → (i : ℕ) → FixedStep steppers is_asked t step i e → ⊥
     may fits i f = unfit_none ((e - t) == step) (e - t) step i (position unvaried (map stand fmus)) refl fits f.other_size (places ∙ f.least)
 
     lacks : (i : ℕ) → unfit step (e - t) test (map stand fmus) ≡ Some i → FixedStep steppers is_asked t step i e
@@ -134,16 +134,16 @@ module _ (t step : ℕ) (fmus : List Fmu) where
 
     -- ---- behind the first asking, for the bound b
     module _ (g q : Fmu → ℕ) (waits : Each (λ (f : Fmu). first f.shape ≡ false → g f ≡ t) fmus) (b : ℕ) (later : t < b) (front : List Sent) (asks : Asks t step everyone (comes_first first) b (map (stand_of g q) fmus) front) (ends : AreEnds t fmus front) where
-      abbrev first_points : Fmu → ℕ
+      abbrev pub first_points : Fmu → ℕ
       first_points f = if first f.shape then f.end b else g f
 
-      abbrev first_asks : Fmu → ℕ
+      abbrev pub first_asks : Fmu → ℕ
       first_asks f = if first f.shape then b else q f
 
-      abbrev firsts : List Stand
+      abbrev pub firsts : List Stand
       firsts = map (stand_of first_points first_asks) fmus
 
-      firsts_are : stands_by t (map (stand_of g q) fmus) front ≡ firsts
+      pub firsts_are : stands_by t (map (stand_of g q) fmus) front ≡ firsts
       firsts_are = all_moved t step everyone (comes_first first) b fmus (stand_of g q) front asks ends later
 
       -- where one stands then
@@ -162,7 +162,7 @@ module _ (t step : ℕ) (fmus : List Fmu) where
       first_later : Each (λ (f : Fmu). t < f.end b) fmus
       first_later i f at = (end_of_first i f at (first f.shape) refl).0
 
-      first_within : Each (λ (f : Fmu). f.end b ≤ b) fmus
+      pub first_within : Each (λ (f : Fmu). f.end b ≤ b) fmus
       first_within i f at = (end_of_first i f at (first f.shape) refl).1
 
       -- one that wasn't asked counts as ending at the bound
@@ -185,15 +185,15 @@ module _ (t step : ℕ) (fmus : List Fmu) where
       met_is : reached t b firsts ≡ met steppers b
       met_is = ap (least_or b) ends_here
 
-      may_first : MayAsk steppers t step b
+      pub may_first : MayAsk steppers t step b
       may_first = may (stand_of g q) everyone (λ x. true) b (λ i f at. refl) asks.fits
 
       -- the least end
       module _ (m : ℕ) (m_is : m ≡ reached t b firsts) where
-        m_met : m ≡ met steppers b
+        pub m_met : m ≡ met steppers b
         m_met = m_is ∙ met_is
 
-        low : Each (λ (f : Fmu). m ≤ f.end b) fmus
+        pub low : Each (λ (f : Fmu). m ≤ f.end b) fmus
         low i f at =
             let l = least_low (λ (x : Stepper). x.end b) b steppers i (stepper_of f) (at_map stepper_of fmus i f at) in
             let e = m_met in
@@ -256,10 +256,10 @@ module _ (t step : ℕ) (fmus : List Fmu) where
           pub first_agree : Agree steppers t step b (asks_in firsts) m
           first_agree = first_agree_by (m == b) refl
 
-        abbrev other_stand : Stand → Bool
+        abbrev pub other_stand : Stand → Bool
         other_stand s = ends_elsewhere t b m s
 
-        same_other : Each (λ (f : Fmu). (other_stand (stand_of first_points first_asks f) && not f.shape.has_variable_steps) ≡ (is_other b m (stepper_of f) && not f.shape.has_variable_steps)) fmus
+        pub same_other : Each (λ (f : Fmu). (other_stand (stand_of first_points first_asks f) && not f.shape.has_variable_steps) ≡ (is_other b m (stepper_of f) && not f.shape.has_variable_steps)) fmus
         same_other i f at = ap (λ (n : ℕ). not (n == m) && not f.shape.has_variable_steps) (end_here i f at)
 
         -- one of the others takes no such step: then the bound is another
@@ -278,19 +278,19 @@ module _ (t step : ℕ) (fmus : List Fmu) where
 
         -- the others were asked for it
         module _ (back : List Sent) (asks2 : Asks t step other_stand (is_elsewhere m) m firsts back) (ends2 : AreEnds t fmus back) where
-          may_again : MayAskAgain steppers t step b
+          pub may_again : MayAskAgain steppers t step b
           may_again = subst (λ (n : ℕ). (i : ℕ) → FixedStep steppers (is_other b n) t step i n → ⊥) m_met (may (stand_of first_points first_asks) other_stand (is_other b m) m same_other asks2.fits)
 
-          abbrev next_points : Fmu → ℕ
+          abbrev pub next_points : Fmu → ℕ
           next_points f = if not (first_points f == m) then f.end m else first_points f
 
-          abbrev next_asks : Fmu → ℕ
+          abbrev pub next_asks : Fmu → ℕ
           next_asks f = if not (first_points f == m) then m else first_asks f
 
-          abbrev nexts : List Stand
+          abbrev pub nexts : List Stand
           nexts = map (stand_of next_points next_asks) fmus
 
-          nexts_are : stands_by t firsts back ≡ nexts
+          pub nexts_are : stands_by t firsts back ≡ nexts
           nexts_are = all_moved t step other_stand (is_elsewhere m) m fmus (stand_of first_points first_asks) back asks2 ends2 m_later
 
           next_ends : Each (λ (f : Fmu). not (first_points f == m) ≡ true → IsEnd f.shape t (m - t) (f.end m)) fmus
@@ -412,10 +412,10 @@ module _ (t step : ℕ) (fmus : List Fmu) where
                   let n = one_behind.2 in
                   omega (arith, l, w, n)
 
-              not_bound : met steppers b ≢ b
+              pub not_bound : met steppers b ≢ b
               not_bound = λ e. let l = below in let k = m_met in omega (arith, l, k, e)
 
-              others_apart : OthersEnd steppers b → ⊥
+              pub others_apart : OthersEnd steppers b → ⊥
               others_apart ended = by (first_points none_there.1 == m) refl where
                 here : All (λ (f : Stepper). f.end m ≡ m) (filter (is_other b m) steppers)
                 here = subst (λ (n : ℕ). All (λ (f : Stepper). f.end n ≡ n) (filter (is_other b n) steppers)) (sym m_met) ended
@@ -452,7 +452,7 @@ module _ (t step : ℕ) (fmus : List Fmu) where
                     unnot true h = refl
                     unnot false h = absurd (cc)
 
-              fallen : (c : ℕ) → c ≡ reached t m nexts → c ≡ fallen_bound steppers b
+              pub fallen : (c : ℕ) → c ≡ reached t m nexts → c ≡ fallen_bound steppers b
               fallen c is =
                   is ∙ ap (least_or m) seconds_here
                   ∙ least_of_some second (λ (x : Stepper). x.end m) (is_other b m) m m b steppers some_is rest_is (stepper_of one_behind.0) (one_behind.1.0, at_map stepper_of fmus one_behind.1.0 one_behind.0 one_behind.1.1) (ap not (other_number (one_behind.0.end b) m one_behind.2))

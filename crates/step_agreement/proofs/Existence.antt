@@ -37,7 +37,7 @@ module _ (fmus : List Stepper) (t step : ℕ) where
     met_least : ((met fmus b ≡ b) × (fmus ≡ [])) ⊎ ((x : Stepper) × Holds fmus x × (met fmus b ≡ x.end b))
     met_least = least_is (λ (f : Stepper). f.end b) b fmus
 
-    met_within : (t < met fmus b) × (met fmus b ≤ b)
+    pub met_within : (t < met fmus b) × (met fmus b ≤ b)
     met_within = by met_least where
       by : ((met fmus b ≡ b) × (fmus ≡ [])) ⊎ ((x : Stepper) × Holds fmus x × (met fmus b ≡ x.end b)) → (t < met fmus b) × (met fmus b ≤ b)
       by (inl none) = let e = none.0 in (omega (arith, e, later), omega (arith, e))
@@ -54,7 +54,7 @@ module _ (fmus : List Stepper) (t step : ℕ) where
         unnot false h = refl
 
       -- where one of the others ends elsewhere, the next bound is behind t and below this one
-      fallen_within : Passes (λ (f : Stepper). f.end (met fmus b) == met fmus b) false (others fmus b) → (t < fallen_bound fmus b) × (fallen_bound fmus b < b)
+      pub fallen_within : Passes (λ (f : Stepper). f.end (met fmus b) == met fmus b) false (others fmus b) → (t < fallen_bound fmus b) × (fallen_bound fmus b < b)
       fallen_within missed =
           let one = least_one (λ (f : Stepper). f.end (met fmus b)) b (others fmus b) missed.1 (missed.0, missed.2) in
           let from = filter_from (is_other b (met fmus b)) fmus one.1.0 one.0 one.1.1 in
@@ -66,7 +66,7 @@ module _ (fmus : List Stepper) (t step : ℕ) where
           let e = one.2 in let l = w.0 in let h = v.1 in let k = met_within.1 in
           (omega (arith, e, l), omega (arith, low, h, ne, k))
 
-      later_well : (OthersEnd fmus b → ⊥) → EndWell fmus t step (fallen_bound fmus b)
+      pub later_well : (OthersEnd fmus b → ⊥) → EndWell fmus t step (fallen_bound fmus b)
       later_well not_end i e f asked at = well i e f (AskedLater b i e may apart again not_end asked) at
 
   comes_by : (n b : ℕ) → b ≤ n → t < b → EndWell fmus t step b → ((kept : List ℕ) × (point : ℕ) × Agree fmus t step b kept point) ⊎ ((i e : ℕ) × StopsShort fmus t step b i e)

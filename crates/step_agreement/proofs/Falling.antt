@@ -30,7 +30,7 @@ unequal a b q = grind (arith, nat_tests)
 -- ---- calls alone, whatever is answered
 
 -- the calls of the i-th in a round: one or none
-abbrev OneCall : Call → Bool → List Call → Type 0
+abbrev pub OneCall : Call → Bool → List Call → Type 0
 OneCall call true cs = cs ≡ call ∷ []
 OneCall call false cs = cs ≡ []
 
@@ -80,7 +80,7 @@ module _ {A : Type 0} (test : A → Bool) (call : Call) where
       subst (λ (es : List Exchange). OneCall call (test x) (calls_in es)) (sym (r.others (k + suc i) (λ e. absurd (omega (arith, e)))))
       (subst (λ (n : ℕ). OneCall call (test x) (calls_in (part n r.rest))) place (from_k (k + 1) xs r.rest r.rest_is i x at))
 
-  own_call : (xs : List A) (log : List Sent) → askings log ≡ to_some test call xs → (i : ℕ) (x : A) → slice_get xs i ≡ Some x → OneCall call (test x) (calls_in (part i log))
+  pub own_call : (xs : List A) (log : List Sent) → askings log ≡ to_some test call xs → (i : ℕ) (x : A) → slice_get xs i ≡ Some x → OneCall call (test x) (calls_in (part i log))
   own_call xs log is i x at = let place : 0 + i ≡ i = omega arith in subst (λ (n : ℕ). OneCall call (test x) (calls_in (part n log))) place (from_k 0 xs log is i x at)
 
 -- ---- sizes
@@ -104,7 +104,7 @@ step_falls false last t size cs rest is below h = subst (λ (xs : List Call). Si
 append_calls : (a b : List Exchange) → calls_in (a ++ b) ≡ calls_in a ++ calls_in b
 append_calls a b = map-append (λ (e : Exchange). e.call) a b
 
-split_calls : (i : ℕ) (a b : List Sent) → calls_in (part i (a ++ b)) ≡ calls_in (part i a) ++ calls_in (part i b)
+pub split_calls : (i : ℕ) (a b : List Sent) → calls_in (part i (a ++ b)) ≡ calls_in (part i a) ++ calls_in (part i b)
 split_calls i a b = ap calls_in (part_append i a b) ∙ append_calls (part i a) (part i b)
 
 append_three : (a b c : List Call) → (a ++ b) ++ c ≡ a ++ (b ++ c)

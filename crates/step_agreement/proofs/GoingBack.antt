@@ -94,10 +94,10 @@ module _ (t step : ℕ) where
   same_shapes stands log = same_shapes_from 0 stands log
 
   module _ (b : ℕ) (later : t < b) (stands : List Stand) (front : List Sent) (asks : Asks t step everyone (comes_first (λ (shape : Shape). true)) b stands front) where
-    abbrev mids : List Stand
+    abbrev pub mids : List Stand
     mids = stands_by t stands front
 
-    abbrev m : ℕ
+    abbrev pub m : ℕ
     m = reached t b mids
 
     was : (j : ℕ) (y : Stand) → slice_get mids j ≡ Some y → (s : Stand) × (slice_get stands j ≡ Some s) × (y ≡ stand_by t s (part j front))
@@ -110,16 +110,16 @@ module _ (t step : ℕ) where
         let e = own_is_end t b true w.0 (part j front) (own t step everyone (comes_first (λ (shape : Shape). true)) b stands front asks j w.0 w.1) refl in
         subst (λ (z : Stand). IsEnd z.shape t (b - t) z.point) (sym w.2) (subst (λ (z : Shape). IsEnd z t (b - t) (stand_by t w.0 (part j front)).point) (sym (shape_kept t w.0 (part j front))) e)
 
-    counts_as : (j : ℕ) (y : Stand) → slice_get mids j ≡ Some y → end_at t b y ≡ y.point
+    pub counts_as : (j : ℕ) (y : Stand) → slice_get mids j ≡ Some y → end_at t b y ≡ y.point
     counts_as j y at = let e = (first_end j y at).later in ap (λ (z : Bool). if z then b else y.point) (other_number y.point t (omega (arith, e)))
 
     pub m_low : (j : ℕ) (y : Stand) → slice_get mids j ≡ Some y → m ≤ y.point
     m_low j y at = let l = least_low (end_at t b) b mids j y at in let d = counts_as j y at in omega (arith, l, d)
 
-    abbrev Least : Type 0
+    abbrev pub Least : Type 0
     Least = ((m ≡ b) × (mids ≡ [])) ⊎ ((x : Stand) × Holds mids x × (m ≡ end_at t b x))
 
-    least : Least
+    pub least : Least
     least = least_is (end_at t b) b mids
 
     pub m_later : t < m
@@ -178,7 +178,7 @@ module _ (t step : ℕ) where
     -- ---- the second asking
 
     module _ (back : List Sent) (asks2 : Asks t step (ends_elsewhere t b m) (is_elsewhere m) m mids back) where
-      abbrev lasts : List Stand
+      abbrev pub lasts : List Stand
       lasts = stands_by t mids back
 
       -- one that isn't there at last was elsewhere before, ended early, and behind t

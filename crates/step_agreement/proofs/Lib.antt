@@ -9,3 +9,10 @@ mod Existence
 mod Falling
 mod Saving
 mod GoingBack
+mod Along
+mod Apart
+mod Turns
+mod Underway
+mod Asked
+mod Broken
+mod Alternating

@@ -86,17 +86,17 @@ module _ (m : Machine) (ignores : IgnoresSlot m) (before : MachineState) (slot :
   abbrev Saved : Exchange → Type 0
   Saved e = T.IsSaved m ignores before slot t f f_is e
 
-  leads_none : (s : Stand) (state : MachineState) (asks : Bool) (log : List Sent) → log ≡ [] → Here s state asks → Leads s state asks (part i log)
+  pub leads_none : (s : Stand) (state : MachineState) (asks : Bool) (log : List Sent) → log ≡ [] → Here s state asks → Leads s state asks (part i log)
   leads_none s state asks log is here =
       subst (λ (l : List Sent). Leads s state asks (part i l)) (sym is) (record { ends = λ k d w. absurd (omega (arith, w)); here = here; replies = λ rest h. h })
 
-  leads_asked : (sized test : Stand → Bool) (e : ℕ) (stands : List Stand) (log : List Sent) → Asks t step sized test e stands log → t < e → (s : Stand) → slice_get stands i ≡ Some s → s.shape ≡ f.shape → (state : MachineState) (asks : Bool) → Here s state asks →
+  pub leads_asked : (sized test : Stand → Bool) (e : ℕ) (stands : List Stand) (log : List Sent) → Asks t step sized test e stands log → t < e → (s : Stand) → slice_get stands i ≡ Some s → s.shape ≡ f.shape → (state : MachineState) (asks : Bool) → Here s state asks →
       All Saved (part i log) → RepliesBy m state (part i log) → Leads s state asks (part i log)
   leads_asked sized test e stands log asked later s at shape_is state asks here saved replies =
       T.leads_by m ignores before slot t f f_is e later (test s) s shape_is state asks (part i log) (own t step sized test e stands log asked i s at) here saved replies
 
   -- an asking, and what follows it
-  leads_then : (sized test : Stand → Bool) (e : ℕ) (stands : List Stand) (front back : List Sent) → Asks t step sized test e stands front → t < e → (s : Stand) → slice_get stands i ≡ Some s → s.shape ≡ f.shape → (state : MachineState) (asks : Bool) → Here s state asks →
+  pub leads_then : (sized test : Stand → Bool) (e : ℕ) (stands : List Stand) (front back : List Sent) → Asks t step sized test e stands front → t < e → (s : Stand) → slice_get stands i ≡ Some s → s.shape ≡ f.shape → (state : MachineState) (asks : Bool) → Here s state asks →
       All Saved (part i (front ++ back)) → RepliesBy m state (part i (front ++ back)) →
       ((y : Stand) (z : MachineState) (a : Bool) → slice_get (stands_by t stands front) i ≡ Some y → y.shape ≡ f.shape → Here y z a → All Saved (part i back) → RepliesBy m z (part i back) → Leads y z a (part i back)) →
       Leads s state asks (part i (front ++ back))
@@ -138,7 +138,7 @@ module _ (m : Machine) (ignores : IgnoresSlot m) (before : MachineState) (slot :
 
 -- ---- all of them
 
-each_here : {X : Type 0} (g : ℕ → Component → Machine → MachineState → X) (k i : ℕ) (cs : List Component) (ms : List Machine) (ss : List MachineState) (c : Component) (m : Machine) (s : MachineState) →
+pub each_here : {X : Type 0} (g : ℕ → Component → Machine → MachineState → X) (k i : ℕ) (cs : List Component) (ms : List Machine) (ss : List MachineState) (c : Component) (m : Machine) (s : MachineState) →
     slice_get cs i ≡ Some c → slice_get ms i ≡ Some m → slice_get ss i ≡ Some s → slice_get (each_from g k cs ms ss) i ≡ Some (g (k + i) c m s)
 each_here g k i [] ms ss c m s a b d = absurd (none_some c a)
 each_here g k i (x ∷ cs) [] ss c m s a b d = absurd (none_some m b)

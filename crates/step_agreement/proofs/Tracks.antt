@@ -107,7 +107,7 @@ module _ (m : Machine) (ignores : IgnoresSlot m) (before : MachineState) (slot :
           sized : e ≡ t + (e - t)
           sized = omega (arith, later)
 
-  restored : slot ≡ Some (kept before) → (state : MachineState) → state.slot ≡ slot → after m state C.Restore ≡ with_slot slot before
+  pub restored : slot ≡ Some (kept before) → (state : MachineState) → state.slot ≡ slot → after m state C.Restore ≡ with_slot slot before
   restored is state same =
       ap (λ (o : Option SavedMachine). put_back o state) (same ∙ is) ∙ ap (λ (o : Option SavedMachine). record before { slot = o }) (same)
 

@@ -286,10 +286,7 @@ IsMid C.FreeInstance = ⊥
 IsMid call = Unit {0}
 
 mid_of : (shape : Shape) (p : Phase) (call : Call) → IsRunCall call → Permitted shape p call → IsStanding p.state → IsMid call
-mid_of shape p (C.Instantiate event_mode early_return) r may h = absurd (not_fresh (subst IsStanding may.0 h)) where
-  not_fresh : IsStanding P.Fresh → ⊥
-  not_fresh (inl e) = absurd (cc)
-  not_fresh (inr e) = absurd (cc)
+mid_of shape p (C.Instantiate event_mode early_return) r may h = elim (subst IsStanding may.0 h) [ inl lost ↦ absurd (cc) | inr freed ↦ absurd (cc) ]
 mid_of shape p C.Terminate r may h = absurd (cc)
 mid_of shape p C.FreeInstance r may h = absurd (cc)
 mid_of shape p call r may h = tt
@@ -324,10 +321,7 @@ discarded shape (R.Refused kind status) grade is = ap₂ R.Refused (free_kind ki
 module _ (shape : Shape) (p : Phase) (saved : Bool) (h : IsClosable shape p saved) where
   -- in another state than Step Mode it keeps none
   none_in : (s : InstanceState) → p.state ≡ s → is_over s ≡ false → (s ≡ P.Step → ⊥) → p.slot.is_full ≡ true → ⊥
-  none_in s at living other full = by (h.kept full) where
-    by : IsKept shape p.state saved → ⊥
-    by (inl over) = not_both living (ap is_over (sym at) ∙ over)
-    by (inr kept) = other (sym at ∙ kept.1)
+  none_in s at living other full = elim (h.kept full) [ inl over ↦ not_both living (ap is_over (sym at) ∙ over) | inr kept ↦ other (sym at ∙ kept.1) ]
 
   good_closable : (call : Call) (reply : Reply) → grade_of shape call reply ≡ G.Good → IsMid call → Permitted shape p call → IsClosable shape (entered shape (counted p call) call reply) (saved_by shape call (Ok reply) saved)
   good_closable (C.Instantiate event_mode early_return) reply good m may = absurd m

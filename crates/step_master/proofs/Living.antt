@@ -6,7 +6,7 @@ use Rattle.std.proofs.lemmas.List.{append-nil, map-append, take-append-drop, tak
 use Rattle.std.proofs.lemmas.List.Elements.{All-nil, All-cons, All-head, All-tail, All-take, All-drop}
 use Rattle.std.proofs.lemmas.List.Folds.{list_any-append}
 use Rattle.std.proofs.lemmas.Bool.{and_from, or_from, or_parts}
-use Rattle.std.proofs.Math.Bool.{or-true}
+use Rattle.std.proofs.Math.Bool.{and-or_distrib_right, or-true, or_assoc, or_comm}
 use Rattle.std.proofs.lemmas.Option.{same_Some}
 use Rattle.value_types.specs.declared.shape.Shape.{Shape}
 use Rattle.fmi_calls.specs.declared.call.Call.TheVariants as C
@@ -24,8 +24,7 @@ use Rattle.course_laws.specs.Laws.{calls_in}
 use Rattle.slot_calls.specs.Log.{Has, Sent, Talks, part}
 use Rattle.slot_calls.specs.SavedStates.{IsParted, LeavesState, Talk, saved_after}
 use Rattle.step_master.proofs.Leaving.{counts_of, leaves_one, talk_is, talks_legal, talks_phase, turn_all, turn_comes, turn_talks}
-use Rattle.course_laws.proofs.StatesLeft.{unsaved}
-use Rattle.step_master.proofs.Parted.{Closes, is_parted, turn_closes}
+use Rattle.step_master.proofs.Parted.{Closes, all_ending, is_parted, turn_closes}
 use Rattle.slot_calls.proofs.CallerLemmas.{talks_fixed, talks_on, replies_of}
 use Rattle.step_master.proofs.SeatLemmas.{IsSeat}
 
@@ -101,15 +100,10 @@ module _ (talks : List Talk) (log : List Sent) (row : Row) (r : IsRow talks log 
   all_talks : Talks row.seat.view (talk_in life) life.new
   all_talks = talks_on row.seat.view life.run mid life.closing life.new r.has.talks closing_talks
 
-  closing_all : (b saved : Bool) → saved ≡ false → All IsClosingCall (if b then [] else closing_calls saved)
-  closing_all true saved h = All-nil IsClosingCall
-  closing_all false true h = absurd (cc)
-  closing_all false false h = both where
-    both : All IsClosingCall (closing_calls false)
-    both = All-cons IsClosingCall C.Terminate (C.FreeInstance ∷ []) refl (All-cons IsClosingCall C.FreeInstance [] refl (All-nil IsClosingCall))
-
-  none_saved : row.closing.old.has_saved ≡ false
-  none_saved = r.has.saved ∙ unsaved row.seat.view.fixed.shape row.seat.has_saved life.run r.runs ∙ r.new.unsaved
+  closing_all : (b saved : Bool) → All IsClosingCall (if b then [] else closing_calls saved)
+  closing_all true saved = All-nil IsClosingCall
+  closing_all false false = all_ending IsClosingCall refl refl
+  closing_all false true = All-cons IsClosingCall C.Free (closing_calls false) refl (all_ending IsClosingCall refl refl)
 
   saved_is : row.closing.old.has_saved ≡ saved_after row.seat.view.fixed.shape false life.run
   saved_is = r.has.saved ∙ ap (λ (b : Bool). saved_after row.seat.view.fixed.shape b life.run) r.new.unsaved
@@ -129,7 +123,7 @@ module _ (talks : List Talk) (log : List Sent) (row : Row) (r : IsRow talks log 
     fixed = talks_fixed row.seat.view (talk_in life) life.new all_talks;
     run_calls = r.runs;
     lean = r.lean;
-    closing_calls = turn_all IsClosingCall _ mid life.closing life.new (closing_all r.spared row.closing.old.has_saved none_saved) r.one.turn;
+    closing_calls = turn_all IsClosingCall _ mid life.closing life.new (closing_all r.spared row.closing.old.has_saved) r.one.turn;
     turn = in_turn;
     legal = subst (λ (p : Phase). T.LegalFrom row.seat.view.fixed.shape p (talk_in life)) r.new.first (talks_legal row.seat.view (talk_in life) life.new all_talks);
     phase = talks_phase row.seat.view (talk_in life) life.new all_talks ∙ ap (λ (p : Phase). T.phase_from row.seat.view.fixed.shape p (talk_in life)) r.new.first;
@@ -196,19 +190,8 @@ module _ (talks : List Talk) (log : List Sent) where
   abbrev is_lost_of : ℕ → Instance → Bool
   is_lost_of source i = i.is_fatal && i.source == source
 
-  and_or : (a b c : Bool) → ((a || b) && c) ≡ ((a && c) || (b && c))
-  and_or true b true = refl
-  and_or true b false = both b where
-    both : (b : Bool) → false ≡ (b && false)
-    both true = refl
-    both false = refl
-  and_or false b c = refl
-
   or_mix : (a b c d : Bool) → ((a || b) || (c || d)) ≡ ((a || c) || (b || d))
-  or_mix true b c d = refl
-  or_mix false true true d = refl
-  or_mix false true false d = refl
-  or_mix false false c d = refl
+  or_mix a b c d = sym (or_assoc (a || b) c d) ∙ ap (λ (x : Bool). x || d) (or_assoc a b c ∙ ap (λ (x : Bool). a || x) (or_comm b c) ∙ sym (or_assoc a c b)) ∙ or_assoc (a || c) b d
 
   lost_before : (source : ℕ) (rows : List Row) → AreRows rows → is_source_lost source (befores (closings_of rows)) ≡ any_fatal_run source (lives_of rows)
   lost_before source [] rs = refl
@@ -224,7 +207,7 @@ module _ (talks : List Talk) (log : List Sent) where
       let a = any_fatal (shape_in l) l.run in
       let b = any_fatal (shape_in l) l.closing in
       ap₂ (λ (x y : Bool). x || y)
-      (ap₂ (λ (f : Bool) (n : ℕ). f && n == source) (new_fatal talks log row r) (r.one.source ∙ same_source talks log row r) ∙ and_or a b (l.source == source))
+      (ap₂ (λ (f : Bool) (n : ℕ). f && n == source) (new_fatal talks log row r) (r.one.source ∙ same_source talks log row r) ∙ and-or_distrib_right a b (l.source == source))
       (lost_after source rows (All-tail (IsRow talks log) row rows rs))
       ∙ or_mix (a && l.source == source) (b && l.source == source) (any_fatal_run source (lives_of rows)) (any_fatal_closing source (lives_of rows))
 
@@ -261,10 +244,6 @@ module _ (talks : List Talk) (log : List Sent) where
   at_turn closed (x ∷ cs) (suc k) c order is =
       subst (λ (l : List Instance). ClosesOne (is_source_lost c.old.source (l ++ befores (drop k cs))) c) (append_assoc closed (x.new ∷ []) (afters (take k cs)))
       (at_turn (closed ++ x.new ∷ []) cs k c order.1 is)
-
-  pub one_each : (closed : List Instance) (cs : List Closing) → InOrder closed cs → All (λ (c : Closing). (b : Bool) × ClosesOne b c) cs
-  one_each closed [] order = All-nil (λ (c : Closing). (b : Bool) × ClosesOne b c)
-  one_each closed (c ∷ cs) order = All-cons (λ (x : Closing). (b : Bool) × ClosesOne b x) c cs (_, order.0) (one_each (closed ++ c.new ∷ []) cs order.1)
 
   or_none : (a b c : Bool) → ((a || c) || b) ≡ false → ((a || b) || c) ≡ false
   or_none a b c h = let p = or_parts (a || c) b h in let q = or_parts a c p.0 in or_from (a || b) c (or_from a b q.0 p.1) q.1

@@ -11,6 +11,7 @@ use Rattle.fmu_peer.specs.declared.peer.Exchange.{Exchange}
 use Rattle.fmu_peer.specs.Close.{SendsInTurn, closing_calls}
 use Rattle.fmu_peer.specs.View.{View}
 use Rattle.slot_calls.specs.SavedStates.{IsEnding, IsOfClosing, IsParted, LeavesState, Talk, last_step, saved_after, step_or}
+use Rattle.slot_calls.proofs.CallerLemmas.{first_same, rest_same}
 use Rattle.course_laws.specs.Laws.{calls_in}
 use Rattle.step_master.proofs.Leaving.{turn_all}
 use Rattle.step_master.proofs.SeatLemmas.{all_under}
@@ -22,15 +23,15 @@ pub data Closes (saved : Bool) (sent : List Exchange) : Type 0 where
   Plainly : All IsEnding (calls_in sent) → Closes saved sent
   Freeing : saved ≡ true → (e : Exchange) (rest : List Exchange) → sent ≡ e ∷ rest → e.call ≡ C.Free → All IsEnding (calls_in rest) → Closes saved sent
 
-all_ending : All IsEnding (closing_calls false)
-all_ending = All-cons IsEnding C.Terminate (C.FreeInstance ∷ []) tt (All-cons IsEnding C.FreeInstance [] tt (All-nil IsEnding))
+pub all_ending : (P : Call → Type 0) → P C.Terminate → P C.FreeInstance → All P (closing_calls false)
+all_ending P terminate free = All-cons P C.Terminate (C.FreeInstance ∷ []) terminate (All-cons P C.FreeInstance [] free (All-nil P))
 
 pub turn_closes : (spared saved : Bool) (v : View) (sent : List Exchange) (w : View) → SendsInTurn (if spared then [] else closing_calls saved) v sent w → Closes saved sent
 turn_closes true saved v sent w turn = Plainly (turn_all IsEnding [] v sent w (All-nil IsEnding) turn)
-turn_closes false false v sent w turn = Plainly (turn_all IsEnding (closing_calls false) v sent w all_ending turn)
+turn_closes false false v sent w turn = Plainly (turn_all IsEnding (closing_calls false) v sent w (all_ending IsEnding tt tt) turn)
 turn_closes false true v sent w (inl (may, (result, rest, mid, is, asked, more))) =
-    Freeing refl (record { call = C.Free; result = result }) rest is refl (turn_all IsEnding (closing_calls false) mid rest w all_ending more)
-turn_closes false true v sent w (inr (never, more)) = Plainly (turn_all IsEnding (closing_calls false) v sent w all_ending more)
+    Freeing refl (record { call = C.Free; result = result }) rest is refl (turn_all IsEnding (closing_calls false) mid rest w (all_ending IsEnding tt tt) more)
+turn_closes false true v sent w (inr (never, more)) = Plainly (turn_all IsEnding (closing_calls false) v sent w (all_ending IsEnding tt tt) more)
 
 -- ---- whose each is
 
@@ -79,19 +80,10 @@ module _ (talks : List Talk) (shape : Shape) (run closing : List Exchange) (runs
   of_closing (Freeing held f more sent frees all) [] rest e is =
       let same : f ∷ more ≡ e ∷ rest = sym sent ∙ is in
       subst (λ (l : List Exchange). IsOfClosing talks l e.call rest) (sym (append-nil run))
-      (subst (λ (c : Call). IsOfClosing talks run c rest) (sym frees ∙ ap (λ (x : Exchange). x.call) (heads same))
-      (all_under (λ (x : Exchange). x.call) IsEnding rest (calls_in rest) refl (subst (λ (l : List Exchange). All IsEnding (calls_in l)) (rests same) all), leaves.held held))
-    where
-      heads : {a b : Exchange} {xs ys : List Exchange} → a ∷ xs ≡ b ∷ ys → a ≡ b
-      heads h = cc
-
-      rests : {a b : Exchange} {xs ys : List Exchange} → a ∷ xs ≡ b ∷ ys → xs ≡ ys
-      rests h = cc
+      (subst (λ (c : Call). IsOfClosing talks run c rest) (sym frees ∙ ap (λ (x : Exchange). x.call) (first_same f e more rest same))
+      (all_under (λ (x : Exchange). x.call) IsEnding rest (calls_in rest) refl (subst (λ (l : List Exchange). All IsEnding (calls_in l)) (rest_same f e more rest same) all), leaves.held held))
   of_closing (Freeing held f more sent frees all) (x ∷ front) rest e is =
-      ending_of_closing talks (run ++ x ∷ front) e.call rest (ending_at front rest e more (rests (sym sent ∙ is)) all)
-    where
-      rests : {a b : Exchange} {xs ys : List Exchange} → a ∷ xs ≡ b ∷ ys → xs ≡ ys
-      rests h = cc
+      ending_of_closing talks (run ++ x ∷ front) e.call rest (ending_at front rest e more (rest_same f x more (front ++ e ∷ rest) (sym sent ∙ is)) all)
 
   -- each call of the run is the run's, and each of the closing the closing's
   pub is_parted : Closes (saved_after shape false run) closing → IsParted talks run closing

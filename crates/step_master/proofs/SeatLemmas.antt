@@ -1,9 +1,9 @@
 -- Peers in the slots of their components.
-use Rattle.std.proofs.Common.{◌≡◌, ℕ, suc, ◌+◌, ◌<◌, false, List, [], ◌∷◌, ◌++◌, refl, sym, ap, ap₂, ◌∙◌, subst, append_assoc, arith, length, get_or, map, take, drop, drop-cons, add-one, zero, ◌≤◌, ◌^◌, Option, Some}
+use Rattle.std.proofs.Common.{◌≡◌, inl, inr, ℕ, suc, ◌+◌, ◌<◌, false, List, [], ◌∷◌, ◌++◌, refl, sym, ap, ap₂, ◌∙◌, subst, append_assoc, arith, length, get_or, map, take, drop, drop-cons, add-one, zero, ◌≤◌, ◌^◌, Option, Some}
 use Rattle.std.specs.Prelude.{All, IfSome, Some}
 use Rattle.std.specs.List.{slice_get}
 use Rattle.std.proofs.lemmas.List.{get_or-map, length-map, length-replicate, map-append}
-use Rattle.std.proofs.lemmas.List.Elements.{All-cons, All-nil}
+use Rattle.std.proofs.lemmas.List.Elements.{All-cons, All-map, All-nil}
 use Rattle.std.proofs.Math.Seq.{take-append_seam}
 use Rattle.fmi_calls.specs.declared.call.Call.{Call}
 use Rattle.fmi_calls.specs.declared.phase.Phase.{Phase}
@@ -14,19 +14,17 @@ use Rattle.fmu_peer.specs.CloseAll.{Closing, ClosesAll, InOrder, Instance, after
 use Rattle.fmu_peer.specs.Mode.{instantiate_of}
 use Rattle.fmu_peer.specs.View.{Fixed, View}
 use Rattle.system_model.specs.declared.system.Component.{Component}
-use Rattle.calling_sequence.specs.Place.{IsMade, IsPlain}
+use Rattle.calling_sequence.specs.Place.{IsMade}
 use Rattle.step_master.specs.Seats.{IsFresh, seat, seated, views_of}
 use Rattle.step_master.specs.System.{IsNew, ArePeersOf, TellTheirs}
 use Rattle.slot_calls.proofs.CallerLemmas.{Led}
 use Rattle.calling_sequence.proofs.Phases.{unmarked_is}
-use Rattle.std.proofs.lemmas.Option.{get_or_from_slice_get, slice_get_within}
+use Rattle.std.proofs.lemmas.Option.{slice_get_cases}
 use Rattle.value_types.specs.declared.shape.Shape.{Shape}
-use Rattle.fmu_peer.specs.Machine.{IsLawful, IsMachineOf, Machine}
+use Rattle.fmu_peer.specs.Machine.{IgnoresSlot, IsLawful, IsMachineOf, Machine}
 use Rattle.system_model.specs.declared.system.System.{System}
-use Rattle.calling_sequence.specs.Systems.{IsBuilt}
 use Rattle.slot_calls.specs.Stage.{shapes, shapes_of}
 use Rattle.system_model.specs.Sound.{IsSound}
-use Rattle.fmi_calls.specs.declared.phase.InstanceState.TheVariants as P
 
 -- one more is given, and one fewer is left
 pub given_more : {A B : Type 0} (f : A → B) (whole done more : List B) (left rest : List A) (x : A) (y : B) → whole ≡ done ++ map f left → left ≡ x ∷ rest → y ≡ f x → more ≡ done ++ y ∷ [] → whole ≡ more ++ map f rest
@@ -61,21 +59,31 @@ pub record IsSeat (i : Instance) : Type 0 where
   pub unsaved : i.has_saved ≡ false
   pub calm : i.is_fatal ≡ false
 
-pub are_seats : (cs : List Component) (vs : List View) → length vs ≡ length cs → ((i : ℕ) (c : Component) (v : View) → slice_get cs i ≡ Some c → slice_get vs i ≡ Some v → IsNew c.shape v) → All IsSeat (seated cs vs)
-are_seats [] vs e h = All-nil IsSeat
-are_seats (c ∷ cs) [] e h = absurd (omega (arith, e))
-are_seats (c ∷ cs) (v ∷ vs) e h =
-    let new = h 0 c v refl refl in
-    All-cons IsSeat (seat c v) (seated cs vs) (record { first = new.phase ∙ ap fresh (sym new.shape_is); untold = new.talk; unsaved = refl; calm = refl })
-    (are_seats cs vs (omega (arith, e)) (λ i d w at_d at_w. h (suc i) d w at_d at_w))
+-- what holds of each component's seat holds of each
+all_seated : (P : Instance → Type 0) (cs : List Component) (vs : List View) → ((i : ℕ) (c : Component) (v : View) → slice_get cs i ≡ Some c → slice_get vs i ≡ Some v → P (seat c v)) → All P (seated cs vs)
+all_seated P [] vs h = All-nil P
+all_seated P (c ∷ cs) [] h = All-nil P
+all_seated P (c ∷ cs) (v ∷ vs) h = All-cons P (seat c v) (seated cs vs) (h 0 c v refl refl) (all_seated P cs vs (λ i d w at_d at_w. h (suc i) d w at_d at_w))
+
+pub are_seats : (cs : List Component) (vs : List View) → ((i : ℕ) (c : Component) (v : View) → slice_get cs i ≡ Some c → slice_get vs i ≡ Some v → IsNew c.shape v) → All IsSeat (seated cs vs)
+are_seats cs vs h = all_seated IsSeat cs vs (λ i c v at_c at_v. let new = h i c v at_c at_v in record { first = new.phase ∙ ap fresh (sym new.shape_is); untold = new.talk; unsaved = refl; calm = refl })
+
+-- what each seat has of its component, all have
+map_seated : {A : Type 0} (f : Instance → A) (g : Component → A) (cs : List Component) (vs : List View) → length vs ≡ length cs →
+    ((i : ℕ) (c : Component) (v : View) → slice_get cs i ≡ Some c → slice_get vs i ≡ Some v → f (seat c v) ≡ g c) → map f (seated cs vs) ≡ map g cs
+map_seated f g [] vs e h = refl
+map_seated f g (c ∷ cs) [] e h = absurd (omega (arith, e))
+map_seated f g (c ∷ cs) (v ∷ vs) e h = ap₂ ◌∷◌ (h 0 c v refl refl) (map_seated f g cs vs (omega (arith, e)) (λ i d w at_d at_w. h (suc i) d w at_d at_w))
 
 pub sources_seated : (cs : List Component) (vs : List View) → length vs ≡ length cs → map (λ (i : Instance). i.source) (seated cs vs) ≡ map (λ (c : Component). c.source.0) cs
-sources_seated [] vs e = refl
-sources_seated (c ∷ cs) [] e = absurd (omega (arith, e))
-sources_seated (c ∷ cs) (v ∷ vs) e = ap (λ (l : List ℕ). c.source.0 ∷ l) (sources_seated cs vs (omega (arith, e)))
+sources_seated cs vs e = map_seated (λ (i : Instance). i.source) (λ (c : Component). c.source.0) cs vs e (λ i c v at_c at_v. refl)
 
 pub length_seated : (cs : List Component) (vs : List View) → length cs ≡ length vs → length (seated cs vs) ≡ length vs
 length_seated cs vs e = sym (length-map (seated cs vs) (λ (i : Instance). i.view)) ∙ ap length (views_seated cs vs (sym e))
+
+-- the element at a place
+pub got : {X : Type 0} (xs : List X) (k : ℕ) → k < length xs → (x : X) × (slice_get xs k ≡ Some x)
+got xs k w = elim (slice_get_cases xs k).1 [ inl h ↦ (h.0, h.2) | inr h ↦ absurd (let past = h.0 in omega (arith, w, past)) ]
 
 -- an element of a mapped list is that of one
 pub unmapped : {A B : Type 0} (f : A → B) (xs : List A) (k : ℕ) (y : B) → slice_get (map f xs) k ≡ Some y → (x : A) × (slice_get xs k ≡ Some x) × (y ≡ f x)
@@ -93,19 +101,11 @@ all_under f P xs ys same all = λ k d w.
 
 -- what holds of each component's peer holds of each
 all_views : (P : View → Type 0) (cs : List Component) (vs : List View) → length vs ≡ length cs → ((i : ℕ) (c : Component) (v : View) → slice_get cs i ≡ Some c → slice_get vs i ≡ Some v → P v) → All P vs
-all_views P cs [] e h = All-nil P
-all_views P [] (v ∷ vs) e h = absurd (omega (arith, e))
-all_views P (c ∷ cs) (v ∷ vs) e h = All-cons P v vs (h 0 c v refl refl) (all_views P cs vs (omega (arith, e)) (λ i d w at_d at_w. h (suc i) d w at_d at_w))
-
-shapes_seated : (cs : List Component) (vs : List View) → length vs ≡ length cs → ((i : ℕ) (c : Component) (v : View) → slice_get cs i ≡ Some c → slice_get vs i ≡ Some v → v.fixed.shape ≡ c.shape) →
-    shapes (seated cs vs) ≡ map (λ (c : Component). c.shape) cs
-shapes_seated [] vs e h = refl
-shapes_seated (c ∷ cs) [] e h = absurd (omega (arith, e))
-shapes_seated (c ∷ cs) (v ∷ vs) e h = ap₂ ◌∷◌ (h 0 c v refl refl) (shapes_seated cs vs (omega (arith, e)) (λ i d w at_d at_w. h (suc i) d w at_d at_w))
+all_views P cs vs e h = subst (All P) (views_seated cs vs e) (All-map P (λ (i : Instance). i.view) (seated cs vs) (all_seated (λ (i : Instance). P i.view) cs vs h))
 
 module _ (system : System) (views : List View) (peers : ArePeersOf system views) where
   pub seated_shapes : shapes (seated system.components views) ≡ shapes_of system
-  seated_shapes = shapes_seated system.components views peers.len (λ i c v at_c at_v. (peers.each i c v at_c at_v).shape_is)
+  seated_shapes = map_seated (λ (i : Instance). i.view.fixed.shape) (λ (c : Component). c.shape) system.components views peers.len (λ i c v at_c at_v. (peers.each i c v at_c at_v).shape_is)
 
   pub slots_length : {S : Type 0} (f : S → Instance) (slots : List S) → map f slots ≡ seated system.components views → length slots ≡ length system.components
   slots_length f slots same = sym (length-map slots f) ∙ ap length same ∙ length_seated system.components views (sym peers.len) ∙ peers.len
@@ -114,33 +114,26 @@ module _ (system : System) (views : List View) (peers : ArePeersOf system views)
   peers_fresh view ps same = all_under view (λ (v : View). v.phase ≡ fresh v.fixed.shape) ps views (sym same)
       (all_views (λ (v : View). v.phase ≡ fresh v.fixed.shape) system.components views peers.len (λ i c v at_c at_v. let new = peers.each i c v at_c at_v in new.phase ∙ ap fresh (sym new.shape_is)))
 
-  module _ (built : IsBuilt system) where
-    new_is_fresh : (i : ℕ) (c : Component) (v : View) → slice_get system.components i ≡ Some c → slice_get views i ≡ Some v → IsFresh v
-    new_is_fresh i c v at_c at_v =
-        let new = peers.each i c v at_c at_v in
-        let no_early : c.shape.might_return_early ≡ false = subst (λ (d : Component). d.shape.might_return_early ≡ false)
-        (get_or_from_slice_get system.components i c c at_c) (built.no_early i c (slice_get_within system.components i c at_c)) in
-        record {
-          plain = subst IsPlain (sym new.shape_is) no_early;
-          phase = new.phase ∙ ap fresh (sym new.shape_is);
-        }
+  new_is_fresh : (i : ℕ) (c : Component) (v : View) → slice_get system.components i ≡ Some c → slice_get views i ≡ Some v → IsFresh v
+  new_is_fresh i c v at_c at_v = let new = peers.each i c v at_c at_v in record { phase = new.phase ∙ ap fresh (sym new.shape_is) }
 
-    pub slots_fresh : {S : Type 0} (f : S → Instance) (slots : List S) → map f slots ≡ seated system.components views → All (λ (s : S). IsFresh (f s).view) slots
-    slots_fresh f slots same = all_under f (λ (i : Instance). IsFresh i.view) slots (seated system.components views) same
-        (all_under (λ (i : Instance). i.view) IsFresh (seated system.components views) views (views_seated system.components views peers.len) (all_views IsFresh system.components views peers.len new_is_fresh))
+  pub slots_fresh : {S : Type 0} (f : S → Instance) (slots : List S) → map f slots ≡ seated system.components views → All (λ (s : S). IsFresh (f s).view) slots
+  slots_fresh f slots same = all_under f (λ (i : Instance). IsFresh i.view) slots (seated system.components views) same
+      (all_under (λ (i : Instance). i.view) IsFresh (seated system.components views) views (views_seated system.components views peers.len) (all_views IsFresh system.components views peers.len new_is_fresh))
 
 pub components_few : (system : System) → IsSound system → length system.components ≤ 2 ^ 32
 components_few system sound = let few = sound.components.few in omega (arith, few)
 
 -- what peers tell are machines of their shapes
-pub tell_theirs : {L : Type 0} (view : L → View) (ps : List L) → ((p : L) → IfSome (view p).fixed.machine (IsMachineOf (view p).fixed.shape)) → ((p : L) → IfSome (view p).fixed.machine (IsLawful (view p).fixed.shape)) →
+pub tell_theirs : {L : Type 0} (view : L → View) (ps : List L) → ((p : L) → IfSome (view p).fixed.machine (IsMachineOf (view p).fixed.shape)) → ((p : L) → IfSome (view p).fixed.machine (IsLawful (view p).fixed.shape)) → ((p : L) → IfSome (view p).fixed.machine IgnoresSlot) →
     (system : System) → ArePeersOf system (map view ps) → TellTheirs system (map view ps)
-tell_theirs view ps machine lawful system peers i c v m at_c at_v tells =
+tell_theirs view ps machine lawful ignores system peers i c v m at_c at_v tells =
     let p = unmapped view ps i v at_v in
     let shape_is : (view p.0).fixed.shape ≡ c.shape = ap (λ (w : View). w.fixed.shape) (sym p.2) ∙ (peers.each i c v at_c at_v).shape_is in
     let told : (view p.0).fixed.machine ≡ Some m = ap (λ (w : View). w.fixed.machine) (sym p.2) ∙ tells in (
       subst (λ (s : Shape). IsMachineOf s m) shape_is (subst (λ (o : Option Machine). IfSome o (IsMachineOf (view p.0).fixed.shape)) told (machine p.0)),
       subst (λ (s : Shape). IsLawful s m) shape_is (subst (λ (o : Option Machine). IfSome o (IsLawful (view p.0).fixed.shape)) told (lawful p.0)),
+      subst (λ (o : Option Machine). IfSome o IgnoresSlot) told (ignores p.0),
     )
 
 -- ---- closing
@@ -168,7 +161,6 @@ pub start_leads : (v w : View) (e : Exchange) → IsFresh v → Led v e w → e.
 start_leads v w e h l is =
     let phase : w.phase ≡ entered v.fixed.shape (counted v.phase e.call) (instantiate_of v.fixed.shape) l.reply = l.phase ∙ ap (λ (c : Call). entered v.fixed.shape (counted v.phase e.call) c l.reply) is in
     record {
-      plain = subst (λ (f : Fixed). IsPlain f.shape) (sym l.fixed) h.plain;
       state = ap (λ (p : Phase). p.state) phase;
       unstepped = ap (λ (p : Phase). p.first_size) phase ∙ ap (λ (p : Phase). p.first_size) h.phase;
       clear = record {

@@ -1,12 +1,12 @@
 -- What the lives of told machines say of their run.
-use Rattle.std.proofs.Common.{◌≡◌, ℕ, ◌<◌, inl, inr, Bool, true, List, [], ◌∷◌, ◌++◌, Some, refl, sym, ap, ◌∙◌, subst, append_assoc, arith, length, get_or}
+use Rattle.std.proofs.Common.{◌≡◌, ℕ, ◌<◌, inl, inr, Bool, true, List, ◌∷◌, ◌++◌, Some, refl, sym, ap, ◌∙◌, subst, append_assoc, arith, length}
 use Rattle.std.specs.Prelude.{◌||◌, ◌==◌}
 use Rattle.std.specs.List.{list_any, slice_get}
 use Rattle.std.specs.Option.{option_map}
 use Rattle.std.proofs.lemmas.List.{length-map}
 use Rattle.std.proofs.lemmas.List.Folds.{list_any-append}
 use Rattle.std.proofs.Math.Bool.{or-true}
-use Rattle.std.proofs.lemmas.Option.{same_Some, slice_get-get_or, slice_get-map, slice_get_within}
+use Rattle.std.proofs.lemmas.Option.{get_or_from_slice_get, same_Some, slice_get-map, slice_get_within}
 use Rattle.fmu_peer.specs.declared.ended.Why.{Why}
 use Rattle.fmu_peer.specs.declared.peer.Exchange.{Exchange}
 use Rattle.fmu_peer.specs.Answer.{IsLink}
@@ -25,12 +25,12 @@ use Rattle.slot_calls.specs.Log.{Sent, part}
 use Rattle.slot_calls.specs.Replies.{AreReplies, RepliesBy}
 use Rattle.slot_calls.specs.Stage.{IsAnswered, shapes_of}
 use Rattle.slot_calls.proofs.CallerLemmas.{part_append, same, takes, replies_front}
+use Rattle.step_agreement.specs.OverMachines.{IgnoreSlots}
 use Rattle.calling_sequence.specs.declared.run_end.RunEnd.{RunEnd}
 use Rattle.calling_sequence.specs.declared.run_end.RunEnd.TheVariants as E
 use Rattle.calling_sequence.specs.Calls.{making}
 use Rattle.calling_sequence.specs.Ends.{EndsBy}
 use Rattle.calling_sequence.specs.Plans.{IsPlan}
-use Rattle.calling_sequence.specs.Systems.{IsBuilt}
 use Rattle.machine_courses.specs.Laws as Machines
 use Rattle.machine_courses.specs.Laws.{RunByLog, TraceByLog, UnmadeByLog}
 use Rattle.machine_courses.specs.Outcomes.{IsLost}
@@ -38,6 +38,7 @@ use Rattle.machine_courses.specs.Outcomes as Outcomes
 use Rattle.step_master.specs.Lived.{Account, Lived, Unmade}
 use Rattle.step_master.specs.Lives.{AreLives, IsLife, Life, is_unanswered, talk_in}
 use Rattle.step_master.specs.System.{TellTheirs}
+use Rattle.step_master.proofs.SeatLemmas.{got}
 use Rattle.step_master.specs.Traced.{IsRunOf, SomeRose, TellMachines, ToldRun, ToldTrace, ToldUnmade, TracesWell, output_of}
 
 -- ---- what the lives tell of the machines
@@ -51,19 +52,15 @@ module _ (system : System) (olds news : List View) (log : List Sent) (lives : Li
 
   -- the life of a component
   life_at : (k : ℕ) → k < length system.components → (life : Life) × (slice_get lives k ≡ Some life) × IsLife life × (slice_get olds k ≡ Some life.old) × (slice_get news k ≡ Some life.new)
-  life_at k inside = by lives refl where
-    by : (ls : List Life) → ls ≡ lives → (life : Life) × (slice_get lives k ≡ Some life) × IsLife life × (slice_get olds k ≡ Some life.old) × (slice_get news k ≡ Some life.new)
-    by [] same = absurd (let e = ap length same in let f = len_lives in omega (arith, e, f, inside))
-    by (l ∷ ls) same =
-        let there : k < length lives = (let e = len_lives in omega (arith, e, inside)) in
-        let life = get_or lives k l in
-        let at = slice_get-get_or lives k l there in (
-          life,
-          at,
-          are.each k l there,
-          ap (λ (vs : List View). slice_get vs k) (sym are.olds_are) ∙ slice_get-map (λ (x : Life). x.old) lives k ∙ ap (option_map (λ (x : Life). x.old)) at,
-          ap (λ (vs : List View). slice_get vs k) (sym are.news_are) ∙ slice_get-map (λ (x : Life). x.new) lives k ∙ ap (option_map (λ (x : Life). x.new)) at,
-        )
+  life_at k inside =
+      let x = got lives k (let e = len_lives in omega (arith, e, inside)) in
+      let life = x.0 in (
+        life,
+        x.1,
+        subst IsLife (get_or_from_slice_get lives k life life x.1) (are.each k life (slice_get_within lives k life x.1)),
+        ap (λ (vs : List View). slice_get vs k) (sym are.olds_are) ∙ slice_get-map (λ (y : Life). y.old) lives k ∙ ap (option_map (λ (y : Life). y.old)) x.1,
+        ap (λ (vs : List View). slice_get vs k) (sym are.news_are) ∙ slice_get-map (λ (y : Life). y.new) lives k ∙ ap (option_map (λ (y : Life). y.new)) x.1,
+      )
 
   -- a call that got no reply raised its peer's count
   rose_of : (why : Why) → IsLost (length system.components) log why → SomeRose olds news
@@ -89,8 +86,20 @@ module _ (r : Run) (olds news : List View) (log : List Sent) (lives : List Life)
     count = tell.count ∙ len_olds r.system olds news log lives are;
     each = λ i c m at_c at_m.
         let found = life_at r.system olds news log lives are i (slice_get_within r.system.components i c at_c) in
-        theirs i c found.0.old m at_c found.3 (tell.each i found.0.old m found.3 at_m).0;
+        let its = theirs i c found.0.old m at_c found.3 (tell.each i found.0.old m found.3 at_m).0 in
+        (its.0, its.1);
   }
+
+  -- they answer the same whatever state is saved
+  ignore_slots : TellTheirs r.system olds → IgnoreSlots r
+  ignore_slots theirs i m at_m =
+      let all = tell.count in
+      let told = len_olds r.system olds news log lives are in
+      let within = slice_get_within r.machines i m at_m in
+      let inside : i < length r.system.components = omega (arith, all, told, within) in
+      let c = got r.system.components i inside in
+      let found = life_at r.system olds news log lives are i inside in
+      (theirs i c.0 found.0.old m c.1 found.3 (tell.each i found.0.old m found.3 at_m).0).2
 
   -- the replies of each are its own
   replies_of : AreReplies r (first_states r) log
@@ -103,16 +112,16 @@ module _ (r : Run) (olds news : List View) (log : List Sent) (lives : List Life)
 
 -- ---- the laws, from those of a log
 
-module _ (a : Account) (r : Run) (sound : IsSound a.system) (built : IsBuilt a.system) (plan : IsPlan a.plan) (run : IsRunOf a.system a.bound a.olds r) (plan_is : r.plan ≡ a.plan) (lived : Lived a) where
+module _ (a : Account) (r : Run) (sound : IsSound a.system) (plan : IsPlan a.plan) (run : IsRunOf a.system a.bound a.olds r) (plan_is : r.plan ≡ a.plan) (lived : Lived a) where
   own_lives : AreLives r.system a.olds a.news (lived.made ++ lived.log) lived.lives
   own_lives = subst (λ (s : System). AreLives s a.olds a.news (lived.made ++ lived.log) lived.lives) (sym run.system_is) lived.are
 
   own_run : Machines.IsRunOf r lived.made lived.log lived.is a.end (output_of a)
   own_run = record {
     sound = subst IsSound (sym run.system_is) sound;
-    built = subst IsBuilt (sym run.system_is) built;
     plan = subst IsPlan (sym plan_is) plan;
     machines = are_machines r a.olds a.news (lived.made ++ lived.log) lived.lives own_lives run.tell (subst (λ (s : System). TellTheirs s a.olds) (sym run.system_is) lived.machines);
+    ignore = ignore_slots r a.olds a.news (lived.made ++ lived.log) lived.lives own_lives run.tell (subst (λ (s : System). TellTheirs s a.olds) (sym run.system_is) lived.machines);
     making = subst (λ (s : System). IsAnswered (shapes_of s) (making s) lived.made) (sym run.system_is) lived.making;
     replies = replies_of r a.olds a.news (lived.made ++ lived.log) lived.lives own_lives run.tell;
     ends = subst (λ (s : System). EndsBy s r.bound r.plan lived.log lived.is a.end a.before a.after) (sym run.system_is)
@@ -143,14 +152,14 @@ module _ (a : Account) (r : Run) (sound : IsSound a.system) (built : IsBuilt a.s
   traces end h = h
 
 pub told_run : RunByLog → ToldRun
-told_run law a r sound built plan run plan_is lived = law r lived.made lived.log lived.is a.end (output_of a) (own_run a r sound built plan run plan_is lived)
+told_run law a r sound plan run plan_is lived = law r lived.made lived.log lived.is a.end (output_of a) (own_run a r sound plan run plan_is lived)
 
 pub told_trace : TraceByLog → ToldTrace
-told_trace law a r sound built binds plan run plan_is well lived =
-    traces a r sound built plan run plan_is lived a.end
+told_trace law a r sound binds plan run plan_is well lived =
+    traces a r sound plan run plan_is lived a.end
     (law r lived.made lived.log lived.is a.end (output_of a)
     (subst (λ (s : System). BindsParameters s r.bound) (sym run.system_is) (subst (BindsParameters a.system) (sym run.bound_is) binds))
-    well (own_run a r sound built plan run plan_is lived))
+    well (own_run a r sound plan run plan_is lived))
 
 pub told_unmade : UnmadeByLog → ToldUnmade
 told_unmade law system bound olds news bad r sound run well u = by (subst (λ (s : System). Unmade s olds bad news) (sym run.system_is) u) where

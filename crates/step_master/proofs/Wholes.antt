@@ -1,5 +1,5 @@
 -- From the first call of each peer to its closing.
-use Rattle.std.proofs.Common.{◌≡◌, inl, inr, ℕ, ◌<◌, Bool, true, false, List, [], ◌∷◌, ◌++◌, Option, Some, None, Result, refl, sym, ap, ◌∙◌, subst, arith, length, get_or, map, take, drop}
+use Rattle.std.proofs.Common.{◌≡◌, inl, inr, ℕ, ◌<◌, Bool, true, false, List, [], ◌∷◌, ◌++◌, Option, Some, None, Result, sym, ap, ◌∙◌, subst, arith, length, get_or, map, take, drop}
 use Rattle.std.specs.Prelude.{All, ◌||◌}
 use Rattle.std.specs.List.{list_any, slice_get}
 use Rattle.std.specs.Option.{option_map}
@@ -41,10 +41,10 @@ use Rattle.step_master.specs.Lives.{AreGood, AreLives, EndsLives, IsLeastBad, Is
 use Rattle.step_master.specs.Master.{Closes}
 use Rattle.step_master.specs.Seats.{seated, views_of}
 use Rattle.step_master.specs.System.{ArePeersOf}
-use Rattle.step_master.proofs.Living.{IsRow, Row, at_turn, closings_are, is_life, life_of, one_each, row_at, row_closed, row_parted, row_siblings, rows_from, seats_are, turn_open}
+use Rattle.step_master.proofs.Living.{IsRow, Row, at_turn, closings_are, is_life, life_of, row_at, row_closed, row_parted, row_siblings, rows_from, seats_are, turn_open}
 use Rattle.step_master.proofs.Leaving.{closed_over}
 use Rattle.step_master.proofs.Parted.{closing_steps, turn_closes}
-use Rattle.step_master.proofs.SeatLemmas.{IsSeat, are_seats, length_seated, seated_shapes, sources_seated, unmapped, views_seated}
+use Rattle.step_master.proofs.SeatLemmas.{IsSeat, are_seats, got, length_seated, seated_shapes, sources_seated, unmapped, views_seated}
 
 -- what a mapped list has at a place
 mapped : {A B : Type 0} (f : A → B) (xs : List A) (k : ℕ) (x : A) → slice_get xs k ≡ Some x → slice_get (map f xs) k ≡ Some (f x)
@@ -79,10 +79,18 @@ module _ (system : System) (olds : List View) (peers : ArePeersOf system olds) (
   len_rows = sym (length-map rows (λ (r : Row). r.seat)) ∙ ap length (seats_are 0 seats closings beside) ∙ len_seats
 
   row_here : (k : ℕ) → k < length system.components → (row : Row) × (slice_get rows k ≡ Some row)
-  row_here k w = by rows refl where
-    by : (rs : List Row) → rs ≡ rows → (row : Row) × (slice_get rows k ≡ Some row)
-    by [] same = absurd (let e = ap length same in let f = len_rows in omega (arith, e, f, w))
-    by (r ∷ rs) same = (get_or rows k r, slice_get-get_or rows k r (let f = len_rows in omega (arith, f, w)))
+  row_here k w = got rows k (let e = len_rows in omega (arith, e, w))
+
+  -- the run of a place, by what holds of its part for its shape
+  run_by : (P : Shape → List Exchange → Type 0) (k : ℕ) (row : Row) → slice_get rows k ≡ Some row → ((d : Shape) → P (get_or (shapes_of system) k d) (part k log)) → P (shape_in (life_of log row)) (life_of log row).run
+  run_by P k row at h =
+      let r = row_at 0 seats closings k row at in
+      let shape = shape_in (life_of log row) in
+      let shape_is : get_or (shapes_of system) k shape ≡ shape =
+      ap (λ (l : List Shape). get_or l k shape) (sym (seated_shapes system olds peers))
+      ∙ get_or_from_slice_get (shapes seats) k shape shape (mapped (λ (i : Instance). i.view.fixed.shape) seats k row.seat r.seat) in
+      subst (λ (s : Shape). P s (part row.number log)) shape_is
+      (subst (λ (n : ℕ). P (get_or (shapes_of system) k shape) (part n log)) (sym (r.number ∙ omega arith)) (h shape))
 
   -- the talks end with the steps of their runs
   ends_as : EndAs system log talks
@@ -92,9 +100,7 @@ module _ (system : System) (olds : List View) (peers : ArePeersOf system olds) (
     steps = λ k d w.
         let x = row_here k w in
         let r = row_at 0 seats closings k x.0 x.1 in
-        let inside = slice_get_within closings k x.0.closing r.closing in
-        let one : (b : Bool) × ClosesOne b x.0.closing =
-        subst (λ (c : Closing). (b : Bool) × ClosesOne b c) (get_or_from_slice_get closings k x.0.closing x.0.closing r.closing) (one_each talks log [] closings closes.closes.order k x.0.closing inside) in
+        let one : (b : Bool) × ClosesOne b x.0.closing = (_, at_turn talks log [] closings k x.0.closing closes.closes.order r.closing) in
         ap (λ (t : Talk). last_step None t.exchanges) (get_or_from_slice_get talks k (record { shape = shape_in (life_of log x.0); exchanges = talk_in (life_of log x.0) }) d
         (mapped (λ (l : Life). record { shape = shape_in l; exchanges = talk_in l }) lives k (life_of log x.0) (mapped (life_of log) rows k x.0 x.1)))
         ∙ last_on None (part x.0.number log) x.0.closing.sent
@@ -112,23 +118,17 @@ module _ (system : System) (olds : List View) (peers : ArePeersOf system olds) (
       ∙ get_or_from_slice_get (befores closings) n d d (mapped (λ (c : Closing). c.old) closings n row.closing r.closing) in
       let has : Has row.seat (part n log) d =
       subst (λ (i : Instance). Has i (part n log) d) (get_or_from_slice_get seats n row.seat d r.seat) (subst (λ (i : Instance). Has (get_or seats n d) (part n log) i) mid (told.each n d inside)) in
-      let one : (b : Bool) × ClosesOne b row.closing =
-      subst (λ (c : Closing). (b : Bool) × ClosesOne b c) (get_or_from_slice_get closings n row.closing row.closing r.closing)
-      (one_each talks log [] closings closes.closes.order n row.closing (slice_get_within closings n row.closing r.closing)) in
-      let need : AreNeeded (calls_in (part row.number log)) = subst (λ (k : ℕ). AreNeeded (calls_in (part k log))) number (needed n (let e = len_seats in omega (arith, e, inside))) in
+      let one : (b : Bool) × ClosesOne b row.closing = (_, at_turn talks log [] closings n row.closing closes.closes.order r.closing) in
+      let within : n < length system.components = (let e = len_seats in omega (arith, e, inside)) in
+      let need = run_by (λ s es. AreNeeded (calls_in es)) n row at (λ d. needed n within) in
       record {
-        new = subst IsSeat (get_or_from_slice_get seats n row.seat row.seat r.seat) (are_seats system.components olds peers.len peers.each n row.seat inside);
+        new = subst IsSeat (get_or_from_slice_get seats n row.seat row.seat r.seat) (are_seats system.components olds peers.each n row.seat inside);
         has = subst (λ (k : ℕ). Has row.seat (part k log) d) number has;
         spared = one.0;
         one = one.1;
         runs = need.runs;
         lean = need.lean;
-        leaves =
-            let shape = row.seat.view.fixed.shape in
-            let shape_is : get_or (shapes_of system) n shape ≡ shape = ap (λ (l : List Shape). get_or l n shape) (sym (seated_shapes system olds peers))
-            ∙ get_or_from_slice_get (shapes seats) n shape shape (mapped (λ (i : Instance). i.view.fixed.shape) seats n row.seat r.seat) in
-            subst (λ (s : Shape). LeavesState talks s (part row.number log)) shape_is
-            (subst (λ (k : ℕ). LeavesState talks (get_or (shapes_of system) n shape) (part k log)) number (left talks ends_as n shape (let e = len_seats in omega (arith, e, inside))));
+        leaves = run_by (LeavesState talks) n row at (λ d. left talks ends_as n d within);
       }
 
   all_rows : All (IsRow talks log) rows
@@ -189,17 +189,6 @@ module _ (system : System) (olds : List View) (peers : ArePeersOf system olds) (
   }
 
   -- ---- how they end
-
-  -- the run of a place, by what holds of its part for its shape
-  run_by : (P : Shape → List Exchange → Type 0) (k : ℕ) (row : Row) → slice_get rows k ≡ Some row → ((d : Shape) → P (get_or (shapes_of system) k d) (part k log)) → P (shape_in (life_of log row)) (life_of log row).run
-  run_by P k row at h =
-      let r = row_at 0 seats closings k row at in
-      let shape = shape_in (life_of log row) in
-      let shape_is : get_or (shapes_of system) k shape ≡ shape =
-      ap (λ (l : List Shape). get_or l k shape) (sym (seated_shapes system olds peers))
-      ∙ get_or_from_slice_get (shapes seats) k shape shape (mapped (λ (i : Instance). i.view.fixed.shape) seats k row.seat r.seat) in
-      subst (λ (s : Shape). P s (part row.number log)) shape_is
-      (subst (λ (n : ℕ). P (get_or (shapes_of system) k shape) (part n log)) (sym (r.number ∙ omega arith)) (h shape))
 
   life_here : (k : ℕ) (d : Life) → k < length lives → (row : Row) × (slice_get rows k ≡ Some row) × (get_or lives k d ≡ life_of log row)
   life_here k d w =

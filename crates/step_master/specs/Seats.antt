@@ -4,11 +4,9 @@ use Rattle.fmi_calls.specs.Next.{fresh}
 use Rattle.fmu_peer.specs.CloseAll.{Instance}
 use Rattle.fmu_peer.specs.View.{View}
 use Rattle.system_model.specs.declared.system.Component.{Component}
-use Rattle.calling_sequence.specs.Place.{IsPlain}
 
 -- before the first call
 pub record IsFresh (v : View) : Type 0 where
-  pub plain : IsPlain v.fixed.shape
   pub phase : v.phase ≡ fresh v.fixed.shape
 
 -- the instance of a peer before its first call, of its component's source

@@ -3,7 +3,7 @@ use Rattle.std.specs.Prelude.{◌≡◌, ℕ, List, [], length, Some, IfSome}
 use Rattle.std.specs.List.{slice_get}
 use Rattle.value_types.specs.declared.shape.Shape.{Shape}
 use Rattle.fmi_calls.specs.Next.{fresh}
-use Rattle.fmu_peer.specs.Machine.{IsLawful, IsMachineOf, Machine}
+use Rattle.fmu_peer.specs.Machine.{IgnoresSlot, IsLawful, IsMachineOf, Machine}
 use Rattle.fmu_peer.specs.View.{View}
 use Rattle.system_model.specs.declared.system.Component.{Component}
 use Rattle.system_model.specs.declared.system.System.{System}
@@ -20,9 +20,9 @@ pub record ArePeersOf (system : System) (views : List View) : Type 0 where
   pub each : (i : ℕ) (c : Component) (v : View) → slice_get system.components i ≡ Some c →
       slice_get views i ≡ Some v → IsNew c.shape v
 
--- a machine that a peer tells is one of its component's shape, and its outputs keep to the dependencies that they declare
+-- a machine that a peer tells is one of its component's shape, its outputs keep to the dependencies that they declare, and it answers the same whatever state is saved
 abbrev pub TellTheirs : System → List View → Type 0
 TellTheirs system views =
     (i : ℕ) (c : Component) (v : View) (m : Machine) → slice_get system.components i ≡ Some c →
     slice_get views i ≡ Some v → v.fixed.machine ≡ Some m →
-    IsMachineOf c.shape m × IsLawful c.shape m
+    IsMachineOf c.shape m × IsLawful c.shape m × IgnoresSlot m

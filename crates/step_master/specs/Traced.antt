@@ -15,7 +15,6 @@ use Rattle.slot_calls.specs.declared.bad_answer.BadAnswer.{BadAnswer}
 use Rattle.calling_sequence.specs.declared.run_end.RunEnd.{RunEnd}
 use Rattle.calling_sequence.specs.declared.run_end.RunEnd.TheVariants as E
 use Rattle.calling_sequence.specs.Plans.{IsPlan}
-use Rattle.calling_sequence.specs.Systems.{IsBuilt}
 use Rattle.machine_courses.specs.Outcomes.{CutsTrace, Output, PutsRun}
 use Rattle.step_master.specs.Lived.{Account, Lived, Unmade}
 
@@ -58,13 +57,13 @@ TracesWell a r end = PutsRun r (output_of a) end
 -- the instants that were put are those of the run of told machines
 abbrev pub ToldRun : Type 0
 ToldRun =
-    (a : Account) (r : Run) → IsSound a.system → IsBuilt a.system → IsPlan a.plan →
+    (a : Account) (r : Run) → IsSound a.system → IsPlan a.plan →
     IsRunOf a.system a.bound a.olds r → r.plan ≡ a.plan → Lived a → PutsRun r (output_of a) a.end
 
 -- of told machines that behave well the text of their trace is put
 abbrev pub ToldTrace : Type 0
 ToldTrace =
-    (a : Account) (r : Run) → IsSound a.system → IsBuilt a.system →
+    (a : Account) (r : Run) → IsSound a.system →
     BindsParameters a.system a.bound → IsPlan a.plan → IsRunOf a.system a.bound a.olds r →
     r.plan ≡ a.plan → WellBehaved r → Lived a → TracesWell a r a.end
 

@@ -2,7 +2,6 @@ ghost use Rattle.std.specs.Prelude.{◌≡◌, IfOk, IfErr, map};
 ghost use Rattle.system_model.specs.Bounds.{BindsParameters};
 ghost use Rattle.system_model.specs.Sound.{IsSound};
 ghost use Rattle.calling_sequence.specs.Plans.{CountsBy, IsPlan};
-ghost use Rattle.calling_sequence.specs.Systems.{IsBuilt};
 ghost use Rattle.step_master.specs.System.{ArePeersOf};
 
 use crate::seats::Seats;
@@ -36,7 +35,6 @@ impl<L: Peer> Master<L> {
         plan: Plan,
     ) -> Result<Master<L>, PrepareEnd<L>>
         requires sound { IsSound system }
-        requires built { IsBuilt system }
         requires bound { BindsParameters system bound }
         requires peers { ArePeersOf system (map L.view peers.items) }
         requires plan { IsPlan plan }
@@ -83,13 +81,14 @@ impl<L: Peer> Master<L> {
     /// the FMUs without event mode and a step to the next point, until the run ends. It puts the trace, one piece for the
     /// header, one for each instant, and one for the end.
     /// It takes no memory.
-    pub fn run<R: Threads + Sync, O: Sink>(&mut self, _rt: &R, out: &mut O) -> RunEnd
+    pub fn run<R: Threads + Sync, O: Sink>(&mut self, rt: &R, out: &mut O) -> RunEnd
         requires { IsReady L.view self.old }
         ensures { Runs (standing L.view self.old) (standing L.view self.new) (O.view out.old)
             (O.view out.new) result }
     {
         self.was_run = true;
         run_slots(
+            rt,
             &mut self.seats.slots,
             &self.experiment,
             &mut self.buffers,

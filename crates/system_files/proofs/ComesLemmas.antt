@@ -75,7 +75,7 @@ module _ (some all : List ReadNote) (among : AreAmong some all) where
       NoSet o shapes taken given b rest files path flaw a f (reaches_bindings s o shapes taken given _ h) (lacks_binding s o b files path flaw lacks) asks is
   more_comes s asked finding (NoBinding o shapes given n in_mapping rule place path a f h broken told asks is) =
       NoBinding o shapes given n in_mapping rule place path a f (reaches_bindings s o shapes o.systems.bindings given _ h) broken told asks is
-  more_comes s asked finding (NoSystem o shapes given bound component rule place ports path a f h binds broken told asks is) =
-      NoSystem o shapes given bound component rule place ports path a f (reaches_bindings s o shapes o.systems.bindings given _ h) binds broken told asks is
+  more_comes s asked finding (NoSystem o shapes given bound rule place ports path a f h binds broken told asks is) =
+      NoSystem o shapes given bound rule place ports path a f (reaches_bindings s o shapes o.systems.bindings given _ h) binds broken told asks is
   more_comes s asked finding (Whole o shapes given loaded a f h binds makes folders asks is) =
       Whole o shapes given loaded a f (reaches_bindings s o shapes o.systems.bindings given _ h) binds makes folders asks is

@@ -276,12 +276,12 @@ module _ (s : Search) (o : Outline) (old mid : FolderView) (outline : TakesOutli
             (no_binding_alone s r.0 o shapes given r.1 n in_mapping rule place file.path broken in_file);
         asks = r.2;
       })
-  ends_together shapes given ended new t (AtRule bound component rule place ports file binds broken in_file is) =
+  ends_together shapes given ended new t (AtRule bound rule place ports file binds broken in_file is) =
       let r = all_reach shapes given new t in
       subst (λ (e : LoadEnd). EndsLoading s e old new) (sym is) (record {
         reads = r.0;
         asked = asked_with s o o.systems.bindings;
-        comes = no_system_alone s r.0 o shapes given r.1 bound component rule place ports file.path binds broken in_file;
+        comes = no_system_alone s r.0 o shapes given r.1 bound rule place ports file.path binds broken in_file;
         asks = r.2;
       })
   ends_together shapes given ended new t (NoSystemRoom is) =

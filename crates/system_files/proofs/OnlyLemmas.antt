@@ -21,7 +21,7 @@ use Rattle.system_files.specs.declared.loaded.Loaded.{Loaded}
 use Rattle.system_files.specs.declared.subject.Subject.{Subject}
 use Rattle.system_files.specs.declared.subject.Subject.TheVariants as what
 use Rattle.system_files.specs.Files.{AreSteady, Faulty, Flaw, LacksFile, structure_path}
-use Rattle.system_files.specs.Order.{Agree, Comes, ComesAlone, Fails, Finding, Found, HasShape, IsBindingToldIn, IsGiven, IsToldIn, LacksBinding, NoBinding, NoOutline, NoSet, NoShape, NoSystem, Outlines, Reaches, ReachesBindings, Search, Whole, asked_for, asked_with, folders_of, model_path, origin_of, part_told}
+use Rattle.system_files.specs.Order.{Agree, Comes, ComesAlone, Fails, Finding, Found, HasShape, IsBindingToldIn, IsGiven, LacksBinding, NoBinding, NoOutline, NoSet, NoShape, NoSystem, Outlines, outline_path, Reaches, ReachesBindings, Search, Whole, asked_for, asked_with, folders_of, model_path, origin_of, part_told}
 use Rattle.system_files.specs.Steps.{FailsModel, FailsStructure, HasShapeAlone, IsGivenAlone, IsLoaded, OutlinesAlone}
 use Rattle.system_files.proofs.FileLemmas.{flawed_once, flawed_unsaid, is_flawed, is_said, said_once, said_unflawed}
 use Rattle.system_files.proofs.ListLemmas.{Each, each_in, stops_once, zip_left, zip_once, zip_then}
@@ -66,15 +66,6 @@ binding_told_once s o n in_mapping one other a b = by (slice_get o.systems.bindi
     by None h k = absurd h
     by (Some b) h k = of b (origin_of in_mapping b) h k
 
--- the file of a rule is one
-told_once : (s : Search) (o : Outline) (component : Option ℕ) (one other : List ℕ) → IsToldIn s o component one → IsToldIn s o component other → one ≡ other
-told_once s o None one other a b = a ∙ sym b
-told_once s o (Some n) one other a b = by (slice_get o.systems.components n) a b
-  where
-    by : (c : Option ComponentPart) → IsSomeAnd c (λ c. one ≡ model_path s.directory c) → IsSomeAnd c (λ c. other ≡ model_path s.directory c) → one ≡ other
-    by None a b = absurd a
-    by (Some c) a b = a ∙ sym b
-
 -- all that is come to agrees with this
 abbrev pub Agrees : Search → List ReadNote → List (List ℕ) → Finding → Type 0
 Agrees s reads asked finding = (others : List (List ℕ)) (other : Finding) → Comes s reads others other → (asked ≡ others) × Agree finding other
@@ -109,7 +100,7 @@ module _ (s : Search) (reads : List ReadNote) (steady : AreSteady reads) where
   no_outline_only flaw sys a others other (NoShape o taken shapes c rest flaw2 asked finding reach f asked_is finding_is) = absurd (no_outline o flaw sys a reach.outline)
   no_outline_only flaw sys a others other (NoSet o2 shapes2 taken2 given2 b2 rest2 files2 path2 flaw2 asked finding reach f asked_is finding_is) = absurd (no_outline o2 flaw sys a reach.reaches.outline)
   no_outline_only flaw sys a others other (NoBinding o2 shapes2 given2 n2 in_mapping2 rule2 place2 path2 asked finding reach f told2 asked_is finding_is) = absurd (no_outline o2 flaw sys a reach.reaches.outline)
-  no_outline_only flaw sys a others other (NoSystem o2 shapes2 given2 bound2 component2 rule2 place2 ports2 path2 asked finding reach binds2 f told2 asked_is finding_is) = absurd (no_outline o2 flaw sys a reach.reaches.outline)
+  no_outline_only flaw sys a others other (NoSystem o2 shapes2 given2 bound2 rule2 place2 ports2 path2 asked finding reach binds2 f told2 asked_is finding_is) = absurd (no_outline o2 flaw sys a reach.reaches.outline)
   no_outline_only flaw sys a others other (Whole o2 shapes2 given2 loaded2 asked finding reach binds2 f folders2 asked_is finding_is) = absurd (no_outline o2 flaw sys a reach.reaches.outline)
 
   -- ---- components with a shape, or with a flaw
@@ -157,7 +148,7 @@ module _ (s : Search) (reads : List ReadNote) (steady : AreSteady reads) where
         )
     no_shape_only others other (NoSet o2 shapes2 taken2 given2 b2 rest2 files2 path2 flaw2 asked finding reach f asked_is finding_is) = absurd (not_all o2 shapes2 reach.reaches.outline reach.reaches.each)
     no_shape_only others other (NoBinding o2 shapes2 given2 n2 in_mapping2 rule2 place2 path2 asked finding reach f told2 asked_is finding_is) = absurd (not_all o2 shapes2 reach.reaches.outline reach.reaches.each)
-    no_shape_only others other (NoSystem o2 shapes2 given2 bound2 component2 rule2 place2 ports2 path2 asked finding reach binds2 f told2 asked_is finding_is) = absurd (not_all o2 shapes2 reach.reaches.outline reach.reaches.each)
+    no_shape_only others other (NoSystem o2 shapes2 given2 bound2 rule2 place2 ports2 path2 asked finding reach binds2 f told2 asked_is finding_is) = absurd (not_all o2 shapes2 reach.reaches.outline reach.reaches.each)
     no_shape_only others other (Whole o2 shapes2 given2 loaded2 asked finding reach binds2 f folders2 asked_is finding_is) = absurd (not_all o2 shapes2 reach.reaches.outline reach.reaches.each)
 
   -- ---- all descriptions are taken
@@ -227,7 +218,7 @@ module _ (s : Search) (reads : List ReadNote) (steady : AreSteady reads) where
             subst (Agree (Fails path flaw)) (sym finding_is) (once.1, once.2),
           )
       no_set_only others other (NoBinding o2 shapes2 given2 n2 in_mapping2 rule2 place2 path2 asked finding reach f told2 asked_is finding_is) = absurd (not_all_given o2 shapes2 given2 reach)
-      no_set_only others other (NoSystem o2 shapes2 given2 bound2 component2 rule2 place2 ports2 path2 asked finding reach binds2 f told2 asked_is finding_is) = absurd (not_all_given o2 shapes2 given2 reach)
+      no_set_only others other (NoSystem o2 shapes2 given2 bound2 rule2 place2 ports2 path2 asked finding reach binds2 f told2 asked_is finding_is) = absurd (not_all_given o2 shapes2 given2 reach)
       no_set_only others other (Whole o2 shapes2 given2 loaded2 asked finding reach binds2 f folders2 asked_is finding_is) = absurd (not_all_given o2 shapes2 given2 reach)
 
     -- ---- all bindings are taken
@@ -269,7 +260,7 @@ module _ (s : Search) (reads : List ReadNote) (steady : AreSteady reads) where
             all_asked o2 shapes2 given2 reach ∙ sym asked_is,
             subst (Agree (Fails path (Faulty rule place []))) (sym finding_is) (binding_told_once s o n in_mapping path path2 told here, (only.2, only.3)),
           )
-      no_binding_only n in_mapping rule place path a told others other (NoSystem o2 shapes2 given2 bound2 component2 rule2 place2 ports2 path2 asked finding reach binds2 f told2 asked_is finding_is) = absurd (a.none bound2 (all_back (λ x xs gs. Binds x xs gs bound2) o2 shapes2 given2 reach binds2))
+      no_binding_only n in_mapping rule place path a told others other (NoSystem o2 shapes2 given2 bound2 rule2 place2 ports2 path2 asked finding reach binds2 f told2 asked_is finding_is) = absurd (a.none bound2 (all_back (λ x xs gs. Binds x xs gs bound2) o2 shapes2 given2 reach binds2))
       no_binding_only n in_mapping rule place path a told others other (Whole o2 shapes2 given2 loaded2 asked finding reach binds2 f folders2 asked_is finding_is) =
           absurd (a.none loaded2.bound (all_back (λ x xs gs. Binds x xs gs loaded2.bound) o2 shapes2 given2 reach binds2))
 
@@ -279,29 +270,27 @@ module _ (s : Search) (reads : List ReadNote) (steady : AreSteady reads) where
         no_broken o2 shapes2 given2 n2 in_mapping2 rule2 place2 reach f =
             binds.none n2 in_mapping2 rule2 place2 (all_back (λ x xs gs. BreaksBinding x xs gs n2 in_mapping2 rule2 place2) o2 shapes2 given2 reach f)
 
-        pub no_system_only : (component : Option ℕ) (rule : Rule) (place : Place) (ports : List PortId) (path : List ℕ) → BreaksTogetherAlone o shapes component rule place ports →
-            IsToldIn s o component path → Agrees s reads (asked_with s o o.systems.bindings) (Fails path (Faulty rule place ports))
-        no_system_only component rule place ports path a told others other (NoOutline flaw2 asked finding sys f asked_is finding_is) = absurd (outline_unflawed o flaw2 outline sys f)
-        no_system_only component rule place ports path a told others other (NoShape o2 taken2 shapes2 c2 rest2 flaw2 asked finding reach f asked_is finding_is) =
+        pub no_system_only : (rule : Rule) (place : Place) (ports : List PortId) (path : List ℕ) → BreaksTogetherAlone o shapes rule place ports →
+            path ≡ outline_path s.subject s.directory → Agrees s reads (asked_with s o o.systems.bindings) (Fails path (Faulty rule place ports))
+        no_system_only rule place ports path a told others other (NoOutline flaw2 asked finding sys f asked_is finding_is) = absurd (outline_unflawed o flaw2 outline sys f)
+        no_system_only rule place ports path a told others other (NoShape o2 taken2 shapes2 c2 rest2 flaw2 asked finding reach f asked_is finding_is) =
             absurd (no_flaw o2 taken2 shapes2 c2 rest2 flaw2 reach f)
-        no_system_only component rule place ports path a told others other (NoSet o2 shapes2 taken2 given2 b2 rest2 files2 path2 flaw2 asked finding reach f asked_is finding_is) = absurd (no_bad o2 shapes2 taken2 given2 b2 rest2 files2 path2 flaw2 reach f)
-        no_system_only component rule place ports path a told others other (NoBinding o2 shapes2 given2 n2 in_mapping2 rule2 place2 path2 asked finding reach f told2 asked_is finding_is) = absurd (no_broken o2 shapes2 given2 n2 in_mapping2 rule2 place2 reach f)
-        no_system_only component rule place ports path a told others other (NoSystem o2 shapes2 given2 bound2 component2 rule2 place2 ports2 path2 asked finding reach binds2 f told2 asked_is finding_is) =
-            let only = a.only component2 rule2 place2 ports2 (all_back (λ x xs gs. BreaksTogether x xs component2 rule2 place2 ports2) o2 shapes2 given2 reach f) in
-            let there : IsToldIn s o component path2 =
-            subst (λ (n : Option ℕ). IsToldIn s o n path2) (sym only.0) (all_back (λ x xs gs. IsToldIn s x component2 path2) o2 shapes2 given2 reach told2) in (
+        no_system_only rule place ports path a told others other (NoSet o2 shapes2 taken2 given2 b2 rest2 files2 path2 flaw2 asked finding reach f asked_is finding_is) = absurd (no_bad o2 shapes2 taken2 given2 b2 rest2 files2 path2 flaw2 reach f)
+        no_system_only rule place ports path a told others other (NoBinding o2 shapes2 given2 n2 in_mapping2 rule2 place2 path2 asked finding reach f told2 asked_is finding_is) = absurd (no_broken o2 shapes2 given2 n2 in_mapping2 rule2 place2 reach f)
+        no_system_only rule place ports path a told others other (NoSystem o2 shapes2 given2 bound2 rule2 place2 ports2 path2 asked finding reach binds2 f told2 asked_is finding_is) =
+            let only = a.only rule2 place2 ports2 (all_back (λ x xs gs. BreaksTogether x xs rule2 place2 ports2) o2 shapes2 given2 reach f) in (
               all_asked o2 shapes2 given2 reach ∙ sym asked_is,
-              subst (Agree (Fails path (Faulty rule place ports))) (sym finding_is) (told_once s o component path path2 told there, only.1),
+              subst (Agree (Fails path (Faulty rule place ports))) (sym finding_is) (told ∙ sym told2, only),
             )
-        no_system_only component rule place ports path a told others other (Whole o2 shapes2 given2 loaded2 asked finding reach binds2 f folders2 asked_is finding_is) = absurd (a.none loaded2.system (all_back (λ x xs gs. Makes x xs loaded2.system) o2 shapes2 given2 reach f))
+        no_system_only rule place ports path a told others other (Whole o2 shapes2 given2 loaded2 asked finding reach binds2 f folders2 asked_is finding_is) = absurd (a.none loaded2.system (all_back (λ x xs gs. Makes x xs loaded2.system) o2 shapes2 given2 reach f))
 
       pub whole_only : (loaded : Loaded) → IsLoaded s.directory o shapes given loaded → Agrees s reads (asked_with s o o.systems.bindings) (Found loaded)
       whole_only loaded a others other (NoOutline flaw2 asked finding sys f asked_is finding_is) = absurd (outline_unflawed o flaw2 outline sys f)
       whole_only loaded a others other (NoShape o2 taken2 shapes2 c2 rest2 flaw2 asked finding reach f asked_is finding_is) = absurd (no_flaw o2 taken2 shapes2 c2 rest2 flaw2 reach f)
       whole_only loaded a others other (NoSet o2 shapes2 taken2 given2 b2 rest2 files2 path2 flaw2 asked finding reach f asked_is finding_is) = absurd (no_bad o2 shapes2 taken2 given2 b2 rest2 files2 path2 flaw2 reach f)
       whole_only loaded a others other (NoBinding o2 shapes2 given2 n2 in_mapping2 rule2 place2 path2 asked finding reach f told2 asked_is finding_is) = absurd (no_broken loaded.bound a.binds o2 shapes2 given2 n2 in_mapping2 rule2 place2 reach f)
-      whole_only loaded a others other (NoSystem o2 shapes2 given2 bound2 component2 rule2 place2 ports2 path2 asked finding reach binds2 f told2 asked_is finding_is) =
-          absurd (a.makes.none component2 rule2 place2 ports2 (all_back (λ x xs gs. BreaksTogether x xs component2 rule2 place2 ports2) o2 shapes2 given2 reach f))
+      whole_only loaded a others other (NoSystem o2 shapes2 given2 bound2 rule2 place2 ports2 path2 asked finding reach binds2 f told2 asked_is finding_is) =
+          absurd (a.makes.none rule2 place2 ports2 (all_back (λ x xs gs. BreaksTogether x xs rule2 place2 ports2) o2 shapes2 given2 reach f))
       whole_only loaded a others other (Whole o2 shapes2 given2 loaded2 asked finding reach binds2 f folders2 asked_is finding_is) = (
         all_asked o2 shapes2 given2 reach ∙ sym asked_is,
         subst (Agree (Found loaded)) (sym finding_is) (
@@ -364,11 +353,11 @@ module _ (s : Search) (reads : List ReadNote) (o : Outline) (shapes : List Shape
     only = (λ steady. no_binding_only s reads steady o shapes a.outline a.shaped given a.each n in_mapping rule place path broken told);
   }
 
-  pub no_system_alone : (bound : Bound) (component : Option ℕ) (rule : Rule) (place : Place) (ports : List PortId) (path : List ℕ) → BindsAlone o shapes given bound →
-      BreaksTogetherAlone o shapes component rule place ports → IsToldIn s o component path → ComesAlone s reads (asked_with s o o.systems.bindings) (Fails path (Faulty rule place ports))
-  no_system_alone bound component rule place ports path binds broken told = record {
-    comes = NoSystem o shapes given bound component rule place ports path _ _ reach_all binds.is broken.broken told refl refl;
-    only = (λ steady. no_system_only s reads steady o shapes a.outline a.shaped given a.each bound binds component rule place ports path broken told);
+  pub no_system_alone : (bound : Bound) (rule : Rule) (place : Place) (ports : List PortId) (path : List ℕ) → BindsAlone o shapes given bound →
+      BreaksTogetherAlone o shapes rule place ports → path ≡ outline_path s.subject s.directory → ComesAlone s reads (asked_with s o o.systems.bindings) (Fails path (Faulty rule place ports))
+  no_system_alone bound rule place ports path binds broken told = record {
+    comes = NoSystem o shapes given bound rule place ports path _ _ reach_all binds.is broken.broken told refl refl;
+    only = (λ steady. no_system_only s reads steady o shapes a.outline a.shaped given a.each bound binds rule place ports path broken told);
   }
 
   pub whole_alone : (loaded : Loaded) → IsLoaded s.directory o shapes given loaded → ComesAlone s reads (asked_with s o o.systems.bindings) (Found loaded)

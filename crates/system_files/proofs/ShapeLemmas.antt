@@ -1,8 +1,9 @@
 -- The shapes of components, one component after another.
 use Rattle.std.proofs.Common.{◌≡◌, ◌<◌, ◌≤◌, ◌+◌, ℕ, zero, suc, List, [], ◌∷◌, ◌++◌, length, map, take, drop, get_or, Option, Some, refl, sym, ap, ◌∙◌, subst, inl, inr, arith}
-use Rattle.std.specs.Prelude.{slice_get}
+use Rattle.std.specs.Prelude.{All, slice_get}
 use Rattle.std.specs.List.{AllZip}
 use Rattle.std.proofs.lemmas.List.{length-take-le, map-append, take-append-drop}
+use Rattle.std.proofs.lemmas.List.Elements.{All-take}
 use Rattle.std.proofs.lemmas.Slice.Zip.{AllZip-long}
 use Rattle.sim_base.specs.Asking.{Asks}
 use Rattle.sim_base.specs.Folder.{FolderView}
@@ -19,7 +20,7 @@ use Rattle.system_files.specs.Steps.{AtShape, Copied, EndsNext, EndsShapes, HasS
 use Rattle.system_files.proofs.AskLemmas.{asked_then, none_asked}
 use Rattle.system_files.proofs.MoreLemmas.{among_left, among_right, more_shape, more_shapes}
 use Rattle.system_files.proofs.ListLemmas.{one_more, parted, zip_push}
-use Rattle.system_files.proofs.UseLemmas.{IsAmong, new_path, same_path, uses_new, uses_seen}
+use Rattle.system_files.proofs.UseLemmas.{HasPlainSource, IsAmong, new_path, same_path, uses_new, uses_seen}
 
 -- the shape of a component is that of the first with its source
 copied : (R : ComponentPart → Shape → Type 0) (directory : List ℕ) (c : ComponentPart) → ((t : ComponentPart) (shape : Shape) → t.source ≡ c.source → R t shape → R c shape) →
@@ -42,14 +43,14 @@ shape_at per_second directory reads c t shape source h = (h.0, subst (λ (path :
 
 -- the components before one have these shapes, and their descriptions were read
 module _ (per_second : ℕ) (directory : List ℕ) (taken : List ComponentPart) (c : ComponentPart) (rest : List ComponentPart) (shapes : List Shape) (old mid : FolderView)
-    (takes : TakesShapes per_second directory taken shapes old mid) where
+    (takes : TakesShapes per_second directory taken shapes old mid) (plain : All HasPlainSource taken) (own : HasPlainSource c) where
   paths_seen : IsAmong (model_path directory c) (map (model_path directory) taken) → paths_of directory (taken ++ c ∷ []) ≡ paths_of directory taken
   paths_seen among = ap first_uses (map-append (model_path directory) taken (c ∷ [])) ∙ uses_seen (map (model_path directory) taken) (model_path directory c) among
 
   paths_new : IsNew (taken ++ c ∷ rest) (length taken) c.source → paths_of directory (taken ++ c ∷ []) ≡ paths_of directory taken ++ model_path directory c ∷ []
   paths_new new =
       ap first_uses (map-append (model_path directory) taken (c ∷ []))
-      ∙ uses_new (map (model_path directory) taken) (model_path directory c) (new_path directory taken (c ∷ rest) c new)
+      ∙ uses_new (map (model_path directory) taken) (model_path directory c) (new_path directory taken (c ∷ rest) c plain own new)
 
   pub next_taken : (shape : Shape) (new : FolderView) → TakesNext per_second directory (taken ++ c ∷ rest) (length taken) c shapes shape mid new →
       TakesShapes per_second directory (taken ++ c ∷ []) (shapes ++ shape ∷ []) old new
@@ -77,7 +78,13 @@ module _ (per_second : ℕ) (directory : List ℕ) (taken : List ComponentPart) 
 -- ---- by places in the list
 
 module _ (per_second : ℕ) (directory : List ℕ) (old mid : FolderView) (components : List ComponentPart) (n : ℕ) (c : ComponentPart) (shapes : List Shape)
-    (below : n < length components) (is : c ≡ get_or components n c) (takes : TakesShapes per_second directory (take n components) shapes old mid) where
+    (below : n < length components) (is : c ≡ get_or components n c) (takes : TakesShapes per_second directory (take n components) shapes old mid) (plain : All HasPlainSource components) where
+  plain_taken : All HasPlainSource (take n components)
+  plain_taken = All-take HasPlainSource n components plain
+
+  own_plain : HasPlainSource c
+  own_plain = subst HasPlainSource (sym is) (plain n c below)
+
   counted : length shapes ≡ length (take n components)
   counted = AllZip-long (HasShapeAlone per_second directory takes.reads) (take n components) shapes takes.each
 
@@ -86,14 +93,14 @@ module _ (per_second : ℕ) (directory : List ℕ) (old mid : FolderView) (compo
   taken_more shape new t =
       subst (λ (cs : List ComponentPart). TakesShapes per_second directory cs (shapes ++ shape ∷ []) old new)
       (one_more components n c below is)
-      (next_taken per_second directory (take n components) c (drop (n + 1) components) shapes old mid takes shape new
+      (next_taken per_second directory (take n components) c (drop (n + 1) components) shapes old mid takes plain_taken own_plain shape new
       (subst (λ (cs : List ComponentPart). TakesNext per_second directory cs (length (take n components)) c shapes shape mid new) (parted components n c below is)
       (subst (λ (m : ℕ). TakesNext per_second directory components m c shapes shape mid new) counted t)))
 
   pub ends_more : (ended : LoadEnd) (new : FolderView) → EndsNext per_second directory components (length shapes) c ended mid new → EndsShapes per_second directory components ended old new
   ends_more ended new t =
       subst (λ (cs : List ComponentPart). EndsShapes per_second directory cs ended old new) (sym (parted components n c below is))
-      (next_ends per_second directory (take n components) c (drop (n + 1) components) shapes old mid takes ended new
+      (next_ends per_second directory (take n components) c (drop (n + 1) components) shapes old mid takes plain_taken own_plain ended new
       (subst (λ (cs : List ComponentPart). EndsNext per_second directory cs (length (take n components)) c ended mid new) (parted components n c below is)
       (subst (λ (m : ℕ). EndsNext per_second directory components m c ended mid new) counted t)))
 

@@ -26,6 +26,7 @@ use Rattle.parameter_binding.specs.declared.sets.MappingOf.{MappingOf}
 use Rattle.parameter_binding.specs.Binds.{Triple, mapping_of}
 use Rattle.parameter_binding.specs.Rules as rules
 use Rattle.ssd_tree.specs.Named.{IsNamedTree}
+use Rattle.ssd_tree.specs.Parts.{IsPlain, NamesPlainPaths}
 use Rattle.parameter_values.specs.Ranges.{AreInRange}
 use Rattle.parameter_values.specs.declared.set.Mapping.{Mapping}
 use Rattle.ssd_tree.specs.declared.tree.Binding.{Binding}
@@ -37,7 +38,7 @@ use Rattle.system_model.specs.Bounds.{AreParameterValues, BindsParameters}
 use Rattle.system_loading.specs.declared.assembly.AssemblyFault.{AssemblyFault}
 use Rattle.system_loading.specs.declared.assembly.AssemblyFault.TheVariants as together
 use Rattle.system_loading.specs.declared.outline.Outline.{Outline}
-use Rattle.system_loading.specs.Assembly.{BreaksTogether, ByLoop, ByPart, ByShape, Makes, is_unbuilt}
+use Rattle.system_loading.specs.Assembly.{BreaksTogether, ByLoop, ByPart, Makes}
 use Rattle.system_loading.specs.Faults.{TellsTogether}
 use Rattle.system_loading.specs.declared.binding.BindingFault.{BindingFault}
 use Rattle.system_loading.specs.declared.binding.BindingFault.TheVariants as binds
@@ -49,7 +50,7 @@ use Rattle.system_loading.specs.Readings.{IsModel, IsStructure}
 use Rattle.system_files.specs.declared.subject.Subject.{Subject}
 use Rattle.system_files.specs.declared.subject.Subject.TheVariants as what
 use Rattle.system_files.specs.Loads.{IsNamed}
-use Rattle.system_files.specs.Steps.{HasBindingPart, HasComponent, HasDocument, HasParts, HasShapeAlone, IsGivenAlone, IsMappingAlone, OutlinesAlone}
+use Rattle.system_files.specs.Steps.{HasBindingPart, HasDocument, HasParts, HasShapeAlone, IsGivenAlone, IsMappingAlone, OutlinesAlone}
 use Rattle.system_files.specs.Order.{origin_of}
 use Rattle.system_files.proofs.ListLemmas.{zip_then}
 
@@ -86,6 +87,16 @@ pub outline_named : ((bytes : List ℕ) (o : Outline) → IsStructure bytes o �
     (subject : Subject) (directory : List ℕ) (reads : List ReadNote) (o : Outline) → OutlinesAlone subject directory reads o → IsNamedTree o.systems
 outline_named law lone what.Fmu directory reads o a = subst (λ (x : Outline). IsNamedTree x.systems) (sym a) lone
 outline_named law lone what.System directory reads o a = law a.2.0 o a.2.3.is
+
+abbrev HasPlainSources : Outline → Type 0
+HasPlainSources o = All (λ (c : ComponentPart). IsPlain c.source) o.systems.components
+
+pub outline_plain : ((bytes : List ℕ) (o : Outline) → IsStructure bytes o → NamesPlainPaths o.systems) →
+    (subject : Subject) (directory : List ℕ) (reads : List ReadNote) (o : Outline) → OutlinesAlone subject directory reads o → HasPlainSources o
+outline_plain law what.Fmu directory reads o a =
+    subst HasPlainSources (sym a) (All-cons (λ (c : ComponentPart). IsPlain c.source) (record { node = 0; system = 0; name = lone_name; source = [] }) [] refl
+    (All-nil (λ (c : ComponentPart). IsPlain c.source)))
+outline_plain law what.System directory reads o a = (law a.2.0 o a.2.3.is).components
 
 none_below : HasDocument lone_outline
 none_below n below = absurd (omega (arith, below))
@@ -140,27 +151,6 @@ are_counting law per_second directory reads o shapes system each makes = all_by_
     counts k c at =
         let i = makes.flattens.flat.components.each k c at in
         let h = zip_at (HasShapeAlone per_second directory reads) o.systems.components shapes each k c.shape i.shape in law per_second h.2.2.0 c.shape h.2.2.3.is
-
--- ---- rules that files break together
-
-position_below : {X : Type 0} (p : X → Bool) (xs : List X) (i : ℕ) → position p xs ≡ Some i → i < length xs
-position_below p [] i found = absurd (cc)
-position_below p (x ∷ xs) i found = (position-Some p (x ∷ xs) i x found).0
-
--- the component in whose description a fault is told is there
-pub has_component : (o : Outline) (shapes : List Shape) (fault : AssemblyFault) → length shapes ≡ length o.systems.components → TellsTogether o shapes fault → HasComponent o fault
-has_component o shapes (together.Broken component rule place ports) len told = by component rule place ports told.broken
-  where
-    here : (component : Option ℕ) → component ≡ None → IfSome component (λ n. n < length o.systems.components)
-    here component is = subst (λ (n : Option ℕ). IfSome n (λ n. n < length o.systems.components)) (sym is) tt
-
-    by : (component : Option ℕ) (rule : Rule) (place : Place) (ports : List PortId) → BreaksTogether o shapes component rule place ports →
-        IfSome component (λ n. n < length o.systems.components)
-    by component rule place ports (ByPart c node r p l first is at none) = here component is
-    by component rule place ports (ByLoop c node r p l unordered loop is rule_is at) = here component is
-    by component rule place ports (ByShape c first r p l ordered found is rule_is at none) =
-        subst (λ (n : Option ℕ). IfSome n (λ n. n < length o.systems.components)) (sym is) (subst (λ (m : ℕ). first < m) len (position_below is_unbuilt shapes first found))
-has_component o shapes together.Memory len told = tt
 
 -- ---- what the bindings give
 

@@ -1,10 +1,12 @@
 -- The first uses of paths, one path after another; and paths as their sources.
 use Rattle.std.proofs.Common.{◌≡◌, ◌⊎◌, ℕ, suc, ◌+◌, ◌<◌, Bool, true, false, cond, List, [], ◌∷◌, ◌++◌, length, map, Some, refl, sym, ap, ◌∙◌, inl, inr, arith, append-nil, length-append, zero-lt-suc}
-use Rattle.std.specs.Prelude.{not, filter, bytes_eq, codes, if◌then◌else◌, ◌==◌}
-use Rattle.std.proofs.lemmas.List.Elements.{filter-append}
+use Rattle.std.specs.Prelude.{All, not, filter, bytes_eq, codes, if◌then◌else◌, ◌==◌}
+use Rattle.std.proofs.lemmas.List.Elements.{All-head, All-tail, filter-append}
 use Rattle.std.proofs.lemmas.List.{append_cancel_left, append_cancel_right}
 use Rattle.std.proofs.lemmas.Bool.Decides.{Decides-eqb}
 use Rattle.std.proofs.lemmas.Slice.Eq.{bytes_eq-Decides}
+use Rattle.sim_base.specs.Path.{joined_path}
+use Rattle.ssd_tree.specs.Parts.{IsPlain}
 use Rattle.ssd_tree.specs.declared.tree.ComponentPart.{ComponentPart}
 use Rattle.system_files.specs.Files.{description_path, first_uses}
 use Rattle.system_files.specs.Order.{folder_of, model_path}
@@ -62,9 +64,12 @@ uses_seen (y ∷ xs) x among = ap (λ (paths : List (List ℕ)). y ∷ paths) (b
 
 -- ---- paths and sources
 
+abbrev pub HasPlainSource : ComponentPart → Type 0
+HasPlainSource c = IsPlain c.source
+
 -- the folder of a source
 abbrev in_folder : List ℕ → List ℕ → List ℕ
-in_folder directory source = if length source == 0 then directory else directory ++ 47 ∷ source
+in_folder directory source = if length source == 0 then directory else joined_path directory source
 
 longer : (directory source : List ℕ) → directory ≡ directory ++ source → length source ≡ 0
 longer directory source e = none (length directory) (length source) (ap length e ∙ length-append directory source)
@@ -72,30 +77,32 @@ longer directory source e = none (length directory) (length source) (ap length e
     none : (m n : ℕ) → m ≡ m + n → n ≡ 0
     none m n e = omega arith
 
-below : (directory : List ℕ) (x : ℕ) (xs : List ℕ) → in_folder directory (x ∷ xs) ≡ directory ++ 47 ∷ (x ∷ xs)
-below directory x xs = by (suc (length xs) == 0) refl
+below : (directory : List ℕ) (x : ℕ) (xs : List ℕ) → IsPlain (x ∷ xs) → in_folder directory (x ∷ xs) ≡ directory ++ 47 ∷ (x ∷ xs)
+below directory x xs plain = by (suc (length xs) == 0) refl
   where
-    by : (b : Bool) → (suc (length xs) == 0) ≡ b → cond b directory (directory ++ 47 ∷ (x ∷ xs)) ≡ directory ++ 47 ∷ (x ∷ xs)
+    by : (b : Bool) → (suc (length xs) == 0) ≡ b → cond b directory (joined_path directory (x ∷ xs)) ≡ directory ++ 47 ∷ (x ∷ xs)
     by true e = let none : suc (length xs) ≡ 0 = (Decides-eqb (suc (length xs)) 0).0 e in absurd (omega arith)
-    by false e = refl
+    by false e = ap (λ (path : List ℕ). directory ++ 47 ∷ path) (sym plain)
 
-folder_once : (directory a b : List ℕ) → in_folder directory a ≡ in_folder directory b → a ≡ b
-folder_once directory [] [] e = refl
-folder_once directory [] (y ∷ ys) e = let none : suc (suc (length ys)) ≡ 0 = longer directory (47 ∷ (y ∷ ys)) (e ∙ below directory y ys) in absurd (omega arith)
-folder_once directory (x ∷ xs) [] e = let none : suc (suc (length xs)) ≡ 0 = longer directory (47 ∷ (x ∷ xs)) (sym e ∙ below directory x xs) in absurd (omega arith)
-folder_once directory (x ∷ xs) (y ∷ ys) e = let same : 47 ∷ (x ∷ xs) ≡ 47 ∷ (y ∷ ys) = append_cancel_left directory _ _ (sym (below directory x xs) ∙ e ∙ below directory y ys) in cc
+folder_once : (directory a b : List ℕ) → IsPlain a → IsPlain b → in_folder directory a ≡ in_folder directory b → a ≡ b
+folder_once directory [] [] p q e = refl
+folder_once directory [] (y ∷ ys) p q e = let none : suc (suc (length ys)) ≡ 0 = longer directory (47 ∷ (y ∷ ys)) (e ∙ below directory y ys q) in absurd (omega arith)
+folder_once directory (x ∷ xs) [] p q e = let none : suc (suc (length xs)) ≡ 0 = longer directory (47 ∷ (x ∷ xs)) (sym e ∙ below directory x xs p) in absurd (omega arith)
+folder_once directory (x ∷ xs) (y ∷ ys) p q e =
+    let same : 47 ∷ (x ∷ xs) ≡ 47 ∷ (y ∷ ys) = append_cancel_left directory _ _ (sym (below directory x xs p) ∙ e ∙ below directory y ys q) in cc
 
-pub same_source : (directory : List ℕ) (a b : ComponentPart) → model_path directory a ≡ model_path directory b → a.source ≡ b.source
-same_source directory a b e = folder_once directory a.source b.source (append_cancel_right (folder_of directory a) (folder_of directory b) (codes "/modelDescription.xml") e)
+pub same_source : (directory : List ℕ) (a b : ComponentPart) → HasPlainSource a → HasPlainSource b → model_path directory a ≡ model_path directory b → a.source ≡ b.source
+same_source directory a b p q e =
+    folder_once directory a.source b.source p q (append_cancel_right (folder_of directory a) (folder_of directory b) (codes "/modelDescription.xml") e)
 
 pub same_path : (directory : List ℕ) (a b : ComponentPart) → a.source ≡ b.source → model_path directory a ≡ model_path directory b
 same_path directory a b e = ap (λ (source : List ℕ). description_path (in_folder directory source)) e
 
 -- a source that is new has a path that is
-pub new_path : (directory : List ℕ) (taken rest : List ComponentPart) (c : ComponentPart) → IsNew (taken ++ rest) (length taken) c.source →
+pub new_path : (directory : List ℕ) (taken rest : List ComponentPart) (c : ComponentPart) → All HasPlainSource taken → HasPlainSource c → IsNew (taken ++ rest) (length taken) c.source →
     Each (IsOther (model_path directory c)) (map (model_path directory) taken)
-new_path directory [] rest c new = tt
-new_path directory (t ∷ taken) rest c new = (
-  λ same. new 0 (zero-lt-suc (length taken)) (ap Some (same_source directory t c same)),
-  new_path directory taken rest c (λ k below is. let more : suc k < suc (length taken) = omega arith in new (suc k) more is),
+new_path directory [] rest c plain own new = tt
+new_path directory (t ∷ taken) rest c plain own new = (
+  λ same. new 0 (zero-lt-suc (length taken)) (ap Some (same_source directory t c (All-head HasPlainSource t taken plain) own same)),
+  new_path directory taken rest c (All-tail HasPlainSource t taken plain) own (λ k below is. let more : suc k < suc (length taken) = omega arith in new (suc k) more is),
 )

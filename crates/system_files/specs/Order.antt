@@ -3,6 +3,7 @@
 use Rattle.std.specs.Prelude.{◌≡◌, ℕ, Bool, true, false, ◌==◌, if◌then◌else◌, List, [], ◌∷◌, ◌++◌, length, map, Option, Some, None, IsSomeAnd, slice_get}
 use Rattle.std.specs.List.{AllZip, flat_map}
 use Rattle.std.specs.Option.{option_map_or}
+use Rattle.sim_base.specs.Path.{joined_path}
 use Rattle.sim_base.specs.declared.numbers.PortId.{PortId}
 use Rattle.value_types.specs.declared.shape.Shape.{Shape}
 use Rattle.system_model.specs.declared.bound.Bound.{Bound}
@@ -54,7 +55,7 @@ files_before what.System directory = structure_path directory ∷ []
 
 -- the folder of a component's FMU: its source below the directory; without a source the directory itself
 abbrev pub folder_of : List ℕ → ComponentPart → List ℕ
-folder_of directory c = if length c.source == 0 then directory else directory ++ 47 ∷ c.source
+folder_of directory c = if length c.source == 0 then directory else joined_path directory c.source
 
 abbrev pub folders_of : List ℕ → Outline → List (List ℕ)
 folders_of directory o = map (folder_of directory) o.systems.components
@@ -95,7 +96,7 @@ base_folder directory o (owner.Component place) base.Component =
     option_map_or (folder_of directory) (slice_get o.systems.components place) directory
 
 abbrev pub part_path : List ℕ → Outline → Owner → SourceBase → List ℕ → List ℕ
-part_path directory o owner base path = base_folder directory o owner base ++ 47 ∷ path
+part_path directory o owner base path = joined_path (base_folder directory o owner base) path
 
 -- the files that a part of a binding asks for: its own, or none where it stands in the outline
 abbrev pub part_files : List ℕ → Outline → Owner → Origin → List (List ℕ)
@@ -193,12 +194,6 @@ IsBindingToldIn s o n in_mapping path =
 
 -- ---- what it comes to
 
--- the file of a component's description, or that of the outline
-abbrev pub IsToldIn : Search → Outline → Option ℕ → List ℕ → Type 0
-IsToldIn s o None path = path ≡ outline_path s.subject s.directory
-IsToldIn s o (Some component) path =
-    IsSomeAnd (slice_get o.systems.components component) (λ c. path ≡ model_path s.directory c)
-
 -- a file that isn't taken, or a system
 pub data Finding : Type 0 where
   Fails : List ℕ → Flaw → Finding
@@ -234,13 +229,13 @@ pub data Comes (s : Search) (reads : List ReadNote) : List (List ℕ) → Findin
       parameters.BreaksBinding o shapes given n in_mapping rule place →
       IsBindingToldIn s o n in_mapping path → asked ≡ asked_with s o o.systems.bindings →
       finding ≡ Fails path (Faulty rule place []) → Comes s reads asked finding
-  -- the bindings give values, and the structure and the descriptions break a rule together
+  -- the bindings give values, and the structure and the descriptions break a rule together, told in the file of the outline
   NoSystem : (o : Outline) (shapes : List Shape) (given : List GivenBinding) (bound : Bound)
-      (component : Option ℕ) (rule : Rule) (place : Place) (ports : List PortId)
-      (path : List ℕ) (asked : List (List ℕ)) (finding : Finding) →
+      (rule : Rule) (place : Place) (ports : List PortId) (path : List ℕ)
+      (asked : List (List ℕ)) (finding : Finding) →
       ReachesBindings s reads o shapes o.systems.bindings given [] →
-      parameters.Binds o shapes given bound →
-      BreaksTogether o shapes component rule place ports → IsToldIn s o component path →
+      parameters.Binds o shapes given bound → BreaksTogether o shapes rule place ports →
+      path ≡ outline_path s.subject s.directory →
       asked ≡ asked_with s o o.systems.bindings →
       finding ≡ Fails path (Faulty rule place ports) → Comes s reads asked finding
   -- they make a system

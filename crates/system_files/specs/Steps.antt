@@ -20,8 +20,6 @@ use Rattle.ssd_tree.specs.declared.tree.Owner.{Owner}
 use Rattle.flatten.specs.Flat.{source_at}
 use Rattle.system_loading.specs.declared.fault.Fault.{Fault}
 use Rattle.system_loading.specs.declared.fault.Fault.TheVariants as f
-use Rattle.system_loading.specs.declared.assembly.AssemblyFault.{AssemblyFault}
-use Rattle.system_loading.specs.declared.assembly.AssemblyFault.TheVariants as together
 use Rattle.system_loading.specs.declared.binding.BindingFault.{BindingFault}
 use Rattle.system_loading.specs.declared.binding.BindingFault.TheVariants as binds
 use Rattle.system_loading.specs.declared.outline.Outline.{Outline}
@@ -41,7 +39,7 @@ use Rattle.system_files.specs.declared.named.FileFault.TheVariants.{Unread, Miss
 use Rattle.system_files.specs.declared.subject.Subject.{Subject}
 use Rattle.system_files.specs.declared.subject.Subject.TheVariants as what
 use Rattle.system_files.specs.Files.{Absent, Faulty, HasFile, LacksFile, Flaw, Long, first_uses, structure_path}
-use Rattle.system_files.specs.Order.{IsBindingToldIn, IsPart, IsToldIn, Search, binding_files, files_before, folders_of, model_path, origin_of, outline_path, part_files, part_path}
+use Rattle.system_files.specs.Order.{IsBindingToldIn, IsPart, Search, binding_files, files_before, folders_of, model_path, origin_of, outline_path, part_files, part_path}
 
 -- ---- a file alone
 
@@ -329,12 +327,6 @@ HasBindingPart o (binds.Broken binding in_mapping rule place) =
     IsSome (origin_of in_mapping b))
 HasBindingPart o binds.Memory = Unit {0}
 
--- the component in whose description a fault is told stands in the outline
-abbrev pub HasComponent : Outline → AssemblyFault → Type 0
-HasComponent o (together.Broken component rule place ports) =
-    IfSome component (λ n. n < length o.systems.components)
-HasComponent o together.Memory = Unit {0}
-
 -- the end at a rule that what bindings give breaks, or that an outline and shapes break together, or without memory
 pub data EndsTogether (s : Search) (o : Outline) (shapes : List Shape) (given : List GivenBinding)
     (ended : LoadEnd) : Type 0 where
@@ -342,9 +334,10 @@ pub data EndsTogether (s : Search) (o : Outline) (shapes : List Shape) (given : 
       (file : NamedFile) → BreaksBindingAlone o shapes given n in_mapping rule place →
       IsBindingToldIn s o n in_mapping file.path → ports ≡ [] →
       ended ≡ end.File file (Broken rule place ports) → EndsTogether s o shapes given ended
-  AtRule : (bound : Bound) (component : Option ℕ) (rule : Rule) (place : Place)
-      (ports : List PortId) (file : NamedFile) → BindsAlone o shapes given bound →
-      BreaksTogetherAlone o shapes component rule place ports → IsToldIn s o component file.path →
+  AtRule : (bound : Bound) (rule : Rule) (place : Place) (ports : List PortId)
+      (file : NamedFile) → BindsAlone o shapes given bound →
+      BreaksTogetherAlone o shapes rule place ports →
+      file.path ≡ outline_path s.subject s.directory →
       ended ≡ end.File file (Broken rule place ports) → EndsTogether s o shapes given ended
   NoSystemRoom : ended ≡ end.Memory → EndsTogether s o shapes given ended
 

@@ -2,11 +2,11 @@
 ghost use Rattle.std.specs.Prelude.{◌≡◌, ℕ, ◌≤◌, ◌^◌, All, IfErr, IfOk, length};
 ghost use Rattle.ssd_tree.specs.declared.tree.ComponentPart.{ComponentPart};
 ghost use Rattle.ssd_tree.specs.Named.{IsNamedTree};
+ghost use Rattle.ssd_tree.specs.Parts.{IsPlain};
 ghost use Rattle.system_model.specs.declared.system.Component.{Component};
 ghost use Rattle.system_model.specs.Bounds.{BindsParameters};
 ghost use Rattle.system_model.specs.Sound.{IsSound};
 ghost use Rattle.flatten.specs.Given.{AreShapesOf, IsWhole};
-ghost use Rattle.system_loading.specs.Assembly.{IsBuilt};
 ghost use Rattle.system_loading.specs.Binding.{AreReady};
 ghost use Rattle.system_files.specs.Loads.{EndsLoading, IsNamed, Loads};
 ghost use Rattle.system_files.specs.Order.{Found, search_of};
@@ -52,7 +52,6 @@ pub fn load<F: Folder>(
     ensures ok { IfOk result (λ loaded. Loads (search_of subject directory.now resolution)
         (Found loaded) (F.view folder.old) (F.view folder.new)) }
     ensures sound { IfOk result (λ loaded. IsSound loaded.system) }
-    ensures built { IfOk result (λ loaded. IsBuilt loaded.system) }
     ensures named { IfOk result (λ loaded. All IsNamed loaded.system.components) }
     ensures counts { IfOk result
         (λ loaded. All (λ (c : Component). c.shape.resolution ≡ resolution)
@@ -108,10 +107,10 @@ fn load_models<F: Folder>(
     requires document { HasDocument outline.now }
     requires short { All (λ (c : ComponentPart). length c.name ≤ 2 ^ 24)
         outline.now.systems.components }
+    requires plain { All (λ (c : ComponentPart). IsPlain c.source) outline.now.systems.components }
     ensures ok { IfOk result (λ loaded. TakesModels (search_of subject directory.now resolution)
         outline.now loaded (F.view folder.old) (F.view folder.new)) }
     ensures sound { IfOk result (λ loaded. IsSound loaded.system) }
-    ensures built { IfOk result (λ loaded. IsBuilt loaded.system) }
     ensures named { IfOk result (λ loaded. All IsNamed loaded.system.components) }
     ensures counts { IfOk result
         (λ loaded. All (λ (c : Component). c.shape.resolution ≡ resolution)
@@ -146,7 +145,6 @@ fn put_together(
     requires parts { HasParts outline.now.systems.bindings given.items }
     ensures ok { IfOk result (IsLoaded directory.now outline.now shapes.now given.items) }
     ensures sound { IfOk result (λ loaded. IsSound loaded.system) }
-    ensures built { IfOk result (λ loaded. IsBuilt loaded.system) }
     ensures bound { IfOk result (λ loaded. BindsParameters loaded.system loaded.bound) }
     ensures err { IfErr result (λ end. (per_second : ℕ) →
         EndsTogether (search_of subject directory.now per_second) outline.now shapes.now given.items
@@ -162,7 +160,7 @@ fn put_together(
                 }),
                 Err(_) => Err(LoadEnd::Memory),
             },
-            Err(fault) => Err(refuse_together(alloc, subject, directory, outline, fault)),
+            Err(fault) => Err(refuse_together(alloc, subject, directory, fault)),
         },
         Err(fault) => Err(refuse_binding(alloc, subject, directory, outline, fault)),
     }

@@ -1,9 +1,10 @@
 //! Where the files stand.
-ghost use Rattle.std.specs.Prelude.{◌≡◌, ◌∷◌, ◌++◌, IfOk};
+ghost use Rattle.std.specs.Prelude.{◌≡◌, IfOk};
+ghost use Rattle.sim_base.specs.Path.{joined_path};
 ghost use Rattle.system_files.specs.Files.{description_path, structure_path};
 ghost use Rattle.system_files.specs.Order.{base_folder, folder_of, folders_of, part_path};
 
-use sim_base::{Items, Text};
+use sim_base::{Items, Text, join_path};
 use ssd_tree::{ComponentPart, Owner, SourceBase};
 use std::alloc::{AllocError, Global};
 use system_loading::Outline;
@@ -105,12 +106,9 @@ pub(crate) fn structure_path(alloc: Global, directory: &str) -> Result<Text, All
     join(alloc, directory, "SystemStructure.ssd")
 }
 
-// A path below a folder. What structures name is plain already, so that it stands behind the folder as it is.
+// A path below a folder.
 fn join(alloc: Global, folder: &str, path: &str) -> Result<Text, AllocError>
-    ensures { IfOk result (λ joined. joined ≡ folder.now ++ 47 ∷ path.now) }
+    ensures { IfOk result (λ joined. joined ≡ joined_path folder.now path.now) }
 {
-    let mut joined = String::from_str(alloc, folder)?;
-    joined.push_str("/")?;
-    joined.push_str(path)?;
-    Ok(Text::from_string(joined))
+    Ok(Text::from_string(join_path(alloc, folder, path)?))
 }

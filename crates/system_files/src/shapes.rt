@@ -1,8 +1,10 @@
 //! The shapes of components, whose descriptions are read in the order of their first uses.
-ghost use Rattle.std.specs.Prelude.{◌≡◌, ℕ, List, IfErr, IfOk, IfSome, length, slice_get};
+ghost use Rattle.std.specs.Prelude.{◌≡◌, ℕ, All, List, IfErr, IfOk, IfSome, length, slice_get};
 ghost use Rattle.doc_tables.specs.Places.{found_name};
 ghost use Rattle.doc_tables.specs.Tables.{IsTableBelow};
 ghost use Rattle.flatten.specs.Flat.{source_at};
+ghost use Rattle.ssd_tree.specs.Parts.{IsPlain};
+ghost use Rattle.ssd_tree.specs.declared.tree.ComponentPart.{ComponentPart};
 ghost use Rattle.system_files.specs.Order.{model_path};
 ghost use Rattle.system_files.specs.Steps.{EndsAt, EndsNext, EndsShapes, FailsModel, IsNew, SaysModel, TakesFile, TakesNext, TakesShapes};
 
@@ -25,6 +27,7 @@ pub(crate) fn load_shapes<F: Folder>(
     resolution: u64,
     folder: &mut F,
 ) -> Result<Vec<Shape>, LoadEnd>
+    requires { All (λ (c : ComponentPart). IsPlain c.source) components.now }
     ensures ok { IfOk result (λ shapes. TakesShapes resolution directory.now components.now
         shapes.items (F.view folder.old) (F.view folder.new)) }
     ensures err { IfErr result (λ end. EndsShapes resolution directory.now components.now end

@@ -1,19 +1,19 @@
 //! Where the rules that files break together are told.
-ghost use Rattle.std.specs.Prelude.{ℕ, Bool, ◌<◌, List, IfOk, IfSome, IsSome, IsSomeAnd, length, slice_get};
+ghost use Rattle.std.specs.Prelude.{ℕ, List, IfOk, IsSome, IsSomeAnd, slice_get};
 ghost use Rattle.ssd_tree.specs.declared.tree.Binding.{Binding};
 ghost use Rattle.system_model.specs.declared.bound.Bound.{Bound};
 ghost use Rattle.value_types.specs.declared.shape.Shape.{Shape};
+ghost use Rattle.system_loading.specs.declared.outline.Outline.{Outline};
 ghost use Rattle.system_loading.specs.declared.parameters.GivenBinding.{GivenBinding};
 ghost use Rattle.system_loading.specs.Binding.{BindsAlone, TellsBinding};
 ghost use Rattle.system_loading.specs.Faults.{TellsTogether};
-ghost use Rattle.system_files.specs.Order.{IsBindingToldIn, IsToldIn, origin_of, search_of};
-ghost use Rattle.system_files.specs.Steps.{EndsTogether, HasBindingPart, HasComponent};
+ghost use Rattle.system_files.specs.Order.{IsBindingToldIn, origin_of, search_of};
+ghost use Rattle.system_files.specs.Steps.{EndsTogether, HasBindingPart};
 
 use crate::bindings::{name_outline, name_part_told};
 use crate::loading::LoadEnd;
 use crate::named::{FileFault, NamedFile};
 use crate::room::NoMemory;
-use crate::shapes::name_model;
 use crate::subject::Subject;
 use sim_base::Items;
 use std::alloc::Global;
@@ -24,20 +24,16 @@ pub(crate) fn refuse_together(
     alloc: Global,
     subject: Subject,
     directory: &str,
-    outline: &Outline,
     fault: AssemblyFault,
 ) -> LoadEnd
-    requires { HasComponent outline.now fault }
-    ensures { (per_second : ℕ) (shapes : List Shape) (given : List GivenBinding) (bound : Bound) → BindsAlone outline.now shapes given bound → TellsTogether outline.now shapes fault →
-        EndsTogether (search_of subject directory.now per_second) outline.now shapes given result }
+    ensures { (per_second : ℕ) (outline : Outline) (shapes : List Shape) (given : List GivenBinding) (bound : Bound) → BindsAlone outline shapes given bound →
+        TellsTogether outline shapes fault →
+        EndsTogether (search_of subject directory.now per_second) outline shapes given result }
 {
     match fault {
-        AssemblyFault::Broken {
-            component,
-            rule,
-            place,
-            ports,
-        } => match name_told(alloc, subject, directory, outline, component) {
+        AssemblyFault::Broken { rule, place, ports } => match name_outline(
+            alloc, subject, directory,
+        ) {
             Ok(file) => LoadEnd::File {
                 file,
                 fault: FileFault::Broken { rule, place, ports },
@@ -45,28 +41,6 @@ pub(crate) fn refuse_together(
             Err(_) => LoadEnd::Memory,
         },
         AssemblyFault::Memory => LoadEnd::Memory,
-    }
-}
-
-// The description of a component, or the file that tells the outline.
-fn name_told(
-    alloc: Global,
-    subject: Subject,
-    directory: &str,
-    outline: &Outline,
-    component: Option<usize>,
-) -> Result<NamedFile, NoMemory>
-    requires { IfSome component (λ n. n < length outline.now.systems.components) }
-    ensures { IfOk result (λ file. (per_second : ℕ) →
-        IsToldIn (search_of subject directory.now per_second) outline.now component file.path) }
-{
-    match component {
-        Some(component) => name_model(
-            alloc,
-            directory,
-            &outline.systems.components.as_slice()[component],
-        ),
-        None => name_outline(alloc, subject, directory),
     }
 }
 

@@ -1,5 +1,4 @@
 pub mod AssemblyLemmas
-pub mod BuiltLemmas
 pub mod ReadingLemmas
 pub mod TokenLemmas
 pub mod WithinLemmas

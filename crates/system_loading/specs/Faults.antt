@@ -1,5 +1,5 @@
 -- What a fault of a file, or of files together, says.
-use Rattle.std.specs.Prelude.{◌≡◌, ℕ, List, Option}
+use Rattle.std.specs.Prelude.{◌≡◌, List}
 use Rattle.sim_base.specs.declared.numbers.PortId.{PortId}
 use Rattle.value_types.specs.declared.shape.Shape.{Shape}
 use Rattle.doc_events.specs.declared.error.DocError.{DocError}
@@ -13,7 +13,7 @@ use Rattle.system_loading.specs.declared.assembly.AssemblyFault.TheVariants as t
 use Rattle.system_loading.specs.declared.fault.Fault.{Fault}
 use Rattle.system_loading.specs.declared.fault.Fault.TheVariants.{Broken, Memory}
 use Rattle.system_loading.specs.declared.outline.Outline.{Outline}
-use Rattle.system_loading.specs.Assembly.{BreaksTogetherAlone, IsOrdered}
+use Rattle.system_loading.specs.Assembly.{BreaksTogetherAlone}
 use Rattle.system_loading.specs.Readings.{BreaksAlone}
 
 -- the fault tells the rule that is broken first, unless memory is wanting
@@ -23,13 +23,9 @@ TellsFirst Says Breaks Memory = Unit {0}
 
 -- the same of what an outline and shapes break together
 abbrev pub TellsTogether : Outline → List Shape → AssemblyFault → Type 0
-TellsTogether o shapes (together.Broken component rule place ports) =
-    BreaksTogetherAlone o shapes component rule place ports
+TellsTogether o shapes (together.Broken rule place ports) =
+    BreaksTogetherAlone o shapes rule place ports
 TellsTogether o shapes together.Memory = Unit {0}
-
--- the same of a part that isn't built yet, where there is a flattened system whose ports have orders
-abbrev pub TellsUnbuilt : Outline → List Shape → AssemblyFault → Type 0
-TellsUnbuilt o shapes fault = IsOrdered o shapes → TellsTogether o shapes fault
 
 -- ---- what is told
 
@@ -38,11 +34,10 @@ abbrev pub SaysFault : Rule → Place → Fault → Type 0
 SaysFault rule place (Broken r p) = (r ≡ rule) × (p ≡ place)
 SaysFault rule place Memory = Unit {0}
 
--- the fault tells this component, rule, place and these ports, unless memory is wanting
-abbrev pub SaysTogether : Option ℕ → Rule → Place → List PortId → AssemblyFault → Type 0
-SaysTogether component rule place ports (together.Broken c r p l) =
-    (c ≡ component) × (r ≡ rule) × (p ≡ place) × (l ≡ ports)
-SaysTogether component rule place ports together.Memory = Unit {0}
+-- the fault tells this rule and place and these ports, unless memory is wanting
+abbrev pub SaysTogether : Rule → Place → List PortId → AssemblyFault → Type 0
+SaysTogether rule place ports (together.Broken r p l) = (r ≡ rule) × (p ≡ place) × (l ≡ ports)
+SaysTogether rule place ports together.Memory = Unit {0}
 
 -- the fault of bytes that are no document
 abbrev pub IsDocumentFault : DocError → Fault → Type 0

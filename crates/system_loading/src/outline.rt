@@ -29,8 +29,8 @@ impl Outline {
     }
 }
 
-/// The root of a model description.
-pub(crate) fn whole_place(alloc: Global) -> Result<Place, AllocError>
+// The root of a model description.
+fn whole_place(alloc: Global) -> Result<Place, AllocError>
     ensures { IfOk result (λ place. place ≡ whole_place) }
 {
     Ok(Place::Element {

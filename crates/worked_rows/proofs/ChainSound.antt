@@ -11,7 +11,6 @@ use Rattle.system_model.specs.declared.system.Component.{Component}
 use Rattle.system_model.specs.declared.system.System.{System}
 use Rattle.system_model.specs.Sound.{IsSound}
 use Rattle.fmu_peer.specs.View.{View}
-use Rattle.calling_sequence.specs.Systems.{IsBuilt}
 use Rattle.step_master.specs.System.{ArePeersOf, IsNew}
 use Rattle.run_rows.proofs.CallerLemmas.{sound_by}
 use Rattle.worked_rows.specs.Chain.{chain, gain_on}
@@ -30,9 +29,6 @@ of_first = component (codes "first") 0 (gain_on [])
 
 abbrev of_second : Component
 of_second = component (codes "second") 1 (gain_on (2 ∷ []))
-
-pub chain_built : (system : System) → system ≡ chain → IsBuilt system
-chain_built system is = subst IsBuilt (sym is) (record { no_early = both (λ (c : Component). c.shape.might_return_early ≡ false) of_first of_second refl refl })
 
 pub chain_counts : (system : System) → system ≡ chain → All (λ (c : Component). c.shape.resolution ≡ 1000) system.components
 chain_counts system is = subst (λ (s : System). All (λ (c : Component). c.shape.resolution ≡ 1000) s.components) (sym is) (both (λ (c : Component). c.shape.resolution ≡ 1000) of_first of_second refl refl)

@@ -11,7 +11,6 @@ use Rattle.system_model.specs.declared.system.Component.{Component}
 use Rattle.system_model.specs.declared.system.System.{System}
 use Rattle.system_model.specs.Sound.{IsSound}
 use Rattle.fmu_peer.specs.View.{View}
-use Rattle.calling_sequence.specs.Systems.{IsBuilt}
 use Rattle.step_master.specs.System.{ArePeersOf, IsNew}
 use Rattle.run_rows.proofs.CallerLemmas.{sound_by}
 use Rattle.fmu_peer.specs.Machine.{IsMachineOf}
@@ -23,9 +22,6 @@ use Rattle.worked_rows.proofs.ChainSound.{both}
 
 pub ticking_sound : (system : System) → system ≡ ticking → IsSound system
 ticking_sound system is = subst IsSound (sym is) (sound_by ticking refl refl)
-
-pub ticking_built : (system : System) → system ≡ ticking → IsBuilt system
-ticking_built system is = subst IsBuilt (sym is) (record { no_early = both (λ (c : Component). c.shape.might_return_early ≡ false) settling own refl refl })
 
 pub ticking_counts : (system : System) → system ≡ ticking → All (λ (c : Component). c.shape.resolution ≡ 1000) system.components
 ticking_counts system is = subst (λ (s : System). All (λ (c : Component). c.shape.resolution ≡ 1000) s.components) (sym is) (both (λ (c : Component). c.shape.resolution ≡ 1000) settling own refl refl)

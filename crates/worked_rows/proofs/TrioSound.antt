@@ -24,7 +24,6 @@ use Rattle.system_model.specs.Outputs.{HasOutputsAlone, IsOfOutputs}
 use Rattle.system_model.specs.Sound.{IsSound}
 use Rattle.system_model.proofs.CallerLemmas.{true_false, outputs_sound}
 use Rattle.fmu_peer.specs.View.{View}
-use Rattle.calling_sequence.specs.Systems.{IsBuilt}
 use Rattle.step_master.specs.System.{ArePeersOf, IsNew}
 use Rattle.worked_rows.specs.Trio.{AreIncValues, component, counting, inc_value, number, on_nothing, port, trio}
 
@@ -103,12 +102,6 @@ of_outputs = record {
 
 pub trio_sound : (system : System) → system ≡ trio → IsSound system
 trio_sound system is = subst IsSound (sym is) (outputs_sound trio of_outputs)
-
-built : IsBuilt trio
-built = record { no_early = all3 (λ (c : Component). c.shape.might_return_early ≡ false) first second third refl refl refl }
-
-pub trio_built : (system : System) → system ≡ trio → IsBuilt system
-trio_built system is = subst IsBuilt (sym is) built
 
 pub trio_counts : (system : System) → system ≡ trio → All (λ (c : Component). c.shape.resolution ≡ 1000) system.components
 trio_counts system is = subst (λ (s : System). All (λ (c : Component). c.shape.resolution ≡ 1000) s.components) (sym is) counts

@@ -51,7 +51,7 @@ pub(crate) fn make_unbound(alloc: Global) -> Result<Bound, AllocError>
     })
 }
 
-#[tactic(auto, using(crate::proofs::ChainSound::chain_sound, crate::proofs::ChainSound::chain_built, crate::proofs::ChainSound::chain_counts))]
+#[tactic(auto, using(crate::proofs::ChainSound::chain_sound, crate::proofs::ChainSound::chain_counts))]
 fn run_chain<R: Abort + Threads + Sync, S: Spawner>(
     rt: &R,
     alloc: Global,

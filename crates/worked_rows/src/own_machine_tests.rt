@@ -35,7 +35,7 @@ fn make_counters(alloc: Global, system: &System) -> Result<Vec<OwnCounter>, Allo
     Ok(peers)
 }
 
-#[tactic(auto, using(crate::proofs::ChainSound::chain_sound, crate::proofs::ChainSound::chain_built, crate::proofs::ChainSound::chain_counts))]
+#[tactic(auto, using(crate::proofs::ChainSound::chain_sound, crate::proofs::ChainSound::chain_counts))]
 fn run_counters<R: Threads + Sync>(
     rt: &R,
     alloc: Global,
@@ -82,7 +82,7 @@ fn make_tickers(alloc: Global, system: &System) -> Result<Vec<Ticker>, AllocErro
     Ok(peers)
 }
 
-#[tactic(auto, using(crate::proofs::TickingSound::ticking_sound, crate::proofs::TickingSound::ticking_built, crate::proofs::TickingSound::ticking_counts))]
+#[tactic(auto, using(crate::proofs::TickingSound::ticking_sound, crate::proofs::TickingSound::ticking_counts))]
 fn run_tickers<R: Threads + Sync>(
     rt: &R,
     alloc: Global,

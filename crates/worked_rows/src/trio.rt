@@ -4,7 +4,6 @@ ghost use Rattle.value_types.specs.Values.{Fits};
 ghost use Rattle.value_types.specs.declared.values.PortType.TheVariants as PortType;
 ghost use Rattle.system_model.specs.Bounds.{BindsParameters};
 ghost use Rattle.system_model.specs.Sound.{IsSound};
-ghost use Rattle.calling_sequence.specs.Systems.{IsBuilt};
 ghost use Rattle.step_master.specs.System.{ArePeersOf, IsNew};
 ghost use Rattle.worked_rows.specs.Trio.{AreIncValues, component, counting, in_turn, inc_value, number, on_nothing, port, trio};
 
@@ -211,7 +210,7 @@ pub(crate) struct Ran<L: Peer> {
 }
 
 /// Runs the three FMUs from 0 to the stop by steps of 10, each with `inc` bound where a value is given, and closes them.
-#[tactic(auto, using(crate::proofs::TrioSound::trio_built, crate::proofs::TrioSound::trio_counts))]
+#[tactic(auto, using(crate::proofs::TrioSound::trio_counts))]
 pub(crate) fn run_trio<R: Abort + Threads + Sync, S: Spawner>(
     rt: &R,
     alloc: Global,
@@ -245,7 +244,6 @@ pub(crate) fn run_system<R: Threads + Sync, L: Peer>(
     out: &mut MemSink,
 ) -> Ran<L>
     requires sound { IsSound system }
-    requires built { IsBuilt system }
     requires counts { All (λ c. c.shape.resolution ≡ 1000) system.components }
     requires bound { BindsParameters system bound }
     requires peers { ArePeersOf system (map L.view peers.items) }
@@ -257,6 +255,7 @@ pub(crate) fn run_system<R: Threads + Sync, L: Peer>(
         step: 10,
         stop,
         limit: 2,
+        workers: 1,
     };
     match Master::prepare(alloc, system, bound, peers, plan) {
         Ok(mut master) => {

@@ -5,7 +5,7 @@ ghost use Rattle.doc_tables.specs.Answers.{Refuses};
 ghost use Rattle.system_model.specs.Sound.{IsSound};
 ghost use Rattle.system_model.specs.declared.system.System.{System};
 ghost use Rattle.flatten.specs.Answers.{Faults, GivesParts};
-ghost use Rattle.flatten.specs.Flat.{Flattens, SavesStates};
+ghost use Rattle.flatten.specs.Flat.{Flattens};
 ghost use Rattle.flatten.specs.Given.{AreShapesOf, IsWhole};
 ghost use Rattle.flatten.specs.Rules.{IsFirstViolation, IsFitting};
 
@@ -22,7 +22,7 @@ pub fn flatten_tree(alloc: Global, tree: &SystemTree, shapes: &[Shape]) -> Resul
     requires shapes { AreShapesOf tree.now shapes.now }
     ensures fitting { IfOk result (λ system. IsFitting tree.now shapes.now) }
     ensures found { IfOk result (Flattens tree.now shapes.now) }
-    ensures sound { IfOk result (λ system. SavesStates system → IsSound system) }
+    ensures sound { IfOk result IsSound }
     ensures fault { IfErr result (Faults tree.now shapes.now) }
     ensures exact { (rule : Rule) (node : ℕ) → IsFirstViolation tree.now shapes.now node rule →
         Refuses result rule node }

@@ -4,7 +4,7 @@ ghost use Rattle.std.specs.List.{AllZip};
 ghost use Rattle.system_model.specs.Bounds.{AreParameterValues};
 ghost use Rattle.system_model.specs.Sound.{IsSound};
 ghost use Rattle.flatten.specs.Given.{AreShapesOf, IsWhole};
-ghost use Rattle.system_loading.specs.Assembly.{IsBuilt, MakesAlone};
+ghost use Rattle.system_loading.specs.Assembly.{MakesAlone};
 ghost use Rattle.system_loading.specs.Binding.{AreReady, BindsAlone, TellsBinding};
 ghost use Rattle.system_loading.specs.Faults.{TellsFirst, TellsTogether};
 ghost use Rattle.system_loading.specs.Readings.{BreaksModel, IsModel, SaysAlone};
@@ -38,7 +38,6 @@ pub fn assemble_system(
     ensures ok { IfOk result (MakesAlone outline.now shapes.now) }
     ensures err { IfErr result (TellsTogether outline.now shapes.now) }
     ensures sound { IfOk result IsSound }
-    ensures built { IfOk result IsBuilt }
 {
     assemble(alloc, outline, shapes)
 }

@@ -10,7 +10,7 @@ use Rattle.calling_sequence.specs.Course.{Place}
 use Rattle.calling_sequence.specs.Goes.{Breaks, Onward, spot}
 use Rattle.calling_sequence.specs.Ready.{AreTimed}
 use Rattle.calling_sequence.proofs.ScheduleSteps.{begins, never_first, timed_behind}
-use Rattle.calling_sequence.proofs.Ways.{again_there, asked_by_step, asked_there, done_there, limited_there, stepped_there, stops_there, unfit_there}
+use Rattle.calling_sequence.proofs.Ways.{again_there, asked_by_step, asked_there, breaks_on, done_there, limited_there, stepped_there, stops_there, unfit_there}
 use Rattle.calling_sequence.proofs.run.follow.Goals as goal
 
 -- what breaks off behind a place breaks off behind those that lead to it
@@ -50,7 +50,7 @@ returns-in-Some-clause-arrives g c olds before h =
     let within = c.in-Ok-take.ensures.timed.stands.within in
     let stops = c.in-Ok-take.ensures.timed.stops in
     let before_stop : c.instants.t < c.args.experiment.now.plan.stop = let other = c.if-t-plan.false in omega (arith, other, within, stops) in
-    let bound : IsBoundOf c.args.experiment.now.plan (timers_in c.take.new.buffers.schedule) c.instants.t c.next_bound-to.result = record { before_stop = before_stop; bound = c.next_bound-to.ensures } in
+    let bound : IsBoundOf c.args.experiment.now.plan (timers_in c.take.new.buffers.schedule) c.instants.t c.next_bound-bound.result = record { before_stop = before_stop; bound = c.next_bound-bound.ensures } in
     unfit_there c.args.experiment.now _ _ c.take.new.buffers c.in-Ok-take.updated olds before _ _ _ (c.in-Ok-take.ensures.puts olds before (c.instants.invariant.onward olds before h)) c.if-updated-2.false c.if-updated.false c.in-Some.component _ bound (sym c.in-Some.ensures)
 
 pub cross-requires-clause-ready : goal.cross-requires-clause-ready
@@ -61,48 +61,48 @@ cross-requires-clause-step g c κs lives =
     let within = c.in-Ok-take.ensures.timed.stands.within in
     let stops = c.in-Ok-take.ensures.timed.stops in
     let before_stop : c.instants.t < c.args.experiment.now.plan.stop = let other = c.if-t-plan.false in omega (arith, other, within, stops) in
-    let bound : IsBoundOf c.args.experiment.now.plan (timers_in c.take.new.buffers.schedule) c.instants.t c.next_bound-to.result = record { before_stop = before_stop; bound = c.next_bound-to.ensures } in
+    let bound : IsBoundOf c.args.experiment.now.plan (timers_in c.take.new.buffers.schedule) c.instants.t c.next_bound-bound.result = record { before_stop = before_stop; bound = c.next_bound-bound.ensures } in
     record { bound = bound; fit = sym c.in_default.ensures }
 
 pub returns-in-Err-cross-clause-arrives : goal.returns-in-Err-cross-clause-arrives
 returns-in-Err-cross-clause-arrives g c olds before h =
-    c.in-Err-cross.ensures.goes _ _ olds before (done_there c.args.experiment.now _ _ c.take.new.buffers c.in-Ok-take.updated olds before _ _ _ (c.in-Ok-take.ensures.puts olds before (c.instants.invariant.onward olds before h)) c.if-updated-2.false c.if-updated.false)
+    c.in-Err-cross.ensures.crosses _ _ olds before (done_there c.args.experiment.now _ _ c.take.new.buffers c.in-Ok-take.updated olds before _ _ _ (c.in-Ok-take.ensures.puts olds before (c.instants.invariant.onward olds before h)) c.if-updated-2.false c.if-updated.false)
 
-pub returns-then-is_asked-clause-arrives : goal.returns-then-is_asked-clause-arrives
-returns-then-is_asked-clause-arrives g c olds before h =
-    asked_by_step c.args.experiment.now (spot c.next_bound-to.result 0 c.take.new.buffers) c.in-Ok-cross.is_asked olds before _ _ _ (c.in-Ok-cross.ensures.goes _ _ olds before (done_there c.args.experiment.now _ _ c.take.new.buffers c.in-Ok-take.updated olds before _ _ _ (c.in-Ok-take.ensures.puts olds before (c.instants.invariant.onward olds before h)) c.if-updated-2.false c.if-updated.false)) c.if-is_asked.true
+pub returns-then-agreed-clause-arrives : goal.returns-then-agreed-clause-arrives
+returns-then-agreed-clause-arrives g c olds before h =
+    asked_by_step c.args.experiment.now (spot c.in-Ok-cross.agreed.point 0 c.take.new.buffers) c.in-Ok-cross.agreed.asked olds before _ _ _ (c.in-Ok-cross.ensures.crosses _ _ olds before (done_there c.args.experiment.now _ _ c.take.new.buffers c.in-Ok-take.updated olds before _ _ _ (c.in-Ok-take.ensures.puts olds before (c.instants.invariant.onward olds before h)) c.if-updated-2.false c.if-updated.false)) c.if-agreed.true
 
 pub instants-preserved : goal.instants-preserved
 instants-preserved g c =
     let e = c.args.experiment.now in
     let b = c.take.new.buffers in
-    let to = c.next_bound-to.result in
+    let m = c.in-Ok-cross.agreed.point in
     let begun = c.instants.invariant.begun in
-    let later = c.next_bound-to.ensures.later in
+    let later = c.in-Ok-cross.ensures.later in
     let within = c.in-Ok-take.ensures.timed.stands.within in
     let stops = c.in-Ok-take.ensures.timed.stops in
     let before_stop : c.instants.t < c.args.experiment.now.plan.stop = let other = c.if-t-plan.false in omega (arith, other, within, stops) in
-    let bound : IsBoundOf c.args.experiment.now.plan (timers_in c.take.new.buffers.schedule) c.instants.t c.next_bound-to.result = record { before_stop = before_stop; bound = c.next_bound-to.ensures } in
-    let timed = timed_behind e c.instants.t c.instants.n to b c.requires.ready.may.plan c.in-Ok-take.ensures.timed (c.in-Ok-take.ensures.unarmed c.if-updated-2.false) bound in
+    let bound : IsBoundOf c.args.experiment.now.plan (timers_in c.take.new.buffers.schedule) c.instants.t c.next_bound-bound.result = record { before_stop = before_stop; bound = c.next_bound-bound.ensures } in
+    let timed = timed_behind e c.instants.t c.instants.n _ m b c.requires.ready.may.plan c.in-Ok-take.ensures.timed (c.in-Ok-take.ensures.unarmed c.if-updated-2.false) bound later c.in-Ok-cross.ensures.within in
     record {
       ready = c.in-Ok-enter_event.ensures.ready;
       timed = timed;
       begun = omega (arith, begun, later);
       below = c.requires.ready.may.plan.limit_above;
       text = c.in-Ok-take.ensures.text ∙ c.instants.invariant.text;
-      onward = λ olds before h. c.in-Ok-enter_event.ensures.goes (spot to 0 b) _ _ (begins e.system e.plan b.schedule to 0 true b.values.items timed.places timed.starts timed.stands refl) _ olds before
-          (stepped_there e (spot to 0 b) c.in-Ok-cross.is_asked olds before _ _ _ (c.in-Ok-cross.ensures.goes _ _ olds before (done_there c.args.experiment.now _ _ c.take.new.buffers c.in-Ok-take.updated olds before _ _ _ (c.in-Ok-take.ensures.puts olds before (c.instants.invariant.onward olds before h)) c.if-updated-2.false c.if-updated.false)) c.if-is_asked.false);
+      onward = λ olds before h. c.in-Ok-enter_event.ensures.goes (spot m 0 b) _ _ (begins e.system e.plan b.schedule m 0 true b.values.items timed.places timed.starts timed.stands refl) _ olds before
+          (stepped_there e (spot m 0 b) c.in-Ok-cross.agreed.asked olds before _ _ _ (c.in-Ok-cross.ensures.crosses _ _ olds before (done_there c.args.experiment.now _ _ c.take.new.buffers c.in-Ok-take.updated olds before _ _ _ (c.in-Ok-take.ensures.puts olds before (c.instants.invariant.onward olds before h)) c.if-updated-2.false c.if-updated.false)) c.if-agreed.false);
     }
 
 pub returns-in-Err-enter_event-clause-arrives : goal.returns-in-Err-enter_event-clause-arrives
 returns-in-Err-enter_event-clause-arrives g c olds before h =
     let e = c.args.experiment.now in
     let b = c.take.new.buffers in
-    let to = c.next_bound-to.result in
+    let m = c.in-Ok-cross.agreed.point in
     let within = c.in-Ok-take.ensures.timed.stands.within in
     let stops = c.in-Ok-take.ensures.timed.stops in
     let before_stop : c.instants.t < c.args.experiment.now.plan.stop = let other = c.if-t-plan.false in omega (arith, other, within, stops) in
-    let bound : IsBoundOf c.args.experiment.now.plan (timers_in c.take.new.buffers.schedule) c.instants.t c.next_bound-to.result = record { before_stop = before_stop; bound = c.next_bound-to.ensures } in
-    let timed = timed_behind e c.instants.t c.instants.n to b c.requires.ready.may.plan c.in-Ok-take.ensures.timed (c.in-Ok-take.ensures.unarmed c.if-updated-2.false) bound in
-    c.in-Err-enter_event.ensures.goes (spot to 0 b) _ _ (begins e.system e.plan b.schedule to 0 true b.values.items timed.places timed.starts timed.stands refl) _ olds before
-    (stepped_there e (spot to 0 b) c.in-Ok-cross.is_asked olds before _ _ _ (c.in-Ok-cross.ensures.goes _ _ olds before (done_there c.args.experiment.now _ _ c.take.new.buffers c.in-Ok-take.updated olds before _ _ _ (c.in-Ok-take.ensures.puts olds before (c.instants.invariant.onward olds before h)) c.if-updated-2.false c.if-updated.false)) c.if-is_asked.false)
+    let bound : IsBoundOf c.args.experiment.now.plan (timers_in c.take.new.buffers.schedule) c.instants.t c.next_bound-bound.result = record { before_stop = before_stop; bound = c.next_bound-bound.ensures } in
+    let timed = timed_behind e c.instants.t c.instants.n _ m b c.requires.ready.may.plan c.in-Ok-take.ensures.timed (c.in-Ok-take.ensures.unarmed c.if-updated-2.false) bound c.in-Ok-cross.ensures.later c.in-Ok-cross.ensures.within in
+    c.in-Err-enter_event.ensures.goes (spot m 0 b) _ _ (begins e.system e.plan b.schedule m 0 true b.values.items timed.places timed.starts timed.stands refl) _ olds before
+    (stepped_there e (spot m 0 b) c.in-Ok-cross.agreed.asked olds before _ _ _ (c.in-Ok-cross.ensures.crosses _ _ olds before (done_there c.args.experiment.now _ _ c.take.new.buffers c.in-Ok-take.updated olds before _ _ _ (c.in-Ok-take.ensures.puts olds before (c.instants.invariant.onward olds before h)) c.if-updated-2.false c.if-updated.false)) c.if-agreed.false)

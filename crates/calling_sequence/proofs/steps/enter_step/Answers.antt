@@ -2,7 +2,7 @@ use Rattle.std.proofs.Common.{refl}
 use Rattle.fmi_calls.specs.declared.call.Call.TheVariants as C
 use Rattle.slot_calls.specs.Stage.{has_events, nothing, to_those}
 use Rattle.calling_sequence.specs.Course.{Leaves, Leaving, Left}
-use Rattle.calling_sequence.specs.Place.{IsSettled, IsStepping, no_one}
+use Rattle.calling_sequence.specs.Place.{IsSettled, IsStepping}
 use Rattle.calling_sequence.proofs.Phases.{enter_step_leads, enter_step_stays}
 use Rattle.calling_sequence.proofs.Stages.{by_stage, still_those}
 use Rattle.calling_sequence.proofs.steps.enter_step.Goals as goal
@@ -10,7 +10,7 @@ use Rattle.calling_sequence.proofs.steps.enter_step.Goals as goal
 pub returns-clause-ready : goal.returns-clause-ready
 returns-clause-ready g c =
     let e = c.args.experiment.now in
-    still_those g.L.Peer.view e (IsSettled c.args.t) c.args.slots.now _ c.requires (IsStepping no_one c.args.t) has_events (λ shape. C.EnterStep) (λ v w x p asked l is. enter_step_leads c.args.t e.plan.stop e.plan.step v w x p l is)
+    still_those g.L.Peer.view e (IsSettled c.args.t) c.args.slots.now _ c.requires (IsStepping c.args.t) has_events (λ shape. C.EnterStep) (λ v w x p asked l is. enter_step_leads c.args.t e.plan.stop e.plan.step v w x p l is)
     (enter_step_stays c.args.t e.plan.stop e.plan.step) nothing c.each.result c.each.ensures.stage c.each.ensures.live
 
 pub returns-clause-goes : goal.returns-clause-goes

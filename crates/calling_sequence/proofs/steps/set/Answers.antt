@@ -1,7 +1,7 @@
 use Rattle.std.proofs.Common.{refl}
 use Rattle.event_iteration.specs.Settings.{before_step, port_order}
 use Rattle.calling_sequence.specs.Course.{Departing, Left, Sets, Way}
-use Rattle.calling_sequence.specs.Place.{IsDeparting, IsStepping, no_one}
+use Rattle.calling_sequence.specs.Place.{IsDeparting, IsStepping}
 use Rattle.calling_sequence.proofs.Chains.{IsSet}
 use Rattle.calling_sequence.proofs.Phases.{set_keeps, unset_at}
 use Rattle.calling_sequence.proofs.Stages.{by_walk, keeping_walk, sets_as, weaker}
@@ -16,7 +16,7 @@ returns-clause-ready g c =
     let e = c.args.experiment.now in
     let t = c.args.t in
     let values = c.deref.result.now in
-    keeping_walk g.L.Peer.view e (IsDeparting no_one t) c.args.slots.now _ (weaker g.L.Peer.view e (IsStepping no_one t) (IsDeparting no_one t) (λ v h. h.departing) c.args.slots.now c.requires.ready) (λ shape. IsSet) (set_keeps t e.plan.stop e.plan.step) (before_step values) values (port_order e.system) values
+    keeping_walk g.L.Peer.view e (IsDeparting t) c.args.slots.now _ (weaker g.L.Peer.view e (IsStepping t) (IsDeparting t) (λ v h. h.departing) c.args.slots.now c.requires.ready) (λ shape. IsSet) (set_keeps t e.plan.stop e.plan.step) (before_step values) values (port_order e.system) values
     (λ log. setting_goodly e.system values (port_order e.system) values log values) c.set_inputs.result c.set_inputs.ensures.walks c.set_inputs.ensures.live
 
 pub returns-clause-goes : goal.returns-clause-goes

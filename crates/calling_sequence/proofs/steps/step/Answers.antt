@@ -1,36 +1,25 @@
-use Rattle.std.proofs.Common.{refl, ℕ, ◌-◌, ◌<◌, true}
-use Rattle.fmi_calls.specs.declared.call.Call.TheVariants as C
-use Rattle.slot_calls.specs.Stage.{everyone, shapes_of}
-use Rattle.calling_sequence.specs.declared.experiment.Experiment.{Experiment}
-use Rattle.calling_sequence.specs.Course.{Departing, Spot, Stepped, Steps, Way}
-use Rattle.calling_sequence.specs.Place.{CanStep, IsStepping, no_one}
-use Rattle.calling_sequence.proofs.Phases.{all_end, may_step, step_leads}
-use Rattle.calling_sequence.proofs.Stages.{IsRound, no_round, round_on}
+use Rattle.std.proofs.Common.{Err, subst, sym}
+use Rattle.slot_calls.specs.Slots.{instances}
+use Rattle.rollback.specs.declared.step_end.Agreed.{Agreed}
+use Rattle.calling_sequence.specs.declared.run_end.RunEnd.{RunEnd}
+use Rattle.calling_sequence.specs.Course.{Departing}
+use Rattle.calling_sequence.specs.Goes.{Crosses, stepped_to}
+use Rattle.calling_sequence.proofs.AgreedSteps.{are_ready, crosses_badly, crosses_well, have_stepped, may_be_saved}
 use Rattle.calling_sequence.proofs.steps.step.Goals as goal
 
-module _ (e : Experiment) (t to : ℕ) (later : t < to) where
-  abbrev way : Spot → Way
-  way s = record { s = record s { t = t }; to = to }
+pub agreed_step-requires-clause-ready : goal.agreed_step-requires-clause-ready
+agreed_step-requires-clause-ready g c κs lives = are_ready g.L.Peer.view c.args.experiment.now c.args.t c.args.slots.now c.requires.ready c.args.bound c.requires.within
 
-  stepping : IsRound e (λ s. Departing (way s)) (λ s asked. Stepped (record s { t = to; n = 0 }) asked) (CanStep no_one t to) (IsStepping no_one to) everyone (C.DoStep t (to - t))
-  stepping = record {
-    quiet = λ s x. refl;
-    part_is = λ s. refl;
-    plain = λ v can. can.departing.there.plain;
-    arrow = λ plain s x log done is. Steps (way s) _ log x is (all_end (shapes_of e.system) t to later plain log done);
-    leads = λ v w x can asked led is. step_leads t to e.plan.stop e.plan.step later v w x can led is;
-    stays = λ v can none. absurd (cc);
-  }
+pub agreed_step-requires-clause-saves : goal.agreed_step-requires-clause-saves
+agreed_step-requires-clause-saves g c κs lives = may_be_saved g.L.Peer.view c.args.experiment.now c.args.t c.args.slots.now c.requires.ready
 
-pub round-requires-clause-permitted : goal.round-requires-clause-permitted
-round-requires-clause-permitted g c κs lives = λ k d w asked. may_step c.args.t c.args.to _ _ _ (c.requires.ready.stand k d w) c.requires.later c.requires.within
+pub returns-in-Ok-clause-ready : goal.returns-in-Ok-clause-ready
+returns-in-Ok-clause-ready g c = have_stepped g.L.Peer.view c.args.experiment.now c.args.t c.args.slots.now c.requires.ready c.args.bound c.in-Ok.agreed _ c.in-Ok.ensures.steps c.in-Ok.ensures.stepped
 
-pub returns : goal.returns
-returns g c =
-    let view = g.L.Peer.view in
-    let e = c.args.experiment.now in
-    let t = c.args.t in
-    let to = c.args.to in
-    let olds = c.args.slots.now in
-    let r = round_on view e (λ s. Departing (way e t to c.requires.later s)) olds (λ s x. Departing (way e t to c.requires.later s)) _ true _ _ _ _ (stepping e t to c.requires.later) (λ s. refl) olds _ (no_round view e _ olds _ c.requires.ready) c.round.result c.round.ensures.round c.round.ensures.live in
-    record { ready = r.ready; goes = r.goes }
+pub returns-in-Ok-clause-crosses : goal.returns-in-Ok-clause-crosses
+returns-in-Ok-clause-crosses g c s count = crosses_well g.L.Peer.view c.args.experiment.now c.args.t c.args.slots.now c.requires.ready c.args.bound _ s count c.in-Ok.agreed c.in-Ok.ensures.steps
+
+pub returns-in-Err-clause-crosses : goal.returns-in-Err-clause-crosses
+returns-in-Err-clause-crosses g c s count =
+    subst (λ (end : RunEnd). Crosses {T = Agreed} c.args.experiment.now (Departing (record { s = record s { t = c.args.t }; to = c.args.bound })) (stepped_to s) (instances g.L.Peer.view c.args.slots.now) (instances g.L.Peer.view c.agreed_step.new.slots) count count (Err (record { end = end; point = c.args.t }))) (sym c.end_of_step.ensures)
+    (crosses_badly g.L.Peer.view c.args.experiment.now c.args.t c.args.slots.now c.requires.ready c.args.bound c.agreed_step.new.slots s count c.requires.fit c.in-Err.end c.in-Err.ensures.steps)

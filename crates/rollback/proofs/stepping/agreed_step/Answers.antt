@@ -1,5 +1,5 @@
 use Rattle.std.proofs.Common.{arith, sym, ◌∙◌}
-use Rattle.rollback.proofs.SavedSteps.{agreement_stops, begin_mid, can_free, can_save, done, early_counted, fits_all, frees_bad, placed_mid, ready_end, saved_mid, saves_badly, unfitted}
+use Rattle.rollback.proofs.SavedSteps.{agreement_stops, all_stepped, begin_mid, can_free, can_save, done, early_counted, fits_all, frees_bad, placed_mid, saved_mid, saves_badly, unfitted}
 use Rattle.rollback.proofs.stepping.agreed_step.Goals as goal
 
 pub returns-in-Some-clause-steps : goal.returns-in-Some-clause-steps
@@ -27,8 +27,8 @@ returns-in-Err-agree-clause-steps g c = agreement_stops g.L.Peer.view c.args.t c
 pub send-requires-2-clause-can : goal.send-requires-2-clause-can
 send-requires-2-clause-can g c κs within = can_free g.L.Peer.view c.args.t c.args.bound c.args.step c.early_count.result c.args.slots.now c.requires.ready (c.early_count.ensures ∙ early_counted g.L.Peer.view c.args.slots.now) c.requires.saves c.send.new.slots (omega arith) c.in-Ok.ensures (fits_all g.L.Peer.view c.args.t c.args.bound c.args.step c.args.slots.now c.requires.ready (sym c.first_unfit.ensures.first ∙ c.in-None.is)) c.agree.new.slots (omega arith) c.in-Ok-agree.point c.in-Ok-agree.ensures
 
-pub returns-in-Ok-send-clause-ready : goal.returns-in-Ok-send-clause-ready
-returns-in-Ok-send-clause-ready g c = ready_end g.L.Peer.view c.args.t c.args.bound c.args.step c.early_count.result c.args.slots.now c.requires.ready (c.early_count.ensures ∙ early_counted g.L.Peer.view c.args.slots.now) c.requires.saves c.send.new.slots (omega arith) c.in-Ok.ensures (fits_all g.L.Peer.view c.args.t c.args.bound c.args.step c.args.slots.now c.requires.ready (sym c.first_unfit.ensures.first ∙ c.in-None.is)) c.agree.new.slots (omega arith) c.in-Ok-agree.point c.in-Ok-agree.ensures c.send-2.new.slots (omega arith) c.in-Ok-send.ensures
+pub returns-in-Ok-send-clause-stepped : goal.returns-in-Ok-send-clause-stepped
+returns-in-Ok-send-clause-stepped g c = all_stepped g.L.Peer.view c.args.t c.args.bound c.args.step c.early_count.result c.args.slots.now c.requires.ready (c.early_count.ensures ∙ early_counted g.L.Peer.view c.args.slots.now) c.requires.saves c.send.new.slots (omega arith) c.in-Ok.ensures (fits_all g.L.Peer.view c.args.t c.args.bound c.args.step c.args.slots.now c.requires.ready (sym c.first_unfit.ensures.first ∙ c.in-None.is)) c.agree.new.slots (omega arith) c.in-Ok-agree.point c.in-Ok-agree.ensures c.send-2.new.slots (omega arith) c.in-Ok-send.ensures
 
 pub returns-in-Ok-send-clause-steps : goal.returns-in-Ok-send-clause-steps
 returns-in-Ok-send-clause-steps g c = done g.L.Peer.view c.args.t c.args.bound c.args.step c.early_count.result c.args.slots.now c.requires.ready (c.early_count.ensures ∙ early_counted g.L.Peer.view c.args.slots.now) c.requires.saves c.send.new.slots (omega arith) c.in-Ok.ensures (fits_all g.L.Peer.view c.args.t c.args.bound c.args.step c.args.slots.now c.requires.ready (sym c.first_unfit.ensures.first ∙ c.in-None.is)) c.agree.new.slots (omega arith) c.in-Ok-agree.point c.in-Ok-agree.ensures c.send-2.new.slots (omega arith) c.in-Ok-send.ensures c.some_ask-asked.result c.some_ask-asked.ensures

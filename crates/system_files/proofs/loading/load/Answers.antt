@@ -5,7 +5,7 @@ use Rattle.system_files.specs.Loads.{EndsLoading, Loads}
 use Rattle.system_files.specs.Order.{Found, search_of}
 use Rattle.system_files.specs.Steps.{EndsModels, TakesModels}
 use Rattle.system_files.proofs.EndLemmas.{ends_models, ends_outline, loads}
-use Rattle.system_files.proofs.SoundLemmas.{outline_document, outline_named, outline_short, outline_whole}
+use Rattle.system_files.proofs.SoundLemmas.{outline_document, outline_named, outline_plain, outline_short, outline_whole}
 use Rattle.system_files.proofs.loading.load.Goals as goal
 
 ok_so : (r : Result Loaded LoadEnd) (P Q : Loaded → Type 0) → ((loaded : Loaded) → P loaded → Q loaded) → IfOk r P → IfOk r Q
@@ -30,6 +30,10 @@ load_models-requires-clause-document g c = outline_document c.args.subject c.arg
 pub load_models-requires-clause-short : goal.load_models-requires-clause-short
 load_models-requires-clause-short g c =
     outline_short c.loading_laws.ensures.names c.args.subject c.args.directory.now c.in-Ok.ensures.ok.reads c.in-Ok.outline c.in-Ok.ensures.ok.is
+
+pub load_models-requires-clause-plain : goal.load_models-requires-clause-plain
+load_models-requires-clause-plain g c =
+    outline_plain c.loading_laws.ensures.plain c.args.subject c.args.directory.now c.in-Ok.ensures.ok.reads c.in-Ok.outline c.in-Ok.ensures.ok.is
 
 pub returns-in-Ok-clause-ok : goal.returns-in-Ok-clause-ok
 returns-in-Ok-clause-ok g c =

@@ -1,6 +1,7 @@
 use Rattle.std.proofs.Common.{◌≡◌, ℕ, List, sym, subst}
 use Rattle.std.specs.Prelude.{All, IfErr, IfOk, Result, Ok, Err}
 use Rattle.std.specs.List.{AllZip}
+use Rattle.ssd_tree.specs.Parts.{IsPlain}
 use Rattle.ssd_tree.specs.declared.tree.ComponentPart.{ComponentPart}
 use Rattle.value_types.specs.declared.shape.Shape.{Shape}
 use Rattle.system_model.specs.declared.system.Component.{Component}
@@ -20,6 +21,9 @@ ok_so (Err end) P Q h p = tt
 err_so : (r : Result Loaded LoadEnd) (P Q : LoadEnd → Type 0) → ((end : LoadEnd) → P end → Q end) → IfErr r P → IfErr r Q
 err_so (Ok loaded) P Q h p = tt
 err_so (Err end) P Q h p = h end p
+
+pub load_shapes-requires : goal.load_shapes-requires
+load_shapes-requires g c = subst (λ (cs : List ComponentPart). All (λ (x : ComponentPart). IsPlain x.source) cs) (sym c.as_slice-components.ensures) c.requires.plain
 
 pub put_together-requires-clause-shapes : goal.put_together-requires-clause-shapes
 put_together-requires-clause-shapes g c =

@@ -1,11 +1,8 @@
-use Rattle.system_files.proofs.SoundLemmas.{binds_parameters, has_binding_part, has_component}
+use Rattle.system_files.proofs.SoundLemmas.{binds_parameters, has_binding_part}
 use Rattle.system_files.proofs.loading.put_together.Goals as goal
 
 pub refuse_binding-requires : goal.refuse_binding-requires
 refuse_binding-requires c = has_binding_part c.args.outline.now c.args.shapes.now c.args.given.items c.in-Err.fault c.requires.parts c.in-Err.ensures.err
-
-pub refuse_together-requires : goal.refuse_together-requires
-refuse_together-requires c = has_component c.args.outline.now c.args.shapes.now c.in-Err-assemble.fault c.requires.shapes.len c.in-Err-assemble.ensures.err
 
 pub returns-in-Ok-folders_of-clause-bound : goal.returns-in-Ok-folders_of-clause-bound
 returns-in-Ok-folders_of-clause-bound c =
@@ -13,7 +10,7 @@ returns-in-Ok-folders_of-clause-bound c =
 
 pub returns-in-Err-assemble-clause-err : goal.returns-in-Err-assemble-clause-err
 returns-in-Err-assemble-clause-err c = λ per_second.
-    c.refuse_together.ensures per_second c.args.shapes.now c.args.given.items c.in-Ok.bound c.in-Ok.ensures.ok c.in-Err-assemble.ensures.err
+    c.refuse_together.ensures per_second c.args.outline.now c.args.shapes.now c.args.given.items c.in-Ok.bound c.in-Ok.ensures.ok c.in-Err-assemble.ensures.err
 
 pub returns-in-Err-clause-err : goal.returns-in-Err-clause-err
 returns-in-Err-clause-err c = λ per_second. c.refuse_binding.ensures per_second c.args.shapes.now c.args.given.items c.in-Err.ensures.err

@@ -42,7 +42,7 @@ returns-in-Err-clause-err g c =
     let view = g.F.Folder.view in
     let end = c.in-Err.end in
     ends_more c.args.resolution c.args.directory.now (view c.args.folder.now) (view c.loop-place.folder) c.args.components.now c.loop-place.place c.index-components-place.result
-    c.loop-place.shapes.items c.loop-place-test.true c.index-components-place.is i.takes end (view c.next_shape.new.folder)
+    c.loop-place.shapes.items c.loop-place-test.true c.index-components-place.is i.takes c.requires end (view c.next_shape.new.folder)
     (subst (λ (xs : List Shape). EndsNext c.args.resolution c.args.directory.now c.args.components.now (length xs) c.index-components-place.result end
     (view c.loop-place.folder) (view c.next_shape.new.folder)) c.deref.ensures.value (c.in-Err.ensures.err c.args.components.now
     (table_here c.args.resolution c.args.directory.now (view c.args.folder.now) (view c.loop-place.folder) c.args.components.now c.loop-place.place c.loop-place.shapes.items c.deref.result.now (found_name c.loop-place.known) c.loop-place-test.true c.deref.ensures.value i.takes i.table)))
@@ -53,7 +53,7 @@ returns-in_default-put-clause-err g c =
     let view = g.F.Folder.view in
     let shape = c.in-Ok-next_shape.shape in
     let more = taken_more c.args.resolution c.args.directory.now (view c.args.folder.now) (view c.loop-place.folder) c.args.components.now c.loop-place.place c.index-components-place.result
-    c.loop-place.shapes.items c.loop-place-test.true c.index-components-place.is i.takes shape (view c.next_shape.new.folder)
+    c.loop-place.shapes.items c.loop-place-test.true c.index-components-place.is i.takes c.requires shape (view c.next_shape.new.folder)
     (subst (λ (xs : List Shape). TakesNext c.args.resolution c.args.directory.now c.args.components.now (length xs) c.index-components-place.result xs shape
     (view c.loop-place.folder) (view c.next_shape.new.folder)) c.deref.ensures.value (c.in-Ok-next_shape.ensures.ok c.args.components.now
     (table_here c.args.resolution c.args.directory.now (view c.args.folder.now) (view c.loop-place.folder) c.args.components.now c.loop-place.place c.loop-place.shapes.items c.deref.result.now (found_name c.loop-place.known) c.loop-place-test.true c.deref.ensures.value i.takes i.table))) in
@@ -67,7 +67,7 @@ loop-place-preserved g c =
     let parts = c.args.components.now in
     let k = c.loop-place.place in
     let more = taken_more c.args.resolution c.args.directory.now (view c.args.folder.now) (view c.loop-place.folder) parts k c.index-components-place.result
-    c.loop-place.shapes.items c.loop-place-test.true c.index-components-place.is i.takes shape (view c.next_shape.new.folder)
+    c.loop-place.shapes.items c.loop-place-test.true c.index-components-place.is i.takes c.requires shape (view c.next_shape.new.folder)
     (subst (λ (xs : List Shape). TakesNext c.args.resolution c.args.directory.now parts (length xs) c.index-components-place.result xs shape
     (view c.loop-place.folder) (view c.next_shape.new.folder)) c.deref.ensures.value (c.in-Ok-next_shape.ensures.ok c.args.components.now
     (table_here c.args.resolution c.args.directory.now (view c.args.folder.now) (view c.loop-place.folder) c.args.components.now c.loop-place.place c.loop-place.shapes.items c.deref.result.now (found_name c.loop-place.known) c.loop-place-test.true c.deref.ensures.value i.takes i.table))) in

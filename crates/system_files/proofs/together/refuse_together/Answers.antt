@@ -4,6 +4,6 @@ use Rattle.system_files.specs.Steps.{AtRule}
 use Rattle.system_files.proofs.together.refuse_together.Goals as goal
 
 pub returns-in-Ok : goal.returns-in-Ok
-returns-in-Ok c = λ per_second shapes given bound binds told.
-    AtRule bound c.in-Broken.component c.in-Broken.rule c.in-Broken.place c.in-Broken.ports c.in-Ok.file binds
-    (subst (TellsTogether c.args.outline.now shapes) c.in-Broken.is told) (c.in-Ok.ensures per_second) refl
+returns-in-Ok c = λ per_second outline shapes given bound binds told.
+    AtRule bound c.in-Broken.rule c.in-Broken.place c.in-Broken.ports c.in-Ok.file binds
+    (subst (TellsTogether outline shapes) c.in-Broken.is told) c.in-Ok.ensures refl

@@ -22,3 +22,6 @@ returns-clause-lone_named c = lone_named
 
 pub returns-clause-names : goal.returns-clause-names
 returns-clause-names c = λ bytes outline is. c.read_structures.ensures.names bytes is.document outline.systems is.denotes is.sound is.describes.1
+
+pub returns-clause-plain : goal.returns-clause-plain
+returns-clause-plain c = λ bytes outline is. c.plain_paths.ensures is.document outline.systems is.sound is.describes.1

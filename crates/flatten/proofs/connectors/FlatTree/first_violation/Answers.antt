@@ -13,6 +13,6 @@ loop-rule-preserved c =
 
 pub returns : goal.returns
 returns c =
-    let past : 7 ≤ c.loop-rule.rule-index = c.loop-rule-test.false in
-    let most : c.loop-rule.rule-index ≤ 7 = c.loop-rule.auto.rule-index-end in
+    let past : 8 ≤ c.loop-rule.rule-index = c.loop-rule-test.false in
+    let most : c.loop-rule.rule-index ≤ 8 = c.loop-rule.auto.rule-index-end in
     all_first c.args.self.now.tree.now c.args.self.now.shapes.now c.loop-rule.rule-index c.loop-rule.first past most c.loop-rule.invariant

@@ -23,7 +23,7 @@ make-requires-clause-few g c κs within =
 pub make-requires-clause-fresh : goal.make-requires-clause-fresh
 make-requires-clause-fresh g c κs within =
     let same = c.in-Ok-new.ensures.ok ∙ ap (λ cs. seated cs (map g.L.Peer.view c.args.peers.items)) c.as_slice.ensures in
-    slots_fresh c.args.system (map g.L.Peer.view c.args.peers.items) c.requires.peers c.requires.built (λ s. instance_in g.L.Peer.view s) c.in-Ok-new.seats.slots.items same
+    slots_fresh c.args.system (map g.L.Peer.view c.args.peers.items) c.requires.peers (λ s. instance_in g.L.Peer.view s) c.in-Ok-new.seats.slots.items same
 
 pub returns-in-Ok-make-clause-ready : goal.returns-in-Ok-make-clause-ready
 returns-in-Ok-make-clause-ready g c =
@@ -64,7 +64,7 @@ returns-in-Ok-make-clause-ok g c =
       plan_is = refl;
       unrun = refl;
       none = c.in-Ok.ensures.none;
-      machines = tell_theirs view c.args.peers.items laws.machine laws.lawful c.args.system c.requires.peers;
+      machines = tell_theirs view c.args.peers.items laws.machine laws.lawful laws.ignores_slot c.args.system c.requires.peers;
     }
 
 pub returns-in-Err-make-clause-err : goal.returns-in-Err-make-clause-err

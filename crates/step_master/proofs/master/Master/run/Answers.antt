@@ -1,15 +1,8 @@
 use Rattle.std.proofs.Common.{subst, refl, sym, ap, ◌∙◌, length}
-use Rattle.calling_sequence.specs.Ready.{MayBegin}
 use Rattle.slot_calls.specs.Slots.{instances}
 use Rattle.slot_calls.specs.Log.{Told}
 use Rattle.step_master.proofs.SeatLemmas.{written_back}
 use Rattle.step_master.proofs.master.Master.run.Goals as goal
-
-pub run_slots-requires : goal.run_slots-requires
-run_slots-requires g c = (
-  c.type_bounds.send-L,
-  subst (λ slots. MayBegin g.L.Peer.view c.args.self.now.experiment slots c.args.self.now.buffers) (sym c.deref_mut.ensures.value) c.requires.begins,
-)
 
 pub returns : goal.returns
 returns g c =

@@ -1,0 +1,100 @@
+-- The Components that wait stand in the order of the whole.
+use Rattle.std.proofs.Common.{◌≡◌, ◌∙◌, ℕ, suc, ◌+◌, ◌-◌, ◌<◌, ◌≤◌, nat_le, false, if◌then◌else◌, List, [], ◌∷◌, ◌++◌, length, map, drop, get_or, ◌⊎◌, inl, inr, ◌↔◌, add-one, drop-cons, refl, sym, ap, subst, arith}
+use Rattle.std.proofs.lemmas.Bool.Decides.{nat_tests}
+use Rattle.nested_documents.specs.declared.components.NestedComponent.{NestedComponent}
+use Rattle.nested_documents.specs.declared.components.Waiting.{Waiting}
+use Rattle.nested_documents.specs.declared.seam.Seam.{Seam}
+use Rattle.nested_documents.specs.Between.{AreBetween, places_of}
+use Rattle.nested_documents.specs.Nest.{inner_waiting, moved_waiting, top_waiting}
+
+lower : (low mid high : ℕ) (xs : List ℕ) → low ≤ mid → AreBetween mid high xs → AreBetween low high xs
+lower low mid high [] le b = tt
+lower low mid high (x ∷ xs) le b = let h = b.0 in (omega (arith, h), b.1)
+
+joined : (low mid high : ℕ) (xs ys : List ℕ) → low ≤ mid → mid ≤ high → AreBetween low mid xs → AreBetween mid high ys → AreBetween low high (xs ++ ys)
+joined low mid high [] ys le _ a b = lower low mid high ys le b
+joined low mid high (x ∷ xs) ys le more a b =
+    let h = a.1.0 in (a.0, (omega (arith, h), joined (suc x) mid high xs ys (omega (arith, h)) more a.1.1 b))
+
+inner : (k low high : ℕ) (xs : List ℕ) → AreBetween low high xs → AreBetween (low + k) (high + k) (map (λ (x : ℕ). x + k) xs)
+inner k low high [] a = tt
+inner k low high (x ∷ xs) a =
+    let e : suc x + k ≡ suc (x + k) = omega arith in
+    let at = a.0 in
+    let below = a.1.0 in (
+      omega (arith, at),
+      (omega (arith, below), subst (λ (m : ℕ). AreBetween m (high + k) (map (λ (x : ℕ). x + k) xs)) e (inner k (suc x) high xs a.1.1)),
+    )
+
+abbrev moved : ℕ → ℕ → ℕ → ℕ
+moved k n x = if nat_le x k then x else (x - 1) + n
+
+moved_behind : (k n x : ℕ) → k < x → moved k n x ≡ (x - 1) + n
+moved_behind k n x less = let e : nat_le x k ≡ false = grind (arith, nat_tests) in rw e refl
+
+outer : (k n low high : ℕ) (xs : List ℕ) → k < low → AreBetween low high xs → AreBetween ((low - 1) + n) ((high - 1) + n) (map (moved k n) xs)
+outer k n low high [] less a = tt
+outer k n low high (x ∷ xs) less a =
+    let at = a.0 in
+    let below = a.1.0 in
+    let here : moved k n x ≡ (x - 1) + n = moved_behind k n x (omega (arith, at)) in
+    let e : (suc x - 1) + n ≡ suc (moved k n x) = rw here (omega (arith, at)) in (
+      rw here (omega (arith, at)),
+      (rw here (omega (arith, at, below)), subst (λ (m : ℕ). AreBetween m ((high - 1) + n) (map (moved k n) xs)) e (outer k n (suc x) high xs (omega (arith, at)) a.1.1)),
+    )
+
+places_inner : (s : Seam) (document level : ℕ) (ns : List NestedComponent) → map (λ (w : Waiting). w.component) (map (inner_waiting s document level) ns) ≡ map (λ (x : ℕ). x + s.component) (map (λ (n : NestedComponent). n.component) ns)
+places_inner s document level [] = refl
+places_inner s document level (n ∷ ns) = ap (λ (xs : List ℕ). (n.component + s.component) ∷ xs) (places_inner s document level ns)
+
+places_outer : (s : Seam) (ws : List Waiting) → map (λ (w : Waiting). w.component) (map (moved_waiting s) ws) ≡ map (moved s.component s.components) (map (λ (w : Waiting). w.component) ws)
+places_outer s [] = refl
+places_outer s (w ∷ ws) = ap (λ (xs : List ℕ). moved s.component s.components w.component ∷ xs) (places_outer s ws)
+
+places_append : (vs ws : List Waiting) → map (λ (w : Waiting). w.component) (vs ++ ws) ≡ map (λ (w : Waiting). w.component) vs ++ map (λ (w : Waiting). w.component) ws
+places_append [] ws = refl
+places_append (v ∷ vs) ws = ap (λ (xs : List ℕ). v.component ∷ xs) (places_append vs ws)
+
+pub places_top : (ns : List NestedComponent) → map (λ (w : Waiting). w.component) (map top_waiting ns) ≡ map (λ (n : NestedComponent). n.component) ns
+places_top [] = refl
+places_top (n ∷ ns) = ap (λ (xs : List ℕ). n.component ∷ xs) (places_top ns)
+
+-- the inner document's stand in the place of the first that waited, and the others behind them
+pub placed_more : (s : Seam) (document level count : ℕ) (ns : List NestedComponent) (ws all : List Waiting) → s.component < count → AreBetween 0 s.components (map (λ (n : NestedComponent). n.component) ns)
+    → AreBetween (suc s.component) count (map (λ (w : Waiting). w.component) ws) → all ≡ map (inner_waiting s document level) ns ++ map (moved_waiting s) ws
+    → AreBetween 0 ((count - 1) + s.components) (map (λ (w : Waiting). w.component) all)
+placed_more s document level count ns ws all less inside rest e =
+    let k = s.component in
+    let n = s.components in
+    let xs = map (λ (n : NestedComponent). n.component) ns in
+    let ys = map (λ (w : Waiting). w.component) ws in
+    let f : 0 + k ≡ k = omega arith in
+    let g : (suc k - 1) + n ≡ n + k = omega arith in
+    let front : AreBetween k (n + k) (map (λ (x : ℕ). x + k) xs) = subst (λ (m : ℕ). AreBetween m (n + k) (map (λ (x : ℕ). x + k) xs)) f (inner k 0 n xs inside) in
+    let back : AreBetween (n + k) ((count - 1) + n) (map (moved k n) ys) = subst (λ (m : ℕ). AreBetween m ((count - 1) + n) (map (moved k n) ys)) g (outer k n (suc k) count ys (omega arith) rest) in
+    let whole : AreBetween 0 ((count - 1) + n) (map (λ (x : ℕ). x + k) xs ++ map (moved k n) ys) = lower 0 k ((count - 1) + n) (map (λ (x : ℕ). x + k) xs ++ map (moved k n) ys) (omega arith) (joined k (n + k) ((count - 1) + n) (map (λ (x : ℕ). x + k) xs) (map (moved k n) ys) (omega arith) (omega (arith, less)) front back) in
+    let places : map (λ (w : Waiting). w.component) all ≡ map (λ (x : ℕ). x + k) xs ++ map (moved k n) ys =
+    ap (map (λ (w : Waiting). w.component)) e ∙ (places_append (map (inner_waiting s document level) ns) (map (moved_waiting s) ws)
+    ∙ (ap (λ (zs : List ℕ). zs ++ map (λ (w : Waiting). w.component) (map (moved_waiting s) ws)) (places_inner s document level ns) ∙ ap (λ (zs : List ℕ). map (λ (x : ℕ). x + k) xs ++ zs) (places_outer s ws))) in
+    subst (λ (zs : List ℕ). AreBetween 0 ((count - 1) + n) zs) (sym places) whole
+
+-- ---- the test
+
+pub between_none : (low high : ℕ) (ns : List NestedComponent) (i : ℕ) (n : NestedComponent) → i < length ns → n ≡ get_or ns i n → (n.component < low) ⊎ (high ≤ n.component) → AreBetween low high (places_of (drop i ns)) → ⊥
+between_none low high ns i n less is out b = at (subst (λ (xs : List NestedComponent). AreBetween low high (places_of xs)) (from_one ns i n less is) b) out
+  where
+    from_one : (ns : List NestedComponent) (i : ℕ) (n : NestedComponent) → i < length ns → n ≡ get_or ns i n → drop i ns ≡ n ∷ drop (i + 1) ns
+    from_one ns i n less is = rw (add-one, drop-cons ns i n, ← is) refl
+
+    at : AreBetween low high (places_of (n ∷ drop (i + 1) ns)) → (n.component < low) ⊎ (high ≤ n.component) → ⊥
+    at b (inl h) = let x = b.0 in omega (arith, x, h)
+    at b (inr h) = let x = b.1.0 in omega (arith, x, h)
+
+pub between_more : (low high : ℕ) (ns : List NestedComponent) (i : ℕ) (n : NestedComponent) (P : Type 0) → i < length ns → n ≡ get_or ns i n → low ≤ n.component → n.component < high → P ↔ AreBetween low high (places_of (drop i ns)) → P ↔ AreBetween (n.component + 1) high (places_of (drop (i + 1) ns))
+between_more low high ns i n P less is at below iff =
+    let e : drop i ns ≡ n ∷ drop (i + 1) ns = rw (add-one, drop-cons ns i n, ← is) refl in
+    let f : n.component + 1 ≡ suc n.component = omega arith in
+    let rest = places_of (drop (i + 1) ns) in (
+      λ p. subst (λ (m : ℕ). AreBetween m high rest) (sym f) (subst (λ (xs : List NestedComponent). AreBetween low high (places_of xs)) e (iff.0 p)).1.1,
+      λ b. iff.1 (subst (λ (xs : List NestedComponent). AreBetween low high (places_of xs)) (sym e) (at, (below, subst (λ (m : ℕ). AreBetween m high rest) f b))),
+    )

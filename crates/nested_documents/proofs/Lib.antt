@@ -1,0 +1,5 @@
+pub mod RunLemmas
+pub mod BetweenLemmas
+pub mod PutLemmas
+pub mod NestLemmas
+pub mod SeamLemmas

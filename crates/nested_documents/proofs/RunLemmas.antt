@@ -1,0 +1,119 @@
+-- Runs of elements, taken apart.
+use Rattle.std.proofs.Common.{◌≡◌, ◌∙◌, ℕ, zero, suc, ◌+◌, ◌-◌, ◌<◌, ◌≤◌, min, List, [], ◌∷◌, ◌++◌, length, take, drop, get_or, Option, Some, refl, sym, ap, subst, arith, slice_get, append_assoc, add-one, drop-cons}
+use Rattle.std.proofs.lemmas.List.{append-nil}
+use Rattle.nested_documents.specs.declared.numbers.Place.{Place}
+use Rattle.nested_documents.specs.declared.run.Run.{Run}
+use Rattle.nested_documents.specs.Numbers.{IsBehind, IsFirst, places, run, with_elements}
+
+abbrev element : ℕ → ℕ → Place
+element document node = record { document = document; node = node }
+
+get_within : (d n c k : ℕ) (rest : List Place) → k < c → slice_get (run d n c ++ rest) k ≡ Some (element d (n + k))
+unfolding run
+get_within d n zero k rest less = absurd (omega arith)
+get_within d n (suc c) zero rest less = let e : n ≡ n + 0 = omega arith in ap (λ m. Some (element d m)) e
+get_within d n (suc c) (suc k) rest less =
+    let e : suc n + k ≡ n + suc k = omega arith in
+    get_within d (suc n) c k rest (omega arith) ∙ ap (λ m. Some (element d m)) e
+
+get_past : (d n c k : ℕ) (rest : List Place) → c ≤ k → slice_get (run d n c ++ rest) k ≡ slice_get rest (k - c)
+unfolding run
+get_past d n zero k rest le = let e : k ≡ k - 0 = omega arith in ap (slice_get rest) e
+get_past d n (suc c) zero rest le = absurd (omega arith)
+get_past d n (suc c) (suc k) rest le =
+    let e : k - c ≡ suc k - suc c = omega arith in
+    get_past d (suc n) c k rest (omega arith) ∙ ap (slice_get rest) e
+
+take_run : (d n c k : ℕ) (rest : List Place) → take k (run d n c ++ rest) ≡ run d n (min c k) ++ take (k - c) rest
+unfolding run
+take_run d n zero k rest =
+    let e : min 0 k ≡ 0 = omega arith in
+    let f : k ≡ k - 0 = omega arith in
+    subst (λ m. take k rest ≡ run d n m ++ take (k - 0) rest) (sym e) (ap (λ m. take m rest) f)
+take_run d n (suc c) zero rest =
+    let e : min (suc c) 0 ≡ 0 = omega arith in
+    let f : 0 ≡ 0 - suc c = omega arith in
+    subst (λ m. [] ≡ run d n m ++ take (0 - suc c) rest) (sym e) (ap (λ m. take m rest) f)
+take_run d n (suc c) (suc k) rest =
+    let e : min (suc c) (suc k) ≡ suc (min c k) = omega arith in
+    let f : k - c ≡ suc k - suc c = omega arith in
+    subst (λ m. take (suc k) (run d n (suc c) ++ rest) ≡ run d n m ++ take (suc k - suc c) rest) (sym e)
+    (subst (λ m. take (suc k) (run d n (suc c) ++ rest) ≡ run d n (suc (min c k)) ++ take m rest) f (ap (λ (xs : List Place). element d n ∷ xs) (take_run d (suc n) c k rest)))
+
+drop_run : (d n c k : ℕ) (rest : List Place) → drop k (run d n c ++ rest) ≡ run d (n + k) (c - k) ++ drop (k - c) rest
+unfolding run
+drop_run d n zero k rest =
+    let e : 0 - k ≡ 0 = omega arith in
+    let f : k ≡ k - 0 = omega arith in
+    subst (λ m. drop k rest ≡ run d (n + k) m ++ drop (k - 0) rest) (sym e) (ap (λ m. drop m rest) f)
+drop_run d n (suc c) zero rest =
+    let e : n ≡ n + 0 = omega arith in
+    let f : suc c - 0 ≡ suc c = omega arith in
+    let g : 0 - suc c ≡ 0 = omega arith in
+    subst (λ m. run d n (suc c) ++ rest ≡ run d m (suc c - 0) ++ drop (0 - suc c) rest) e
+    (subst (λ m. run d n (suc c) ++ rest ≡ run d n m ++ drop (0 - suc c) rest) (sym f) (subst (λ m. run d n (suc c) ++ rest ≡ run d n (suc c) ++ drop m rest) (sym g) refl))
+drop_run d n (suc c) (suc k) rest =
+    let e : suc n + k ≡ n + suc k = omega arith in
+    let f : c - k ≡ suc c - suc k = omega arith in
+    let g : k - c ≡ suc k - suc c = omega arith in
+    drop_run d (suc n) c k rest ∙ (ap (λ m. run d m (c - k) ++ drop (k - c) rest) e ∙ (ap (λ m. run d (n + suc k) m ++ drop (k - c) rest) f ∙ ap (λ m. run d (n + suc k) (suc c - suc k) ++ drop m rest) g))
+
+pub places_append : (rs ss : List Run) → places (rs ++ ss) ≡ places rs ++ places ss
+places_append [] ss = refl
+places_append (r ∷ rs) ss = ap (λ xs. run r.document r.node r.count ++ xs) (places_append rs ss) ∙ sym (append_assoc (run r.document r.node r.count) (places rs) (places ss))
+
+pub none_first : (rs : List Run) (d n c most : ℕ) → most ≡ 0 → places rs ≡ places rs ++ run d n (min c most)
+unfolding run
+none_first rs d n c most e =
+    let f : min c most ≡ 0 = omega (arith, e) in
+    rw (f, append-nil) refl
+
+pub none_behind : (rs : List Run) (d n c less : ℕ) → c ≤ less → places rs ≡ places rs ++ run d (n + less) (c - less)
+unfolding run
+none_behind rs d n c less le =
+    let f : c - less ≡ 0 = omega (arith, le) in
+    rw (f, append-nil) refl
+
+one_more : (rs ss : List Run) (r : Run) → ss ≡ rs ++ r ∷ [] → places ss ≡ places rs ++ run r.document r.node r.count
+one_more rs ss r e =
+    ap places e ∙ (places_append rs (r ∷ []) ∙ ap (λ (xs : List Place). places rs ++ xs) (append-nil (run r.document r.node r.count)))
+
+pub one_first : (rs ss : List Run) (r first : Run) (most : ℕ) → ss ≡ rs ++ first ∷ [] → IsFirst most r first → places ss ≡ places rs ++ run r.document r.node (min r.count most)
+one_first rs ss r first most e is = one_more rs ss first e ∙ ap (λ (xs : List Place). places rs ++ xs) (rw (is.0, is.1, is.2) refl)
+
+pub one_behind : (rs ss : List Run) (r behind : Run) (less : ℕ) → ss ≡ rs ++ behind ∷ [] → IsBehind less r behind → places ss ≡ places rs ++ run r.document (r.node + less) (r.count - less)
+one_behind rs ss r behind less e is = one_more rs ss behind e ∙ ap (λ (xs : List Place). places rs ++ xs) (rw (is.0, is.1, is.2) refl)
+
+-- the front, a whole document and the rest
+pub put_run : (front back joined all : List Run) (whole : Run) (document count at : ℕ) (elements : List Place) → joined ≡ front ++ whole ∷ [] → all ≡ joined ++ back → whole.document ≡ document → whole.node ≡ 0 → whole.count ≡ count → places front ≡ take at elements → places back ≡ drop at elements → places all ≡ with_elements at document count elements
+put_run front back joined all whole document count at elements e f d n c g h =
+    let w : run whole.document whole.node whole.count ≡ run document 0 count = rw (d, n, c) refl in
+    let j : places joined ≡ take at elements ++ run document 0 count = one_more front joined whole e ∙ (ap (λ (xs : List Place). xs ++ run whole.document whole.node whole.count) g ∙ ap (λ (xs : List Place). take at elements ++ xs) w) in
+    ap places f ∙ (places_append joined back
+    ∙ (ap (λ (xs : List Place). xs ++ places back) j ∙ (ap (λ (xs : List Place). (take at elements ++ run document 0 count) ++ xs) h ∙ append_assoc (take at elements) (run document 0 count) (drop at elements))))
+
+-- the runs from one on: that one and those behind it
+from_one : (rs : List Run) (i : ℕ) (r : Run) → i < length rs → r ≡ get_or rs i r → places (drop i rs) ≡ run r.document r.node r.count ++ places (drop (i + 1) rs)
+from_one rs i r less is =
+    let e : drop i rs ≡ r ∷ drop (i + 1) rs = rw (add-one, drop-cons rs i r, ← is) refl in
+    ap places e
+
+pub get_here : (rs : List Run) (i : ℕ) (r : Run) (k : ℕ) (found : Option Place) → i < length rs → r ≡ get_or rs i r → k < r.count → slice_get (places (drop i rs)) k ≡ found → Some (element r.document (r.node + k)) ≡ found
+get_here rs i r k found less is below e =
+    sym (get_within r.document r.node r.count k (places (drop (i + 1) rs)) below) ∙ (sym (ap (λ xs. slice_get xs k) (from_one rs i r less is)) ∙ e)
+
+pub get_behind : (rs : List Run) (i : ℕ) (r : Run) (k : ℕ) (found : Option Place) → i < length rs → r ≡ get_or rs i r → r.count ≤ k → slice_get (places (drop i rs)) k ≡ found → slice_get (places (drop (i + 1) rs)) (k - r.count) ≡ found
+get_behind rs i r k found less is past e =
+    sym (get_past r.document r.node r.count k (places (drop (i + 1) rs)) past) ∙ (sym (ap (λ xs. slice_get xs k) (from_one rs i r less is)) ∙ e)
+
+pub front_more : (rs front more : List Run) (i : ℕ) (r : Run) (k : ℕ) (all : List Place) → i < length rs → r ≡ get_or rs i r → places front ++ take k (places (drop i rs)) ≡ all → places more ≡ places front ++ run r.document r.node (min r.count k) → places more ++ take (k - r.count) (places (drop (i + 1) rs)) ≡ all
+front_more rs front more i r k all less is e f =
+    let rest = places (drop (i + 1) rs) in
+    let g : take k (places (drop i rs)) ≡ run r.document r.node (min r.count k) ++ take (k - r.count) rest = ap (take k) (from_one rs i r less is) ∙ take_run r.document r.node r.count k rest in
+    ap (λ xs. xs ++ take (k - r.count) rest) f ∙ (append_assoc (places front) (run r.document r.node (min r.count k)) (take (k - r.count) rest) ∙ (sym (ap (λ xs. places front ++ xs) g) ∙ e))
+
+pub back_more : (rs back more : List Run) (i : ℕ) (r : Run) (k : ℕ) (all : List Place) → i < length rs → r ≡ get_or rs i r → places back ++ drop k (places (drop i rs)) ≡ all → places more ≡ places back ++ run r.document (r.node + k) (r.count - k) → places more ++ drop (k - r.count) (places (drop (i + 1) rs)) ≡ all
+back_more rs back more i r k all less is e f =
+    let rest = places (drop (i + 1) rs) in
+    let g : drop k (places (drop i rs)) ≡ run r.document (r.node + k) (r.count - k) ++ drop (k - r.count) rest = ap (drop k) (from_one rs i r less is) ∙ drop_run r.document r.node r.count k rest in
+    ap (λ xs. xs ++ drop (k - r.count) rest) f ∙ (append_assoc (places back) (run r.document (r.node + k) (r.count - k)) (drop (k - r.count) rest) ∙ (sym (ap (λ xs. places back ++ xs) g) ∙ e))

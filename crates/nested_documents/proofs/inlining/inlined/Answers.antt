@@ -1,0 +1,38 @@
+use Rattle.std.proofs.Common.{◌≡◌, ◌∙◌, ◌<◌, List, ℕ, IfOk, length, arith, subst}
+use Rattle.nested_documents.specs.declared.parts.Parts.{Parts}
+use Rattle.nested_documents.specs.declared.seam.Seam.{Seam}
+use Rattle.nested_documents.specs.Inlining.{ends_of, put_together}
+use Rattle.nested_documents.specs.Parts.{tree_of}
+use Rattle.nested_documents.proofs.SeamLemmas.{component_is, connectors_within, systems_within}
+use Rattle.nested_documents.proofs.inlining.inlined.Goals as goal
+
+pub own_ends-requires : goal.own_ends-requires
+own_ends-requires c =
+    let outer = c.args.outer in
+    let less : c.args.place < length outer.components.items = omega (arith, c.requires, outer.components.ok) in
+    let within = connectors_within (tree_of outer) c.args.place (tree_of c.args.inner) c.args.elements c.seam_of-seam.result less c.seam_of-seam.ensures in
+    rw c.deref.ensures.value within
+
+pub put_together-requires-clause-systems : goal.put_together-requires-clause-systems
+put_together-requires-clause-systems c =
+    let outer = c.args.outer in
+    let less : c.args.place < length outer.components.items = omega (arith, c.requires, outer.components.ok) in
+    let within = systems_within (tree_of outer) c.args.place (tree_of c.args.inner) c.args.elements c.seam_of-seam.result less c.seam_of-seam.ensures in
+    omega (arith, within, outer.systems.ok)
+
+pub put_together-requires-clause-components : goal.put_together-requires-clause-components
+put_together-requires-clause-components c =
+    let outer = c.args.outer in
+    let less : c.args.place < length outer.components.items = omega (arith, c.requires, outer.components.ok) in
+    let is = component_is (tree_of outer) c.args.place (tree_of c.args.inner) c.args.elements c.seam_of-seam.result less c.seam_of-seam.ensures in
+    omega (arith, c.requires, is)
+
+pub returns : goal.returns
+returns c part at =
+    let outer = tree_of c.args.outer in
+    let inner = tree_of c.args.inner in
+    let frame = c.args.frame.now in
+    let ends : c.in_ok-ends.ends.items ≡ ends_of c.seam_of-seam.result outer.connectors inner.connectors = rw (c.deref.ensures.value, c.deref-2.ensures.value) at c.in_ok-ends.ensures.ends in
+    let whole : IfOk c.put_together.result (λ whole. tree_of whole ≡ put_together c.seam_of-seam.result frame (ends_of c.seam_of-seam.result outer.connectors inner.connectors) outer inner) =
+    subst (λ (es : List ℕ). IfOk c.put_together.result (λ (whole : Parts). tree_of whole ≡ put_together c.seam_of-seam.result frame es outer inner)) (c.deref-3.ensures.value ∙ ends) c.put_together.ensures in
+    subst (λ (s : Seam). IfOk c.put_together.result (λ (whole : Parts). tree_of whole ≡ put_together s frame (ends_of s outer.connectors inner.connectors) outer inner)) (c.seam_of-seam.ensures part at) whole

@@ -1,0 +1,11 @@
+use Rattle.std.proofs.Common.{◌≡◌, ◌++◌, map}
+use Rattle.std.specs.Vec.Iter.{into_iter_items, into_iter_len}
+use Rattle.nested_documents.specs.Moves.{moved_binding}
+use Rattle.nested_documents.proofs.seam.Seam.binding_parts.Given as goal
+
+abbrev pub invariant-loop-part : goal.invariant-loop-part
+invariant-loop-part l =
+    l.moved.items ++ map (moved_binding l.self l.frame l.side) (into_iter_items l.left) ≡ map (moved_binding l.self l.frame l.side) l.fn.parts.items
+
+abbrev pub decreases-loop-part : goal.decreases-loop-part
+decreases-loop-part l = into_iter_len l.left

@@ -1,0 +1,149 @@
+//! Where the elements of documents stand that were put into one another.
+ghost use Rattle.std.specs.Prelude.{◌≡◌, ◌+◌, ◌-◌, ◌++◌, ◌<◌, IfOk, OnOk, drop, min, slice_get, take};
+ghost use Rattle.nested_documents.specs.Numbers.{IsBehind, IsFirst, elements_of, places, run, with_elements};
+
+use crate::run::Run;
+use std::alloc::{AllocError, Global};
+
+/// An element of a document, by its number there; the documents are numbered in the order in which they are read.
+#[derive(Clone, Copy, Debug, Drop, PartialEq, Eq)]
+pub struct Place {
+    pub document: usize,
+    pub node: usize,
+}
+
+/// The elements of the whole: those of one document, with the elements of others between them.
+#[derive(Drop)]
+pub struct Numbers {
+    runs: Vec<Run>,
+}
+
+impl Run {
+    // The first elements of the run, at most so many.
+    fn first(&self, most: usize) -> Run
+        ensures { IsFirst most self.now result }
+    {
+        Run {
+            document: self.document,
+            node: self.node,
+            count: self.count.min(most),
+        }
+    }
+
+    // The elements behind the first, so many.
+    fn behind(&self, less: usize) -> Run
+        requires { less < self.now.count }
+        ensures { IsBehind less self.now result }
+    {
+        Run {
+            document: self.document,
+            node: self.node + less,
+            count: self.count - less,
+        }
+    }
+}
+
+// The first elements of a run behind others, at most so many.
+fn push_first(runs: &mut Vec<Run>, one: &Run, most: usize) -> Result<(), AllocError>
+    ensures { OnOk result (places runs.new.items ≡
+        places runs.old.items ++ run one.now.document one.now.node (min one.now.count most)) }
+{
+    if most == 0 {
+        return Ok(());
+    }
+    runs.push(one.first(most))?;
+    Ok(())
+}
+
+// The elements of a run but the first, so many, behind others.
+fn push_behind(runs: &mut Vec<Run>, one: &Run, less: usize) -> Result<(), AllocError>
+    ensures { OnOk result (places runs.new.items ≡
+        places runs.old.items ++ run one.now.document (one.now.node + less) (one.now.count - less)) }
+{
+    if one.count <= less {
+        return Ok(());
+    }
+    runs.push(one.behind(less))?;
+    Ok(())
+}
+
+impl Numbers {
+    /// The elements of one document, in their order.
+    pub fn new(alloc: Global, document: usize, count: usize) -> Result<Numbers, AllocError>
+        ensures { IfOk result (λ numbers. elements_of numbers ≡ run document 0 count) }
+    {
+        let mut runs = Vec::with_capacity(alloc, 1)?;
+        runs.push_reserved(Run {
+            document,
+            node: 0,
+            count,
+        });
+        Ok(Numbers { runs })
+    }
+
+    /// The element with a number of the whole.
+    pub fn place(&self, number: usize) -> Option<Place>
+        ensures { result ≡ slice_get (elements_of self.now) number }
+    {
+        let mut left = number;
+        for run in &self.runs {
+            if left < run.count {
+                return Some(Place {
+                    document: run.document,
+                    node: run.node + left,
+                });
+            }
+            left -= run.count;
+        }
+        None
+    }
+
+    // The first elements, so many.
+    fn front(&self, alloc: Global, at: usize) -> Result<Vec<Run>, AllocError>
+        ensures { IfOk result (λ runs. places runs.items ≡ take at (elements_of self.now)) }
+    {
+        let mut front = Vec::with_capacity(alloc, self.runs.len())?;
+        let mut left = at;
+        for run in &self.runs {
+            push_first(&mut front, run, left)?;
+            left = left.saturating_sub(run.count);
+        }
+        Ok(front)
+    }
+
+    // The elements behind the first, so many.
+    fn back(&self, alloc: Global, at: usize) -> Result<Vec<Run>, AllocError>
+        ensures { IfOk result (λ runs. places runs.items ≡ drop at (elements_of self.now)) }
+    {
+        let mut back = Vec::with_capacity(alloc, self.runs.len())?;
+        let mut left = at;
+        for run in &self.runs {
+            push_behind(&mut back, run, left)?;
+            left = left.saturating_sub(run.count);
+        }
+        Ok(back)
+    }
+
+    /// The elements of a document before the one with a number.
+    pub fn insert(
+        &mut self,
+        alloc: Global,
+        at: usize,
+        document: usize,
+        count: usize,
+    ) -> Result<(), AllocError>
+        ensures { OnOk result (elements_of self.new ≡
+            with_elements at document count (elements_of self.old)) }
+    {
+        let mut runs = self.front(alloc, at)?;
+        let mut back = self.back(alloc, at)?;
+        runs.push(Run {
+            document,
+            node: 0,
+            count,
+        })?;
+        runs.append(&mut back)?;
+        self.runs = runs;
+        Ok(())
+    }
+}

@@ -1,5 +1,0 @@
-use Rattle.parallel_step.specs.Round.{PairsBelow, Works}
-use Rattle.parallel_step.proofs.rounds.round.Given as goal
-
-abbrev pub invariant-loop-slot : goal.invariant-loop-slot
-invariant-loop-slot g l = PairsBelow (Works g.L.Peer.view) l.initial.slots l.slot-index l.slots

@@ -1,0 +1,9 @@
+//! Tests of documents that stand in one another.
+#![tactic(auto)]
+
+#[cfg(test)]
+mod documents;
+#[cfg(test)]
+mod nesting_tests;
+#[cfg(test)]
+mod same;
