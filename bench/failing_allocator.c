@@ -19,6 +19,7 @@
 #include <stdio.h>
 #include <stdlib.h>
 #include <string.h>
+#include <sys/syscall.h>
 #include <unistd.h>
 
 /* glibc's own, under names that are there for this */
@@ -88,4 +89,12 @@ __attribute__((destructor)) static void end(void)
     is_counting = 0;
     snprintf(text, sizeof text, "%lu\n", growths);
     tell(text);
+}
+
+/* A program with threads ends without its destructors. */
+void _exit(int status)
+{
+    end();
+    syscall(SYS_exit_group, status);
+    __builtin_unreachable();
 }
