@@ -857,6 +857,7 @@ static bool is_left_alone(void)
  * with the thread that forked it. One that was left before that is bound to another process.
  */
 static pid_t forking;
+static bool is_child;
 
 static void before_fork(void)
 {
@@ -865,6 +866,7 @@ static void before_fork(void)
 
 static void in_child(void)
 {
+    is_child = true;
     close(frames[0]);
     close(frames[1]);
     end_with_parent();
@@ -921,6 +923,8 @@ int main(int count, char **words)
         await_answer(true);
         struct reply reply = {fmi3OK, 0, 0, 0, 0};
         fmi3Status status = answer(&call, &reply);
+        if (is_child)
+            _exit(1); /* the call came back in a child too, which has nobody to answer, and nothing of the FMU to end */
         bool is_known = status >= fmi3OK && status <= fmi3Fatal;
         reply.status = is_known ? status : complain("a status that FMI doesn't have", "");
         if (!write_reply(replies, call.kind, &reply))

@@ -13,8 +13,9 @@ STRUCTURE = "SystemStructure.ssd"
 DESCRIPTION = "modelDescription.xml"
 # the modules that are no subcommands
 SHARED = ("common", "systems")
-# the longest file that the program reads, in bytes
+# the longest file that the program reads, in bytes, and the greatest depth of an element in it
 LONGEST_FILE = 1 << 24
+DEEPEST = 64
 
 
 class Told(Exception):
@@ -42,6 +43,9 @@ def main(words):
         return 2
     except OSError as error:
         print(f"ssp: {one_line(reason(error))}", file=sys.stderr)
+        return 2
+    except MemoryError:
+        print("ssp: out of memory", file=sys.stderr)
         return 2
     except KeyboardInterrupt:
         return 130
@@ -90,16 +94,23 @@ def in_shell(word):
 class Element:
     """An element with its local name, its attributes without prefix, and where its start tag begins.
 
-    `line` and `column` count from 1, the column in characters; `byte` counts from 0. `path` is the place as the program tells
-    it: `/NAME[i]` for each level, where i is the number among all elements that stand in the same one. `end` is the byte where
-    the end tag begins, if there is one.
+    `around` is the element that it stands in (None for the root), and `number` its place among all elements there, from 1.
+    `line` and `column` count from 1, the column in characters; `byte` counts from 0. `end` is the byte where the end tag begins,
+    if there is one.
     """
 
-    def __init__(self, name, attributes, path, line, column, byte):
-        self.name, self.attributes, self.path = name, attributes, path
+    __slots__ = ("name", "attributes", "around", "number", "line", "column", "byte", "end", "children")
+
+    def __init__(self, name, attributes, around, number, line, column, byte):
+        self.name, self.attributes, self.around, self.number = name, attributes, around, number
         self.line, self.column, self.byte = line, column, byte
         self.end = byte
         self.children = []
+
+    @property
+    def path(self):
+        """The place as the program tells it: `/NAME[i]` for each level."""
+        return f"{self.around.path if self.around else ''}/{self.name}[{self.number}]"
 
     def get(self, name, default=None):
         return self.attributes.get(name, default)
@@ -143,11 +154,11 @@ def parse_xml(data, path):
     def start(name, attributes):
         around = open_ones[-1] if open_ones else None
         beside = around.children if around else roots
-        name = local(name)
-        place = f"{around.path if around else ''}/{name}[{len(beside) + 1}]"
         plain = {key: value for key, value in attributes.items() if ":" not in key and key != "xmlns"}
         at = (parser.CurrentLineNumber, parser.CurrentColumnNumber + 1, parser.CurrentByteIndex)
-        beside.append(Element(name, plain, place, *at))
+        if len(open_ones) == DEEPEST:
+            raise Told(f"{path}:{at[0]}:{at[1]}: this element has more than {DEEPEST - 1} around it, which rule 4 refuses")
+        beside.append(Element(sys.intern(local(name)), plain, around, len(beside) + 1, *at))
         open_ones.append(beside[-1])
 
     def end(_name):
@@ -161,6 +172,8 @@ def parse_xml(data, path):
         parser.Parse(data, True)
     except expat.ExpatError as error:
         raise Told(f"{path}:{error.lineno}:{error.offset + 1}: no XML: {expat.ErrorString(error.code)}") from None
+    except (LookupError, ValueError) as error:
+        raise Told(f"{path}:1: no XML that is read: {error}") from None
     return roots[0]
 
 

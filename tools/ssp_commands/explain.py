@@ -11,7 +11,7 @@ ABOUT = """Explains lines that the program ended with: of a refusal it tells the
 there, and of docs/RULES.md the rule's sentence and what to do; of the other lines what they mean and what to do. Without LINE the
 lines are read from standard input. A FILE of a line counts from the folder in which the program ran, so run this there too."""
 WIDTH = 100
-REFUSED = re.compile(r"refused (\d+) (\S+) (?:byte (\d+)|(/\S+))(?: ports ((?:\d+ ?)+))?")
+REFUSED = re.compile(r"refused (\d{1,2}) (\S+) (?:byte (\d{1,8})|(/\S+))(?: ports (\d{1,5}(?: \d{1,5})*))?", re.ASCII)
 # where docs/RULES.md is, and what begins its paragraph of advice and its documents
 RULES = os.path.join(TOP, "docs", "RULES.md")
 ADVICE = "**What to do.** "
@@ -74,7 +74,8 @@ TRACE_RULES = {
     "3": "A connected input has another value than its source, or none where its source has one.",
     "4": "A constant Clock ticks where it doesn't, or a tick of it was passed over.",
 }
-VERDICT = re.compile(r"no (\d+) ([1-4])")
+VERDICT = re.compile(r"no (\d+) ([1-4])", re.ASCII)
+STEP = re.compile(r"/([^/\[]+)\[(\d{1,8})\]", re.ASCII)
 
 
 def add_parser(subparsers):
@@ -173,10 +174,23 @@ def place_in(path, byte, place):
         root = parse_xml(data, path)
     except (OSError, Told):
         return "", ""
-    element = next((element for element in root.walk() if element.path == place), None)
+    element = element_at(root, place)
     if element is None:
         return "", ""
     return f":{element.line}:{element.column}", start_tag(data, element.byte)
+
+
+def element_at(root, place):
+    """The element at a place, `/NAME[i]` for each level, or None."""
+    if STEP.sub("", place):
+        return None
+    beside, element = [root], None
+    for name, number in STEP.findall(place):
+        element = beside[int(number) - 1] if 1 <= int(number) <= len(beside) else None
+        if element is None or element.name != name:
+            return None
+        beside = element.children
+    return element
 
 
 def position(data, byte):

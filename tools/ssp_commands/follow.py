@@ -9,7 +9,7 @@ from .common import Told, one_line
 ABOUT = """Shows the last point of a trace that is being written, beside the stop, once a second, until the trace has its end line.
 The program itself writes its trace alone: give it a file (./ssprun run .. > FILE &) and follow that. A trace that isn't written
 any more and has no end line is followed until this is stopped (Ctrl-C)."""
-HEADER = re.compile(rb"trace 1 (\d{1,19}) (\d{1,19}) (\d{1,19})\n")
+HEADER = re.compile(rb"trace 1 ([1-9]\d{0,18}) (\d{1,19}) (\d{1,19})\n")
 LAST = re.compile(rb"(?:^|\n)at (\d{1,19}) \d{1,5}(?=\n)")
 END = re.compile(rb"\nend (stop|asked|limit|fixed|fault) (\d{1,19})\n\Z")
 PIECE = 1 << 16

@@ -167,7 +167,7 @@ class Document:
     def attributes(self, element):
         tag = self.tag(element)
         for found in self.ATTRIBUTE.finditer(self.data, tag.start(2), tag.end(2)):
-            yield found.group(1).decode(), found
+            yield found.group(1).decode("utf-8", "replace"), found
 
     def put(self, element, name, text):
         """Another value of an attribute, in the quotes that it has."""
@@ -224,12 +224,21 @@ class Unit:
         self.name, self.base = name, definitions.get(name)
 
     def differs(self, other):
-        """Whether a value would have to be converted from the one to the other."""
+        """Whether a value would have to be converted from the one to the other. Of one name factors may be rounded."""
         if self.base is None or other.base is None:
             return self.name != other.name
-        (exponents, factor, offset), (others, other_factor, other_offset) = self.base, other.base
-        same = exponents == others and math.isclose(factor, other_factor) and math.isclose(offset, other_offset)
-        return not same
+        near = 1e-9 if self.name != other.name else 1e-3
+        (exponents, *numbers), (others, *other_numbers) = self.base, other.base
+        same = all(math.isclose(*pair, rel_tol=near) for pair in zip(numbers, other_numbers))
+        return exponents != others or not same
+
+    def beside(self, other):
+        """The name, with what it stands for where the other has the same name."""
+        if self.name != other.name:
+            return self.name
+        exponents, factor, offset = self.base
+        numbers = {"factor": factor, "offset": offset, **exponents}
+        return f"{self.name} ({' '.join(f'{key}={value}' for key, value in numbers.items())})"
 
 
 def unit_of(element, definitions):
@@ -396,15 +405,28 @@ class Part:
             yield part
             waiting.extend(reversed(part.parts))
 
-    def targets(self):
-        """The variables that a name of a binding at this part can mean."""
+    def units_of_connectors(self):
+        """The names of the units that connectors give to variables."""
+        typed = [connector for connector in self.connectors.values() if connector.type is not None]
+        return {connector.variable: connector.type.get("unit") for connector in typed if connector.type.get("unit")}
+
+    def by_names_below(self):
+        """The components within, by their names from here on; None is the part itself."""
         found = {}
         for part in self.all():
             if part.fmu is not None:
-                below = part.names[len(self.names) :]
-                for name, variable in part.fmu.by_name.items():
-                    found.setdefault(".".join([*below, name]), []).append((part, variable))
+                below = ".".join(part.names[len(self.names) :]) if part is not self else None
+                found.setdefault(below, []).append(part)
         return found
+
+
+def meant_by(components, name):
+    """The variables that a name of a binding can mean: each dot may end the name of a component."""
+    dots = [place for place, letter in enumerate(name) if letter == "."]
+    ways = [(None, name), *((name[:dot], name[dot + 1 :]) for dot in dots)]
+    return [
+        (part, part.fmu.by_name[rest]) for below, rest in ways for part in components.get(below, []) if rest in part.fmu.by_name
+    ]
 
 
 def elements_in(element, lists, *names):
@@ -423,6 +445,23 @@ class Net:
         self.connections += other.connections
 
 
+def need_folder(path):
+    if os.path.isfile(path):
+        raise Told(f"{path} is a file and has to be a folder: tools/ssp unpack makes one of an archive")
+
+
+def unconverted(connections):
+    """The connectors that are joined by connections over which units would be converted, in groups."""
+    groups = {}
+    for element, *ends in connections:
+        if not flag(element, "suppressUnitConversion"):
+            first, second = (groups.setdefault(connector.point(), {}) for connector in ends)
+            more = [*ends, *(second if second is not first else [])]
+            first.update(dict.fromkeys(more))
+            groups.update((connector.point(), first) for connector in more)
+    return {id(group): group for group in groups.values()}.values()
+
+
 class Plan:
     """What is to be changed in a system; nothing is written."""
 
@@ -430,6 +469,7 @@ class Plan:
         self.top = top
         self.documents, self.fmus = {}, {}
         self.values = 0
+        need_folder(top)
         if os.path.lexists(os.path.join(top, PORTS)):
             raise Told(f"{os.path.join(top, PORTS)} is there already: the system is converted")
         if os.path.exists(os.path.join(top, common.STRUCTURE)):
@@ -448,6 +488,7 @@ class Plan:
 
     def fmu(self, folder):
         if folder not in self.fmus:
+            need_folder(os.path.join(self.top, *folder.split("/")))
             self.fmus[folder] = Fmu(self.top, folder)
         return self.fmus[folder]
 
@@ -532,25 +573,27 @@ class Plan:
             at = f"{self.structure.at(connector.element)}: the connector {connector.told()}"
             if connector.type.name != "Real":
                 raise Told(f"{at} is of type {connector.type.name}, and {part.name}.{variable.name} is a {variable.type}")
-            own = connector.variable.unit if connector.variable is not None else None
-            if differ(unit_of(connector.type, self.units), own):
-                raise Told(f"{at} has the unit {connector.type.get('unit')}, and its variable {own.name}")
+            own, unit = connector.variable.unit if connector.variable is not None else None, unit_of(connector.type, self.units)
+            if differ(unit, own):
+                raise Told(f"{at} has the unit {unit.beside(own)}, and its variable {own.beside(unit)}")
             self.structure.rename(connector.type, "Integer")
             self.structure.drop(connector.type, "unit")
         for element, start, end in net.connections:
             at = f"{self.structure.at(element)}: the connection from {start.told()} to {end.told()}"
             if element.first(*TRANSFORMATIONS) is not None:
                 raise Told(f"{at} has a transformation, and bits can't be transformed")
-            units = [self.unit_at(connector) for connector in (start, end)]
-            if differ(*units) and not flag(element, "suppressUnitConversion"):
-                raise Told(f"{at} leads from the unit {units[0].name} to {units[1].name}, and bits can't be converted")
-        # through connectors of Systems that have no unit
-        if not any(flag(element, "suppressUnitConversion") for element, _, _ in net.connections):
-            told = [end for end in net.ends if end[1].unit is not None]
-            for other in told[1:]:
-                if differ(told[0][1].unit, other[1].unit):
-                    units = [f"{part.name}.{variable.name} has the unit {variable.unit.name}" for part, variable in (told[0], other)]
-                    raise Told(f"{at} joins ends of two units: {' and '.join(units)}")
+            first, second = self.unit_at(start), self.unit_at(end)
+            if differ(first, second) and not flag(element, "suppressUnitConversion"):
+                units = f"{first.beside(second)} to {second.beside(first)}"
+                raise Told(f"{at} leads from the unit {units}, and bits can't be converted")
+        # through connectors that have no unit
+        for group in unconverted(net.connections):
+            told = [(connector.told(), self.unit_at(connector)) for connector in group if self.unit_at(connector) is not None]
+            for name, unit in told[1:]:
+                before, wanted = told[0]
+                if differ(wanted, unit):
+                    units = f"{before} has the unit {wanted.beside(unit)} and {name} has the unit {unit.beside(wanted)}"
+                    raise Told(f"{at} joins ends of two units: {units}")
 
     def unit_at(self, connector):
         own = connector.variable.unit if connector.variable is not None else None
@@ -561,10 +604,9 @@ class Plan:
     def bind(self, parts):
         uses = {}
         for part in parts:
-            targets = None
+            components = part.by_names_below()
             for binding in elements_in(part.element, "ParameterBindings", "ParameterBinding"):
-                targets = part.targets() if targets is None else targets
-                self.read_binding(part, binding, targets, uses)
+                self.read_binding(part, binding, components, uses)
         for value, (document, reals) in uses.items():
             self.convert_value(document, value, reals)
 
@@ -584,7 +626,7 @@ class Plan:
             return [document.root] if document.root.name == name else []
         return around.named(name)
 
-    def read_binding(self, part, binding, targets, uses):
+    def read_binding(self, part, binding, components, uses):
         document, around = self.origin(part, binding, binding.first("ParameterValues"))
         if document is self.structure and around is None:
             return  # neither a source nor values: rule 35
@@ -605,7 +647,7 @@ class Plan:
             name = prefix + parameter.get("name", "")
             ways = [(name, None)] if entries is None else [(entry.get("target"), entry) for entry in entries.get(name, [])]
             for target, entry in ways:
-                for reached in targets.get(target, []):
+                for reached in meant_by(components, target or ""):
                     self.reach(document, parameter, reached, (mapped, entry), units, uses)
 
     def reach(self, document, parameter, reached, way, units, uses):
@@ -631,7 +673,7 @@ class Plan:
                 raise Told(f"{where}: a transformation on the way to {part.name}.{variable.name}, a {variable.type}")
             unit = unit_of(value, units) if value.name == "Real" else None
             if differ(unit, variable.unit) and not (entry is not None and flag(entry, "suppressUnitConversion")):
-                raise Told(f"{at}, whose unit is {variable.unit.name}, and has the unit {unit.name}")
+                raise Told(f"{at}, whose unit is {variable.unit.beside(unit)}, and has the unit {unit.beside(variable.unit)}")
         before = uses.setdefault(value, (document, {}))[1]
         for real, other in before.items():
             if real is not variable.real:
@@ -662,12 +704,14 @@ class Plan:
 
     def ports(self):
         """A line for each input and output that is converted: its type, component, name and unit, as a trace writes names."""
-        return [
-            " ".join(map(escaped, [variable.type, part.name, variable.name, *([variable.unit.name] if variable.unit else [])]))
-            for part in self.components
-            for variable in part.fmu.reals
-            if variable.causality != "parameter"
-        ]
+        lines = []
+        for part in self.components:
+            units = part.units_of_connectors()
+            for variable in part.fmu.reals:
+                if variable.causality != "parameter":
+                    unit = variable.unit.name if variable.unit is not None else units.get(variable)
+                    lines.append(" ".join(map(escaped, [variable.type, part.name, variable.name, *([unit] if unit else [])])))
+        return lines
 
     def files(self):
         """The files that are new or changed, and their bytes."""

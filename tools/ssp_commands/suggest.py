@@ -13,6 +13,8 @@ or the FMU in DIR, with a sentence for each choice: the resolution R is the leas
 are whole numbers of counts. What nothing describes stands in the command by its letter, and is to be given."""
 MOST = 1 << 62
 NUMBER = re.compile(r"[+-]?(\d+(\.\d*)?|\.\d+)([eE](?P<exponent>[+-]?\d+))?", re.ASCII)
+# an unsigned number of 64 bits has up to 20 digits
+WHOLE = re.compile(r"\+?0*(\d{1,20})", re.ASCII)
 
 
 def add_parser(subparsers):
@@ -41,6 +43,8 @@ class Said:
 
 def seconds(value):
     """A fraction of seconds as a decimal where it is one, else as a fraction."""
+    if max(value.numerator.bit_length(), value.denominator.bit_length()) > 4096:
+        return "a time with more than a thousand digits"
     down, twos, fives = value.denominator, 0, 0
     while down % 2 == 0:
         down, twos = down // 2, twos + 1
@@ -63,6 +67,12 @@ def number(element, name, path):
     if not found or len(text) > 400 or abs(int(found["exponent"] or 0)) > 400:
         raise Told(f"{path}:{element.line}:{element.column}: {name} is no number: {text}")
     return Fraction(text.strip())
+
+
+def whole(text):
+    """A whole number of an attribute; None where it isn't given, or is none that FMI has there."""
+    found = WHOLE.fullmatch(text.strip()) if text is not None else None
+    return int(found[1]) if found else None
 
 
 class Experiment:
@@ -108,11 +118,9 @@ class Experiment:
             self.asked.append(name)
         if kind not in ("constant", "fixed") or (kind == "fixed" and has_fraction):
             return
-        counter, resolution = element.get("intervalCounter", ""), element.get("resolution", "")
-        if has_fraction and counter.isdecimal() and resolution.isdecimal() and int(resolution):
-            whole = element.get("shiftCounter", "0")
-            interval = Fraction(int(counter), int(resolution))
-            shift = Fraction(int(whole) if whole.isdecimal() else 0, int(resolution))
+        counter, resolution, shift = (whole(element.get(name)) for name in ("intervalCounter", "resolution", "shiftCounter"))
+        if has_fraction and counter is not None and resolution:
+            interval, shift = Fraction(counter, resolution), Fraction(shift or 0, resolution)
         else:
             interval, shift = number(element, "intervalDecimal", path), number(element, "shiftDecimal", path) or Fraction(0)
         if interval is not None and interval > 0:
@@ -205,7 +213,33 @@ def suggestion(system):
     sentences += warnings(of, step, start, stop)
     host, of_host = choose_host(system)
     sentences.append(of_host)
-    return sentences, command_of(system, resolution, step, start, stop, host)
+    return [*sentences, *cautions(system)], command_of(system, resolution, step, start, stop, host)
+
+
+def cautions(system):
+    """What the program refuses of the FMUs, or passes over, as far as it decides whether the command makes sense."""
+    others, lacking, reals = {}, [], []
+    for component in system.components:
+        description = component.description
+        version = description.root.get("fmiVersion", "")
+        if version and version != "3.0" and not version.startswith("3.0."):
+            others.setdefault(version, []).append(component.name)
+        elif description.co_simulation is None:
+            lacking.append(component.name)
+        elif any(one.is_real() for one in description.variables):
+            reals.append(component.name)
+    for version, names in others.items():
+        yield f"Refused by rule 11: {listed(names)} of FMI {version} (docs/HOSTS.md, My FMU is FMI 2.0)."
+    if lacking:
+        yield f"Refused by rule 12: no Co-Simulation in {listed(lacking)}."
+    if reals:
+        folder = in_shell(system.folder)
+        yield f"Passed over: the Float variables of {listed(reals)}; `tools/ssp reals {folder} OUT` makes them integers that hold their bits."
+
+
+def listed(names):
+    """The first of some names."""
+    return ", ".join(names[:4]) + (f" and {len(names) - 4} more" if len(names) > 4 else "")
 
 
 def warnings(of, step, start, stop):

@@ -32,6 +32,11 @@ class Variable:
             or self.causality not in CAUSALITIES
         )
 
+    def is_real(self):
+        """Whether it is one that `ssp reals` makes an integer: a Float scalar that is set or read."""
+        is_used = self.causality in ("input", "output", "parameter")
+        return self.type in ("Float32", "Float64") and is_used and self.element.first("Dimension") is None
+
 
 class Description:
     """What a modelDescription.xml says."""

@@ -1,4 +1,5 @@
 """`ssp unpack FILE [DIR]`: an archive of a system (.ssp) or of an FMU (.fmu) as the folder that the program reads."""
+import lzma
 import os
 import shutil
 import stat
@@ -7,13 +8,16 @@ import zipfile
 import zlib
 
 from .common import DESCRIPTION, STRUCTURE, Told, one_line
-from .suggest import suggestion
+from .suggest import cautions, suggestion
 from .systems import read_system
 
 ABOUT = """Unpacks an archive of a system (.ssp) or of an FMU (.fmu) into DIR, which isn't there before or is empty; where it isn't
 given, it is the name of FILE without its ending. The FMUs in an archive of a system become folders that keep their names, so that
-no source has to be edited. Nothing is written outside DIR, and nothing is left of an archive that isn't whole. The last line is the
-command that runs it; `ssp suggest DIR` says how it is chosen."""
+no source has to be edited. Nothing is written outside DIR, and nothing is left of an archive that isn't whole. FMUs that the program
+refuses for their version are named, and those whose reals it passes over. The last line is the command that runs it; `ssp suggest
+DIR` says how it is chosen."""
+# the folders that a path in an archive may have, and the file
+MOST_LEVELS = 256
 
 
 def add_parser(subparsers):
@@ -29,22 +33,29 @@ def run(args):
         raise Told(f"{folder}: there is something in this folder: give another DIR")
     if os.path.lexists(folder) and not os.path.isdir(folder):
         raise Told(f"{folder} is there already, and is no folder: give another DIR")
-    above = os.path.dirname(os.path.abspath(folder))
+    place = os.path.realpath(folder)
+    is_there = os.path.isdir(place)
+    above = place if is_there else os.path.dirname(place)
     if not os.path.isdir(above):
-        raise Told(f"{above}: there is no such folder to make {os.path.basename(folder)} in")
-    # beside DIR, so that it can be put into its place as a whole
+        raise Told(f"{above}: there is no such folder to make {os.path.basename(place)} in")
+    # beside DIR, or in it where it is there, so that it can be put into its place as a whole
     with tempfile.TemporaryDirectory(prefix=".ssp-unpack-", dir=above) as room:
         made = os.path.join(room, "made")
         files, fmus = unpack(args.file, made)
-        os.rename(made, folder)
+        if is_there:
+            for name in os.listdir(made):
+                os.rename(os.path.join(made, name), os.path.join(place, name))
+        else:
+            os.rename(made, place)
     of_fmus = f", in folders of {counted(fmus, 'FMU')}" if fmus else ""
     print(one_line(f"{folder}: {counted(files, 'file')}{of_fmus}"))
     try:
-        _, command = suggestion(read_system(folder))
+        system = read_system(folder)
+        lines = [*cautions(system), suggestion(system)[1]]
     except (Told, OSError) as why:
-        print(one_line(f"No command is suggested: {why}"))
-    else:
-        print(one_line(command))
+        lines = [f"No command is suggested: {why}"]
+    for line in lines:
+        print(one_line(line))
 
 
 def counted(number, what):
@@ -104,6 +115,8 @@ def names_in(archive, what):
             raise Told(f"{what}: the path `{name}` in it isn't taken: it may lead out of the folder")
         if stat.S_ISLNK(info.external_attr >> 16):
             raise Told(f"{what}: `{name}` in it is a link, which isn't taken")
+        if len(parts) > MOST_LEVELS:
+            raise Told(f"{what}: `{name[:100]}..` in it lies in more than {MOST_LEVELS - 1} folders")
         if info.flag_bits & 1:
             raise Told(f"{what}: `{name}` in it is encrypted")
         if info.is_dir():
@@ -128,16 +141,16 @@ def extract(archive, to, what):
     count = 0
     for info in infos:
         path = os.path.join(to, *info.orig_filename.rstrip("/").split("/"))
-        if info.is_dir():
-            os.makedirs(path, exist_ok=True)
-            continue
-        os.makedirs(os.path.dirname(path), exist_ok=True)
         try:
-            with archive.open(info) as source, open(path, "xb") as file:
-                shutil.copyfileobj(source, file, 1 << 20)
-        except (zipfile.BadZipFile, zlib.error, NotImplementedError, RuntimeError, EOFError, ValueError) as error:
+            os.makedirs(path if info.is_dir() else os.path.dirname(path), exist_ok=True)
+            if not info.is_dir():
+                with archive.open(info) as source, open(path, "xb") as file:
+                    shutil.copyfileobj(source, file, 1 << 20)
+                if (info.external_attr >> 16) & 0o111:
+                    os.chmod(path, 0o755)
+                count += 1
+        except (zipfile.BadZipFile, zlib.error, lzma.LZMAError, NotImplementedError, RuntimeError, EOFError, ValueError) as error:
             raise Told(f"{what}: `{info.orig_filename}` in it can't be read: {error}") from None
-        if (info.external_attr >> 16) & 0o111:
-            os.chmod(path, 0o755)
-        count += 1
+        except OSError as error:
+            raise Told(f"{what}: `{info.orig_filename}` in it: {error.strerror or error}") from None
     return count

@@ -34,7 +34,7 @@ def unreached_values(system):
                 continue
             place = place_of(binding, parameter, entry)
             if variable is not None:
-                yield f"{place}: {name} is a {kind_of(variable)} of {component.name}, which isn't bound"
+                yield f"{place}: {name} is a {kind_of(variable)} of {component.name}, which isn't bound{way_on(variable)}"
             else:
                 yield f"{place}: {name} reaches no parameter{nearest(name, names)}"
 
@@ -54,6 +54,10 @@ def kind_of(variable):
     return f"{variable.type} {variable.causality}" if variable.element.first("Dimension") is None else f"{variable.type} array"
 
 
+def way_on(variable):
+    return "; `tools/ssp reals` makes it an integer that holds its bits" if variable.is_real() else ""
+
+
 def foreign_ends(system):
     """The connectors of components that are ends of connections and stand for a variable that is never set and read."""
     for part in system.parts:
@@ -70,4 +74,4 @@ def foreign_ends(system):
                     variable = other.component.description.variable(name)
                     if variable is not None and variable.is_foreign:
                         place = f"{system.path}:{connection.line}:{connection.column}"
-                        yield f"{place}: {other.component.name}.{name} is a {kind_of(variable)}, which isn't connected"
+                        yield f"{place}: {other.component.name}.{name} is a {kind_of(variable)}, which isn't connected{way_on(variable)}"

@@ -12,23 +12,30 @@ BEGIN {
     options["one"] = options["run"] = run
     options["check"] = "resolution"
     options["trace-check"] = ""
+    options["bench"] = "workers"
     needed["one"] = needed["run"] = "resolution step stop"
     needed["check"] = "resolution"
     positionals["one"] = positionals["run"] = positionals["check"] = "DIR"
     positionals["trace-check"] = "DIR FILE"
+    positionals["bench"] = "SEED N"
     least_of["resolution"] = least_of["step"] = least_of["workers"] = least_of["max-iterations"] = "1"
-    least_of["stop"] = least_of["start"] = "0"
+    least_of["stop"] = least_of["start"] = least_of["SEED"] = "0"
+    least_of["N"] = "1"
     most_of["resolution"] = most_of["step"] = most_of["stop"] = most_of["start"] = most
     most_of["workers"] = "64"
+    most_of["SEED"] = "2147483647"
+    most_of["N"] = "256"
     most_of["max-iterations"] = "10000"
     is["resolution"] = "counts a second"
     is["step"] = is["stop"] = is["start"] = "counts"
     is["workers"] = "workers"
+    is["SEED"] = "what the system is drawn by"
+    is["N"] = "components"
     is["max-iterations"] = "instants at a point"
 
-    if (ARGC < 2) fault("a command is missing: one, run, check or trace-check")
+    if (ARGC < 2) fault("a command is missing: one, run, check, trace-check or bench")
     command = ARGV[1]
-    if (!(command in options)) fault("`" command "` is no command; there are one, run, check and trace-check")
+    if (!(command in options)) fault("`" command "` is no command; there are one, run, check, trace-check and bench")
     read_words()
     count = split(positionals[command], names, " ")
     if (found < count) fault(names[found + 1] " is missing: " about[names[found + 1]])
@@ -50,6 +57,8 @@ function fault(text) {
 function read_words(   i, word, name, at) {
     about["DIR"] = "the folder of the system, or of the FMU"
     about["FILE"] = "the file of a trace"
+    about["SEED"] = wanted("SEED")
+    about["N"] = wanted("N")
     for (i = 2; i < ARGC; i++) {
         word = ARGV[i]
         if (word !~ /^--./) {
@@ -57,7 +66,8 @@ function read_words(   i, word, name, at) {
             if (word == "") fault("a word is empty")
             if (word ~ /^-/) fault("`" word "` is no option; a directory of this name is written ./" word)
             if (found > split(positionals[command], names, " ")) fault("`" word "` is a word too many")
-            places = places (found > 1 ? " " : "") i
+            if (names[found] in is) limit(names[found], names[found], word)
+            else places = places (places == "" ? "" : " ") i
             continue
         }
         name = substr(word, 3)
@@ -79,9 +89,13 @@ function take(name, word) {
     if (name in value) fault("--" name " stands twice")
     value[name] = word
     if (word == "" || word ~ /^-/) fault("--" name " `" word "`: a value isn't empty and doesn't begin with -")
-    if (!(name in is)) return
+    if (name in is) limit("--" name, name, word)
+}
+
+# A count is within its limits.
+function limit(shown, name, word) {
     if (word !~ /^(0|[1-9][0-9]*)$/ || is_less(word, least_of[name]) || is_less(most_of[name], word))
-        fault("--" name " " word ": " wanted(name) \
+        fault(shown " " word ": " wanted(name) \
             (word ~ /^[0-9]*[.][0-9]+$/ ? "; with --resolution 1000, 10 counts are 0.01 s" : ""))
 }
 

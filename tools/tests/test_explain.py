@@ -37,8 +37,10 @@ class Explain(Case):
         place = "/SystemStructureDescription[1]/System[1]"
         self.explains(f"refused 35 d/SystemStructure.ssd {place}", "d/SystemStructure.ssd: rule 35: ", "What to do: ")
         self.explains(f"refused 46 d/SystemStructure.ssd {place} ports 0 1", "and the last the first: 0, 1")
-        self.write("d/SystemStructure.ssd", "no document")
-        self.explains(f"refused 35 d/SystemStructure.ssd {place}", "d/SystemStructure.ssd: rule 35: ")
+        for content in ("no document", "<a/>", "<SystemStructureDescription><a/></SystemStructureDescription>"):
+            self.write("d/SystemStructure.ssd", content)
+            self.explains(f"refused 35 d/SystemStructure.ssd {place}", "d/SystemStructure.ssd: rule 35: ")
+            self.explains(f"refused 35 d/SystemStructure.ssd {place}[2]", "d/SystemStructure.ssd: rule 35: ")
 
     def test_each_rule_is_told_with_what_to_do(self):
         with open(f"{TOP}/docs/RULES.md", encoding="utf-8") as file:
@@ -78,4 +80,7 @@ class Explain(Case):
         self.tells("this is no line of the program: nothing such", "explain", "nothing", "such")
         self.tells("this is no line of the program: refused 3 d", "explain", text="words\nrefused 3 d\n")
         self.tells("there is no line to explain", "explain")
+        many = "9" * 5000
+        for line in (f"refused 3 d byte {many}", f"refused 46 d /a[1] ports {many}", f"refused {many} d byte 1"):
+            self.tells(f"this is no line of the program: {line}", "explain", line)
         self.tells("docs/RULES.md has no rule 99", "explain", "refused 99 d byte 3")

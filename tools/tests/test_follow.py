@@ -34,7 +34,7 @@ class Follow(Case):
 
     def test_what_is_no_trace(self):
         line = "trace: no trace of this format: it begins with another line than `trace 1 R START STOP`"
-        for content in ("port 0\n", "trace 2 1000 0 40\n", "nothing", b"\xff" * 200, "trace 1 " + "1" * 200):
+        for content in ("port 0\n", "trace 2 1000 0 40\n", "trace 1 0 0 40\n", "nothing", b"\xff" * 200, "trace 1 " + "1" * 200):
             self.write("trace", content)
             self.tells(line, "follow", "trace")
         self.tells("none: No such file or directory", "follow", "none")

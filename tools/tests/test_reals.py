@@ -293,6 +293,12 @@ class Reals(Case):
     def test_folders_that_are_none(self):
         self.write("d/other.xml", "<a/>")
         self.refused("there is neither SystemStructure.ssd nor modelDescription.xml")
+        self.write("d/SystemStructure.ssd", structure("<Elements>" + component("a", "other.xml") + "</Elements>"))
+        self.refused("d/other.xml is a file and has to be a folder: tools/ssp unpack makes one of an archive")
+        status, _, err = self.call("d/other.xml", "o")
+        self.assertEqual((2, ["d"]), (status, os.listdir(self.room)))
+        self.assertIn("d/other.xml is a file and has to be a folder", err)
+        os.remove(f"{self.room}/d/SystemStructure.ssd")
         self.write("d/modelDescription.xml", FMU)
         for out, line in (("d", "d is there already"), ("d/inside", "lies within"), ("none/o", "none: there is no such folder")):
             before = self.files()
@@ -303,7 +309,7 @@ class Reals(Case):
 
     def test_systems_that_are_too_deep(self):
         self.write("d/SystemStructure.ssd", structure("<Elements><System name='s'>" * 3000 + "</System></Elements>" * 3000))
-        self.refused("more than 64 systems in one another")
+        self.refused("this element has more than 63 around it, which rule 4 refuses")
 
     def test_no_word_of_a_document_in_another_encoding(self):
         self.write("d/modelDescription.xml", ("\ufeff" + FMU).encode("utf-16-le"))
@@ -319,6 +325,36 @@ class Reals(Case):
             self.write("d/SystemStructure.ssd", text)
             self.converted()
             shutil.rmtree(f"{self.room}/o")
+
+    def test_units_of_one_name(self):
+        """They are what the documents define; a factor may be rounded there."""
+        self.write("d/m/modelDescription.xml", FMU)
+        two = "<Elements>" + component("a", "m", connector("y", "output")) + component("b", "n", connector("u", "input")) + "</Elements>"
+        self.write("d/SystemStructure.ssd", structure(f"{two}<Connections>{connection('a.y', 'b.u')}</Connections>"))
+        for factor, line in (("1.0001", None), ("1.5", "m/s (factor=1.0 offset=0.0 m=1 s=-1) to m/s (factor=1.5 offset=0.0 m=1 s=-1)")):
+            units = f'<UnitDefinitions><Unit name="m/s"><BaseUnit factor="{factor}" m="1" s="-1"/></Unit></UnitDefinitions>'
+            self.write("d/n/modelDescription.xml", description(variable("Float64", "u", 1, "input", ' unit="m/s"'), units))
+            if line is None:
+                self.converted()
+                shutil.rmtree(f"{self.room}/o")
+            else:
+                self.refused(f"the connection from a.y to b.u leads from the unit {line}, and bits can't be converted")
+
+    def test_units_beside_a_connection_over_which_nothing_is_converted(self):
+        """From `a` one connection leads to `b`, and another to `c` through a System whose connector has no unit."""
+        self.write("d/m/modelDescription.xml", FMU)
+        for end, unit in (("z", "km/h"), ("u", None)):
+            inner = (
+                f'<System name="s"><Connectors>{connector("x", "input")}</Connectors><Elements>{component("c", "m", connector(end, "input"))}'
+                f"</Elements><Connections>{connection('x', f'c.{end}')}</Connections></System>"
+            )
+            parts = component("a", "m", connector("y", "output")) + component("b", "m", connector("z", "input")) + inner
+            ways = connection("a.y", "s.x") + connection("a.y", "b.z", ' suppressUnitConversion="true"')
+            self.write("d/SystemStructure.ssd", structure(f"<Elements>{parts}</Elements><Connections>{ways}</Connections>"))
+            if unit is None:
+                self.converted()
+            else:
+                self.refused(f"joins ends of two units: a.y has the unit m/s and s.c.{end} has the unit {unit}")
 
     def test_bits(self):
         bits = lambda value: struct.unpack(">q", struct.pack(">d", value))[0]  # noqa: E731
@@ -420,6 +456,29 @@ class Reals(Case):
         self.write("d/modelDescription.xml", description(variable("Float64", "y", 1, "output", ' declaredType="T"'), types))
         self.converted()
         self.assertEqual("Float64 fmu y m\n", self.read("o/real_ports.txt"))
+
+    def test_a_unit_comes_from_the_connector(self):
+        """Where the variable has none: the connector of the copy can't have one."""
+        self.write("d/m/modelDescription.xml", FMU)
+        connectors = connector("u4", "input", more=' unit="K 0"') + connector("y", "output", more=' unit="m/s"') + connector("z", "input")
+        self.write("d/SystemStructure.ssd", structure("<Elements>" + component("a", "m", connectors) + "</Elements>"))
+        self.converted()
+        ports = ["Float64 a u m/s", "Float64 a y m/s", "Float32 a u4 K%200", "Float32 a y4", "Float64 a z km/h", "Float64 a same m.s-1"]
+        self.assertEqual(ports, self.read("o/real_ports.txt").splitlines())
+
+    def test_prefixes(self):
+        """They stand before each name, also before it is looked for in a mapping."""
+        self.write("d/m/modelDescription.xml", FMU)
+        one, two = '<Real value="1"/>', '<Real value="2"/>'
+        mapped = mapping(("p.q", "k4", "", ""), ("q", "k", "", ""))
+        bindings = inline(("k", one), ("a.k", two), prefix="a.") + inline(("q", two), mapping=mapped, prefix="p.")
+        before = structure(f"<ParameterBindings>{bindings}</ParameterBindings><Elements>" + component("a", "m") + "</Elements>")
+        before = before.replace('target="k', 'target="a.k')
+        self.write("d/SystemStructure.ssd", before)
+        self.converted("8 variables, 2 values and 6 ports")
+        after = before.replace(one, '<Integer value="4607182418800017408"/>')
+        head, _, last = after.rpartition(two)
+        self.assertEqual(f'{head}<Integer value="1073741824"/>{last}', self.read("o/SystemStructure.ssd"))
 
     def test_names_that_reach_inputs(self):
         """As before they reach no parameter, and `check` counts them."""

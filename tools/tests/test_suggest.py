@@ -85,6 +85,29 @@ class Suggest(Case):
         self.write("d/modelDescription.xml", description("", VARIABLE, times, identifier="counter"))
         self.suggests("./ssprun one d --resolution R --step H --stop T")
 
+    def test_fmus_that_are_refused_and_reals(self):
+        names = ("a", "b", "c", "d", "e")
+        self.write("d/SystemStructure.ssd", structure(elements(*(component(name, name) for name in (*names, "x", "y", "z")))))
+        real = description('<Float64 name="x" valueReference="1" causality="output"/>')
+        for name in names:
+            self.write(f"d/{name}/modelDescription.xml", real)
+        self.write("d/x/modelDescription.xml", '<fmiModelDescription fmiVersion="2.0"><CoSimulation modelIdentifier="m"/></fmiModelDescription>')
+        self.write("d/y/modelDescription.xml", '<fmiModelDescription fmiVersion="3.0"><ModelExchange modelIdentifier="m"/></fmiModelDescription>')
+        self.write("d/z/modelDescription.xml", description('<Float64 name="time" valueReference="0" causality="independent"/>'))
+        self.suggests(
+            "./ssprun run d --resolution R --step H --stop T --host ./fmi3_host",
+            "Refused by rule 11: x of FMI 2.0 (docs/HOSTS.md, My FMU is FMI 2.0).",
+            "Refused by rule 12: no Co-Simulation in y.",
+            "Passed over: the Float variables of a, b, c, d and 1 more; `tools/ssp reals d OUT` makes them integers that hold their bits.",
+        )
+
+    def test_numbers_that_no_clock_has(self):
+        of = 'name="c" valueReference="1" causality="input" intervalVariability="constant" supportsFraction="true"'
+        for counter in ("9" * 5000, "-1", "one", ""):
+            clock = f'<Clock {of} intervalCounter="{counter}" resolution="10"/>'
+            self.write("d/modelDescription.xml", description(clock, VARIABLE, experiment(stepSize="0.5", stopTime="2"), "counter"))
+            self.suggests("./ssprun one d --resolution 2 --step 1 --stop 4")
+
     def test_what_is_wrong(self):
         self.tells("d: neither SystemStructure.ssd nor modelDescription.xml is there", "suggest", "d")
         self.write("d/modelDescription.xml", "nothing")
@@ -95,5 +118,10 @@ class Suggest(Case):
         status, out, err = ssp("suggest", "d", cwd=self.room)
         self.assertEqual((2, ""), (status, out))
         self.assertTrue(err.endswith(": stepSize is no number: often\n"), err)
+        for encoding, why in (("klingon", "unknown encoding: klingon"), ("utf-7", "multi-byte encodings are not supported")):
+            self.write("d/modelDescription.xml", f'<?xml version="1.0" encoding="{encoding}"?><a/>')
+            self.tells(f"d/modelDescription.xml:1: no XML that is read: {why}", "suggest", "d")
+        self.write("d/modelDescription.xml", "<a>" * 65)
+        self.tells("d/modelDescription.xml:1:193: this element has more than 63 around it, which rule 4 refuses", "suggest", "d")
         self.write("d/SystemStructure.ssd", "<System/>")
         self.tells("d/SystemStructure.ssd: no SystemStructureDescription with a System", "suggest", "d")

@@ -1,10 +1,11 @@
 """`ssp unpack`."""
 import io
 import os
+import shutil
 import stat
 import zipfile
 
-from documents import COUNTER, component, elements, structure
+from documents import COUNTER, component, description, elements, structure
 from helper import Case, ssp
 
 SYSTEM = structure(elements(component("c", "resources/counter.fmu")), '<DefaultExperiment stopTime="0.02"/>')
@@ -33,11 +34,32 @@ class Unpack(Case):
         with open(f"{self.room}/plant/SystemStructure.ssd", encoding="utf-8") as file:
             self.assertEqual(SYSTEM, file.read())
 
+    def test_an_fmu_with_reals(self):
+        text = description('<Float64 name="x" valueReference="1" causality="output"/>')
+        self.write("m.fmu", packed(("modelDescription.xml", text)))
+        passed = "Passed over: the Float variables of fmu; `tools/ssp reals m OUT` makes them integers that hold their bits.\n"
+        self.gives(f"m: 1 file\n{passed}./ssprun one m --resolution R --step H --stop T --host ./fmi3_host\n", "unpack", "m.fmu")
+
     def test_an_fmu_into_a_folder_that_is_empty(self):
         self.write("counter.fmu", FMU)
         os.makedirs(f"{self.room}/a folder")
         out = "a folder: 2 files\n./ssprun one 'a folder' --resolution R --step H --stop T\n"
         self.gives(out, "unpack", "counter.fmu", "a folder")
+
+    def test_a_link_to_a_folder_and_the_folder_itself(self):
+        self.write("counter.fmu", FMU)
+        os.makedirs(f"{self.room}/far/own")
+        os.symlink("far/own", f"{self.room}/near")
+        self.gives("near: 2 files\n./ssprun one near --resolution R --step H --stop T\n", "unpack", "counter.fmu", "near")
+        self.assertTrue(os.path.islink(f"{self.room}/near"))
+        os.makedirs(f"{self.room}/empty")
+        out = (0, ".: 2 files\n./ssprun one . --resolution R --step H --stop T\n", "")
+        self.assertEqual(out, ssp("unpack", "../counter.fmu", ".", cwd=f"{self.room}/empty"))
+        self.assertEqual(["documentation", "modelDescription.xml"], sorted(os.listdir(f"{self.room}/empty")))
+        os.makedirs(f"{self.room}/none")
+        self.write("bad.fmu", FMU[:40])
+        self.assertEqual(2, ssp("unpack", "../bad.fmu", ".", cwd=f"{self.room}/none")[0])
+        self.assertEqual([], os.listdir(f"{self.room}/none"))
 
     def test_a_helper_stays_a_program(self):
         info = zipfile.ZipInfo("resources/helper")
@@ -46,6 +68,14 @@ class Unpack(Case):
         self.assertEqual(0, ssp("unpack", "m.fmu", cwd=self.room)[0])
         self.assertTrue(os.access(f"{self.room}/m/resources/helper", os.X_OK))
         self.assertFalse(os.access(f"{self.room}/m/modelDescription.xml", os.X_OK))
+
+    def test_bytes_that_are_changed_give_a_folder_or_one_line(self):
+        for place in range(0, len(SSP), 5):
+            self.write("bad.ssp", SSP[:place] + bytes([SSP[place] ^ 255]) + SSP[place + 1 :])
+            status, out, err = ssp("unpack", "bad.ssp", cwd=self.room)
+            there = sorted(os.listdir(self.room))
+            self.assertIn((status, out.count("\n"), err.count("\n"), there), ((0, 2, 0, ["bad", "bad.ssp"]), (2, 0, 1, ["bad.ssp"])))
+            shutil.rmtree(f"{self.room}/bad", ignore_errors=True)
 
     def test_an_archive_in_an_fmu_stays_as_it_is(self):
         self.write("m.fmu", packed(("modelDescription.xml", COUNTER), ("resources/inner.fmu", FMU)))
@@ -67,6 +97,7 @@ class Unpack(Case):
         self.refuses("bad.ssp: no archive that can be read: File is not a zip file", "nothing")
         self.refuses("bad.ssp: no archive that can be read: File is not a zip file", "")
         self.refuses("bad.ssp: no archive that can be read: File is not a zip file", SSP[: len(SSP) // 2])
+        self.refuses("bad.ssp: no archive that can be read: File is not a zip file", "<a/>", "folder")
         self.tells("missing.ssp: No such file or directory", "unpack", "missing.ssp")
 
     def test_another_archive(self):
@@ -90,6 +121,11 @@ class Unpack(Case):
         self.refuses("bad.ssp: `link` in it is a link, which isn't taken", packed(("SystemStructure.ssd", SYSTEM), (info, "/etc")))
         both = packed(("SystemStructure.ssd", SYSTEM), ("a", "x"), ("a/b", "x"))
         self.refuses("bad.ssp: `a` in it is a file and a folder", both)
+
+    def test_names_that_are_too_long(self):
+        self.refuses(f"bad.ssp: `{'a' * 300}` in it: File name too long", packed(("SystemStructure.ssd", SYSTEM), ("a" * 300, "x")))
+        deep = "a/" * 2000
+        self.refuses(f"bad.ssp: `{deep[:100]}..` in it lies in more than 255 folders", packed(("SystemStructure.ssd", SYSTEM), (f"{deep}b", "")))
 
     def test_an_fmu_in_it_that_is_none(self):
         line = "bad.ssp: resources/counter.fmu: no archive that can be read: File is not a zip file"

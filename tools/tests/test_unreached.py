@@ -50,11 +50,19 @@ class Unreached(Case):
         joined = '<Connections><Connection startElement="a" startConnector="x" endElement="b" endConnector="u"/></Connections>'
         self.write("d/SystemStructure.ssd", structure(parts + joined))
         self.write("d/m/modelDescription.xml", REAL)
+        reals = "; `tools/ssp reals` makes it an integer that holds its bits"
         self.names(
-            "k is a Float64 parameter of b, which isn't bound",
-            "a.x is a Float64 output, which isn't connected",
-            "b.u is a Float64 input, which isn't connected",
+            f"k is a Float64 parameter of b, which isn't bound{reals}",
+            f"a.x is a Float64 output, which isn't connected{reals}",
+            f"b.u is a Float64 input, which isn't connected{reals}",
         )
+
+    def test_strings_and_arrays(self):
+        text = '<String name="k" valueReference="1" causality="parameter"/>'
+        text += '<Float64 name="v" valueReference="2" causality="parameter"><Dimension start="2"/></Float64>'
+        self.write("d/SystemStructure.ssd", structure(elements(component("a", inside=bound(f"><ParameterValues>{values('k', 'v')}</ParameterValues>")))))
+        self.write("d/m/modelDescription.xml", description(text))
+        self.names("k is a String parameter of a, which isn't bound", "v is a Float64 array of a, which isn't bound")
 
     def test_nothing_is_near(self):
         self.write("d/SystemStructure.ssd", structure(bound('source="v.ssv">')))

@@ -5,10 +5,13 @@
 #define _XOPEN_SOURCE 700
 #include "model_variables.h"
 
+#include <poll.h>
 #include <signal.h>
 #include <stdio.h>
 #include <stdlib.h>
 #include <string.h>
+#include <sys/stat.h>
+#include <sys/wait.h>
 #include <unistd.h>
 
 struct model {
@@ -58,10 +61,18 @@ static void fork_one(void)
     note(child);
 }
 
+__attribute__((constructor)) static void load(void)
+{
+    if (is_to("hang when it is loaded"))
+        hang();
+}
+
 __attribute__((destructor)) static void unload(void)
 {
     if (is_to("hang when it is unloaded"))
         hang();
+    if (is_to("fork and return"))
+        fprintf(stderr, "is unloaded\n");
 }
 
 static void initialize(struct model *model)
@@ -81,6 +92,8 @@ static bool step(struct model *model, double point, double size, double *end)
         for (volatile int forever = 1; forever;)
             continue;
     }
+    if (is_to("be slow"))
+        poll(NULL, 0, 700);
     if (is_to("fork") || is_to("fork and run"))
         fork_one();
     if (is_to("fork and hang")) {
@@ -90,6 +103,29 @@ static bool step(struct model *model, double point, double size, double *end)
     if (is_to("fork and crash")) {
         fork_one();
         kill(getpid(), SIGKILL);
+    }
+    if (is_to("fork and return")) {
+        pid_t child = fork();
+        if (child != 0) {
+            note(child);
+            waitpid(child, NULL, 0);
+        }
+    }
+    if (is_to("fork and look")) {
+        int pipes = 0;
+        pid_t child = fork();
+        if (child == 0) {
+            struct stat about;
+            for (int descriptor = 3; descriptor < 64; descriptor++)
+                pipes += fstat(descriptor, &about) == 0 && S_ISFIFO(about.st_mode);
+            _exit(pipes);
+        }
+        waitpid(child, &pipes, 0);
+        fprintf(stderr, "its child has %d pipes\n", WEXITSTATUS(pipes));
+    }
+    if (is_to("close the pipes")) {
+        for (int descriptor = 3; descriptor < 64; descriptor++)
+            close(descriptor);
     }
     if (is_to("fork twice")) {
         int both[2];

@@ -5,7 +5,8 @@ use Rattle.std.proofs.lemmas.Bool.Decides.{nat_tests}
 use Rattle.std.proofs.lemmas.List.{length-map, map-append}
 use Rattle.std.proofs.lemmas.List.Folds.{list_any-append}
 use Rattle.std.proofs.lemmas.List.Elements.{filter_more}
-use Rattle.fmu_peer.specs.Machine.{all_written, is_input_clock, written, zero_at}
+use Rattle.fmu_peer.specs.Machine.{all_written, written, zero_at}
+use Rattle.fmi_calls.specs.Permission.{is_input_clock}
 use Rattle.value_types.specs.declared.shape.Variable.{Variable}
 use Rattle.bench_fmus.specs.BuiltIn.{spread, value_of}
 

@@ -13,7 +13,8 @@ use Rattle.fmi_calls.specs.declared.call.Content.{Content}
 use Rattle.fmi_calls.specs.declared.call.Content.TheVariants as A
 use Rattle.fmi_calls.specs.declared.call.Interval.{Interval}
 use Rattle.fmi_calls.specs.declared.call.Reply.TheVariants.{Done}
-use Rattle.fmu_peer.specs.Machine.{Machine, MachineState, is_input_clock, value_at}
+use Rattle.fmu_peer.specs.Machine.{Machine, MachineState, value_at}
+use Rattle.fmi_calls.specs.Permission.{is_input_clock}
 use Rattle.bench_fmus.specs.Wrapping.{count_of, wrapped, wrapped_int64}
 
 -- ---- a state

@@ -1,8 +1,10 @@
 -- The built-in machines by their names.
-use Rattle.std.specs.Prelude.{Bool, List, ℕ, Option, Some, None, bytes_eq, codes, is_some, if◌then◌else◌}
+use Rattle.std.specs.Prelude.{Bool, List, ℕ, Option, Some, None, bytes_eq, codes, is_some, option_map, if◌then◌else◌}
 use Rattle.bench_fmus.specs.declared.model.Model.{Model}
 use Rattle.bench_fmus.specs.declared.model.Model.TheVariants.{Counter, Gain, Sampler, Alarm, Timer, Relay, Settle}
-use Rattle.bench_fmus.specs.BuiltIn.{Behaviour}
+use Rattle.value_types.specs.declared.shape.Shape.{Shape}
+use Rattle.fmu_peer.specs.Machine.{Machine}
+use Rattle.bench_fmus.specs.BuiltIn.{Behaviour, machine_of}
 use Rattle.bench_fmus.specs.Counter.{counter}
 use Rattle.bench_fmus.specs.Gain.{gain}
 use Rattle.bench_fmus.specs.Sampler.{sampler}
@@ -33,3 +35,9 @@ model_named name =
 
 abbrev pub is_model : List ℕ → Bool
 is_model name = is_some (model_named name)
+
+-- what a name makes of an FMU's shape
+abbrev pub machine_named : List ℕ → Option (Shape → Machine)
+machine_named name =
+    option_map (λ (model : Model) (shape : Shape). machine_of (behaviour_of model) shape)
+    (model_named name)

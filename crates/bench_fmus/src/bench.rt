@@ -141,7 +141,7 @@ impl Spawner for Bench {
     type Link = BuiltIn;
 
     ghost use Rattle.std.specs.Prelude.{map, OnOk, OnErr, IsErrOf, true};
-    ghost use Rattle.fmu_peer.specs.Start.{IsStarted, NotesStart, AnswersUnknown};
+    ghost use Rattle.fmu_peer.specs.Start.{AnswersUnknown, IsMade, IsStarted, NotesStart};
     ghost use Rattle.fmu_peer.specs.declared.spawner.StartFault.TheVariants.{Failed, Memory};
     ghost use Rattle.bench_fmus.specs.Models.{is_model, model_named};
     ghost use Rattle.bench_fmus.specs.BuiltInView.{built_in_view, fewer_views};
@@ -162,6 +162,8 @@ impl Spawner for Bench {
         requires name { (1 ≤ length name.now) × (length name.now ≤ 2 ^ 24) }
         requires token { length shape.now.token ≤ 2 ^ 24 }
         ensures fresh { IfOk result (λ b. IsStarted host.now name.now directory.now shape.now
+            (built_in_view b)) }
+        ensures made { IfOk result (λ b. IsMade (bench_view self.old) host.now shape.now
             (built_in_view b)) }
         ensures model { IfOk result (λ b. model_named shape.now.identifier ≡ Some b.model) }
         ensures talk { IfOk result (λ b. option_map (λ t. t.room) b.book.talk ≡

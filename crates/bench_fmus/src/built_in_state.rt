@@ -1,7 +1,7 @@
 ghost use Rattle.std.specs.Prelude.{◌≡◌, ◌+◌, ◌<◌, ◌≤◌, IfOk, false, filter, if◌then◌else◌, int_lt, length, map, pos, set, slice_get, true, unwrap_or};
 ghost use Rattle.std.specs.Option.{option_map_or};
-ghost use Rattle.fmi_calls.specs.Permission.{Permitted};
-ghost use Rattle.fmu_peer.specs.Machine.{after, all_written, is_input_clock, written, zero_at};
+ghost use Rattle.fmi_calls.specs.Permission.{Permitted, is_input_clock};
+ghost use Rattle.fmu_peer.specs.Machine.{after, all_written, written, zero_at};
 ghost use Rattle.value_types.specs.Shape.{dependency_at, is_known};
 ghost use Rattle.bench_fmus.specs.BuiltIn.{mark_after, no_fraction, spread, start_of, step_content};
 ghost use Rattle.bench_fmus.specs.Told.{number_of_flag};

@@ -93,7 +93,7 @@ impl Spawner for Scripts {
     type Link = Script;
 
     ghost use Rattle.std.specs.Prelude.{map};
-    ghost use Rattle.fmu_peer.specs.Start.{NotesStart, AnswersUnknown};
+    ghost use Rattle.fmu_peer.specs.Start.{AnswersUnknown, NotesStart};
     ghost use Rattle.fmu_peer.specs.declared.spawner.StartFault.TheVariants.{Failed};
     ghost use Rattle.bench_fmus.specs.ScriptView.{fewer_scripts};
     ghost use Rattle.bench_fmus.specs.Spawners.{scripts_view};

@@ -8,7 +8,8 @@ use Rattle.std.proofs.lemmas.Option.{same_Some, slice_get-map}
 use Rattle.value_types.specs.Shape.{is_input, variable_at}
 use Rattle.value_types.specs.declared.shape.Variable.{Variable}
 use Rattle.fmi_calls.specs.declared.call.Call.TheVariants as C
-use Rattle.fmu_peer.specs.Machine.{Machine, MachineState, after, is_input_clock, zero_at}
+use Rattle.fmu_peer.specs.Machine.{Machine, MachineState, after, zero_at}
+use Rattle.fmi_calls.specs.Permission.{is_input_clock}
 use Rattle.bench_fmus.specs.BuiltIn.{Behaviour, first_state, machine_of}
 use Rattle.system_model.specs.declared.system.Component.{Component}
 use Rattle.system_model.specs.Ports.{is_output_role}

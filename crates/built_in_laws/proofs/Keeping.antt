@@ -10,7 +10,8 @@ use Rattle.value_types.specs.Shape.{is_clock, is_input, place_of, variable_at}
 use Rattle.value_types.specs.declared.shape.Variable.{Variable}
 use Rattle.value_types.specs.declared.shape.Shape.{Shape}
 use Rattle.value_types.proofs.CallerLemmas.{find_missing, find_placed, placed_within}
-use Rattle.fmu_peer.specs.Machine.{MachineState, all_written, is_input_clock, written, zero_at}
+use Rattle.fmu_peer.specs.Machine.{MachineState, all_written, written, zero_at}
+use Rattle.fmi_calls.specs.Permission.{is_input_clock}
 use Rattle.bench_fmus.specs.BuiltIn.{Behaviour, first_state, machine_of, start_of, value_of}
 use Rattle.bench_fmus.specs.Laws.{none_within}
 use Rattle.bench_fmus.proofs.CallerLemmas.{placed, value_of_found}

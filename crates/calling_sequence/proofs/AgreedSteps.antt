@@ -1,7 +1,8 @@
 -- An agreed step of a run: what it needs of the slots, where it leads the run, and where it leaves the slots.
-use Rattle.std.proofs.Common.{◌≡◌, ℕ, ℤ, ◌-◌, ◌<◌, ◌≤◌, true, false, List, [], ◌++◌, Option, Some, None, Result, Ok, Err, refl, sym, ap, ◌∙◌, subst, arith, append-nil, append_assoc, is_some, length, get_or}
+use Rattle.std.proofs.Common.{◌≡◌, ℕ, ℤ, ◌-◌, ◌<◌, ◌≤◌, nat_lt, true, false, List, [], ◌++◌, Option, Some, None, Result, Ok, Err, refl, sym, ap, ◌∙◌, subst, arith, append-nil, append_assoc, is_some, length, get_or}
 use Rattle.std.specs.Prelude.{All, slice_get}
 use Rattle.std.specs.Option.{option_map}
+use Rattle.std.proofs.lemmas.Bool.Decides.{nat_tests}
 use Rattle.std.proofs.lemmas.List.{length-map, get_or_default}
 use Rattle.std.proofs.lemmas.Option.{slice_get-get_or, slice_get-map}
 use Rattle.value_types.specs.declared.shape.Shape.{Shape}
@@ -10,14 +11,17 @@ use Rattle.fmu_peer.specs.declared.slot.Slot.{Slot}
 use Rattle.fmu_peer.specs.declared.peer.Exchange.{Exchange}
 use Rattle.fmu_peer.specs.CloseAll.{Instance, instance_in, peer_in}
 use Rattle.fmu_peer.specs.View.{View}
+use Rattle.system_model.specs.EarlyReturn.{early_count}
 use Rattle.system_model.specs.declared.system.Component.{Component}
+use Rattle.system_model.proofs.CallerLemmas.{all_at}
+use Rattle.run_model.specs.Stepping.{asked_first}
 use Rattle.system_model.specs.Text.{Instant}
 use Rattle.slot_calls.specs.Log.{Has, Sent, part}
 use Rattle.slot_calls.specs.Slots.{instances}
 use Rattle.slot_calls.specs.Stage.{IsAnswered, shapes, shapes_of}
 use Rattle.slot_calls.proofs.CallerLemmas.{map_at, shape_of, talks_fixed}
 use Rattle.step_agreement.specs.Agreement.{Meets, Unfit}
-use Rattle.step_agreement.specs.Saving.{early_count, is_saved}
+use Rattle.step_agreement.specs.Saving.{is_saved}
 use Rattle.rollback.specs.declared.step_end.Agreed.{Agreed}
 use Rattle.rollback.specs.declared.step_end.StepEnd.{StepEnd}
 use Rattle.rollback.specs.declared.step_end.StepEnd.TheVariants.{Bad, FixedStep}
@@ -34,7 +38,6 @@ use Rattle.calling_sequence.specs.Goes.{Crosses, stepped_to}
 use Rattle.calling_sequence.specs.Parts.{AllAgree, Does}
 use Rattle.calling_sequence.specs.Place.{IsDeparting, IsStepping}
 use Rattle.calling_sequence.specs.Ready.{Ready}
-use Rattle.calling_sequence.proofs.Beside.{beside_saved}
 use Rattle.calling_sequence.proofs.Chains.{part_all}
 use Rattle.calling_sequence.proofs.Onto.{off_far, on_far}
 use Rattle.calling_sequence.proofs.Phases.{room_on}
@@ -181,18 +184,12 @@ module _ {L : Type 0} {g : _} (view : L → View) (e : Experiment) (t : ℕ) (ol
 
   pub may_be_saved : All (MayBeSaved view (early_count (shapes (instances view olds)))) olds
   may_be_saved = λ k d within h.
-      let x = (seen (get_or olds k d)).fixed.shape in
       let here = own k d within in
-      let same : x ≡ get_or own_shapes k x = shape_here k d within in
-      let other = beside_saved own_shapes k x (let n = counted in omega (arith, n, within)) (ap (is_saved (early_count own_shapes)) (sym same) ∙ h) in
-      let early = of_component e.system.components other.one.place other.one.shape (sym (slice_get-map shape_in e.system.components other.one.place) ∙ ap (λ (ss : List Shape). slice_get ss other.one.place) (sym ready.shapes_are) ∙ other.one.at) in
+      let two : 1 < early_count (shapes_of e.system) = subst (λ (ss : List Shape). 1 < early_count ss) ready.shapes_are (is_more 1 (early_count own_shapes) h) in
       ap (λ (s : Shape). s.can_save_state) here.is
-      ∙ ready.may.sound.components.saved other.one.place k early.0 here.component early.1 here.at other.other (ap (λ (s : Shape). s.might_return_early) early.2 ∙ other.one.early) where
-        of_component : (cs : List Component) (i : ℕ) (shape : Shape) → option_map shape_in (slice_get cs i) ≡ Some shape → (c : Component) × (slice_get cs i ≡ Some c) × (c.shape ≡ shape)
-        of_component cs i shape is = by (slice_get cs i) refl is where
-          by : (o : Option Component) → slice_get cs i ≡ o → option_map shape_in o ≡ Some shape → (c : Component) × (slice_get cs i ≡ Some c) × (c.shape ≡ shape)
-          by None at is = absurd (cc)
-          by (Some c) at is = (c, at, cc)
+      ∙ all_at (λ (c : Component). c.shape.can_save_state ≡ true) e.system.components k here.component (ready.may.sound.components.saved two) here.at where
+        is_more : (a b : ℕ) → nat_lt a b ≡ true → a < b
+        is_more a b q = grind (arith, nat_tests)
 
   -- behind a step that is made
   module _ (bound : ℕ) (agreed : Agreed) (news : List (Slot L g)) (o : StepsOver view t e.plan.step bound olds news (Ok agreed)) where
@@ -207,7 +204,7 @@ module _ {L : Type 0} {g : _} (view : L → View) (e : Experiment) (t : ℕ) (ol
       by (Done m frees saves freed is) =
           subst AreOfStep (sym saves.log_is)
           (joined saves.saves (saves.agreed ++ frees) (round_of_step (is_saved (early_count own_shapes)) C.Save tt own_shapes saves.saves saves.saved.calls_are)
-          (joined saves.agreed frees (agreement_of_step t e.plan.step bound (S.all_at t own_shapes) saves.agreed m saves.agrees) (round_of_step (is_saved (early_count own_shapes)) C.Free tt own_shapes frees freed.calls_are)))
+          (joined saves.agreed frees (agreement_of_step t e.plan.step bound (asked_first (early_count own_shapes)) (S.all_at t own_shapes) saves.agreed m saves.agrees) (round_of_step (is_saved (early_count own_shapes)) C.Free tt own_shapes frees freed.calls_are)))
 
     stands_there : (x y : Slot L g) (es : List Exchange) → IsDeparting t e.plan.stop e.plan.step (seen x) → Has (instance_in view x) es (instance_in view y) → All (λ (z : Exchange). IsOfStep z.call) es → HasStepped view agreed.point e.plan.step y → IsStepping agreed.point e.plan.stop e.plan.step (seen y)
     stands_there x y es h has all s =

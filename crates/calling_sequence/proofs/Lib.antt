@@ -8,7 +8,6 @@ pub mod Stands
 pub mod ScheduleSteps
 pub mod Onto
 pub mod Stages
-pub mod Beside
 mod Staying
 mod AgreedSteps
 pub mod Ways

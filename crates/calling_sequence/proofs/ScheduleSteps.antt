@@ -21,7 +21,7 @@ use Rattle.calling_sequence.specs.declared.buffers.Buffers.{Buffers}
 use Rattle.calling_sequence.specs.declared.experiment.Experiment.{Experiment}
 use Rattle.calling_sequence.specs.Calls.{IsBoundOf}
 use Rattle.calling_sequence.specs.Course.{Begins}
-use Rattle.calling_sequence.specs.Plans.{IsPlan}
+use Rattle.system_model.specs.Plans.{IsPlan}
 use Rattle.calling_sequence.specs.Ready.{AreTimed}
 
 -- ---- one Clock

@@ -16,7 +16,7 @@ use Rattle.fmi_calls.specs.Worth.{grade_of}
 use Rattle.fmu_peer.specs.declared.peer.Exchange.{Exchange}
 use Rattle.fmu_peer.specs.View.{View}
 use Rattle.slot_calls.specs.Log.{Asking, Sent, Talks, asking_of, askings}
-use Rattle.slot_calls.specs.Stage.{everyone, to_those, to_those_from}
+use Rattle.slot_calls.specs.Stage.{to_those, to_those_from}
 use Rattle.slot_calls.specs.declared.bad_answer.BadAnswer.{BadAnswer}
 use Rattle.slot_calls.proofs.CallerLemmas.{map_at}
 use Rattle.step_agreement.specs.Agreement.{Agrees, Meets, Stand, shapes_in}
@@ -98,5 +98,5 @@ along t ss = record {
   badly = λ test call stands bad log is same f. round_of_step test call (of_round t call is) stands log f.calls_are;
 }
 
-pub agreement_of_step : (t step b : ℕ) (stands : List Stand) (log : List Sent) (m : ℕ) → Agrees t step everyone b stands log (Meets m) → AreOfStep log
-agreement_of_step t step b stands log m agrees = along_agreement t step everyone (shapes_in stands) AreOfStep (λ (bad : BadAnswer). AreOfStep) (along t (shapes_in stands)) b stands log (Meets m) refl agrees
+pub agreement_of_step : (t step b : ℕ) (first : Shape → Bool) (stands : List Stand) (log : List Sent) (m : ℕ) → Agrees t step first b stands log (Meets m) → AreOfStep log
+agreement_of_step t step b first stands log m agrees = along_agreement t step first (shapes_in stands) AreOfStep (λ (bad : BadAnswer). AreOfStep) (along t (shapes_in stands)) b stands log (Meets m) refl agrees

@@ -20,8 +20,7 @@ use Rattle.system_model.specs.declared.system.Timing.TheVariants.{Answered, Coun
 use Rattle.system_model.specs.declared.system.System.{System}
 use Rattle.run_model.specs.Equations.{fed}
 use Rattle.run_model.specs.Initial.{is_read}
-use Rattle.run_model.specs.Inputs.{is_active, is_present}
-use Rattle.run_model.specs.Run.{value}
+use Rattle.system_model.specs.Values.{value, is_active, is_present}
 use Rattle.slot_calls.specs.Log.{Asking, Sent}
 use Rattle.slot_calls.specs.Stage.{IsAnswered, shapes_of}
 use Rattle.slot_calls.proofs.CallerLemmas.{sent_all}

@@ -50,7 +50,7 @@ entering_step system = to_those has_events (λ (shape : Shape). C.EnterStep) (sh
 abbrev pub entering_event : System → List Asking
 entering_event system = to_those has_events (λ (shape : Shape). C.EnterEvent) (shapes_of system)
 
--- in a step the states of those are saved beside which another might return early, and freed behind it
+-- in a step the states of all are saved where two or more might return early, and freed behind it
 abbrev pub saving : System → List Asking
 saving system = to_saved C.Save (shapes_of system)
 

@@ -2,9 +2,11 @@
 use Rattle.std.specs.Prelude.{◌≡◌, ℕ, ◌≤◌, ◌<◌, ℤ, List, [], ◌∷◌, ◌++◌, Option, length}
 use Rattle.value_types.specs.declared.shape.Shape.{Shape}
 use Rattle.system_model.specs.declared.system.System.{System}
+use Rattle.system_model.specs.EarlyReturn.{early_count}
+use Rattle.run_model.specs.Stepping.{asked_first}
 use Rattle.slot_calls.specs.declared.bad_answer.BadAnswer.{BadAnswer}
 use Rattle.slot_calls.specs.Log.{Asking, Sent, part}
-use Rattle.slot_calls.specs.Stage.{FailsIn, IsAnswered, IsFirst, StopsAt, everyone, shapes_of}
+use Rattle.slot_calls.specs.Stage.{FailsIn, IsAnswered, IsFirst, StopsAt, shapes_of}
 use Rattle.step_agreement.specs.Agreement.{Agrees, Fails, Outcome}
 use Rattle.step_agreement.specs.Saving.{IsGoodOutcome}
 use Rattle.rollback.specs.StepsBy.{all_at}
@@ -18,10 +20,11 @@ pub data Part : Type 0 where
   Walk : (rules : Rules) (before : List (Option ℤ)) (order : List ℕ) → Part
   Agreement : (t step bound : ℕ) → Part
 
--- so all components agree from t on, each of which is asked first
+-- so all components agree from t on: the one is asked first that alone might return early, and else all are
 abbrev pub AllAgree : System → (t step bound : ℕ) → List Sent → Outcome → Type 0
 AllAgree system t step bound log outcome =
-    Agrees t step everyone bound (all_at t (shapes_of system)) log outcome
+    Agrees t step (asked_first (early_count (shapes_of system))) bound
+    (all_at t (shapes_of system)) log outcome
 
 -- by this log the part was done, and each answer is good; these are the values that a walk found. An agreement is done at a point, or before a size that a component doesn't take
 abbrev pub Does : System → Part → List (Option ℤ) → List Sent → Type 0

@@ -13,7 +13,8 @@ use Rattle.slot_calls.specs.Stage.{shapes, shapes_of}
 use Rattle.calling_sequence.specs.declared.experiment.Experiment.{Experiment}
 use Rattle.calling_sequence.specs.declared.buffers.Buffers.{Buffers}
 use Rattle.calling_sequence.specs.Place.{IsMade}
-use Rattle.calling_sequence.specs.Plans.{CountsBy, IsPlan}
+use Rattle.calling_sequence.specs.Plans.{CountsBy}
+use Rattle.system_model.specs.Plans.{IsPlan}
 
 -- what may be run: a sound system, values of its parameters, each at most once, and a plan by whose resolution its FMUs count
 pub record MayBeRun (e : Experiment) : Type 0 where

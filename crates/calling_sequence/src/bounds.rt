@@ -3,7 +3,7 @@ ghost use Rattle.run_model.specs.Steps.{IsBound};
 ghost use Rattle.event_iteration.specs.Clocks.{IsNextFrom, timers_in};
 ghost use Rattle.event_iteration.specs.Intervals.{is_some_armed};
 ghost use Rattle.calling_sequence.specs.Calls.{first_unfit};
-ghost use Rattle.calling_sequence.specs.Plans.{IsPlan};
+ghost use Rattle.system_model.specs.Plans.{IsPlan};
 
 use sim_base::CompId;
 use system_model::{Component, Plan, System};

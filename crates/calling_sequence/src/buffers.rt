@@ -1,5 +1,5 @@
 ghost use Rattle.std.specs.Prelude.{IfOk};
-ghost use Rattle.calling_sequence.specs.Plans.{IsPlan};
+ghost use Rattle.system_model.specs.Plans.{IsPlan};
 ghost use Rattle.calling_sequence.specs.Ready.{AreFresh};
 ghost use Rattle.system_model.specs.Sound.{IsSound};
 

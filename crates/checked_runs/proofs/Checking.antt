@@ -29,7 +29,6 @@ use Rattle.system_files.specs.declared.subject.Subject.TheVariants as what
 use Rattle.system_files.specs.declared.named.FileFault.TheVariants.{TooBig}
 use Rattle.system_files.specs.Files.{Absent, AreSteady, Faulty, Flaw, HasFile, Holds, LacksFile, Long}
 use Rattle.system_files.specs.Order.{Agree, Comes, Fails, Finding, Found, Search, search_of}
-use Rattle.system_files.specs.Loads as loads
 use Rattle.system_files.proofs.ComesLemmas.{more_comes}
 use Rattle.trace_judging.specs.Judging.{ByRules, FailsReading, Gives, Judged, Judgement, Judges, Lacks, NoRule, NoSystem, NoTrace, OfSystem, OfTrace, OutOfForm, Question, IsVerdict, search_for}
 use Rattle.run_program.specs.Facts.{LoadsLine}

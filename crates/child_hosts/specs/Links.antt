@@ -1,5 +1,5 @@
 -- What the program's spawner and its peers tell.
-use Rattle.std.specs.Prelude.{◌≡◌, ◌≢◌, ℕ, List, Bool, true, map, Some, None, Result, Ok, Err, option_map, if◌then◌else◌}
+use Rattle.std.specs.Prelude.{◌≡◌, ◌≢◌, ℕ, List, Bool, true, map, Option, Some, None, Result, Ok, Err, option_map, if◌then◌else◌}
 use Rattle.std.specs.Str.{bytes_eq}
 use Rattle.std.specs.declared.process.pipes.ChildStdout.{ChildStdout}
 use Rattle.std.specs.declared.snapshot.Snapshot.{Snapshot}
@@ -14,6 +14,7 @@ use Rattle.fmu_peer.specs.declared.peer.PeerFault.TheVariants.{Failed as PeerFai
 use Rattle.fmu_peer.specs.declared.spawner.StartFault.{StartFault}
 use Rattle.fmu_peer.specs.declared.spawner.StartFault.TheVariants.{Failed, Memory}
 use Rattle.fmu_peer.specs.declared.talk_room.TalkRoom.{TalkRoom}
+use Rattle.fmu_peer.specs.Machine.{Machine}
 use Rattle.fmu_peer.specs.Start.{SpawnerView}
 use Rattle.fmu_peer.specs.View.{View}
 use Rattle.fmu_link.specs.Exchange.{Exchanged}
@@ -21,7 +22,7 @@ use Rattle.fmu_link.specs.Piped.{line_view, piped_view}
 use Rattle.fmu_link.specs.Wire.{WireView, wire_view}
 use Rattle.bench_fmus.specs.declared.built_in.BuiltIn.{BuiltIn as BuiltInFmu}
 use Rattle.bench_fmus.specs.BuiltInView.{built_in_reply, built_in_view}
-use Rattle.bench_fmus.specs.Models.{is_model, model_named}
+use Rattle.bench_fmus.specs.Models.{is_model, machine_named, model_named}
 use Rattle.command_line.specs.Line.{built_in_host}
 use Rattle.child_hosts.specs.declared.child_fmu.ChildFmu.{ChildFmu}
 use Rattle.child_hosts.specs.declared.hosts.Hosts.{Hosts}
@@ -83,6 +84,11 @@ KeepsNoTalk (Child child) = ⊥
 abbrev pub is_known : List ℕ → List ℕ → Bool
 is_known host identifier = if bytes_eq host built_in_host then is_model identifier else true
 
+-- by the host `builtin` it starts the built-in machines, and of a program it says of no machine
+abbrev pub made_by : List ℕ → List ℕ → Option (Shape → Machine)
+made_by host identifier =
+    if bytes_eq host built_in_host then machine_named identifier else None
+
 -- by the host `builtin` it is the machine that the shape names, which keeps no talk, and by another a child
 abbrev pub IsOfHost : List ℕ → Shape → HostLink (PipeWire ChildStdout ChildInput) → Type 0
 IsOfHost host shape (BuiltIn peer) =
@@ -95,5 +101,6 @@ hosts_view h = record {
   started = h.retired.started;
   retired = map (λ (s : Snapshot (HostLink (PipeWire ChildStdout ChildInput))). host_link_view s.value) h.retired.peers.items;
   knows = is_known;
+  makes = made_by;
   faults = h.faults;
 }

@@ -1,9 +1,10 @@
 ghost use Rattle.std.specs.Prelude.{◌≡◌, ◌≤◌, ◌^◌, [], IfErr, IfOk, None, length};
 ghost use Rattle.bench_fmus.specs.BuiltInView.{built_in_view};
 ghost use Rattle.bench_fmus.specs.Models.{is_model};
-ghost use Rattle.child_hosts.specs.Links.{IsOfHost, host_link_view, is_known};
+ghost use Rattle.bench_fmus.specs.Spawners.{StartsBuiltIns};
+ghost use Rattle.child_hosts.specs.Links.{IsOfHost, host_link_view, hosts_view, is_known};
 ghost use Rattle.command_line.specs.Line.{built_in_host};
-ghost use Rattle.fmu_peer.specs.Start.{AnswersUnknown, IsStarted};
+ghost use Rattle.fmu_peer.specs.Start.{AnswersUnknown, IsMade, IsStarted};
 
 use crate::{ChildFmu, HostLink, Pipes};
 use bench_fmus::{BuiltIn, Model, Origin, Retired};
@@ -29,6 +30,7 @@ impl<'a, R: Processes<Started = SystemProcess>> Hosts<'a, R> {
     pub fn new(alloc: Global, processes: &'a R) -> Hosts<'a, R>
         ensures none { (result.retired.started ≡ 0) × (result.retired.peers.items ≡ []) }
         ensures quiet { result.faults ≡ 0 }
+        ensures built_ins { StartsBuiltIns built_in_host (hosts_view result) }
     {
         Hosts {
             processes,
@@ -42,7 +44,6 @@ impl<'a, R: Processes<Started = SystemProcess>> Spawner for Hosts<'a, R> {
     type Link = HostLink<Pipes>;
 
     ghost use Rattle.fmu_peer.specs.Start.{NotesStart};
-    ghost use Rattle.child_hosts.specs.Links.{hosts_view};
     ghost use Rattle.child_hosts.specs.LinkLaws.{fewer_views};
 
     ghost view = { hosts_view };
@@ -60,6 +61,8 @@ impl<'a, R: Processes<Started = SystemProcess>> Spawner for Hosts<'a, R> {
         requires name { (1 ≤ length name.now) × (length name.now ≤ 2 ^ 24) }
         requires token { length shape.now.token ≤ 2 ^ 24 }
         ensures fresh { IfOk result (λ link. IsStarted host.now name.now directory.now shape.now
+            (host_link_view link)) }
+        ensures made { IfOk result (λ link. IsMade (hosts_view self.old) host.now shape.now
             (host_link_view link)) }
         ensures unknown { AnswersUnknown (is_known host.now shape.now.identifier) result }
         ensures noted { NotesStart (hosts_view self.old) (hosts_view self.new) result }
@@ -83,7 +86,6 @@ impl<'a, R: Processes<Started = SystemProcess>> Spawner for Hosts<'a, R> {
 impl<'a, R> Hosts<'a, R> {
     ghost use Rattle.fmu_peer.specs.Start.{NotesStart, with_failure};
     ghost use Rattle.fmu_peer.specs.declared.spawner.StartFault.TheVariants.{Failed, Memory};
-    ghost use Rattle.child_hosts.specs.Links.{hosts_view};
 
     // Counts a peer that was started, and makes the room to take it back.
     fn count(&mut self, link: HostLink<Pipes>) -> Result<HostLink<Pipes>, StartFault>

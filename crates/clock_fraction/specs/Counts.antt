@@ -12,3 +12,7 @@ abbrev pub counts_of : Fraction → ℕ → Option ℕ
 counts_of fraction per_second =
     if not (fraction.resolution == 0) && per_second * fraction.counter % fraction.resolution == 0 then Some (per_second * fraction.counter / fraction.resolution)
     else None
+
+-- a whole number of counts, of which a second has so many
+abbrev pub IsInCounts : ℕ → Fraction → Type 0
+IsInCounts per_second f = (counts : ℕ) × IsCounts f per_second counts

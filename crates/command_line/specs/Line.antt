@@ -1,10 +1,13 @@
 -- The command lines of the program: `one DIR --resolution R --step H --stop T [--start S] [--workers W]
--- [--max-iterations N] [--host PROGRAM]`, `run` with the same words behind it, `check DIR --resolution R`, and `trace-check DIR FILE`.
-use Rattle.std.specs.Prelude.{◌≡◌, ℕ, ◌^◌, ◌≤◌, Bool, true, false, List, [], ◌∷◌, map, find, Option, Some, None, if◌then◌else◌, codes, decimal, String, string_bytes}
+-- [--max-iterations N] [--host PROGRAM]`, `run` with the same words behind it, `check DIR --resolution R`, `trace-check DIR FILE`,
+-- and `bench SEED N [--workers W]`.
+use Rattle.std.specs.Prelude.{◌≡◌, ℕ, ◌^◌, ◌<◌, ◌≤◌, Bool, true, false, List, [], ◌∷◌, map, find, Option, Some, None, if◌then◌else◌, codes, decimal, String, string_bytes}
 use Rattle.std.specs.Str.{bytes_eq}
 use Rattle.std.specs.declared.alloc.Global.{Global}
 use Rattle.system_model.specs.declared.plan.Plan.{Plan}
+use Rattle.system_model.specs.Plans.{IsPlan}
 use Rattle.command_line.specs.Words.{Word, Item, IsSpelled, has_each_once, is_among, positionals_of, value_of}
+use Rattle.command_line.specs.declared.words.BenchOptions.{BenchOptions}
 use Rattle.command_line.specs.declared.words.CheckOptions.{CheckOptions}
 use Rattle.command_line.specs.declared.words.CommandLine.{CommandLine}
 use Rattle.command_line.specs.declared.words.CommandLine.TheVariants as R
@@ -15,7 +18,7 @@ use Rattle.command_line.specs.declared.words.TraceOptions.{TraceOptions}
 
 -- ---- the table of the commands
 
--- an option whose value is a count: its limits, and the count where it isn't given, unless it has to be
+-- an option, or a positional, whose value is a count: its limits, and the count where it isn't given, unless it has to be
 pub record CountRow : Type 0 where
   pub name : Word
   pub least : ℕ
@@ -108,8 +111,23 @@ trace_check_row = record {
   options = [];
 }
 
+-- what a generated system is drawn by, and how many components it has
+abbrev pub seed_row : CountRow
+seed_row = count_row (codes "SEED") 0 2147483647 None
+
+abbrev pub components_row : CountRow
+components_row = count_row (codes "N") 1 256 None
+
+-- the run of a generated system
+abbrev pub bench_row : CommandRow
+bench_row = record {
+  name = codes "bench";
+  positionals = seed_row.name ∷ components_row.name ∷ [];
+  options = CountOption workers_row ∷ [];
+}
+
 abbrev pub commands : List CommandRow
-commands = one_row ∷ run_row ∷ check_row ∷ trace_check_row ∷ []
+commands = one_row ∷ run_row ∷ check_row ∷ trace_check_row ∷ bench_row ∷ []
 
 -- ---- lines of a table
 
@@ -195,10 +213,17 @@ pub record TraceLine : Type 0 where
   pub directory : List ℕ
   pub file : List ℕ
 
+-- a line of the run of a generated system: what it is drawn by, and how many components and workers it has
+pub record BenchLine : Type 0 where
+  pub seed : ℕ
+  pub components : ℕ
+  pub workers : ℕ
+
 -- a line of a command
 pub data Asked : Type 0 where
   OfSystem : Line → Asked
   OfTrace : TraceLine → Asked
+  OfBench : BenchLine → Asked
 
 -- the options give each count of the plan, which doesn't stop before it starts
 pub record GivesPlan (get : Lookup) (plan : Plan) : Type 0 where
@@ -227,12 +252,20 @@ abbrev pub AsksTrace : Lookup → TraceLine → Type 0
 AsksTrace get line =
     (get (codes "DIR") ≡ Some line.directory) × (get (codes "FILE") ≡ Some line.file)
 
+-- a line of the run of a generated system gives three counts
+abbrev pub AsksBench : Lookup → BenchLine → Type 0
+AsksBench get line =
+    Counts seed_row (get seed_row.name) line.seed ×
+    Counts components_row (get components_row.name) line.components ×
+    Counts workers_row (get workers_row.name) line.workers
+
 -- what a line of each command asks for
 abbrev pub Asks : Word → Lookup → Asked → Type 0
 Asks name get (OfSystem (One line)) = (name ≡ one_row.name) × AsksRun get line
 Asks name get (OfSystem (Run line)) = (name ≡ run_row.name) × AsksRun get line
 Asks name get (OfSystem (Check line)) = (name ≡ check_row.name) × AsksCheck get line
 Asks name get (OfTrace line) = (name ≡ trace_check_row.name) × AsksTrace get line
+Asks name get (OfBench line) = (name ≡ bench_row.name) × AsksBench get line
 
 -- the words are a line that asks for this
 pub record IsAsked (words : List Word) (asked : Asked) : Type 0 where
@@ -246,6 +279,9 @@ IsLine words line = IsAsked words (OfSystem line)
 
 abbrev pub IsTraceLine : List Word → TraceLine → Type 0
 IsTraceLine words line = IsAsked words (OfTrace line)
+
+abbrev pub IsBenchLine : List Word → BenchLine → Type 0
+IsBenchLine words line = IsAsked words (OfBench line)
 
 abbrev pub directory_of : Line → List ℕ
 directory_of (One line) = line.directory
@@ -264,13 +300,10 @@ run_in (One line) = Some line
 run_in (Run line) = Some line
 run_in (Check line) = None
 
--- the limits of a plan
+-- the limits of a plan, of the counts that a second has and of the workers
 pub record IsWithin (plan : Plan) : Type 0 where
   pub resolution : (1 ≤ plan.resolution) × (plan.resolution ≤ 2 ^ 62)
-  pub step : (1 ≤ plan.step) × (plan.step ≤ 2 ^ 62)
-  pub stop : plan.stop ≤ 2 ^ 62
-  pub start : plan.start ≤ plan.stop
-  pub limit : (1 ≤ plan.limit) × (plan.limit ≤ 10000)
+  pub plan_is : IsPlan plan
   pub workers : (1 ≤ plan.workers) × (plan.workers ≤ 64)
 
 -- the counts of a line keep their limits
@@ -279,10 +312,17 @@ KeepsLimits (One line) = IsWithin line.plan
 KeepsLimits (Run line) = IsWithin line.plan
 KeepsLimits (Check line) = (1 ≤ line.resolution) × (line.resolution ≤ 2 ^ 62)
 
+-- those of the run of a generated system
+pub record AreFew (line : BenchLine) : Type 0 where
+  pub seed : line.seed < 2 ^ 31
+  pub components : (1 ≤ line.components) × (line.components ≤ 256)
+  pub workers : (1 ≤ line.workers) × (line.workers ≤ 64)
+
 -- and so do those of any command
 abbrev pub IsWithinLimits : Asked → Type 0
 IsWithinLimits (OfSystem line) = KeepsLimits line
 IsWithinLimits (OfTrace line) = Unit {0}
+IsWithinLimits (OfBench line) = AreFew line
 
 -- ---- words and options of the program
 
@@ -309,7 +349,17 @@ line_of (R.Check options) = Check (check_of options)
 abbrev pub trace_of : TraceOptions → TraceLine
 trace_of options = record { directory = options.directory.now; file = options.file.now }
 
+-- the line of the run of a generated system that options tell
+abbrev pub bench_of : BenchOptions → BenchLine
+bench_of options =
+    record {
+      seed = options.seed;
+      components = options.components;
+      workers = options.workers;
+    }
+
 -- the line that a request tells
 abbrev pub asked_of : Request → Asked
 asked_of (Q.System line) = OfSystem (line_of line)
 asked_of (Q.TraceCheck options) = OfTrace (trace_of options)
+asked_of (Q.Bench options) = OfBench (bench_of options)

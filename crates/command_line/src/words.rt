@@ -1,7 +1,7 @@
 ghost use Rattle.std.specs.Prelude.{◌≡◌, ℕ, ◌≤◌, ◌^◌, IfOk, IfErr, IfSome, IsSomeAnd};
 ghost use Rattle.clap.specs.Words.{app_of, first_of, found_of, rows_of, subcommand_rows_of};
 ghost use Rattle.command_line.specs.App.{app_of_rows};
-ghost use Rattle.command_line.specs.Line.{Asked, Asks, AsksCheck, AsksRun, AsksTrace, CheckLine, Counts, GivesPlan, IsAsked, IsLineOf, IsWithin, IsWithinLimits, Lookup, RunLine, TraceLine, asked_of, check_of, commands, run_of, texts, trace_of, workers_row};
+ghost use Rattle.command_line.specs.Line.{AreFew, Asked, Asks, AsksBench, AsksCheck, AsksRun, AsksTrace, BenchLine, CheckLine, Counts, GivesPlan, IsAsked, IsLineOf, IsWithin, IsWithinLimits, Lookup, RunLine, TraceLine, asked_of, bench_of, check_of, commands, run_of, texts, trace_of, workers_row};
 ghost use Rattle.command_line.specs.Table.{GivesLine, SubAsks};
 ghost use Rattle.command_line.specs.Words.{Word};
 ghost use Rattle.command_line.specs.declared.fault.WordsFault.TheVariants.{NoLine};
@@ -36,6 +36,11 @@ const DEFAULT_LIMIT: u64 = 100;
 // The most workers.
 const MOST_WORKERS: u64 = 64;
 
+// The greatest seed and the most components of a generated system.
+const MOST_SEED: u64 = 2_147_483_647;
+
+const MOST_COMPONENTS: u64 = 256;
+
 /// What a command line asks for.
 #[derive(Clone, Copy, Debug)]
 pub enum Request<'a> {
@@ -43,6 +48,8 @@ pub enum Request<'a> {
     System(CommandLine<'a>),
     /// to check a trace against the system in a directory
     TraceCheck(TraceOptions<'a>),
+    /// to run a generated system
+    Bench(BenchOptions),
 }
 
 /// What the command line of a system or of one FMU asks for, by its command.
@@ -77,6 +84,15 @@ pub struct CheckOptions<'a> {
 pub struct TraceOptions<'a> {
     pub directory: &'a str,
     pub file: &'a str,
+}
+
+/// What `bench` is asked for: what the system is drawn by, below 2^31, how many components it has, from 1 to 256, and how
+/// many workers make the calls of a step.
+#[derive(Clone, Copy, Debug, PartialEq, Eq)]
+pub struct BenchOptions {
+    pub seed: u32,
+    pub components: usize,
+    pub workers: u32,
 }
 
 /// Reads the words of a command line, without the program's name.
@@ -119,7 +135,8 @@ fn make_command<'a>(alloc: Global) -> Result<Command<'a>, AllocError>
     let command = with_subcommand(alloc, command, "one", &["DIR"], &RUN_OPTIONS)?;
     let command = with_subcommand(alloc, command, "run", &["DIR"], &RUN_OPTIONS)?;
     let command = with_subcommand(alloc, command, "check", &["DIR"], &["resolution"])?;
-    with_subcommand(alloc, command, "trace-check", &["DIR", "FILE"], &[])
+    let command = with_subcommand(alloc, command, "trace-check", &["DIR", "FILE"], &[])?;
+    with_subcommand(alloc, command, "bench", &["SEED", "N"], &["workers"])
 }
 
 // The command that was matched, with its options.
@@ -149,6 +166,7 @@ fn read_command<'a>(name: &str, matches: &ArgMatches<'a>) -> Option<Request<'a>>
         "run" => Some(Request::System(CommandLine::Run(read_run(matches)?))),
         "check" => Some(Request::System(CommandLine::Check(read_check(matches)?))),
         "trace-check" => Some(Request::TraceCheck(read_trace_check(matches)?)),
+        "bench" => Some(Request::Bench(read_bench(matches)?)),
         _ => None,
     }
 }
@@ -197,6 +215,24 @@ fn read_trace_check<'a>(matches: &ArgMatches<'a>) -> Option<TraceOptions<'a>>
     Some(TraceOptions {
         directory: value_of(matches, "DIR")?,
         file: value_of(matches, "FILE")?,
+    })
+}
+
+// What a generated system is drawn by, its number of components, and the workers.
+fn read_bench(matches: &ArgMatches<'_>) -> Option<BenchOptions>
+    ensures ok { IfSome result (λ o. AsksBench (λ n. first_of n (rows_of (found_of matches.now)))
+        (bench_of o)) }
+    ensures only { (line : BenchLine) → AsksBench (λ n. first_of n (rows_of (found_of matches.now)))
+        line → IsSomeAnd result (λ o. bench_of o ≡ line) }
+    ensures within { IfSome result (λ o. AreFew (bench_of o)) }
+{
+    let seed = option_count(matches, "SEED", 0, MOST_SEED, None)?;
+    let components = option_count(matches, "N", 1, MOST_COMPONENTS, None)?;
+    let workers = read_workers(matches)?;
+    Some(BenchOptions {
+        seed: seed as u32,
+        components: components as usize,
+        workers,
     })
 }
 

@@ -30,8 +30,8 @@ use Rattle.system_model.specs.Ports.{is_clock_role, numbers}
 use Rattle.system_model.specs.Sound.{IsSound}
 use Rattle.system_model.proofs.CallerLemmas.{Placed, events_of, place_of}
 use Rattle.run_model.specs.Equations.{timer_of}
-use Rattle.run_model.specs.Inputs.{is_active}
-use Rattle.run_model.specs.Run.{Every, Never, Once, Timer, value}
+use Rattle.run_model.specs.Run.{Every, Never, Once, Timer}
+use Rattle.system_model.specs.Values.{value, is_active}
 use Rattle.run_model.specs.Timers.{IsDue, answered, armed_after, fixed, periodic_of}
 use Rattle.slot_calls.specs.Carried.{reply_in}
 use Rattle.slot_calls.specs.Log.{Sent, part}

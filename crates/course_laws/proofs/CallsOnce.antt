@@ -1,5 +1,5 @@
 -- The calls of one component along a run: each is one of a run, and none stands twice where it isn't needed.
-use Rattle.std.proofs.Common.{◌≡◌, ℕ, zero, suc, ◌-◌, ◌<◌, ◌≤◌, ◌==◌, Bool, true, false, List, [], ◌∷◌, ◌++◌, ◌⊎◌, inl, inr, Option, Some, ℤ, refl, sym, ap, ◌∙◌, subst, append_assoc, append-nil, arith, length}
+use Rattle.std.proofs.Common.{◌≡◌, ℕ, zero, suc, ◌<◌, ◌≤◌, ◌==◌, Bool, true, false, List, [], ◌∷◌, ◌++◌, ◌⊎◌, inl, inr, Option, Some, ℤ, refl, sym, ap, ◌∙◌, subst, append_assoc, append-nil, arith, length}
 use Rattle.std.specs.Prelude.{None, if◌then◌else◌}
 use Rattle.std.specs.List.{slice_get}
 use Rattle.std.specs.Option.{option_map, option_map_or}
@@ -11,6 +11,7 @@ use Rattle.fmi_calls.specs.declared.call.Call.TheVariants as C
 use Rattle.fmi_calls.specs.declared.call.Kind.{Kind}
 use Rattle.fmi_calls.specs.declared.call.Kind.TheVariants as K
 use Rattle.fmi_calls.specs.KindFacts.{IsRunCall, may_repeat, moves_on}
+use Rattle.fmu_peer.specs.declared.peer.Exchange.{Exchange}
 use Rattle.fmu_peer.specs.Lean.{SizesFall}
 use Rattle.fmu_peer.specs.Mode.{instantiate_of}
 use Rattle.system_model.specs.declared.bound.Bound.{Bound}
@@ -20,25 +21,27 @@ use Rattle.system_model.specs.declared.system.System.{System}
 use Rattle.system_model.specs.Bounds.{BindsParameters}
 use Rattle.system_model.specs.Sound.{IsSound}
 use Rattle.system_model.specs.Text.{Instant}
+use Rattle.system_model.specs.EarlyReturn.{early_count}
+use Rattle.run_model.specs.Stepping.{asked_first}
 use Rattle.slot_calls.specs.declared.bad_answer.BadAnswer.{BadAnswer}
-use Rattle.slot_calls.specs.Log.{Asking, Sent, askings}
+use Rattle.slot_calls.specs.Log.{Asking, Sent, askings, part}
 use Rattle.slot_calls.specs.Stage.{IsAnswered, StopsAt, everyone, has_events, shapes_of, to_each, to_those}
 use Rattle.slot_calls.proofs.CallerLemmas.{other}
 use Rattle.event_iteration.specs.WalkCalls.{Front, UsesAre, WalksBy, Whole, has_events_at, initial_span, instant_span, interval_span, own, step_span, timing_span}
 use Rattle.event_iteration.proofs.ByLog.{Differ, each_call_once, own_append}
-use Rattle.step_agreement.specs.Agreement.{Fails, Meets, Outcome, Stand, Unfit}
-use Rattle.step_agreement.specs.Saving.{early_count, is_saved}
-use Rattle.step_agreement.proofs.CallerLemmas.{Alternates, alternates_from, ends_so, sizes_fall_along}
+use Rattle.step_agreement.specs.Agreement.{Fails, Meets, Outcome, Stand, Unfit, are_at, stand_by, stands_by}
+use Rattle.fmu_peer.specs.Talk.{calls_in}
+use Rattle.step_agreement.specs.Saving.{is_saved}
+use Rattle.step_agreement.proofs.CallerLemmas.{Alternates, all_there, alternates_from}
 use Rattle.rollback.specs.StepsBy.{all_at}
 use Rattle.calling_sequence.specs.Calls.{leaving, making}
 use Rattle.calling_sequence.specs.Course.{Again, Agreed, Agreeing, Before, Configured, Course, Departing, Entered, Exits, Found, GoesOn, LeadsTo, Leaves, Leaving, Left, Made, Place, Read, Rearmed, Saved, Saves, Seen, Sets, Short, Spot, Stepped, Stopping, Timed, Way, part_at}
 use Rattle.calling_sequence.specs.Parts.{Agreement, AllAgree, Calls, Does, Falls, Part, Round, Walk}
 use Rattle.calling_sequence.proofs.Along.{along}
-use Rattle.calling_sequence.proofs.Sizes.{shapes_all}
 use Rattle.course_laws.specs.Laws.{AreNeeded, NoCallTwice}
 use Rattle.course_laws.specs.Runs.{Comes, Falling, Stands, Unmade}
 use Rattle.course_laws.proofs.BoundSets.{binding_new, setting_span}
-use Rattle.course_laws.proofs.LastSteps.{BeginsAll, all_home, begins_where_met, none_both}
+use Rattle.course_laws.proofs.LastSteps.{ends_from, falls_from, stand_behind}
 use Rattle.course_laws.proofs.Once.{IsBefore, IsBelow, IsSeen, IsSo, Keep, Limit, NamesNone, NamesPort, differ_by, named, needed, needed_front, open_by, Open, switched, weaker}
 use Rattle.course_laws.proofs.OwnCalls.{own_calls, own_log, own_there}
 use Rattle.course_laws.proofs.RoundCalls.{IsSomehow, free_runs, freed_kept, rounds_so, save_runs}
@@ -250,18 +253,22 @@ module _ (system : System) (sound : IsSound system) (k : ℕ) (c : Component) (o
         (record { shape = c.shape; point = t; ask = t }, slice_get-map (λ (z : Shape). record { shape = z; point = t; ask = t }) (shapes_of system) k ∙ ap (option_map (λ (z : Shape). record { shape = z; point = t; ask = t })) shape_is, refl)
 
     alternate : Alternates t false (mine log)
-    alternate = subst (Alternates t false) (own_calls k log) (alternates_from t step everyone k b (all_at t (shapes_of system)) log o agrees stand.0 stand.1 stand.2)
+    alternate = subst (Alternates t false) (own_calls k log) (alternates_from t step (asked_first (early_count (shapes_of system))) k b (all_at t (shapes_of system)) log o agrees stand.0 stand.1 stand.2)
 
     fall : SizesFall None (mine log)
-    fall = subst (SizesFall None) (own_calls k log) (sizes_fall_along everyone t step b (all_at t (shapes_of system)) log o later (λ i s at. refl) agrees k stand.0 stand.1)
+    fall = subst (SizesFall None) (own_calls k log) (falls_from t step (shapes_of system) b later log o agrees k stand.0 stand.1)
 
-    -- where a step of each was made one of it was
-    begun : BeginsAll t (shapes_of system) log → mine log ≡ [] → ⊥
-    begun x none =
-        let whole : (mine x.backs ++ mine x.steps) ++ mine x.rest ≡ [] = ap (λ (cs : List Call). cs ++ mine x.rest) (sym (own_log k x.backs x.steps)) ∙ sym (own_log k (x.backs ++ x.steps) x.rest) ∙ ap mine (sym x.log_is) ∙ none in
-        let steps_none : mine x.steps ≡ [] = (none_both (mine x.backs) (mine x.steps) (none_both (mine x.backs ++ mine x.steps) (mine x.rest) whole).0).1 in
-        let one : mine x.steps ≡ C.DoStep t x.size ∷ [] = ap (own k) x.asked ∙ own_there everyone (λ (shape : Shape). C.DoStep t x.size) system k c of in
-        absurd (let wrong : [] ≡ C.DoStep t x.size ∷ [] = sym steps_none ∙ one in cc)
+    -- where all stand behind t a step of it was made
+    begun : (m : ℕ) → are_at m (stands_by t (all_at t (shapes_of system)) log) ≡ true → t < m → mine log ≡ [] → ⊥
+    begun m there after none =
+        let empty : part k log ≡ [] = no_exchange (part k log) (own_calls k log ∙ none) in
+        let now : (stand_by t stand.0 (part k log)).point ≡ m = all_there m (stands_by t (all_at t (shapes_of system)) log) there k (stand_by t stand.0 (part k log)) (stand_behind t (all_at t (shapes_of system)) log k stand.0 stand.1) in
+        let still : (stand_by t stand.0 (part k log)).point ≡ stand.0.point = ap (λ (es : List Exchange). (stand_by t stand.0 es).point) empty in
+        let home = stand.2 in
+        absurd (omega (arith, now, still, home, after)) where
+          no_exchange : (es : List Exchange) → calls_in es ≡ [] → es ≡ []
+          no_exchange [] h = refl
+          no_exchange (x ∷ es) h = absurd (cc)
 
     module _ (calls : List Call) (w : Way) (at : w.s.t ≡ t) (so : IsSo (limit_at e (Saved w)) calls) where
       kept_is : (x : Bool) → e.saved ≡ x → ((limit_at e (Saved w)).kept ≡ None) ⊎ ((limit_at e (Saved w)).kept ≡ Some None)
@@ -388,8 +395,8 @@ module _ (system : System) (sound : IsSound system) (k : ℕ) (c : Component) (o
     leads_so calls _ _ _ _ (Again s values log ticks below begins) later at a does =
         subst (λ (b : Bool). IsSo (limit point_kinds s.t (instant_span b e.events).from) (calls ++ mine log)) (sym (other (suc s.n) 0 (λ same. absurd (omega (arith, same))))) (added (Calls []) (limit_behind e plan (Seen s true false)) calls a values log does)
     leads_so calls _ _ _ _ (Agreeing w values log m asked agrees is) later at a does =
-        let ends = ends_so w.s.t plan.step (shapes_of system) w.to later (all_at w.s.t (shapes_of system)) log (Meets m) (shapes_all w.s.t (shapes_of system)) (inl (all_home w.s.t (shapes_of system))) agrees in
-        met w.s.t plan.step w.to later log (Meets m) agrees calls w refl at m ends.2 (begun w.s.t plan.step w.to later log (Meets m) agrees (begins_where_met w.s.t plan.step (shapes_of system) w.to log m (all_at w.s.t (shapes_of system)) refl agrees))
+        let ends = ends_from w.s.t plan.step (shapes_of system) w.to later log (Meets m) agrees in
+        met w.s.t plan.step w.to later log (Meets m) agrees calls w refl at m ends.2 (begun w.s.t plan.step w.to later log (Meets m) agrees m ends.1 ends.2)
     leads_so calls _ _ _ _ (Stopping w values log i x agrees) later at a does = anyhow w.s.t plan.step w.to later log (Unfit i x) agrees calls w refl at
     leads_so calls p q values log leads later at a does = added (part_at system bound plan p) (limit_behind e plan p) calls a values log does
 

@@ -24,6 +24,8 @@ use Rattle.system_model.specs.Sound.{IsSound}
 use Rattle.system_model.specs.Text.{Instant}
 use Rattle.system_model.proofs.CallerLemmas.{place_of}
 use Rattle.run_model.specs.Initial.{set_call}
+use Rattle.system_model.specs.EarlyReturn.{early_count}
+use Rattle.run_model.specs.Stepping.{asked_first}
 use Rattle.slot_calls.specs.declared.bad_answer.BadAnswer.{BadAnswer}
 use Rattle.slot_calls.specs.Log.{Sent}
 use Rattle.slot_calls.specs.Stage.{IsGoodOf, everyone, shapes_of, to_those}
@@ -99,7 +101,7 @@ module _ (system : System) where
   }
 
   pub agreement_has : (t step b : ℕ) (log : List Sent) (o : Outcome) → AllAgree system t step b log o → HasAlong Good (λ (bad : BadAnswer) (l : List Sent). EndsBadly ss bad l) o log
-  agreement_has t step b log o agrees = along_agreement t step everyone ss Good (λ (bad : BadAnswer) (l : List Sent). EndsBadly ss bad l) (along_steps t) b (all_at t ss) log o (shapes_all t ss) agrees
+  agreement_has t step b log o agrees = along_agreement t step (asked_first (early_count ss)) ss Good (λ (bad : BadAnswer) (l : List Sent). EndsBadly ss bad l) (along_steps t) b (all_at t ss) log o (shapes_all t ss) agrees
 
   agreement_good : (log : List Sent) (o : Outcome) → IsGoodOutcome o → HasAlong Good (λ (bad : BadAnswer) (l : List Sent). EndsBadly ss bad l) o log → Good log
   agreement_good log (Meets m) is h = h

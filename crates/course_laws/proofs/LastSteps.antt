@@ -1,7 +1,8 @@
 -- The last steps of an agreement, by the talks of its FMUs: where they meet all end at one point, and where it stops they don't.
-use Rattle.std.proofs.Common.{◌≡◌, ◌≢◌, inl, inr, ℕ, zero, suc, ◌+◌, ◌-◌, Bool, true, not, List, [], ◌∷◌, ◌++◌, Option, Some, Result, Ok, Err, refl, sym, ap, ap₂, ◌∙◌, subst, arith, append-nil}
+use Rattle.std.proofs.Common.{◌≡◌, ◌≢◌, inl, inr, ℕ, zero, suc, ◌+◌, ◌-◌, ◌<◌, ◌==◌, Bool, true, false, not, List, [], ◌∷◌, ◌++◌, Option, Some, None, Result, Ok, Err, refl, sym, ap, ap₂, ◌∙◌, subst, arith, append-nil}
 use Rattle.std.specs.Prelude.{All, MatchResult, if◌then◌else◌}
 use Rattle.std.specs.List.{slice_get}
+use Rattle.std.proofs.lemmas.Bool.Decides.{nat_tests}
 use Rattle.std.proofs.lemmas.List.Elements.{All-head, All-tail}
 use Rattle.std.proofs.lemmas.Option.{none-some as none_some, same_Some}
 use Rattle.value_types.specs.declared.shape.Shape.{Shape}
@@ -18,14 +19,19 @@ use Rattle.fmi_calls.specs.Next.{end_of}
 use Rattle.fmi_calls.specs.Worth.{grade_of}
 use Rattle.fmu_peer.specs.declared.peer.Exchange.{Exchange}
 use Rattle.fmu_peer.specs.declared.peer.PeerFault.{PeerFault}
+use Rattle.fmu_peer.specs.Lean.{SizesFall}
 use Rattle.fmu_peer.specs.Talk.{IsGood}
+use Rattle.system_model.specs.EarlyReturn.{early_count}
+use Rattle.run_model.specs.Stepping.{asked_first}
 use Rattle.slot_calls.specs.Log.{Asking, Sent, askings, part}
 use Rattle.slot_calls.specs.SavedStates.{EndsAt, has_stepped, last_step, saved_after, saved_by, step_or, steps}
 use Rattle.slot_calls.specs.Stage.{everyone, to_those, to_those_from}
 use Rattle.slot_calls.specs.declared.bad_answer.BadAnswer.{BadAnswer}
-use Rattle.step_agreement.specs.Agreement.{everyone as everyone_stands, Agrees, Asks, Fails, FirstMeet, FirstStops, GoesAnew, InBack, InStep, IsUnfit, Meets, NextMeet, NextStops, Stand, comes_first, end_by, is_away, moved, stand_by, stands_by, stands_from, to_some, to_some_from}
-use Rattle.step_agreement.proofs.CallerLemmas.{IsOfRound, same_number}
+use Rattle.step_agreement.specs.Agreement.{everyone as everyone_stands, Agrees, Asks, Fails, FirstMeet, FirstStops, GoesAnew, InBack, InStep, IsUnfit, NextMeet, NextStops, Stand, comes_first, end_by, Outcome, is_away, moved, stand_by, stands_by, stands_from, to_some, to_some_from}
+use Rattle.fmu_peer.specs.Talk.{calls_in}
+use Rattle.step_agreement.proofs.CallerLemmas.{EndsSo, IsOfRound, ends_so, first_all, only_saved_go_back, same_number, sizes_fall_along}
 use Rattle.rollback.specs.StepsBy.{all_at}
+use Rattle.calling_sequence.proofs.Sizes.{shapes_all}
 
 -- ---- one FMU
 
@@ -119,6 +125,33 @@ pub to_each_stand : (t k : ℕ) (call : Call) (ss : List Shape) → to_some_from
 to_each_stand t k call [] = refl
 to_each_stand t k call (s ∷ ss) = ap (λ (cs : List Asking). record { component = k; call = call } ∷ cs) (to_each_stand t (k + 1) call ss)
 
+-- how an agreement ends, from where all stand at t
+pub ends_from : (t step : ℕ) (ss : List Shape) (b : ℕ) → t < b → (log : List Sent) (outcome : Outcome) → Agrees t step (asked_first (early_count ss)) b (all_at t ss) log outcome → EndsSo t step ss (all_at t ss) log outcome
+ends_from t step ss b later log outcome agrees =
+    subst (λ (zs : List Shape). EndsSo t step zs (all_at t ss) log outcome) (shapes_all t ss)
+    (ends_so t step b (all_at t ss) log outcome later (all_home t ss) (subst (λ (zs : List Shape). Agrees t step (asked_first (early_count zs)) b (all_at t ss) log outcome) (sym (shapes_all t ss)) agrees))
+
+-- and the sizes of one's steps in it
+pub falls_from : (t step : ℕ) (ss : List Shape) (b : ℕ) → t < b → (log : List Sent) (outcome : Outcome) → Agrees t step (asked_first (early_count ss)) b (all_at t ss) log outcome → (i : ℕ) (s : Stand) → slice_get (all_at t ss) i ≡ Some s → SizesFall None (calls_in (part i log))
+falls_from t step ss b later log outcome agrees i s at =
+    sizes_fall_along t step b (all_at t ss) log outcome later (all_home t ss) (subst (λ (zs : List Shape). Agrees t step (asked_first (early_count zs)) b (all_at t ss) log outcome) (sym (shapes_all t ss)) agrees) i s at
+
+-- an FMU is put back in it where two or more might return early
+pub back_from : (t step : ℕ) (ss : List Shape) (b : ℕ) → t < b → (log : List Sent) (outcome : Outcome) → Agrees t step (asked_first (early_count ss)) b (all_at t ss) log outcome → All (λ (s : Sent). s.exchange.call ≡ C.Restore → 1 < early_count ss) log
+back_from t step ss b later log outcome agrees =
+    subst (λ (zs : List Shape). All (λ (s : Sent). s.exchange.call ≡ C.Restore → 1 < early_count zs) log) (shapes_all t ss)
+    (only_saved_go_back t step b (all_at t ss) log outcome later (all_home t ss) (subst (λ (zs : List Shape). Agrees t step (asked_first (early_count zs)) b (all_at t ss) log outcome) (sym (shapes_all t ss)) agrees))
+
+-- where more than one might return early, or none, all come first
+pub all_first_by : (t step : ℕ) (ss : List Shape) (b : ℕ) (stands : List Stand) (log : List Sent) (outcome : Outcome) → early_count ss ≢ 1 → Agrees t step (asked_first (early_count ss)) b stands log outcome → Agrees t step (λ (shape : Shape). true) b stands log outcome
+all_first_by t step ss b stands log outcome several agrees = by (early_count ss == 1) refl where
+  equal : (x y : ℕ) → (x == y) ≡ true → x ≡ y
+  equal x y q = grind (arith, nat_tests)
+
+  by : (x : Bool) → (early_count ss == 1) ≡ x → Agrees t step (λ (shape : Shape). true) b stands log outcome
+  by true one = absurd (several (equal (early_count ss) 1 one))
+  by false h = subst (λ (first : Shape → Bool). Agrees t step first b stands log outcome) (first_all (early_count ss) h) agrees
+
 -- ---- the first asking
 
 -- a log begins with a step of each, from where all stand at t
@@ -171,16 +204,6 @@ module _ (t step : ℕ) (ss : List Shape) where
   begins_all _ _ bad _ at (NextStops b stands log _ m front back mids asks mids_is m_is apart stops log_is) = by_asks everyone_stands b front (subst (λ (xs : List Stand). Asks t step everyone_stands (comes_first (λ (shape : Shape). true)) b xs front) at asks) back log log_is
   begins_all _ _ bad _ at (NextMeet b stands log _ m front back mids asks mids_is m_is apart next there is log_is) = absurd (cc)
   begins_all _ _ bad _ at (GoesAnew b stands log _ m c front back rest mids ends asks mids_is m_is apart next ends_is behind c_is more log_is) =
-      by_asks everyone_stands b front (subst (λ (xs : List Stand). Asks t step everyone_stands (comes_first (λ (shape : Shape). true)) b xs front) at asks) (back ++ rest) log log_is
-
-  pub begins_where_met : (b : ℕ) (log : List Sent) (m : ℕ) (stands : List Stand) → stands ≡ all_at t ss → Agrees t step (λ (shape : Shape). true) b stands log (Meets m) → BeginsAll t ss log
-  begins_where_met _ _ m _ at (FirstStops b stands log _ (IsUnfit i unfit none is)) = absurd (cc)
-  begins_where_met _ _ m _ at (FirstStops b stands log _ (InBack other fits fails is)) = absurd (cc)
-  begins_where_met _ _ m _ at (FirstStops b stands log _ (InStep other backs steps fits back fails log_is is)) = absurd (cc)
-  begins_where_met _ _ m _ at (FirstMeet b stands log _ n asks n_is there is) = by_asks everyone_stands b log (subst (λ (xs : List Stand). Asks t step everyone_stands (comes_first (λ (shape : Shape). true)) b xs log) at asks) [] log (sym (append-nil log))
-  begins_where_met _ _ m _ at (NextStops b stands log _ n front back mids asks mids_is n_is apart stops log_is) = by_asks everyone_stands b front (subst (λ (xs : List Stand). Asks t step everyone_stands (comes_first (λ (shape : Shape). true)) b xs front) at asks) back log log_is
-  begins_where_met _ _ m _ at (NextMeet b stands log _ n front back mids asks mids_is n_is apart next there is log_is) = by_asks everyone_stands b front (subst (λ (xs : List Stand). Asks t step everyone_stands (comes_first (λ (shape : Shape). true)) b xs front) at asks) back log log_is
-  begins_where_met _ _ m _ at (GoesAnew b stands log _ n c front back rest mids ends asks mids_is n_is apart next ends_is behind c_is more log_is) =
       by_asks everyone_stands b front (subst (λ (xs : List Stand). Asks t step everyone_stands (comes_first (λ (shape : Shape). true)) b xs front) at asks) (back ++ rest) log log_is
 
 pub none_both : {X : Type 0} (a b : List X) → a ++ b ≡ [] → (a ≡ []) × (b ≡ [])

@@ -13,4 +13,5 @@ mod UpdateTables
 mod UpdatesNeeded
 mod Sorts
 mod UpdatesAlong
+mod Unsaved
 mod StatesLeft

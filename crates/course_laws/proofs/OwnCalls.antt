@@ -15,7 +15,7 @@ use Rattle.slot_calls.proofs.CallerLemmas.{askings_append, other, same}
 use Rattle.event_iteration.specs.WalkCalls.{has_events_at, own}
 use Rattle.event_iteration.proofs.ByLog.{own_append}
 use Rattle.calling_sequence.specs.Calls.{binding_from, sets_of}
-use Rattle.course_laws.specs.Laws.{calls_in}
+use Rattle.fmu_peer.specs.Talk.{calls_in}
 
 -- they are the calls of its part of the log
 pub own_calls : (k : ℕ) (log : List Sent) → calls_in (part k log) ≡ own k (askings log)

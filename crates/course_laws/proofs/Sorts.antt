@@ -12,9 +12,11 @@ use Rattle.system_model.specs.declared.plan.Plan.{Plan}
 use Rattle.system_model.specs.declared.system.System.{System}
 use Rattle.system_model.specs.Bounds.{BindsParameters}
 use Rattle.system_model.specs.Sound.{IsSound}
+use Rattle.system_model.specs.EarlyReturn.{early_count}
+use Rattle.run_model.specs.Stepping.{asked_first}
 use Rattle.slot_calls.specs.declared.bad_answer.BadAnswer.{BadAnswer}
 use Rattle.slot_calls.specs.Log.{Asking, Sent, asking_of, askings}
-use Rattle.slot_calls.specs.Stage.{everyone, shapes_of, to_those}
+use Rattle.slot_calls.specs.Stage.{shapes_of, to_those}
 use Rattle.slot_calls.proofs.CallerLemmas.{those_calls}
 use Rattle.step_agreement.specs.Agreement.{Fails, Meets, Outcome, Unfit}
 use Rattle.step_agreement.proofs.CallerLemmas.{HasAlong, IsAlong, IsOfRound, along_agreement, round_calls}
@@ -77,7 +79,7 @@ module _ (system : System) (P : Call → Type 0) where
   those test call h i = own_all P i (to_those test call (shapes_of system)) (those_calls test call P (λ s passes. h s) 0 (shapes_of system))
 
   -- the calls of an agreement
-  own_sent : (log : List Sent) → All (λ (s : Sent). P s.exchange.call) log → (i : ℕ) → All P (own i (askings log))
+  pub own_sent : (log : List Sent) → All (λ (s : Sent). P s.exchange.call) log → (i : ℕ) → All P (own i (askings log))
   own_sent log all i = own_all P i (askings log) (All-map (λ (a : Asking). P a.call) asking_of log all)
 
   abbrev AllSo : List Sent → Type 0
@@ -97,9 +99,12 @@ module _ (system : System) (P : Call → Type 0) where
   all_along log (Unfit i e) h = h
   all_along log (Fails bad) h = h
 
+  pub agreement_so : (t step b : ℕ) → ((call : Call) → IsOfRound t call → P call) → (log : List Sent) (o : Outcome) → AllAgree system t step b log o → All (λ (s : Sent). P s.exchange.call) log
+  agreement_so t step b all log o agrees =
+      all_along log o (along_agreement t step (asked_first (early_count (shapes_of system))) (shapes_of system) AllSo (λ (bad : BadAnswer). AllSo) (along_rounds t all) b (all_at t (shapes_of system)) log o (shapes_all t (shapes_of system)) agrees)
+
   agreement_all : (t step b : ℕ) → ((call : Call) → IsOfRound t call → P call) → (log : List Sent) (o : Outcome) → AllAgree system t step b log o → Throughout system P log
-  agreement_all t step b all log o agrees =
-      own_sent log (all_along log o (along_agreement t step everyone (shapes_of system) AllSo (λ (bad : BadAnswer). AllSo) (along_rounds t all) b (all_at t (shapes_of system)) log o (shapes_all t (shapes_of system)) agrees))
+  agreement_all t step b all log o agrees = own_sent log (agreement_so t step b all log o agrees)
 
   pub does_all : (part : Part) → IsThroughout system P part → (values : List (Option ℤ)) (log : List Sent) → Does system part values log → Throughout system P log
   does_all (Calls calls) all values log does = λ i. subst (λ (l : List Asking). All P (own i l)) (sym does.calls_are) (all i)

@@ -2,6 +2,7 @@
 use Rattle.std.proofs.Common.{◌≡◌, ◌≢◌, ◌⊎◌, inl, inr, ℕ, ◌<◌, ◌==◌, Bool, true, false, List, [], ◌∷◌, ◌++◌, Option, Some, None, Result, Ok, Err, refl, sym, ap, ◌∙◌, subst, append-nil, append_assoc, arith, length, get_or, ℤ}
 use Rattle.std.specs.Prelude.{All, IfSome, MatchResult, if◌then◌else◌}
 use Rattle.std.specs.Option.{option_map}
+use Rattle.std.proofs.lemmas.Bool.Decides.{nat_tests}
 use Rattle.std.proofs.lemmas.List.{get_or_default, length-map}
 use Rattle.std.proofs.lemmas.List.Elements.{All-append, All-cons, All-head, All-nil, All-tail, All-weaker}
 use Rattle.std.specs.List.{slice_get}
@@ -22,7 +23,7 @@ use Rattle.fmu_peer.specs.declared.peer.PeerFault.{PeerFault}
 use Rattle.fmu_peer.specs.Answer.{IsWhy}
 use Rattle.fmu_peer.specs.Mode.{instantiate_of}
 use Rattle.fmu_peer.specs.Talk as T
-use Rattle.fmu_peer.specs.Talk.{IsGood}
+use Rattle.fmu_peer.specs.Talk.{IsGood, calls_in}
 use Rattle.system_model.specs.declared.bound.Bound.{Bound}
 use Rattle.system_model.specs.declared.plan.Plan.{Plan}
 use Rattle.system_model.specs.declared.system.Component.{Component}
@@ -30,6 +31,7 @@ use Rattle.system_model.specs.declared.system.System.{System}
 use Rattle.system_model.specs.Bounds.{BindsParameters}
 use Rattle.system_model.specs.Sound.{IsSound}
 use Rattle.system_model.specs.Text.{Instant}
+use Rattle.system_model.specs.EarlyReturn.{early_count}
 use Rattle.slot_calls.specs.declared.bad_answer.BadAnswer.{BadAnswer}
 use Rattle.slot_calls.specs.Log.{Asking, Sent, askings, part}
 use Rattle.slot_calls.specs.SavedStates.{AgreeAtLast, EndsAt, IsGivenUp, LeavesState, Talk, has_stepped, if_good, last_step, saved_after, saved_by, step_or, steps}
@@ -39,22 +41,22 @@ use Rattle.event_iteration.specs.WalkCalls.{own}
 use Rattle.calling_sequence.specs.Calls.{making}
 use Rattle.step_agreement.specs.Agreement as A
 use Rattle.step_agreement.specs.Agreement.{Fails, Meets, Stand, Unfit, are_at, stand_by, stands_by}
-use Rattle.step_agreement.specs.Saving.{early_count, is_saved}
-use Rattle.step_agreement.proofs.CallerLemmas.{AreApart, AreGoodSteps, IsBroken, IsOfRound, all_there, ends_so, round_calls, there_all}
+use Rattle.step_agreement.specs.Saving.{is_saved}
+use Rattle.step_agreement.proofs.CallerLemmas.{AreApart, AreGoodSteps, IsBroken, IsOfRound, all_there, round_calls, there_all}
 use Rattle.rollback.specs.StepsBy.{all_at}
 use Rattle.calling_sequence.specs.Course.{Agreed, Agreeing, Course, Departing, LeadsTo, Made, Place, Saved, Saves, Short, Stopping, part_at}
 use Rattle.calling_sequence.specs.Parts.{Calls, Does, Falls, AllAgree as AgreeBy}
 use Rattle.calling_sequence.proofs.Along.{along}
 use Rattle.calling_sequence.proofs.Chains.{part_all}
-use Rattle.calling_sequence.proofs.Sizes.{shapes_all}
-use Rattle.course_laws.specs.Laws.{EndAs, StatesAreLeft, calls_in}
-use Rattle.course_laws.specs.Runs.{Falling, IsHalt, Stands, Unmade}
+use Rattle.course_laws.specs.Laws.{EndAs, IsStateless, StatesAreLeft}
+use Rattle.course_laws.specs.Runs.{Comes, Falling, IsHalt, Stands, Unmade}
 use Rattle.course_laws.proofs.CallsOnce.{IsLater, later_on, some_at}
 use Rattle.course_laws.proofs.FirstBad.{agreement_has, part_good}
 use Rattle.course_laws.proofs.Goods.{AreInOrder, alone_behind, good_part, in_order_from}
-use Rattle.course_laws.proofs.LastSteps.{IsGoodRound, IsLast, all_home, begins_all, each_behind, ends_same, none_both, rounds_saved, stand_behind, tracks}
+use Rattle.course_laws.proofs.LastSteps.{IsGoodRound, IsLast, all_first_by, begins_all, each_behind, ends_from, ends_same, none_both, rounds_saved, stand_behind, tracks}
 use Rattle.course_laws.proofs.OwnCalls.{own_calls, own_there}
 use Rattle.course_laws.proofs.Sorts.{IsOf, Only, Rounds, Sort, Uses, does_all, falls_all, sort_at, sorts_are, those}
+use Rattle.course_laws.proofs.Unsaved.{comes_stateless}
 use Rattle.course_laws.proofs.UpdatesNeeded.{Throughout}
 
 -- ---- other calls leave the state and the steps
@@ -401,7 +403,7 @@ module _ (system : System) where
       ),
     ) where
       so : AreGoodSteps t ss more × (are_at m (stands_by t (all_at t ss) more) ≡ true) × (t < m)
-      so = ends_so t step ss b later (all_at t ss) more (Meets m) (shapes_all t ss) (inl (all_home t ss)) agrees
+      so = ends_from t step ss b later more (Meets m) agrees
 
       there : (k : ℕ) (d : Shape) (w : k < n) → (stand_by t (own_at k d w).stand (part k more)).point ≡ m
       there k d w = all_there m (stands_by t (all_at t ss) more) so.1 k (stand_by t (own_at k d w).stand (part k more)) (stand_behind t (all_at t ss) more k (own_at k d w).stand (own_at k d w).at)
@@ -446,23 +448,24 @@ module _ (system : System) where
   held_left test log held k d w = record { held = λ h. inr ((held k d w).unstepped (sym (held k d w).held ∙ h)); freed = (held k d w).freed }
 
   -- the agreement stops before a size that a component doesn't take
-  short_on : (t step b : ℕ) (later : t < b) (test : Shape → Bool) (log more : List Sent) (i e : ℕ) → AreHeld test log → AgreeBy system t step b more (Unfit i e) → AreLeft (log ++ more)
-  short_on t step b later test log more i e held agrees = by so.1 where
-    so : AreGoodSteps t ss more × ((more ≡ []) ⊎ AreApart t (stands_by t (all_at t ss) more))
-    so = ends_so t step ss b later (all_at t ss) more (Unfit i e) (shapes_all t ss) (inl (all_home t ss)) agrees
+  short_on : early_count ss ≢ 1 → (t step b : ℕ) (later : t < b) (test : Shape → Bool) (log more : List Sent) (i e : ℕ) → AreHeld test log → AgreeBy system t step b more (Unfit i e) → AreLeft (log ++ more)
+  short_on several t step b later test log more i e held agrees = by so.1 where
+    so : AreGoodSteps t ss more × ((more ≡ []) ⊎ (AreApart t (stands_by t (all_at t ss) more) ⊎ (early_count ss ≡ 1)))
+    so = ends_from t step ss b later more (Unfit i e) agrees
 
-    by : (more ≡ []) ⊎ AreApart t (stands_by t (all_at t ss) more) → AreLeft (log ++ more)
+    by : (more ≡ []) ⊎ (AreApart t (stands_by t (all_at t ss) more) ⊎ (early_count ss ≡ 1)) → AreLeft (log ++ more)
     by (inl none) k d w = subst AreLeft (sym (ap (λ (l : List Sent). log ++ l) none ∙ append-nil log)) (held_left test log held) k d w
-    by (inr are) k d w = record {
+    by (inr (inr one)) k d w = absurd (several one)
+    by (inr (inl are)) k d w = record {
       held = λ h. inl (λ agree. apart_on t step b later log more so.0 are [] (λ j. All-nil IsNoStep) (subst AllAgree (sym (append-nil (log ++ more))) agree));
       freed = subst (λ (l : List Sent). IsFreed (log ++ l) k) (append-nil more)
           (no_free_last t step b later log more so.0 [] (λ j. All-nil (λ (x : Exchange). x.call ≡ C.Free → ⊥)) k (λ empty. stepped_there t step b later log more so.0 are k d w (sym (ap (part k) (append-nil more)) ∙ empty)));
     }
 
   -- or it comes to a bad answer
-  module _ (t step b : ℕ) (later : t < b) (log more : List Sent) (bad : BadAnswer) (agrees : AgreeBy system t step b more (Fails bad)) where
+  module _ (several : early_count ss ≢ 1) (t step b : ℕ) (later : t < b) (log more : List Sent) (bad : BadAnswer) (agrees : AgreeBy system t step b more (Fails bad)) where
     broken : IsBroken t step ss bad (all_at t ss) more
-    broken = ends_so t step ss b later (all_at t ss) more (Fails bad) (shapes_all t ss) (inl (all_home t ss)) agrees
+    broken = ends_from t step ss b later more (Fails bad) agrees
 
     -- it is that of a component which is there
     there : bad.component.0 < n
@@ -512,7 +515,7 @@ module _ (system : System) where
     } where
       begun : part k more ≡ [] → ⊥
       begun empty =
-          let x = begins_all t step ss b more bad (all_at t ss) refl agrees in
+          let x = begins_all t step ss b more bad (all_at t ss) refl (all_first_by t step ss b (all_at t ss) more (Fails bad) several agrees) in
           let whole = sym (ap (part k) x.log_is ∙ part_append k (x.backs ++ x.steps) x.rest ∙ ap (λ (es : List Exchange). es ++ part k x.rest) (part_append k x.backs x.steps)) ∙ empty in
           let none : part k x.steps ≡ [] = (none_both (part k x.backs) (part k x.steps) (none_both (part k x.backs ++ part k x.steps) (part k x.rest) whole).0).1 in
           one x.size (part k x.steps) (sent_to everyone (C.DoStep t x.size) x.steps x.asked k d w) none where
@@ -588,7 +591,7 @@ data Task : Type 0 where
   Freeing : (Shape → Bool) → Task
   Halting : Task
 
--- of those a state is held beside which another might return early
+-- where two or more might return early the state of each is held
 abbrev saved_in : System → Shape → Bool
 saved_in system = is_saved (early_count (shapes_of system))
 
@@ -643,11 +646,11 @@ module _ (system : System) where
   keeps_on : (front more : List Sent) → All (IsGoodOf (shapes_of system)) front → (k : ℕ) (d : Shape) → NoFree (part k more) → All IsKept (part k (front ++ more))
   keeps_on front more good k d none = subst (All IsKept) (sym (part_append k front more)) (All-append IsKept (part k front) (part k more) (good_keeps front good k d) (other_kept (part k more) none))
 
-  fell : (task : Task) (front more : List Sent) (bad : BadAnswer) → Before task front → All (IsGoodOf (shapes_of system)) front → AsksBadly task bad more → Leaves (front ++ more)
-  fell Keeping front more bad past good others talks ends k d w =
+  fell : early_count (shapes_of system) ≢ 1 → (task : Task) (front more : List Sent) (bad : BadAnswer) → Before task front → All (IsGoodOf (shapes_of system)) front → AsksBadly task bad more → Leaves (front ++ more)
+  fell several Keeping front more bad past good others talks ends k d w =
       left_so system (front ++ more) talks ends (past_left system (front ++ more) (others_on system front more others past)) k d w
       (λ f rest e is given. kept_last (part k (front ++ more)) f rest e (keeps_on front more good k d (no_free (part k more) (others k))) is given)
-  fell (Saving test) front more bad past good asks talks ends k d w =
+  fell several (Saving test) front more bad past good asks talks ends k d w =
       let sends = λ (i : ℕ) (v : i < length system.components). sent_to system test C.Save more asks i d v in
       let none = sends_other _ C.Save (part k more) (λ e. absurd (cc)) (sends k w) in
       record {
@@ -656,20 +659,20 @@ module _ (system : System) where
         freed = λ f e is frees. let x = freed_on system front more k none (λ i v. sends_no _ C.Save (part i more) tt (sends i v)) (past k d w).freed f e is frees in (agree_back system (front ++ more) talks ends x.0, x.1);
         last = λ f rest e is given. kept_last (part k (front ++ more)) f rest e (keeps_on front more good k d none) is given;
       }
-  fell (Meeting test t step b) front more bad (held, later) good agrees talks ends k d w =
-      left_so system (front ++ more) talks ends (left_broken system t step b later front more bad agrees) k d w
-      (λ f rest e is given. kept_last (part k (front ++ more)) f rest e (keeps_on front more good k d (no_free_whole system t step b later front more bad agrees k)) is given)
-  fell Halting front more bad left good stops talks ends k d w = absurd (never_stops stops.front (stops.calls_are ∙ ap (λ (l : List Sent). askings l ++ stops.left) stops.log_is)) where
+  fell several (Meeting test t step b) front more bad (held, later) good agrees talks ends k d w =
+      left_so system (front ++ more) talks ends (left_broken system several t step b later front more bad agrees) k d w
+      (λ f rest e is given. kept_last (part k (front ++ more)) f rest e (keeps_on front more good k d (no_free_whole system several t step b later front more bad agrees k)) is given)
+  fell several Halting front more bad left good stops talks ends k d w = absurd (never_stops stops.front (stops.calls_are ∙ ap (λ (l : List Sent). askings l ++ stops.left) stops.log_is)) where
     never_stops : (f : List Sent) → [] ≡ askings (f ++ stops.last ∷ []) ++ stops.left → ⊥
     never_stops [] is = absurd (cc)
     never_stops (x ∷ f) is = absurd (cc)
-  fell (Freeing test) front more bad met good asks talks ends k d w =
+  fell several (Freeing test) front more bad met good asks talks ends k d w =
       left_so system (front ++ more) talks ends (past_left system (front ++ more) (frees_on system front more test asks met)) k d w
       (λ f rest e is given. last_of (part k front) (part k more) f rest e (good_keeps front good k d) (sends_short _ C.Free (part k more) (sent_to system test C.Free more asks k d w)) (sym (part_append k front more) ∙ is) given)
 
 -- ---- along a course
 
-module _ (system : System) (sound : IsSound system) (bound : Bound) (plan : Plan) (binds : BindsParameters system bound) where
+module _ (system : System) (sound : IsSound system) (bound : Bound) (plan : Plan) (binds : BindsParameters system bound) (several : early_count (shapes_of system) ≢ 1) where
   abbrev parts : Place → List Sent → Type 0
   parts p more = Throughout system (IsOf (sort_at p)) more
 
@@ -696,7 +699,7 @@ module _ (system : System) (sound : IsSound system) (bound : Bound) (plan : Plan
   next : (front : List Sent) (p q : Place) (values : List (Option ℤ)) (more : List Sent) → LeadsTo system plan p values more q → IsLater p → Behind system (task p) front more → Before system (task q) (front ++ more)
   next front _ _ _ _ (Saves w values more) later held = (held, later)
   next front _ _ _ _ (Agreeing w values more m asked agrees is) later (held, after) = met_on system w.s.t plan.step w.to after front more (saved_in system) m held agrees
-  next front _ _ _ _ (Stopping w values more i e agrees) later (held, after) = short_on system w.s.t plan.step w.to after (saved_in system) front more i e held agrees
+  next front _ _ _ _ (Stopping w values more i e agrees) later (held, after) = short_on system several w.s.t plan.step w.to after (saved_in system) front more i e held agrees
   next front _ _ _ _ leads later past = past
 
   -- where a run may stop
@@ -725,17 +728,61 @@ module _ (system : System) (sound : IsSound system) (bound : Bound) (plan : Plan
           good = All-append (IsGoodOf (shapes_of system)) (made ++ front) more at.good good;
         }))
 
-pub states_are_left : StatesAreLeft
-states_are_left system _ _ talks sound (Unmade bad log stops) ends k d w =
-    fell system Keeping [] log bad (none_past system) (All-nil (IsGoodOf (shapes_of system)))
+-- ---- where one alone might return early
+
+unsaved_call : (shape : Shape) (c : Call) → IsStateless c → (r : Result Reply PeerFault) → saved_by shape c r false ≡ false
+unsaved_call shape C.Save is r = absurd is
+unsaved_call shape C.Free is r = absurd is
+unsaved_call shape c is r = refl
+
+never_held : (shape : Shape) (es : List Exchange) → All IsStateless (calls_in es) → saved_after shape false es ≡ false
+never_held shape [] all = refl
+never_held shape (e ∷ es) all =
+    ap (λ (b : Bool). saved_after shape b es) (unsaved_call shape e.call (All-head IsStateless e.call (calls_in es) all) e.result) ∙ never_held shape es (All-tail IsStateless e.call (calls_in es) all)
+
+leaves_none : (system : System) (log : List Sent) → Throughout system IsStateless log → (talks : List Talk) (k : ℕ) (d : Shape) → LeavesState talks (get_or (shapes_of system) k d) (part k log)
+leaves_none system log all talks k d = record {
+  held = λ held. absurd (let wrong : true ≡ false = sym held ∙ never_held (get_or (shapes_of system) k d) (part k log) calls in cc);
+  freed = λ front e is frees. absurd (all_at_one (λ (x : Exchange). x.call ≡ C.Free → ⊥) front [] e (subst (λ (es : List Exchange). All (λ (x : Exchange). x.call ≡ C.Free → ⊥) es) is none) frees);
+  last = λ f rest e is given. kept_last (part k log) f rest e (other_kept (part k log) none) is given;
+} where
+  calls : All IsStateless (calls_in (part k log))
+  calls = subst (All IsStateless) (sym (own_calls k log)) (all k)
+
+  none : All (λ (x : Exchange). x.call ≡ C.Free → ⊥) (part k log)
+  none = λ j x w frees. subst IsStateless frees (of_calls IsStateless (part k log) calls j x w)
+
+number : (x y : ℕ) → (x == y) ≡ true → x ≡ y
+number x y q = grind (arith, nat_tests)
+
+other_number : (x y : ℕ) → (x == y) ≡ false → x ≢ y
+other_number x y q = grind (arith, nat_tests)
+
+-- of how many might return early: one alone, or none or several
+one_or_not : {X : Type 0} (n : ℕ) → (n ≡ 1 → X) → (n ≢ 1 → X) → X
+one_or_not {X} n one other = by (n == 1) refl where
+  by : (x : Bool) → (n == 1) ≡ x → X
+  by true h = one (number n 1 h)
+  by false h = other (other_number n 1 h)
+
+-- where none might, or several
+several_left : (system : System) → IsSound system → early_count (shapes_of system) ≢ 1 → (bad : Option BadAnswer) (log : List Sent) → Comes system bad log → (talks : List Talk) → EndAs system log talks → (k : ℕ) (d : Shape) → k < length system.components → LeavesState talks (get_or (shapes_of system) k d) (part k log)
+several_left system sound several _ _ (Unmade bad log stops) talks ends k d w =
+    fell system several Keeping [] log bad (none_past system) (All-nil (IsGoodOf (shapes_of system)))
     (λ i. mine system i IsOther log (falls_all system IsOther (Calls (making system)) (those system IsOther everyone instantiate_of (λ s. tt)) bad log stops)) talks ends k d w
-states_are_left system _ _ talks sound (Stands bound plan p made log is binds counts answered course halts) ends k d w =
-    let at = course_at system sound bound plan binds made answered p log is course in
-    left_so system (made ++ log) talks ends (halted system sound bound plan binds p halts (made ++ log) at.before) k d w
+several_left system sound several _ _ (Stands bound plan p made log is binds counts answered course halts) talks ends k d w =
+    let at = course_at system sound bound plan binds several made answered p log is course in
+    left_so system (made ++ log) talks ends (halted system sound bound plan binds several p halts (made ++ log) at.before) k d w
     (λ f rest e is given. kept_last (part k (made ++ log)) f rest e (good_keeps system (made ++ log) at.good k d) is given)
-states_are_left system _ _ talks sound (Falling bound plan p bad made front more is binds counts answered course falls) ends k d w =
-    let at = course_at system sound bound plan binds made answered p front is course in
+several_left system sound several _ _ (Falling bound plan p bad made front more is binds counts answered course falls) talks ends k d w =
+    let at = course_at system sound bound plan binds several made answered p front is course in
     let sorts = falls_all system (IsOf (sort_at p)) (part_at system bound plan p) (sorts_are system sound bound plan binds p) bad more falls in
     subst (λ (l : List Sent). LeavesState talks (get_or (shapes_of system) k d) (part k l)) (append_assoc made front more)
-    (fell system (task_at system plan p) (made ++ front) more bad at.before at.good (falls_at system sound bound plan binds p bad more sorts falls) talks
+    (fell system several (task_at system plan p) (made ++ front) more bad at.before at.good (falls_at system sound bound plan binds several p bad more sorts falls) talks
     (subst (λ (l : List Sent). EndAs system l talks) (sym (append_assoc made front more)) ends) k d w)
+
+pub states_are_left : StatesAreLeft
+states_are_left system bad log talks sound comes ends k d w =
+    one_or_not (early_count (shapes_of system))
+    (λ one. leaves_none system log (comes_stateless system sound (omega (arith, one)) bad log comes) talks k d)
+    (λ several. several_left system sound several bad log comes talks ends k d w)

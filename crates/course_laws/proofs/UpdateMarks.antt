@@ -15,7 +15,7 @@ use Rattle.fmu_peer.specs.Updates as U
 use Rattle.fmu_peer.specs.Updates.{Stay, UpdateMark, marks_of, stay_behind, updates_from}
 use Rattle.run_model.specs.AfterInstant as F
 use Rattle.event_iteration.specs.Updates.{answer_passes}
-use Rattle.course_laws.specs.Laws.{calls_in}
+use Rattle.fmu_peer.specs.Talk.{calls_in}
 use Rattle.course_laws.proofs.ArmedClocks.{is_arming}
 
 -- ---- exchanges one behind the other

@@ -23,7 +23,7 @@ use Rattle.slot_calls.proofs.CallerLemmas.{part_append, same, takes}
 use Rattle.event_iteration.specs.Updates.{answer_passes, updated_by, updating}
 use Rattle.event_iteration.specs.WalkCalls.{has_events_at, own}
 use Rattle.event_iteration.proofs.ByLog.{own_append}
-use Rattle.course_laws.specs.Laws.{calls_in}
+use Rattle.fmu_peer.specs.Talk.{calls_in}
 use Rattle.course_laws.proofs.ArmedClocks.{is_arming}
 use Rattle.course_laws.proofs.OwnCalls.{own_calls, own_events}
 use Rattle.course_laws.proofs.UpdateMarks.{AtMost, IsNoUpdate, IsQuiet, NoneOf, OneOf, again_same, arms_after, at_most, ends_same, left_stands, mark_by, no_marks, none_stands, one_mark, one_stands, quiet_no, quiet_stands, stay_after, stay_append, updates_append}

@@ -1,7 +1,8 @@
 -- What holds of each run's log, for any replies: how it ends at the first bad answer, and which calls it needs.
-use Rattle.std.specs.Prelude.{◌≡◌, ℕ, ◌<◌, List, All, Option, Some, None, length, map, slice_index_or}
+use Rattle.std.specs.Prelude.{◌≡◌, ℕ, ◌<◌, ◌≤◌, List, All, Option, Some, None, length, map, slice_index_or}
 use Rattle.value_types.specs.declared.shape.Shape.{Shape}
 use Rattle.fmi_calls.specs.declared.call.Call.{Call}
+use Rattle.fmi_calls.specs.declared.call.Call.TheVariants as C
 use Rattle.fmi_calls.specs.KindFacts.{IsRunCall}
 use Rattle.fmu_peer.specs.declared.peer.Exchange.{Exchange}
 use Rattle.fmu_peer.specs.Answer.{IsFirstBad}
@@ -9,12 +10,14 @@ use Rattle.fmu_peer.specs.Lean.{IsLean}
 use Rattle.fmu_peer.specs.Talk as T
 use Rattle.fmu_peer.specs.Updates.{AreUpdatesNeeded}
 use Rattle.system_model.specs.declared.system.System.{System}
+use Rattle.system_model.specs.EarlyReturn.{early_count}
 use Rattle.system_model.specs.Sound.{IsSound}
 use Rattle.slot_calls.specs.declared.bad_answer.BadAnswer.{BadAnswer}
 use Rattle.slot_calls.specs.Log.{Sent, part}
 use Rattle.slot_calls.specs.SavedStates.{LeavesState, Talk, last_step}
 use Rattle.slot_calls.specs.Stage.{shapes_of}
 use Rattle.course_laws.specs.Runs.{Comes}
+use Rattle.fmu_peer.specs.Talk.{calls_in}
 
 -- ---- the first bad answer
 
@@ -39,9 +42,6 @@ FirstBadAnswer =
     AnswersAre (shapes_of system) bad log
 
 -- ---- no call twice
-
-abbrev pub calls_in : List Exchange → List Call
-calls_in es = map (λ (e : Exchange). e.call) es
 
 -- calls of a run, of which each is needed
 pub record AreNeeded (calls : List Call) : Type 0 where
@@ -69,6 +69,22 @@ StatesAreLeft =
     IsSound system → Comes system bad log → EndAs system log talks →
     (k : ℕ) (d : Shape) → k < length system.components →
     LeavesState talks (slice_index_or (shapes_of system) k d) (part k log)
+
+-- ---- no saved states
+
+-- it neither saves a state, nor goes back to one, nor frees one
+abbrev pub IsStateless : Call → Type 0
+IsStateless C.Save = ⊥
+IsStateless C.Restore = ⊥
+IsStateless C.Free = ⊥
+IsStateless call = Unit {0}
+
+-- where at most one FMU might return early, each call of each component is so
+abbrev pub NothingSaved : Type 0
+NothingSaved =
+    (system : System) (bad : Option BadAnswer) (log : List Sent) → IsSound system →
+    Comes system bad log → early_count (shapes_of system) ≤ 1 →
+    (k : ℕ) → All IsStateless (calls_in (part k log))
 
 -- ---- Updates
 

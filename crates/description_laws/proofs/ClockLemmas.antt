@@ -21,7 +21,8 @@ use Rattle.doc_tables.specs.Elements.{attribute}
 use Rattle.fmu_description.specs.Texts.{counter}
 use Rattle.fmu_description.specs.Elements.{is_variable, reference_of, causality_of, flag_of, has_flag, variable_key, IsCoSimulation}
 use Rattle.fmu_description.specs.Clocks.{IsTimed, IsInterval, ByCounters, ByDecimal, counter_of, is_by_counters, variability_of}
-use Rattle.fmu_description.specs.Rules.{IsSound, HasInterval, IsWhole, NeedsInterval}
+use Rattle.fmu_description.specs.Rules.{IsSoundDescription, HasInterval, NeedsInterval}
+use Rattle.clock_fraction.specs.Counts.{IsInCounts}
 use Rattle.fmu_description.specs.Description.{Describes, IsShiftTold, IsTimedAt, IsTiming, IsTimingOf, IsTold, IsVariable}
 use Rattle.fmu_description.proofs.CallerLemmas.{one_variable, timed_at, key_of, source}
 use Rattle.system_model.specs.Shapes.{IsSoundClock, MayTick, is_described}
@@ -55,13 +56,13 @@ above_zero : (n : ℕ) → (n ≡ 0 → ⊥) → 0 < n
 above_zero n h = omega (arith, h)
 
 -- counts are whole where the division leaves nothing
-surely_whole : (per_second : ℕ) (f : Fraction) → ((IsWhole per_second f → ⊥) → ⊥) → IsWhole per_second f
+surely_whole : (per_second : ℕ) (f : Fraction) → ((IsInCounts per_second f → ⊥) → ⊥) → IsInCounts per_second f
 surely_whole per_second f h = by_resolution (cases_eq f.resolution 0)
   where
     product : ℕ
     product = per_second * f.counter
 
-    by_rest : 0 < f.resolution → (product % f.resolution ≡ 0) ⊎ (product % f.resolution ≡ 0 → ⊥) → IsWhole per_second f
+    by_rest : 0 < f.resolution → (product % f.resolution ≡ 0) ⊎ (product % f.resolution ≡ 0 → ⊥) → IsInCounts per_second f
     by_rest known (inl none) =
         let parts : f.resolution * (product / f.resolution) + product % f.resolution ≡ product = div-add-mod product f.resolution in
         let whole : product / f.resolution * f.resolution ≡ product = omega (arith, parts, none) in
@@ -69,7 +70,7 @@ surely_whole per_second f h = by_resolution (cases_eq f.resolution 0)
     by_rest known (inr some) =
         absurd (h (λ is. some (ap (λ (n : ℕ). n % f.resolution) (sym is.1.whole) ∙ mul-mod_left is.0 f.resolution)))
 
-    by_resolution : (f.resolution ≡ 0) ⊎ (f.resolution ≡ 0 → ⊥) → IsWhole per_second f
+    by_resolution : (f.resolution ≡ 0) ⊎ (f.resolution ≡ 0 → ⊥) → IsInCounts per_second f
     by_resolution (inl none) = absurd (h (λ is. let known : 0 < f.resolution = is.1.known in omega (arith, known, none)))
     by_resolution (inr some) = by_rest (above_zero f.resolution some) (cases_eq (product % f.resolution) 0)
 
@@ -90,7 +91,7 @@ reads {X} read (Some bytes) e misread =
 
 -- ---- the Clocks
 
-module _ (t : List Node) (per_second : ℕ) (sound : IsSound t per_second) where
+module _ (t : List Node) (per_second : ℕ) (sound : IsSoundDescription t per_second) where
   may_tick : (k : ℕ) (variability : IntervalVariability) → IsTimed t k → variability_of t k ≡ Some variability → MayTick variability (causality_of t k)
   may_tick k v.Constant timed is = surely_input (causality_of t k) (λ other. sound r.ClockCausality k (timed, inl ((v.Constant, is, λ e. cc), other)))
   may_tick k v.Fixed timed is = surely_input (causality_of t k) (λ other. sound r.ClockCausality k (timed, inl ((v.Fixed, is, λ e. cc), other)))
@@ -156,17 +157,17 @@ module _ (t : List Node) (per_second : ℕ) (sound : IsSound t per_second) where
   are_told k None shift timed needs told beside = absurd (sound r.NoInterval k (timed, needs, has_none k timed told))
   are_told k (Some f) shift timed needs told beside = (refl, ap is_some beside.1)
 
-  whole_interval : (k : ℕ) (interval : Option Fraction) → IsTimed t k → IsTold (IsInterval t k) interval → IfSome interval (λ (f : Fraction). (0 < f.counter) × IsWhole per_second f)
+  whole_interval : (k : ℕ) (interval : Option Fraction) → IsTimed t k → IsTold (IsInterval t k) interval → IfSome interval (λ (f : Fraction). (0 < f.counter) × IsInCounts per_second f)
   whole_interval k None timed told = tt
   whole_interval k (Some f) timed told = (
     above_zero f.counter (λ zero. sound r.Uneven k (timed, (f, told, inl zero))),
     surely_whole per_second f (λ uneven. sound r.Uneven k (timed, (f, told, inr (inl uneven)))),
   )
 
-  whole_shift : (k : ℕ) (interval shift : Option Fraction) → IsTimed t k → IsTold (IsInterval t k) interval → IsShiftTold t k interval shift → IfSome shift (IsWhole per_second)
-  whole_shift k None shift timed told none = subst (λ (o : Option Fraction). IfSome o (IsWhole per_second)) (sym none) tt
+  whole_shift : (k : ℕ) (interval shift : Option Fraction) → IsTimed t k → IsTold (IsInterval t k) interval → IsShiftTold t k interval shift → IfSome shift (IsInCounts per_second)
+  whole_shift k None shift timed told none = subst (λ (o : Option Fraction). IfSome o (IsInCounts per_second)) (sym none) tt
   whole_shift k (Some f) shift timed told beside =
-      subst (λ (o : Option Fraction). IfSome o (IsWhole per_second)) (sym beside.1)
+      subst (λ (o : Option Fraction). IfSome o (IsInCounts per_second)) (sym beside.1)
       (surely_whole per_second beside.0 (λ uneven. sound r.Uneven k (timed, (f, told, inr (inr (beside.0, beside.2, uneven))))))
 
   module _ (shape : Shape) (describes : Describes t per_second shape) where
@@ -206,8 +207,8 @@ module _ (t : List Node) (per_second : ℕ) (sound : IsSound t per_second) where
       causality = subst (MayTick timing.variability) (sym is.causality) (may_tick k timing.variability is.timed says.variability);
       described = λ described. are_told k timing.interval timing.shift is.timed
           (needs k timing.variability says.variability (ap (is_described timing.variability) (sym says.fraction) ∙ described)) says.interval says.shift;
-      interval = subst (λ (n : ℕ). IfSome timing.interval (λ (f : Fraction). (0 < f.counter) × IsWhole n f)) (sym describes.resolution) (whole_interval k timing.interval is.timed says.interval);
-      shift = subst (λ (n : ℕ). IfSome timing.shift (IsWhole n)) (sym describes.resolution) (whole_shift k timing.interval timing.shift is.timed says.interval says.shift);
+      interval = subst (λ (n : ℕ). IfSome timing.interval (λ (f : Fraction). (0 < f.counter) × IsInCounts n f)) (sym describes.resolution) (whole_interval k timing.interval is.timed says.interval);
+      shift = subst (λ (n : ℕ). IfSome timing.shift (IsInCounts n)) (sym describes.resolution) (whole_shift k timing.interval timing.shift is.timed says.interval says.shift);
     }
       where
         k : ℕ

@@ -4,7 +4,7 @@ use Rattle.value_types.specs.declared.shape.Shape.{Shape}
 use Rattle.value_types.specs.Shape.{is_output_port}
 use Rattle.doc_grammar.specs.Nodes.{Node}
 use Rattle.doc_tree.specs.declared.rule.DescriptionRule.TheVariants as r
-use Rattle.fmu_description.specs.Rules.{IsSound}
+use Rattle.fmu_description.specs.Rules.{IsSoundDescription}
 use Rattle.fmu_description.specs.Description.{Describes, IsDependency, IsInitialDependency}
 use Rattle.system_model.specs.Shapes.{IsSoundShape, IsSoundDependency}
 use Rattle.description_laws.proofs.Zips.{each_pair}
@@ -12,7 +12,7 @@ use Rattle.description_laws.proofs.VariableLemmas.{variables_sound}
 use Rattle.description_laws.proofs.ClockLemmas.{clocks_sound}
 use Rattle.description_laws.proofs.DependencyLemmas.{depends_on_ports, depends_initially_on_ports}
 
-module _ (t : List Node) (per_second : ℕ) (sound : IsSound t per_second) (shape : Shape) (describes : Describes t per_second shape) where
+module _ (t : List Node) (per_second : ℕ) (sound : IsSoundDescription t per_second) (shape : Shape) (describes : Describes t per_second shape) where
   serialized : shape.can_serialize_state ≡ true → shape.can_save_state ≡ true
   serialized serializes =
       (elim (shape.can_save_state) as (λ b. shape.can_save_state ≡ b → b ≡ true) [

@@ -21,7 +21,7 @@ use Rattle.doc_tables.specs.Elements.{name_of, attribute, unless_empty, text_of}
 use Rattle.fmu_description.specs.Texts.{port_type}
 use Rattle.fmu_description.specs.Elements.{is_variable, is_clock as is_clock_element, is_alias, reference_of, clock_key}
 use Rattle.fmu_description.specs.Clocks.{IsForeign, ByClock, clocks_of}
-use Rattle.fmu_description.specs.Rules.{IsSound}
+use Rattle.fmu_description.specs.Rules.{IsSoundDescription}
 use Rattle.fmu_description.specs.Description.{Describes, IsKind, IsStart, IsVariable}
 use Rattle.fmu_description.proofs.CallerLemmas.{references_distinct, is_variable_within}
 use Rattle.system_model.specs.Shapes.{HasSoundVariables, HasNames, HasFittingStart, NamesClocks}
@@ -72,7 +72,7 @@ all_contained P xs h = all_by_place P xs (λ k x at. h x (at_contains xs k x at)
 
 -- ---- the variables
 
-module _ (t : List Node) (per_second : ℕ) (sound : IsSound t per_second) where
+module _ (t : List Node) (per_second : ℕ) (sound : IsSoundDescription t per_second) where
   variable_named : (k : ℕ) (v : Variable) → is_variable t k ≡ true → IsVariable t k v → HasNames v
   variable_named k v is h = (
     subst (λ (name : List ℕ). 0 < length name) (sym h.name) (has_name (attribute t k (codes "name")) (λ lacks. sound r.Absent k (inr (inr (inl (is, inl lacks)))))),

@@ -1,7 +1,7 @@
 -- There is one first violation, and a search through the rules in the order of their numbers finds it.
 use Rattle.std.proofs.Common.{◌≡◌, ℕ, ◌<◌, ◌≤◌, List, get_or, length, sym, inl, inr, subst}
 use Rattle.std.proofs.lemmas.Bool.{cases_order, cases_lt}
-use Rattle.doc_tables.specs.Violations.{BreaksNoRule, IsLeast, IsFirstViolation, IsSound}
+use Rattle.doc_tables.specs.Violations.{BreaksNoRule, IsLeast, IsFirstViolation, HasNoViolation}
 
 -- each rule has a number of its own
 abbrev pub AreApart : {R : Type 0} → (R → ℕ) → Type 0
@@ -36,11 +36,11 @@ module _ {R : Type 0} (number : R → ℕ) (Violates : R → ℕ → Type 0) whe
       (e, apart a b (same_least k a b (subst (λ (m : ℕ). IsLeast number Violates m a) e x.is) y.is))
 
   -- where the elements below the end keep all rules, and those past it, none is broken
-  pub all_sound : (end : ℕ) → ((k : ℕ) → end ≤ k → BreaksNoRule Violates k) → ((k : ℕ) → k < end → BreaksNoRule Violates k) → IsSound Violates
+  pub all_sound : (end : ℕ) → ((k : ℕ) → end ≤ k → BreaksNoRule Violates k) → ((k : ℕ) → k < end → BreaksNoRule Violates k) → HasNoViolation Violates
   all_sound end past below rule k h = elim (cases_lt k end) [ inl lower ↦ below k lower rule h | inr behind ↦ past k behind rule h ]
 
   -- where one is the first, the document isn't sound
-  pub none_sound : (k : ℕ) (rule : R) → IsFirstViolation number Violates k rule → IsSound Violates → ⊥
+  pub none_sound : (k : ℕ) (rule : R) → IsFirstViolation number Violates k rule → HasNoViolation Violates → ⊥
   none_sound k rule first sound = sound rule k first.is.broken
 
   -- ---- one element, rule after rule

@@ -3,3 +3,4 @@ pub mod Tables
 pub mod Violations
 pub mod Answers
 pub mod Places
+pub mod Documents

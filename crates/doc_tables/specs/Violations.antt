@@ -19,5 +19,5 @@ pub record IsFirstViolation {R : Type 0} (number : R → ℕ) (Violates : R → 
   pub first : (j : ℕ) (other : R) → j < k → Violates other j → ⊥
 
 -- no element breaks a rule
-abbrev pub IsSound : {R : Type 0} → (R → ℕ → Type 0) → Type 0
-IsSound {R} Violates = (rule : R) (k : ℕ) → Violates rule k → ⊥
+abbrev pub HasNoViolation : {R : Type 0} → (R → ℕ → Type 0) → Type 0
+HasNoViolation {R} Violates = (rule : R) (k : ℕ) → Violates rule k → ⊥

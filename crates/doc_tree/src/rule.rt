@@ -16,7 +16,7 @@ pub enum Rule {
     Flattening(FlatteningRule),
     /// 46: ports need each other in a loop, which is told with it
     Loop,
-    /// 47: a component's state can't be saved, and another component might return early
+    /// 47: a component's state can't be saved, and two or more might return early
     SavesNoState,
     /// 49: the ports are more than a system may have
     TooManyPorts,

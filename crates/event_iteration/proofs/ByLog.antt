@@ -11,7 +11,8 @@ use Rattle.run_model.specs.Equations.{Solves}
 use Rattle.run_model.specs.Inputs.{state_with, state_written, written_at_port}
 use Rattle.run_model.specs.Walk.{only_at}
 use Rattle.run_model.specs.Machines.{AreMachines, IsSituation}
-use Rattle.run_model.specs.Run.{IsFmu, Run, Situation, value}
+use Rattle.run_model.specs.Run.{IsFmu, Run, Situation}
+use Rattle.system_model.specs.Values.{value}
 use Rattle.run_model.proofs.CallerLemmas.{solvable_initially}
 use Rattle.slot_calls.specs.Log.{Sent, part}
 use Rattle.slot_calls.specs.Replies.{AreReplies, state_by}

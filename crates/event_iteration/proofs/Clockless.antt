@@ -10,7 +10,7 @@ use Rattle.system_model.specs.Needs.{is_unclocked}
 use Rattle.system_model.specs.Ports.{is_clock_role, numbers}
 use Rattle.system_model.specs.Sound.{IsSound}
 use Rattle.system_model.proofs.CallerLemmas.{at_contains, true_false, clock_at, events_of, place_of}
-use Rattle.run_model.specs.Inputs.{is_present}
+use Rattle.system_model.specs.Values.{is_present}
 
 -- a port without Clocks is none, and has none
 pub unclocked_parts : (port : Port) → is_unclocked port ≡ true → (is_clock_role port.role ≡ false) × ((length port.clocks == 0) ≡ true)

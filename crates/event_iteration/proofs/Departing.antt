@@ -15,7 +15,8 @@ use Rattle.system_model.specs.declared.system.System.{System}
 use Rattle.system_model.specs.Ports.{is_clock_role}
 use Rattle.system_model.specs.Sound.{IsSound}
 use Rattle.system_model.proofs.CallerLemmas.{true_false}
-use Rattle.run_model.specs.Run.{Run, Situation, each, value}
+use Rattle.run_model.specs.Run.{Run, Situation, each}
+use Rattle.system_model.specs.Values.{value}
 use Rattle.run_model.specs.Inputs.{state_with, state_written, written_at_port, written_by}
 use Rattle.run_model.specs.Stepping.{departing}
 use Rattle.run_model.specs.Walk.{is_taken, only_at, write_if}

@@ -19,7 +19,8 @@ use Rattle.system_model.specs.Needs.{InitiallyByFeed, NeedsInitially, is_unclock
 use Rattle.system_model.specs.Ports.{is_output_role, numbers, source_of}
 use Rattle.system_model.specs.Sound.{IsSound}
 use Rattle.system_model.proofs.CallerLemmas.{true_false}
-use Rattle.run_model.specs.Run.{IsFmu, Run, at_fmu, value}
+use Rattle.run_model.specs.Run.{IsFmu, Run, at_fmu}
+use Rattle.system_model.specs.Values.{value}
 use Rattle.run_model.specs.Inputs.{state_with, state_written, written_at_port, written_by}
 use Rattle.run_model.specs.Equations.{fed, shown, value_in}
 use Rattle.run_model.specs.Initial.{SolvesInitially, initial_value, initialized, initializing, is_read}

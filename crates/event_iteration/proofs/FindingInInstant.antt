@@ -21,10 +21,11 @@ use Rattle.system_model.specs.Needs.{ByFeed, Needs}
 use Rattle.system_model.specs.Ports.{is_clock_role, is_output_role, numbers, source_of}
 use Rattle.system_model.specs.Sound.{IsSound}
 use Rattle.system_model.proofs.CallerLemmas.{true_false}
-use Rattle.run_model.specs.Run.{IsFmu, Run, Situation, at_fmu, value}
+use Rattle.run_model.specs.Run.{IsFmu, Run, Situation, at_fmu}
+use Rattle.system_model.specs.Values.{value, is_active, is_present}
 use Rattle.run_model.specs.AfterInstant.{written}
 use Rattle.run_model.specs.Equations.{IsTickValue, Solves, SolvesAt, fed, output_value, shown, ticking, timer_of, value_in}
-use Rattle.run_model.specs.Inputs.{is_active, is_present, state_with, state_written, written_at_port, written_by}
+use Rattle.run_model.specs.Inputs.{state_with, state_written, written_at_port, written_by}
 use Rattle.run_model.specs.Machines.{AreMachines, IsSituation}
 use Rattle.run_model.specs.Walk.{only_at, write_if}
 use Rattle.run_model.specs.Timers.{IsDue}

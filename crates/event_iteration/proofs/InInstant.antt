@@ -39,9 +39,8 @@ use Rattle.system_model.specs.Needs.{ByClock, ByFeed, Needs}
 use Rattle.system_model.specs.Ports.{is_clock_role, is_output_role, numbers, source_of}
 use Rattle.system_model.specs.Sound.{IsSound}
 use Rattle.system_model.proofs.CallerLemmas.{all_by_place, at_contains, true_false, clock_at, clock_type_of, events_of, is_input_of, is_output_of, kind_of_clock, place_of}
-use Rattle.run_model.specs.Run.{value}
+use Rattle.system_model.specs.Values.{value, is_active, is_present}
 use Rattle.run_model.specs.Equations.{fed, value_in}
-use Rattle.run_model.specs.Inputs.{is_active, is_present}
 use Rattle.run_model.specs.Machines.{AreFitting}
 use Rattle.run_model.proofs.CallerLemmas.{present_alike, reply_fits, none_in, push_cases}
 use Rattle.slot_calls.specs.declared.bad_answer.BadAnswer.{BadAnswer}

@@ -17,7 +17,7 @@ use Rattle.system_model.proofs.CallerLemmas.{true_false}
 use Rattle.tick_schedule.specs.declared.clock.ClockState.{ClockState}
 use Rattle.tick_schedule.specs.declared.clock.ClockState.TheVariants as S
 use Rattle.tick_schedule.specs.Timetable.{HasNext, IsCountdown, IsToTick, Timetable, with_clock}
-use Rattle.run_model.specs.Inputs.{is_active}
+use Rattle.system_model.specs.Values.{is_active}
 use Rattle.run_model.specs.Run.{Never, Every}
 use Rattle.run_model.specs.Timers.{answered, armed_after, is_armed_for}
 use Rattle.event_iteration.specs.Clocks.{IsNextFrom, IsPlaceOf, is_due_in, timer_in, timers_in}

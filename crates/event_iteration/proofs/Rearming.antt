@@ -29,7 +29,8 @@ use Rattle.system_model.specs.Sound.{IsRole, IsSound, IsTiming}
 use Rattle.system_model.proofs.CallerLemmas.{all_at, all_by_place, true_false, Placed, place_of}
 use Rattle.tick_schedule.specs.declared.clock.ClockState.{ClockState}
 use Rattle.tick_schedule.specs.Timetable.{Timetable, with_clock}
-use Rattle.run_model.specs.Run.{Timer, Never, value}
+use Rattle.run_model.specs.Run.{Timer, Never}
+use Rattle.system_model.specs.Values.{value}
 use Rattle.run_model.specs.Timers.{is_armed_for}
 use Rattle.slot_calls.specs.declared.bad_answer.BadAnswer.{BadAnswer}
 use Rattle.run_model.proofs.CallerLemmas.{none_in}

@@ -19,7 +19,7 @@ use Rattle.system_model.specs.declared.system.Component.{Component}
 use Rattle.system_model.specs.declared.system.Port.{Port}
 use Rattle.system_model.specs.declared.system.System.{System}
 use Rattle.system_model.proofs.CallerLemmas.{all_at}
-use Rattle.run_model.specs.Run.{value}
+use Rattle.system_model.specs.Values.{value}
 use Rattle.slot_calls.specs.declared.bad_answer.BadAnswer.{BadAnswer}
 use Rattle.slot_calls.specs.Carried.{reply_in}
 use Rattle.slot_calls.specs.Log.{One, Told}

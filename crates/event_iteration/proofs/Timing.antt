@@ -21,8 +21,8 @@ use Rattle.system_model.specs.Sound.{IsSound}
 use Rattle.system_model.proofs.CallerLemmas.{all_by_place, place_of}
 use Rattle.run_model.specs.AfterInstant.{next_timer, next_timers, next_timers_from, written}
 use Rattle.run_model.specs.Initial.{asked_timer, first_timer, first_timers, interval_in}
-use Rattle.run_model.specs.Inputs.{is_active}
-use Rattle.run_model.specs.Run.{IsFmu, Run, Situation, Timer, Every, Never, at_fmu, value}
+use Rattle.run_model.specs.Run.{IsFmu, Run, Situation, Timer, Every, Never, at_fmu}
+use Rattle.system_model.specs.Values.{value, is_active}
 use Rattle.run_model.specs.Timers.{answered, fixed}
 use Rattle.slot_calls.specs.Log.{Asking, Sent, asking_of, askings}
 use Rattle.slot_calls.specs.Replies.{AreReplies}

@@ -18,7 +18,7 @@ use Rattle.system_model.specs.declared.system.Port.{Port}
 use Rattle.system_model.specs.declared.system.System.{System}
 use Rattle.system_model.specs.Sound.{IsSound}
 use Rattle.system_model.proofs.CallerLemmas.{own}
-use Rattle.run_model.specs.Run.{value}
+use Rattle.system_model.specs.Values.{value}
 use Rattle.run_model.specs.Machines.{AreFitting}
 use Rattle.slot_calls.specs.Log.{Sent, Talks, Told, part}
 use Rattle.slot_calls.specs.Slots.{reads_or_sets}

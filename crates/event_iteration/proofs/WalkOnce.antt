@@ -24,8 +24,7 @@ use Rattle.system_model.proofs.CallerLemmas as S
 use Rattle.system_model.proofs.CallerLemmas.{events_of, place_of}
 use Rattle.run_model.specs.Equations.{fed}
 use Rattle.run_model.specs.Initial.{is_read}
-use Rattle.run_model.specs.Inputs.{is_active, is_present}
-use Rattle.run_model.specs.Run.{value}
+use Rattle.system_model.specs.Values.{value, is_active, is_present}
 use Rattle.slot_calls.specs.Log.{Asking, Sent, asking_of, askings}
 use Rattle.slot_calls.proofs.CallerLemmas.{askings_append}
 use Rattle.event_iteration.specs.Explains.{Explains, all_said, call_at, said}

@@ -14,7 +14,7 @@ use Rattle.system_model.specs.declared.system.Port.{Port}
 use Rattle.system_model.specs.declared.system.System.{System}
 use Rattle.system_model.specs.Orders.{IsOrder}
 use Rattle.system_model.proofs.CallerLemmas.{IsOrderFrom, order_from}
-use Rattle.run_model.specs.Run.{value}
+use Rattle.system_model.specs.Values.{value}
 use Rattle.run_model.proofs.CallerLemmas.{same_number, IsClosed, closed-push, none_in, push_cases}
 use Rattle.slot_calls.specs.Log.{Sent, Told}
 use Rattle.slot_calls.specs.declared.bad_answer.BadAnswer.{BadAnswer}

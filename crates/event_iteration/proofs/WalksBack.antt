@@ -13,7 +13,7 @@ use Rattle.system_model.specs.Orders.{IsOrder}
 use Rattle.system_model.specs.Ports.{numbers}
 use Rattle.system_model.specs.Sound.{IsSound}
 use Rattle.system_model.proofs.CallerLemmas.{true_false, place_of}
-use Rattle.run_model.specs.Run.{value}
+use Rattle.system_model.specs.Values.{value}
 use Rattle.run_model.specs.Walk.{is_taken}
 use Rattle.run_model.proofs.CallerLemmas.{is-taken, taken-is, none_in, push_cases}
 use Rattle.slot_calls.specs.Log.{Sent}

@@ -6,7 +6,8 @@ use Rattle.run_model.specs.AfterInstant.{any_update, asks_again, asks_for_end, n
 use Rattle.run_model.specs.Equations.{Solves}
 use Rattle.run_model.specs.Initial.{SolvesInitially, first_timers, initialized, initializing}
 use Rattle.run_model.specs.Machines.{AreMachines, IsSituation}
-use Rattle.run_model.specs.Run.{Run, Situation, Timer, value}
+use Rattle.run_model.specs.Run.{Run, Situation, Timer}
+use Rattle.system_model.specs.Values.{value}
 use Rattle.run_model.specs.Stepping.{departing}
 use Rattle.slot_calls.specs.Log.{Sent}
 use Rattle.slot_calls.specs.Replies.{AreReplies, states_by}

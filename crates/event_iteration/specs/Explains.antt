@@ -8,7 +8,7 @@ use Rattle.fmu_peer.specs.CloseAll.{Instance}
 use Rattle.system_model.specs.declared.system.Component.{Component}
 use Rattle.system_model.specs.declared.system.Port.{Port}
 use Rattle.system_model.specs.declared.system.System.{System}
-use Rattle.run_model.specs.Run.{value}
+use Rattle.system_model.specs.Values.{value}
 use Rattle.slot_calls.specs.declared.bad_answer.BadAnswer.{BadAnswer}
 use Rattle.slot_calls.specs.Log.{Sent, Told}
 use Rattle.event_iteration.specs.Turns.{IsPaired, Rules, Stops, sent_of}

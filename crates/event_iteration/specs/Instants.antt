@@ -15,7 +15,7 @@ use Rattle.system_model.specs.declared.system.Port.{Port}
 use Rattle.system_model.specs.declared.system.System.{System}
 use Rattle.run_model.specs.AfterInstant.{written}
 use Rattle.run_model.specs.Equations.{Solves, fed, value_in}
-use Rattle.run_model.specs.Inputs.{is_active, is_present}
+use Rattle.system_model.specs.Values.{is_active, is_present}
 use Rattle.run_model.specs.Machines.{AreMachines, IsSituation}
 use Rattle.run_model.specs.Run.{Run, Situation}
 use Rattle.tick_schedule.specs.Timetable.{Timetable}

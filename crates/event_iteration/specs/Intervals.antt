@@ -15,8 +15,8 @@ use Rattle.system_model.specs.declared.system.Timing.TheVariants.{Periodic, Answ
 use Rattle.system_model.specs.declared.system.Port.{Port}
 use Rattle.system_model.specs.declared.system.System.{System}
 use Rattle.tick_schedule.specs.Timetable.{Timetable}
-use Rattle.run_model.specs.Run.{Run, Situation, Timer, Never, Every, value}
-use Rattle.run_model.specs.Inputs.{is_active}
+use Rattle.run_model.specs.Run.{Run, Situation, Timer, Never, Every}
+use Rattle.system_model.specs.Values.{value, is_active}
 use Rattle.run_model.specs.Initial.{first_timers, initialized, interval_in, shift_in}
 use Rattle.run_model.specs.AfterInstant.{next_timers, written}
 use Rattle.run_model.specs.Machines.{AreMachines, IsSituation}

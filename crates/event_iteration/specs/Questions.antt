@@ -22,9 +22,9 @@ use Rattle.system_model.specs.declared.system.System.{System}
 use Rattle.tick_schedule.specs.declared.clock.ClockState.{ClockState}
 use Rattle.tick_schedule.specs.declared.clock.ClockState.TheVariants as S
 use Rattle.tick_schedule.specs.Timetable.{Timetable, after_tick, with_clock}
-use Rattle.run_model.specs.Run.{Timer, Every, value}
+use Rattle.run_model.specs.Run.{Timer, Every}
+use Rattle.system_model.specs.Values.{value, is_active}
 use Rattle.run_model.specs.Timers.{is_armed_for}
-use Rattle.run_model.specs.Inputs.{is_active}
 use Rattle.slot_calls.specs.declared.bad_answer.BadAnswer.{BadAnswer}
 use Rattle.slot_calls.specs.Carried.{reply_in}
 use Rattle.slot_calls.specs.Log.{Sent, Told}

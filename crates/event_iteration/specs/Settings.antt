@@ -13,7 +13,8 @@ use Rattle.system_model.specs.declared.system.Role.TheVariants.{Input, Output, C
 use Rattle.system_model.specs.declared.system.Port.{Port}
 use Rattle.system_model.specs.declared.system.System.{System}
 use Rattle.fmu_peer.specs.Machine.{MachineState, after}
-use Rattle.run_model.specs.Run.{Run, Situation, each, value}
+use Rattle.run_model.specs.Run.{Run, Situation, each}
+use Rattle.system_model.specs.Values.{value}
 use Rattle.run_model.specs.Stepping.{departing}
 use Rattle.event_iteration.specs.Machines.{AreAt}
 use Rattle.event_iteration.specs.Turns.{Rules}

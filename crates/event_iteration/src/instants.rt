@@ -1,8 +1,7 @@
 ghost use Rattle.std.specs.Prelude.{◌≡◌, ◌<◌, ◌==◌, ℕ, Some, None, OnOk, All, length, if◌then◌else◌};
 ghost use Rattle.std.specs.List.{list_any};
 ghost use Rattle.fmi_calls.specs.declared.call.Call.TheVariants as Call;
-ghost use Rattle.run_model.specs.Inputs.{is_active, is_present};
-ghost use Rattle.run_model.specs.Run.{value};
+ghost use Rattle.system_model.specs.Values.{value, is_active, is_present};
 ghost use Rattle.sim_base.specs.declared.numbers.PortId.{PortId};
 ghost use Rattle.system_model.specs.declared.system.Port.{Port};
 ghost use Rattle.system_model.specs.Ports.{numbers};

@@ -15,7 +15,7 @@ use Rattle.ssd_tree.specs.declared.tree.Connection.{Connection}
 use Rattle.ssd_tree.specs.declared.tree.SystemTree.{SystemTree}
 use Rattle.flatten.specs.Points.{Point, OfComponent, Itself, IsOfSystem, named_by, point_for, point_of}
 use Rattle.flatten.specs.Paths.{Joins, Leads}
-use Rattle.flatten.specs.Given.{AreShapesOf, IsWhole}
+use Rattle.flatten.specs.Given.{AreShapesOf, IsWholeTree}
 use Rattle.flatten.specs.Indexed.{AreNumbered, begin_of, ends_of}
 use Rattle.flatten.proofs.ReachLemmas.{Stands, reaches_carried}
 use Rattle.flatten.proofs.StandsLemmas.{IsItself, IsNamed, sort_of, point_by_number, numbered_by_point}
@@ -40,7 +40,7 @@ map_contains f xs y h =
     (e.0, slice_contains xs h.0 e.0 e.1, ap f (sym (get_or_from_slice_get xs h.0 e.0 e.0 e.1)) ∙ sym (get_or-map f xs h.0 e.0 y l) ∙ h.2)
 
 -- both ends of each connection are connectors
-pub ends_within : (t : SystemTree) (n : ℕ) (connections : List joints.Connection) → IsWhole t → n ≡ length t.connectors → connections ≡ map ends_of t.connections → All (numbers.IsWithin n) connections
+pub ends_within : (t : SystemTree) (n : ℕ) (connections : List joints.Connection) → IsWholeTree t → n ≡ length t.connectors → connections ≡ map ends_of t.connections → All (numbers.IsWithin n) connections
 ends_within t n connections whole len ends =
     All-same (numbers.IsWithin n) connections (map ends_of t.connections) ends (All-map (numbers.IsWithin n) ends_of t.connections
     (All-weaker (λ (k : Connection). (k.start < length t.connectors) × (k.end < length t.connectors)) (λ (k : Connection). numbers.IsWithin n (ends_of k)) (λ k h. (let a = h.0 in omega (arith, a, len), let b = h.1 in omega (arith, b, len))) t.connections whole.ends))

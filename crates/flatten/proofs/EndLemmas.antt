@@ -22,7 +22,7 @@ use Rattle.doc_tables.specs.Tables.{IsRepeated}
 use Rattle.flatten.specs.declared.connectors.Variables.{Variables}
 use Rattle.flatten.specs.Points.{Point, point_of, variable_of}
 use Rattle.flatten.specs.Rules.{PathFault, IsLastOf, end_at}
-use Rattle.flatten.specs.Given.{AreShapesOf, IsWhole}
+use Rattle.flatten.specs.Given.{AreShapesOf, IsWholeTree}
 use Rattle.flatten.specs.Indexed.{AreNumbered, AreVariables, all_variables, begin_of, ends_of}
 use Rattle.flatten.specs.Broken.{IsReachedAt, IsReachedBy, input_of, number_of}
 use Rattle.flatten.proofs.StandsLemmas.{IsItself, IsNamed, number_within, sort_of, point_by_number, numbered_by_point}
@@ -98,7 +98,7 @@ taken_more t points count i n taken l ends was = λ m. (λ h. from m h (cases_eq
         let e : h.0 ≡ i = omega (arith, w, g) in
         taken_here m (number_alone m (subst (λ z. EndsWith t points count z m) e h.2))
 
-pub end_here : (t : SystemTree) (points : List paths.Point) (connections : List joints.Connection) (count i n : ℕ) (e : joints.Connection) → IsWhole t → length points ≡ length t.connectors → connections ≡ map ends_of t.connections
+pub end_here : (t : SystemTree) (points : List paths.Point) (connections : List joints.Connection) (count i n : ℕ) (e : joints.Connection) → IsWholeTree t → length points ≡ length t.connectors → connections ≡ map ends_of t.connections
     → i < length t.connections → e ≡ get_or connections i e → ((p : paths.Point) → slice_get points e.end ≡ Some p → n ≡ number_of count p) → EndsWith t points count i n
 end_here t points connections count i n e whole len ends l read tells =
     let k = at_place t.connections i l in
@@ -108,13 +108,13 @@ end_here t points connections count i n e whole len ends l read tells =
     (k.0, k.1, (p.0, p.1, sym (tells p.0 (ap (λ (z : joints.Connection). slice_get points z.end) same ∙ p.1))))
 
 -- both ends of a connection of the table are connectors
-pub ends_in : (t : SystemTree) (connections : List joints.Connection) (e : joints.Connection) → IsWhole t → connections ≡ map ends_of t.connections → Contains connections e → (e.start < length t.connectors) × (e.end < length t.connectors)
+pub ends_in : (t : SystemTree) (connections : List joints.Connection) (e : joints.Connection) → IsWholeTree t → connections ≡ map ends_of t.connections → Contains connections e → (e.start < length t.connectors) × (e.end < length t.connectors)
 ends_in t connections e whole ends is = All-contains (numbers.IsWithin (length t.connectors)) connections e (ends_within t (length t.connectors) connections whole refl ends) is
 
 pub variables_len : (shapes : List Shape) (v : Variables) → AreVariables shapes v → length v.all.items ≡ length (all_variables shapes)
 variables_len shapes v are = sym (length-map v.all.items (λ x. x.now)) ∙ ap length are.all
 
-module _ (t : SystemTree) (shapes : List Shape) (points : List paths.Point) (sound : AreShapesOf t shapes) (are : AreNumbered t shapes points) (whole : IsWhole t) where
+module _ (t : SystemTree) (shapes : List Shape) (points : List paths.Point) (sound : AreShapesOf t shapes) (are : AreNumbered t shapes points) (whole : IsWholeTree t) where
   end_within : (k : Connection) → Contains t.connections k → k.end < length t.connectors
   end_within k is = (All-contains (λ (z : Connection). (z.start < length t.connectors) × (z.end < length t.connectors)) t.connections k whole.ends is).1
 

@@ -12,7 +12,7 @@ use Rattle.doc_tree.specs.Rules.{number}
 use Rattle.ssd_tree.specs.declared.tree.SystemTree.{SystemTree}
 use Rattle.flatten.specs.declared.rules.TheConstants.{ELEMENT_RULES}
 use Rattle.flatten.specs.Points.{variable_of}
-use Rattle.flatten.specs.Rules.{Breaks, FindsLeast, HasOtherCausality, HasOtherType, IsFirstViolation, IsFitting, Violates, earlier}
+use Rattle.flatten.specs.Rules.{Breaks, FindsLeast, HasOtherCausality, HasOtherType, IsFirstFlatteningViolation, IsFitting, ViolatesFlattening, earlier}
 use Rattle.flatten.specs.Broken.{IsBrokenConnection, IsBrokenConnector, earlier_violation}
 use Rattle.flatten.proofs.RuleLemmas.{some_and}
 
@@ -137,7 +137,7 @@ module _ (V : Rule → ℕ → Type 0) where
 -- ---- all rules
 
 -- a rule that an element may break stands in the list
-rule_listed : (t : SystemTree) (shapes : List Shape) (rule : Rule) (node : ℕ) → Violates t shapes rule node → (k : ℕ) × (k < 8) × (rule_at k ≡ rule)
+rule_listed : (t : SystemTree) (shapes : List Shape) (rule : Rule) (node : ℕ) → ViolatesFlattening t shapes rule node → (k : ℕ) × (k < 8) × (rule_at k ≡ rule)
 rule_listed t shapes (Flattening NoSuchVariable) node h = (0, lit< tt, refl)
 rule_listed t shapes (Flattening OtherCausality) node h = (1, lit< tt, refl)
 rule_listed t shapes (Flattening OtherClass) node h = (2, lit< tt, refl)
@@ -171,21 +171,21 @@ rising j (suc k) l b = by (cases_lt j (suc k)) (λ less. rising j k (omega (arit
     by (inl less) rest = let step = next_above k (omega (arith, b)) in let so_far = rest less in omega (arith, step, so_far)
     by (inr more) rest = let same : j ≡ suc k = omega (arith, l, more) in subst (λ z. number (rule_at j) ≤ number (rule_at z)) same (omega arith)
 
-pub all_first : (t : SystemTree) (shapes : List Shape) (i : ℕ) (found : Option (ℕ × Rule)) → 8 ≤ i → i ≤ 8 → FindsFirst (Violates t shapes) i found
-    → MatchOption found (IsFitting t shapes) (λ violation. IsFirstViolation t shapes violation.0 violation.1)
+pub all_first : (t : SystemTree) (shapes : List Shape) (i : ℕ) (found : Option (ℕ × Rule)) → 8 ≤ i → i ≤ 8 → FindsFirst (ViolatesFlattening t shapes) i found
+    → MatchOption found (IsFitting t shapes) (λ violation. IsFirstFlatteningViolation t shapes violation.0 violation.1)
 all_first t shapes i None past most f = λ rule node h.
     let k = rule_listed t shapes rule node h in
-    f k.0 node (let b = k.1 in omega (arith, b, past)) (subst (λ z. Violates t shapes z node) (sym k.2) h)
+    f k.0 node (let b = k.1 in omega (arith, b, past)) (subst (λ z. ViolatesFlattening t shapes z node) (sym k.2) h)
 all_first t shapes i (Some one) past most f = record {
   is = record {
     broken = f.broken;
     least = λ other lower h.
         let k = rule_listed t shapes other one.0 h in
-        f.least k.0 (earlier_place k.0 k.1 (subst (λ z. number z < number one.1) (sym k.2) lower)) (subst (λ z. Violates t shapes z one.0) (sym k.2) h);
+        f.least k.0 (earlier_place k.0 k.1 (subst (λ z. number z < number one.1) (sym k.2) lower)) (subst (λ z. ViolatesFlattening t shapes z one.0) (sym k.2) h);
   };
   first = λ node other lower h.
       let k = rule_listed t shapes other node h in
-      f.first k.0 node (let b = k.1 in omega (arith, b, past)) lower (subst (λ z. Violates t shapes z node) (sym k.2) h);
+      f.first k.0 node (let b = k.1 in omega (arith, b, past)) lower (subst (λ z. ViolatesFlattening t shapes z node) (sym k.2) h);
 }
   where
     earlier_place : (k : ℕ) → k < 8 → number (rule_at k) < number one.1 → k < f.place

@@ -6,13 +6,13 @@ use Rattle.std.proofs.lemmas.Bool.{eqb-true, eq-eqb}
 use Rattle.std.proofs.lemmas.Option.{none-some as none_some, same_Some}
 use Rattle.std.proofs.lemmas.Map.Keys.{IsDistinct-head, IsDistinct-tail}
 use Rattle.std.proofs.Math.Nat.{mul-le-mul_left}
-use Rattle.clock_fraction.specs.Counts.{IsCounts}
+use Rattle.clock_fraction.specs.Counts.{IsCounts, IsInCounts}
 use Rattle.clock_fraction.specs.declared.fraction.Fraction.{Fraction}
 use Rattle.value_types.specs.Shape.{is_clock, timing_at}
 use Rattle.value_types.specs.declared.shape.ClockTiming.{ClockTiming}
 use Rattle.value_types.specs.declared.shape.Variable.{Variable}
 use Rattle.value_types.specs.declared.shape.Shape.{Shape}
-use Rattle.system_model.specs.Shapes.{IsSoundShape, IsSoundClock, IsWhole, is_described}
+use Rattle.system_model.specs.Shapes.{IsSoundShape, IsSoundClock, is_described}
 use Rattle.system_model.specs.Sound.{IsPeriodic}
 use Rattle.system_model.proofs.CallerLemmas.{absent_from, contains_at, true_false}
 
@@ -79,7 +79,7 @@ counts_above zero r p c whole per some =
 counts_above (suc n) r p c whole per some = omega arith
 
 -- the counts that a function gives of a fraction that is told and whole
-pub counted : (told : Option Fraction) (per_second : ℕ) (f : Fraction → Type 0) → IsSome told → IfSome told (λ x. f x × IsWhole per_second x) → (n : ℕ) → ((m : ℕ) → IsSomeAnd told (λ x. IsCounts x per_second m) → n ≡ m)
+pub counted : (told : Option Fraction) (per_second : ℕ) (f : Fraction → Type 0) → IsSome told → IfSome told (λ x. f x × IsInCounts per_second x) → (n : ℕ) → ((m : ℕ) → IsSomeAnd told (λ x. IsCounts x per_second m) → n ≡ m)
     → IsSomeAnd told (λ x. f x × IsCounts x per_second n)
 counted None per_second f some whole n exact = absurd (true_false (sym some))
 counted (Some x) per_second f some whole n exact =
@@ -104,8 +104,8 @@ pub periodic : (shape : Shape) (x : Variable) (clock : ClockTiming) (per_second 
     → interval ≤ 2 ^ 126 → shift ≤ 2 ^ 126 → IsPeriodic per_second clock interval shift
 periodic shape x clock per_second interval shift sound same per described i s few_i few_s =
     let told = sound.described described in
-    let of_interval = counted clock.interval per_second (λ (f : Fraction). 0 < f.counter) told.0 (subst (λ r. IfSome clock.interval (λ (f : Fraction). (0 < f.counter) × IsWhole r f)) same sound.interval) interval i in
-    let of_shift = counted clock.shift per_second (λ (f : Fraction). Unit {0}) told.1 (plain clock.shift (IsWhole per_second) (subst (λ r. IfSome clock.shift (IsWhole r)) same sound.shift)) shift s in
+    let of_interval = counted clock.interval per_second (λ (f : Fraction). 0 < f.counter) told.0 (subst (λ r. IfSome clock.interval (λ (f : Fraction). (0 < f.counter) × IsInCounts r f)) same sound.interval) interval i in
+    let of_shift = counted clock.shift per_second (λ (f : Fraction). Unit {0}) told.1 (plain clock.shift (IsInCounts per_second) (subst (λ r. IfSome clock.shift (IsInCounts r)) same sound.shift)) shift s in
     record {
       described = described;
       interval_counts = second clock.interval (λ (f : Fraction). 0 < f.counter) (λ (f : Fraction). IsCounts f per_second interval) of_interval;

@@ -32,7 +32,8 @@ use Rattle.flatten.specs.declared.marks.TheConstants.{CLASSES, INTEGER_TYPES}
 use Rattle.flatten.specs.Points.{Point, OfComponent, Itself, IsOfSystem, IsVariable, named_by, point_for, point_of, variable_of}
 use Rattle.flatten.specs.Paths.{Leads, LeadsUpTo}
 use Rattle.flatten.specs.Rules.{child_class, class_at, GivesOther, IsOtherClass, IsTimeBased, IsTooWide}
-use Rattle.flatten.specs.Given.{AreShapesOf, IsOwner, IsWhole}
+use Rattle.flatten.specs.Given.{AreShapesOf, IsWholeTree}
+use Rattle.ssd_tree.specs.Named.{IsOwner}
 use Rattle.flatten.specs.Indexed.{AreNumbered}
 use Rattle.flatten.specs.Marks.{AreClassMarks, AreLedTo, AreTypeMarks, IsLedTo, IsOfClass, IsOfType, IsOutputAt, NamesOutput}
 use Rattle.flatten.specs.Broken.{IsReachedAt, IsReachedBy, TellsOther, TellsTooWide}
@@ -53,7 +54,7 @@ not_none o b is e none = false≢true (sym (ap is_some none) ∙ is ∙ ap not e
 pub owner_there : (xs lent : List Connector) (c : ℕ) (d : Connector) (o : Owner) → lent ≡ xs → c < length xs → (get_or lent c d).owner ≡ o → (k : Connector) × (slice_get xs c ≡ Some k) × (k.owner ≡ o)
 owner_there xs lent c d o same l is = (get_or xs c d, slice_get-get_or xs c d l, ap (λ (z : List Connector). (get_or z c d).owner) (sym same) ∙ is)
 
-pub component_within : (t : SystemTree) (c i : ℕ) (k : Connector) → IsWhole t → slice_get t.connectors c ≡ Some k → k.owner ≡ Component i → i < length t.components
+pub component_within : (t : SystemTree) (c i : ℕ) (k : Connector) → IsWholeTree t → slice_get t.connectors c ≡ Some k → k.owner ≡ Component i → i < length t.components
 component_within t c i k whole at owner =
     subst (IsOwner t) owner (All-contains (λ (z : Connector). IsOwner t z.owner) t.connectors k whole.owners (slice_contains t.connectors c k at))
 

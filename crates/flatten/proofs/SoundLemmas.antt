@@ -1,5 +1,5 @@
 -- A flattened system is sound: its components, its feeds, and the numbers that it names.
-use Rattle.std.proofs.Common.{◌≡◌, ℕ, zero, suc, ◌+◌, ◌<◌, ℤ, ◌≤ℤ◌, Bool, true, false, List, [], ◌∷◌, length, refl, sym, ◌∙◌, ap, subst, inl, inr, arith, All}
+use Rattle.std.proofs.Common.{◌≡◌, ℕ, zero, suc, ◌+◌, ◌<◌, ℤ, ◌≤ℤ◌, Bool, true, false, List, [], ◌∷◌, length, map, refl, sym, ◌∙◌, ap, subst, inl, inr, arith, All}
 use Rattle.std.specs.Prelude.{Option, Some, None, slice_get, IsSomeAnd, IfSome}
 use Rattle.std.specs.Int.Signed.{clash_ℤ, lt_z, lt_z_no, lt_z_yes}
 use Rattle.std.proofs.lemmas.Float.{T_from_true, T_from_false}
@@ -19,6 +19,7 @@ use Rattle.value_types.specs.declared.shape.Variable.{Variable}
 use Rattle.value_types.specs.declared.shape.Shape.{Shape}
 use Rattle.doc_tree.specs.declared.rule.Rule.TheVariants.{Flattening, SavesNoState}
 use Rattle.doc_tree.specs.declared.rule.FlatteningRule.TheVariants.{OtherClass, TooWide}
+use Rattle.system_model.specs.EarlyReturn.{early_count}
 use Rattle.system_model.specs.declared.system.Component.{Component}
 use Rattle.system_model.specs.declared.system.Port.{Port}
 use Rattle.system_model.specs.declared.system.Role.{Role}
@@ -27,7 +28,7 @@ use Rattle.system_model.specs.declared.system.System.{System}
 use Rattle.system_model.specs.Ports.{label_of, labels_from, source_of, is_output_role}
 use Rattle.system_model.specs.Shapes.{IsSoundShape}
 use Rattle.system_model.specs.Sound.{HasSoundComponents, HasSoundFeeds, HasSoundPorts, IsFeed, IsPort, IsRole, IsSound, IsUnder}
-use Rattle.system_model.proofs.CallerLemmas.{all_at, all_by_place, found_under, Labels, label_found, Placed}
+use Rattle.system_model.proofs.CallerLemmas.{Early, all_at, all_by_place, counts_two, found_under, two_early, Labels, label_found, Placed}
 use Rattle.port_orders.specs.Outcome.{unordered}
 use Rattle.port_orders.specs.Placed.{ArePlaced, IsPlaced}
 use Rattle.ssd_tree.specs.declared.tree.ComponentPart.{ComponentPart}
@@ -36,7 +37,7 @@ use Rattle.flatten.specs.Points.{Point, variable_at_point}
 use Rattle.flatten.specs.Paths.{Feeds}
 use Rattle.flatten.specs.Rules.{IsFitting}
 use Rattle.flatten.specs.Flat.{AreComponentsOf, Flattens, IsFlat, point_of_port}
-use Rattle.flatten.specs.Given.{AreShapesOf, IsWhole}
+use Rattle.flatten.specs.Given.{AreShapesOf, IsWholeTree}
 use Rattle.flatten.proofs.LastLemmas.{EndsAt, ends_at}
 use Rattle.flatten.proofs.RoleLemmas.{some_at, some_of}
 
@@ -61,7 +62,7 @@ same_ports a b components ports h =
 
 -- ---- components
 
-pub sound_components : (t : SystemTree) (shapes : List Shape) (system : System) → IsWhole t → AreShapesOf t shapes → IsFitting t shapes → AreComponentsOf t.components shapes system.components → HasSoundComponents system
+pub sound_components : (t : SystemTree) (shapes : List Shape) (system : System) → IsWholeTree t → AreShapesOf t shapes → IsFitting t shapes → AreComponentsOf t.components shapes system.components → HasSoundComponents system
 sound_components t shapes system whole given fitting are = record {
   few = omega (arith, are.len, whole.few);
   named = all_by_place (λ (c : Component). 0 < length c.name) system.components (λ i c at.
@@ -74,7 +75,7 @@ sound_components t shapes system whole given fitting are = record {
   within = given.within;
   resolutions = all_by_place (λ (c : Component). c.shape.resolution ≡ given.per_second) system.components (λ i c at.
       all_at (λ (s : Shape). s.resolution ≡ given.per_second) shapes i c.shape given.resolutions (are.each i c at).shape);
-  saved = λ i j early other at_early at_other apart returns. saved_or other.shape.can_save_state (λ lacks.
+  saved = λ two. all_by_place (λ (c : Component). c.shape.can_save_state ≡ true) system.components (λ j other at_other. saved_or other.shape.can_save_state (λ lacks.
       let is = are.each j other at_other in
       fitting SavesNoState is.part.node (
         j,
@@ -84,15 +85,30 @@ sound_components t shapes system whole given fitting are = record {
           refl,
           (
             some_at (slice_get shapes j) (λ (s : Shape). s.can_save_state ≡ false) other.shape is.shape lacks,
-            (i, apart, some_at (slice_get shapes i) (λ (s : Shape). s.might_return_early ≡ true) early.shape (are.each i early at_early).shape returns),
+            several two,
           ),
         ),
-      ));
+      )));
 }
   where
     saved_or : (saves : Bool) → (saves ≡ false → ⊥) → saves ≡ true
     saved_or true lacks = refl
     saved_or false lacks = absurd (lacks refl)
+
+    here : (e : Early (map (λ (c : Component). c.shape) system.components)) → slice_get shapes e.place ≡ Some e.shape
+    here e = by (slice_get system.components e.place) refl where
+      named : slice_get (map (λ (c : Component). c.shape) system.components) e.place ≡ option_map (λ (c : Component). c.shape) (slice_get system.components e.place)
+      named = slice_get-map (λ (c : Component). c.shape) system.components e.place
+
+      by : (o : Option Component) → slice_get system.components e.place ≡ o → slice_get shapes e.place ≡ Some e.shape
+      by None none = absurd (none_some e.shape (ap (option_map (λ (c : Component). c.shape)) (sym none) ∙ sym named ∙ e.at))
+      by (Some c) at = (are.each e.place c at).shape ∙ ap Some (same_Some c.shape e.shape (ap (option_map (λ (c : Component). c.shape)) (sym at) ∙ sym named ∙ e.at))
+
+    -- two of the components might return early, so two of the shapes might
+    several : 1 < early_count (map (λ (c : Component). c.shape) system.components) → 1 < early_count shapes
+    several two =
+        let t = two_early (map (λ (c : Component). c.shape) system.components) two in
+        counts_two shapes t.one.place t.other.place t.one.shape t.other.shape t.apart (here t.one) (here t.other) t.one.early t.other.early
 
 pub component_shapes : (t : SystemTree) (shapes : List Shape) (components : List Component) → AreShapesOf t shapes → AreComponentsOf t.components shapes components → All (λ (c : Component). IsSoundShape c.shape) components
 component_shapes t shapes components given are =
@@ -240,7 +256,7 @@ sound_feeds t shapes system fitting given flat = λ p q port at fed.
 
 -- ---- the whole
 
-pub sound_system : (t : SystemTree) (shapes : List Shape) (system : System) → IsWhole t → AreShapesOf t shapes → IsFitting t shapes → Flattens t shapes system → IsSound system
+pub sound_system : (t : SystemTree) (shapes : List Shape) (system : System) → IsWholeTree t → AreShapesOf t shapes → IsFitting t shapes → Flattens t shapes system → IsSound system
 sound_system t shapes system whole given fitting is = record {
   components = sound_components t shapes system whole given fitting is.flat.components;
   ports = is.flat.ports;
@@ -262,7 +278,7 @@ source_within : (ports : List Port) (o : Option ℕ) → ((q : ℕ) → o ≡ So
 source_within ports None h = tt
 source_within ports (Some q) h = h q refl
 
-pub are_placed : (t : SystemTree) (shapes : List Shape) (components : List Component) (ports : List Port) → IsWhole t → AreShapesOf t shapes → IsFlat t shapes (unordered components ports) → ArePlaced components ports
+pub are_placed : (t : SystemTree) (shapes : List Shape) (components : List Component) (ports : List Port) → IsWholeTree t → AreShapesOf t shapes → IsFlat t shapes (unordered components ports) → ArePlaced components ports
 are_placed t shapes components ports whole given flat =
     let system = unordered components ports in
     let sound = component_shapes t shapes components given flat.components in

@@ -19,9 +19,10 @@ use Rattle.ssd_tree.specs.declared.tree.ComponentPart.{ComponentPart}
 use Rattle.ssd_tree.specs.declared.tree.SystemTree.{SystemTree}
 use Rattle.ssd_tree.specs.Elements.{IsComponent, IsSystem, Outermost}
 use Rattle.ssd_tree.specs.Parts.{Describes, InInner, InOutermost, IsComponentPart, IsConnectionPart, IsConnectorPart, IsFullName, PartNodes, owner_node}
-use Rattle.ssd_tree.specs.Rules.{IsSound, system_count}
+use Rattle.ssd_tree.specs.Rules.{IsSoundStructure, system_count}
 use Rattle.system_model.proofs.CallerLemmas.{all_by_place, at_contains, contains_at, true_false}
-use Rattle.flatten.specs.Given.{IsOwner, IsWhole}
+use Rattle.flatten.specs.Given.{IsWholeTree}
+use Rattle.ssd_tree.specs.Named.{IsOwner}
 use Rattle.flatten.proofs.LabelLemmas.{count_cons, element_there}
 
 -- ---- the outermost System
@@ -65,7 +66,7 @@ parent_is : (o : Option ℕ) (k : ℕ) → is_parent o k ≡ true → o ≡ Some
 parent_is None k is = absurd (true_false (sym is))
 parent_is (Some p) k is = ap Some (eqb-true p k is)
 
-outermost : (t : List Node) → IsSound t → (k : ℕ) × IsSystem t k
+outermost : (t : List Node) → IsSoundStructure t → (k : ℕ) × IsSystem t k
 outermost t sound =
     let one : system_count t 0 ≡ 1 = elim (cases_order (system_count t 0) 1) [
       | inl e ↦ e
@@ -96,7 +97,7 @@ not_empty_long : (text : List ℕ) → (unless_empty (Some text) ≡ None → �
 not_empty_long [] some = absurd (some refl)
 not_empty_long (x ∷ xs) some = omega arith
 
-full_name : (t : List Node) → IsSound t → (k : ℕ) (name : List ℕ) → IsComponent t k → IsFullName t k name → 0 < length name
+full_name : (t : List Node) → IsSoundStructure t → (k : ℕ) (name : List ℕ) → IsComponent t k → IsFullName t k name → 0 < length name
 full_name t sound k name is (InOutermost _ outer _ holder root told) =
     not_empty_long name (λ empty. sound r.Incomplete k (inl (inr (inr (is, inl (ap unless_empty told ∙ empty))))))
 full_name t sound k name is (InInner _ system outer above own holder inner whole told) = omega (arith, length-append above (46 ∷ own))
@@ -108,7 +109,7 @@ owner_there : (nodes : PartNodes) (tree : SystemTree) (owner : Owner) (part : �
 owner_there nodes tree (System place) part systems components is = omega (arith, systems, slice_get_within nodes.systems place part is)
 owner_there nodes tree (Component place) part systems components is = omega (arith, components, slice_get_within nodes.components place part is)
 
-pub whole_tree : (t : List Node) (tree : SystemTree) → IsSound t → Describes t tree → IsWhole tree
+pub whole_tree : (t : List Node) (tree : SystemTree) → IsSoundStructure t → Describes t tree → IsWholeTree tree
 whole_tree t tree sound is =
     let nodes = is.nodes in
     let systems : length tree.systems ≡ length nodes.systems = AllZip-long _ nodes.systems tree.systems is.systems in

@@ -12,7 +12,7 @@ use Rattle.system_model.specs.Ports.{numbers}
 use Rattle.port_orders.specs.Outcome.{HasLoop}
 use Rattle.ssd_tree.specs.declared.tree.SystemPart.{SystemPart}
 use Rattle.ssd_tree.specs.declared.tree.SystemTree.{SystemTree}
-use Rattle.flatten.specs.Rules.{IsFirstViolation, IsFitting}
+use Rattle.flatten.specs.Rules.{IsFirstFlatteningViolation, IsFitting}
 use Rattle.system_model.specs.Sound.{IsSound}
 use Rattle.doc_tables.specs.Answers.{Refuses}
 use Rattle.flatten.specs.Flat.{Flattens, IsFlat}
@@ -33,7 +33,7 @@ pub record TellsLoop (t : SystemTree) (shapes : List Shape) (node : ℕ)
 -- the refusal is the first violation or tells a loop, unless memory ran out
 abbrev pub Faults : SystemTree → List Shape → Refusal → Type 0
 Faults t shapes (At file node rule ports) =
-    (file ≡ 0) × (((ports ≡ []) × IsFirstViolation t shapes node rule) ⊎
+    (file ≡ 0) × (((ports ≡ []) × IsFirstFlatteningViolation t shapes node rule) ⊎
     ((rule ≡ Loop) × TellsLoop t shapes node ports))
 Faults t shapes Memory = ⊤
 
@@ -51,7 +51,7 @@ pub record IsAnswer (t : SystemTree) (shapes : List Shape)
   pub found : IfOk result (Flattens t shapes)
   pub sound : IfOk result IsSound
   pub fault : IfErr result (Faults t shapes)
-  pub exact : (rule : Rule) (node : ℕ) → IsFirstViolation t shapes node rule →
+  pub exact : (rule : Rule) (node : ℕ) → IsFirstFlatteningViolation t shapes node rule →
       Refuses result rule node
   pub only : (system : System) → IsFitting t shapes → Flattens t shapes system →
       GivesParts result system

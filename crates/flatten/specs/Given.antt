@@ -2,20 +2,14 @@
 use Rattle.std.specs.Prelude.{◌≡◌, ℕ, ◌<◌, ◌≤◌, ◌^◌, List, length, All}
 use Rattle.value_types.specs.declared.shape.Shape.{Shape}
 use Rattle.system_model.specs.Shapes.{IsSoundShape}
-use Rattle.ssd_tree.specs.declared.tree.Owner.{Owner}
-use Rattle.ssd_tree.specs.declared.tree.Owner.TheVariants.{System, Component}
 use Rattle.ssd_tree.specs.declared.tree.Connector.{Connector}
 use Rattle.ssd_tree.specs.declared.tree.Connection.{Connection}
 use Rattle.ssd_tree.specs.declared.tree.ComponentPart.{ComponentPart}
 use Rattle.ssd_tree.specs.declared.tree.SystemTree.{SystemTree}
-
--- the System or Component is in the list of the tree
-abbrev pub IsOwner : SystemTree → Owner → Type 0
-IsOwner t (System place) = place < length t.systems
-IsOwner t (Component place) = place < length t.components
+use Rattle.ssd_tree.specs.Named.{IsOwner}
 
 -- it has an outermost System, each number in it names a part, and each component has a name; it has 256 components at most
-pub record IsWhole (t : SystemTree) : Type 0 where
+pub record IsWholeTree (t : SystemTree) : Type 0 where
   pub root : 0 < length t.systems
   pub few : length t.components ≤ 256
   pub named : All (λ (c : ComponentPart). 0 < length c.name) t.components

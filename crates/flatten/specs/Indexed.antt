@@ -18,7 +18,7 @@ use Rattle.flatten.specs.declared.names.VariableNames.{VariableNames}
 use Rattle.doc_tables.specs.Places.{found_in}
 use Rattle.doc_tables.specs.Tables.{IsTable}
 use Rattle.flatten.specs.Points.{has_name}
-use Rattle.flatten.specs.Given.{AreShapesOf, IsWhole}
+use Rattle.flatten.specs.Given.{AreShapesOf, IsWholeTree}
 
 -- ---- variables, by component and place in its description
 
@@ -119,7 +119,7 @@ ends_of k = record { start = k.start; end = k.end }
 -- ---- the whole
 
 pub record IsIndexed (f : FlatTree) : Type 0 where
-  pub whole : IsWhole f.tree.now
+  pub whole : IsWholeTree f.tree.now
   pub shapes : AreShapesOf f.tree.now f.shapes.now
   pub variables : AreVariables f.shapes.now f.variables
   pub points : AreNumbered f.tree.now f.shapes.now f.points.items

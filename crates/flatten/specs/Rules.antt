@@ -1,5 +1,5 @@
 -- The rules of connectors and connections together with the variables that they name (SSP 1.0, 5.3.2 and 5.3.3; and narrowings of this profile), each a statement about a tree of systems, the shapes of its components, and an element of the document.
-use Rattle.std.specs.Prelude.{◌≡◌, ◌≢◌, ◌⊎◌, ℕ, ◌+◌, ◌<◌, true, false, List, Option, Some, None, IsSomeAnd, option_and_then, slice_get, take, map, min, sum, count_by}
+use Rattle.std.specs.Prelude.{◌≡◌, ◌≢◌, ◌⊎◌, ℕ, ◌+◌, ◌<◌, false, List, Option, Some, None, IsSomeAnd, option_and_then, slice_get, take, map, min, sum, count_by}
 use Rattle.std.specs.Option.{option_map}
 use Rattle.value_types.specs.declared.shape.Causality.{Causality}
 use Rattle.value_types.specs.declared.shape.Causality.TheVariants as causality
@@ -29,6 +29,7 @@ use Rattle.ssd_tree.specs.declared.tree.Connector.{Connector}
 use Rattle.ssd_tree.specs.declared.tree.Connection.{Connection}
 use Rattle.ssd_tree.specs.declared.tree.ComponentPart.{ComponentPart}
 use Rattle.ssd_tree.specs.declared.tree.SystemTree.{SystemTree}
+use Rattle.system_model.specs.EarlyReturn.{early_count}
 use Rattle.flatten.specs.Points.{Point, OfComponent, Itself, is_of_system, variable_of, point_of}
 use Rattle.flatten.specs.Paths.{EndsBy, IsOn}
 
@@ -147,17 +148,11 @@ HasTooManyPorts t shapes node =
 
 -- ---- states
 
--- another component might return early
-abbrev pub IsBesideEarly : List Shape → ℕ → Type 0
-IsBesideEarly shapes i =
-    (j : ℕ) × (j ≢ i) ×
-    IsSomeAnd (slice_get shapes j) (λ (s : Shape). s.might_return_early ≡ true)
-
--- the component can't save its state, though another might return early
+-- the component can't save its state, though two or more might return early
 abbrev pub IsUnsaved : List Shape → ℕ → Type 0
 IsUnsaved shapes i =
     IsSomeAnd (slice_get shapes i) (λ (s : Shape). s.can_save_state ≡ false) ×
-    IsBesideEarly shapes i
+    (1 < early_count shapes)
 
 -- the element is such a component
 abbrev pub HasNoSavedState : SystemTree → List Shape → ℕ → Type 0
@@ -183,25 +178,25 @@ Breaks t shapes f.TooWide node = EndsPath IsTooWide t shapes node
 Breaks t shapes f.FedClock node = EndsPath (IsTimeBased shapes) t shapes node
 
 -- the element breaks the rule; other rules aren't tested here
-abbrev pub Violates : SystemTree → List Shape → Rule → ℕ → Type 0
-Violates t shapes (Document rule) node = ⊥
-Violates t shapes (Description rule) node = ⊥
-Violates t shapes (System rule) node = ⊥
-Violates t shapes (Flattening rule) node = Breaks t shapes rule node
-Violates t shapes Loop node = ⊥
--- 47: a component whose state can't be saved, beside one that might return early
-Violates t shapes SavesNoState node = HasNoSavedState t shapes node
+abbrev pub ViolatesFlattening : SystemTree → List Shape → Rule → ℕ → Type 0
+ViolatesFlattening t shapes (Document rule) node = ⊥
+ViolatesFlattening t shapes (Description rule) node = ⊥
+ViolatesFlattening t shapes (System rule) node = ⊥
+ViolatesFlattening t shapes (Flattening rule) node = Breaks t shapes rule node
+ViolatesFlattening t shapes Loop node = ⊥
+-- 47: a component whose state can't be saved, where two or more might return early
+ViolatesFlattening t shapes SavesNoState node = HasNoSavedState t shapes node
 -- 49: a component with which the ports are more than a system may have
-Violates t shapes TooManyPorts node = HasTooManyPorts t shapes node
-Violates t shapes (Parameters rule) node = ⊥
+ViolatesFlattening t shapes TooManyPorts node = HasTooManyPorts t shapes node
+ViolatesFlattening t shapes (Parameters rule) node = ⊥
 
 -- the first violation: at the first element in document order that breaks a rule, the one of the least number
-abbrev pub IsFirstViolation : SystemTree → List Shape → ℕ → Rule → Type 0
-IsFirstViolation t shapes node rule = all.IsFirstViolation number (Violates t shapes) node rule
+abbrev pub IsFirstFlatteningViolation : SystemTree → List Shape → ℕ → Rule → Type 0
+IsFirstFlatteningViolation t shapes node rule = all.IsFirstViolation number (ViolatesFlattening t shapes) node rule
 
 -- no element breaks a rule
 abbrev pub IsFitting : SystemTree → List Shape → Type 0
-IsFitting t shapes = all.IsSound (Violates t shapes)
+IsFitting t shapes = all.HasNoViolation (ViolatesFlattening t shapes)
 
 -- the first element of these, where there is one
 abbrev pub FindsLeast : (ℕ → Type 0) → Option ℕ → Type 0

@@ -1,7 +1,7 @@
 //! A tree of systems with the variables of its components, and what its connectors stand for.
 ghost use Rattle.std.specs.Prelude.{◌≡◌, ◌↔◌, ◌<◌, ◌^◌, List, IfOk, IsTrue, length, map, option_copied};
 ghost use Rattle.value_types.specs.declared.shape.Shape.{Shape};
-ghost use Rattle.flatten.specs.Given.{AreShapesOf, IsWhole};
+ghost use Rattle.flatten.specs.Given.{AreShapesOf, IsWholeTree};
 ghost use Rattle.flatten.specs.Indexed.{AreNumbered, AreVariables, IsIndexed, IsPlaceIn, ends_of, number_for, place_by};
 ghost use Rattle.flatten.specs.Points.{IsOfSystem, Itself, variable_of};
 
@@ -77,7 +77,7 @@ fn points<'a>(
     shapes: &'a [Shape],
     variables: &Variables<'a>,
 ) -> Result<Vec<Point>, AllocError>
-    requires whole { IsWhole tree.now }
+    requires whole { IsWholeTree tree.now }
     requires shapes { AreShapesOf tree.now shapes.now }
     requires variables { AreVariables shapes.now variables.now }
     ensures { IfOk result (λ points. AreNumbered tree.now shapes.now points.items) }
@@ -113,7 +113,7 @@ impl<'a> FlatTree<'a> {
         tree: &'a SystemTree,
         shapes: &'a [Shape],
     ) -> Result<FlatTree<'a>, AllocError>
-        requires whole { IsWhole tree.now }
+        requires whole { IsWholeTree tree.now }
         requires shapes { AreShapesOf tree.now shapes.now }
         ensures indexed { IfOk result IsIndexed }
         ensures tree { IfOk result (λ f. f.tree.now ≡ tree.now) }

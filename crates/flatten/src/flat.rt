@@ -9,9 +9,9 @@ ghost use Rattle.system_model.specs.Sound.{IsSound};
 ghost use Rattle.system_model.specs.declared.system.System.{System};
 ghost use Rattle.flatten.specs.Answers.{Faults, GivesParts, IsAnswer, TellsLoop, root_node};
 ghost use Rattle.flatten.specs.Flat.{Flattens, IsFlat};
-ghost use Rattle.flatten.specs.Given.{AreShapesOf, IsWhole};
+ghost use Rattle.flatten.specs.Given.{AreShapesOf, IsWholeTree};
 ghost use Rattle.flatten.specs.Indexed.{IsIndexed};
-ghost use Rattle.flatten.specs.Rules.{IsFirstViolation, IsFitting};
+ghost use Rattle.flatten.specs.Rules.{IsFirstFlatteningViolation, IsFitting};
 
 use crate::components::components;
 use crate::connectors::FlatTree;
@@ -46,7 +46,7 @@ fn make_parts(alloc: Global, flat: &FlatTree) -> Result<Parts, AllocError>
 
 // The loop is told at the outermost System.
 fn loop_refusal(tree: &SystemTree, ports: Items<PortId>) -> Refusal
-    requires whole { IsWhole tree.now }
+    requires whole { IsWholeTree tree.now }
     ensures { (shapes : List Shape) → TellsLoop tree.now shapes (root_node tree.now) ports →
         Faults tree.now shapes result }
 {
@@ -59,7 +59,7 @@ fn loop_refusal(tree: &SystemTree, ports: Items<PortId>) -> Refusal
 }
 
 fn order_parts(alloc: Global, tree: &SystemTree, parts: Parts) -> Result<System, Refusal>
-    requires whole { IsWhole tree.now }
+    requires whole { IsWholeTree tree.now }
     requires placed { ArePlaced parts.components parts.ports }
     ensures parts { IfOk result (λ system. (system.components ≡ parts.components) ×
         (system.ports ≡ parts.ports)) }
@@ -111,13 +111,13 @@ fn answer(alloc: Global, flat: &FlatTree) -> Result<System, Refusal>
 /// a rule, and the rule of the least number that it breaks; or a loop of ports that need each other, told at the outermost
 /// System (SSP 1.0, 5.3). Time is n log n in the connectors, connections and what the shapes list.
 pub fn flatten(alloc: Global, tree: &SystemTree, shapes: &[Shape]) -> Result<System, Refusal>
-    requires whole { IsWhole tree.now }
+    requires whole { IsWholeTree tree.now }
     requires shapes { AreShapesOf tree.now shapes.now }
     ensures fitting { IfOk result (λ system. IsFitting tree.now shapes.now) }
     ensures found { IfOk result (Flattens tree.now shapes.now) }
     ensures sound { IfOk result IsSound }
     ensures fault { IfErr result (Faults tree.now shapes.now) }
-    ensures exact { (rule : Rule) (node : ℕ) → IsFirstViolation tree.now shapes.now node rule →
+    ensures exact { (rule : Rule) (node : ℕ) → IsFirstFlatteningViolation tree.now shapes.now node rule →
         Refuses result rule node }
     ensures only { (system : System) → IsFitting tree.now shapes.now →
         Flattens tree.now shapes.now system → GivesParts result system }

@@ -1,5 +1,5 @@
 //! The first element that breaks a rule of connectors, connections, saved states and ports.
-ghost use Rattle.std.specs.Prelude.{◌≡◌, ◌≢◌, ◌↔◌, ℕ, ◌+◌, ◌<◌, Contains, IfOk, IsSomeAnd, IsTrue, MatchOption, Some, count_by, false, if◌then◌else◌, length, option_copied, slice_get};
+ghost use Rattle.std.specs.Prelude.{◌≡◌, ◌≢◌, ◌↔◌, ℕ, ◌+◌, ◌<◌, Contains, IfOk, IsSomeAnd, IsTrue, MatchOption, Some, false, length, option_copied, slice_get};
 ghost use Rattle.connection_paths.specs.declared.point.Point.{Point};
 ghost use Rattle.ssd_tree.specs.declared.tree.Connection as sides;
 ghost use Rattle.value_types.specs.Joint as types;
@@ -9,11 +9,12 @@ ghost use Rattle.value_types.specs.declared.shape.ClockTiming.{ClockTiming};
 ghost use Rattle.value_types.specs.declared.shape.IntervalVariability.TheVariants.{Triggered};
 ghost use Rattle.value_types.specs.declared.shape.Shape.{Shape};
 ghost use Rattle.value_types.specs.declared.values.PortType.{PortType};
+ghost use Rattle.system_model.specs.EarlyReturn.{early_count};
 ghost use Rattle.flatten.specs.Broken.{ConnectorBreaks, IsBrokenConnection, IsBrokenConnector, IsReachedAt, IsReachedBy, TellsOther, TellsTooWide, earlier_violation, input_of, number_of, path_fault};
 ghost use Rattle.flatten.specs.Indexed.{IsIndexed, ends_of};
 ghost use Rattle.flatten.specs.Marks.{HasMarks};
 ghost use Rattle.flatten.specs.Points.{variable_of};
-ghost use Rattle.flatten.specs.Rules.{Breaks, earlier, FindsLeast, GivesOther, HasNoSavedState, HasOtherCausality, HasOtherType, HasTooManyPorts, IsBesideEarly, IsFirstViolation, IsFitting, IsForOther, IsLastOf, IsOtherClass, IsTimeBased, IsTooWide, IsUnsaved, RepeatsEnd, Violates, ports_in};
+ghost use Rattle.flatten.specs.Rules.{Breaks, earlier, FindsLeast, GivesOther, HasNoSavedState, HasOtherCausality, HasOtherType, HasTooManyPorts, IsFirstFlatteningViolation, IsFitting, IsForOther, IsLastOf, IsOtherClass, IsTimeBased, IsTooWide, IsUnsaved, RepeatsEnd, ViolatesFlattening, ports_in};
 
 use crate::connectors::FlatTree;
 use crate::marks::{ClassMarks, Marks, TypeMarks, child_class, class_at};
@@ -145,7 +146,7 @@ fn might_return_early(shape: &Shape) -> bool
 
 // How many components might return early.
 fn early_count(shapes: &[Shape]) -> usize
-    ensures { result ≡ count_by (λ (s : Shape). s.might_return_early) shapes.now }
+    ensures { result ≡ early_count shapes.now }
 {
     shapes
         .iter()
@@ -153,28 +154,13 @@ fn early_count(shapes: &[Shape]) -> usize
         .count()
 }
 
-fn own_count(shape: &Shape) -> usize
-    ensures { result ≡ (if shape.now.might_return_early then 1 else 0) }
-{
-    if might_return_early(shape) { 1 } else { 0 }
-}
-
-// Whether another component might return early, of `early` that might.
-fn is_beside_early(shapes: &[Shape], early: usize, component: usize) -> bool
-    requires early { early ≡ count_by (λ (s : Shape). s.might_return_early) shapes.now }
-    requires component { component < length shapes.now }
-    ensures { IsTrue result ↔ IsBesideEarly shapes.now component }
-{
-    own_count(&shapes[component]) < early
-}
-
-// Whether the component can't save its state, though another might return early, of `early` that might.
+// Whether the component can't save its state, though two or more might return early, of `early` that might.
 fn is_unsaved(shapes: &[Shape], early: usize, component: usize) -> bool
-    requires early { early ≡ count_by (λ (s : Shape). s.might_return_early) shapes.now }
+    requires early { early ≡ early_count shapes.now }
     requires component { component < length shapes.now }
     ensures { IsTrue result ↔ IsUnsaved shapes.now component }
 {
-    !shapes[component].can_save_state && is_beside_early(shapes, early, component)
+    early > 1 && !shapes[component].can_save_state
 }
 
 impl<'a> FlatTree<'a> {
@@ -396,7 +382,7 @@ impl<'a> FlatTree<'a> {
         Ok(first)
     }
 
-    // The first component that can't save its state, though another might return early.
+    // The first component that can't save its state, though two or more might return early.
     fn first_unsaved(&self) -> Option<usize>
         requires indexed { IsIndexed self.now }
         ensures { FindsLeast (HasNoSavedState self.now.tree.now self.now.shapes.now) result }
@@ -456,7 +442,7 @@ impl<'a> FlatTree<'a> {
     ) -> Result<Option<usize>, AllocError>
         requires indexed { IsIndexed self.now }
         requires marks { HasMarks self.now.tree.now self.now.shapes.now marks.now }
-        ensures { IfOk result (FindsLeast (Violates self.now.tree.now self.now.shapes.now rule)) }
+        ensures { IfOk result (FindsLeast (ViolatesFlattening self.now.tree.now self.now.shapes.now rule)) }
     {
         match rule {
             Rule::Flattening(rule) => self.first_broken(alloc, marks, rule),
@@ -471,7 +457,7 @@ impl<'a> FlatTree<'a> {
         requires { IsIndexed self.now }
         ensures { IfOk result (λ found. MatchOption found
             (IsFitting self.now.tree.now self.now.shapes.now)
-            (λ violation. IsFirstViolation self.now.tree.now self.now.shapes.now violation.0 violation.1)) }
+            (λ violation. IsFirstFlatteningViolation self.now.tree.now self.now.shapes.now violation.0 violation.1)) }
     {
         let marks = self.marks(alloc)?;
         let mut first = None;

@@ -9,7 +9,7 @@ use Rattle.doc_grammar.specs.Nodes.{Node}
 use Rattle.doc_tree.specs.declared.rule.DescriptionRule.TheVariants as r
 use Rattle.doc_tables.specs.Elements.{key_if}
 use Rattle.fmu_description.specs.Elements.{is_variable, reference_of, variable_key}
-use Rattle.fmu_description.specs.Rules.{IsSound}
+use Rattle.fmu_description.specs.Rules.{IsSoundDescription}
 use Rattle.fmu_description.specs.Description.{IsVariable, variables_in}
 
 abbrev reference_in : Variable → ℕ
@@ -44,7 +44,7 @@ places t i (suc n) xs h = at (λ ys k. places t (i + 1) n ys k) (is_variable t i
     at rest true is (x ∷ xs) h = (record { place = i; behind = omega arith; key = key_of t i x is h.0.reference }, raise_all t i xs (rest xs h.1))
     at rest false is xs h = raise_all t i xs (rest xs h)
 
-module _ (t : List Node) (per_second : ℕ) (sound : IsSound t per_second) where
+module _ (t : List Node) (per_second : ℕ) (sound : IsSoundDescription t per_second) where
   apart : (i : ℕ) (x y : Variable) → variable_key t i ≡ Some x.reference → IsBehind t (i + 1) y → nat_eq x.reference y.reference ≡ false
   apart i x y key b = tested (nat_eq x.reference y.reference) refl
     where

@@ -18,7 +18,7 @@ use Rattle.fmu_description.specs.Texts.{counter}
 use Rattle.doc_tables.specs.Elements.{attribute}
 use Rattle.fmu_description.specs.Elements.{output_key, initial_key}
 use Rattle.fmu_description.specs.Clocks.{counter_of, is_by_counters, IsInterval, ByCounters, ByDecimal, IsShift, Counters, NoCounter, Decimal, NoDecimal}
-use Rattle.fmu_description.specs.Rules.{IsSound}
+use Rattle.fmu_description.specs.Rules.{IsSoundDescription}
 use Rattle.fmu_description.specs.Description.{IsSoundTree, IsStart, IsKind, IsVariable, IsTold, IsShiftTold, IsTiming, IsTimingOf, DependsOn, DependsInitiallyOn, IsDependency, IsInitialDependency, SaysOf, Describes, clocks_among, listed, outputs_among, variables_in}
 use Rattle.fmu_description.proofs.SoundLemmas.{one_first, one_co_simulation, one_variable}
 
@@ -191,7 +191,7 @@ zip_same R one (k ∷ ks) (x ∷ xs) [] p q = absurd q
 zip_same {A} {B} R one (k ∷ ks) (x ∷ xs) (y ∷ ys) p q =
     ap (λ (z : B). z ∷ xs) (one k x y p.0 q.0) ∙ ap (λ (zs : List B). y ∷ zs) (zip_same R one ks xs ys p.1 q.1)
 
-pub one_shape : (t : List Node) (per_second : ℕ) → OneDecimal → IsSound t per_second → (a b : Shape) → Describes t per_second a → Describes t per_second b → a ≡ b
+pub one_shape : (t : List Node) (per_second : ℕ) → OneDecimal → IsSoundDescription t per_second → (a b : Shape) → Describes t per_second a → Describes t per_second b → a ≡ b
 one_shape t per_second one sound a b p q =
     let says : SaysOf t p.element b = subst (λ (k : ℕ). SaysOf t k b) (one_co_simulation t q.element p.element q.is p.is) q.says in
     let identifier : a.identifier ≡ b.identifier = p.says.identifier ∙ sym says.identifier in

@@ -8,7 +8,7 @@ use Rattle.doc_tables.specs.Tables.{IsRepeated}
 use Rattle.fmu_description.specs.Elements.{is_co_simulation, is_variable, is_clock, is_alias, is_output, is_initial_unknown, variable_key, name_key, IsUnknown}
 use Rattle.doc_tree.specs.declared.rule.DescriptionRule.{DescriptionRule}
 use Rattle.doc_tree.specs.declared.rule.DescriptionRule.TheVariants as r
-use Rattle.fmu_description.specs.Rules.{Violates, LacksSomething, MisreadsSomething}
+use Rattle.fmu_description.specs.Rules.{ViolatesDescription, LacksSomething, MisreadsSomething}
 
 module _ (t : List Node) (k : ℕ) (past : slice_get t k ≡ None) where
   co_simulation_past : is_co_simulation t k ≡ true → ⊥
@@ -56,7 +56,7 @@ module _ (t : List Node) (k : ℕ) (past : slice_get t k ≡ None) where
   misreads_past (inr (inr (inl a))) = clock_past a.0
   misreads_past (inr (inr (inr a))) = unknown_past a.0
 
-  pub breaks_none : (per_second : ℕ) → (k ≡ 0 → ⊥) → (rule : DescriptionRule) → Violates t per_second rule k → ⊥
+  pub breaks_none : (per_second : ℕ) → (k ≡ 0 → ⊥) → (rule : DescriptionRule) → ViolatesDescription t per_second rule k → ⊥
   breaks_none n inside r.RootName h = inside h.0
   breaks_none n inside r.Version h = inside h.0
   breaks_none n inside r.NoCoSimulation h = inside h.0

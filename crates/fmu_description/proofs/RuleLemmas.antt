@@ -13,7 +13,7 @@ use Rattle.doc_tables.specs.Answers.{IsRefusal, Refuses}
 use Rattle.doc_tables.proofs.CallerLemmas as tables
 use Rattle.doc_tables.proofs.CallerLemmas.{IsListed}
 use Rattle.fmu_description.specs.Answers.{Faults}
-use Rattle.fmu_description.specs.Rules.{Violates, BreaksNoRule, IsLeast, IsFirstViolation, IsSound}
+use Rattle.fmu_description.specs.Rules.{ViolatesDescription, BreaksNoRule, IsLeast, IsFirstDescriptionViolation, IsSoundDescription}
 use Rattle.fmu_description.proofs.PastLemmas.{breaks_none}
 
 -- the rules stand in the order of their numbers, from 10 on
@@ -83,32 +83,32 @@ rules_listed = record {
 module _ (t : List Node) (n k : ℕ) where
   -- none of the first i rules is broken
   abbrev pub KeepsBelow : ℕ → Type 0
-  KeepsBelow i = tables.KeepsBelow description_number (Violates t n) DESCRIPTION_RULES r.RootName k i
+  KeepsBelow i = tables.KeepsBelow description_number (ViolatesDescription t n) DESCRIPTION_RULES r.RootName k i
 
   pub keeps_all : KeepsBelow 15 → BreaksNoRule t n k
-  keeps_all keeps = tables.keeps_all description_number (Violates t n) DESCRIPTION_RULES r.RootName k rules_listed keeps
+  keeps_all keeps = tables.keeps_all description_number (ViolatesDescription t n) DESCRIPTION_RULES r.RootName k rules_listed keeps
 
-  pub least_at : (i : ℕ) → i < 15 → KeepsBelow i → (rule : DescriptionRule) → rule ≡ get_or DESCRIPTION_RULES i r.RootName → Violates t n rule k → IsLeast t n k rule
-  least_at i h keeps rule is broken = tables.least_at description_number (Violates t n) DESCRIPTION_RULES r.RootName k rules_listed i h keeps rule is broken
+  pub least_at : (i : ℕ) → i < 15 → KeepsBelow i → (rule : DescriptionRule) → rule ≡ get_or DESCRIPTION_RULES i r.RootName → ViolatesDescription t n rule k → IsLeast t n k rule
+  least_at i h keeps rule is broken = tables.least_at description_number (ViolatesDescription t n) DESCRIPTION_RULES r.RootName k rules_listed i h keeps rule is broken
 
 -- what a refusal says of the first violation
-pub faults : (t : List Node) (n : ℕ) (e : Refusal) (a : DescriptionRule) (j : ℕ) → IsRefusal e (Description a) j → IsFirstViolation t n j a → Faults t n e
-faults t n e a j is first = tables.faults (λ (rule : DescriptionRule). Description rule) (IsFirstViolation t n) e a j is first
+pub faults : (t : List Node) (n : ℕ) (e : Refusal) (a : DescriptionRule) (j : ℕ) → IsRefusal e (Description a) j → IsFirstDescriptionViolation t n j a → Faults t n e
+faults t n e a j is first = tables.faults (λ (rule : DescriptionRule). Description rule) (IsFirstDescriptionViolation t n) e a j is first
 
-pub exact_at : (t : List Node) (n : ℕ) (e : Refusal) (a : DescriptionRule) (j : ℕ) → IsRefusal e (Description a) j → IsFirstViolation t n j a
-    → (rule : DescriptionRule) (node : ℕ) → IsFirstViolation t n node rule → Refuses {A = Shape} (Err e) (Description rule) node
+pub exact_at : (t : List Node) (n : ℕ) (e : Refusal) (a : DescriptionRule) (j : ℕ) → IsRefusal e (Description a) j → IsFirstDescriptionViolation t n j a
+    → (rule : DescriptionRule) (node : ℕ) → IsFirstDescriptionViolation t n node rule → Refuses {A = Shape} (Err e) (Description rule) node
 exact_at t n e a j is first rule node other =
-    tables.refuses_first Shape (λ (rule : DescriptionRule). Description rule) description_number (Violates t n) same_number e a j is first rule node other
+    tables.refuses_first Shape (λ (rule : DescriptionRule). Description rule) description_number (ViolatesDescription t n) same_number e a j is first rule node other
 
-pub none_described : (t : List Node) (n : ℕ) (a : DescriptionRule) (j : ℕ) → IsFirstViolation t n j a → IsSound t n → ⊥
+pub none_described : (t : List Node) (n : ℕ) (a : DescriptionRule) (j : ℕ) → IsFirstDescriptionViolation t n j a → IsSoundDescription t n → ⊥
 none_described t n a j first sound = sound a j first.is.broken
 
-pub none_violated : (t : List Node) (n : ℕ) → IsSound t n → (rule : DescriptionRule) (node : ℕ) → IsFirstViolation t n node rule → ⊥
+pub none_violated : (t : List Node) (n : ℕ) → IsSoundDescription t n → (rule : DescriptionRule) (node : ℕ) → IsFirstDescriptionViolation t n node rule → ⊥
 none_violated t n sound rule node first = sound rule node first.is.broken
 
 -- where the elements keep all rules, and at least the root was tested, the tree is sound
-pub all_sound : (t : List Node) (n end : ℕ) → length t ≤ end → 0 < end → ((k : ℕ) → k < end → BreaksNoRule t n k) → IsSound t n
-all_sound t n end within some below = tables.all_sound description_number (Violates t n) end past below
+pub all_sound : (t : List Node) (n end : ℕ) → length t ≤ end → 0 < end → ((k : ℕ) → k < end → BreaksNoRule t n k) → IsSoundDescription t n
+all_sound t n end within some below = tables.all_sound description_number (ViolatesDescription t n) end past below
   where
     past : (k : ℕ) → end ≤ k → BreaksNoRule t n k
     past k behind rule h = breaks_none t k (slice_get_past t k (omega arith)) n (λ e. omega arith) rule h

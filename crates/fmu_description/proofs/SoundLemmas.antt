@@ -15,7 +15,7 @@ use Rattle.doc_tables.specs.Tables.{IsFirstWith}
 use Rattle.fmu_description.specs.Elements.{is_variable, is_clock, is_co_simulation, reference_of, variable_key, IsCoSimulation}
 use Rattle.fmu_description.specs.Clocks.{IsForeign, OfItself, IsTimed, variability_of, IsInterval, ByCounters, ByDecimal, IsShift, Counters, NoCounter, Decimal, NoDecimal}
 use Rattle.fmu_description.specs.Places.{FindsCoSimulation}
-use Rattle.fmu_description.specs.Rules.{IsSound}
+use Rattle.fmu_description.specs.Rules.{IsSoundDescription}
 use Rattle.value_types.specs.Shape.{is_clock_type}
 use Rattle.fmu_description.specs.Description.{IsSoundTree, ReadsStart, IsKind, IsVariable, IsTimedAt, variables_in}
 use Rattle.fmu_description.proofs.StepLemmas.{source}
@@ -32,7 +32,7 @@ one_first key x j k p q = one_least (λ i. key i ≡ Some x) j k p.0 p.1 q.0 q.1
 pub one_co_simulation : (t : List Node) (j k : ℕ) → IsCoSimulation t j → IsCoSimulation t k → j ≡ k
 one_co_simulation t j k p q = one_least (λ i. is_co_simulation t i ≡ true) j k p.0 p.1 q.0 q.1
 
-pub has_co_simulation : (t : List Node) (per_second : ℕ) → IsSound t per_second → (place : Option ℕ) → FindsCoSimulation t place → IsSome place
+pub has_co_simulation : (t : List Node) (per_second : ℕ) → IsSoundDescription t per_second → (place : Option ℕ) → FindsCoSimulation t place → IsSome place
 has_co_simulation t per_second sound None none = absurd (sound r.NoCoSimulation 0 (refl, none))
 has_co_simulation t per_second sound (Some k) is = refl
 

@@ -5,10 +5,10 @@ use Rattle.doc_tree.specs.declared.refusal.Refusal.{Refusal}
 use Rattle.doc_tree.specs.declared.rule.DescriptionRule.{DescriptionRule}
 use Rattle.doc_tree.specs.declared.rule.Rule.TheVariants.{Description}
 use Rattle.doc_tables.specs.Answers as tables
-use Rattle.fmu_description.specs.Rules.{IsFirstViolation}
+use Rattle.fmu_description.specs.Rules.{IsFirstDescriptionViolation}
 
 -- the refusal is the first violation, unless memory ran out
 abbrev pub Faults : List Node → ℕ → Refusal → Type 0
 Faults t per_second refusal =
     tables.Faults (λ (rule : DescriptionRule). Description rule)
-    (IsFirstViolation t per_second) refusal
+    (IsFirstDescriptionViolation t per_second) refusal

@@ -18,11 +18,11 @@ use Rattle.doc_tables.specs.Elements.{name_of, attribute, text_of}
 use Rattle.doc_tables.specs.Tables.{IsFirstWith, IsHeld}
 use Rattle.fmu_description.specs.Elements.{is_variable, is_alias, reference_of, causality_of, has_flag, variable_key, output_key, initial_key, IsCoSimulation}
 use Rattle.fmu_description.specs.Clocks.{IsForeign, IsTimed, variability_of, clocks_of, IsInterval, IsShift}
-use Rattle.fmu_description.specs.Rules.{IsSound}
+use Rattle.fmu_description.specs.Rules.{IsSoundDescription}
 
 -- the tree is sound at some resolution, of which only the rule on whole counts speaks
 abbrev pub IsSoundTree : List Node → Type 0
-IsSoundTree t = (per_second : ℕ) × IsSound t per_second
+IsSoundTree t = (per_second : ℕ) × IsSoundDescription t per_second
 
 -- ---- variables (2.4.7)
 

@@ -7,7 +7,7 @@ use Rattle.value_types.specs.declared.shape.Causality.TheVariants as c
 use Rattle.value_types.specs.declared.shape.IntervalVariability.{IntervalVariability}
 use Rattle.value_types.specs.declared.shape.IntervalVariability.TheVariants as v
 use Rattle.clock_fraction.specs.declared.fraction.Fraction.{Fraction}
-use Rattle.clock_fraction.specs.Counts.{IsCounts}
+use Rattle.clock_fraction.specs.Counts.{IsInCounts}
 use Rattle.clock_fraction.specs.Decimal.{Denotes}
 use Rattle.doc_grammar.specs.Nodes.{Node}
 use Rattle.doc_tree.specs.Rules.{description_number}
@@ -141,19 +141,15 @@ HasWrongCausality t k =
     (IsTimeBased t k × (causality_of t k ≢ c.Input))
     ⊎ (IsOf t k v.Triggered × (causality_of t k ≢ c.Input) × (causality_of t k ≢ c.Output))
 
--- a whole number of counts, of which a second has `per_second`
-abbrev pub IsWhole : ℕ → Fraction → Type 0
-IsWhole per_second f = (counts : ℕ) × IsCounts f per_second counts
-
 abbrev pub HasUnevenShift : List Node → ℕ → ℕ → Type 0
 HasUnevenShift t per_second k =
-    (shift : Fraction) × IsShift t k shift × (IsWhole per_second shift → ⊥)
+    (shift : Fraction) × IsShift t k shift × (IsInCounts per_second shift → ⊥)
 
 -- the interval that is described is 0, or it or its shift isn't whole
 abbrev pub IsUneven : List Node → ℕ → ℕ → Type 0
 IsUneven t per_second k =
     (f : Fraction) × IsInterval t k f ×
-    ((f.counter ≡ 0) ⊎ ((IsWhole per_second f → ⊥) ⊎ HasUnevenShift t per_second k))
+    ((f.counter ≡ 0) ⊎ ((IsInCounts per_second f → ⊥) ⊎ HasUnevenShift t per_second k))
 
 -- tunable or changing
 abbrev pub IsLeftOut : List Node → ℕ → Type 0
@@ -230,50 +226,50 @@ abbrev pub HasNoEvents : List Node → ℕ → Type 0
 HasNoEvents t k = IsTimed t k × HasNoEventMode t
 
 -- the element breaks the rule, where a second has so many counts
-abbrev pub Violates : List Node → ℕ → DescriptionRule → ℕ → Type 0
+abbrev pub ViolatesDescription : List Node → ℕ → DescriptionRule → ℕ → Type 0
 -- 10: the root is no `fmiModelDescription` (2.4.1)
-Violates t per_second r.RootName k = HasOtherName t k
+ViolatesDescription t per_second r.RootName k = HasOtherName t k
 -- 11: another version than 3.0 (2.4.1)
-Violates t per_second r.Version k = HasOtherVersion t k
+ViolatesDescription t per_second r.Version k = HasOtherVersion t k
 -- 12: no CoSimulation (4.4; Model Exchange and Scheduled Execution are left out)
-Violates t per_second r.NoCoSimulation k = LacksCoSimulation t k
+ViolatesDescription t per_second r.NoCoSimulation k = LacksCoSimulation t k
 -- 13: a required attribute is absent (2.4)
-Violates t per_second r.Absent k = LacksSomething t k
+ViolatesDescription t per_second r.Absent k = LacksSomething t k
 -- 14: an attribute doesn't read as its type (2.4)
-Violates t per_second r.Misread k = MisreadsSomething t k
+ViolatesDescription t per_second r.Misread k = MisreadsSomething t k
 -- 15: a value reference twice (2.4.7: value references are unique in this profile)
-Violates t per_second r.ReferenceTwice k = IsRepeated (variable_key t) k
+ViolatesDescription t per_second r.ReferenceTwice k = IsRepeated (variable_key t) k
 -- 16: a name twice, those of aliases included (2.4.7.4)
-Violates t per_second r.NameTwice k = IsRepeated (name_key t) k
+ViolatesDescription t per_second r.NameTwice k = IsRepeated (name_key t) k
 -- 17: a clock has no interval (2.4.7.5)
-Violates t per_second r.NoInterval k = LacksInterval t k
+ViolatesDescription t per_second r.NoInterval k = LacksInterval t k
 -- 18: a time-based clock is an input, a triggered one an input or an output (2.2.8)
-Violates t per_second r.ClockCausality k = IsTimed t k × HasWrongCausality t k
+ViolatesDescription t per_second r.ClockCausality k = IsTimed t k × HasWrongCausality t k
 -- 19: an interval is above 0, and it and its shift are whole counts (a narrowing of this profile)
-Violates t per_second r.Uneven k = IsTimed t k × IsUneven t per_second k
+ViolatesDescription t per_second r.Uneven k = IsTimed t k × IsUneven t per_second k
 -- 20: what `clocks` names is no Clock (2.4.7.4)
-Violates t per_second r.NoClock k = NamesNoClockAt t k
+ViolatesDescription t per_second r.NoClock k = NamesNoClockAt t k
 -- 21: what an Output or InitialUnknown names is no variable (2.4.9)
-Violates t per_second r.NoVariable k = NamesNoVariableAt t k
+ViolatesDescription t per_second r.NoVariable k = NamesNoVariableAt t k
 -- 22: a state is serialized only where it can be saved (2.2.6)
-Violates t per_second r.SerializesUnsaved k = SerializesUnsaved t k
+ViolatesDescription t per_second r.SerializesUnsaved k = SerializesUnsaved t k
 -- 23: tunable and changing clocks are left out of this profile
-Violates t per_second r.LeftOut k = IsTimed t k × IsLeftOut t k
+ViolatesDescription t per_second r.LeftOut k = IsTimed t k × IsLeftOut t k
 -- 24: a Clock asks for event mode (2.2.8)
-Violates t per_second r.ClockWithoutEvents k = HasNoEvents t k
+ViolatesDescription t per_second r.ClockWithoutEvents k = HasNoEvents t k
 
 abbrev pub BreaksNoRule : List Node → ℕ → ℕ → Type 0
-BreaksNoRule t per_second k = first.BreaksNoRule (Violates t per_second) k
+BreaksNoRule t per_second k = first.BreaksNoRule (ViolatesDescription t per_second) k
 
 -- the least number of a rule that the element breaks
 abbrev pub IsLeast : List Node → ℕ → ℕ → DescriptionRule → Type 0
-IsLeast t per_second k rule = first.IsLeast description_number (Violates t per_second) k rule
+IsLeast t per_second k rule = first.IsLeast description_number (ViolatesDescription t per_second) k rule
 
 -- the first violation: at the first element that breaks a rule, the one of the least number
-abbrev pub IsFirstViolation : List Node → ℕ → ℕ → DescriptionRule → Type 0
-IsFirstViolation t per_second k rule =
-    first.IsFirstViolation description_number (Violates t per_second) k rule
+abbrev pub IsFirstDescriptionViolation : List Node → ℕ → ℕ → DescriptionRule → Type 0
+IsFirstDescriptionViolation t per_second k rule =
+    first.IsFirstViolation description_number (ViolatesDescription t per_second) k rule
 
 -- no element breaks a rule
-abbrev pub IsSound : List Node → ℕ → Type 0
-IsSound t per_second = first.IsSound (Violates t per_second)
+abbrev pub IsSoundDescription : List Node → ℕ → Type 0
+IsSoundDescription t per_second = first.HasNoViolation (ViolatesDescription t per_second)

@@ -2,7 +2,8 @@
 ghost use Rattle.std.specs.Prelude.{◌≡◌, ◌↔◌, IsTrue};
 ghost use Rattle.value_types.specs.declared.shape.IntervalVariability.{IntervalVariability};
 ghost use Rattle.fmu_description.specs.Clocks.{IsTimed};
-ghost use Rattle.fmu_description.specs.Rules.{IsOf, NeedsInterval, HasInterval, IsTimeBased, HasWrongCausality, IsLeftOut, IsWhole, IsUneven, HasUnevenShift, LacksInterval};
+ghost use Rattle.fmu_description.specs.Rules.{IsOf, NeedsInterval, HasInterval, IsTimeBased, HasWrongCausality, IsLeftOut, IsUneven, HasUnevenShift, LacksInterval};
+ghost use Rattle.clock_fraction.specs.Counts.{IsInCounts};
 
 use crate::elements::{causality_of, has_flag, is_clock, variability_of};
 use crate::intervals::{interval, is_by_counters, shift};
@@ -72,7 +73,7 @@ pub(crate) fn breaks_causality(tree: &Tree, node: usize) -> bool
 }
 
 fn is_whole(fraction: Fraction, resolution: u64) -> bool
-    ensures { IsTrue result ↔ IsWhole resolution fraction }
+    ensures { IsTrue result ↔ IsInCounts resolution fraction }
 {
     to_counts(fraction, resolution).is_some()
 }

@@ -5,7 +5,7 @@ ghost use Rattle.doc_tables.specs.Answers.{Gives, Refuses};
 ghost use Rattle.fmu_description.specs.Answers.{Faults};
 ghost use Rattle.fmu_description.specs.Description.{Describes};
 ghost use Rattle.fmu_description.specs.Indexed.{IsIndexed};
-ghost use Rattle.fmu_description.specs.Rules.{IsFirstViolation, IsSound};
+ghost use Rattle.fmu_description.specs.Rules.{IsFirstDescriptionViolation, IsSoundDescription};
 ghost use Rattle.doc_tree.specs.declared.rule.DescriptionRule.{DescriptionRule};
 
 use crate::indexed::IndexedTree;
@@ -18,7 +18,7 @@ use value_types::Shape;
 
 fn describe_indexed(alloc: Global, indexed: &IndexedTree) -> Result<Shape, AllocError>
     requires indexed { IsIndexed indexed.now }
-    requires sound { IsSound indexed.now.tree.now indexed.now.resolution }
+    requires sound { IsSoundDescription indexed.now.tree.now indexed.now.resolution }
     ensures { IfOk result (Describes indexed.now.tree.now indexed.now.resolution) }
 {
     describe(
@@ -36,13 +36,13 @@ fn describe_indexed(alloc: Global, indexed: &IndexedTree) -> Result<Shape, Alloc
 /// that breaks a rule, and the rule of the least number that it breaks (FMI 3.0, 2.4).
 #[tactic(auto, using(crate::proofs::RuleLemmas::faults, crate::proofs::RuleLemmas::exact_at, crate::proofs::RuleLemmas::none_described, crate::proofs::RuleLemmas::none_violated))]
 pub fn read_description(alloc: Global, tree: &Tree, resolution: u64) -> Result<Shape, Refusal>
-    ensures sound { IfOk result (λ shape. IsSound tree.now resolution) }
+    ensures sound { IfOk result (λ shape. IsSoundDescription tree.now resolution) }
     ensures found { IfOk result (Describes tree.now resolution) }
     ensures fault { IfErr result (Faults tree.now resolution) }
     ensures exact { (rule : DescriptionRule) (node : ℕ) →
-        IsFirstViolation tree.now resolution node rule →
+        IsFirstDescriptionViolation tree.now resolution node rule →
         Refuses result (Rule.Description rule) node }
-    ensures only { (shape : Shape) → IsSound tree.now resolution →
+    ensures only { (shape : Shape) → IsSoundDescription tree.now resolution →
         Describes tree.now resolution shape → Gives result shape }
 {
     one_description();

@@ -2,7 +2,7 @@
 ghost use Rattle.std.specs.Prelude.{◌≡◌, ◌↔◌, ◌<◌, ℕ, IsTrue, IfOk, MatchOption, codes, false};
 ghost use Rattle.fmu_description.specs.Elements.{IsCoSimulation};
 ghost use Rattle.fmu_description.specs.Indexed.{IsIndexed};
-ghost use Rattle.fmu_description.specs.Rules.{BreaksNoRule, HasNoEvents, HasOtherName, HasOtherVersion, IsFirstViolation, IsLeast, IsSound, IsVersion, LacksCoSimulation, LacksOfCoSimulation, LacksOfUnknown, LacksSomething, MisreadsOfCoSimulation, MisreadsOfUnknown, MisreadsOfVariable, MisreadsSetting, MisreadsSomething, NamesNoClockAt, NamesNoVariableAt, NamesOtherVersion, SerializesUnsaved, Violates};
+ghost use Rattle.fmu_description.specs.Rules.{BreaksNoRule, HasNoEvents, HasOtherName, HasOtherVersion, IsFirstDescriptionViolation, IsLeast, IsSoundDescription, IsVersion, LacksCoSimulation, LacksOfCoSimulation, LacksOfUnknown, LacksSomething, MisreadsOfCoSimulation, MisreadsOfUnknown, MisreadsOfVariable, MisreadsSetting, MisreadsSomething, NamesNoClockAt, NamesNoVariableAt, NamesOtherVersion, SerializesUnsaved, ViolatesDescription};
 ghost use Rattle.doc_tree.specs.declared.rule.DescriptionRule.{DescriptionRule};
 
 use crate::absent::{lacks_of_alias, lacks_of_root, lacks_of_variable};
@@ -172,7 +172,7 @@ impl IndexedTree<'_> {
     /// Whether an element breaks a rule.
     fn breaks(&self, alloc: Global, rule: DescriptionRule, node: usize) -> Result<bool, AllocError>
         requires { IsIndexed self.now }
-        ensures { IfOk result (λ b. IsTrue b ↔ Violates self.now.tree.now self.now.resolution rule
+        ensures { IfOk result (λ b. IsTrue b ↔ ViolatesDescription self.now.tree.now self.now.resolution rule
             node) }
     {
         match rule {
@@ -217,8 +217,8 @@ impl IndexedTree<'_> {
     ) -> Result<Option<(usize, DescriptionRule)>, AllocError>
         requires { IsIndexed self.now }
         ensures { IfOk result (λ found. MatchOption found
-            (IsSound self.now.tree.now self.now.resolution)
-            (λ violation. IsFirstViolation self.now.tree.now self.now.resolution violation.0 violation.1)) }
+            (IsSoundDescription self.now.tree.now self.now.resolution)
+            (λ violation. IsFirstDescriptionViolation self.now.tree.now self.now.resolution violation.0 violation.1)) }
     {
         // Where there is no element, the root is missing.
         for node in 0..self.tree.len().max(1) {

@@ -4,7 +4,7 @@ ghost use Rattle.fmu_description.specs.Description.{Describes};
 ghost use Rattle.fmu_description.specs.Elements.{initial_key, output_key, variable_key};
 ghost use Rattle.doc_tables.specs.Tables.{IsTable};
 ghost use Rattle.fmu_description.specs.Places.{MarksForeign, found, is_foreign};
-ghost use Rattle.fmu_description.specs.Rules.{IsSound};
+ghost use Rattle.fmu_description.specs.Rules.{IsSoundDescription};
 
 use crate::dependencies::{dependencies, initial_dependencies};
 use crate::elements::has_flag;
@@ -28,7 +28,7 @@ pub(crate) fn describe(
     outputs: &Places,
     resolution: u64,
 ) -> Result<Shape, AllocError>
-    requires sound { IsSound tree.now resolution }
+    requires sound { IsSoundDescription tree.now resolution }
     requires foreign { MarksForeign tree.now (is_foreign foreign.now) }
     requires places { IsTable (variable_key tree.now) (found places.now) }
     requires unknowns { IsTable (initial_key tree.now) (found unknowns.now) }

@@ -1,8 +1,8 @@
 -- An FMU as a function of its saved state and inputs (FMI 3.0, 2.2.6: FMU state; 2.4.9: dependencies of outputs; 4.2.1: the state machine of Co-Simulation).
-use Rattle.std.specs.Prelude.{◌≡◌, ℕ, ℤ, Bool, true, false, ◌&&◌, ◌==◌, List, [], ◌∷◌, length, filter, map, Option, Some, None, IsSomeAnd, pos, unwrap_or, if◌then◌else◌}
+use Rattle.std.specs.Prelude.{◌≡◌, ℕ, ℤ, Bool, true, false, ◌==◌, List, [], ◌∷◌, length, filter, map, Option, Some, None, IsSomeAnd, pos, unwrap_or, if◌then◌else◌}
 use Rattle.std.specs.List.{list_any, slice_get}
 use Rattle.std.specs.Option.{option_and_then}
-use Rattle.value_types.specs.Shape.{AgreeFor, is_clock, is_input_port, place_of, variable_at}
+use Rattle.value_types.specs.Shape.{AgreeFor, place_of, variable_at}
 use Rattle.value_types.specs.declared.shape.Causality.TheVariants.{Output}
 use Rattle.value_types.specs.declared.shape.Variable.{Variable}
 use Rattle.value_types.specs.declared.shape.Shape.{Shape}
@@ -15,6 +15,7 @@ use Rattle.fmi_calls.specs.declared.phase.InstanceState.{InstanceState}
 use Rattle.fmi_calls.specs.declared.phase.InstanceState.TheVariants as P
 use Rattle.fmi_calls.specs.declared.phase.Phase.{Phase}
 use Rattle.fmi_calls.specs.KindFacts.{keeps_state}
+use Rattle.fmi_calls.specs.Permission.{is_input_clock}
 
 -- what Save keeps
 pub record SavedMachine : Type 0 where
@@ -93,10 +94,6 @@ value_at variables values reference =
     option_and_then (slice_get values) (place_of variables reference)
 
 -- ---- a machine is one of its shape
-
--- an input Clock that isn't foreign
-abbrev pub is_input_clock : Variable → Bool
-is_input_clock v = is_input_port v && is_clock v
 
 -- the call changes whether the instance is in Initialization Mode
 abbrev pub changes_mode : Call → Bool

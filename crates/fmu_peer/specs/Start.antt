@@ -1,5 +1,5 @@
 -- What starting a peer answers, and what a spawner tells.
-use Rattle.std.specs.Prelude.{◌≡◌, ℕ, ◌+◌, List, [], ◌∷◌, ◌++◌, Bool, true, false, Some, IfSome, Result, Ok, Err, option_map}
+use Rattle.std.specs.Prelude.{◌≡◌, ℕ, ◌+◌, List, [], ◌∷◌, ◌++◌, Bool, true, false, Option, Some, IfSome, Result, Ok, Err, option_map}
 use Rattle.sim_base.specs.Causes.{one_more}
 use Rattle.value_types.specs.declared.shape.Shape.{Shape}
 use Rattle.fmi_calls.specs.Next.{fresh}
@@ -25,12 +25,18 @@ AnswersUnknown known (Err Unknown) = known ≡ false
 AnswersUnknown known (Err Failed) = Unit {0}
 AnswersUnknown known (Err Memory) = Unit {0}
 
--- what a spawner tells: how many peers it has started; what those told that were taken back, in order; which model identifiers it knows by which host; how often a start has failed
+-- what a spawner tells: how many peers it has started; what those told that were taken back, in order; which model identifiers it knows by which host, and which machine it starts for one, by the shape, where it tells that; how often a start has failed
 pub record SpawnerView : Type 0 where
   pub started : ℕ
   pub retired : List View
   pub knows : List ℕ → List ℕ → Bool
+  pub makes : List ℕ → List ℕ → Option (Shape → Machine)
   pub faults : ℕ
+
+-- by this host the peer for an FMU of this shape tells the machine that the spawner makes, where it makes one
+abbrev pub IsMade : SpawnerView → List ℕ → Shape → View → Type 0
+IsMade spawner host shape v =
+    IfSome (spawner.makes host shape.identifier) (λ machine. v.fixed.machine ≡ Some (machine shape))
 
 -- one more peer was started
 abbrev pub with_started : SpawnerView → SpawnerView

@@ -1,7 +1,8 @@
 -- A talk is the list of exchanges with one instance. An exchange is a call with its reply, or with the fault in the reply's place.
-use Rattle.std.specs.Prelude.{◌≡◌, ◌⊎◌, true, List, [], ◌∷◌, ◌++◌, All, MatchResult, Ok}
+use Rattle.std.specs.Prelude.{◌≡◌, ◌⊎◌, true, List, [], ◌∷◌, ◌++◌, map, All, MatchResult, Ok}
 use Rattle.std.specs.Result.{result_ok}
 use Rattle.value_types.specs.declared.shape.Shape.{Shape}
+use Rattle.fmi_calls.specs.declared.call.Call.{Call}
 use Rattle.fmi_calls.specs.declared.call.Call.TheVariants as C
 use Rattle.fmi_calls.specs.declared.call.Reply.TheVariants as R
 use Rattle.fmi_calls.specs.declared.call.Kind.TheVariants as K
@@ -13,6 +14,10 @@ use Rattle.fmi_calls.specs.Worth.{grade_of}
 use Rattle.fmi_calls.specs.Permission.{Permitted, is_running}
 use Rattle.fmi_calls.specs.Next.{next_of, fresh}
 use Rattle.fmu_peer.specs.declared.peer.Exchange.{Exchange}
+
+-- the calls of a talk
+abbrev pub calls_in : List Exchange → List Call
+calls_in es = map (λ (e : Exchange). e.call) es
 
 -- the phase after an exchange
 abbrev pub next_by : Shape → Phase → Exchange → Phase

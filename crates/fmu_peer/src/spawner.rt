@@ -1,5 +1,5 @@
 ghost use Rattle.std.specs.Prelude.{◌≡◌, ◌^◌, ◌<◌, ◌≤◌, length, IfOk};
-ghost use Rattle.fmu_peer.specs.Start.{AnswersUnknown, IsStarted, NotesStart, with_retired};
+ghost use Rattle.fmu_peer.specs.Start.{AnswersUnknown, IsMade, IsStarted, NotesStart, with_retired};
 
 use crate::Peer;
 use std::alloc::Global;
@@ -24,7 +24,7 @@ pub trait Spawner {
     ghost use Rattle.fmu_peer.specs.Start.{SpawnerView};
 
     /// What it tells: how many peers it has started, those that were taken back, in order, which model identifiers
-    /// it knows by which host, and how often a start has failed.
+    /// it knows by which host, which machine it starts for one, and how often a start has failed.
     ghost view: { Self → SpawnerView };
 
     /// Starts a peer by the host's name, for an instance of this name whose FMU lies in this directory, and makes the
@@ -40,6 +40,8 @@ pub trait Spawner {
         requires name { (1 ≤ length name.now) × (length name.now ≤ 2 ^ 24) }
         requires token { length shape.now.token ≤ 2 ^ 24 }
         ensures fresh { IfOk result (λ link. IsStarted host.now name.now directory.now shape.now
+            (Self.Link.view link)) }
+        ensures made { IfOk result (λ link. IsMade (view self.old) host.now shape.now
             (Self.Link.view link)) }
         ensures unknown { AnswersUnknown ((view self.old).knows host.now shape.now.identifier)
             result }

@@ -125,7 +125,7 @@ sound_components drawn n few = record {
   above = omega arith;
   within = omega arith;
   resolutions = each_component drawn n (λ c. c.shape.resolution ≡ 1000) (λ i machine. refl);
-  saved = λ i j early other at_i at_j apart e. ap (λ (c : Component). c.shape.can_save_state) (component_at drawn n j other at_j);
+  saved = λ two. each_component drawn n (λ c. c.shape.can_save_state ≡ true) (λ i machine. refl);
 }
   where
     named : (digits : List ℕ) → 0 < length (codes "b" ++ digits)

@@ -11,6 +11,7 @@ use Rattle.system_model.specs.declared.system.Feed.{Feed}
 use Rattle.system_model.specs.declared.system.Role.{Role}
 use Rattle.system_model.specs.declared.system.Role.TheVariants.{Input, Output}
 use Rattle.system_model.specs.declared.system.Port.{Port}
+use Rattle.system_model.specs.declared.plan.Plan.{Plan}
 use Rattle.system_model.specs.declared.system.System.{System}
 use Rattle.generated_system.specs.declared.drawn.DrawnMachine.{DrawnMachine}
 use Rattle.generated_system.specs.declared.drawn.DrawnMachine.TheVariants.{Counter, Gain, Alarm}
@@ -91,3 +92,16 @@ generated_system seed n = system_from (drawn_for seed) n
 
 abbrev pub generated_bound : ℕ → ℕ → Bound
 generated_bound seed n = bound_from (drawn_for seed) n
+
+-- ---- its run
+
+-- ten steps of ten counts, of which a second has 1000
+abbrev pub bench_plan : ℕ → Plan
+bench_plan workers = record {
+  resolution = 1000;
+  start = 0;
+  step = 10;
+  stop = 100;
+  limit = 100;
+  workers = workers;
+}

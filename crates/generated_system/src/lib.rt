@@ -15,4 +15,4 @@ mod shapes;
 pub use counts::{CallCounts, call_counts};
 pub use generated::{GeneratedSystem, bench_system};
 pub use laws::{counted_talks, generated_systems};
-pub use run::{BENCH_PLAN, EmptySink};
+pub use run::{EmptySink, bench_plan};

@@ -1,18 +1,23 @@
-ghost use Rattle.std.specs.Prelude.{None, IsOk};
+ghost use Rattle.std.specs.Prelude.{◌≡◌, None, IsOk};
+ghost use Rattle.generated_system.specs.Generated.{bench_plan};
 ghost use Rattle.sim_base.specs.Sink.{NotesPut};
 
 use sim_base::{Sink, SinkFault};
 use system_model::Plan;
 
-/// The plan that a generated system is run by: ten steps of ten counts, of which a second has 1000.
-pub const BENCH_PLAN: Plan = Plan {
-    resolution: 1000,
-    start: 0,
-    step: 10,
-    stop: 100,
-    limit: 100,
-    workers: 1,
-};
+/// The plan that a generated system is run by with so many workers: ten steps of ten counts, of which a second has 1000.
+pub fn bench_plan(workers: u32) -> Plan
+    ensures { result ≡ bench_plan workers }
+{
+    Plan {
+        resolution: 1000,
+        start: 0,
+        step: 10,
+        stop: 100,
+        limit: 100,
+        workers,
+    }
+}
 
 /// A sink that takes all bytes and keeps none, for a run whose trace isn't wanted. It tells nothing, and no put fails.
 #[derive(Debug, Drop)]

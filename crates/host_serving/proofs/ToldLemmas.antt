@@ -23,7 +23,8 @@ use Rattle.host_serving.specs.declared.serving.ServeEnd.{ServeEnd}
 use Rattle.host_serving.specs.declared.serving.ServeEnd.TheVariants as E
 use Rattle.host_serving.specs.Frames.{EndsBetween, EndsInside, IsNoFrame, TakesBad, TakesCall}
 use Rattle.host_serving.specs.Serving.{EndsBy, GoesOn, HasServed, IsCounted, IsStill, More, Nothing, Scene, Served, Serves, ServesOne}
-use Rattle.host_serving.specs.Told.{Comes, CutFrame, Forbidden, KeepsTo, Last, MayKeepTo, Next, NoFrame, Over, ServesAsTold, StartsWith, Tells, frame_of, with_frames}
+use Rattle.host_serving.specs.Told.{Comes, CutFrame, Forbidden, KeepsTo, Last, MayKeepTo, Next, NoFrame, Over, ServesAsTold, StartsWith, Tells, with_frames}
+use Rattle.link_frames.specs.Reply.{frame_of}
 use Rattle.host_serving.proofs.HeadLemmas.{frame_long}
 
 -- ---- what bytes begin with

@@ -9,8 +9,7 @@ use Rattle.fmi_calls.specs.declared.call.Call.TheVariants as C
 use Rattle.fmi_calls.specs.declared.call.Reply.{Reply}
 use Rattle.fmi_calls.specs.declared.phase.Phase.{Phase}
 use Rattle.link_frames.specs.Call.{IsCallFrame}
-use Rattle.link_frames.specs.Head.{spelling}
-use Rattle.link_frames.specs.Reply.{head_of_reply}
+use Rattle.link_frames.specs.Reply.{frame_of}
 use Rattle.link_frames.specs.Taking.{Breaks, IsFront}
 use Rattle.link_frames.specs.declared.call.CallFrame.{CallFrame}
 use Rattle.fmu_peer.specs.Machine.{Machine, MachineState, after}
@@ -60,10 +59,6 @@ pub record Tells (old : Scene) (replies : List Reply) (end : ServeEnd) : Type 0 
   pub comes : Comes old.machine.fixed.shape machine old.machine.phase state bytes replies end
 
 -- ---- what is done with them
-
--- the frame of a reply
-abbrev pub frame_of : Reply → List ℕ
-frame_of reply = spelling (head_of_reply reply)
 
 -- the frames of these replies were put, one piece for each
 abbrev pub with_frames : SinkView → List Reply → SinkView

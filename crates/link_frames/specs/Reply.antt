@@ -79,6 +79,10 @@ abbrev pub head_of_reply : Reply → Head
 head_of_reply (Done is_warning content) = head_of_content (flag is_warning 1) content
 head_of_reply (Refused kind status) = head (facts_of kind).number (bad_number status) 0 0 0 0
 
+-- the bytes of its frame
+abbrev pub frame_of : Reply → List ℕ
+frame_of reply = spelling (head_of_reply reply)
+
 -- a reply and the bytes of its frame
 pub record IsReplyFrame (reply : Reply) (bytes : List ℕ) : Type 0 where
   pub in_range : InRange (head_of_reply reply)

@@ -5,7 +5,7 @@ use Rattle.system_model.specs.Sound.{IsSound}
 use Rattle.system_model.specs.Text.{Instant}
 use Rattle.run_model.specs.AfterInstant.{Again, AtLimit, Done, Ended, Following, following}
 use Rattle.run_model.specs.Behaved as B
-use Rattle.run_model.specs.Behaved.{Departed, Reached}
+use Rattle.run_model.specs.Behaved.{Reached}
 use Rattle.run_model.specs.Machines.{AreMachines, IsSituation}
 use Rattle.run_model.specs.Run.{Run, Situation}
 use Rattle.run_model.specs.Stepping.{Next}

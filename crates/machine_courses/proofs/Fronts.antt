@@ -13,9 +13,11 @@ use Rattle.run_model.specs.Run.{Run, Situation}
 use Rattle.run_model.specs.Stepping.{Ends}
 use Rattle.run_model.specs.Trace.{Continues, Further, IsTrace, Last, Leads, Runs, instant_of}
 use Rattle.run_model.proofs.CallerLemmas.{solvable_initially}
+use Rattle.system_model.specs.EarlyReturn.{early_count}
+use Rattle.run_model.specs.Stepping.{asked_first}
 use Rattle.slot_calls.specs.Log.{Sent}
 use Rattle.slot_calls.specs.Replies.{AreReplies, states_by}
-use Rattle.slot_calls.specs.Stage.{IsGoodOf, everyone, shapes_of}
+use Rattle.slot_calls.specs.Stage.{IsGoodOf, shapes_of}
 use Rattle.slot_calls.specs.declared.bad_answer.BadAnswer.{BadAnswer}
 use Rattle.step_agreement.specs.Agreement.{Fails, Meets, Outcome, Unfit}
 use Rattle.step_agreement.specs.OverMachines.{IgnoreSlots}
@@ -25,7 +27,7 @@ use Rattle.rollback.specs.StepsBy.{all_at}
 use Rattle.event_iteration.proofs.ByLog.{IsRead, last_alone_is_bad, made_all, reads_stay, replies_first, replies_then, states_on}
 use Rattle.calling_sequence.specs.Course.{Agreed, Before, Configured, Course, Departing, Entered, Found, Left, Leaving, Made, Place, Read, Rearmed, Saved, Seen, Short, Spot, Stepped, Timed, part_at, shown}
 use Rattle.calling_sequence.specs.Parts.{Agreement, Calls, Does, Part, Round, Walk}
-use Rattle.calling_sequence.specs.Plans.{IsPlan}
+use Rattle.system_model.specs.Plans.{IsPlan}
 use Rattle.calling_sequence.proofs.Along.{along}
 use Rattle.machine_courses.specs.Fronts as S
 use Rattle.machine_courses.specs.Fronts.{AtFirst, Behind, CameTo, IsFront, Onward}
@@ -114,7 +116,7 @@ module _ (r : Run) (sound : IsSound r.system) (plan : IsPlan r.plan) (machines :
   does_good (Round calls) values log does = does.good
   does_good (Walk rules before order) values log does = (last_alone_is_bad r.system rules before order values log).good does
   does_good (Agreement t step bound) values log (outcome, good, agrees) = all_good t outcome log good
-      (along_agreement t step everyone (shapes_of r.system) Good Any (good_rounds t) bound (all_at t (shapes_of r.system)) log outcome (shapes_at t (shapes_of r.system)) agrees) where
+      (along_agreement t step (asked_first (early_count (shapes_of r.system))) (shapes_of r.system) Good Any (good_rounds t) bound (all_at t (shapes_of r.system)) log outcome (shapes_at t (shapes_of r.system)) agrees) where
         all_good : (t : ℕ) (o : Outcome) (log : List Sent) → IsGoodOutcome o → HasAlong Good Any o log → All (IsGoodOf (shapes_of r.system)) log
         all_good t (Meets point) log good has = has
         all_good t (Unfit i e) log good has = has

@@ -25,7 +25,8 @@ use Rattle.run_model.specs.Initial as I
 use Rattle.run_model.specs.Initial.{SolvesInitially, is_read}
 use Rattle.run_model.specs.Inputs.{state_with}
 use Rattle.run_model.specs.Machines.{AreMachines}
-use Rattle.run_model.specs.Run.{IsFmu, Run, value}
+use Rattle.run_model.specs.Run.{IsFmu, Run}
+use Rattle.system_model.specs.Values.{value}
 use Rattle.run_model.proofs.CallerLemmas.{both, initial_values_fit, unclocked_at-is, solvable_initially, looks_initially}
 use Rattle.slot_calls.specs.declared.bad_answer.BadAnswer.{BadAnswer}
 use Rattle.slot_calls.specs.Log.{Asking, Sent, asking_of, askings, part}

@@ -21,9 +21,10 @@ use Rattle.system_model.proofs.CallerLemmas.{events_of, place_of}
 use Rattle.run_model.specs.AfterInstant as F
 use Rattle.run_model.specs.Behaved.{AnswersAt, AnswersWell, BehavesInInstant, IsAnsweredWell, Reached, WellBehaved}
 use Rattle.run_model.specs.Equations.{Solves, fed}
-use Rattle.run_model.specs.Inputs.{is_active, is_present, state_with, state_written, written_at_port}
+use Rattle.run_model.specs.Inputs.{state_with, state_written, written_at_port}
 use Rattle.run_model.specs.Machines.{AreMachines, IsSituation}
-use Rattle.run_model.specs.Run.{IsFmu, Run, Situation, value}
+use Rattle.run_model.specs.Run.{IsFmu, Run, Situation}
+use Rattle.system_model.specs.Values.{value, is_active, is_present}
 use Rattle.run_model.specs.Walk.{only_at}
 use Rattle.run_model.proofs.CallerLemmas.{both, present_alike, situation_reached, values_fit, decided, looks_in_midst, solvable}
 use Rattle.slot_calls.specs.declared.bad_answer.BadAnswer.{BadAnswer}

@@ -22,7 +22,7 @@ use Rattle.event_iteration.proofs.ByLog.{AreAll, updated_all}
 use Rattle.step_agreement.specs.Exists.{EndWell}
 use Rattle.step_agreement.proofs.CallerLemmas.{agree_within, agrees_or_stops, end_well}
 use Rattle.calling_sequence.specs.Calls.{IsBoundOf}
-use Rattle.calling_sequence.specs.Plans.{IsPlan}
+use Rattle.system_model.specs.Plans.{IsPlan}
 use Rattle.machine_courses.proofs.Bounds.{bound_exists}
 use Rattle.machine_courses.proofs.Following.{by_answers, leads_by, reached_by}
 use Rattle.machine_courses.proofs.Fronts.{Ahead, Front, Past, traced_on}

@@ -31,7 +31,7 @@ use Rattle.event_iteration.proofs.ByLog.{AreAll, IsRead, fixed_by_log, initial_b
 use Rattle.calling_sequence.specs.Calls.{IsStep}
 use Rattle.calling_sequence.specs.Course.{Again, Agreed, Agreeing, Arrives, Begins, Binds, Departing, Enters, Exits, Finds, Frees, GoesOn, Leaves, Leaving, LeadsTo, Left, Place, Reads, Rearming, Saved, Saves, Sets, Short, Spot, Stepped, Stopping, Times, Updates, Way, part_at, shown}
 use Rattle.calling_sequence.specs.Parts.{AllAgree, Does}
-use Rattle.calling_sequence.specs.Plans.{IsPlan}
+use Rattle.system_model.specs.Plans.{IsPlan}
 use Rattle.machine_courses.specs.Fronts.{AtFirst, CameTo, Onward}
 use Rattle.machine_courses.proofs.Bare.{AreBare, bare_at, bare_updated}
 use Rattle.machine_courses.proofs.Following.{by_answers, leads_by, same_instant, situation_by}

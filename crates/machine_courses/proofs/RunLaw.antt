@@ -24,7 +24,7 @@ use Rattle.calling_sequence.specs.declared.run_end.RunEnd.TheVariants as E
 use Rattle.calling_sequence.specs.Calls.{IsBoundOf, first_unfit, making}
 use Rattle.calling_sequence.specs.Course.{Place, Seen, Spot, Stepped, Way}
 use Rattle.calling_sequence.specs.Ends.{AtLimit as Limited, AtShort, AtStop, Awaits, Badly, ByStep, ByUpdate, EndLine, EndsAt, EndsBy, Finishes, Header, Shown, Unfit, Well, kind_of_end, point_of, text_of, trace_pieces}
-use Rattle.calling_sequence.specs.Plans.{IsPlan}
+use Rattle.system_model.specs.Plans.{IsPlan}
 use Rattle.calling_sequence.specs.Puts.{CutsPiece, with_pieces}
 use Rattle.machine_courses.specs.Fronts.{LacksStepAt}
 use Rattle.machine_courses.specs.Laws.{RunByLog}

@@ -1,10 +1,8 @@
 -- The calls of machines that behave well are answered well in a step.
-use Rattle.std.proofs.Common.{◌≡◌, ◌≢◌, ℕ, ◌+◌, ◌-◌, ℤ, Bool, true, false, List, Option, Some, Ok, refl, sym, ap, ◌∙◌, subst, arith, length}
+use Rattle.std.proofs.Common.{◌≡◌, ◌⊎◌, inl, inr, ℕ, ◌+◌, ◌-◌, ◌<◌, ◌≤◌, ◌==◌, nat_lt, ℤ, Bool, true, false, List, Option, Some, Ok, refl, sym, ap, ◌∙◌, subst, arith, length}
 use Rattle.std.specs.Prelude.{IfSome, if◌then◌else◌}
 use Rattle.std.specs.List.{slice_get}
-use Rattle.std.specs.Option.{option_map}
-use Rattle.std.proofs.lemmas.List.{length-map}
-use Rattle.std.proofs.lemmas.Option.{same_Some, slice_get-map, slice_get_within}
+use Rattle.std.proofs.lemmas.Bool.Decides.{nat_tests}
 use Rattle.value_types.specs.Values.{Fits}
 use Rattle.value_types.specs.declared.shape.Shape.{Shape}
 use Rattle.fmi_calls.specs.declared.call.Call.{Call}
@@ -13,73 +11,69 @@ use Rattle.fmi_calls.specs.declared.call.Grade.TheVariants as G
 use Rattle.fmi_calls.specs.declared.call.Reply.{Reply}
 use Rattle.fmi_calls.specs.Worth.{grade_of}
 use Rattle.fmu_peer.specs.Machine.{Machine, MachineState, after}
+use Rattle.system_model.specs.EarlyReturn.{early_count}
 use Rattle.system_model.specs.declared.system.Component.{Component}
+use Rattle.system_model.proofs.CallerLemmas.{all_at}
 use Rattle.system_model.specs.Ports.{is_clock_role, is_output_role}
 use Rattle.system_model.specs.Sound.{IsSound}
 use Rattle.run_model.specs.Behaved.{BehavesInStep, Departed, IsAnsweredWell, WellBehaved}
 use Rattle.run_model.specs.Machines.{AreFitting, AreMachines}
 use Rattle.run_model.specs.Run.{IsFmu, Run, Situation}
 use Rattle.run_model.specs.Stepping as P
-use Rattle.run_model.specs.Stepping.{asks_to_end, departing, end_in, kept_at, step_to, steppers}
+use Rattle.run_model.specs.Stepping.{asked_first, asks_to_end, departing, end_in, ending, is_asked_first, kept_at, step_to, steppers}
 use Rattle.run_model.specs.Steps.{IsAsked, IsBound, Stepper}
-use Rattle.run_model.proofs.CallerLemmas.{each-get, fmu_before, situation_reached, values_fit}
+use Rattle.run_model.proofs.CallerLemmas.{asked_as_first, comes_first, each-get, fmu_before, situation_reached, values_fit}
 use Rattle.slot_calls.specs.declared.bad_answer.BadAnswer.{BadAnswer}
 use Rattle.slot_calls.specs.Log.{Sent, part}
 use Rattle.slot_calls.specs.Replies.{AreReplies, state_by}
 use Rattle.slot_calls.specs.Stage.{FailsIn, StopsAt, has_events, shapes_of}
-use Rattle.step_agreement.specs.Agreement.{Agrees, Fails, Stand, everyone, shapes_in}
+use Rattle.step_agreement.specs.Agreement.{Agrees, Fails, Stand, shapes_in}
 use Rattle.step_agreement.specs.OverMachines.{IgnoreSlots, slot_in, with_slot}
-use Rattle.step_agreement.specs.Saving.{early_count, is_saved}
-use Rattle.step_agreement.proofs.CallerLemmas.{AreSaved, EndWhereAsked, IsAskedIn, IsBadAsk, ToGoBack, ToStep, asked_later, bad_ask, each_here, good_end, kept_asked}
+use Rattle.step_agreement.specs.Saving.{is_saved}
+use Rattle.step_agreement.proofs.CallerLemmas.{EndWhereAsked, IsAskedIn, IsBadAsk, ToGoBack, ToStep, asked_later, bad_ask, each_here, good_end, kept_asked}
 use Rattle.event_iteration.specs.Explains.{ExplainsUntil}
 use Rattle.event_iteration.specs.Settings.{before_step, entered_step, port_order}
 use Rattle.event_iteration.specs.WalkCalls.{Front, has_events_at, step_span}
 use Rattle.event_iteration.proofs.ByLog.{AreAll, all_on, asked_before_step, each_call_once, fmu_on, got, shape_of_component}
 use Rattle.calling_sequence.specs.Calls.{IsBoundOf, entering_event, entering_step, freeing, saving}
 use Rattle.calling_sequence.specs.Parts.{AllAgree}
-use Rattle.calling_sequence.proofs.Beside.{Other, beside_saved}
 use Rattle.machine_courses.specs.Outcomes.{IsLost}
 use Rattle.machine_courses.proofs.Lost.{lost_at, lost_fails, lost_stops, lost_walk}
 use Rattle.machine_courses.proofs.Settings.{IsLike, like_walk, sets_stepping}
-use Rattle.machine_courses.proofs.Steps.{after_all, after_step, agreed, agreed_all, all_at_is, departing_all, none_away, restores_saved, saved, saved_all, saves, saves_is, shapes_at}
+use Rattle.machine_courses.proofs.Steps.{after_all, after_step, agreed, agreed_all, all_at_is, departing_all, restores_saved, saved, saved_all, saves, saves_is, shapes_at}
 
--- an FMU beside which another might return early can save its state
+is_more : (a b : ℕ) → nat_lt a b ≡ true → a < b
+is_more a b q = grind (arith, nat_tests)
+
+-- an FMU whose state is saved can save it
 can_save : (r : Run) → IsSound r.system → (i : ℕ) (c : Component) → slice_get r.system.components i ≡ Some c → is_saved (early_count (shapes_of r.system)) c.shape ≡ true → c.shape.can_save_state ≡ true
 can_save r sound i c at means =
-    let len = length-map r.system.components (λ (d : Component). d.shape) in
-    let w = slice_get_within r.system.components i c at in
-    saves_beside (beside_saved (shapes_of r.system) i c.shape (omega (arith, len, w)) (ap (is_saved (early_count (shapes_of r.system))) (sym (shape_of_component r.system i c at c.shape)) ∙ means)) where
-      -- the other is a component
-      saves_by : (k : ℕ) (d : Component) → slice_get r.system.components k ≡ Some d → (shape : Shape) → slice_get (shapes_of r.system) k ≡ Some shape → shape.might_return_early ≡ true → k ≢ i → c.shape.can_save_state ≡ true
-      saves_by k d of shape there early other =
-          let own : d.shape ≡ shape = same_Some d.shape shape (sym (slice_get-map (λ (x : Component). x.shape) r.system.components k ∙ ap (option_map (λ (x : Component). x.shape)) of) ∙ there) in
-          sound.components.saved k i d c of at other (ap (λ (x : Shape). x.might_return_early) own ∙ early)
-
-      saves_beside : Other (shapes_of r.system) i → c.shape.can_save_state ≡ true
-      saves_beside o =
-          let len = length-map r.system.components (λ (d : Component). d.shape) in
-          let within = slice_get_within (shapes_of r.system) o.one.place o.one.shape o.one.at in
-          let d = got r.system.components o.one.place (omega (arith, len, within)) in
-          saves_by o.one.place d.0 d.1 o.one.shape o.one.at o.one.early o.other
+    all_at (λ (d : Component). d.shape.can_save_state ≡ true) r.system.components i c (sound.components.saved (is_more 1 (early_count (shapes_of r.system)) means)) at
 
 module _ (r : Run) (sound : IsSound r.system) (machines : AreMachines r) (well : WellBehaved r) (z : Situation) (all : AreAll r z.states) (departed : Departed r z) where
   own : (i : ℕ) → BehavesInStep r z i
   own i = (well i).in_steps z departed
 
   abbrev stepper_of : ℕ → Component → Machine → MachineState → Stepper
-  stepper_of i c m state = record { has_variable_steps = c.shape.has_variable_steps; end = end_in m state z.t }
+  stepper_of i c m state = record { has_variable_steps = c.shape.has_variable_steps; end = ending z.t c m state }
 
   -- on the way to an agreement each step ends well that is asked for
   pub ends_where : (b : ℕ) → IsBound r.plan z.timers z.t b → EndWhereAsked (steppers r z) z.t r.plan.step b
   ends_where b bound i e f asked above at =
       let x = each-get stepper_of 0 i r.system.components r.machines (departing r z) f at in
-      let fmu : IsFmu r (departing r z) i x.component x.machine x.state = record { component = x.of_c; machine = x.of_m; state = x.of_s } in
-      let good = ((own i).asks b e bound asked above).0 x.component x.machine x.state fmu in
-      let end = good_end x.component.shape z.t (e - z.t) (record { call = step_to z.t e; result = Ok (x.machine.look x.state (step_to z.t e)) }) good refl in
-      let same : f.end e ≡ end_in x.machine x.state z.t e = ap (λ (y : Stepper). y.end e) x.is in
-      let behind = end.later in
-      let most = end.within in
-      (omega (arith, same, behind), omega (arith, same, most, above))
+      ends_by x.component x.machine x.state (record { component = x.of_c; machine = x.of_m; state = x.of_s }) (ap (λ (y : Stepper). y.end e) x.is) x.component.shape.might_return_early refl where
+        ends_by : (c : Component) (m : Machine) (s : MachineState) → IsFmu r (departing r z) i c m s → f.end e ≡ ending z.t c m s e → (x : Bool) → c.shape.might_return_early ≡ x → (z.t < f.end e) × (f.end e ≤ e)
+        ends_by c m s fmu is true might =
+            let sent = asked_as_first (steppers r z) z.t r.plan.step (is_asked_first r) b i e asked (comes_first r i c fmu.component (inl might)) in
+            let good = ((own i).asks b e bound sent above).0 c m s fmu in
+            let end = good_end c.shape z.t (e - z.t) (record { call = step_to z.t e; result = Ok (m.look s (step_to z.t e)) }) good refl in
+            let same : f.end e ≡ end_in m s z.t e = is ∙ ap (λ (y : Bool). if y then end_in m s z.t e else e) might in
+            let behind = end.later in
+            let most = end.within in
+            (omega (arith, same, behind), omega (arith, same, most, above))
+        ends_by c m s fmu is false un =
+            let same : f.end e ≡ e = is ∙ ap (λ (y : Bool). if y then end_in m s z.t e else e) un in
+            (omega (arith, same, above), omega (arith, same))
 
   module _ (bad : BadAnswer) (log : List Sent) where
     abbrev count : ℕ
@@ -126,9 +120,8 @@ module _ (r : Run) (sound : IsSound r.system) (machines : AreMachines r) (well :
         (answered x.last.component c m old.before old.fmu (state_by m (with_slot (slot_in (saves r x.last.component) old.before) old.before) (part x.last.component x.front)) x.last.exchange.call (x.asked c m old.before old.fmu)))) where
           x : IsBadAsk r (departing r z) z.t r.plan.step b (saves r) bad log
           x = bad_ask r (departing r z) z.t r.plan.step b (saves r) bad log ignore bound.bound.later
-              (subst (λ (ss : List Stand). Agrees z.t r.plan.step (λ (shape : Shape). true) b ss log (Fails bad)) (all_at_is r z all) agrees)
+              (subst (λ (ss : List Stand). Agrees z.t r.plan.step (asked_first (early_count (shapes_of r.system))) b ss log (Fails bad)) (all_at_is r z all) agrees)
               (restores_saved r z all b bound.bound.later log (Fails bad) agrees) replies (ap shapes_in (sym (all_at_is r z all)) ∙ shapes_at z.t (shapes_of r.system))
-              (subst (AreSaved z.t everyone) (all_at_is r z all) (none_away r z all))
 
           answered : (i : ℕ) (c : Component) (m : Machine) (s : MachineState) → IsFmu r (departing r z) i c m s → (state : MachineState) (call : Call) → IsAskedIn r (departing r z) z.t r.plan.step b (saves r) i m s state call → IsAnsweredWell c.shape m state call
           answered i c m s fmu state call (ToStep e asked above state_is call_is) =
@@ -152,9 +145,9 @@ module _ (r : Run) (sound : IsSound r.system) (machines : AreMachines r) (well :
         let place : 0 + i ≡ i = omega arith in
         let at : slice_get (steppers r z) i ≡ Some (stepper_of i c m old.before) =
         each_here stepper_of 0 i r.system.components r.machines (departing r z) c m old.before old.fmu.component old.fmu.machine old.fmu.state ∙ ap (λ (n : ℕ). Some (stepper_of n c m old.before)) place in
-        let kept : IsAsked (steppers r z) z.t r.plan.step made.bound i (kept_at asks i) = kept_asked (steppers r z) z.t r.plan.step made.bound asks point made.agree i (stepper_of i c m old.before) at in
+        let kept : IsAsked (steppers r z) (λ k. true) z.t r.plan.step made.bound i (kept_at asks i) = kept_asked (steppers r z) z.t r.plan.step made.bound asks point made.agree i (stepper_of i c m old.before) at in
         let above = asked_later (steppers r z) z.t r.plan.step made.bound i (kept_at asks i) kept made.is_bound.later (ends_where made.bound made.is_bound) in
-        ((own i).asks made.bound (kept_at asks i) made.is_bound kept above).1 c m (after m old.before (step_to z.t (kept_at asks i))) y C.Free
+        ((own i).asks made.bound (kept_at asks i) made.is_bound (asked_as_first (steppers r z) z.t r.plan.step (is_asked_first r) made.bound i (kept_at asks i) kept (comes_first r i c fmu.component (inr (is_more 1 (early_count (shapes_of r.system)) asked)))) above).1 c m (after m old.before (step_to z.t (kept_at asks i))) y C.Free
         (fmu_on r (departing r z) (λ j d n v. after n v (step_to z.t (kept_at asks i))) i c m old.before old.fmu) (ap (λ (v : MachineState). v.numbers) old.is) (ap (λ (v : MachineState). length v.values) old.is)
         (can_save r sound i c fmu.component asked))
 

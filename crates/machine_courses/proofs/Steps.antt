@@ -10,11 +10,12 @@ use Rattle.value_types.proofs.CallerLemmas.{position-map}
 use Rattle.fmi_calls.specs.declared.call.Call.TheVariants as C
 use Rattle.fmu_peer.specs.declared.peer.Exchange.{Exchange}
 use Rattle.fmu_peer.specs.Machine.{Machine, MachineState, after}
+use Rattle.system_model.specs.EarlyReturn.{early_count}
 use Rattle.system_model.specs.declared.system.Component.{Component}
 use Rattle.run_model.specs.Behaved as B
 use Rattle.run_model.specs.Run.{Run, Situation, each, each_from}
 use Rattle.run_model.specs.Stepping as P
-use Rattle.run_model.specs.Stepping.{asks_to_end, departing, end_in, kept_at, step_to, stepped, steppers}
+use Rattle.run_model.specs.Stepping.{asked_first, asks_to_end, departing, ending, kept_at, step_to, stepped, steppers}
 use Rattle.run_model.specs.Inputs.{state_with}
 use Rattle.run_model.specs.Steps.{Stepper, StopsFirst}
 use Rattle.slot_calls.specs.Log.{Sent}
@@ -22,9 +23,9 @@ use Rattle.slot_calls.specs.Replies.{AreReplies, states_by}
 use Rattle.slot_calls.specs.Stage.{IsAnswered, shapes_of}
 use Rattle.step_agreement.specs.Agreement.{Agrees, Meets, Outcome, Stand, Unfit, shapes_in}
 use Rattle.step_agreement.specs.Ends.{standing}
-use Rattle.step_agreement.specs.OverMachines.{IgnoreSlots, MachinesCome, RestoresSaved, fmus_of, looked_at, saved_states, slot_in, with_slot}
-use Rattle.step_agreement.specs.Saving.{early_count, is_saved}
-use Rattle.step_agreement.proofs.CallerLemmas.{AreSaved, IsKept, agrees_over_machines, meets_within, puts_back_saved, saved_in}
+use Rattle.step_agreement.specs.OverMachines.{IgnoreSlots, MachinesCome, RestoresSaved, fmus_of, saved_states, slot_in, with_slot}
+use Rattle.step_agreement.specs.Saving.{AreAllAt, is_saved}
+use Rattle.step_agreement.proofs.CallerLemmas.{IsKept, agrees_over_machines, meets_within, puts_back_saved, saved_in}
 use Rattle.rollback.specs.StepsBy.{all_at, some_ask_from}
 use Rattle.rollback.proofs.CallerLemmas.{some_ask_is}
 use Rattle.event_iteration.proofs.ByLog.{AreAll, all_on, each_each, each_same, part_all, stage_states}
@@ -122,7 +123,7 @@ module _ (r : Run) (z : Situation) (all : AreAll r z.states) where
   -- ---- a bound whose size one doesn't take
 
   abbrev stepper_of : ℕ → Component → Machine → MachineState → Stepper
-  stepper_of i c m state = record { has_variable_steps = c.shape.has_variable_steps; end = end_in m state z.t }
+  stepper_of i c m state = record { has_variable_steps = c.shape.has_variable_steps; end = ending z.t c m state }
 
   abbrev fixed_size : Stepper → Bool
   fixed_size x = true && not x.has_variable_steps
@@ -169,31 +170,34 @@ module _ (r : Run) (z : Situation) (all : AreAll r z.states) where
   -- ---- the agreement
 
   at_from : (k : ℕ) (cs : List Component) (ms : List Machine) (ss : List MachineState) → length ms ≡ length cs → length ss ≡ length cs →
-      all_at z.t (map (λ (c : Component). c.shape) cs) ≡ standing z.t (each_from (λ i c m s. record { shape = c.shape; end = looked_at z.t c m s }) k cs ms ss)
+      all_at z.t (map (λ (c : Component). c.shape) cs) ≡ standing z.t (each_from (λ i c m s. record { shape = c.shape; end = ending z.t c m s }) k cs ms ss)
   at_from k [] ms ss e l = refl
   at_from k (c ∷ cs) [] ss e l = absurd (omega (arith, e))
   at_from k (c ∷ cs) (m ∷ ms) [] e l = absurd (omega (arith, l))
   at_from k (c ∷ cs) (m ∷ ms) (s ∷ ss) e l = ap (λ (xs : List Stand). record { shape = c.shape; point = z.t; ask = z.t } ∷ xs) (at_from (suc k) cs ms ss (omega (arith, e)) (omega (arith, l)))
 
-  pub all_at_is : all_at z.t (shapes_of r.system) ≡ standing z.t (fmus_of r (departing r z) (looked_at z.t))
+  pub all_at_is : all_at z.t (shapes_of r.system) ≡ standing z.t (fmus_of r (departing r z) z.t)
   all_at_is = at_from 0 r.system.components r.machines (departing r z) departing_all.machines departing_all.states
 
-  -- none stands behind the step's beginning
-  pub none_away : AreSaved z.t (λ (s : Stand). true) (all_at z.t (shapes_of r.system))
-  none_away i s at h away = absurd (away (stands_at z.t (shapes_of r.system) i s at))
+  -- none stands elsewhere at the step's beginning
+  pub all_home : AreAllAt z.t (all_at z.t (shapes_of r.system))
+  all_home i s at = stands_at z.t (shapes_of r.system) i s at
 
   module _ (b : ℕ) (later : z.t < b) (log : List Sent) (outcome : Outcome) (agrees : AllAgree r.system z.t r.plan.step b log outcome) where
+    agrees_by : Agrees z.t r.plan.step (asked_first (early_count (shapes_in (all_at z.t (shapes_of r.system))))) b (all_at z.t (shapes_of r.system)) log outcome
+    agrees_by = subst (λ (ss : List Shape). Agrees z.t r.plan.step (asked_first (early_count ss)) b (all_at z.t (shapes_of r.system)) log outcome) (sym (shapes_at z.t (shapes_of r.system))) agrees
+
     kept_here : All (IsKept (shapes_of r.system)) log
-    kept_here = subst (λ (ss : List Shape). All (IsKept ss) log) (shapes_at z.t (shapes_of r.system)) (puts_back_saved z.t r.plan.step b (all_at z.t (shapes_of r.system)) log outcome later none_away agrees)
+    kept_here = subst (λ (ss : List Shape). All (IsKept ss) log) (shapes_at z.t (shapes_of r.system)) (puts_back_saved z.t r.plan.step b (all_at z.t (shapes_of r.system)) log outcome later all_home agrees_by)
 
     pub restores_saved : RestoresSaved (saves r) log
     restores_saved i = part_all (λ (e : Exchange). e.call ≡ C.Restore → saves r i ≡ true) i log (λ k d w here back. subst (λ (n : ℕ). saved_in (shapes_of r.system) n ≡ true) here (kept_here k d w back))
 
     module _ (ignore : IgnoreSlots r) (replies : AreReplies r (saved r z) log) where
       -- the agreement of the run's model
-      pub comes : MachinesCome r (departing r z) (looked_at z.t) z.t r.plan.step b (saves r) log outcome
+      pub comes : MachinesCome r (departing r z) z.t r.plan.step b (saves r) log outcome
       comes = agrees_over_machines r (departing r z) z.t r.plan.step b (saves r) log outcome ignore later
-          (subst (λ (ss : List Stand). Agrees z.t r.plan.step (λ (shape : Shape). true) b ss log outcome) all_at_is agrees) restores_saved replies
+          (subst (λ (ss : List Stand). Agrees z.t r.plan.step (asked_first (early_count (shapes_of r.system))) b ss log outcome) all_at_is agrees) restores_saved replies
 
   -- all come to one point
   pub record Lands (log : List Sent) (b point : ℕ) : Type 0 where
@@ -212,7 +216,7 @@ module _ (r : Run) (z : Situation) (all : AreAll r z.states) where
           asks = come.0;
           made = record { before_stop = bound.before_stop; bound = b; is_bound = bound.bound; agree = come.1 };
           later = come.2;
-          within = meets_within z.t r.plan.step b (all_at z.t (shapes_of r.system)) log (Meets point) point refl bound.bound.later agrees;
+          within = meets_within z.t r.plan.step b (all_at z.t (shapes_of r.system)) log point bound.bound.later all_home (agrees_by b bound.bound.later log (Meets point) agrees);
           asked = sym (some_ask_is r (departing r z) log departing_all.machines departing_all.states) ∙ come.4;
           states = come.3;
         }

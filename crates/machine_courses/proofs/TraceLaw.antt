@@ -35,7 +35,7 @@ use Rattle.calling_sequence.specs.declared.run_end.RunEnd.TheVariants as E
 use Rattle.calling_sequence.specs.Course.{Agreed, Before, Configured, Course, Departing, Entered, Found, Left, Leaving, Made, Place, Read, Rearmed, Saved, Seen, Short, Stepped, Timed, Way, part_at}
 use Rattle.calling_sequence.specs.Ends.{Awaits, Badly, EndLine, EndsBy, Finishes, Header, Shown, Well, header_of, kind_of_end, pieces_of, point_of, text_of, trace_pieces}
 use Rattle.calling_sequence.specs.Parts.{Falls}
-use Rattle.calling_sequence.specs.Plans.{IsPlan}
+use Rattle.system_model.specs.Plans.{IsPlan}
 use Rattle.calling_sequence.specs.Puts.{CutsPiece, with_pieces}
 use Rattle.machine_courses.specs.Laws.{TraceByLog, UnmadeByLog}
 use Rattle.machine_courses.specs.Outcomes.{CutsTrace, IsLost, Output, PutsRun, TracesWell}

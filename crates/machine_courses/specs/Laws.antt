@@ -15,7 +15,7 @@ use Rattle.step_agreement.specs.OverMachines.{IgnoreSlots}
 use Rattle.calling_sequence.specs.declared.run_end.RunEnd.{RunEnd}
 use Rattle.calling_sequence.specs.Calls.{making}
 use Rattle.calling_sequence.specs.Ends.{EndsBy}
-use Rattle.calling_sequence.specs.Plans.{IsPlan}
+use Rattle.system_model.specs.Plans.{IsPlan}
 use Rattle.machine_courses.specs.Outcomes.{IsLost, Output, PutsRun, TracesWell}
 
 -- each machine was made, and then a run of the system by its plan, whose replies are theirs, ended so with this log behind these instants, and put this

@@ -5,7 +5,7 @@ use Rattle.nested_documents.specs.declared.components.NestedComponent.{NestedCom
 use Rattle.nested_documents.specs.declared.components.Waiting.{Waiting}
 use Rattle.nested_documents.specs.declared.seam.Seam.{Seam}
 use Rattle.nested_documents.specs.Between.{AreBetween, places_of}
-use Rattle.nested_documents.specs.Nest.{inner_waiting, moved_waiting, top_waiting}
+use Rattle.nested_documents.specs.Nest.{moved_waiting, waiting_from}
 
 lower : (low mid high : ℕ) (xs : List ℕ) → low ≤ mid → AreBetween mid high xs → AreBetween low high xs
 lower low mid high [] le b = tt
@@ -43,9 +43,9 @@ outer k n low high (x ∷ xs) less a =
       (rw here (omega (arith, at, below)), subst (λ (m : ℕ). AreBetween m ((high - 1) + n) (map (moved k n) xs)) e (outer k n (suc x) high xs (omega (arith, at)) a.1.1)),
     )
 
-places_inner : (s : Seam) (document level : ℕ) (ns : List NestedComponent) → map (λ (w : Waiting). w.component) (map (inner_waiting s document level) ns) ≡ map (λ (x : ℕ). x + s.component) (map (λ (n : NestedComponent). n.component) ns)
-places_inner s document level [] = refl
-places_inner s document level (n ∷ ns) = ap (λ (xs : List ℕ). (n.component + s.component) ∷ xs) (places_inner s document level ns)
+places_inner : (before document level : ℕ) (ns : List NestedComponent) → map (λ (w : Waiting). w.component) (map (waiting_from before document level) ns) ≡ map (λ (x : ℕ). x + before) (map (λ (n : NestedComponent). n.component) ns)
+places_inner before document level [] = refl
+places_inner before document level (n ∷ ns) = ap (λ (xs : List ℕ). (n.component + before) ∷ xs) (places_inner before document level ns)
 
 places_outer : (s : Seam) (ws : List Waiting) → map (λ (w : Waiting). w.component) (map (moved_waiting s) ws) ≡ map (moved s.component s.components) (map (λ (w : Waiting). w.component) ws)
 places_outer s [] = refl
@@ -55,13 +55,16 @@ places_append : (vs ws : List Waiting) → map (λ (w : Waiting). w.component) (
 places_append [] ws = refl
 places_append (v ∷ vs) ws = ap (λ (xs : List ℕ). v.component ∷ xs) (places_append vs ws)
 
-pub places_top : (ns : List NestedComponent) → map (λ (w : Waiting). w.component) (map top_waiting ns) ≡ map (λ (n : NestedComponent). n.component) ns
-places_top [] = refl
-places_top (n ∷ ns) = ap (λ (xs : List ℕ). n.component ∷ xs) (places_top ns)
+pub places_top : (ns : List NestedComponent) → map (λ (w : Waiting). w.component) (map (waiting_from 0 0 1) ns) ≡ map (λ (n : NestedComponent). n.component) ns
+places_top ns = places_inner 0 0 1 ns ∙ from_none (map (λ (n : NestedComponent). n.component) ns)
+  where
+    from_none : (xs : List ℕ) → map (λ (x : ℕ). x + 0) xs ≡ xs
+    from_none [] = refl
+    from_none (x ∷ xs) = let e : x + 0 ≡ x = omega arith in ap (λ (y : ℕ). y ∷ map (λ (x : ℕ). x + 0) xs) e ∙ ap (λ (ys : List ℕ). x ∷ ys) (from_none xs)
 
 -- the inner document's stand in the place of the first that waited, and the others behind them
 pub placed_more : (s : Seam) (document level count : ℕ) (ns : List NestedComponent) (ws all : List Waiting) → s.component < count → AreBetween 0 s.components (map (λ (n : NestedComponent). n.component) ns)
-    → AreBetween (suc s.component) count (map (λ (w : Waiting). w.component) ws) → all ≡ map (inner_waiting s document level) ns ++ map (moved_waiting s) ws
+    → AreBetween (suc s.component) count (map (λ (w : Waiting). w.component) ws) → all ≡ map (waiting_from s.component document level) ns ++ map (moved_waiting s) ws
     → AreBetween 0 ((count - 1) + s.components) (map (λ (w : Waiting). w.component) all)
 placed_more s document level count ns ws all less inside rest e =
     let k = s.component in
@@ -74,8 +77,8 @@ placed_more s document level count ns ws all less inside rest e =
     let back : AreBetween (n + k) ((count - 1) + n) (map (moved k n) ys) = subst (λ (m : ℕ). AreBetween m ((count - 1) + n) (map (moved k n) ys)) g (outer k n (suc k) count ys (omega arith) rest) in
     let whole : AreBetween 0 ((count - 1) + n) (map (λ (x : ℕ). x + k) xs ++ map (moved k n) ys) = lower 0 k ((count - 1) + n) (map (λ (x : ℕ). x + k) xs ++ map (moved k n) ys) (omega arith) (joined k (n + k) ((count - 1) + n) (map (λ (x : ℕ). x + k) xs) (map (moved k n) ys) (omega arith) (omega (arith, less)) front back) in
     let places : map (λ (w : Waiting). w.component) all ≡ map (λ (x : ℕ). x + k) xs ++ map (moved k n) ys =
-    ap (map (λ (w : Waiting). w.component)) e ∙ (places_append (map (inner_waiting s document level) ns) (map (moved_waiting s) ws)
-    ∙ (ap (λ (zs : List ℕ). zs ++ map (λ (w : Waiting). w.component) (map (moved_waiting s) ws)) (places_inner s document level ns) ∙ ap (λ (zs : List ℕ). map (λ (x : ℕ). x + k) xs ++ zs) (places_outer s ws))) in
+    ap (map (λ (w : Waiting). w.component)) e ∙ (places_append (map (waiting_from s.component document level) ns) (map (moved_waiting s) ws)
+    ∙ (ap (λ (zs : List ℕ). zs ++ map (λ (w : Waiting). w.component) (map (moved_waiting s) ws)) (places_inner s.component document level ns) ∙ ap (λ (zs : List ℕ). map (λ (x : ℕ). x + k) xs ++ zs) (places_outer s ws))) in
     subst (λ (zs : List ℕ). AreBetween 0 ((count - 1) + n) zs) (sym places) whole
 
 -- ---- the test

@@ -10,7 +10,7 @@ use Rattle.nested_documents.specs.declared.seam.Frame.{Frame}
 use Rattle.nested_documents.specs.declared.seam.Seam.{Seam}
 use Rattle.nested_documents.specs.Between.{AreBetween, places_of, waiting_places}
 use Rattle.nested_documents.specs.Inlining.{inlined, seam_of}
-use Rattle.nested_documents.specs.Nest.{CanAdd, inner_waiting, moved_waiting}
+use Rattle.nested_documents.specs.Nest.{CanAdd, moved_waiting, waiting_from}
 use Rattle.nested_documents.proofs.BetweenLemmas.{placed_more}
 use Rattle.nested_documents.proofs.PutLemmas.{length_inlined}
 
@@ -35,18 +35,18 @@ rest_behind high all w rest e b = (subst (λ (ws : List Waiting). AreBetween 0 h
 -- with a document in its place, those that wait stand in the order of the whole again
 pub placed_added : (outer inner whole : SystemTree) (place elements document level : ℕ) (c : ComponentPart) (f : Frame) (nested : List NestedComponent) (rest all : List Waiting) → place < length outer.components → AreBetween 0 (length inner.components) (places_of nested)
     → AreBetween (suc place) (length outer.components) (waiting_places rest) → whole ≡ inlined outer place c f inner elements
-    → all ≡ map (inner_waiting (seam_of outer place c inner elements) document level) nested ++ map (moved_waiting (seam_of outer place c inner elements)) rest → AreBetween 0 (length whole.components) (waiting_places all)
+    → all ≡ map (waiting_from place document level) nested ++ map (moved_waiting (seam_of outer place c inner elements)) rest → AreBetween 0 (length whole.components) (waiting_places all)
 placed_added outer inner whole place elements document level c f nested rest all less inside behind e is =
     let count : length whole.components ≡ (length outer.components - 1) + length inner.components = ap (λ (t : SystemTree). length t.components) e ∙ length_inlined outer place c f inner elements less in
     subst (λ (n : ℕ). AreBetween 0 n (waiting_places all)) (sym count) (placed_more (seam_of outer place c inner elements) document level (length outer.components) nested rest all less inside behind is)
 
 -- the inner document's Components that wait, and then the others
-pub waits_added : (s t : Seam) (document level : ℕ) (nested : List NestedComponent) (rest front back all : List Waiting) → s ≡ t → front ≡ map (inner_waiting s document (level + 1)) nested → back ≡ map (moved_waiting s) rest → all ≡ front ++ back
-    → all ≡ map (inner_waiting t document (suc level)) nested ++ map (moved_waiting t) rest
-waits_added s t document level nested rest front back all same e f is =
+pub waits_added : (s t : Seam) (before document level : ℕ) (nested : List NestedComponent) (rest front back all : List Waiting) → s ≡ t → front ≡ map (waiting_from before document (level + 1)) nested → back ≡ map (moved_waiting s) rest → all ≡ front ++ back
+    → all ≡ map (waiting_from before document (suc level)) nested ++ map (moved_waiting t) rest
+waits_added s t before document level nested rest front back all same e f is =
     let one : level + 1 ≡ suc level = omega arith in
-    let P : Seam → ℕ → Type 0 = λ (s : Seam) (n : ℕ). all ≡ map (inner_waiting s document n) nested ++ map (moved_waiting s) rest in
-    let here : P s (level + 1) = is ∙ (ap (λ (ws : List Waiting). ws ++ back) e ∙ ap (λ (ws : List Waiting). map (inner_waiting s document (level + 1)) nested ++ ws) f) in
+    let P : Seam → ℕ → Type 0 = λ (s : Seam) (n : ℕ). all ≡ map (waiting_from before document n) nested ++ map (moved_waiting s) rest in
+    let here : P s (level + 1) = is ∙ (ap (λ (ws : List Waiting). ws ++ back) e ∙ ap (λ (ws : List Waiting). map (waiting_from before document (level + 1)) nested ++ ws) f) in
     subst (P t) one (subst (λ (s : Seam). P s (level + 1)) same here)
 
 -- what is taken out where a document may be added

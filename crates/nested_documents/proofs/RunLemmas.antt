@@ -3,7 +3,7 @@ use Rattle.std.proofs.Common.{◌≡◌, ◌∙◌, ℕ, zero, suc, ◌+◌, ◌
 use Rattle.std.proofs.lemmas.List.{append-nil}
 use Rattle.nested_documents.specs.declared.numbers.Place.{Place}
 use Rattle.nested_documents.specs.declared.run.Run.{Run}
-use Rattle.nested_documents.specs.Numbers.{IsBehind, IsFirst, places, run, with_elements}
+use Rattle.nested_documents.specs.Numbers.{elements_in, run, with_elements}
 
 abbrev element : ℕ → ℕ → Place
 element document node = record { document = document; node = node }
@@ -58,62 +58,58 @@ drop_run d n (suc c) (suc k) rest =
     let g : k - c ≡ suc k - suc c = omega arith in
     drop_run d (suc n) c k rest ∙ (ap (λ m. run d m (c - k) ++ drop (k - c) rest) e ∙ (ap (λ m. run d (n + suc k) m ++ drop (k - c) rest) f ∙ ap (λ m. run d (n + suc k) (suc c - suc k) ++ drop m rest) g))
 
-pub places_append : (rs ss : List Run) → places (rs ++ ss) ≡ places rs ++ places ss
+pub places_append : (rs ss : List Run) → elements_in (rs ++ ss) ≡ elements_in rs ++ elements_in ss
 places_append [] ss = refl
-places_append (r ∷ rs) ss = ap (λ xs. run r.document r.node r.count ++ xs) (places_append rs ss) ∙ sym (append_assoc (run r.document r.node r.count) (places rs) (places ss))
+places_append (r ∷ rs) ss = ap (λ xs. run r.document r.node r.count ++ xs) (places_append rs ss) ∙ sym (append_assoc (run r.document r.node r.count) (elements_in rs) (elements_in ss))
 
-pub none_first : (rs : List Run) (d n c most : ℕ) → most ≡ 0 → places rs ≡ places rs ++ run d n (min c most)
+pub none_first : (rs : List Run) (d n c most : ℕ) → most ≡ 0 → elements_in rs ≡ elements_in rs ++ run d n (min c most)
 unfolding run
 none_first rs d n c most e =
     let f : min c most ≡ 0 = omega (arith, e) in
     rw (f, append-nil) refl
 
-pub none_behind : (rs : List Run) (d n c less : ℕ) → c ≤ less → places rs ≡ places rs ++ run d (n + less) (c - less)
+pub none_behind : (rs : List Run) (d n c less : ℕ) → c ≤ less → elements_in rs ≡ elements_in rs ++ run d (n + less) (c - less)
 unfolding run
 none_behind rs d n c less le =
     let f : c - less ≡ 0 = omega (arith, le) in
     rw (f, append-nil) refl
 
-one_more : (rs ss : List Run) (r : Run) → ss ≡ rs ++ r ∷ [] → places ss ≡ places rs ++ run r.document r.node r.count
+one_more : (rs ss : List Run) (r : Run) → ss ≡ rs ++ r ∷ [] → elements_in ss ≡ elements_in rs ++ run r.document r.node r.count
 one_more rs ss r e =
-    ap places e ∙ (places_append rs (r ∷ []) ∙ ap (λ (xs : List Place). places rs ++ xs) (append-nil (run r.document r.node r.count)))
+    ap elements_in e ∙ (places_append rs (r ∷ []) ∙ ap (λ (xs : List Place). elements_in rs ++ xs) (append-nil (run r.document r.node r.count)))
 
-pub one_first : (rs ss : List Run) (r first : Run) (most : ℕ) → ss ≡ rs ++ first ∷ [] → IsFirst most r first → places ss ≡ places rs ++ run r.document r.node (min r.count most)
-one_first rs ss r first most e is = one_more rs ss first e ∙ ap (λ (xs : List Place). places rs ++ xs) (rw (is.0, is.1, is.2) refl)
-
-pub one_behind : (rs ss : List Run) (r behind : Run) (less : ℕ) → ss ≡ rs ++ behind ∷ [] → IsBehind less r behind → places ss ≡ places rs ++ run r.document (r.node + less) (r.count - less)
-one_behind rs ss r behind less e is = one_more rs ss behind e ∙ ap (λ (xs : List Place). places rs ++ xs) (rw (is.0, is.1, is.2) refl)
+pub part_more : (rs ss : List Run) (r : Run) (document node count : ℕ) → ss ≡ rs ++ r ∷ [] → r.document ≡ document → r.node ≡ node → r.count ≡ count → elements_in ss ≡ elements_in rs ++ run document node count
+part_more rs ss r document node count e d n c = one_more rs ss r e ∙ ap (λ (xs : List Place). elements_in rs ++ xs) (rw (d, n, c) refl)
 
 -- the front, a whole document and the rest
-pub put_run : (front back joined all : List Run) (whole : Run) (document count at : ℕ) (elements : List Place) → joined ≡ front ++ whole ∷ [] → all ≡ joined ++ back → whole.document ≡ document → whole.node ≡ 0 → whole.count ≡ count → places front ≡ take at elements → places back ≡ drop at elements → places all ≡ with_elements at document count elements
+pub put_run : (front back joined all : List Run) (whole : Run) (document count at : ℕ) (elements : List Place) → joined ≡ front ++ whole ∷ [] → all ≡ joined ++ back → whole.document ≡ document → whole.node ≡ 0 → whole.count ≡ count → elements_in front ≡ take at elements → elements_in back ≡ drop at elements → elements_in all ≡ with_elements at document count elements
 put_run front back joined all whole document count at elements e f d n c g h =
-    let w : run whole.document whole.node whole.count ≡ run document 0 count = rw (d, n, c) refl in
-    let j : places joined ≡ take at elements ++ run document 0 count = one_more front joined whole e ∙ (ap (λ (xs : List Place). xs ++ run whole.document whole.node whole.count) g ∙ ap (λ (xs : List Place). take at elements ++ xs) w) in
-    ap places f ∙ (places_append joined back
-    ∙ (ap (λ (xs : List Place). xs ++ places back) j ∙ (ap (λ (xs : List Place). (take at elements ++ run document 0 count) ++ xs) h ∙ append_assoc (take at elements) (run document 0 count) (drop at elements))))
+    let j : elements_in joined ≡ take at elements ++ run document 0 count = part_more front joined whole document 0 count e d n c ∙ ap (λ (xs : List Place). xs ++ run document 0 count) g in
+    ap elements_in f ∙ (places_append joined back
+    ∙ (ap (λ (xs : List Place). xs ++ elements_in back) j ∙ (ap (λ (xs : List Place). (take at elements ++ run document 0 count) ++ xs) h ∙ append_assoc (take at elements) (run document 0 count) (drop at elements))))
 
 -- the runs from one on: that one and those behind it
-from_one : (rs : List Run) (i : ℕ) (r : Run) → i < length rs → r ≡ get_or rs i r → places (drop i rs) ≡ run r.document r.node r.count ++ places (drop (i + 1) rs)
+from_one : (rs : List Run) (i : ℕ) (r : Run) → i < length rs → r ≡ get_or rs i r → elements_in (drop i rs) ≡ run r.document r.node r.count ++ elements_in (drop (i + 1) rs)
 from_one rs i r less is =
     let e : drop i rs ≡ r ∷ drop (i + 1) rs = rw (add-one, drop-cons rs i r, ← is) refl in
-    ap places e
+    ap elements_in e
 
-pub get_here : (rs : List Run) (i : ℕ) (r : Run) (k : ℕ) (found : Option Place) → i < length rs → r ≡ get_or rs i r → k < r.count → slice_get (places (drop i rs)) k ≡ found → Some (element r.document (r.node + k)) ≡ found
+pub get_here : (rs : List Run) (i : ℕ) (r : Run) (k : ℕ) (found : Option Place) → i < length rs → r ≡ get_or rs i r → k < r.count → slice_get (elements_in (drop i rs)) k ≡ found → Some (element r.document (r.node + k)) ≡ found
 get_here rs i r k found less is below e =
-    sym (get_within r.document r.node r.count k (places (drop (i + 1) rs)) below) ∙ (sym (ap (λ xs. slice_get xs k) (from_one rs i r less is)) ∙ e)
+    sym (get_within r.document r.node r.count k (elements_in (drop (i + 1) rs)) below) ∙ (sym (ap (λ xs. slice_get xs k) (from_one rs i r less is)) ∙ e)
 
-pub get_behind : (rs : List Run) (i : ℕ) (r : Run) (k : ℕ) (found : Option Place) → i < length rs → r ≡ get_or rs i r → r.count ≤ k → slice_get (places (drop i rs)) k ≡ found → slice_get (places (drop (i + 1) rs)) (k - r.count) ≡ found
+pub get_behind : (rs : List Run) (i : ℕ) (r : Run) (k : ℕ) (found : Option Place) → i < length rs → r ≡ get_or rs i r → r.count ≤ k → slice_get (elements_in (drop i rs)) k ≡ found → slice_get (elements_in (drop (i + 1) rs)) (k - r.count) ≡ found
 get_behind rs i r k found less is past e =
-    sym (get_past r.document r.node r.count k (places (drop (i + 1) rs)) past) ∙ (sym (ap (λ xs. slice_get xs k) (from_one rs i r less is)) ∙ e)
+    sym (get_past r.document r.node r.count k (elements_in (drop (i + 1) rs)) past) ∙ (sym (ap (λ xs. slice_get xs k) (from_one rs i r less is)) ∙ e)
 
-pub front_more : (rs front more : List Run) (i : ℕ) (r : Run) (k : ℕ) (all : List Place) → i < length rs → r ≡ get_or rs i r → places front ++ take k (places (drop i rs)) ≡ all → places more ≡ places front ++ run r.document r.node (min r.count k) → places more ++ take (k - r.count) (places (drop (i + 1) rs)) ≡ all
+pub front_more : (rs front more : List Run) (i : ℕ) (r : Run) (k : ℕ) (all : List Place) → i < length rs → r ≡ get_or rs i r → elements_in front ++ take k (elements_in (drop i rs)) ≡ all → elements_in more ≡ elements_in front ++ run r.document r.node (min r.count k) → elements_in more ++ take (k - r.count) (elements_in (drop (i + 1) rs)) ≡ all
 front_more rs front more i r k all less is e f =
-    let rest = places (drop (i + 1) rs) in
-    let g : take k (places (drop i rs)) ≡ run r.document r.node (min r.count k) ++ take (k - r.count) rest = ap (take k) (from_one rs i r less is) ∙ take_run r.document r.node r.count k rest in
-    ap (λ xs. xs ++ take (k - r.count) rest) f ∙ (append_assoc (places front) (run r.document r.node (min r.count k)) (take (k - r.count) rest) ∙ (sym (ap (λ xs. places front ++ xs) g) ∙ e))
+    let rest = elements_in (drop (i + 1) rs) in
+    let g : take k (elements_in (drop i rs)) ≡ run r.document r.node (min r.count k) ++ take (k - r.count) rest = ap (take k) (from_one rs i r less is) ∙ take_run r.document r.node r.count k rest in
+    ap (λ xs. xs ++ take (k - r.count) rest) f ∙ (append_assoc (elements_in front) (run r.document r.node (min r.count k)) (take (k - r.count) rest) ∙ (sym (ap (λ xs. elements_in front ++ xs) g) ∙ e))
 
-pub back_more : (rs back more : List Run) (i : ℕ) (r : Run) (k : ℕ) (all : List Place) → i < length rs → r ≡ get_or rs i r → places back ++ drop k (places (drop i rs)) ≡ all → places more ≡ places back ++ run r.document (r.node + k) (r.count - k) → places more ++ drop (k - r.count) (places (drop (i + 1) rs)) ≡ all
+pub back_more : (rs back more : List Run) (i : ℕ) (r : Run) (k : ℕ) (all : List Place) → i < length rs → r ≡ get_or rs i r → elements_in back ++ drop k (elements_in (drop i rs)) ≡ all → elements_in more ≡ elements_in back ++ run r.document (r.node + k) (r.count - k) → elements_in more ++ drop (k - r.count) (elements_in (drop (i + 1) rs)) ≡ all
 back_more rs back more i r k all less is e f =
-    let rest = places (drop (i + 1) rs) in
-    let g : drop k (places (drop i rs)) ≡ run r.document (r.node + k) (r.count - k) ++ drop (k - r.count) rest = ap (drop k) (from_one rs i r less is) ∙ drop_run r.document r.node r.count k rest in
-    ap (λ xs. xs ++ drop (k - r.count) rest) f ∙ (append_assoc (places back) (run r.document (r.node + k) (r.count - k)) (drop (k - r.count) rest) ∙ (sym (ap (λ xs. places back ++ xs) g) ∙ e))
+    let rest = elements_in (drop (i + 1) rs) in
+    let g : drop k (elements_in (drop i rs)) ≡ run r.document (r.node + k) (r.count - k) ++ drop (k - r.count) rest = ap (drop k) (from_one rs i r less is) ∙ drop_run r.document r.node r.count k rest in
+    ap (λ xs. xs ++ drop (k - r.count) rest) f ∙ (append_assoc (elements_in back) (run r.document (r.node + k) (r.count - k)) (drop (k - r.count) rest) ∙ (sym (ap (λ xs. elements_in back ++ xs) g) ∙ e))

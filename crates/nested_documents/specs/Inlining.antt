@@ -53,17 +53,17 @@ abbrev pub is_outermost : Owner → Bool
 is_outermost (System place) = place == 0
 is_outermost (Component place) = false
 
-abbrev pub same_kind : ConnectorKind → ConnectorKind → Bool
-same_kind kind.Input kind.Input = true
-same_kind kind.Output kind.Output = true
-same_kind kind.Parameter kind.Parameter = true
-same_kind kind.CalculatedParameter kind.CalculatedParameter = true
-same_kind _ _ = false
+abbrev pub is_same_kind : ConnectorKind → ConnectorKind → Bool
+is_same_kind kind.Input kind.Input = true
+is_same_kind kind.Output kind.Output = true
+is_same_kind kind.Parameter kind.Parameter = true
+is_same_kind kind.CalculatedParameter kind.CalculatedParameter = true
+is_same_kind _ _ = false
 
 -- the outermost System's, of the same name and kind
 abbrev pub is_inner : Connector → Connector → Bool
 is_inner wanted x =
-    is_outermost x.owner && (bytes_eq x.name wanted.name && same_kind x.kind wanted.kind)
+    is_outermost x.owner && (bytes_eq x.name wanted.name && is_same_kind x.kind wanted.kind)
 
 abbrev pub inner_place : List Connector → Connector → Option ℕ
 inner_place inner wanted = position (is_inner wanted) inner
@@ -77,11 +77,11 @@ own_connectors s connectors =
     let rest = drop s.connectors_before connectors in take (own_count s.component rest) rest
 
 -- the place in the whole of the inner connector, where there is one
-abbrev pub end_in : Seam → List Connector → Connector → ℕ
-end_in s inner wanted = unwrap_or (inner_place inner wanted) 0 + s.connectors_before
+abbrev pub inner_end : Seam → List Connector → Connector → ℕ
+inner_end s inner wanted = unwrap_or (inner_place inner wanted) 0 + s.connectors_before
 
-abbrev pub ends_of : Seam → List Connector → List Connector → List ℕ
-ends_of s outer inner = map (end_in s inner) (own_connectors s outer)
+abbrev pub inner_ends : Seam → List Connector → List Connector → List ℕ
+inner_ends s outer inner = map (inner_end s inner) (own_connectors s outer)
 
 -- ---- the whole
 
@@ -110,4 +110,4 @@ put_together s f ends outer inner = record {
 abbrev pub inlined : SystemTree → ℕ → ComponentPart → Frame → SystemTree → ℕ → SystemTree
 inlined outer place c f inner elements =
     let s = seam_of outer place c inner elements in
-    put_together s f (ends_of s outer.connectors inner.connectors) outer inner
+    put_together s f (inner_ends s outer.connectors inner.connectors) outer inner

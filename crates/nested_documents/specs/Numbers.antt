@@ -1,5 +1,5 @@
 -- Where the elements of documents stand that were put into one another: the whole is the list of its elements, and a number of the whole a place in it.
-use Rattle.std.specs.Prelude.{◌≡◌, ℕ, zero, suc, ◌+◌, ◌-◌, min, List, [], ◌∷◌, ◌++◌, take, drop}
+use Rattle.std.specs.Prelude.{ℕ, zero, suc, List, [], ◌∷◌, ◌++◌, take, drop}
 use Rattle.nested_documents.specs.declared.numbers.Place.{Place}
 use Rattle.nested_documents.specs.declared.numbers.Numbers.{Numbers}
 use Rattle.nested_documents.specs.declared.run.Run.{Run}
@@ -11,26 +11,15 @@ run document node (suc count) =
     record { document = document; node = node } ∷ run document (suc node) count
 
 -- the elements of these runs, one behind the other
-abbrev pub places : List Run → List Place
-places [] = []
-places (r ∷ rs) = run r.document r.node r.count ++ places rs
+abbrev pub elements_in : List Run → List Place
+elements_in [] = []
+elements_in (r ∷ rs) = run r.document r.node r.count ++ elements_in rs
 
 -- the elements of the whole, in their order
 abbrev pub elements_of : Numbers → List Place
-elements_of numbers = places numbers.runs.items
+elements_of numbers = elements_in numbers.runs.items
 
 -- the elements of a document before one of the whole
 abbrev pub with_elements : ℕ → ℕ → ℕ → List Place → List Place
 with_elements at document count elements =
     take at elements ++ (run document 0 count ++ drop at elements)
-
--- the first elements of a run, at most so many
-abbrev pub IsFirst : ℕ → Run → Run → Type 0
-IsFirst most r first =
-    (first.document ≡ r.document) × (first.node ≡ r.node) × (first.count ≡ min r.count most)
-
--- the elements behind so many of a run
-abbrev pub IsBehind : ℕ → Run → Run → Type 0
-IsBehind less r behind =
-    (behind.document ≡ r.document) × (behind.node ≡ r.node + less) ×
-    (behind.count ≡ r.count - less)

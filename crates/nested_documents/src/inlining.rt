@@ -2,7 +2,7 @@
 ghost use Rattle.std.specs.Prelude.{◌≡◌, ◌+◌, ◌<◌, ◌≤◌, ◌==◌, ◌&&◌, nat_lt, IfOk, bytes_eq, count_by, drop, length, map, position, slice_get, vec_len};
 ghost use Rattle.ssd_tree.specs.declared.tree.ComponentPart.{ComponentPart};
 ghost use Rattle.nested_documents.specs.Moves.{moved_binding, moved_component_part, moved_connection, moved_connector_part, moved_system_part};
-ghost use Rattle.nested_documents.specs.Inlining.{bindings_before, connections_before, connectors_before, end_in, ends_of, inlined, inner_place, is_inner, is_of, is_outermost, own_connectors, own_count, put, put_together, same_kind, seam_of, systems_before};
+ghost use Rattle.nested_documents.specs.Inlining.{bindings_before, connections_before, connectors_before, inner_end, inner_ends, inlined, inner_place, is_inner, is_of, is_outermost, own_connectors, own_count, put, put_together, is_same_kind, seam_of, systems_before};
 ghost use Rattle.nested_documents.specs.Parts.{tree_of};
 
 use crate::parts::Parts;
@@ -98,8 +98,8 @@ fn is_outermost(owner: Owner) -> bool
     }
 }
 
-fn same_kind(one: ConnectorKind, other: ConnectorKind) -> bool
-    ensures { result ≡ same_kind one other }
+fn is_same_kind(one: ConnectorKind, other: ConnectorKind) -> bool
+    ensures { result ≡ is_same_kind one other }
 {
     one == other
 }
@@ -110,7 +110,7 @@ fn is_inner(wanted: &Connector, inner: &Connector) -> bool
 {
     is_outermost(inner.owner)
         && inner.name.as_str() == wanted.name.as_str()
-        && same_kind(inner.kind, wanted.kind)
+        && is_same_kind(inner.kind, wanted.kind)
 }
 
 /// The place of the inner connector that stands for a connector of the Component: that of its name and kind at the
@@ -151,7 +151,7 @@ fn put<T: Drop>(outer: Vec<T>, at: usize, gone: usize, inner: Vec<T>) -> Result<
 impl Seam {
     // The place in the whole of the inner connector that stands for one of the Component's.
     fn end(&self, inner: &[Connector], wanted: &Connector) -> Result<usize, AllocError>
-        ensures { IfOk result (λ end. end ≡ end_in self.now inner.now wanted.now) }
+        ensures { IfOk result (λ end. end ≡ inner_end self.now inner.now wanted.now) }
     {
         let place = inner_place(inner, wanted).unwrap_or(0);
         place.checked_add(self.connectors_before).ok_or(AllocError)
@@ -174,7 +174,7 @@ impl Seam {
         inner: &[Connector],
     ) -> Result<Vec<usize>, AllocError>
         requires { self.now.connectors_before ≤ length outer.now }
-        ensures ends { IfOk result (λ ends. ends.items ≡ ends_of self.now outer.now inner.now) }
+        ensures ends { IfOk result (λ ends. ends.items ≡ inner_ends self.now outer.now inner.now) }
         ensures within { IfOk result (λ ends. self.now.connectors_before + vec_len ends ≤ length outer.now) }
     {
         let own = self.own(outer);

@@ -1,7 +1,7 @@
 //! The documents of a system, read one after the other and put together.
 ghost use Rattle.std.specs.Prelude.{◌≡◌, ◌↔◌, ◌-◌, ◌≤◌, [], None, IfErr, IfOk, IfSome, IsTrue, length, map, vec_len};
 ghost use Rattle.nested_documents.specs.Between.{AreBetween, places_of};
-ghost use Rattle.nested_documents.specs.Nest.{CanAdd, IsAdded, IsDocument, IsFrameOf, IsNext, IsTop, IsWhole, earlier, first_lacking, inner_waiting, is_before, is_refused, lacking_in, moved_waiting, top_waiting};
+ghost use Rattle.nested_documents.specs.Nest.{CanAdd, IsAdded, IsDocumentOf, IsFrameFor, IsNext, HoldsOnly, IsWholeNest, earlier_place, first_lacking, is_before, is_refused, lacking_in, moved_waiting, waiting_from};
 ghost use Rattle.nested_documents.specs.Numbers.{elements_of};
 
 use crate::components::{NestedComponent, Waiting};
@@ -10,7 +10,7 @@ use crate::held::{DocumentParts, Nest};
 use crate::inlining::{inlined, inner_place, seam_of};
 use crate::numbers::{Numbers, Place};
 use crate::parts::Parts;
-use crate::seam::{Frame, Seam, Side};
+use crate::seam::{Frame, Seam, Side, sum};
 use sim_base::Text;
 use ssd_tree::{ComponentPart, Connector, SystemTree};
 use std::alloc::{AllocError, Global};
@@ -26,7 +26,7 @@ impl DocumentParts {
     pub fn new(parts: Parts, nested: Vec<NestedComponent>, elements: usize) -> Option<DocumentParts>
         ensures none { result ≡ None →
             AreBetween 0 (vec_len parts.components) (places_of nested.items) → ⊥ }
-        ensures some { IfSome result (IsDocument parts nested.items elements) }
+        ensures some { IfSome result (IsDocumentOf parts nested.items elements) }
     {
         if are_between(&nested, parts.components.len()) {
             Some(DocumentParts {
@@ -86,8 +86,8 @@ fn is_before(one: Place, other: Place) -> bool
 }
 
 // The earlier of two places, where there are any.
-fn earlier(one: Option<Place>, other: Option<Place>) -> Option<Place>
-    ensures { result ≡ earlier one other }
+fn earlier_place(one: Option<Place>, other: Option<Place>) -> Option<Place>
+    ensures { result ≡ earlier_place one other }
 {
     match one {
         None => other,
@@ -116,7 +116,7 @@ fn frame_of(
     component: &ComponentPart,
     waiting: &Waiting,
 ) -> Result<Frame, AllocError>
-    ensures { IfOk result (IsFrameOf component.now waiting.now) }
+    ensures { IfOk result (IsFrameFor component.now waiting.now) }
 {
     Ok(Frame {
         name: component.name.copy(alloc)?,
@@ -125,16 +125,16 @@ fn frame_of(
     })
 }
 
-// The Components of a document that wait for theirs.
+// The Components of a document that wait for theirs, where so many Components stand before the document's.
 fn waiting_of(
     alloc: Global,
-    seam: &Seam,
+    before: usize,
     document: usize,
     level: usize,
     nested: Vec<NestedComponent>,
 ) -> Result<Vec<Waiting>, AllocError>
     ensures { IfOk result (λ waiting. waiting.items ≡
-        map (inner_waiting seam.now document level) nested.items) }
+        map (waiting_from before document level) nested.items) }
 {
     let mut waiting = Vec::with_capacity(alloc, nested.len())?;
     let mut left = nested.into_iter();
@@ -146,35 +146,11 @@ fn waiting_of(
             kind,
         } = one;
         waiting.push(Waiting {
-            component: seam.component(Side::Inner, component)?,
+            component: sum(component, before)?,
             place: Place { document, node },
             own_name,
             kind,
             level,
-        })?;
-    }
-    Ok(waiting)
-}
-
-// The Components of the outermost document that wait.
-fn top_waiting(alloc: Global, nested: Vec<NestedComponent>) -> Result<Vec<Waiting>, AllocError>
-    ensures { IfOk result (λ waiting. waiting.items ≡ map top_waiting nested.items) }
-{
-    let mut waiting = Vec::with_capacity(alloc, nested.len())?;
-    let mut left = nested.into_iter();
-    while let Some(one) = left.next() {
-        let NestedComponent {
-            component,
-            node,
-            own_name,
-            kind,
-        } = one;
-        waiting.push(Waiting {
-            component,
-            place: Place { document: 0, node },
-            own_name,
-            kind,
-            level: 1,
         })?;
     }
     Ok(waiting)
@@ -250,14 +226,14 @@ impl Nest {
 
     /// The outermost document, whose nested Components wait.
     pub fn new(alloc: Global, top: DocumentParts) -> Result<Nest, AllocError>
-        ensures { IfOk result (IsTop top) }
+        ensures { IfOk result (HoldsOnly top) }
     {
         let DocumentParts {
             parts,
             nested,
             elements,
         } = top;
-        let waiting = top_waiting(alloc, nested)?;
+        let waiting = waiting_of(alloc, 0, 0, 1, nested)?;
         let numbers = Numbers::new(alloc, 0, elements)?;
         Ok(Nest {
             parts,
@@ -289,7 +265,7 @@ impl Nest {
         let seam = seam_of(&parts, next.component, &inner, elements);
         let frame = frame_of(alloc, &parts.components[next.component], &next)?;
         let here = lacking_in(&numbers, &seam, &parts.connectors, &inner.connectors);
-        let mut waits = waiting_of(alloc, &seam, documents, next.level + 1, nested)?;
+        let mut waits = waiting_of(alloc, next.component, documents, next.level + 1, nested)?;
         let mut rest = moved_on(alloc, &seam, waiting)?;
         waits.append(&mut rest)?;
         numbers.insert(alloc, seam.node, documents, elements)?;
@@ -299,7 +275,7 @@ impl Nest {
             waiting: waits,
             numbers,
             documents: documents + 1,
-            lacking: earlier(lacking, here),
+            lacking: earlier_place(lacking, here),
         })
     }
 
@@ -307,7 +283,7 @@ impl Nest {
     /// outermost System of the Component's document has none of its name and kind.
     pub fn finish(self) -> Result<Whole, Place>
         requires { self.waiting.items ≡ [] }
-        ensures whole { IfOk result (IsWhole self) }
+        ensures whole { IfOk result (IsWholeNest self) }
         ensures lacking { IfErr result (λ place. self.lacking ≡ Some place) }
     {
         let Nest {

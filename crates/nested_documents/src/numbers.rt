@@ -1,6 +1,6 @@
 //! Where the elements of documents stand that were put into one another.
 ghost use Rattle.std.specs.Prelude.{◌≡◌, ◌+◌, ◌-◌, ◌++◌, ◌<◌, IfOk, OnOk, drop, min, slice_get, take};
-ghost use Rattle.nested_documents.specs.Numbers.{IsBehind, IsFirst, elements_of, places, run, with_elements};
+ghost use Rattle.nested_documents.specs.Numbers.{elements_in, elements_of, run, with_elements};
 
 use crate::run::Run;
 use std::alloc::{AllocError, Global};
@@ -18,52 +18,35 @@ pub struct Numbers {
     runs: Vec<Run>,
 }
 
-impl Run {
-    // The first elements of the run, at most so many.
-    fn first(&self, most: usize) -> Run
-        ensures { IsFirst most self.now result }
-    {
-        Run {
-            document: self.document,
-            node: self.node,
-            count: self.count.min(most),
-        }
-    }
-
-    // The elements behind the first, so many.
-    fn behind(&self, less: usize) -> Run
-        requires { less < self.now.count }
-        ensures { IsBehind less self.now result }
-    {
-        Run {
-            document: self.document,
-            node: self.node + less,
-            count: self.count - less,
-        }
-    }
-}
-
 // The first elements of a run behind others, at most so many.
 fn push_first(runs: &mut Vec<Run>, one: &Run, most: usize) -> Result<(), AllocError>
-    ensures { OnOk result (places runs.new.items ≡
-        places runs.old.items ++ run one.now.document one.now.node (min one.now.count most)) }
+    ensures { OnOk result (elements_in runs.new.items ≡ elements_in runs.old.items
+        ++ run one.now.document one.now.node (min one.now.count most)) }
 {
     if most == 0 {
         return Ok(());
     }
-    runs.push(one.first(most))?;
+    runs.push(Run {
+        document: one.document,
+        node: one.node,
+        count: one.count.min(most),
+    })?;
     Ok(())
 }
 
 // The elements of a run but the first, so many, behind others.
 fn push_behind(runs: &mut Vec<Run>, one: &Run, less: usize) -> Result<(), AllocError>
-    ensures { OnOk result (places runs.new.items ≡
-        places runs.old.items ++ run one.now.document (one.now.node + less) (one.now.count - less)) }
+    ensures { OnOk result (elements_in runs.new.items ≡ elements_in runs.old.items
+        ++ run one.now.document (one.now.node + less) (one.now.count - less)) }
 {
     if one.count <= less {
         return Ok(());
     }
-    runs.push(one.behind(less))?;
+    runs.push(Run {
+        document: one.document,
+        node: one.node + less,
+        count: one.count - less,
+    })?;
     Ok(())
 }
 
@@ -98,30 +81,22 @@ impl Numbers {
         None
     }
 
-    // The first elements, so many.
-    fn front(&self, alloc: Global, at: usize) -> Result<Vec<Run>, AllocError>
-        ensures { IfOk result (λ runs. places runs.items ≡ take at (elements_of self.now)) }
+    // The first elements, so many, and those behind them.
+    fn split(&self, alloc: Global, at: usize) -> Result<(Vec<Run>, Vec<Run>), AllocError>
+        ensures front { IfOk result
+            (λ runs. elements_in runs.0.items ≡ take at (elements_of self.now)) }
+        ensures back { IfOk result
+            (λ runs. elements_in runs.1.items ≡ drop at (elements_of self.now)) }
     {
         let mut front = Vec::with_capacity(alloc, self.runs.len())?;
-        let mut left = at;
-        for run in &self.runs {
-            push_first(&mut front, run, left)?;
-            left = left.saturating_sub(run.count);
-        }
-        Ok(front)
-    }
-
-    // The elements behind the first, so many.
-    fn back(&self, alloc: Global, at: usize) -> Result<Vec<Run>, AllocError>
-        ensures { IfOk result (λ runs. places runs.items ≡ drop at (elements_of self.now)) }
-    {
         let mut back = Vec::with_capacity(alloc, self.runs.len())?;
         let mut left = at;
         for run in &self.runs {
+            push_first(&mut front, run, left)?;
             push_behind(&mut back, run, left)?;
             left = left.saturating_sub(run.count);
         }
-        Ok(back)
+        Ok((front, back))
     }
 
     /// The elements of a document before the one with a number.
@@ -135,8 +110,7 @@ impl Numbers {
         ensures { OnOk result (elements_of self.new ≡
             with_elements at document count (elements_of self.old)) }
     {
-        let mut runs = self.front(alloc, at)?;
-        let mut back = self.back(alloc, at)?;
+        let (mut runs, mut back) = self.split(alloc, at)?;
         runs.push(Run {
             document,
             node: 0,

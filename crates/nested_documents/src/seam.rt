@@ -45,8 +45,8 @@ pub struct Frame {
     pub folder: Text,
 }
 
-// A sum that is a number of this machine.
-fn sum(a: usize, b: usize) -> Result<usize, AllocError>
+/// A sum that is a number of this machine.
+pub(crate) fn sum(a: usize, b: usize) -> Result<usize, AllocError>
     ensures { IfOk result (λ n. n ≡ a + b) }
 {
     a.checked_add(b).ok_or(AllocError)

@@ -24,8 +24,8 @@ use Rattle.parameter_binding.specs.declared.sets.BindingSets.{BindingSets}
 use Rattle.parameter_binding.specs.declared.winners.Best.{Best}
 use Rattle.parameter_binding.specs.declared.winners.Winners.{Winners}
 use Rattle.parameter_binding.specs.Answers.{Faults, IsToldIn, Refuses, file_in}
-use Rattle.parameter_binding.specs.Binds.{AreBound, AreBoundOf, IsBoundAt, IsLater, IsReached, ListsUnreached, Reaches, Triple, Wins, target_at}
-use Rattle.parameter_binding.specs.Rules.{Breaks, IsBefore, IsSetBefore, IsFirstViolation, IsFitting, Place, Violates}
+use Rattle.parameter_binding.specs.Binds.{AreBound, AreBoundOf, IsBoundAt, IsLater, IsReached, ListsUnreached, ReachesTarget, Triple, Wins, target_at}
+use Rattle.parameter_binding.specs.Rules.{Breaks, IsBefore, IsSetBefore, IsFirstParameterViolation, IsFitting, Place, ViolatesParameters}
 use Rattle.parameter_binding.specs.Walk.{AreAllGathered, AreAllValues, AreCounted, AreValues, FindsFault, IsBest, IsBoundOf, IsCounted, IsFirstFault, IsRefusalOf, IsUpTo, IsWinner, best_of, place_of, stage, triple_at}
 use Rattle.parameter_binding.proofs.MoveLemmas.{IsReal, real_of_broken}
 
@@ -91,7 +91,7 @@ module _ (t : SystemTree) (shapes : List Shape) (sets : List BindingSets) (g : G
   past : length t.bindings ≤ are.b
   past = are.all none
 
-  later_reached : (target : Target) (c : Triple) → Reaches t shapes sets target c → IsLater (triple_at are.b 0 0) c
+  later_reached : (target : Target) (c : Triple) → ReachesTarget t shapes sets target c → IsLater (triple_at are.b 0 0) c
   later_reached target c h = come_all t sets are.b c past (record { binding = h.binding; parameter = h.parameter; name = h.name; change = h.change; is = h.is })
 
   pub fitting_all : IsFitting t shapes sets
@@ -264,10 +264,10 @@ module _ (t : SystemTree) (shapes : List Shape) (sets : List BindingSets) (b : �
   binding_below : f.binding < b
   binding_below = let e = breaks_binding t shapes sets f.rule (place_of f) first.triple first.broken in let l = before_at b first.triple first.done in omega (arith, e, l)
 
-  up_to : (rule : ParameterRule) (p : Place) → p.binding < b → Violates t shapes sets rule p → IsUpTo (place_of f) f.rule p rule
+  up_to : (rule : ParameterRule) (p : Place) → p.binding < b → ViolatesParameters t shapes sets rule p → IsUpTo (place_of f) f.rule p rule
   up_to rule p less v = first.least v.0 rule p (inl (let e = breaks_binding t shapes sets rule p v.0 v.1 in omega (arith, e, less))) v.1
 
-  pub first_violation : IsFirstViolation t shapes sets (place_of f) f.rule
+  pub first_violation : IsFirstParameterViolation t shapes sets (place_of f) f.rule
   first_violation = record {
     broken = (first.triple, first.broken);
     least = λ other less v. not_less (place_of f) f.rule other (up_to other (place_of f) binding_below v) less;
@@ -275,20 +275,20 @@ module _ (t : SystemTree) (shapes : List Shape) (sets : List BindingSets) (b : �
   }
 
   -- there is one first violation
-  one_violation : (p : Place) (rule : ParameterRule) → IsFirstViolation t shapes sets p rule → (place_of f ≡ p) × (f.rule ≡ rule)
+  one_violation : (p : Place) (rule : ParameterRule) → IsFirstParameterViolation t shapes sets p rule → (place_of f ≡ p) × (f.rule ≡ rule)
   one_violation p rule other = by (cases_lt p.binding b)
     where
       same_place : f.binding ≡ p.binding → f.in_mapping ≡ p.in_mapping → f.node ≡ p.node → place_of f ≡ p
       same_place x y z = ap (λ n. place_at n f.in_mapping f.node) x ∙ ap (λ m. place_at p.binding m f.node) y ∙ ap (λ k. place_at p.binding p.in_mapping k) z
 
-      mine : Violates t shapes sets f.rule (place_of f)
+      mine : ViolatesParameters t shapes sets f.rule (place_of f)
       mine = (first.triple, first.broken)
 
       same_rule : place_of f ≡ p → parameter_number f.rule ≤ parameter_number rule → f.rule ≡ rule
       same_rule e up = at (cases_lt (parameter_number f.rule) (parameter_number rule))
         where
           at : (parameter_number f.rule < parameter_number rule) ⊎ (parameter_number rule ≤ parameter_number f.rule) → f.rule ≡ rule
-          at (inl less) = absurd (other.least f.rule less (subst (Violates t shapes sets f.rule) e mine))
+          at (inl less) = absurd (other.least f.rule less (subst (ViolatesParameters t shapes sets f.rule) e mine))
           at (inr more) = number_once f.rule rule (omega (arith, up, more))
 
       stage_less : (x y : Bool) → stage x < stage y → IsSetBefore x y
@@ -318,7 +318,7 @@ module _ (t : SystemTree) (shapes : List Shape) (sets : List BindingSets) (b : �
   faults_of (At file node rule ports) h = (f.rule, record { place = place_of f; first = first_violation; node_is = sym h.1; file_is = subst (IsToldIn sets (place_of f)) (sym h.0) first.told }, h.2, h.3)
   faults_of Memory h = absurd h
 
-  pub refuses_of : (A : Type 0) (e : Refusal) (p : Place) (rule : ParameterRule) (file : ℕ) → IsRefusalOf f e → IsFirstViolation t shapes sets p rule → IsToldIn sets p file → Refuses {A = A} (Err e) file p.node rule
+  pub refuses_of : (A : Type 0) (e : Refusal) (p : Place) (rule : ParameterRule) (file : ℕ) → IsRefusalOf f e → IsFirstParameterViolation t shapes sets p rule → IsToldIn sets p file → Refuses {A = A} (Err e) file p.node rule
   refuses_of A (At k node told ports) p rule file h other in_file =
       let one = one_violation p rule other in
       (h.0 ∙ one_file p f.file (subst (λ z. IsToldIn sets z f.file) one.0 first.told) file in_file, h.1 ∙ ap (λ (z : Place). z.node) one.0, h.2 ∙ ap (λ z. Parameters z) one.1, h.3)
@@ -334,7 +334,7 @@ pub ok_fitting : (t : SystemTree) (shapes : List Shape) (sets : List BindingSets
 ok_fitting t shapes sets g (Ok bound) are none = fitting_all t shapes sets g are none
 ok_fitting t shapes sets g (Err e) are none = tt
 
-pub ok_exact : (t : SystemTree) (shapes : List Shape) (sets : List BindingSets) (g : Gathered) (r : Result Bound Refusal) → AreAllGathered t shapes sets g → g.fault ≡ None → IfErr r (λ e. e ≡ Memory) → (place : Place) (rule : ParameterRule) (file : ℕ) → IsFirstViolation t shapes sets place rule → Refuses r file place.node rule
+pub ok_exact : (t : SystemTree) (shapes : List Shape) (sets : List BindingSets) (g : Gathered) (r : Result Bound Refusal) → AreAllGathered t shapes sets g → g.fault ≡ None → IfErr r (λ e. e ≡ Memory) → (place : Place) (rule : ParameterRule) (file : ℕ) → IsFirstParameterViolation t shapes sets place rule → Refuses r file place.node rule
 ok_exact t shapes sets g (Ok bound) are none memory place rule file first = fitting_all t shapes sets g are none rule place first.broken
 ok_exact t shapes sets g (Err e) are none memory place rule file first = subst (λ z. Refuses {A = Bound} (Err z) file place.node rule) (sym memory) tt
 

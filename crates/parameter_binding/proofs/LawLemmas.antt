@@ -19,7 +19,7 @@ use Rattle.parameter_targets.specs.declared.target.Target.{Target}
 use Rattle.parameter_targets.specs.Scopes.{IsDepth, IsLevel}
 use Rattle.parameter_targets.proofs.CallerLemmas.{contains_at, place_of, depth_once}
 use Rattle.parameter_binding.specs.declared.sets.BindingSets.{BindingSets}
-use Rattle.parameter_binding.specs.Binds.{AreBound, AreBoundOf, Beats, Binds, HasLevel, IsBoundAt, IsCandidate, IsLater, IsReached, ListsUnreached, Reaches, Triple, Wins, target_at}
+use Rattle.parameter_binding.specs.Binds.{AreBound, AreBoundOf, Beats, Binds, HasLevel, IsBoundAt, IsCandidate, IsLater, IsReached, ListsUnreached, ReachesTarget, Triple, Wins, target_at}
 use Rattle.parameter_binding.proofs.OnceLemmas.{candidate_once, gives_once, target_once}
 
 -- ---- one winner
@@ -76,7 +76,7 @@ one_value t shapes sets target x y a b =
     let same : a.0 ≡ b.0 = one_winner t shapes sets target a.0 b.0 a.1.0 b.1.0 in
     by a.0 b.0 same a.1.0.reaches b.1.0.reaches a.1.1 b.1.1
   where
-    by : (c d : Triple) → c ≡ d → (r : Reaches t shapes sets target c) (s : Reaches t shapes sets target d) → Gives r.change r.parameter.value x → Gives s.change s.parameter.value y → x ≡ y
+    by : (c d : Triple) → c ≡ d → (r : ReachesTarget t shapes sets target c) (s : ReachesTarget t shapes sets target d) → Gives r.change r.parameter.value x → Gives s.change s.parameter.value y → x ≡ y
     by c d e r s g h =
         let one = candidate_once t sets d r.binding s.binding r.parameter s.parameter r.name s.name r.change s.change (subst (λ z. IsCandidate t sets z r.binding r.parameter r.name r.change) e r.is) s.is in
         gives_once s.change s.parameter.value x y

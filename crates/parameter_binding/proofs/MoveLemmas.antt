@@ -20,7 +20,7 @@ use Rattle.parameter_binding.specs.declared.fault.Fault.{Fault}
 use Rattle.parameter_binding.specs.declared.gathered.Gathered.{Gathered}
 use Rattle.parameter_binding.specs.declared.sets.BindingSets.{BindingSets}
 use Rattle.parameter_binding.specs.declared.walk.Walk.{Walk}
-use Rattle.parameter_binding.specs.Binds.{IsCandidate, IsLater, IsMapped, Reaches, Triple, mapping_of, prefixed}
+use Rattle.parameter_binding.specs.Binds.{IsCandidate, IsLater, IsMapped, ReachesTarget, Triple, mapping_of, prefixed}
 use Rattle.parameter_binding.specs.Rules.{Breaks, Place}
 use Rattle.parameter_binding.specs.Walk.{AreGathered, FindsFault, IsCounted, IsGathered, IsNothing, IsUpToTriple, IsGatheredTo, IsWinner, best_of, names_in, triple_at}
 use Rattle.parameter_binding.proofs.GatherLemmas.{counted_as, counted_zero}
@@ -33,7 +33,7 @@ pub record IsReal (t : SystemTree) (sets : List BindingSets) (c : Triple) : Type
   pub change : Option Change
   pub is : IsCandidate t sets c binding parameter name change
 
-real_of_reached : (t : SystemTree) (shapes : List Shape) (sets : List BindingSets) (target : Target) (c : Triple) → Reaches t shapes sets target c → IsReal t sets c
+real_of_reached : (t : SystemTree) (shapes : List Shape) (sets : List BindingSets) (target : Target) (c : Triple) → ReachesTarget t shapes sets target c → IsReal t sets c
 real_of_reached t shapes sets target c h = record { binding = h.binding; parameter = h.parameter; name = h.name; change = h.change; is = h.is }
 
 pub real_of_broken : (t : SystemTree) (shapes : List Shape) (sets : List BindingSets) (rule : ParameterRule) (p : Place) (c : Triple) → Breaks t shapes sets rule p c → IsReal t sets c

@@ -30,7 +30,7 @@ use Rattle.parameter_targets.specs.Scopes.{IsTarget, Sees}
 use Rattle.parameter_binding.specs.declared.fault.Fault.{Fault}
 use Rattle.parameter_binding.specs.declared.sets.BindingSets.{BindingSets}
 use Rattle.parameter_binding.specs.declared.visit.Visit.{Visit}
-use Rattle.parameter_binding.specs.Binds.{IsMapped, Reaches, Triple, change_of, mapping_of, prefixed}
+use Rattle.parameter_binding.specs.Binds.{IsMapped, ReachesTarget, Triple, change_of, mapping_of, prefixed}
 use Rattle.parameter_binding.specs.Rules.{Breaks, Holds, NamesTwo, Place, ReachesOther}
 use Rattle.parameter_binding.specs.Walk.{AreSeen, BreaksVia, CoveredBy, FindsFault, HasTwo, IsJudged, IsOwnFault, IsUpTo, IsVisit, NoneBreaks, mapping_fault, place_of, set_fault, stage, triple_of}
 use Rattle.parameter_binding.proofs.OnceLemmas.{candidate_once, gives_once, target_once}
@@ -56,17 +56,17 @@ module _ (t : SystemTree) (shapes : List Shape) (sets : List BindingSets) (bindi
   c : Triple
   c = triple_of v
 
-  abbrev pub reaches_own : (target : Target) → Sees t shapes binding.owner name target → Reaches t shapes sets target (triple_of v)
+  abbrev pub reaches_own : (target : Target) → Sees t shapes binding.owner name target → ReachesTarget t shapes sets target (triple_of v)
   reaches_own target sees = record { binding = binding; parameter = v.parameter.now; name = name; change = change; is = visit.candidate; sees = sees }
 
   -- what reaches by the triple has its parameter and its change
-  parameter_is : (target : Target) (h : Reaches t shapes sets target (triple_of v)) → h.parameter ≡ v.parameter.now
+  parameter_is : (target : Target) (h : ReachesTarget t shapes sets target (triple_of v)) → h.parameter ≡ v.parameter.now
   parameter_is target h = (candidate_once t sets (triple_of v) h.binding binding h.parameter v.parameter.now h.name name h.change change h.is visit.candidate).parameter
 
-  change_is : (target : Target) (h : Reaches t shapes sets target (triple_of v)) → h.change ≡ change
+  change_is : (target : Target) (h : ReachesTarget t shapes sets target (triple_of v)) → h.change ≡ change
   change_is target h = (candidate_once t sets (triple_of v) h.binding binding h.parameter v.parameter.now h.name name h.change change h.is visit.candidate).change
 
-  pub sees_own : (target : Target) (h : Reaches t shapes sets target (triple_of v)) → Sees t shapes binding.owner name target
+  pub sees_own : (target : Target) (h : ReachesTarget t shapes sets target (triple_of v)) → Sees t shapes binding.owner name target
   sees_own target h =
       let one = candidate_once t sets (triple_of v) h.binding binding h.parameter v.parameter.now h.name name h.change change h.is visit.candidate in
       subst (λ (z : Binding). Sees t shapes z.owner name target) one.binding (subst (λ n. Sees t shapes h.binding.owner n target) one.name h.sees)
@@ -261,7 +261,7 @@ judged_more t shapes sets c targets i d a b o less either both judged was = reco
 
 module _ (t : SystemTree) (shapes : List Shape) (sets : List BindingSets) (binding : Binding) (name : List ℕ) (change : Option Change) (v : Visit) (visit : IsVisit t sets v binding name change) (targets : List Target) (seen : AreSeen t shapes binding name targets)
   where
-    pub in_list : (target : Target) → Reaches t shapes sets target (triple_of v) → Contains targets target
+    pub in_list : (target : Target) → ReachesTarget t shapes sets target (triple_of v) → Contains targets target
     in_list target h = (seen target).1 (sees_own t shapes sets binding name change v visit target h)
 
     two_of : (p : Place) → NamesTwo t shapes sets p (triple_of v) → HasTwo targets

@@ -26,7 +26,7 @@ use Rattle.parameter_binding.specs.declared.sets.BindingSets.{BindingSets}
 use Rattle.parameter_binding.specs.declared.visit.Visit.{Visit}
 use Rattle.parameter_binding.specs.declared.winners.Best.{Best}
 use Rattle.parameter_binding.specs.declared.winners.Winners.{Winners}
-use Rattle.parameter_binding.specs.Binds.{Beats, HasLevel, IsLater, Reaches, Triple}
+use Rattle.parameter_binding.specs.Binds.{Beats, HasLevel, IsLater, ReachesTarget, Triple}
 use Rattle.parameter_binding.specs.Walk.{AreSeen, AreWinners, IsBest, IsPut, IsUpToTriple, IsVisit, IsWinner, PutsBest, PutsTaken, best_of, target_cmp, triple_of}
 use Rattle.parameter_binding.proofs.MapLemmas.{updated_each}
 use Rattle.parameter_binding.proofs.OnceLemmas.{target_once}
@@ -83,7 +83,7 @@ has_level_once t b m n x y = level_once t y.0.owner m n (subst (λ (z : Binding)
 
 -- ---- winners among other triples
 
-pub winner_as : (t : SystemTree) (shapes : List Shape) (sets : List BindingSets) (Done More : Triple → Type 0) (target : Target) (w : Option Best) → ((d : Triple) → Done d → More d) → ((d : Triple) → More d → Reaches t shapes sets target d → Done d)
+pub winner_as : (t : SystemTree) (shapes : List Shape) (sets : List BindingSets) (Done More : Triple → Type 0) (target : Target) (w : Option Best) → ((d : Triple) → Done d → More d) → ((d : Triple) → More d → ReachesTarget t shapes sets target d → Done d)
     → IsWinner t shapes sets Done target w → IsWinner t shapes sets More target w
 winner_as t shapes sets Done More target None there back was = λ d done reaches. was d (back d done reaches) reaches
 winner_as t shapes sets Done More target (Some b) there back was = record {
@@ -108,7 +108,7 @@ module _ (t : SystemTree) (shapes : List Shape) (sets : List BindingSets) (bindi
     variable_is = target_once shapes target sees.variable w sees.is is
 
     -- the next wins, where all others have no higher level
-    next_best : ((d : Triple) → Done d → Reaches t shapes sets target d → (n : ℕ) × (HasLevel t d.binding n × (best.level ≤ n))) → IsBest t shapes sets More target best
+    next_best : ((d : Triple) → Done d → ReachesTarget t shapes sets target d → (n : ℕ) × (HasLevel t d.binding n × (best.level ≤ n))) → IsBest t shapes sets More target best
     next_best lower = record {
       triple = triple_of v;
       done = own;
@@ -128,12 +128,12 @@ module _ (t : SystemTree) (shapes : List Shape) (sets : List BindingSets) (bindi
             by (inl less) = inl less
             by (inr more) = let low = h.1.1 in inr (omega (arith, low, more), later)
 
-        beats : (d : Triple) → Done d ⊎ (d ≡ triple_of v) → Reaches t shapes sets target d → (d ≡ triple_of v) ⊎ Beats t (triple_of v) d
+        beats : (d : Triple) → Done d ⊎ (d ≡ triple_of v) → ReachesTarget t shapes sets target d → (d ≡ triple_of v) ⊎ Beats t (triple_of v) d
         beats d (inl done) reaches = over d (before d done) (lower d done reaches)
         beats d (inr same) reaches = inl same
 
     -- the levels of all that the best of before beats
-    lower_than : (b : Best) → IsBest t shapes sets Done target b → best.level ≤ b.level → (d : Triple) → Done d → Reaches t shapes sets target d → (n : ℕ) × (HasLevel t d.binding n × (best.level ≤ n))
+    lower_than : (b : Best) → IsBest t shapes sets Done target b → best.level ≤ b.level → (d : Triple) → Done d → ReachesTarget t shapes sets target d → (n : ℕ) × (HasLevel t d.binding n × (best.level ≤ n))
     lower_than b was less d done reaches = by (was.beats d done reaches)
       where
         by : (d ≡ was.triple) ⊎ Beats t was.triple d → (n : ℕ) × (HasLevel t d.binding n × (best.level ≤ n))
@@ -159,7 +159,7 @@ module _ (t : SystemTree) (shapes : List Shape) (sets : List BindingSets) (bindi
       beats = λ d done reaches. beats d (back d done) reaches;
     }
       where
-        beats : (d : Triple) → Done d ⊎ (d ≡ triple_of v) → Reaches t shapes sets target d → (d ≡ was.triple) ⊎ Beats t was.triple d
+        beats : (d : Triple) → Done d ⊎ (d ≡ triple_of v) → ReachesTarget t shapes sets target d → (d ≡ was.triple) ⊎ Beats t was.triple d
         beats d (inl done) reaches = was.beats d done reaches
         beats d (inr same) reaches = inr (record {
           own = b.level;
@@ -244,6 +244,6 @@ module _ (t : SystemTree) (shapes : List Shape) (sets : List BindingSets) (bindi
       there d (inl h) = inl h
       there d (inr h) = inr h.0
 
-      back : (d : Triple) → IsUpToTriple (triple_of v) d → Reaches t shapes sets target d → IsDoneAt (take i targets) target d
+      back : (d : Triple) → IsUpToTriple (triple_of v) d → ReachesTarget t shapes sets target d → IsDoneAt (take i targets) target d
       back d (inl h) reaches = inl h
-      back d (inr same) reaches = inr (same, subst (λ (z : List Target). Contains z target) (sym (take_all i targets past)) (in_list t shapes sets binding name change v visit targets seen target (subst (Reaches t shapes sets target) same reaches)))
+      back d (inr same) reaches = inr (same, subst (λ (z : List Target). Contains z target) (sym (take_all i targets past)) (in_list t shapes sets binding name change v visit targets seen target (subst (ReachesTarget t shapes sets target) same reaches)))

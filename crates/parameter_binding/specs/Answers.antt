@@ -9,7 +9,7 @@ use Rattle.doc_tree.specs.declared.rule.Rule.TheVariants.{Parameters}
 use Rattle.ssd_tree.specs.declared.tree.SystemTree.{SystemTree}
 use Rattle.parameter_binding.specs.declared.sets.BindingSets.{BindingSets}
 use Rattle.parameter_binding.specs.declared.sets.MappingOf.{MappingOf}
-use Rattle.parameter_binding.specs.Rules.{Place, IsFirstViolation}
+use Rattle.parameter_binding.specs.Rules.{Place, IsFirstParameterViolation}
 
 -- the file of a binding's set, or of its mapping
 abbrev pub file_in : Bool → BindingSets → Option ℕ
@@ -25,7 +25,7 @@ IsToldIn sets p file =
 pub record IsTold (t : SystemTree) (shapes : List Shape) (sets : List BindingSets) (file node : ℕ)
     (broken : ParameterRule) : Type 0 where
   pub place : Place
-  pub first : IsFirstViolation t shapes sets place broken
+  pub first : IsFirstParameterViolation t shapes sets place broken
   pub node_is : place.node ≡ node
   pub file_is : IsToldIn sets place file
 

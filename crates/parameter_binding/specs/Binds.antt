@@ -55,7 +55,7 @@ pub record IsCandidate (t : SystemTree) (sets : List BindingSets) (c : Triple) (
   pub mapped : IsMapped (mapping_of given) c.entry (prefixed binding parameter) name change
 
 -- the triple reaches the target
-pub record Reaches (t : SystemTree) (shapes : List Shape) (sets : List BindingSets)
+pub record ReachesTarget (t : SystemTree) (shapes : List Shape) (sets : List BindingSets)
     (target : Target) (c : Triple) : Type 0 where
   pub binding : Binding
   pub parameter : Parameter
@@ -98,8 +98,8 @@ pub record Beats (t : SystemTree) (c d : Triple) : Type 0 where
 -- the triple reaches the target and beats each other that does
 pub record Wins (t : SystemTree) (shapes : List Shape) (sets : List BindingSets) (target : Target)
     (c : Triple) : Type 0 where
-  pub reaches : Reaches t shapes sets target c
-  pub beats : (d : Triple) → Reaches t shapes sets target d → (d ≡ c) ⊎ Beats t c d
+  pub reaches : ReachesTarget t shapes sets target c
+  pub beats : (d : Triple) → ReachesTarget t shapes sets target d → (d ≡ c) ⊎ Beats t c d
 
 -- the target gets this value
 abbrev pub Binds : SystemTree → List Shape → List BindingSets → Target → ℤ → Type 0
@@ -123,7 +123,7 @@ pub record IsBoundAt (t : SystemTree) (shapes : List Shape) (sets : List Binding
 
 -- some triple reaches the variable
 abbrev pub IsReached : SystemTree → List Shape → List BindingSets → ℕ → ℕ → Type 0
-IsReached t shapes sets i v = (c : Triple) × Reaches t shapes sets (target_at i v) c
+IsReached t shapes sets i v = (c : Triple) × ReachesTarget t shapes sets (target_at i v) c
 
 -- the values of the i-th component: of each variable that is reached, in the order of its description
 pub record AreBoundOf (t : SystemTree) (shapes : List Shape) (sets : List BindingSets) (i : ℕ)

@@ -15,7 +15,7 @@ use Rattle.ssd_tree.specs.declared.tree.SystemTree.{SystemTree}
 use Rattle.parameter_binding.specs.declared.sets.BindingSets.{BindingSets}
 use Rattle.parameter_targets.specs.declared.target.Target.{Target}
 use Rattle.parameter_targets.specs.Scopes.{Sees}
-use Rattle.parameter_binding.specs.Binds.{Triple, Reaches, mapping_of}
+use Rattle.parameter_binding.specs.Binds.{Triple, ReachesTarget, mapping_of}
 
 -- ---- places
 
@@ -41,7 +41,7 @@ IsBefore p q =
 pub record ReachesKind (t : SystemTree) (shapes : List Shape) (sets : List BindingSets) (c : Triple)
     (kind : PortType) : Type 0 where
   pub target : Target
-  pub reaches : Reaches t shapes sets target c
+  pub reaches : ReachesTarget t shapes sets target c
   pub kind_is : reaches.sees.variable.kind ≡ Some kind
 
 -- the triple is of the Parameter at this place and reaches a target, and this holds of its change, its value and the target's type
@@ -76,7 +76,7 @@ pub record NamesTwo (t : SystemTree) (shapes : List Shape) (sets : List BindingS
   pub target : Target
   pub other : Target
   pub apart : target ≢ other
-  pub reaches : Reaches t shapes sets target triple
+  pub reaches : ReachesTarget t shapes sets target triple
   pub sees : Sees t shapes reaches.binding.owner reaches.name other
   pub binding : triple.binding ≡ p.binding
   pub in_set : p.in_mapping ≡ false
@@ -101,18 +101,18 @@ Breaks t shapes sets r.NoMapEntry p c = Holds values.HasNoPair t shapes sets p c
 Breaks t shapes sets r.NamesTwo p c = NamesTwo t shapes sets p c
 
 -- the element at the place breaks the rule
-abbrev pub Violates : SystemTree → List Shape → List BindingSets → ParameterRule → Place → Type 0
-Violates t shapes sets rule p = (c : Triple) × Breaks t shapes sets rule p c
+abbrev pub ViolatesParameters : SystemTree → List Shape → List BindingSets → ParameterRule → Place → Type 0
+ViolatesParameters t shapes sets rule p = (c : Triple) × Breaks t shapes sets rule p c
 
 -- the first violation: at the first place that breaks a rule, the one of the least number
-pub record IsFirstViolation (t : SystemTree) (shapes : List Shape) (sets : List BindingSets)
+pub record IsFirstParameterViolation (t : SystemTree) (shapes : List Shape) (sets : List BindingSets)
     (p : Place) (rule : ParameterRule) : Type 0 where
-  pub broken : Violates t shapes sets rule p
+  pub broken : ViolatesParameters t shapes sets rule p
   pub least : (other : ParameterRule) → parameter_number other < parameter_number rule →
-      Violates t shapes sets other p → ⊥
+      ViolatesParameters t shapes sets other p → ⊥
   pub first : (q : Place) (other : ParameterRule) → IsBefore q p →
-      Violates t shapes sets other q → ⊥
+      ViolatesParameters t shapes sets other q → ⊥
 
 -- no place breaks a rule
 abbrev pub IsFitting : SystemTree → List Shape → List BindingSets → Type 0
-IsFitting t shapes sets = (rule : ParameterRule) (p : Place) → Violates t shapes sets rule p → ⊥
+IsFitting t shapes sets = (rule : ParameterRule) (p : Place) → ViolatesParameters t shapes sets rule p → ⊥

@@ -39,7 +39,7 @@ use Rattle.system_model.specs.declared.bound.BoundValue.{BoundValue}
 use Rattle.ssd_tree.specs.Listings.{IsListingBelow}
 use Rattle.parameter_binding.specs.Given.{AreGiven}
 use Rattle.parameter_binding.specs.Answers.{IsToldIn}
-use Rattle.parameter_binding.specs.Binds.{Beats, HasLevel, IsCandidate, IsLater, IsUnreached, Reaches, Triple, mapping_of, target_at}
+use Rattle.parameter_binding.specs.Binds.{Beats, HasLevel, IsCandidate, IsLater, IsUnreached, ReachesTarget, Triple, mapping_of, target_at}
 use Rattle.parameter_binding.specs.Rules.{Breaks, Holds, Place, ReachesOther}
 
 -- ---- the order of faults
@@ -92,17 +92,17 @@ pub record IsBest (t : SystemTree) (shapes : List Shape) (sets : List BindingSet
     (Done : Triple → Type 0) (target : Target) (b : Best) : Type 0 where
   pub triple : Triple
   pub done : Done triple
-  pub reaches : Reaches t shapes sets target triple
+  pub reaches : ReachesTarget t shapes sets target triple
   pub level : HasLevel t triple.binding b.level
   pub kind : reaches.sees.variable.kind ≡ Some b.value.kind
   pub reference : reaches.sees.variable.reference ≡ b.value.reference
   pub taken : IsTaken reaches.change reaches.parameter.value b.value.kind b.value.value
-  pub beats : (d : Triple) → Done d → Reaches t shapes sets target d →
+  pub beats : (d : Triple) → Done d → ReachesTarget t shapes sets target d →
       (d ≡ triple) ⊎ Beats t triple d
 
 abbrev pub IsWinner : SystemTree → List Shape → List BindingSets → (Triple → Type 0) → Target →
     Option Best → Type 0
-IsWinner t shapes sets Done target None = (d : Triple) → Done d → Reaches t shapes sets target d → ⊥
+IsWinner t shapes sets Done target None = (d : Triple) → Done d → ReachesTarget t shapes sets target d → ⊥
 IsWinner t shapes sets Done target (Some b) = IsBest t shapes sets Done target b
 
 abbrev pub AreWinners : SystemTree → List Shape → List BindingSets →

@@ -6,7 +6,7 @@ ghost use Rattle.doc_tree.specs.declared.rule.ParameterRule.{ParameterRule};
 ghost use Rattle.parameter_binding.specs.Answers.{Faults, IsToldIn, Refuses};
 ghost use Rattle.parameter_binding.specs.Binds.{AreBound};
 ghost use Rattle.parameter_binding.specs.Given.{AreGiven};
-ghost use Rattle.parameter_binding.specs.Rules.{IsFirstViolation, IsFitting, Place};
+ghost use Rattle.parameter_binding.specs.Rules.{IsFirstParameterViolation, IsFitting, Place};
 ghost use Rattle.parameter_binding.specs.Walk.{AreAllGathered, IsBoundOf, IsRefusalOf};
 
 use crate::BindingSets;
@@ -87,7 +87,7 @@ pub fn bind(
         (λ bound. AllZip AreParameterValues shapes.now bound.components) }
     ensures err { IfErr result (Faults tree.now shapes.now sets.now) }
     ensures exact { (place : Place) (rule : ParameterRule) (file : ℕ) →
-        IsFirstViolation tree.now shapes.now sets.now place rule → IsToldIn sets.now place file →
+        IsFirstParameterViolation tree.now shapes.now sets.now place rule → IsToldIn sets.now place file →
         Refuses result file place.node rule }
 {
     match gather(alloc, tree, shapes, sets) {

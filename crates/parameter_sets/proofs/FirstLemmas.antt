@@ -4,7 +4,7 @@ use Rattle.std.proofs.lemmas.Bool.{cases_lt, cases_order, ltb-false, ltb-true}
 use Rattle.doc_tree.specs.declared.rule.ParameterRule.{ParameterRule}
 use Rattle.doc_tree.specs.declared.rule.ParameterRule.TheVariants as r
 use Rattle.doc_tree.specs.Rules.{parameter_number}
-use Rattle.doc_tables.specs.Violations.{IsFirstViolation, IsSound}
+use Rattle.doc_tables.specs.Violations.{IsFirstViolation, HasNoViolation}
 use Rattle.doc_tables.proofs.CallerLemmas.{AreApart}
 use Rattle.parameter_sets.specs.Least.{Breach, FindsLeast, earlier}
 
@@ -126,7 +126,7 @@ module _ (V : ParameterRule → ℕ → Type 0) where
       by (Some first) (Some node) h least = choice first node (nat_lt node first.0) refl h least
 
   -- all rules
-  pub whole : (o : Option Breach) → FindsFirst 57 o → MatchOption o (IsSound V) (λ breach. IsFirstViolation parameter_number V breach.0 breach.1)
+  pub whole : (o : Option Breach) → FindsFirst 57 o → MatchOption o (HasNoViolation V) (λ breach. IsFirstViolation parameter_number V breach.0 breach.1)
   whole None h = λ rule k broken. h rule k (to_56 rule) broken
   whole (Some breach) h = record {
     is = record { broken = h.broken; least = h.least };

@@ -23,7 +23,7 @@ use Rattle.parameter_values.specs.declared.set.Transformation.{Transformation}
 use Rattle.doc_grammar.specs.Nodes.{Node}
 use Rattle.doc_tables.specs.Elements.{attribute, is_named}
 use Rattle.parameter_sets.specs.Elements.{children_named, entries, first_transformation, first_value, parameters}
-use Rattle.parameter_sets.specs.Numbers.{IsBoolean, IsWhole, WritesOr, WritesWhole}
+use Rattle.parameter_sets.specs.Numbers.{IsBoolean, IsWholeNumber, WritesOr, WritesWhole}
 use Rattle.parameter_sets.specs.Sets.{DescribesMapping, DescribesSet, IsBooleanPair, IsChange, IsEntry, IsIntegerPair, IsParameter, IsTransformation, IsValue}
 use Rattle.parameter_sets.proofs.FactorLemmas.{one_factor}
 use Rattle.parameter_sets.proofs.ListLemmas.{zip_same}
@@ -38,7 +38,7 @@ written text x (inr is) = is.0
 pub one_number : (text : List ℕ) (x y : ℤ) → Writes text x → Writes text y → x ≡ y
 one_number text x y p q = p.number ∙ sym q.number
 
-one_whole : (t : List Node) (k : ℕ) (name : List ℕ) (x y : ℤ) → IsWhole t k name x → IsWhole t k name y → x ≡ y
+one_whole : (t : List Node) (k : ℕ) (name : List ℕ) (x y : ℤ) → IsWholeNumber t k name x → IsWholeNumber t k name y → x ≡ y
 one_whole t k name x y p q =
     one_number p.0 x y (written p.0 x p.2) (subst (λ (text : List ℕ). Writes text y) (same_Some q.0 p.0 (sym q.1 ∙ p.1)) (written q.0 y q.2))
 

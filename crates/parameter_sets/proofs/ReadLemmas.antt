@@ -7,7 +7,7 @@ use Rattle.doc_grammar.specs.Nodes.{Node}
 use Rattle.doc_tables.specs.Elements.{name_of, is_named}
 use Rattle.parameter_values.specs.declared.set.ParameterValue.{ParameterValue}
 use Rattle.parameter_values.specs.declared.set.ParameterValue.TheVariants as value
-use Rattle.parameter_sets.specs.Numbers.{IsBoolean, IsWhole}
+use Rattle.parameter_sets.specs.Numbers.{IsBoolean, IsWholeNumber}
 use Rattle.parameter_sets.specs.Sets.{IsValue}
 
 -- where nothing was read, nothing is there
@@ -30,7 +30,7 @@ named_once t k one other apart p q =
 
 -- ---- values
 
-pub no_integer : (t : List Node) (k : ℕ) → is_named t k (codes "Integer") ≡ true → ((x : ℤ) → IsWhole t k (codes "value") x → ⊥) → (x : ParameterValue) → IsValue t (Some k) x → ⊥
+pub no_integer : (t : List Node) (k : ℕ) → is_named t k (codes "Integer") ≡ true → ((x : ℤ) → IsWholeNumber t k (codes "value") x → ⊥) → (x : ParameterValue) → IsValue t (Some k) x → ⊥
 no_integer t k named none (value.Integer x) is = none x is.1
 no_integer t k named none (value.Boolean x) is = named_once t k (codes "Integer") (codes "Boolean") refl named is.0
 no_integer t k named none value.Other is = both_ways (is_named t k (codes "Integer")) is.0 named

@@ -4,6 +4,7 @@ use Rattle.std.specs.Prelude.{ℕ, Bool, ◌||◌, List, [], ◌∷◌, Option, 
 use Rattle.std.specs.List.{flat_map}
 use Rattle.doc_grammar.specs.Nodes.{Node}
 use Rattle.doc_tables.specs.Elements.{children, name_of, is_named}
+use Rattle.doc_tables.specs.Documents.{is_transformation}
 
 -- ---- what stands in what
 
@@ -42,13 +43,6 @@ mappings t at = tops t (codes "ParameterMapping") at
 -- a MappingEntry stands in a mapping
 abbrev pub entries : List Node → Option ℕ → List ℕ
 entries t at = inside t (codes "MappingEntry") (mappings t at)
-
-abbrev pub is_transformation : List ℕ → Bool
-is_transformation name =
-    (bytes_eq name (codes "LinearTransformation") ||
-    bytes_eq name (codes "BooleanMappingTransformation"))
-    || (bytes_eq name (codes "IntegerMappingTransformation") ||
-    bytes_eq name (codes "EnumerationMappingTransformation"))
 
 abbrev pub transformations_of : List Node → ℕ → List ℕ
 transformations_of t k = filter (λ c. is_transformation (name_of t c)) (children t k)

@@ -14,8 +14,8 @@ abbrev pub WritesWhole : List ℕ → ℤ → Type 0
 WritesWhole text x = Reads Int64 text x ⊎ Reads UInt64 text x
 
 -- the attribute is this whole number
-abbrev pub IsWhole : List Node → ℕ → List ℕ → ℤ → Type 0
-IsWhole t k name x = (text : List ℕ) × (attribute t k name ≡ Some text) × WritesWhole text x
+abbrev pub IsWholeNumber : List Node → ℕ → List ℕ → ℤ → Type 0
+IsWholeNumber t k name x = (text : List ℕ) × (attribute t k name ≡ Some text) × WritesWhole text x
 
 -- the attribute is this Boolean: `true` or `1`, `false` or `0`
 abbrev pub IsBoolean : List Node → ℕ → List ℕ → Bool → Type 0

@@ -1,24 +1,20 @@
 -- The rules of sets of parameter values and of mappings (SSP 1.0: SSV, SSM), each a statement about one tree, the place where the set or the mapping begins, and one element.
-use Rattle.std.specs.Prelude.{◌≡◌, ◌≢◌, ◌⊎◌, ℕ, Bool, false, List, [], ◌∷◌, length, Option, Contains, codes, bytes_eq}
-use Rattle.std.specs.Option.{option_map_or}
+use Rattle.std.specs.Prelude.{◌≡◌, ◌≢◌, ◌⊎◌, ℕ, false, List, [], ◌∷◌, length, Option, Contains, codes}
 use Rattle.parameter_values.specs.declared.change.Change.{Change}
 use Rattle.parameter_values.specs.declared.set.ParameterValue.{ParameterValue}
 use Rattle.doc_grammar.specs.Nodes.{Node}
 use Rattle.doc_tree.specs.declared.rule.ParameterRule.{ParameterRule}
 use Rattle.doc_tree.specs.declared.rule.ParameterRule.TheVariants as r
 use Rattle.doc_tree.specs.Rules.{parameter_number}
-use Rattle.doc_tables.specs.Elements.{attribute, Lacks}
+use Rattle.doc_tables.specs.Elements.{Lacks}
 use Rattle.doc_tables.specs.Violations as all
 use Rattle.parameter_sets.specs.declared.part.Part.{Part}
 use Rattle.parameter_sets.specs.declared.part.Part.TheVariants as part
 use Rattle.parameter_sets.specs.Elements.{entries, first_value, mappings, parameters, seat, sets, transformations}
 use Rattle.parameter_sets.specs.Sets.{IsChange, IsValue}
+use Rattle.doc_tables.specs.Documents.{has_version}
 
 -- ---- where it begins
-
-abbrev pub has_version : List Node → ℕ → Bool
-has_version t k =
-    option_map_or (λ text. bytes_eq text (codes "1.0")) (attribute t k (codes "version")) false
 
 -- there isn't just one, or the one isn't of version 1.0
 abbrev pub IsOtherStructure : List Node → List ℕ → Option ℕ → ℕ → Type 0
@@ -88,7 +84,7 @@ IsFirstInMapping t at k rule = all.IsFirstViolation parameter_number (MappingVio
 
 -- no element breaks a rule
 abbrev pub IsSoundSet : List Node → Option ℕ → Type 0
-IsSoundSet t at = all.IsSound (SetViolates t at)
+IsSoundSet t at = all.HasNoViolation (SetViolates t at)
 
 abbrev pub IsSoundMapping : List Node → Option ℕ → Type 0
-IsSoundMapping t at = all.IsSound (MappingViolates t at)
+IsSoundMapping t at = all.HasNoViolation (MappingViolates t at)

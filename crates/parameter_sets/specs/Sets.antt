@@ -15,7 +15,7 @@ use Rattle.parameter_values.specs.declared.set.Transformation.{Transformation}
 use Rattle.doc_grammar.specs.Nodes.{Node}
 use Rattle.doc_tables.specs.Elements.{attribute, is_named}
 use Rattle.parameter_sets.specs.Elements.{children_named, entries, first_transformation, first_value, parameters}
-use Rattle.parameter_sets.specs.Numbers.{IsBoolean, IsWhole, WritesOr}
+use Rattle.parameter_sets.specs.Numbers.{IsBoolean, IsWholeNumber, WritesOr}
 
 -- ---- values
 
@@ -25,7 +25,7 @@ IsValue t None (value.Integer x) = ⊥
 IsValue t None (value.Boolean x) = ⊥
 IsValue t None value.Other = Unit {0}
 IsValue t (Some c) (value.Integer x) =
-    (is_named t c (codes "Integer") ≡ true) × IsWhole t c (codes "value") x
+    (is_named t c (codes "Integer") ≡ true) × IsWholeNumber t c (codes "value") x
 IsValue t (Some c) (value.Boolean x) =
     (is_named t c (codes "Boolean") ≡ true) × IsBoolean t c (codes "value") x
 IsValue t (Some c) value.Other =
@@ -39,7 +39,7 @@ pub record IsParameter (t : List Node) (k : ℕ) (x : Parameter) : Type 0 where
 -- ---- transformations
 
 abbrev pub IsIntegerPair : List Node → ℕ → IntegerPair → Type 0
-IsIntegerPair t k x = IsWhole t k (codes "source") x.source × IsWhole t k (codes "target") x.target
+IsIntegerPair t k x = IsWholeNumber t k (codes "source") x.source × IsWholeNumber t k (codes "target") x.target
 
 abbrev pub IsBooleanPair : List Node → ℕ → BooleanPair → Type 0
 IsBooleanPair t k x =

@@ -1,6 +1,7 @@
 //! The elements of sets and mappings.
 ghost use Rattle.std.specs.Prelude.{◌≡◌, ◌++◌, IfOk, OnOk};
-ghost use Rattle.parameter_sets.specs.Elements.{children_named, first_transformation, first_value, inside, is_transformation, is_value, seat, tops, transformations_of};
+ghost use Rattle.parameter_sets.specs.Elements.{children_named, first_transformation, first_value, inside, is_value, seat, tops, transformations_of};
+ghost use Rattle.doc_tables.specs.Documents.{is_transformation};
 ghost use Rattle.std.specs.List.{flat_map};
 
 use doc_tables::{children, is_named, name};

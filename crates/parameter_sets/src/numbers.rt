@@ -3,7 +3,7 @@ ghost use Rattle.std.specs.Prelude.{◌≡◌, ℤ, Bool, Some, IfSome, pos, opt
 ghost use Rattle.value_types.specs.Reading.{Reads};
 ghost use Rattle.parameter_values.specs.Values.{bit};
 ghost use Rattle.doc_tables.specs.Elements.{attribute};
-ghost use Rattle.parameter_sets.specs.Numbers.{IsBoolean, IsWhole, WritesOr, WritesWhole};
+ghost use Rattle.parameter_sets.specs.Numbers.{IsBoolean, IsWholeNumber, WritesOr, WritesWhole};
 
 use crate::factor::read_factor;
 use doc_tables::attribute;
@@ -23,8 +23,8 @@ fn read_whole(text: &str) -> Option<i128>
 
 /// The whole number that an attribute is.
 pub(crate) fn whole_number(tree: &Tree, node: usize, name: &str) -> Option<i128>
-    ensures value { IfSome result (IsWhole tree.now node name.now) }
-    ensures exact { (value : ℤ) → IsWhole tree.now node name.now value → result ≡ Some value }
+    ensures value { IfSome result (IsWholeNumber tree.now node name.now) }
+    ensures exact { (value : ℤ) → IsWholeNumber tree.now node name.now value → result ≡ Some value }
 {
     read_whole(attribute(tree, node, name)?)
 }

@@ -1,7 +1,8 @@
 //! The first rule that a set or a mapping breaks.
 ghost use Rattle.std.specs.Prelude.{◌≡◌, ◌↔◌, ℕ, IsTrue, IfOk};
 ghost use Rattle.parameter_sets.specs.Least.{earlier, FindsLeast, least_with, lesser};
-ghost use Rattle.parameter_sets.specs.Rules.{has_version, IsBroken, IsBrokenAmong, IsOtherStructure};
+ghost use Rattle.parameter_sets.specs.Rules.{IsBroken, IsBrokenAmong, IsOtherStructure};
+ghost use Rattle.doc_tables.specs.Documents.{has_version};
 
 use crate::elements::seat;
 use crate::entries::{is_incomplete_entry, is_misread};

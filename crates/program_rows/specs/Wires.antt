@@ -1,5 +1,5 @@
 -- What a spawner of FMUs behind wires in memory tells.
-use Rattle.std.specs.Prelude.{ℕ, ◌≤◌, List, length, map, true}
+use Rattle.std.specs.Prelude.{ℕ, ◌≤◌, List, length, map, true, None}
 use Rattle.std.proofs.lemmas.List.{length-map}
 use Rattle.fmu_link.specs.MemWire.{mem_view}
 use Rattle.fmu_link.specs.Piped.{piped_view}
@@ -12,12 +12,13 @@ use Rattle.program_rows.specs.declared.wires.Wires.{Wires}
 abbrev pub wire_peer_view : Piped MemWire → View
 wire_peer_view peer = piped_view mem_view peer
 
--- it knows every identifier by every host, and no start fails
+-- it knows every identifier by every host, and tells no machine; no start fails
 abbrev pub wires_view : Wires → SpawnerView
 wires_view w = record {
   started = w.retired.started;
   retired = map wire_peer_view w.retired.peers.items;
   knows = λ host identifier. true;
+  makes = λ host identifier. None;
   faults = 0;
 }
 

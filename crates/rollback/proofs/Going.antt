@@ -1,17 +1,18 @@
 -- Turns of an agreement, one behind the other.
-use Rattle.std.proofs.Common.{◌≡◌, ℕ, suc, ◌<◌, ◌≤◌, Bool, true, List, [], ◌∷◌, ◌++◌, Some, Ok, Err, refl, sym, ap, ap₂, ◌∙◌, subst, arith, append_assoc, is_some, length, get_or}
+use Rattle.std.proofs.Common.{◌≡◌, ◌≢◌, ℕ, suc, ◌<◌, ◌≤◌, Bool, true, List, [], ◌∷◌, ◌++◌, Some, Ok, Err, refl, sym, ap, ap₂, ◌∙◌, subst, arith, append_assoc, is_some, length, get_or}
 use Rattle.std.specs.Prelude.{All}
 use Rattle.fmu_peer.specs.declared.peer.Exchange.{Exchange}
 use Rattle.fmu_peer.specs.declared.peer.Peer.{Ghosts}
 use Rattle.fmu_peer.specs.declared.slot.Slot.{Slot}
 use Rattle.fmu_peer.specs.View.{View}
+use Rattle.system_model.specs.EarlyReturn.{early_count}
 use Rattle.slot_calls.specs.Log.{Sent, Told, part}
 use Rattle.slot_calls.specs.Slots.{instances}
 use Rattle.slot_calls.specs.Stage.{everyone, shapes}
 use Rattle.slot_calls.proofs.CallerLemmas.{part_append, shapes_same, told_none, told_on}
 use Rattle.step_agreement.specs.Agreement.{Agrees, Meets, Stand, stand_by, stands_by, stands_from}
 use Rattle.step_agreement.specs.OverMachines.{asks_last}
-use Rattle.step_agreement.specs.Saving.{early_count, is_saved}
+use Rattle.step_agreement.specs.Saving.{is_saved}
 use Rattle.step_agreement.proofs.CallerLemmas.{asks_on, shape_kept, stand_on, stands_on}
 use Rattle.rollback.specs.Asked.{AgreedOver, GoesOn, IsSavedBy, MayGoBack, Moved, TurnOver, outcome_of}
 use Rattle.rollback.specs.Places.{StandSo, at_rest, stand_in}
@@ -36,6 +37,7 @@ pub record Going {L : Type 0} {g : Ghosts L} (view : L → View) (t step b : ℕ
   pub placed : All (Placed view t c step) news
   pub begin : All (MayGoBack view t W.Everyone) news
   pub saved : All (IsSavedBy view (early_count (shapes (instances view news)))) news
+  pub several : early_count (shapes (instances view news)) ≢ 1
   pub later : t < c
   pub within : c ≤ b
 
@@ -44,8 +46,8 @@ stands_none t k [] = refl
 stands_none t k (s ∷ ss) = ap (λ (xs : List Stand). s ∷ xs) (stands_none t (suc k) ss)
 
 module _ {L : Type 0} {g : Ghosts L} (view : L → View) (t step b : ℕ) where
-  pub going_first : (olds : List (Slot L g)) → All (Placed view t b step) olds → All (MayGoBack view t W.Everyone) olds → All (IsSavedBy view (early_count (shapes (instances view olds)))) olds → t < b → Going view t step b olds b olds
-  going_first olds placed begin saved later = record {
+  pub going_first : (olds : List (Slot L g)) → All (Placed view t b step) olds → All (MayGoBack view t W.Everyone) olds → All (IsSavedBy view (early_count (shapes (instances view olds)))) olds → early_count (shapes (instances view olds)) ≢ 1 → t < b → Going view t step b olds b olds
+  going_first olds placed begin saved several later = record {
     log = [];
     len = refl;
     told = told_none (instances view olds);
@@ -54,6 +56,7 @@ module _ {L : Type 0} {g : Ghosts L} (view : L → View) (t step b : ℕ) where
     placed = placed;
     begin = begin;
     saved = saved;
+    several = several;
     later = later;
     within = omega arith;
   }
@@ -66,7 +69,7 @@ module _ {L : Type 0} {g : Ghosts L} (view : L → View) (t step b : ℕ) where
     stand_now o p n es fs f is =
         is ∙ ap (λ (z : Stand). at_rest (stand_by t z fs)) f.stand ∙ rest_by t (stand_by t (stand_in view o) es) fs ∙ ap at_rest (sym (stand_on t (stand_in view o) es fs))
 
-    pub turn_stops : (news : List (Slot L g)) (end : StepEnd) → TurnOver view t step c mids news (Err end) → AgreedOver view t step b olds news (Err end)
+    pub turn_stops : (news : List (Slot L g)) (end : StepEnd) → TurnOver view t step c mids news (Err end) → AgreedOver view everyone t step b olds news (Err end)
     turn_stops news end turn = record {
       log = so_far.log ++ turn.log;
       told = told_on (instances view olds) (instances view mids) (instances view news) so_far.log turn.log so_far.told turn.told;
@@ -74,7 +77,7 @@ module _ {L : Type 0} {g : Ghosts L} (view : L → View) (t step b : ℕ) where
     }
 
     module _ (news : List (Slot L g)) (len2 : length news ≡ length mids) where
-      pub turn_meets : (m : ℕ) → TurnOver view t step c mids news (Ok (Met m)) → AgreedOver view t step b olds news (Ok m)
+      pub turn_meets : (m : ℕ) → TurnOver view t step c mids news (Ok (Met m)) → AgreedOver view everyone t step b olds news (Ok m)
       turn_meets m turn = record {
         log = so_far.log ++ turn.log;
         told = told_on (instances view olds) (instances view mids) (instances view news) so_far.log turn.log so_far.told turn.told;
@@ -122,6 +125,7 @@ module _ {L : Type 0} {g : Ghosts L} (view : L → View) (t step b : ℕ) where
             let shape = ap (λ (s : Stand). s.shape) x.stand ∙ shape_kept t (stand_in view (get_or mids k d)) (part k turn.log) in
             let same = shapes_same turn.log (instances view mids) (instances view news) turn.told in
             x.saved ∙ so_far.saved k d inside ∙ ap₂ is_saved (ap early_count (sym same)) (sym shape);
+        several = λ e. so_far.several (ap early_count (sym (shapes_same turn.log (instances view mids) (instances view news) turn.told)) ∙ e);
         later = turn.says.later;
         within = let l = turn.says.before in let k = so_far.within in omega (arith, l, k);
       }

@@ -5,6 +5,7 @@ mod Resting
 mod Moving
 mod OneAsking
 mod Turning
+mod OneTurn
 mod Going
 mod SavedSteps
 mod Least

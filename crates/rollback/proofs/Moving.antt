@@ -1,5 +1,5 @@
 -- What one asking leaves of the FMU of a slot.
-use Rattle.std.proofs.Common.{◌≡◌, ℕ, ◌-◌, ◌<◌, ◌≤◌, ◌==◌, Bool, true, false, not, List, [], ◌++◌, Option, Some, None, Ok, refl, sym, ap, ap₂, ◌∙◌, subst, arith, is_some}
+use Rattle.std.proofs.Common.{◌≡◌, ◌⊎◌, inl, inr, ℕ, ◌-◌, ◌<◌, ◌≤◌, ◌==◌, Bool, true, false, not, List, [], ◌++◌, Option, Some, None, Ok, refl, sym, ap, ap₂, ◌∙◌, subst, arith, is_some}
 use Rattle.std.specs.Prelude.{IfSome, ◌&&◌, if◌then◌else◌}
 use Rattle.std.proofs.lemmas.Bool.Decides.{nat_tests}
 use Rattle.value_types.specs.declared.shape.Shape.{Shape}
@@ -20,7 +20,7 @@ use Rattle.step_agreement.specs.Agreement.{Stand, end_by, moved, stand_by}
 use Rattle.step_agreement.specs.OverMachines.{asks_last, flagged}
 use Rattle.step_agreement.proofs.CallerLemmas.{asks_on, other_number, stand_on}
 use Rattle.parallel_step.specs.Round.{CanBeSent}
-use Rattle.rollback.specs.Asked.{MayGoBack, MeansHome, Moved}
+use Rattle.rollback.specs.Asked.{MayGoBack, StaysMeant, Moved}
 use Rattle.rollback.specs.Places.{CanDo, GoodSent, SentTo, WasLeft, at_rest, call_of, is_sent, passes, stand_in, with_job}
 use Rattle.rollback.specs.Standing.{InStep, Placed, TakesSize}
 use Rattle.rollback.specs.declared.asking.Turn.{Turn}
@@ -49,17 +49,19 @@ first_false : (a b : Bool) → a ≡ false → (a && b) ≡ false
 first_false true b h = absurd (cc)
 first_false false b h = refl
 
--- one that stands at t is meant
-pub passes_home : (t : ℕ) (asked : Who) → MeansHome t asked → (s : Stand) → s.point ≡ t → passes asked s ≡ true
-passes_home t W.Everyone home s at = refl
-passes_home t (W.Elsewhere m) home s at = ap not (other_number s.point m (λ e. absurd (omega (arith, e, at, home))))
-passes_home t (W.BesideEarly early) home s at = absurd home
-passes_home t (W.EndElsewhere from bound m) home s at = absurd home
+-- one that is meant is meant still once it stands at t again
+pub passes_stay : (t : ℕ) (asked : Who) → StaysMeant t asked → (s z : Stand) → s.shape ≡ z.shape → z.point ≡ t → passes asked s ≡ true → passes asked z ≡ true
+passes_stay t W.Everyone stays s z shape at h = refl
+passes_stay t (W.Saved early) stays s z shape at h = h
+passes_stay t W.Early stays s z shape at h = ap (λ (x : Shape). x.might_return_early) (sym shape) ∙ h
+passes_stay t (W.Elsewhere m) stays s z shape at h = ap not (other_number z.point m (λ e. absurd (omega (arith, e, at, stays))))
+passes_stay t (W.EndElsewhere from bound m) stays s z shape at h = absurd stays
 
 -- who is meant is told by the shape and the point
 passes_by : (asked : Who) (s z : Stand) → s.shape ≡ z.shape → s.point ≡ z.point → passes asked s ≡ passes asked z
 passes_by W.Everyone s z shape point = refl
-passes_by (W.BesideEarly early) s z shape point = ap (λ (x : Shape). passes (W.BesideEarly early) (record { shape = x; point = 0; ask = 0 })) shape
+passes_by (W.Saved early) s z shape point = refl
+passes_by W.Early s z shape point = ap (λ (x : Shape). x.might_return_early) shape
 passes_by (W.Elsewhere m) s z shape point = ap (λ (n : ℕ). not (n == m)) point
 passes_by (W.EndElsewhere t b m) s z shape point = ap (λ (n : ℕ). not ((if n == t then b else n) == m)) point
 
@@ -136,7 +138,7 @@ module _ {L : Type 0} {g : Ghosts L} (view : L → View) where
     pub home : passes asked (stand_in view o) ≡ true → (stand_in view p).point ≡ t
     pub left : passes asked (stand_in view o) ≡ false → (p.answer ≡ o.answer) × (es ≡ [])
 
-  module _ (t b step : ℕ) (asked : Who) (means : MeansHome t asked) (o p : Slot L g) (es : List Exchange) (placed : Placed view t b step o) (may : MayGoBack view t asked o) where
+  module _ (t b step : ℕ) (asked : Who) (means : StaysMeant t asked) (o p : Slot L g) (es : List Exchange) (placed : Placed view t b step o) (may : MayGoBack view t asked o) where
     back_sent : is_sent asked (T.Back t) (stand_in view o) ≡ true → GoodSent view C.Restore o es p → WentBack t b step asked o p es
     back_sent sent s =
         let l = led_of C.Restore o p es s in
@@ -149,7 +151,7 @@ module _ {L : Type 0} {g : Ghosts L} (view : L → View) where
           saved = token;
           stand = stand_is p (seen o).fixed.shape t (shape_by (seen o) (seen p) s.exchange l) r.1
               ∙ sym (ap (λ (xs : List Exchange). at_rest (stand_by t (stand_in view o) xs)) s.is ∙ ap (λ (c : Call). at_rest (moved t (stand_in view o) c s.exchange.result)) s.call_is);
-          same = passes_home t asked means (stand_in view p) r.1 ∙ sym passed.0;
+          same = passes_stay t asked means (stand_in view o) (stand_in view p) (sym (shape_by (seen o) (seen p) s.exchange l)) r.1 passed.0 ∙ sym passed.0;
           home = λ h. r.1;
           left = λ h. absurd (let q = passed.0 in let wrong : true ≡ false = sym q ∙ h in cc);
         }
@@ -242,6 +244,20 @@ module _ {L : Type 0} {g : Ghosts L} (view : L → View) where
     keeps = λ a was. k.keeps (asks_last a es) (m.keeps a was) ∙ ap (λ (y : Bool). Some (Ok y)) (sym (asks_on a es fs));
     tells = λ h a. k.keeps (asks_last a es) (m.tells refl a) ∙ ap (λ (y : Bool). Some (Ok y)) (sym (asks_on a es fs));
   }
+
+  -- one asking behind another, of which one asked it
+  pub moved_both : (t b e step : ℕ) (x y : Bool) → (x ≡ true) ⊎ (y ≡ true) → (o p n : Slot L g) (es fs : List Exchange) → Moved view t b step x o es p → Moved view t e step y p fs n → Moved view t e step true o (es ++ fs) n
+  moved_both t b e step true y either o p n es fs m k = moved_on t b e step y o p n es fs m k
+  moved_both t b e step false y either o p n es fs m k = record {
+    placed = k.placed;
+    saved = k.saved ∙ m.saved;
+    stand = k.stand ∙ ap (λ (z : Stand). at_rest (stand_by t z fs)) m.stand ∙ rest_by t (stand_by t (stand_in view o) es) fs ∙ ap at_rest (sym (stand_on t (stand_in view o) es fs));
+    keeps = λ a was. k.keeps (asks_last a es) (m.keeps a was) ∙ ap (λ (z : Bool). Some (Ok z)) (sym (asks_on a es fs));
+    tells = λ h a. k.tells (later_one either) (asks_last a es) ∙ ap (λ (z : Bool). Some (Ok z)) (sym (asks_on a es fs));
+  } where
+    later_one : (false ≡ true) ⊎ (y ≡ true) → y ≡ true
+    later_one (inl wrong) = absurd (cc)
+    later_one (inr h) = h
 
   pub moved_lower : (t b c step : ℕ) → c ≤ b → (x : Bool) (o n : Slot L g) (es : List Exchange) → Moved view t b step x o es n → Moved view t c step x o es n
   moved_lower t b c step h x o n es m = record { placed = lower t b c step h n m.placed; saved = m.saved; stand = m.stand; keeps = m.keeps; tells = m.tells }

@@ -1,5 +1,7 @@
 -- One asking over slots.
-use Rattle.std.proofs.Common.{◌≡◌, ℕ, ◌-◌, ◌<◌, ◌==◌, Bool, true, false, not, List, [], ◌++◌, Some, None, Result, Ok, Err, refl, sym, ap, ◌∙◌, subst, arith, length, get_or, position}
+use Rattle.std.proofs.Common.{◌≡◌, ◌⊎◌, inl, inr, ℕ, ◌-◌, ◌<◌, ◌==◌, Bool, true, false, not, List, [], ◌++◌, Some, None, Result, Ok, Err, refl, sym, ap, ◌∙◌, subst, arith, length, get_or, position}
+use Rattle.std.proofs.lemmas.Bool.{eq-eqb}
+use Rattle.std.proofs.lemmas.List.Folds.{list_any_none}
 use Rattle.std.specs.Prelude.{All, IsTrue, ◌&&◌, ◌||◌, if◌then◌else◌}
 use Rattle.value_types.specs.declared.shape.Shape.{Shape}
 use Rattle.std.proofs.lemmas.List.{get_or_default}
@@ -17,14 +19,22 @@ use Rattle.slot_calls.specs.declared.bad_answer.BadAnswer.{BadAnswer}
 use Rattle.slot_calls.proofs.CallerLemmas.{part_append, shapes_same, told_none, told_on}
 use Rattle.step_agreement.specs.Agreement.{Fails, InBack, InStep, IsUnfit, Stand, Stops, is_away, shapes_in, to_some, unfit}
 use Rattle.step_agreement.proofs.CallerLemmas.{shape_kept}
-use Rattle.rollback.specs.Asked.{AskedOver, InBacks, InSteps, IsFitting, IsTested, MayGoBack, MeansHome, Moved, RoundsFail, RoundsOver}
-use Rattle.rollback.specs.Places.{CanDo, Sends, StandSo, passes, stand_in, stands}
+use Rattle.rollback.specs.Asked.{AskedOver, InBacks, InSteps, IsFitting, IsHome, IsTested, MayGoBack, StaysMeant, Moved, RoundsFail, RoundsOver}
+use Rattle.rollback.specs.Places.{CanDo, Sends, StandSo, is_sent, passes, stand_in, stands}
 use Rattle.rollback.specs.Standing.{Placed, TakesSize}
 use Rattle.rollback.specs.declared.asking.Turn.TheVariants as T
 use Rattle.rollback.specs.declared.places.Who.{Who}
 use Rattle.rollback.specs.declared.step_end.StepEnd.TheVariants.{Bad, FixedStep}
 use Rattle.rollback.proofs.Moving.{WentBack, can_go_back, can_step, did_step, moved_by, went_back}
+use Rattle.rollback.proofs.Sending.{sends_none}
 use Rattle.rollback.proofs.Resting.{away_so, none_passes, passes_so, shapes_so, some_map, some_same, unfit_so}
+
+-- one that is meant and stands at t isn't sent back
+not_away : (t : ℕ) (asked : Who) (s : Stand) → (passes asked s ≡ true → s.point ≡ t) → is_sent asked (T.Back t) s ≡ false
+not_away t asked s home = by (passes asked s) refl where
+  by : (x : Bool) → passes asked s ≡ x → (x && not (s.point == t)) ≡ false
+  by true h = ap not (eq-eqb s.point t (home h))
+  by false h = refl
 
 module _ {L : Type 0} {g : Ghosts L} (view : L → View) where
   -- ---- those that go back, and then the steps
@@ -32,7 +42,7 @@ module _ {L : Type 0} {g : Ghosts L} (view : L → View) where
   pub can_back : (t e step : ℕ) (asked : Who) (olds : List (Slot L g)) → All (Placed view t e step) olds → All (MayGoBack view t asked) olds → All (CanDo view asked (T.Back t)) olds
   can_back t e step asked olds placed may = λ k d w. can_go_back view t e step asked (get_or olds k d) (placed k d w) (may k d w)
 
-  module _ (t e step : ℕ) (later : t < e) (asked : Who) (means : MeansHome t asked) (olds mids : List (Slot L g)) (placed : All (Placed view t e step) olds) (may : All (MayGoBack view t asked) olds)
+  module _ (t e step : ℕ) (later : t < e) (asked : Who) (means : StaysMeant t asked) (olds mids : List (Slot L g)) (placed : All (Placed view t e step) olds) (may : All (MayGoBack view t asked) olds)
       (fitting : All (IsFitting view asked step (e - t)) olds) (len : length mids ≡ length olds) (back : Sends {T = Unit {0}} view asked (T.Back t) olds mids (Ok tt)) where
     went : (i : ℕ) (d : Slot L g) → i < length olds → WentBack view t e step asked (get_or olds i d) (get_or mids i d) (part i back.log)
     went i d w = went_back view t e step asked means (get_or olds i d) (get_or mids i d) (part i back.log) (placed i d w) (may i d w) (back.well i d w)
@@ -102,6 +112,25 @@ module _ {L : Type 0} {g : Ghosts L} (view : L → View) where
   pub bad_back : (t e step : ℕ) (asked : Who) (olds news : List (Slot L g)) (bad : BadAnswer) → Sends {T = Unit {0}} view asked (T.Back t) olds news (Err bad) → RoundsOver {T = Unit {0}} view t step asked e olds news (Err bad)
   bad_back t e step asked olds news bad s = record { log = s.log; told = s.told; says = InBacks s.says }
 
+  -- ---- where none goes back
+
+  module _ (t e step : ℕ) (later : t < e) (asked : Who) (means : StaysMeant t asked) (olds : List (Slot L g)) (placed : All (Placed view t e step) olds) (home : All (IsHome view t asked) olds)
+      (fitting : All (IsFitting view asked step (e - t)) olds) where
+    stays : (k : ℕ) (d : Slot L g) → k < length olds → is_sent asked (T.Back t) (stand_in view (get_or olds k d)) ≡ false
+    stays k d w = not_away t asked (stand_in view (get_or olds k d)) (home k d w)
+
+    may_stay : All (MayGoBack view t asked) olds
+    may_stay = λ k d w h. let no = stays k d w in absurd (let wrong : true ≡ false = sym h ∙ no in cc)
+
+    no_back : Sends {T = Unit {0}} view asked (T.Back t) olds olds (Ok tt)
+    no_back = sends_none view asked (T.Back t) olds (list_any_none (λ (s : Slot L g). is_sent asked (T.Back t) (stand_in view s)) olds stays)
+
+    pub can_now : All (CanDo view asked (T.Step t e)) olds
+    can_now = can_next t e step later asked means olds olds placed may_stay fitting refl no_back
+
+    pub one_round : (news : List (Slot L g)) (r : Result (Unit {0}) BadAnswer) → Sends view asked (T.Step t e) olds news r → RoundsOver view t step asked e olds news r
+    one_round news r s = both_rounds t e step later asked means olds olds placed may_stay fitting refl no_back news r s
+
   -- ---- with the size
 
   pub fits_by : (step size : ℕ) (who : Who) (olds : List (Slot L g)) → unfit step size (passes who) (stands view olds) ≡ None → (k : ℕ) (d : Slot L g) → k < length olds → passes who (stand_in view (get_or olds k d)) ≡ true → TakesSize step size (stand_in view (get_or olds k d)).shape
@@ -123,8 +152,11 @@ module _ {L : Type 0} {g : Ghosts L} (view : L → View) where
         (sym (position-map (λ (s : Slot L g). stand_in view s) (λ (s : Stand). passes who s && not s.shape.has_variable_steps) olds) ∙ position_none) k d w in
         subst (λ (v : Bool). IsTrue (v || size == step)) (sym (var_by (passes who (stand_in view (get_or olds k d))) (stand_in view (get_or olds k d)).shape.has_variable_steps passed nothing)) refl
 
-  pub fitting_by : (step size : ℕ) (sized asked : Who) (olds : List (Slot L g)) → unfit step size (passes sized) (stands view olds) ≡ None → All (IsTested view sized asked) olds → All (IsFitting view asked step size) olds
-  fitting_by step size sized asked olds none tested = λ k d w h. fits_by step size sized olds none k d w (tested k d w h)
+  pub fitting_by : (step size : ℕ) (sized asked : Who) (olds : List (Slot L g)) → unfit step size (passes sized) (stands view olds) ≡ None → All (IsTested view sized asked step size) olds → All (IsFitting view asked step size) olds
+  fitting_by step size sized asked olds none tested = λ k d w h. by k d w (tested k d w h) where
+    by : (k : ℕ) (d : Slot L g) → k < length olds → (passes sized (stand_in view (get_or olds k d)) ≡ true) ⊎ TakesSize step size (stand_in view (get_or olds k d)).shape → TakesSize step size (stand_in view (get_or olds k d)).shape
+    by k d w (inl passed) = fits_by step size sized olds none k d w passed
+    by k d w (inr takes) = takes
 
   module _ (t step : ℕ) (sized asked : Who) (e : ℕ) (olds news : List (Slot L g)) where
     -- one doesn't take it

@@ -55,19 +55,22 @@ some_same p q call k (x ∷ xs) (y ∷ ys) len same =
 
 passes_rest : (who : Who) (call : Call) (ss : List Stand) → to_some (λ s. passes who (at_rest s)) call ss ≡ to_some (passes who) call ss
 passes_rest W.Everyone call ss = refl
-passes_rest (W.BesideEarly early) call ss = refl
+passes_rest (W.Saved early) call ss = refl
+passes_rest W.Early call ss = refl
 passes_rest (W.Elsewhere m) call ss = refl
 passes_rest (W.EndElsewhere t bound m) call ss = refl
 
 away_rest : (who : Who) (t : ℕ) (call : Call) (ss : List Stand) → to_some (λ s. is_away t (passes who) (at_rest s)) call ss ≡ to_some (is_away t (passes who)) call ss
 away_rest W.Everyone t call ss = refl
-away_rest (W.BesideEarly early) t call ss = refl
+away_rest (W.Saved early) t call ss = refl
+away_rest W.Early t call ss = refl
 away_rest (W.Elsewhere m) t call ss = refl
 away_rest (W.EndElsewhere from bound m) t call ss = refl
 
 unfit_rest : (who : Who) (step size : ℕ) (ss : List Stand) → unfit step size (passes who) (map at_rest ss) ≡ unfit step size (passes who) ss
 unfit_rest W.Everyone step size ss = ap (λ (o : Option ℕ). if size == step then None else o) (position-map at_rest (λ (s : Stand). passes W.Everyone s && not s.shape.has_variable_steps) ss)
-unfit_rest (W.BesideEarly early) step size ss = ap (λ (o : Option ℕ). if size == step then None else o) (position-map at_rest (λ (s : Stand). passes (W.BesideEarly early) s && not s.shape.has_variable_steps) ss)
+unfit_rest (W.Saved early) step size ss = ap (λ (o : Option ℕ). if size == step then None else o) (position-map at_rest (λ (s : Stand). passes (W.Saved early) s && not s.shape.has_variable_steps) ss)
+unfit_rest W.Early step size ss = ap (λ (o : Option ℕ). if size == step then None else o) (position-map at_rest (λ (s : Stand). passes W.Early s && not s.shape.has_variable_steps) ss)
 unfit_rest (W.Elsewhere m) step size ss = ap (λ (o : Option ℕ). if size == step then None else o) (position-map at_rest (λ (s : Stand). passes (W.Elsewhere m) s && not s.shape.has_variable_steps) ss)
 unfit_rest (W.EndElsewhere t bound m) step size ss = ap (λ (o : Option ℕ). if size == step then None else o) (position-map at_rest (λ (s : Stand). passes (W.EndElsewhere t bound m) s && not s.shape.has_variable_steps) ss)
 

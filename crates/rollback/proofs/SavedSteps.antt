@@ -17,6 +17,8 @@ use Rattle.fmu_peer.specs.declared.peer.PeerFault.{PeerFault}
 use Rattle.fmu_peer.specs.declared.slot.Slot.{Slot}
 use Rattle.fmu_peer.specs.CloseAll.{Instance, instance_in, peer_in}
 use Rattle.fmu_peer.specs.View.{View}
+use Rattle.system_model.specs.EarlyReturn.{early_count}
+use Rattle.run_model.specs.Stepping.{asked_first}
 use Rattle.slot_calls.specs.Log.{Asking, Sent, part}
 use Rattle.slot_calls.specs.SavedStates.{if_good, saved_by}
 use Rattle.slot_calls.specs.Slots.{instances}
@@ -24,11 +26,11 @@ use Rattle.slot_calls.specs.Stage.{FailsIn, IsAnswered, shapes}
 use Rattle.slot_calls.specs.declared.bad_answer.BadAnswer.{BadAnswer}
 use Rattle.slot_calls.proofs.CallerLemmas.{shapes_same, told_none, told_on}
 use Rattle.step_agreement.specs.Agreement as A
-use Rattle.step_agreement.specs.Agreement.{Fails, Meets, Outcome, Stand, Unfit, to_some, unfit}
+use Rattle.step_agreement.specs.Agreement.{Agrees, Fails, Meets, Outcome, Stand, Unfit, to_some, unfit}
 use Rattle.step_agreement.specs.OverMachines.{asks_last}
-use Rattle.step_agreement.specs.Saving.{early_count, is_saved}
+use Rattle.step_agreement.specs.Saving.{is_saved}
 use Rattle.step_agreement.proofs.CallerLemmas.{map_map, shape_kept}
-use Rattle.rollback.specs.Asked.{AgreedOver, IsSavedBy, MayBeSaved, MayGoBack, asks_in}
+use Rattle.rollback.specs.Asked.{AgreedOver, IsSavedBy, MayBeSaved, asks_in}
 use Rattle.rollback.specs.Places.{CanDo, GoodSent, SentTo, Sends, StandSo, WasLeft, passes, stand_in, stands}
 use Rattle.rollback.specs.Standing.{HasStepped, InStep, IsReady, Placed}
 use Rattle.rollback.specs.StepsBy.{Done, FreesBadly, SavesBadly, StepsBadly, StepsOver, StopsShort, Unfitted, all_at, some_ask_from, to_saved}
@@ -52,11 +54,11 @@ module _ {L : Type 0} {g : Ghosts L} (view : L → View) where
       sym (count_map (λ (s : Slot L g). (stand_in view s).shape) (λ (s : Shape). s.might_return_early) slots)
       ∙ ap early_count (sym (map_map (λ (s : Slot L g). instance_in view s) (λ (i : Instance). i.view.fixed.shape) slots))
 
-  -- the calls to those beside which another might return early
+  -- the calls to all, where two or more might return early
   saved_calls : (slots : List (Slot L g)) (ss : List Shape) (early : ℕ) (call : Call) → shapes (instances view slots) ≡ ss → early ≡ early_count ss →
-      to_some (passes (W.BesideEarly early)) call (stands view slots) ≡ to_saved call ss
+      to_some (passes (W.Saved early)) call (stands view slots) ≡ to_saved call ss
   saved_calls slots ss early call same counted =
-      some_map (λ (s : Slot L g). stand_in view s) (passes (W.BesideEarly early)) call 0 slots
+      some_map (λ (s : Slot L g). stand_in view s) (passes (W.Saved early)) call 0 slots
       ∙ sym (some_map (λ (s : Slot L g). (stand_in view s).shape) (is_saved early) call 0 slots)
       ∙ ap (to_some (is_saved early) call) (sym (map_map (λ (s : Slot L g). instance_in view s) (λ (i : Instance). i.view.fixed.shape) slots) ∙ same)
       ∙ ap (λ (n : ℕ). to_some (is_saved n) call ss) counted
@@ -72,10 +74,10 @@ module _ {L : Type 0} {g : Ghosts L} (view : L → View) where
   -- ---- saving
 
   module _ (t b step early : ℕ) (olds : List (Slot L g)) (ready : All (IsReady view t b step) olds) (early_is : early ≡ early_in olds) (may : All (MayBeSaved view (early_in olds)) olds) where
-    pub can_save : All (CanDo view (W.BesideEarly early) T.Save) olds
+    pub can_save : All (CanDo view (W.Saved early) T.Save) olds
     can_save = λ k d w.
         let r = ready k d w in
-        can_be_saved view t b step (W.BesideEarly early) (get_or olds k d) r.placed r.unsaved
+        can_be_saved view t b step (W.Saved early) (get_or olds k d) r.placed r.unsaved
         (λ h. may k d w (ap (λ (n : ℕ). is_saved n (stand_in view (get_or olds k d)).shape) (sym early_is) ∙ h))
 
     -- where a state is saved
@@ -111,7 +113,7 @@ module _ {L : Type 0} {g : Ghosts L} (view : L → View) where
       at = ap (λ (s : Slot L g). (stand_in view s).point) w.new_is ∙ r.at;
     }
 
-    module _ (mids : List (Slot L g)) (len : length mids ≡ length olds) (sends : Sends {T = Unit {0}} view (W.BesideEarly early) T.Save olds mids (Ok tt)) where
+    module _ (mids : List (Slot L g)) (len : length mids ≡ length olds) (sends : Sends {T = Unit {0}} view (W.Saved early) T.Save olds mids (Ok tt)) where
       now : (k : ℕ) (d : Slot L g) → k < length olds → NowSaved (get_or olds k d) (get_or mids k d)
       now k d w = by (is_saved early (stand_in view (get_or olds k d)).shape) refl (sends.well k d w) where
         by : (x : Bool) → is_saved early (stand_in view (get_or olds k d)).shape ≡ x → SentTo view C.Save x (get_or olds k d) (part k sends.log) (get_or mids k d) → NowSaved (get_or olds k d) (get_or mids k d)
@@ -127,30 +129,28 @@ module _ {L : Type 0} {g : Ghosts L} (view : L → View) where
       shapes_mid : shapes (instances view mids) ≡ shapes (instances view olds)
       shapes_mid = shapes_same sends.log (instances view olds) (instances view mids) sends.told
 
-      early_mid : early ≡ early_in mids
+      pub early_mid : early ≡ early_in mids
       early_mid = early_is ∙ ap early_count (sym shapes_mid)
 
-      pub saved_mid : All (IsSavedBy view (early_in mids)) mids
-      saved_mid = λ k d w. (now k d (inside k w)).saved ∙ ap (λ (n : ℕ). is_saved n (stand_in view (get_or mids k d)).shape) early_mid
+      pub saved_mid : All (IsSavedBy view early) mids
+      saved_mid = λ k d w. (now k d (inside k w)).saved
 
-      at_mid : All (λ (s : Slot L g). (stand_in view s).point ≡ t) mids
+      pub at_mid : All (λ (s : Slot L g). (stand_in view s).point ≡ t) mids
       at_mid = λ k d w. (now k d (inside k w)).at
-
-      same_number : (x y : ℕ) → x ≡ y → not (x == y) ≡ false
-      same_number x y h = grind (arith)
-
-      pub begin_mid : All (MayGoBack view t W.Everyone) mids
-      begin_mid = λ k d w h. absurd (let home = same_number (stand_in view (get_or mids k d)).point t (at_mid k d w) in let wrong : true ≡ false = sym h ∙ home in cc)
 
       so_mid : StandSo view (all_at t (shapes (instances view olds))) mids
       so_mid = subst (λ (ss : List Shape). StandSo view (all_at t ss) mids) shapes_mid (so_all t mids at_mid)
+
+      -- who comes first is counted before the Saves
+      by_count : (log : List Sent) (outcome : Outcome) → Agrees t step (asked_first early) b (all_at t (shapes (instances view olds))) log outcome → Agrees t step (asked_first (early_count (shapes (instances view olds)))) b (all_at t (shapes (instances view olds))) log outcome
+      by_count log outcome h = subst (λ (n : ℕ). Agrees t step (asked_first n) b (all_at t (shapes (instances view olds))) log outcome) early_is h
 
       module _ (fits : unfit step (b - t) A.everyone (all_at t (shapes (instances view olds))) ≡ None) where
         saves_answered : IsAnswered (shapes (instances view olds)) (to_saved C.Save (shapes (instances view olds))) sends.log
         saves_answered = subst (λ (cs : List Asking). IsAnswered (shapes (instances view olds)) cs sends.log) (saved_calls olds (shapes (instances view olds)) early C.Save refl early_is) sends.says
 
         -- the step isn't made
-        pub agreement_stops : (news : List (Slot L g)) (end : StepEnd) → AgreedOver view t step b mids news (Err end) → StepsOver view t step b olds news (Err end)
+        pub agreement_stops : (news : List (Slot L g)) (end : StepEnd) → AgreedOver view (asked_first early) t step b mids news (Err end) → StepsOver view t step b olds news (Err end)
         agreement_stops news (FixedStep component at end) a = record {
           log = sends.log ++ a.log;
           told = told_on (instances view olds) (instances view mids) (instances view news) sends.log a.log sends.told a.told;
@@ -159,7 +159,7 @@ module _ {L : Type 0} {g : Ghosts L} (view : L → View) where
             saves = sends.log;
             agreed = a.log;
             saved = saves_answered;
-            agrees = a.says.comes (all_at t (shapes (instances view olds))) so_mid;
+            agrees = by_count a.log (Unfit component.0 end) (a.says.comes (all_at t (shapes (instances view olds))) so_mid);
             log_is = ap (λ (l : List Sent). sends.log ++ l) (sym (append-nil a.log));
           }) (ap (λ (n : ℕ). Err (FixedStep component n end)) a.says.from);
         }
@@ -171,14 +171,14 @@ module _ {L : Type 0} {g : Ghosts L} (view : L → View) where
             saves = sends.log;
             agreed = a.log;
             saved = saves_answered;
-            agrees = a.says.comes (all_at t (shapes (instances view olds))) so_mid;
+            agrees = by_count a.log (Fails bad) (a.says.comes (all_at t (shapes (instances view olds))) so_mid);
             log_is = ap (λ (l : List Sent). sends.log ++ l) (sym (append-nil a.log));
           }) refl;
         }
 
         -- ---- the end of a step that is made
 
-        module _ (behind : List (Slot L g)) (len2 : length behind ≡ length mids) (m : ℕ) (a : AgreedOver view t step b mids behind (Ok m)) where
+        module _ (behind : List (Slot L g)) (len2 : length behind ≡ length mids) (m : ℕ) (a : AgreedOver view (asked_first early) t step b mids behind (Ok m)) where
           shapes_behind : shapes (instances view behind) ≡ shapes (instances view olds)
           shapes_behind = shapes_same a.log (instances view mids) (instances view behind) a.told ∙ shapes_mid
 
@@ -190,14 +190,14 @@ module _ {L : Type 0} {g : Ghosts L} (view : L → View) where
               let x = a.says.moved k d w in
               x.saved ∙ (now k d (inside k w)).saved ∙ ap (is_saved early) (sym (ap (λ (s : Stand). s.shape) x.stand ∙ shape_kept t (stand_in view (get_or mids k d)) (part k a.log)))
 
-          pub can_free : All (CanDo view (W.BesideEarly early) T.Free) behind
-          can_free = λ k d w. can_be_freed view t m step (W.BesideEarly early) (get_or behind k d) (a.says.moved k d (inside2 k w)).placed (λ h. shape_behind k d (inside2 k w) ∙ h)
+          pub can_free : All (CanDo view (W.Saved early) T.Free) behind
+          can_free = λ k d w. can_be_freed view t m step (W.Saved early) (get_or behind k d) (a.says.moved k d (inside2 k w)).placed (λ h. shape_behind k d (inside2 k w) ∙ h)
 
-          frees_calls : to_some (passes (W.BesideEarly early)) C.Free (stands view behind) ≡ to_saved C.Free (shapes (instances view olds))
+          frees_calls : to_some (passes (W.Saved early)) C.Free (stands view behind) ≡ to_saved C.Free (shapes (instances view olds))
           frees_calls = saved_calls behind (shapes (instances view olds)) early C.Free shapes_behind early_is
 
           module _ (news : List (Slot L g)) where
-            pub frees_bad : (bad : BadAnswer) → Sends {T = Unit {0}} view (W.BesideEarly early) T.Free behind news (Err bad) → StepsOver view t step b olds news (Err (Bad bad))
+            pub frees_bad : (bad : BadAnswer) → Sends {T = Unit {0}} view (W.Saved early) T.Free behind news (Err bad) → StepsOver view t step b olds news (Err (Bad bad))
             frees_bad bad f = record {
               log = sends.log ++ (a.log ++ f.log);
               told = told_on (instances view olds) (instances view mids) (instances view news) sends.log (a.log ++ f.log) sends.told
@@ -207,13 +207,13 @@ module _ {L : Type 0} {g : Ghosts L} (view : L → View) where
                 saves = sends.log;
                 agreed = a.log;
                 saved = saves_answered;
-                agrees = a.says.comes (all_at t (shapes (instances view olds))) so_mid;
+                agrees = by_count a.log (Meets m) (a.says.comes (all_at t (shapes (instances view olds))) so_mid);
                 log_is = refl;
               }) (subst (λ (ss : List Shape). FailsIn ss (to_saved C.Free (shapes (instances view olds))) bad f.log) shapes_behind
                   (subst (λ (cs : List Asking). FailsIn (shapes (instances view behind)) cs bad f.log) frees_calls f.says)) refl;
             }
 
-            module _ (len3 : length news ≡ length behind) (f : Sends {T = Unit {0}} view (W.BesideEarly early) T.Free behind news (Ok tt)) where
+            module _ (len3 : length news ≡ length behind) (f : Sends {T = Unit {0}} view (W.Saved early) T.Free behind news (Ok tt)) where
               -- each has stepped there, and no state is saved
               at_end : (x : Bool) → x ≡ false → (v : View) → v.phase.point ≡ m → InStep t m step x v → InStep m m step x v × (none_marked v.phase.marks ≡ true)
               at_end x is v at h =
@@ -266,7 +266,7 @@ module _ {L : Type 0} {g : Ghosts L} (view : L → View) where
                   saves = sends.log;
                   agreed = a.log;
                   saved = saves_answered;
-                  agrees = a.says.comes (all_at t (shapes (instances view olds))) so_mid;
+                  agrees = by_count a.log (Meets m) (a.says.comes (all_at t (shapes (instances view olds))) so_mid);
                   log_is = refl;
                 }) (subst (λ (ss : List Shape). IsAnswered ss (to_saved C.Free (shapes (instances view olds))) f.log) shapes_behind
                     (subst (λ (cs : List Asking). IsAnswered (shapes (instances view behind)) cs f.log) frees_calls f.says))
@@ -289,7 +289,7 @@ module _ {L : Type 0} {g : Ghosts L} (view : L → View) where
     unfitted place is = record { log = []; told = told_none (instances view olds); steps = Unfitted place (fits_of (Some place) is) refl refl }
 
     pub saves_badly : (early : ℕ) → early ≡ early_in olds → (news : List (Slot L g)) (bad : BadAnswer) → unfit step (b - t) (passes W.Everyone) (stands view olds) ≡ None →
-        Sends {T = Unit {0}} view (W.BesideEarly early) T.Save olds news (Err bad) → StepsOver view t step b olds news (Err (Bad bad))
+        Sends {T = Unit {0}} view (W.Saved early) T.Save olds news (Err bad) → StepsOver view t step b olds news (Err (Bad bad))
     saves_badly early early_is news bad is s = record {
       log = s.log;
       told = s.told;

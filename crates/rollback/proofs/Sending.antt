@@ -58,27 +58,15 @@ ask_if false k call rest = refl
 one_job : (who : Who) (turn : Turn) (k : ℕ) (s : Stand) (rest : List Asking) → ask_of k (call_in (job_of who turn s)) rest ≡ (if is_sent who turn s then record { component = k; call = call_of turn } ∷ rest else rest)
 one_job who turn k s rest = ap (λ (o : Option Call). ask_of k o rest) (job_call who turn s) ∙ ask_if (is_sent who turn s) k (call_of turn) rest
 
--- where nobody might return early, nobody is meant
-nobody : (turn : Turn) (s : Stand) → is_sent (W.BesideEarly 0) turn s ≡ false
-nobody T.Save s = by s.shape.might_return_early where
-  by : (b : Bool) → nat_lt (if b then 1 else 0) 0 ≡ false
-  by true = refl
-  by false = refl
-nobody (T.Back t) s = by s.shape.might_return_early where
-  by : (b : Bool) → (nat_lt (if b then 1 else 0) 0 && not (s.point == t)) ≡ false
-  by true = refl
-  by false = refl
-nobody (T.Step t end) s = by s.shape.might_return_early where
-  by : (b : Bool) → nat_lt (if b then 1 else 0) 0 ≡ false
-  by true = refl
-  by false = refl
-nobody T.Free s = by s.shape.might_return_early where
-  by : (b : Bool) → nat_lt (if b then 1 else 0) 0 ≡ false
-  by true = refl
-  by false = refl
+-- where no two might return early, nobody is meant
+nobody : (early : ℕ) → nat_lt 1 early ≡ false → (turn : Turn) (s : Stand) → is_sent (W.Saved early) turn s ≡ false
+nobody early few T.Save s = few
+nobody early few (T.Back t) s = ap (λ (b : Bool). b && not (s.point == t)) few
+nobody early few (T.Step t end) s = few
+nobody early few T.Free s = few
 
-pub none_meant : {L : Type 0} {g : Ghosts L} (view : L → View) (turn : Turn) (slots : List (Slot L g)) → list_any (λ (s : Slot L g). is_sent (W.BesideEarly 0) turn (stand_in view s)) slots ≡ false
-none_meant {L = L} {g = g} view turn slots = list_any_none (λ (s : Slot L g). is_sent (W.BesideEarly 0) turn (stand_in view s)) slots (λ k d w. nobody turn (stand_in view (get_or slots k d)))
+pub none_meant : {L : Type 0} {g : Ghosts L} (view : L → View) (early : ℕ) → nat_lt 1 early ≡ false → (turn : Turn) (slots : List (Slot L g)) → list_any (λ (s : Slot L g). is_sent (W.Saved early) turn (stand_in view s)) slots ≡ false
+none_meant {L = L} {g = g} view early few turn slots = list_any_none (λ (s : Slot L g). is_sent (W.Saved early) turn (stand_in view s)) slots (λ k d w. nobody early few turn (stand_in view (get_or slots k d)))
 
 -- ---- no bad answer
 

@@ -1,5 +1,5 @@
 -- A turn of an agreement over slots.
-use Rattle.std.proofs.Common.{◌≡◌, ◌≢◌, ℕ, zero, suc, is_some, ◌<◌, ◌≤◌, ◌==◌, Bool, true, false, not, List, [], ◌∷◌, ◌++◌, Some, Ok, Err, refl, sym, ap, ap₂, ◌∙◌, subst, arith, append_assoc, length, get_or, map}
+use Rattle.std.proofs.Common.{◌≡◌, ◌≢◌, inl, ℕ, zero, suc, is_some, ◌-◌, ◌<◌, ◌≤◌, ◌==◌, Bool, true, false, not, List, [], ◌∷◌, ◌++◌, Some, Ok, Err, refl, sym, ap, ap₂, ◌∙◌, subst, arith, append_assoc, length, get_or, map}
 use Rattle.std.specs.Prelude.{All, ◌&&◌}
 use Rattle.std.specs.List.{list_all, slice_get}
 use Rattle.std.proofs.lemmas.Bool.Decides.{nat_tests}
@@ -7,13 +7,14 @@ use Rattle.fmu_peer.specs.declared.peer.Exchange.{Exchange}
 use Rattle.fmu_peer.specs.declared.peer.Peer.{Ghosts}
 use Rattle.fmu_peer.specs.declared.slot.Slot.{Slot}
 use Rattle.fmu_peer.specs.View.{View}
+use Rattle.system_model.specs.EarlyReturn.{early_count}
 use Rattle.run_model.specs.Steps.{least_or}
 use Rattle.slot_calls.specs.Log.{Sent, Told, part}
 use Rattle.slot_calls.specs.Slots.{instances}
 use Rattle.slot_calls.specs.Stage.{everyone, shapes}
 use Rattle.slot_calls.proofs.CallerLemmas.{part_append, told_on}
 use Rattle.step_agreement.specs.Agreement.{Agrees, Asks, FirstMeet, FirstStops, GoesAnew, Meets, NextMeet, NextStops, Stand, are_at, end_at, ends_elsewhere, is_elsewhere, reached, shapes_in, stands_by}
-use Rattle.step_agreement.specs.Saving.{early_count, is_saved}
+use Rattle.step_agreement.specs.Saving.{is_saved}
 use Rattle.step_agreement.proofs.CallerLemmas.{c_before, c_later, counts_elsewhere, elsewhere_saved, m_later, m_within, same_shapes, saved_beside_two, shape_kept, stands_on, two_at_last}
 use Rattle.rollback.specs.Asked.{AllMoved, AskedOver, IsAt, IsKept, IsSavedBy, IsTested, MayGoBack, Moved, TurnOver, outcome_of}
 use Rattle.rollback.specs.Places.{StandSo, at_rest, passes, stand_in, stands}
@@ -24,7 +25,7 @@ use Rattle.rollback.specs.declared.step_end.StepEnd.{StepEnd}
 use Rattle.rollback.proofs.Moving.{lower, moved_lower, moved_on}
 use Rattle.rollback.proofs.Resting.{are_at_so, reached_so, shapes_own, so_behind, stand_at, stands_own}
 
-unequal : (a b : ℕ) → not (a == b) ≡ true → a ≢ b
+pub unequal : (a b : ℕ) → not (a == b) ≡ true → a ≢ b
 unequal a b q = by (a == b) refl q where
   by : (x : Bool) → (a == b) ≡ x → not x ≡ true → a ≢ b
   by true e h = absurd (cc)
@@ -37,7 +38,7 @@ both_first : (a b : Bool) → (a && b) ≡ true → a ≡ true
 both_first true b h = refl
 both_first false b h = absurd (cc)
 
-both_second : (a b : Bool) → (a && b) ≡ true → b ≡ true
+pub both_second : (a b : Bool) → (a && b) ≡ true → b ≡ true
 both_second true b h = h
 both_second false b h = absurd (cc)
 
@@ -46,19 +47,23 @@ module _ {L : Type 0} {g : Ghosts L} (view : L → View) where
   there_step m s slots here rest zero d w = here
   there_step m s slots here rest (suc k) d w = rest k d (omega (arith, w))
 
-  there_by : (m : ℕ) (slots : List (Slot L g)) → list_all (λ (s : Slot L g). (stand_in view s).point == m) slots ≡ true → All (IsAt view m) slots
+  pub there_by : (m : ℕ) (slots : List (Slot L g)) → list_all (λ (s : Slot L g). (stand_in view s).point == m) slots ≡ true → All (IsAt view m) slots
   there_by m [] h = λ k d w. absurd (omega (arith, w))
   there_by m (s ∷ slots) h =
       there_step m s slots (equal (stand_in view s).point m (both_first ((stand_in view s).point == m) (list_all (λ (x : Slot L g). (stand_in view x).point == m) slots) h))
       (there_by m slots (both_second ((stand_in view s).point == m) (list_all (λ (x : Slot L g). (stand_in view x).point == m) slots) h))
 
-  abbrev least : ℕ → ℕ → List (Slot L g) → ℕ
+  abbrev pub least : ℕ → ℕ → List (Slot L g) → ℕ
   least t b slots = least_or b (map (λ (s : Slot L g). end_at t b (stand_in view s)) slots)
 
-  abbrev are_all_at : ℕ → List (Slot L g) → Bool
+  abbrev pub are_all_at : ℕ → List (Slot L g) → Bool
   are_all_at m slots = list_all (λ (s : Slot L g). (stand_in view s).point == m) slots
 
-  module _ (t step b : ℕ) (later : t < b) (olds : List (Slot L g)) (saved : All (IsSavedBy view (early_count (shapes (instances view olds)))) olds) where
+  -- everyone is tested
+  pub tested_all : (step size : ℕ) (olds : List (Slot L g)) → All (IsTested view W.Everyone W.Everyone step size) olds
+  tested_all step size olds = λ k d w h. inl refl
+
+  module _ (t step b : ℕ) (later : t < b) (olds : List (Slot L g)) (several : early_count (shapes (instances view olds)) ≢ 1) (saved : All (IsSavedBy view (early_count (shapes (instances view olds)))) olds) where
     -- it couldn't be asked
     pub first_stops : (news : List (Slot L g)) (end : StepEnd) → AskedOver {T = Unit {0}} view t step W.Everyone W.Everyone b olds news (Err end) → TurnOver view t step b olds news (Err end)
     first_stops news end a = record {
@@ -138,10 +143,10 @@ module _ {L : Type 0} {g : Ghosts L} (view : L → View) where
         is_kept =
             (first.says.1 k d here).saved ∙ saved k d here
             ∙ ap₂ is_saved (sym early_same) (sym shape_same ∙ ap (λ (s : Stand). s.shape) (sym stand.2))
-            ∙ elsewhere_saved t step b later (stands view olds) first.log asks k stand.0 stand.1 elsewhere
+            ∙ elsewhere_saved t step b later (stands view olds) first.log asks k stand.0 stand.1 elsewhere (λ e. several (sym early_same ∙ e))
 
-      pub tested_now : All (IsTested view (W.EndElsewhere t b m) (W.Elsewhere m)) mids
-      tested_now = λ k d w h. counts k d w h
+      pub tested_now : All (IsTested view (W.EndElsewhere t b m) (W.Elsewhere m) step (m - t)) mids
+      tested_now = λ k d w h. inl (counts k d w h)
 
       pub back_now : All (MayGoBack view t (W.Elsewhere m)) mids
       back_now = λ k d w h. is_kept k d w (both_first (is_elsewhere m (stand_in view (get_or mids k d))) (not ((stand_in view (get_or mids k d)).point == t)) h)

@@ -1,5 +1,5 @@
 -- One asking over slots, and a turn of the agreement: what the parts of an agreed step say of each other.
-use Rattle.std.specs.Prelude.{◌≡◌, ℕ, ◌++◌, ◌-◌, ◌<◌, ◌≤◌, Bool, true, false, List, length, slice_index_or, is_some, All, Option, Some, None, Result, Ok, Err}
+use Rattle.std.specs.Prelude.{◌≡◌, ◌⊎◌, ℕ, ◌++◌, ◌-◌, ◌<◌, ◌≤◌, Bool, true, false, List, length, slice_index_or, is_some, All, Option, Some, None, Result, Ok, Err}
 use Rattle.value_types.specs.declared.shape.Shape.{Shape}
 use Rattle.fmi_calls.specs.declared.call.Call.TheVariants as C
 use Rattle.fmu_peer.specs.declared.ended.Why.{Why}
@@ -36,17 +36,25 @@ IsFrom t (Bad bad) = Unit {0}
 
 -- ---- what holds of a slot before an asking
 
--- one that stands at t is meant
-abbrev pub MeansHome : ℕ → Who → Type 0
-MeansHome t W.Everyone = Unit {0}
-MeansHome t (W.Elsewhere m) = t < m
-MeansHome t (W.BesideEarly early) = ⊥
-MeansHome t (W.EndElsewhere from bound m) = ⊥
+-- one that is meant is meant still once it stands at t again
+abbrev pub StaysMeant : ℕ → Who → Type 0
+StaysMeant t W.Everyone = Unit {0}
+StaysMeant t (W.Saved early) = Unit {0}
+StaysMeant t W.Early = Unit {0}
+StaysMeant t (W.Elsewhere m) = t < m
+StaysMeant t (W.EndElsewhere from bound m) = ⊥
 
--- one that is meant is tested for the size
-abbrev pub IsTested : {L : Type 0} {g : _} → (L → View) → (sized asked : Who) → Slot L g → Type 0
-IsTested view sized asked slot =
-    passes asked (stand_in view slot) ≡ true → passes sized (stand_in view slot) ≡ true
+-- one that is meant is tested for the size, or takes it
+abbrev pub IsTested : {L : Type 0} {g : _} → (L → View) → (sized asked : Who) →
+    (step size : ℕ) → Slot L g → Type 0
+IsTested view sized asked step size slot =
+    passes asked (stand_in view slot) ≡ true →
+    (passes sized (stand_in view slot) ≡ true) ⊎ TakesSize step size (stand_in view slot).shape
+
+-- one that is meant stands at t
+abbrev pub IsHome : {L : Type 0} {g : _} → (L → View) → ℕ → Who → Slot L g → Type 0
+IsHome view t asked slot =
+    passes asked (stand_in view slot) ≡ true → (stand_in view slot).point ≡ t
 
 -- one that is meant takes a step of the size
 abbrev pub IsFitting : {L : Type 0} {g : _} → (L → View) → Who → (step size : ℕ) → Slot L g → Type 0
@@ -58,7 +66,7 @@ abbrev pub MayGoBack : {L : Type 0} {g : _} → (L → View) → ℕ → Who →
 MayGoBack view t asked slot =
     is_sent asked (T.Back t) (stand_in view slot) ≡ true → is_some slot.saved ≡ true
 
--- its state is saved exactly where another might return early, of this many that might
+-- its state is saved exactly where two or more might return early, of this many that might
 abbrev pub IsSavedBy : {L : Type 0} {g : _} → (L → View) → ℕ → Slot L g → Type 0
 IsSavedBy view early slot = is_some slot.saved ≡ is_saved early (stand_in view slot).shape
 
@@ -154,11 +162,11 @@ GoesOn view t step b c olds log =
     Agrees t step everyone c (stands_by t ss log) rest outcome →
     Agrees t step everyone b ss (log ++ rest) outcome
 
--- the agreement comes to this
-abbrev pub ComesTo : {L : Type 0} {g : _} → (L → View) → (t step b : ℕ) → List (Slot L g) →
-    List Sent → Outcome → Type 0
-ComesTo view t step b olds log outcome =
-    (ss : List Stand) → StandSo view ss olds → Agrees t step everyone b ss log outcome
+-- the agreement comes to this, where these come first
+abbrev pub ComesTo : {L : Type 0} {g : _} → (L → View) → (Shape → Bool) → (t step b : ℕ) →
+    List (Slot L g) → List Sent → Outcome → Type 0
+ComesTo view first t step b olds log outcome =
+    (ss : List Stand) → StandSo view ss olds → Agrees t step first b ss log outcome
 
 abbrev pub IsAt : {L : Type 0} {g : _} → (L → View) → ℕ → Slot L g → Type 0
 IsAt view m slot = (stand_in view slot).point ≡ m
@@ -167,9 +175,10 @@ abbrev pub IsKept : {L : Type 0} {g : _} → Slot L g → Type 0
 IsKept slot = is_some slot.saved ≡ true
 
 -- it came to a point, where all stand
-pub record MeetsAt {L : Type 0} {g : _} (view : L → View) (t step b : ℕ)
-    (olds : List (Slot L g)) (log : List Sent) (news : List (Slot L g)) (m : ℕ) : Type 0 where
-  pub comes : ComesTo view t step b olds log (Meets m)
+pub record MeetsAt {L : Type 0} {g : _} (view : L → View) (first : Shape → Bool)
+    (t step b : ℕ) (olds : List (Slot L g)) (log : List Sent) (news : List (Slot L g))
+    (m : ℕ) : Type 0 where
+  pub comes : ComesTo view first t step b olds log (Meets m)
   pub moved : AllMoved view t m step W.Everyone olds log news
   pub there : All (IsAt view m) news
   pub later : t < m
@@ -185,16 +194,16 @@ pub record GoesAnewFrom {L : Type 0} {g : _} (view : L → View) (t step b : ℕ
   pub before : c < b
 
 -- it stops
-pub record StopsWith {L : Type 0} {g : _} (view : L → View) (t step b : ℕ)
-    (olds : List (Slot L g)) (log : List Sent) (end : StepEnd) : Type 0 where
+pub record StopsWith {L : Type 0} {g : _} (view : L → View) (first : Shape → Bool)
+    (t step b : ℕ) (olds : List (Slot L g)) (log : List Sent) (end : StepEnd) : Type 0 where
   pub from : IsFrom t end
-  pub comes : ComesTo view t step b olds log (outcome_of end)
+  pub comes : ComesTo view first t step b olds log (outcome_of end)
 
 abbrev pub TurnSays : {L : Type 0} {g : _} → (L → View) → (t step b : ℕ) →
     (olds news : List (Slot L g)) → List Sent → Result Turned StepEnd → Type 0
-TurnSays view t step b olds news log (Ok (Met m)) = MeetsAt view t step b olds log news m
+TurnSays view t step b olds news log (Ok (Met m)) = MeetsAt view everyone t step b olds log news m
 TurnSays view t step b olds news log (Ok (Anew c)) = GoesAnewFrom view t step b olds log news c
-TurnSays view t step b olds news log (Err end) = StopsWith view t step b olds log end
+TurnSays view t step b olds news log (Err end) = StopsWith view everyone t step b olds log end
 
 -- all were asked, and where they don't meet the others were
 pub record TurnOver {L : Type 0} {g : _} (view : L → View) (t step b : ℕ)
@@ -203,14 +212,18 @@ pub record TurnOver {L : Type 0} {g : _} (view : L → View) (t step b : ℕ)
   pub told : Told log (instances view olds) (instances view news)
   pub says : TurnSays view t step b olds news log result
 
-abbrev pub AgreedSays : {L : Type 0} {g : _} → (L → View) → (t step b : ℕ) →
+abbrev pub AgreedSays : {L : Type 0} {g : _} → (L → View) → (Shape → Bool) → (t step b : ℕ) →
     (olds news : List (Slot L g)) → List Sent → Result ℕ StepEnd → Type 0
-AgreedSays view t step b olds news log (Ok m) = MeetsAt view t step b olds log news m
-AgreedSays view t step b olds news log (Err end) = StopsWith view t step b olds log end
+AgreedSays view first t step b olds news log (Ok m) = MeetsAt view first t step b olds log news m
+AgreedSays view first t step b olds news log (Err end) = StopsWith view first t step b olds log end
 
 -- they were asked until they met
-pub record AgreedOver {L : Type 0} {g : _} (view : L → View) (t step b : ℕ)
-    (olds news : List (Slot L g)) (result : Result ℕ StepEnd) : Type 0 where
+pub record AgreedOver {L : Type 0} {g : _} (view : L → View) (first : Shape → Bool)
+    (t step b : ℕ) (olds news : List (Slot L g)) (result : Result ℕ StepEnd) : Type 0 where
   pub log : List Sent
   pub told : Told log (instances view olds) (instances view news)
-  pub says : AgreedSays view t step b olds news log result
+  pub says : AgreedSays view first t step b olds news log result
+
+-- one that might return early
+abbrev pub might_return_early : Shape → Bool
+might_return_early shape = shape.might_return_early

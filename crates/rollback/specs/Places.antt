@@ -45,7 +45,8 @@ StandSo view ss slots = map at_rest ss ≡ stands view slots
 
 abbrev pub passes : Who → Stand → Bool
 passes W.Everyone s = true
-passes (W.BesideEarly early) s = is_saved early s.shape
+passes (W.Saved early) s = is_saved early s.shape
+passes W.Early s = s.shape.might_return_early
 passes (W.Elsewhere m) s = is_elsewhere m s
 passes (W.EndElsewhere t bound m) s = ends_elsewhere t bound m s
 

@@ -5,14 +5,16 @@ use Rattle.fmi_calls.specs.declared.call.Call.{Call}
 use Rattle.fmi_calls.specs.declared.call.Call.TheVariants as C
 use Rattle.fmu_peer.specs.declared.slot.Slot.{Slot}
 use Rattle.fmu_peer.specs.View.{View}
+use Rattle.system_model.specs.EarlyReturn.{early_count}
+use Rattle.run_model.specs.Stepping.{asked_first}
 use Rattle.slot_calls.specs.Log.{Asking, Sent, Told, part}
 use Rattle.slot_calls.specs.Slots.{instances}
-use Rattle.slot_calls.specs.Stage.{FailsIn, IsAnswered, everyone, shapes, to_those}
+use Rattle.slot_calls.specs.Stage.{FailsIn, IsAnswered, shapes, to_those}
 use Rattle.slot_calls.specs.declared.bad_answer.BadAnswer.{BadAnswer}
 use Rattle.step_agreement.specs.Agreement as A
 use Rattle.step_agreement.specs.Agreement.{Agrees, Fails, Meets, Stand, Unfit, unfit}
 use Rattle.step_agreement.specs.OverMachines.{asks_last}
-use Rattle.step_agreement.specs.Saving.{early_count, is_saved}
+use Rattle.step_agreement.specs.Saving.{is_saved}
 use Rattle.rollback.specs.declared.step_end.Agreed.{Agreed}
 use Rattle.rollback.specs.declared.step_end.StepEnd.{StepEnd}
 use Rattle.rollback.specs.declared.step_end.StepEnd.TheVariants.{Bad, FixedStep}
@@ -21,7 +23,7 @@ use Rattle.rollback.specs.declared.step_end.StepEnd.TheVariants.{Bad, FixedStep}
 abbrev pub all_at : ℕ → List Shape → List Stand
 all_at t shapes = map (λ (s : Shape). record { shape = s; point = t; ask = t }) shapes
 
--- a call to each FMU beside which another might return early
+-- a call to each FMU, where two or more might return early
 abbrev pub to_saved : Call → List Shape → List Asking
 to_saved call shapes = to_those (is_saved (early_count shapes)) (λ shape. call) shapes
 
@@ -37,7 +39,7 @@ pub record Saves (t step b : ℕ) (shapes : List Shape) (log : List Sent) (outco
   pub saves : List Sent
   pub agreed : List Sent
   pub saved : IsAnswered shapes (to_saved C.Save shapes) saves
-  pub agrees : Agrees t step everyone b (all_at t shapes) agreed outcome
+  pub agrees : Agrees t step (asked_first (early_count shapes)) b (all_at t shapes) agreed outcome
   pub log_is : log ≡ saves ++ (agreed ++ behind)
 
 -- a step from t to at most b: that each FMU takes its size is tested before anything is sent, then the states are saved, then it is agreed on the point that is reached, and then they are freed. In each of these the answers may be bad

@@ -1,9 +1,10 @@
-ghost use Rattle.std.specs.Prelude.{◌≡◌, ◌≤◌, ◌<◌, ◌-◌, ◌^◌, All, IfSome, length};
+ghost use Rattle.std.specs.Prelude.{◌≡◌, ◌≢◌, ◌≤◌, ◌<◌, ◌-◌, ◌^◌, All, IfSome, length};
+ghost use Rattle.system_model.specs.EarlyReturn.{early_count};
+ghost use Rattle.run_model.specs.Stepping.{asked_first};
 ghost use Rattle.slot_calls.specs.Slots.{instances};
-ghost use Rattle.slot_calls.specs.Stage.{shapes};
+ghost use Rattle.slot_calls.specs.Stage.{everyone, shapes};
 ghost use Rattle.step_agreement.specs.Agreement.{unfit};
-ghost use Rattle.step_agreement.specs.Saving.{early_count};
-ghost use Rattle.rollback.specs.Asked.{AgreedOver, AskedOver, IsFitting, IsSavedBy, IsTested, MayGoBack, MeansHome, RoundsOver, TurnOver};
+ghost use Rattle.rollback.specs.Asked.{AgreedOver, AskedOver, IsAt, IsFitting, IsHome, IsSavedBy, IsTested, MayGoBack, RoundsOver, StaysMeant, TurnOver, might_return_early};
 ghost use Rattle.rollback.specs.Places.{passes, stands};
 ghost use Rattle.rollback.specs.Standing.{Placed};
 
@@ -23,9 +24,34 @@ pub(crate) enum Turned {
     Anew { bound: u64 },
 }
 
-/// Asks all for a step from t to a bound, and those that pass the least end for that, turn after turn, until all stand at
-/// one point.
+/// Asks for steps from t to at most a bound until all stand at one point. Of `early` FMUs that might return early one alone is
+/// asked first.
 pub(crate) fn agree<R: Threads + Sync, L: Peer>(
+    rt: &R,
+    slots: &mut [Slot<L>],
+    early: usize,
+    t: u64,
+    bound: u64,
+    step: u64,
+    workers: u32,
+) -> Result<u64, StepEnd>
+    requires few { length slots.old ≤ 2 ^ 32 }
+    requires later { t < bound }
+    requires counted { early ≡ early_count (shapes (instances L.view slots.old)) }
+    requires placed { All (Placed L.view t bound step) slots.old }
+    requires saved { All (IsSavedBy L.view early) slots.old }
+    requires home { All (IsAt L.view t) slots.old }
+    ensures { AgreedOver L.view (asked_first early) t step bound slots.old slots.new result }
+{
+    if early == 1 {
+        follow_one(rt, slots, t, bound, step, workers)
+    } else {
+        agree_all(rt, slots, t, bound, step, workers)
+    }
+}
+
+// Asks the one that might return early for a step to the bound, and then the others for one to where it ended.
+fn follow_one<R: Threads + Sync, L: Peer>(
     rt: &R,
     slots: &mut [Slot<L>],
     t: u64,
@@ -35,11 +61,65 @@ pub(crate) fn agree<R: Threads + Sync, L: Peer>(
 ) -> Result<u64, StepEnd>
     requires few { length slots.old ≤ 2 ^ 32 }
     requires later { t < bound }
+    requires one { early_count (shapes (instances L.view slots.old)) ≡ 1 }
+    requires placed { All (Placed L.view t bound step) slots.old }
+    requires home { All (IsAt L.view t) slots.old }
+    ensures { AgreedOver L.view might_return_early t step bound slots.old slots.new result }
+{
+    match ask_home(
+        rt,
+        slots,
+        Who::Everyone,
+        Who::Early,
+        t,
+        bound,
+        step,
+        workers,
+    ) {
+        Ok(()) => {}
+        Err(unmade) => return Err(unmade),
+    }
+    let first_end = reached(slots, t, bound);
+    if are_at(slots, first_end) {
+        return Ok(first_end);
+    }
+    match ask_home(
+        rt,
+        slots,
+        Who::EndElsewhere {
+            t,
+            bound,
+            m: first_end,
+        },
+        Who::Elsewhere { m: first_end },
+        t,
+        first_end,
+        step,
+        workers,
+    ) {
+        Ok(()) => Ok(first_end),
+        Err(end) => Err(end),
+    }
+}
+
+// Asks all for a step from t to a bound, and those that pass the least end for that, turn after turn, until all stand at one
+// point.
+fn agree_all<R: Threads + Sync, L: Peer>(
+    rt: &R,
+    slots: &mut [Slot<L>],
+    t: u64,
+    bound: u64,
+    step: u64,
+    workers: u32,
+) -> Result<u64, StepEnd>
+    requires few { length slots.old ≤ 2 ^ 32 }
+    requires later { t < bound }
+    requires several { early_count (shapes (instances L.view slots.old)) ≢ 1 }
     requires placed { All (Placed L.view t bound step) slots.old }
     requires saved { All (IsSavedBy L.view
         (early_count (shapes (instances L.view slots.old)))) slots.old }
     requires begin { All (MayGoBack L.view t Who.Everyone) slots.old }
-    ensures { AgreedOver L.view t step bound slots.old slots.new result }
+    ensures { AgreedOver L.view everyone t step bound slots.old slots.new result }
 {
     let mut bound = bound;
     loop {
@@ -62,6 +142,7 @@ fn take_turn<R: Threads + Sync, L: Peer>(
 ) -> Result<Turned, StepEnd>
     requires few { length slots.old ≤ 2 ^ 32 }
     requires later { t < bound }
+    requires several { early_count (shapes (instances L.view slots.old)) ≢ 1 }
     requires placed { All (Placed L.view t bound step) slots.old }
     requires saved { All (IsSavedBy L.view
         (early_count (shapes (instances L.view slots.old)))) slots.old }
@@ -120,9 +201,9 @@ fn ask<R: Threads + Sync, L: Peer>(
 ) -> Result<(), StepEnd>
     requires few { length slots.old ≤ 2 ^ 32 }
     requires later { t < end }
-    requires home { MeansHome t asked }
+    requires meant { StaysMeant t asked }
     requires placed { All (Placed L.view t end step) slots.old }
-    requires tested { All (IsTested L.view sized asked) slots.old }
+    requires tested { All (IsTested L.view sized asked step (end - t)) slots.old }
     requires back { All (MayGoBack L.view t asked) slots.old }
     ensures { AskedOver L.view t step sized asked end slots.old slots.new result }
 {
@@ -137,6 +218,41 @@ fn ask<R: Threads + Sync, L: Peer>(
         }
     }
     match ask_all(rt, slots, asked, t, end, step, workers) {
+        Ok(()) => Ok(()),
+        Err(bad) => Err(StepEnd::Bad(bad)),
+    }
+}
+
+// Likewise, where those that are meant stand at t, so that none goes back.
+fn ask_home<R: Threads + Sync, L: Peer>(
+    rt: &R,
+    slots: &mut [Slot<L>],
+    sized: Who,
+    asked: Who,
+    t: u64,
+    end: u64,
+    step: u64,
+    workers: u32,
+) -> Result<(), StepEnd>
+    requires few { length slots.old ≤ 2 ^ 32 }
+    requires later { t < end }
+    requires meant { StaysMeant t asked }
+    requires placed { All (Placed L.view t end step) slots.old }
+    requires tested { All (IsTested L.view sized asked step (end - t)) slots.old }
+    requires home { All (IsHome L.view t asked) slots.old }
+    ensures { AskedOver L.view t step sized asked end slots.old slots.new result }
+{
+    match first_unfit(slots, sized, step, end - t) {
+        None => {}
+        Some(place) => {
+            return Err(StepEnd::FixedStep {
+                component: CompId(place as u32),
+                at: t,
+                end,
+            });
+        }
+    }
+    match send(rt, slots, asked, Turn::Step { t, end }, workers) {
         Ok(()) => Ok(()),
         Err(bad) => Err(StepEnd::Bad(bad)),
     }
@@ -171,7 +287,7 @@ fn ask_all<R: Threads + Sync, L: Peer>(
 ) -> Result<(), BadAnswer>
     requires few { length slots.old ≤ 2 ^ 32 }
     requires later { t < end }
-    requires home { MeansHome t asked }
+    requires meant { StaysMeant t asked }
     requires placed { All (Placed L.view t end step) slots.old }
     requires fitting { All (IsFitting L.view asked step (end - t)) slots.old }
     requires back { All (MayGoBack L.view t asked) slots.old }

@@ -60,12 +60,13 @@ fn set_job<L: Peer>(slot: &mut Slot<L>, who: Who, turn: Turn)
     slot.job = job_of(slot, who, turn);
 }
 
-// Whether a turn's call is for any of them. Where nobody might return early, none is saved.
+// Whether a turn's call is for any of them. Where no two might return early, none is saved.
 fn is_any_sent<L: Peer>(slots: &[Slot<L>], who: Who, turn: Turn) -> bool
     ensures { result ≡ list_any (λ slot. is_sent who turn (stand_in L.view slot)) slots.now }
 {
     match who {
-        Who::BesideEarly { early: 0 } => false,
+        Who::Saved { early: 0 } => false,
+        Who::Saved { early: 1 } => false,
         _ => slots.iter().any(|slot| is_sent(slot, who, turn)),
     }
 }

@@ -1,4 +1,4 @@
-ghost use Rattle.std.specs.Prelude.{◌≡◌, ◌==◌, ◌&&◌, ◌<◌, count_by, map, min, not, position, length, IfSome, if◌then◌else◌};
+ghost use Rattle.std.specs.Prelude.{◌≡◌, ◌==◌, ◌&&◌, ◌<◌, count_by, map, min, not, position, length, IfSome};
 ghost use Rattle.std.specs.List.{list_all, reduce};
 ghost use Rattle.run_model.specs.Steps.{least_or};
 ghost use Rattle.step_agreement.specs.Agreement.{end_at};
@@ -10,8 +10,10 @@ use fmu_peer::{Peer, Slot};
 #[derive(Clone, Copy, Debug, PartialEq, Eq)]
 pub(crate) enum Who {
     Everyone,
-    /// those beside which another might return early, of `early` that might
-    BesideEarly { early: usize },
+    /// all where two or more might return early, and none else, of `early` that might
+    Saved { early: usize },
+    /// those that might return early
+    Early,
     /// those that don't stand at a point
     Elsewhere { m: u64 },
     /// those that don't end at m, when they are asked for the bound
@@ -37,16 +39,11 @@ pub(crate) fn passes<L: Peer>(slot: &Slot<L>, who: Who) -> bool
 {
     match who {
         Who::Everyone => true,
-        Who::BesideEarly { early } => own_count(slot) < early,
+        Who::Saved { early } => early > 1,
+        Who::Early => might_return_early(slot),
         Who::Elsewhere { m } => point_of(slot) != m,
         Who::EndElsewhere { t, bound, m } => end_at(slot, t, bound) != m,
     }
-}
-
-fn own_count<L: Peer>(slot: &Slot<L>) -> usize
-    ensures { result ≡ (if (stand_in L.view slot.now).shape.might_return_early then 1 else 0) }
-{
-    if might_return_early(slot) { 1 } else { 0 }
 }
 
 fn might_return_early<L: Peer>(slot: &Slot<L>) -> bool

@@ -2,7 +2,7 @@ ghost use Rattle.std.specs.Prelude.{◌≡◌, ◌≤◌, ◌<◌, ◌^◌, All,
 ghost use Rattle.std.specs.List.{list_any};
 ghost use Rattle.slot_calls.specs.Slots.{instances};
 ghost use Rattle.slot_calls.specs.Stage.{shapes};
-ghost use Rattle.step_agreement.specs.Saving.{early_count};
+ghost use Rattle.system_model.specs.EarlyReturn.{early_count};
 ghost use Rattle.rollback.specs.Asked.{MayBeSaved, asks_in};
 ghost use Rattle.rollback.specs.Standing.{HasStepped, IsReady};
 ghost use Rattle.rollback.specs.StepsBy.{StepsOver};
@@ -16,9 +16,10 @@ use sim_base::CompId;
 use std::thread::Threads;
 
 /// Steps all FMUs from t until they stand at one point, at most at the bound: each is asked for a step to it, and where one
-/// returns early, those that pass the point that it reached go back and are asked for that, until all meet. Beside one that
-/// might return early the state of each is saved first, and freed at the end. Points and sizes are counts; `step` is the size
-/// of the plan's steps. It takes no memory.
+/// returns early, those that pass the point that it reached go back and are asked for that, until all meet. Where one alone
+/// might return early it is asked first, and the others then for a step to where it ended, so none goes back. Where two or
+/// more might, the state of each is saved first, and freed at the end. Points and sizes are counts; `step` is the size of the
+/// plan's steps. It takes no memory.
 pub fn agreed_step<R: Threads + Sync, L: Peer>(
     rt: &R,
     slots: &mut [Slot<L>],
@@ -48,14 +49,13 @@ pub fn agreed_step<R: Threads + Sync, L: Peer>(
             });
         }
     }
-    let saved = Who::BesideEarly {
-        early: early_count(slots),
-    };
+    let early = early_count(slots);
+    let saved = Who::Saved { early };
     match send(rt, slots, saved, Turn::Save, workers) {
         Ok(()) => {}
         Err(bad) => return Err(StepEnd::Bad(bad)),
     }
-    let point = match agree(rt, slots, t, bound, step, workers) {
+    let point = match agree(rt, slots, early, t, bound, step, workers) {
         Ok(point) => point,
         Err(end) => return Err(end),
     };

@@ -23,8 +23,9 @@ use Rattle.system_model.specs.Ports.{numbers, is_output_role, is_clock_role}
 use Rattle.system_model.specs.Needs.{DependsOn, Needs, ByClock, ByDependency}
 use Rattle.system_model.specs.Sound.{IsSound}
 use Rattle.system_model.proofs.CallerLemmas.{at_contains, found_under, true_false, Placed, place_of, is_output_of, is_input_of, events_of}
-use Rattle.run_model.specs.Run.{Run, Situation, IsFmu, value, at_fmu}
-use Rattle.run_model.specs.Inputs.{is_active, is_present, written_by, written_at_port, under, is_under, state_written, state_with}
+use Rattle.run_model.specs.Run.{Run, Situation, IsFmu, at_fmu}
+use Rattle.system_model.specs.Values.{value, is_active, is_present}
+use Rattle.run_model.specs.Inputs.{written_by, written_at_port, under, is_under, state_written, state_with}
 use Rattle.run_model.specs.Equations.{output_value, shown, ticking, value_in}
 use Rattle.run_model.specs.Machines.{AreMachines, AreStates, IsStateOf}
 use Rattle.run_model.proofs.Written.{all_written-get, all_written-length}

@@ -20,8 +20,9 @@ use Rattle.system_model.specs.Ports.{is_output_role, is_clock_role, source_of}
 use Rattle.system_model.specs.Needs.{is_unclocked, is_unclocked_at}
 use Rattle.system_model.specs.Sound.{IsSound}
 use Rattle.system_model.proofs.CallerLemmas.{true_false, place_of, kind_of_clock, source_at}
-use Rattle.run_model.specs.Run.{Run, Situation, Timer, value, each, each_from, at_fmu}
-use Rattle.run_model.specs.Inputs.{is_present, state_with}
+use Rattle.run_model.specs.Run.{Run, Situation, Timer, each, each_from, at_fmu}
+use Rattle.system_model.specs.Values.{value, is_present}
+use Rattle.run_model.specs.Inputs.{state_with}
 use Rattle.run_model.specs.Timers.{IsDue}
 use Rattle.run_model.specs.Equations.{Solves, SolvesAt, IsTickValue, fed, shown, value_in, output_value, ticking, timer_of}
 use Rattle.run_model.specs.Initial as I

@@ -11,3 +11,4 @@ pub use Rattle.run_model.proofs.Solvable.{solvable}
 pub use Rattle.run_model.proofs.States.{each-get, fmu_before, written-length}
 pub use Rattle.run_model.proofs.Unique.{IsClosed, closed-push, none_in, push_cases}
 pub use Rattle.run_model.proofs.Written.{all_written-get}
+pub use Rattle.run_model.proofs.WhoIsFirst.{asked_as_first, comes_first, first_by}

@@ -17,8 +17,9 @@ use Rattle.system_model.specs.Ports.{numbers, is_clock_role, is_output_role, sou
 use Rattle.system_model.specs.Needs.{DependsOn, NeedsInitially, InitiallyByFeed, InitiallyByDependency, is_unclocked, is_unclocked_at}
 use Rattle.system_model.specs.Sound.{IsSound}
 use Rattle.system_model.proofs.CallerLemmas.{true_false, order_from, place_of}
-use Rattle.run_model.specs.Run.{Run, value, at_fmu}
-use Rattle.run_model.specs.Inputs.{is_active, is_present, written_by, written_at_port, state_with}
+use Rattle.run_model.specs.Run.{Run, at_fmu}
+use Rattle.system_model.specs.Values.{value, is_active, is_present}
+use Rattle.run_model.specs.Inputs.{written_by, written_at_port, state_with}
 use Rattle.run_model.specs.Equations.{fed, shown, value_in}
 use Rattle.run_model.specs.Initial.{SolvesInitially, initial_value, initializing, is_read, is_set_from}
 use Rattle.run_model.specs.Machines.{AreMachines, IsStateOf}

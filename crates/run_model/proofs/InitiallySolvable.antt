@@ -9,7 +9,8 @@ use Rattle.system_model.specs.Ports.{numbers}
 use Rattle.system_model.specs.Needs.{NeedsInitially, is_unclocked, is_unclocked_at}
 use Rattle.system_model.specs.Sound.{IsSound}
 use Rattle.system_model.proofs.CallerLemmas.{IsOrderFrom, order_from}
-use Rattle.run_model.specs.Run.{Run, value}
+use Rattle.run_model.specs.Run.{Run}
+use Rattle.system_model.specs.Values.{value}
 use Rattle.run_model.specs.Initial.{SolvesInitially, initial_value}
 use Rattle.run_model.specs.Machines.{AreMachines}
 use Rattle.run_model.proofs.Decided.{same_number}

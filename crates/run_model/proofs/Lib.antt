@@ -13,3 +13,4 @@ pub mod TraceOnce
 mod Midst
 mod AlongRun
 mod Behaves
+mod WhoIsFirst

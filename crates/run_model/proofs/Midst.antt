@@ -14,7 +14,8 @@ use Rattle.system_model.specs.Ports.{numbers, is_output_role}
 use Rattle.system_model.specs.Needs.{ByDependency, InitiallyByDependency, is_unclocked}
 use Rattle.system_model.specs.Sound.{IsSound}
 use Rattle.system_model.proofs.CallerLemmas.{contains_at, at_contains, true_false, own, place_of}
-use Rattle.run_model.specs.Run.{Run, value}
+use Rattle.run_model.specs.Run.{Run}
+use Rattle.system_model.specs.Values.{value}
 use Rattle.run_model.specs.Inputs.{under, is_under, state_written, written_by, written_at_port}
 use Rattle.run_model.specs.Initial.{SolvesInitially}
 use Rattle.run_model.specs.Machines.{IsStateOf}

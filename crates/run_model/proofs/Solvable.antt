@@ -10,8 +10,9 @@ use Rattle.system_model.specs.Ports.{numbers}
 use Rattle.system_model.specs.Needs.{Needs}
 use Rattle.system_model.specs.Sound.{IsSound}
 use Rattle.system_model.proofs.CallerLemmas.{IsOrderFrom, order_from}
-use Rattle.run_model.specs.Run.{Run, Situation, value, at_fmu}
-use Rattle.run_model.specs.Inputs.{is_present, state_with}
+use Rattle.run_model.specs.Run.{Run, Situation, at_fmu}
+use Rattle.system_model.specs.Values.{value, is_present}
+use Rattle.run_model.specs.Inputs.{state_with}
 use Rattle.run_model.specs.Timers.{IsDue}
 use Rattle.run_model.specs.Equations.{Solves, SolvesAt, IsTickValue, fed, output_value, ticking, timer_of}
 use Rattle.run_model.specs.Machines.{AreMachines, AreStates}

@@ -11,8 +11,8 @@ use Rattle.system_model.specs.Ports.{numbers, is_output_role, is_clock_role, sou
 use Rattle.system_model.specs.Needs.{Needs, ByFeed}
 use Rattle.system_model.specs.Sound.{IsSound}
 use Rattle.system_model.proofs.CallerLemmas.{IsOrderFrom, order_from}
-use Rattle.run_model.specs.Run.{Run, Situation, value}
-use Rattle.run_model.specs.Inputs.{is_present}
+use Rattle.run_model.specs.Run.{Run, Situation}
+use Rattle.system_model.specs.Values.{value, is_present}
 use Rattle.run_model.specs.Equations.{Solves, SolvesAt, IsTickValue, fed}
 use Rattle.run_model.specs.Machines.{AreMachines, AreStates}
 use Rattle.run_model.proofs.Alike.{Alike, present_alike, output_alike, ticking_alike}

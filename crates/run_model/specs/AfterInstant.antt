@@ -12,8 +12,9 @@ use Rattle.system_model.specs.declared.system.Role.{Role}
 use Rattle.system_model.specs.declared.system.Role.TheVariants.{Input, Output, ClockInput, ClockOutput, TimeClock}
 use Rattle.system_model.specs.declared.system.Timing.TheVariants.{Periodic, Answered, Countdown}
 use Rattle.system_model.specs.declared.system.Port.{Port}
-use Rattle.run_model.specs.Run.{Run, Situation, Timer, Never, value, each, at_fmu}
-use Rattle.run_model.specs.Inputs.{is_active, state_with}
+use Rattle.run_model.specs.Run.{Run, Situation, Timer, Never, each, at_fmu}
+use Rattle.system_model.specs.Values.{value, is_active}
+use Rattle.run_model.specs.Inputs.{state_with}
 use Rattle.run_model.specs.Timers.{answered, is_armed_for}
 use Rattle.run_model.specs.Initial.{interval_in}
 

@@ -19,12 +19,12 @@ use Rattle.system_model.specs.declared.system.Role.TheVariants.{Input, Output, C
 use Rattle.system_model.specs.declared.system.Timing.TheVariants.{Periodic, Answered, Countdown}
 use Rattle.system_model.specs.declared.system.Port.{Port}
 use Rattle.run_model.specs.Run.{Run, Situation, IsFmu, each}
-use Rattle.run_model.specs.Inputs.{is_present}
+use Rattle.system_model.specs.Values.{is_present}
 use Rattle.run_model.specs.Equations.{Solves}
 use Rattle.run_model.specs.Initial.{first_states, instantiated, configured, initializing, initialized, enter_initialization, SolvesInitially, beginning, is_read}
 use Rattle.run_model.specs.AfterInstant.{Done, following, written, updated}
 use Rattle.run_model.specs.Steps.{IsBound, IsAsked}
-use Rattle.run_model.specs.Stepping.{GoesOn, IsStep, departing, steppers, asks_to_end, step_to, kept_at}
+use Rattle.run_model.specs.Stepping.{GoesOn, IsStep, departing, is_asked_first, steppers, asks_to_end, step_to, kept_at}
 use Rattle.run_model.specs.Trace.{Leads}
 
 -- ---- where a run comes to
@@ -168,7 +168,7 @@ pub record BehavesInStep (r : Run) (z : Situation) (i : ℕ) : Type 0 where
       c.shape.has_event_mode ≡ false → SetsWell Stepping r z.states i
   pub saves : SetsWell Stepping r (departing r z) i
   pub asks : (bound e : ℕ) → IsBound r.plan z.timers z.t bound →
-      IsAsked (steppers r z) z.t r.plan.step bound i e → z.t < e →
+      IsAsked (steppers r z) (is_asked_first r) z.t r.plan.step bound i e → z.t < e →
       AnswersWell r (departing r z) i (λ shape. step_to z.t e) ×
       SetsWell Stepping r (asked_states r z (λ k. e)) i
   pub enters_event : (kept : List ℕ) (point : ℕ) → IsStep r z kept point →

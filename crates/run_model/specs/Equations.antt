@@ -13,8 +13,9 @@ use Rattle.system_model.specs.declared.system.Feed.{Feed}
 use Rattle.system_model.specs.declared.system.Role.{Role}
 use Rattle.system_model.specs.declared.system.Role.TheVariants.{Input, Output, ClockInput, ClockOutput, TimeClock}
 use Rattle.system_model.specs.declared.system.Port.{Port}
-use Rattle.run_model.specs.Run.{Run, Situation, Timer, Never, value, at_fmu}
-use Rattle.run_model.specs.Inputs.{is_present, state_with}
+use Rattle.run_model.specs.Run.{Run, Situation, Timer, Never, at_fmu}
+use Rattle.system_model.specs.Values.{value, is_present}
+use Rattle.run_model.specs.Inputs.{state_with}
 use Rattle.run_model.specs.Timers.{IsDue}
 
 -- ---- what an FMU shows

@@ -17,7 +17,8 @@ use Rattle.system_model.specs.declared.system.Timing.TheVariants.{Periodic, Answ
 use Rattle.system_model.specs.declared.system.Port.{Port}
 use Rattle.system_model.specs.declared.bound.BoundValue.{BoundValue}
 use Rattle.system_model.specs.Needs.{is_unclocked, is_unclocked_at}
-use Rattle.run_model.specs.Run.{Run, Situation, Timer, Never, Every, value, each, at_fmu}
+use Rattle.run_model.specs.Run.{Run, Situation, Timer, Never, Every, each, at_fmu}
+use Rattle.system_model.specs.Values.{value}
 use Rattle.run_model.specs.Inputs.{state_with}
 use Rattle.run_model.specs.Equations.{shown, fed}
 use Rattle.run_model.specs.Timers.{fixed}

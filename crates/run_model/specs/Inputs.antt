@@ -1,25 +1,11 @@
 -- Which ports are present, and what the values of an instant write into an FMU (FMI 3.0, 2.2.8: clocks; clocked variables are set and read at the ticks of their Clocks alone).
-use Rattle.std.specs.Prelude.{ℕ, ℤ, pos, Bool, false, ◌&&◌, ◌||◌, ◌==◌, if◌then◌else◌, List, length, Option, Some, None, option_and_then, position}
-use Rattle.std.specs.List.{list_any, slice_get}
-use Rattle.std.specs.Ordering.{int_eq}
-use Rattle.std.specs.Option.{option_map_or}
-use Rattle.sim_base.specs.declared.numbers.PortId.{PortId}
+use Rattle.std.specs.Prelude.{ℕ, ℤ, pos, Bool, ◌&&◌, ◌==◌, if◌then◌else◌, List, Option, Some, None, option_and_then, position}
+use Rattle.std.specs.List.{slice_get}
 use Rattle.fmu_peer.specs.Machine.{MachineState, Machine, all_written}
 use Rattle.system_model.specs.declared.system.Role.{Role}
 use Rattle.system_model.specs.declared.system.Role.TheVariants.{Input, Output, ClockInput, ClockOutput, TimeClock}
 use Rattle.system_model.specs.declared.system.Port.{Port}
-use Rattle.system_model.specs.Ports.{is_clock_role}
-use Rattle.run_model.specs.Run.{value}
-
--- a Clock is active where its value is 1
-abbrev pub is_active : Option ℤ → Bool
-is_active v = option_map_or (λ x. int_eq x (pos 1)) v false
-
--- a Clock is always present, and so is a port that has no Clocks; another is where one of them is active
-abbrev pub is_present : Port → List (Option ℤ) → Bool
-is_present port values =
-    is_clock_role port.role || length port.clocks == 0 ||
-    list_any (λ (c : PortId). is_active (value values c.0)) port.clocks
+use Rattle.system_model.specs.Values.{is_active, is_present, value}
 
 -- what is written at a port of the value v: the value of a connected input that is present, and 1 at an input Clock that is active
 abbrev pub written_by : Role → Port → List (Option ℤ) → Option ℤ → Option ℤ

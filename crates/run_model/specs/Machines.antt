@@ -7,7 +7,8 @@ use Rattle.fmu_peer.specs.Machine.{MachineState, Machine, IsLawful, IsMachineOf}
 use Rattle.system_model.specs.declared.system.Component.{Component}
 use Rattle.system_model.specs.declared.system.Port.{Port}
 use Rattle.system_model.specs.declared.system.System.{System}
-use Rattle.run_model.specs.Run.{Run, Situation, IsFmu, value}
+use Rattle.run_model.specs.Run.{Run, Situation, IsFmu}
+use Rattle.system_model.specs.Values.{value}
 
 -- each component has a machine of its shape, whose outputs keep to the dependencies that they declare
 pub record AreMachines (r : Run) : Type 0 where

@@ -1,5 +1,5 @@
 -- A run, and where it stands (FMI 3.0, 2.1.5: super-dense time).
-use Rattle.std.specs.Prelude.{◌≡◌, ℕ, suc, ℤ, List, [], ◌∷◌, Option, Some, None, option_and_then, slice_index_or}
+use Rattle.std.specs.Prelude.{◌≡◌, ℕ, suc, ℤ, List, [], ◌∷◌, Option, Some, option_and_then}
 use Rattle.std.specs.List.{slice_get}
 use Rattle.fmu_peer.specs.Machine.{MachineState, Machine}
 use Rattle.system_model.specs.declared.system.Component.{Component}
@@ -27,10 +27,6 @@ pub record Situation : Type 0 where
   pub t : ℕ
   pub n : ℕ
   pub before : List (Option ℤ)
-
--- the value of a port, or none
-abbrev pub value : List (Option ℤ) → ℕ → Option ℤ
-value values p = slice_index_or values p None
 
 -- ---- the FMUs of a run: components, machines and states side by side
 

@@ -1,6 +1,8 @@
 -- The step from a point to the next, and where a run ends without one (FMI 3.0, 4.2.1: Step Mode, Event Mode; fmi3DoStep).
-use Rattle.std.specs.Prelude.{◌≡◌, ℕ, ◌-◌, ◌<◌, Bool, true, false, if◌then◌else◌, List, slice_index_or}
-use Rattle.std.specs.List.{list_any}
+use Rattle.std.specs.Prelude.{◌≡◌, ℕ, ◌-◌, ◌<◌, ◌==◌, Bool, true, false, if◌then◌else◌, List, map, slice_index_or}
+use Rattle.std.specs.List.{list_any, slice_get}
+use Rattle.std.specs.Option.{option_map_or}
+use Rattle.value_types.specs.declared.shape.Shape.{Shape}
 use Rattle.fmi_calls.specs.declared.call.Call.{Call}
 use Rattle.fmi_calls.specs.declared.call.Call.TheVariants as C
 use Rattle.fmi_calls.specs.declared.call.Content.TheVariants as A
@@ -8,8 +10,10 @@ use Rattle.fmi_calls.specs.declared.call.Reply.{Reply}
 use Rattle.fmi_calls.specs.declared.call.Reply.TheVariants as R
 use Rattle.fmi_calls.specs.Next.{end_of}
 use Rattle.fmu_peer.specs.Machine.{MachineState, Machine, after}
+use Rattle.system_model.specs.EarlyReturn.{early_count}
 use Rattle.system_model.specs.declared.plan.EndKind.{EndKind}
 use Rattle.system_model.specs.declared.plan.EndKind.TheVariants.{Stop, Asked, Fixed}
+use Rattle.system_model.specs.declared.system.Component.{Component}
 use Rattle.run_model.specs.Run.{Run, Situation, each}
 use Rattle.run_model.specs.Inputs.{state_with}
 use Rattle.run_model.specs.Steps.{IsBound, Stepper, Agree, StopsShort}
@@ -29,11 +33,26 @@ step_to t e = C.DoStep t (e - t)
 abbrev pub end_in : Machine → MachineState → ℕ → ℕ → ℕ
 end_in m s t e = end_of (m.look s (step_to t e)) t
 
+-- where an FMU does: one that may not return early ends at the point
+abbrev pub ending : ℕ → Component → Machine → MachineState → ℕ → ℕ
+ending t c m s e = if c.shape.might_return_early then end_in m s t e else e
+
 -- the FMUs at a step's beginning
 abbrev pub steppers : Run → Situation → List Stepper
 steppers r s =
     each r (departing r s) (λ i c m state.
-    record { has_variable_steps = c.shape.has_variable_steps; end = end_in m state s.t })
+    record { has_variable_steps = c.shape.has_variable_steps; end = ending s.t c m state })
+
+-- whether an FMU of this shape is asked for the bound first, of this many that might return early: where one alone might, it is alone, and else each is
+abbrev pub asked_first : ℕ → Shape → Bool
+asked_first early shape = if early == 1 then shape.might_return_early else true
+
+-- whether the i-th FMU is
+abbrev pub is_asked_first : Run → ℕ → Bool
+is_asked_first r i =
+    option_map_or (λ (c : Component).
+    asked_first (early_count (map (λ (d : Component). d.shape) r.system.components)) c.shape)
+    (slice_get r.system.components i) false
 
 -- the ask that the i-th FMU keeps
 abbrev pub kept_at : List ℕ → ℕ → ℕ

@@ -1,5 +1,5 @@
 -- Where a step from a point goes (FMI 3.0, 4.2.1.2: fmi3DoStep and early return; the attribute canHandleVariableCommunicationStepSize of CoSimulation).
-use Rattle.std.specs.Prelude.{◌≡◌, ◌≢◌, ℕ, ◌+◌, ◌-◌, ◌*◌, ◌<◌, ◌≤◌, min, Bool, true, not, ◌&&◌, ◌==◌, if◌then◌else◌, List, [], ◌∷◌, map, filter, All, Some, slice_get}
+use Rattle.std.specs.Prelude.{◌≡◌, ◌≢◌, ◌⊎◌, ℕ, ◌+◌, ◌-◌, ◌*◌, ◌<◌, ◌≤◌, min, Bool, true, not, ◌&&◌, ◌==◌, if◌then◌else◌, List, [], ◌∷◌, map, filter, All, Some, slice_get}
 use Rattle.std.specs.List.{position}
 use Rattle.system_model.specs.declared.plan.Plan.{Plan}
 use Rattle.run_model.specs.Run.{Timer}
@@ -106,12 +106,14 @@ pub data StopsShort (fmus : List Stepper) (t step : ℕ) : ℕ → ℕ → ℕ �
       (OthersEnd fmus b → ⊥) →
       StopsShort fmus t step (fallen_bound fmus b) i e → StopsShort fmus t step b i e
 
--- on the way to the agreement from b, the i-th FMU is asked to step to e
-pub data IsAsked (fmus : List Stepper) (t step : ℕ) : ℕ → ℕ → ℕ → Type 0 where
-  AskedFirst : (b i e : ℕ) → MayAsk fmus t step b → e ≡ b → IsAsked fmus t step b i e
+-- on the way to the agreement from b, the i-th FMU is asked to step to e: for the bound the FMUs are asked that come first, and where it is the least end each is; for a least end before it those that passed it
+pub data IsAsked (fmus : List Stepper) (first : ℕ → Bool) (t step : ℕ) :
+    ℕ → ℕ → ℕ → Type 0 where
+  AskedFirst : (b i e : ℕ) → MayAsk fmus t step b → (first i ≡ true) ⊎ (met fmus b ≡ b) →
+      e ≡ b → IsAsked fmus first t step b i e
   AskedAgain : (b i e : ℕ) → MayAsk fmus t step b → met fmus b ≢ b → MayAskAgain fmus t step b →
       (f : Stepper) → slice_get fmus i ≡ Some f → f.end b ≢ met fmus b → e ≡ met fmus b →
-      IsAsked fmus t step b i e
+      IsAsked fmus first t step b i e
   AskedLater : (b i e : ℕ) → MayAsk fmus t step b → met fmus b ≢ b → MayAskAgain fmus t step b →
       (OthersEnd fmus b → ⊥) →
-      IsAsked fmus t step (fallen_bound fmus b) i e → IsAsked fmus t step b i e
+      IsAsked fmus first t step (fallen_bound fmus b) i e → IsAsked fmus first t step b i e

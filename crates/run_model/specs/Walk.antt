@@ -9,8 +9,9 @@ use Rattle.system_model.specs.declared.system.System.{System}
 use Rattle.system_model.specs.Ports.{numbers, is_output_role}
 use Rattle.system_model.specs.Needs.{Needs, NeedsInitially}
 use Rattle.system_model.specs.Sound.{IsSound}
-use Rattle.run_model.specs.Run.{Run, Situation, IsFmu, value}
-use Rattle.run_model.specs.Inputs.{is_present, written_at_port, state_written, state_with}
+use Rattle.run_model.specs.Run.{Run, Situation, IsFmu}
+use Rattle.system_model.specs.Values.{value, is_present}
+use Rattle.run_model.specs.Inputs.{written_at_port, state_written, state_with}
 use Rattle.run_model.specs.Equations.{SolvesAt}
 use Rattle.run_model.specs.Initial.{SolvesInitially, initializing, is_read}
 use Rattle.run_model.specs.Machines.{AreMachines, AreStates}

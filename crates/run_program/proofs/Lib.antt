@@ -16,3 +16,6 @@ pub mod Rows
 pub mod NameLemmas
 pub mod TraceRows
 pub mod LoopText
+pub mod Counting
+pub mod Finishing
+pub mod Generated

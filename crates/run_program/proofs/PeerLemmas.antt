@@ -7,11 +7,22 @@ use Rattle.std.proofs.lemmas.Option.{none-some as none_some, get_or_from_slice_g
 use Rattle.fmi_calls.specs.Next.{fresh}
 use Rattle.fmu_peer.specs.declared.spawner.StartFault.{StartFault}
 use Rattle.fmu_peer.specs.declared.spawner.StartFault.TheVariants.{Failed, Unknown, Memory}
-use Rattle.fmu_peer.specs.Start.{AnswersUnknown, IsStarted, NotesStart, SpawnerView, with_failure, with_retired, with_started}
+use Rattle.fmu_peer.specs.Start.{AnswersUnknown, IsMade, IsStarted, NotesStart, SpawnerView, with_failure, with_retired, with_started}
 use Rattle.fmu_peer.specs.View.{View}
 use Rattle.system_model.specs.declared.system.Component.{Component}
-use Rattle.run_program.specs.Peers.{AreKnown, AreStarted, NotesFault, with_all_retired, with_all_started}
+use Rattle.run_program.specs.Peers.{AreKnown, AreMade, AreStarted, NotesFault, with_all_retired, with_all_started}
 use Rattle.run_program.specs.Runs.{IsUnasked}
+
+-- what stands in a list with one more stands in the list, or is that one
+at_end : {X : Type 0} (xs : List X) (x : X) (i : ℕ) (y : X) → slice_get (xs ++ x ∷ []) i ≡ Some y → (slice_get xs i ≡ Some y) ⊎ ((i ≡ length xs) × (x ≡ y))
+at_end [] x zero y there = inr (refl, same_Some x y there)
+at_end [] x (suc i) y there = absurd (none_some y there)
+at_end (z ∷ xs) x zero y there = inl there
+at_end (z ∷ xs) x (suc i) y there = later (at_end xs x i y there)
+  where
+    later : (slice_get xs i ≡ Some y) ⊎ ((i ≡ length xs) × (x ≡ y)) → (slice_get xs i ≡ Some y) ⊎ ((suc i ≡ length (z ∷ xs)) × (x ≡ y))
+    later (inl before) = inl before
+    later (inr last) = inr (omega (arith, last.0), last.1)
 
 -- one more of the components has its peer
 pub started_more : (host : List ℕ) (folders : List (List ℕ)) (cs : List Component) (vs : List View) (folder : List ℕ) (c : Component) (v : View) → AreStarted host folders cs vs →
@@ -36,6 +47,17 @@ known_more host spawner cs n c known here knows =
     (All-append (λ (x : Component). spawner.knows host x.shape.identifier ≡ true) (take n cs) (c ∷ []) known
     (All-cons (λ (x : Component). spawner.knows host x.shape.identifier ≡ true) c [] knows (All-nil (λ (x : Component). spawner.knows host x.shape.identifier ≡ true))))
 
+-- and so has one more of the machines that the spawner makes
+pub made_more : (host : List ℕ) (spawner : SpawnerView) (cs : List Component) (vs : List View) (c : Component) (v : View) → AreMade host spawner cs vs → slice_get cs (length vs) ≡ Some c → IsMade spawner host c.shape v → AreMade host spawner cs (vs ++ v ∷ [])
+made_more host spawner cs vs c v made here one i d w at there =
+    by (at_end vs v i w there)
+  where
+    by : (slice_get vs i ≡ Some w) ⊎ ((i ≡ length vs) × (v ≡ w)) → IsMade spawner host d.shape w
+    by (inl before) = made i d w at before
+    by (inr last) =
+        let same : c ≡ d = same_Some c d (sym here ∙ ap (slice_get cs) (sym last.0) ∙ at) in
+        subst (IsMade spawner host d.shape) last.1 (subst (λ (x : Component). IsMade spawner host x.shape v) same one)
+
 -- ---- what a spawner tells
 
 pub none_started : (s : SpawnerView) → s ≡ with_all_started s 0
@@ -46,6 +68,10 @@ one_started s t u n t_is u_is = u_is ∙ ap with_started t_is ∙ ap (λ (k : �
 
 pub none_retired : (s : SpawnerView) → s ≡ with_all_retired s []
 none_retired s = ap (λ (vs : List View). record s { retired = vs }) (sym (append-nil s.retired))
+
+-- none was started, and none taken back
+pub none_begun : (s : SpawnerView) → s ≡ with_all_retired (with_all_started s 0) []
+none_begun s = let same : s.started ≡ s.started + 0 = omega arith in none_retired s ∙ ap (λ (n : ℕ). with_all_retired (record s { started = n }) []) same
 
 pub one_retired : (s t u : SpawnerView) (vs : List View) (v : View) → t ≡ with_all_retired s vs → u ≡ with_retired t v → u ≡ with_all_retired s (vs ++ v ∷ [])
 one_retired s t u vs v t_is u_is = u_is ∙ ap (λ (x : SpawnerView). with_retired x v) t_is ∙ ap (λ (ws : List View). record s { retired = ws }) (append_assoc s.retired vs (v ∷ []))

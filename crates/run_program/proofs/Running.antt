@@ -13,13 +13,15 @@ use Rattle.fmu_peer.specs.View.{Fixed, View}
 use Rattle.value_types.specs.declared.shape.Shape.{Shape}
 use Rattle.system_model.specs.declared.bound.Bound.{Bound}
 use Rattle.system_model.specs.declared.plan.Plan.{Plan}
+use Rattle.system_model.specs.EarlyReturn.{early_count}
 use Rattle.system_model.specs.Text.{Instant}
 use Rattle.system_model.specs.declared.system.Component.{Component}
 use Rattle.system_model.specs.declared.system.System.{System}
 use Rattle.run_model.specs.Machines.{AreMachines}
 use Rattle.run_model.specs.Run.{Run}
+use Rattle.run_model.specs.Stepping.{asked_first}
 use Rattle.run_model.proofs.TraceOnce.{trace_once}
-use Rattle.slot_calls.specs.Stage.{everyone, shapes_of}
+use Rattle.slot_calls.specs.Stage.{shapes_of}
 use Rattle.slot_calls.specs.declared.bad_answer.BadAnswer.{BadAnswer}
 use Rattle.step_agreement.specs.Agreement as A
 use Rattle.step_agreement.specs.Agreement.{Agrees, Outcome, Stand, Stops, comes_first, ends_elsewhere, is_elsewhere, stands_by}
@@ -38,9 +40,8 @@ use Rattle.system_model.specs.Bounds.{BindsParameters}
 use Rattle.system_model.specs.Sound.{IsSound}
 use Rattle.step_master.specs.Lives.{AreLives, EndsLives, IsLife, Life}
 use Rattle.slot_calls.specs.Log.{Sent}
-use Rattle.calling_sequence.specs.Plans.{IsPlan}
+use Rattle.system_model.specs.Plans.{IsPlan}
 use Rattle.step_master.specs.System.{ArePeersOf, TellTheirs}
-use Rattle.command_line.specs.Line.{IsWithin}
 use Rattle.run_program.specs.Peers.{AreStarted}
 use Rattle.run_program.specs.Happened.{Scene}
 use Rattle.run_program.specs.Runs.{CanRun, Fails, Goes, HasOneTrace, NamesOne, RunsPeers, Task, TracesOnce}
@@ -59,16 +60,6 @@ new_peers host folders system vs are each = record {
         phase = s.2.1.phase ∙ ap (λ (x : Component). fresh x.shape) same;
         talk = s.2.1.talk;
       };
-}
-
-pub plan_within : (plan : Plan) → IsWithin plan → IsPlan plan
-plan_within plan w = record {
-  step_above = let h = w.step.0 in omega (arith, h);
-  step_within = w.step.1;
-  ordered = w.start;
-  stop_within = w.stop;
-  limit_above = let h = w.limit.0 in omega (arith, h);
-  limit_within = w.limit.1;
 }
 
 -- ---- the component that an end names
@@ -106,7 +97,7 @@ agrees_within t step first _ _ _ _ k end at (A.GoesAnew b stands log o m c front
 short_leads : (system : System) (plan : Plan) (p : Place) (values : List (Option ℤ)) (log : List Sent) (w : Way) (k end : ℕ) → LeadsTo system plan p values log (Short w k end) → k < length system.components
 short_leads system plan _ _ _ _ _ _ (Stopping w values log k end agrees) =
     subst (λ (n : ℕ). k < n) (length-map (shapes_of system) (λ (s : Shape). record { shape = s; point = w.s.t; ask = w.s.t }) ∙ length-map system.components (λ (c : Component). c.shape))
-    (agrees_within w.s.t plan.step everyone w.to (all_at w.s.t (shapes_of system)) log (A.Unfit k end) k end refl agrees)
+    (agrees_within w.s.t plan.step (asked_first (early_count (shapes_of system))) w.to (all_at w.s.t (shapes_of system)) log (A.Unfit k end) k end refl agrees)
 
 short_comes : (system : System) (bound : Bound) (plan : Plan) (w : Way) (k end : ℕ) (log : List Sent) (is : List Instant) → Course system bound plan (Short w k end) log is → k < length system.components
 short_comes system bound plan w k end _ _ (On p _ values front more is course does leads) = short_leads system plan p values more w k end leads
@@ -173,7 +164,7 @@ lawful r system bound olds of theirs len = record {
 }
 
 -- and the run of them has one trace at most
-one_trace : (r : Run) (system : System) (bound : Bound) (olds : List View) → IsSound system → IsRunOf system bound olds r → TellTheirs system olds → length olds ≡ length system.components → HasOneTrace r
+pub one_trace : (r : Run) (system : System) (bound : Bound) (olds : List View) → IsSound system → IsRunOf system bound olds r → TellTheirs system olds → length olds ≡ length system.components → HasOneTrace r
 one_trace r system bound olds sound of theirs len =
     let machines = lawful r system bound olds of theirs len in
     record {
@@ -182,7 +173,7 @@ one_trace r system bound olds sound of theirs len =
     }
 
 -- a peer keeps what stays through its life
-lives_same : (system : System) (olds news : List View) (log : List Sent) (lives : List Life) → AreLives system olds news log lives → map (λ (v : View). v.fixed) news ≡ map (λ (v : View). v.fixed) olds
+pub lives_same : (system : System) (olds news : List View) (log : List Sent) (lives : List Life) → AreLives system olds news log lives → map (λ (v : View). v.fixed) news ≡ map (λ (v : View). v.fixed) olds
 lives_same system olds news log lives are =
     ap (map (λ (v : View). v.fixed)) (sym are.news_are) ∙ same lives are.each ∙ ap (map (λ (v : View). v.fixed)) are.olds_are
   where
@@ -192,7 +183,7 @@ lives_same system olds news log lives are =
         ap (λ (f : Fixed). f ∷ map (λ (v : View). v.fixed) (map (λ (x : Life). x.new) ls)) (All-head IsLife l ls each).fixed
         ∙ ap (λ (fs : List Fixed). l.old.fixed ∷ fs) (same ls (All-tail IsLife l ls each))
 
-once : (a : Account) (r : Run) (end : RunEnd) → HasOneTrace r → TracesWell a r end → TracesOnce a r end
+pub once : (a : Account) (r : Run) (end : RunEnd) → HasOneTrace r → TracesWell a r end → TracesOnce a r end
 once a r E.Stop one t = (one, t)
 once a r (E.Asked point) one t = (one, t)
 once a r (E.EventLimit point) one t = (one, t)
@@ -200,7 +191,7 @@ once a r (E.FixedStep component at end) one t = (one, t)
 once a r (E.Bad bad) one t = t
 once a r E.WriteFault one t = (one, t)
 
-pub goes : (a : Account) (task : Task) (old new : Scene) → CanRun a.system → BindsParameters a.system a.bound → IsPlan a.plan → a.bound ≡ task.bound → a.plan ≡ task.plan → a.before ≡ old.out → a.after ≡ new.out →
+abbrev pub goes : (a : Account) (task : Task) (old new : Scene) → CanRun a.system → BindsParameters a.system a.bound → IsPlan a.plan → a.bound ≡ task.bound → a.plan ≡ task.plan → a.before ≡ old.out → a.after ≡ new.out →
     RunsPeers task a.system a.olds a.news old.spawner new.spawner → Lived a → LivesAreOver → ToldRun → ToldTrace → Goes task a.system a.end old new
 goes a task old new can binds planned bound plan before after peers lived over run trace = record {
   traces = record {

@@ -43,7 +43,7 @@ run_loaded behave end e asked made loaded h agree named run p =
       end = end;
       traces = t;
       reports = (e, named, p);
-      built_in = λ b timings. built_ins behave h (task_of asked made) made.system end t b loaded agree.0.0 agree.1 timings;
+      built_in = λ host starts timings. built_ins behave (task_of asked made) made.system end h.old.run h.new.run t host starts loaded agree.0.0 agree.1 timings;
     }
 
 abbrev RunsOr11 : Happened → RunLine → Loaded → Type 0

@@ -6,5 +6,6 @@ pub mod Facts
 pub mod Rows
 pub mod Refusing
 pub mod Given
+pub mod Bench
 pub mod TraceCheck
 pub mod Requests

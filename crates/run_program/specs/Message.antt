@@ -16,11 +16,9 @@ use Rattle.doc_tree.specs.declared.place.Place.TheVariants.{Byte, Element}
 use Rattle.fmi_calls.specs.KindFacts.{facts_of}
 use Rattle.fmi_calls.specs.Kinds.{kind_of, status_of_bad}
 use Rattle.fmi_calls.specs.declared.call.Call.{Call}
-use Rattle.fmi_calls.specs.declared.call.Reply.{Reply}
 use Rattle.fmi_calls.specs.declared.call.Status.{Status}
 use Rattle.fmi_calls.specs.declared.call.Status.TheVariants as S
-use Rattle.link_frames.specs.Head.{spelling}
-use Rattle.link_frames.specs.Reply.{head_of_reply}
+use Rattle.link_frames.specs.Reply.{frame_of}
 use Rattle.fmu_peer.specs.declared.ended.Why.{Why}
 use Rattle.fmu_peer.specs.declared.ended.Why.TheVariants.{Refused, Misreply, Link}
 use Rattle.run_program.specs.declared.outcome.Outcome.{Outcome}
@@ -41,10 +39,6 @@ status_name S.Warning = codes "Warning"
 status_name S.Discard = codes "Discard"
 status_name S.Error = codes "Error"
 status_name S.Fatal = codes "Fatal"
-
--- the bytes of a reply's frame on the link
-abbrev pub frame_of : Reply → List ℕ
-frame_of reply = spelling (head_of_reply reply)
 
 -- ---- the lines
 
@@ -128,6 +122,14 @@ size_text system unreached =
     codes "components " ++ decimal (length system.components) ++ codes " ports " ++
     decimal (length system.ports) ++ codes " feeds " ++ decimal (feeds_in system)
     ++ codes " unreached " ++ decimal unreached ++ codes "\n"
+
+-- ---- the run of a generated system
+
+-- the line of its numbers: of its instants, of all exchanges with its FMUs, and of those that were Restore
+unfoldable pub summary_text : ℕ → ℕ → ℕ → List ℕ
+summary_text instants calls rollbacks =
+    codes "instants " ++ decimal instants ++ codes " calls " ++ decimal calls ++
+    codes " rollbacks " ++ decimal rollbacks ++ codes "\n"
 
 -- ---- the room for a line
 

@@ -1,7 +1,7 @@
 -- The peers of a system's components: how they are started, and how they are taken back.
 use Rattle.std.specs.Prelude.{◌≡◌, ℕ, ◌+◌, true, false, List, [], ◌∷◌, ◌++◌, length, take, All, Some}
 use Rattle.std.specs.List.{slice_get}
-use Rattle.fmu_peer.specs.Start.{IsStarted, SpawnerView, with_failure}
+use Rattle.fmu_peer.specs.Start.{IsMade, IsStarted, SpawnerView, with_failure}
 use Rattle.fmu_peer.specs.View.{View}
 use Rattle.fmu_peer.specs.declared.spawner.StartFault.{StartFault}
 use Rattle.fmu_peer.specs.declared.spawner.StartFault.TheVariants.{Failed, Unknown, Memory}
@@ -28,12 +28,19 @@ abbrev pub AreKnown : List ℕ → SpawnerView → List Component → Type 0
 AreKnown host spawner components =
     All (λ (c : Component). spawner.knows host c.shape.identifier ≡ true) components
 
+-- each of the components' peers tells the machine that the spawner makes for it by the host, where it makes one
+abbrev pub AreMade : List ℕ → SpawnerView → List Component → List View → Type 0
+AreMade host spawner components peers =
+    (i : ℕ) (c : Component) (v : View) → slice_get components i ≡ Some c →
+    slice_get peers i ≡ Some v → IsMade spawner host c.shape v
+
 -- a peer was started for each of the components
 pub record StartsEach (host : List ℕ) (folders : List (List ℕ)) (components : List Component)
     (peers : List View) (old new : SpawnerView) : Type 0 where
   pub each : length peers ≡ length components
   pub are : AreStarted host folders components peers
   pub known : AreKnown host old components
+  pub made : AreMade host old components peers
   pub told : new ≡ with_all_started old (length peers)
 
 -- the component at this place is the first whose model identifier the host doesn't know

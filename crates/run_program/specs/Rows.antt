@@ -1,5 +1,5 @@
 -- When each status comes, and what stands then.
-use Rattle.std.specs.Prelude.{◌≡◌, ◌⊎◌, ℕ, ◌+◌, ◌<◌, ◌≤◌, List, [], ◌∷◌, ◌++◌, length, map, All, Contains, Some, None, IsSomeAnd, codes, slice_index_or, unwrap_or}
+use Rattle.std.specs.Prelude.{◌≡◌, ◌⊎◌, ℕ, ◌+◌, ◌<◌, ◌≤◌, List, [], ◌∷◌, ◌++◌, length, map, All, Some, None, IsSomeAnd, codes, slice_index_or, unwrap_or}
 use Rattle.std.specs.List.{slice_get}
 use Rattle.sim_base.specs.Asking.{AreUnfailed, with_reads}
 use Rattle.sim_base.specs.Causes.{Rose}
@@ -26,11 +26,12 @@ use Rattle.calling_sequence.specs.declared.run_end.RunEnd.{RunEnd}
 use Rattle.calling_sequence.specs.declared.run_end.RunEnd.TheVariants as E
 use Rattle.slot_calls.specs.SavedStates.{IsOfClosing, Talk}
 use Rattle.step_master.specs.Traced.{IsRunOf}
-use Rattle.bench_fmus.specs.declared.built_in.BuiltIn.{BuiltIn}
-use Rattle.bench_fmus.specs.BuiltInView.{built_in_view}
+use Rattle.bench_fmus.specs.declared.model.Model.{Model}
+use Rattle.bench_fmus.specs.Models.{model_named}
+use Rattle.bench_fmus.specs.Spawners.{StartsBuiltIns}
 use Rattle.built_in_laws.specs.BuiltInRuns.{IsBuiltIn}
 use Rattle.built_in_laws.specs.Clocks.{TellsTimings}
-use Rattle.command_line.specs.Line.{IsLine, Line, RunLine, run_in}
+use Rattle.command_line.specs.Line.{IsLine, Line, RunLine, built_in_host, run_in}
 use Rattle.run_program.specs.declared.outcome.End.{End}
 use Rattle.run_program.specs.declared.outcome.StartCause.TheVariants.{Failed, Unknown}
 use Rattle.system_files.specs.declared.loaded.Loaded.{Loaded}
@@ -338,17 +339,12 @@ pub record StatusRow (h : Happened) : Type 0 where
 
 -- ---- the run
 
--- the peers that were taken back are built-in machines, as are those of a spawner of these
-pub record IsOverBuiltIns (h : Happened) : Type 0 where
-  pub peers : List BuiltIn
-  pub told : h.new.run.spawner.retired ≡ map built_in_view peers
-
--- each of them that is of a component's shape can tell what it is asked of the Clocks there, with the values that the component's parameters are bound to: of a sampler its interval is at least one count and its shift whole, of every other no Clock is a fixed one with supportsFraction
-abbrev pub TellTimings : {h : Happened} → IsOverBuiltIns h → Loaded → Type 0
-TellTimings b loaded =
-    (i : ℕ) (c : Component) (peer : BuiltIn) → slice_get loaded.system.components i ≡ Some c →
-    Contains b.peers peer → (built_in_view peer).fixed.shape ≡ c.shape →
-    TellsTimings peer.model c.shape (slice_index_or loaded.bound.components i [])
+-- the built-in machine of each component's identifier can tell what it is asked of the Clocks there, with the values that the component's parameters are bound to: of a sampler its interval is at least one count and its shift whole, of every other no Clock is a fixed one with supportsFraction
+abbrev pub TellTimings : Loaded → Type 0
+TellTimings loaded =
+    (i : ℕ) (c : Component) (model : Model) → slice_get loaded.system.components i ≡ Some c →
+    model_named c.shape.identifier ≡ Some model →
+    TellsTimings model c.shape (slice_index_or loaded.bound.components i [])
 
 -- the machines that these peers tell are built-in ones, and behave well along the run of them
 pub record HasBuiltIns (task : Task) (system : System) (olds : List View) : Type 0 where
@@ -359,14 +355,15 @@ pub record HasBuiltIns (task : Task) (system : System) (olds : List View) : Type
       slice_get run.machines i ≡ Some m → IsBuiltIn c.shape m
   pub behaved : WellBehaved run
 
--- a run of what the files say, but for the orders of its ports, with its trace and the status of its end; where its peers are built-in machines they behave well, but for what they are asked of Clocks
+-- a run of what the files say, but for the orders of its ports, with its trace and the status of its end; where the line asks for the host `builtin`, and the spawner starts the built-in machines by it, these are the machines of the run, and they behave well, but for what they are asked of Clocks
 pub record RunsLoaded (h : Happened) (asked : RunLine) (loaded : Loaded) : Type 0 where
   pub made : Loaded
   pub agree : Agree (Found made) (Found loaded)
   pub end : RunEnd
   pub traces : Traces (task_of asked made) made.system end h.old.run h.new.run
   pub reports : ReportsEnd h (names_of made.system) end
-  pub built_in : (b : IsOverBuiltIns h) → TellTimings b loaded →
+  pub built_in : asked.host ≡ built_in_host →
+      StartsBuiltIns built_in_host h.old.run.spawner → TellTimings loaded →
       HasBuiltIns (task_of asked made) made.system traces.account.olds
 
 -- the trace: where the files say a system, the identifiers are known and no start failed, that of its run; or for want of memory nothing

@@ -28,7 +28,7 @@ use Rattle.run_program.specs.declared.outcome.End.{End}
 use Rattle.run_program.specs.declared.outcome.End.TheVariants as O
 use Rattle.run_program.specs.Happened.{Scene}
 use Rattle.system_files.specs.Loads.{IsNamed}
-use Rattle.run_program.specs.Peers.{AreKnown, AreStarted, with_all_retired, with_all_started}
+use Rattle.run_program.specs.Peers.{AreKnown, AreMade, AreStarted, with_all_retired, with_all_started}
 
 -- what is to be run: a plan, the host that the peers are started by, the values that parameters are bound to, and the folders in which the peers are started
 pub record Task : Type 0 where
@@ -92,6 +92,7 @@ pub record RunsPeers (task : Task) (system : System) (olds news : List View)
   pub known : AreKnown task.host old system.components
   pub each : length olds ≡ length system.components
   pub are : AreStarted task.host task.folders system.components olds
+  pub made : AreMade task.host old system.components olds
   pub told : new ≡ with_all_retired (with_all_started old (length olds)) news
 
 -- the machines are of their components' shapes and lawful, and the run of them has one trace at most

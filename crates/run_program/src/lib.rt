@@ -2,6 +2,7 @@
 #![tactic(auto)]
 
 mod args;
+mod bench;
 mod message;
 mod names;
 mod naming;

@@ -4,7 +4,8 @@ ghost use Rattle.hex.specs.Hex.{encode_lower};
 ghost use Rattle.std.specs.List.{count_by};
 ghost use Rattle.system_model.specs.Ports.{source_of};
 ghost use Rattle.system_files.specs.Rooms.{room_for};
-ghost use Rattle.run_program.specs.Message.{bad_message, file_message, fixed_message, frame_of, limit_message, loop_room, loop_text, numbers_text, path_room, place_room, place_text, size_text, start_message};
+ghost use Rattle.run_program.specs.Message.{bad_message, file_message, fixed_message, limit_message, loop_room, loop_text, numbers_text, path_room, place_room, place_text, size_text, start_message, summary_text};
+ghost use Rattle.link_frames.specs.Reply.{frame_of};
 ghost use Rattle.run_program.specs.TraceCheck.{verdict_text};
 
 use crate::names::{kind_name, status_name};
@@ -196,6 +197,16 @@ fn append_number(number: u64, text: &mut [u8], at: usize) -> usize
     append(Buffer::new().format(number).as_bytes(), text, at)
 }
 
+// The same for a number of 128 bits.
+#[tactic(auto, using(crate::proofs::Digits::decimal_wide))]
+fn append_wide(number: u128, text: &mut [u8], at: usize) -> usize
+    requires { at + 39 ≤ length text.old }
+    ensures end { result ≤ at + 39 }
+    ensures text { take result text.new ≡ take at text.old ++ decimal number }
+{
+    append(Buffer::new().format(number).as_bytes(), text, at)
+}
+
 // Puts a place behind what stands in the text up to `at`, and answers where it ends.
 fn append_place(place: &Place, text: &mut [u8], at: usize) -> usize
     requires { at + 25 + path_room place.now ≤ length text.old }
@@ -254,6 +265,23 @@ pub(crate) fn write_size(system: &System, unreached: u64, text: &mut [u8]) -> us
     let at = append_number(count_feeds(system.ports.as_slice()) as u64, text, at);
     let at = append(b" unreached ", text, at);
     let at = append_number(unreached, text, at);
+    append(b"\n", text, at)
+}
+
+/// Writes the numbers of a run to the front of `text`, and answers their length: how many instants it had, how many
+/// exchanges there were, and how many of these were calls of Restore.
+#[tactic(auto, unfolding(crate::specs::Message::summary_text))]
+pub(crate) fn write_summary(instants: u128, calls: u128, rollbacks: u128, text: &mut [u8]) -> usize
+    requires { 145 ≤ length text.old }
+    ensures length { result ≤ length text.new }
+    ensures text { take result text.new ≡ summary_text instants calls rollbacks }
+{
+    let at = append(b"instants ", text, 0);
+    let at = append_wide(instants, text, at);
+    let at = append(b" calls ", text, at);
+    let at = append_wide(calls, text, at);
+    let at = append(b" rollbacks ", text, at);
+    let at = append_wide(rollbacks, text, at);
     append(b"\n", text, at)
 }
 

@@ -15,10 +15,18 @@ pub(crate) enum Outcome {
     Start { component: Text, fault: StartCause },
     /// All peers were started, and the run ended so.
     Ran { end: End },
-    /// The size of a system was told.
+    /// The size of a system, or the numbers of a run, were told.
     Checked,
-    /// The size of a system couldn't be put.
+    /// They couldn't be put.
     Untold,
+}
+
+/// How many instants a run had, how many exchanges there were with its FMUs, and how many of these were calls of Restore.
+#[derive(Clone, Copy, Debug, PartialEq, Eq)]
+pub(crate) struct Numbers {
+    pub instants: u128,
+    pub calls: u128,
+    pub rollbacks: u128,
 }
 
 /// Why a peer wasn't started.

@@ -42,7 +42,7 @@ impl Report {
         }
     }
 
-    /// The size of a system was told, or couldn't be put.
+    /// The size of a system, or the numbers of a run, were told, or couldn't be put.
     pub fn of_check(alloc: Global, is_told: bool) -> Report
         ensures told { IsTrue is_told → result.outcome ≡ Checked }
         ensures untold { is_told ≡ false → result.outcome ≡ Untold }

@@ -6,16 +6,19 @@ ghost use Rattle.sim_base.specs.Sink.{SinkView};
 ghost use Rattle.calling_sequence.specs.Plans.{CountsBy};
 ghost use Rattle.system_model.specs.Bounds.{BindsParameters};
 ghost use Rattle.system_model.specs.declared.system.System.{System};
-ghost use Rattle.run_program.specs.Facts.{CheckFacts, LineFacts, RunFacts, task_of};
+ghost use Rattle.run_program.specs.Bench.{RanFacts};
+ghost use Rattle.run_program.specs.Facts.{CheckFacts, LineFacts, task_of};
+ghost use Rattle.run_program.specs.declared.outcome.Numbers.{Numbers};
 ghost use Rattle.run_program.specs.Requests.{IsRequestOf, KeepsCounts};
 ghost use Rattle.run_program.specs.Happened.{happened, scene, stage};
-ghost use Rattle.run_program.specs.Peers.{AreKnown, AreStarted, StartsUpTo, with_all_started};
+ghost use Rattle.run_program.specs.Peers.{AreKnown, AreMade, AreStarted, StartsUpTo, with_all_started};
 ghost use Rattle.run_program.specs.TraceCheck.{KeepsRows};
 ghost use Rattle.run_program.specs.Runs.{CanRun, HasFolders, Task, names_of};
 
+use crate::bench::run_bench;
 use crate::message::write_size;
 use crate::naming::Naming;
-use crate::outcome::StartCause;
+use crate::outcome::{Numbers, StartCause};
 use crate::peers::{Unstarted, retire_each, start_each};
 use crate::refusing::refuse;
 use crate::report::Report;
@@ -24,6 +27,7 @@ use crate::trace_verdict::check_trace;
 use built_in_laws::built_in_runs;
 use command_line::{Options, Request, WordsFault, read_words};
 use fmu_peer::{Spawner, StartFault};
+use generated_system::{call_counts, counted_talks};
 use run_model::one_trace;
 use sim_base::{Folder, Sink, Text};
 use std::alloc::Global;
@@ -64,6 +68,7 @@ pub fn run_words<R: Threads + Sync, F: Folder, S: Spawner, O: Sink, E: Sink>(
             run_request(rt, alloc, request_of(line), folder, spawner, out).put(err)
         }
         Ok(Request::TraceCheck(options)) => check_trace(alloc, options, folder, out, err),
+        Ok(Request::Bench(options)) => run_bench(rt, alloc, options, spawner, out).put(err),
         Err(WordsFault::NoLine) => Report::words(alloc).put(err),
         Err(WordsFault::Memory) => Report::memory(alloc).put(err),
     }
@@ -91,7 +96,12 @@ fn run_request<R: Threads + Sync, F: Folder, S: Spawner, O: Sink>(
         folder,
     ) {
         Ok(loaded) => match request.run {
-            Some(options) => run_system(rt, alloc, options, loaded, spawner, out),
+            Some(options) => {
+                let Ran { report, numbers: _ } = run_system(
+                    rt, alloc, options, loaded, spawner, out,
+                );
+                report
+            }
             None => tell_size(alloc, &loaded, out),
         },
         Err(end) => refuse(alloc, end),
@@ -108,21 +118,34 @@ fn tell_size<O: Sink>(alloc: Global, loaded: &Loaded, out: &mut O) -> Report
     Report::of_check(alloc, out.put(&text[..length]).is_ok())
 }
 
-// Runs a system: starts its peers, and takes them back at the end.
-fn run_system<R: Threads + Sync, S: Spawner, O: Sink>(
+/// What a run comes to: how it ended, and its numbers, which are all 0 where it didn't begin.
+pub(crate) struct Ran {
+    pub report: Report,
+    pub numbers: Numbers,
+}
+
+// The numbers of a run that didn't begin.
+const NO_NUMBERS: Numbers = Numbers {
+    instants: 0,
+    calls: 0,
+    rollbacks: 0,
+};
+
+/// Runs a system: starts its peers, and takes them back at the end.
+pub(crate) fn run_system<R: Threads + Sync, S: Spawner, O: Sink>(
     rt: &R,
     alloc: Global,
     options: Options<'_>,
     loaded: Loaded,
     spawner: &mut S,
     out: &mut O,
-) -> Report
+) -> Ran
     requires within { IsWithin options.plan }
     requires runnable { CanRun loaded.system }
     requires bound { BindsParameters loaded.system loaded.bound }
     requires counts { CountsBy loaded.system options.plan }
     requires folders { HasFolders loaded.folders loaded.system }
-    ensures { RunFacts result.outcome (task_of (run_of options.entry) loaded) loaded.system
+    ensures { RanFacts result.report.outcome result.numbers (task_of (run_of options.entry) loaded) loaded.system
         (scene (S.view spawner.old) (O.view out.old)) (scene (S.view spawner.new) (O.view out.new)) }
 {
     let Loaded {
@@ -133,16 +156,25 @@ fn run_system<R: Threads + Sync, S: Spawner, O: Sink>(
     let folders = folders.as_slice();
     let components = system.components.as_slice();
     let Ok(naming) = Naming::new(alloc, components) else {
-        return Report::memory(alloc);
+        return Ran {
+            report: Report::memory(alloc),
+            numbers: NO_NUMBERS,
+        };
     };
     let Ok(room) = Vec::with_capacity(alloc, components.len()) else {
-        return Report::memory(alloc);
+        return Ran {
+            report: Report::memory(alloc),
+            numbers: NO_NUMBERS,
+        };
     };
     match start_each(alloc, options.host, folders, components, room, spawner) {
         Ok(peers) => run_peers(
             rt, alloc, options, system, bound, folders, naming, peers, spawner, out,
         ),
-        Err(unstarted) => give_up(alloc, naming, unstarted, spawner),
+        Err(unstarted) => Ran {
+            report: give_up(alloc, naming, unstarted, spawner),
+            numbers: NO_NUMBERS,
+        },
     }
 }
 
@@ -156,9 +188,9 @@ fn give_up<S: Spawner>(
     requires one { unstarted.component.0 < length naming.names.items }
     requires fewer { length (S.view spawner.old).retired + length unstarted.peers.items ≤
         (S.view spawner.old).started }
-    ensures { (task : Task) (system : System) (before : SpawnerView) (out : SinkView) → naming.names.items ≡ names_of system →
+    ensures { (numbers : Numbers) (task : Task) (system : System) (before : SpawnerView) (out : SinkView) → naming.names.items ≡ names_of system →
         StartsUpTo task.host task.folders system.components unstarted.component.0 unstarted.fault (map S.Link.view unstarted.peers.items) before (S.view spawner.old) →
-        RunFacts result.outcome task system (scene before out) (scene (S.view spawner.new) out) }
+        RanFacts result.outcome numbers task system (scene before out) (scene (S.view spawner.new) out) }
 {
     let Unstarted {
         peers,
@@ -185,7 +217,7 @@ fn run_peers<R: Threads + Sync, S: Spawner, O: Sink>(
     peers: Vec<S::Link>,
     spawner: &mut S,
     out: &mut O,
-) -> Report
+) -> Ran
     requires within { IsWithin options.plan }
     requires runnable { CanRun system }
     requires bound { BindsParameters system bound }
@@ -196,23 +228,40 @@ fn run_peers<R: Threads + Sync, S: Spawner, O: Sink>(
         (map S.Link.view peers.items) }
     requires fewer { length (S.view spawner.old).retired + length peers.items ≤
         (S.view spawner.old).started }
-    ensures { (before : SpawnerView) → AreKnown options.entry.host.now before system.components → S.view spawner.old ≡ with_all_started before (length peers.items) →
-        RunFacts result.outcome (record { plan = options.entry.plan; host = options.entry.host.now; bound = bound; folders = folders.now }) system (scene before (O.view out.old)) (scene (S.view spawner.new) (O.view out.new)) }
+    ensures { (before : SpawnerView) → AreKnown options.entry.host.now before system.components → AreMade options.entry.host.now before system.components (map S.Link.view peers.items) → S.view spawner.old ≡ with_all_started before (length peers.items) →
+        RanFacts result.report.outcome result.numbers (record { plan = options.entry.plan; host = options.entry.host.now; bound = bound; folders = folders.now }) system (scene before (O.view out.old)) (scene (S.view spawner.new) (O.view out.new)) }
 {
     lives_of_peers();
     runs_of_machines();
+    counted_talks();
     match Master::prepare(alloc, system, bound, peers, options.plan) {
         Ok(master) => {
             let mut master = master;
             let end = master.run(rt, out);
-            retire_each(master.close(), spawner);
-            naming.report_end(end)
+            let instants = master.instants();
+            let peers = master.close();
+            let counts = call_counts(&peers);
+            retire_each(peers, spawner);
+            Ran {
+                report: naming.report_end(end),
+                numbers: Numbers {
+                    instants,
+                    calls: counts.calls,
+                    rollbacks: counts.rollbacks,
+                },
+            }
         }
         Err(PrepareEnd { peers, fault }) => {
             retire_each(peers, spawner);
             match fault {
-                PrepareFault::Memory => Report::memory(alloc),
-                PrepareFault::Bad(bad) => naming.report_end(RunEnd::Bad(bad)),
+                PrepareFault::Memory => Ran {
+                    report: Report::memory(alloc),
+                    numbers: NO_NUMBERS,
+                },
+                PrepareFault::Bad(bad) => Ran {
+                    report: naming.report_end(RunEnd::Bad(bad)),
+                    numbers: NO_NUMBERS,
+                },
             }
         }
     }

@@ -16,7 +16,8 @@ use Rattle.value_types.specs.declared.shape.Knowns.{Knowns}
 use Rattle.value_types.specs.declared.shape.Knowns.TheVariants.{AllInputs, Listed}
 use Rattle.value_types.specs.declared.shape.Dependency.{Dependency}
 use Rattle.value_types.specs.declared.shape.Shape.{Shape}
-use Rattle.system_model.specs.Shapes.{HasNames, HasFittingStart, NamesClocks, MayTick, is_described, IsWhole, IsSoundClock, KnowsPorts, IsSoundDependency, IsSoundShape}
+use Rattle.system_model.specs.Shapes.{HasNames, HasFittingStart, NamesClocks, MayTick, is_described, IsSoundClock, KnowsPorts, IsSoundDependency, IsSoundShape}
+use Rattle.clock_fraction.specs.Counts.{IsInCounts}
 use Rattle.run_rows.proofs.Tests.{true_false, left, right, implies, implied, every, all_by, zips, zip_by, are_distinct, distinct_by, if_some, if_some_by, is_some_and, is_some_and_by, fits_by, holds, parts, are_counts, counts_by}
 
 -- ---- causalities
@@ -90,7 +91,7 @@ may_tick_by Changing causality e = absurd (true_false (sym e))
 abbrev is_whole : ℕ → Fraction → Bool
 is_whole per_second f = are_counts per_second (per_second * f.counter / f.resolution) f
 
-whole_by : (per_second : ℕ) (f : Fraction) → is_whole per_second f ≡ true → IsWhole per_second f
+whole_by : (per_second : ℕ) (f : Fraction) → is_whole per_second f ≡ true → IsInCounts per_second f
 whole_by per_second f e = (per_second * f.counter / f.resolution, counts_by per_second (per_second * f.counter / f.resolution) f e)
 
 abbrev clock_parts : Shape → Variable → ClockTiming → List Bool
@@ -106,9 +107,9 @@ clock_by shape v t e = let p = parts (clock_parts shape v t) e in
       events = p.1.0;
       causality = may_tick_by t.variability v.causality p.1.1.0;
       described = λ d. both (implied (is_described t.variability t.supports_fraction) (is_some t.interval && is_some t.shift) p.1.1.1.0 d);
-      interval = if_some_by (λ (f : Fraction). nat_lt 0 f.counter && is_whole shape.resolution f) (λ (f : Fraction). (0 < f.counter) × IsWhole shape.resolution f)
+      interval = if_some_by (λ (f : Fraction). nat_lt 0 f.counter && is_whole shape.resolution f) (λ (f : Fraction). (0 < f.counter) × IsInCounts shape.resolution f)
           (λ f h. (ltb-true 0 f.counter (left (nat_lt 0 f.counter) (is_whole shape.resolution f) h), whole_by shape.resolution f (right (nat_lt 0 f.counter) (is_whole shape.resolution f) h))) t.interval p.1.1.1.1.0;
-      shift = if_some_by (is_whole shape.resolution) (IsWhole shape.resolution) (λ f h. whole_by shape.resolution f h) t.shift p.1.1.1.1.1.0;
+      shift = if_some_by (is_whole shape.resolution) (IsInCounts shape.resolution) (λ f h. whole_by shape.resolution f h) t.shift p.1.1.1.1.1.0;
     }
   where
     both : (is_some t.interval && is_some t.shift) ≡ true → IsSome t.interval × IsSome t.shift

@@ -45,7 +45,7 @@ components_by system few e =
       above = omega arith;
       within = omega arith;
       resolutions = all_by_place (λ (c : Component). c.shape.resolution ≡ 1000) system.components (λ k c at. eqb-true c.shape.resolution 1000 (parts (component_parts c) (all_at (λ (x : Component). holds (component_parts x) ≡ true) system.components k c all at)).1.1.0);
-      saved = λ i j early other at_i at_j apart early_is. (parts (component_parts other) (all_at (λ (x : Component). holds (component_parts x) ≡ true) system.components j other all at_j)).1.1.1.0;
+      saved = λ two. all_by_place (λ (c : Component). c.shape.can_save_state ≡ true) system.components (λ k c at. (parts (component_parts c) (all_at (λ (x : Component). holds (component_parts x) ≡ true) system.components k c all at)).1.1.1.0);
     }
 
 -- ---- roles

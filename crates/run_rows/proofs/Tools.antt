@@ -4,7 +4,8 @@ use Rattle.std.specs.Prelude.{Option, Some, None, slice_get}
 use Rattle.std.specs.List.{position}
 use Rattle.std.proofs.lemmas.Option.{none-some as none_some, same_Some}
 use Rattle.system_model.specs.declared.system.Port.{Port}
-use Rattle.run_model.specs.Run.{Run, Situation, Timer, value}
+use Rattle.run_model.specs.Run.{Run, Situation, Timer}
+use Rattle.system_model.specs.Values.{value}
 use Rattle.run_model.specs.Timers.{TicksAt}
 use Rattle.run_model.specs.Equations.{Solves, SolvesAt}
 use Rattle.run_model.specs.Initial.{SolvesInitially, initial_value}

@@ -13,7 +13,8 @@ use Rattle.fmi_calls.specs.declared.call.Content.TheVariants as A
 use Rattle.fmi_calls.specs.declared.call.Interval.{Interval}
 use Rattle.fmi_calls.specs.declared.call.Interval.TheVariants.{NotYetKnown, Unchanged, Changed}
 use Rattle.fmi_calls.specs.declared.call.Reply.TheVariants.{Done}
-use Rattle.fmu_peer.specs.Machine.{Machine, is_input_clock}
+use Rattle.fmu_peer.specs.Machine.{Machine}
+use Rattle.fmi_calls.specs.Permission.{is_input_clock}
 
 -- ---- what they share
 

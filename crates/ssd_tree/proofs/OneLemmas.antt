@@ -21,7 +21,7 @@ use Rattle.ssd_tree.specs.declared.tree.SystemTree.{SystemTree}
 use Rattle.ssd_tree.specs.Elements.{both, holder, connector_key, element_key, IsSystem, IsComponent, IsConnector, IsConnection, IsBinding, IsMappingOf, mapping_key, first_child}
 use Rattle.ssd_tree.specs.Listings.{IsRising}
 use Rattle.ssd_tree.specs.Ends.{IsPartNamed, IsEnd}
-use Rattle.ssd_tree.specs.Rules.{IsSound}
+use Rattle.ssd_tree.specs.Rules.{IsSoundStructure}
 use Rattle.ssd_tree.specs.Parts.{PartNodes, ListsParts, IsFullName, InOutermost, InInner, IsPlaceOf, owner_node, IsSystemPart, IsComponentPart, IsConnectorPart, IsConnectionPart, IsBindingPart, HasPath, IsOrigin, IsMappingOrigin, Describes}
 use Rattle.ssd_tree.proofs.ListingLemmas.{one_place, one_listing, contains_at}
 use Rattle.ssd_tree.proofs.ElementLemmas.{holder_cases, named_once, system_no_component, one_first}
@@ -29,7 +29,7 @@ use Rattle.ssd_tree.proofs.ElementLemmas.{holder_cases, named_once, system_no_co
 -- ---- names and numbers
 
 -- what stands directly in the root stands in no list of another element
-pub alone_in_root : (t : List Node) (k p : ℕ) → IsSound t → parent t k ≡ Some 0 → holder t k (codes "Elements") ≡ Some p → ⊥
+pub alone_in_root : (t : List Node) (k p : ℕ) → IsSoundStructure t → parent t k ≡ Some 0 → holder t k (codes "Elements") ≡ Some p → ⊥
 alone_in_root t k p sound root up =
     let parts = holder_cases t k p (codes "Elements") up in
     let same : parts.0 ≡ 0 = same_Some parts.0 0 (sym parts.1 ∙ root) in
@@ -39,14 +39,14 @@ alone_in_root t k p sound root up =
     other : (t : List Node) → is_named t 0 (codes "Elements") ≡ true → is_named t 0 (codes "SystemStructureDescription") ≡ true → ⊥
     other t p q = named_once t 0 (codes "Elements") (codes "SystemStructureDescription") refl p q
 
-    none_false : (t : List Node) → IsSound t → is_named t 0 (codes "Elements") ≡ true → ⊥
+    none_false : (t : List Node) → IsSoundStructure t → is_named t 0 (codes "Elements") ≡ true → ⊥
     none_false t sound named =
         elim (is_named t 0 (codes "SystemStructureDescription")) as (λ b. is_named t 0 (codes "SystemStructureDescription") ≡ b → ⊥) [
           | true ↦ λ e. other t named e
           | false ↦ λ e. sound r.Structure 0 (refl, inl e)
         ] refl
 
-one_name : (t : List Node) → IsSound t → (j k : ℕ) (n m : List ℕ) → IsFullName t j n → IsFullName t k m → j ≡ k → n ≡ m
+one_name : (t : List Node) → IsSoundStructure t → (j k : ℕ) (n m : List ℕ) → IsFullName t j n → IsFullName t k m → j ≡ k → n ≡ m
 one_name t sound j k n m (InOutermost _ outer _ up root named) (InOutermost _ other _ up' root' named') e =
     same_Some n m (sym named ∙ ap (λ (z : ℕ). attribute t z (codes "name")) e ∙ named')
 one_name t sound j k n m (InOutermost _ outer _ up root named) (InInner _ system above' last' name' up' inner' is' named') e =
@@ -128,7 +128,7 @@ module _ (t : List Node) (nodes : PartNodes) (lists : ListsParts t nodes) where
       let name : x.name ≡ y.name = same_Some x.name y.name (sym p.name ∙ q.name) in
       λ i. record { node = node i; parent = outer i; name = name i }
 
-  one_component : IsSound t → (k : ℕ) (x y : ComponentPart) → IsComponentPart t nodes k x → IsComponentPart t nodes k y → x ≡ y
+  one_component : IsSoundStructure t → (k : ℕ) (x y : ComponentPart) → IsComponentPart t nodes k x → IsComponentPart t nodes k y → x ≡ y
   one_component sound k x y p q =
       let node : x.node ≡ y.node = p.node ∙ sym q.node in
       let system : x.system ≡ y.system =
@@ -201,7 +201,7 @@ one_nodes t a b p q =
     let bindings : a.bindings ≡ b.bindings = one_listing (IsBinding t) a.bindings b.bindings p.bindings q.bindings in
     λ i. record { systems = systems i; components = components i; connectors = connectors i; connections = connections i; bindings = bindings i }
 
-pub one_tree : (t : List Node) (a b : SystemTree) → IsSound t → Describes t a → Describes t b → a ≡ b
+pub one_tree : (t : List Node) (a b : SystemTree) → IsSoundStructure t → Describes t a → Describes t b → a ≡ b
 one_tree t a b sound p q =
     let n : PartNodes = p.nodes in
     let same : q.nodes ≡ n = one_nodes t q.nodes n q.lists p.lists in

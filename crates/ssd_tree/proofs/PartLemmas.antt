@@ -17,7 +17,7 @@ use Rattle.ssd_tree.specs.Listings.{IsListing}
 use Rattle.ssd_tree.specs.Ends.{IsPartNamed, IsEnd}
 use Rattle.ssd_tree.specs.Parts.{IsFullName, InOutermost, InInner}
 use Rattle.ssd_tree.specs.Paths.{Climbs, LeadsOut}
-use Rattle.ssd_tree.specs.Rules.{IsSound}
+use Rattle.ssd_tree.specs.Rules.{IsSoundStructure}
 use Rattle.ssd_tree.proofs.ElementLemmas.{key_if_is}
 use Rattle.ssd_tree.proofs.OneLemmas.{alone_in_root, mapping_keyed}
 
@@ -38,19 +38,19 @@ is_text None h = absurd (none_some h)
     none_some e = both_ways _ refl e
 is_text (Some x) h = refl
 
-pub system_named : (t : List Node) (k : ℕ) → IsSound t → IsSystem t k → IsSome (attribute t k (codes "name"))
+pub system_named : (t : List Node) (k : ℕ) → IsSoundStructure t → IsSystem t k → IsSome (attribute t k (codes "name"))
 system_named t k sound is = some_not_empty (attribute t k (codes "name")) (λ e. sound r.Incomplete k (inl (inr (inl (is, e)))))
 
-pub component_named : (t : List Node) (k : ℕ) → IsSound t → IsComponent t k → IsSome (attribute t k (codes "name"))
+pub component_named : (t : List Node) (k : ℕ) → IsSoundStructure t → IsComponent t k → IsSome (attribute t k (codes "name"))
 component_named t k sound is = some_not_empty (attribute t k (codes "name")) (λ e. sound r.Incomplete k (inl (inr (inr (is, inl e)))))
 
-pub component_sourced : (t : List Node) (k : ℕ) → IsSound t → IsComponent t k → IsSome (attribute t k (codes "source"))
+pub component_sourced : (t : List Node) (k : ℕ) → IsSoundStructure t → IsComponent t k → IsSome (attribute t k (codes "source"))
 component_sourced t k sound is = some_from (attribute t k (codes "source")) (λ e. sound r.Incomplete k (inl (inr (inr (is, inr e)))))
 
-pub connector_named : (t : List Node) (k : ℕ) → IsSound t → IsConnector t k → IsSome (attribute t k (codes "name"))
+pub connector_named : (t : List Node) (k : ℕ) → IsSoundStructure t → IsConnector t k → IsSome (attribute t k (codes "name"))
 connector_named t k sound is = some_not_empty (attribute t k (codes "name")) (λ e. sound r.Incomplete k (inr (inl (is, inl e))))
 
-pub connector_kinded : (t : List Node) (k : ℕ) → IsSound t → IsConnector t k → IsSome (kind_of t k)
+pub connector_kinded : (t : List Node) (k : ℕ) → IsSoundStructure t → IsConnector t k → IsSome (kind_of t k)
 connector_kinded t k sound is = some_from (kind_of t k) (λ e. sound r.Incomplete k (inr (inl (is, inr (inl e)))))
 
 pub some_end : (P : ℕ → Type 0) (o : Option ℕ) → (((k : ℕ) → P k → ⊥) → ⊥) → MatchOption o ((k : ℕ) → P k → ⊥) P → IsSome o
@@ -63,7 +63,7 @@ end_at P (Some j) k e is = subst P (same_Some j k e) is
 
 -- ---- what stands in a System
 
-pub part_inside : (t : List Node) (k s : ℕ) → IsSound t → IsPart t k → holder t k (codes "Elements") ≡ Some s → IsSystem t s
+pub part_inside : (t : List Node) (k s : ℕ) → IsSoundStructure t → IsPart t k → holder t k (codes "Elements") ≡ Some s → IsSystem t s
 part_inside t k s sound (inl (Outermost _ named up)) h = absurd (alone_in_root t k s sound up h)
 part_inside t k s sound (inl (Inner _ outer named up is)) h = subst (IsSystem t) (same_Some outer s (sym up ∙ h)) is
 part_inside t k s sound (inr is) h = subst (IsSystem t) (same_Some is.1.0 s (sym is.1.1 ∙ h)) is.1.2
@@ -104,7 +104,7 @@ found_some p (x ∷ xs) h = at (p x) (found_some p xs) h
     at false rest e = rest e
 
 -- a binding without a file has values of its own
-pub values_there : (t : List Node) (k : ℕ) → IsSound t → IsBinding t k → Lacks t k (codes "source") → IsSome (first_child t k (codes "ParameterValues"))
+pub values_there : (t : List Node) (k : ℕ) → IsSoundStructure t → IsBinding t k → Lacks t k (codes "source") → IsSome (first_child t k (codes "ParameterValues"))
 values_there t k sound is none =
     elim (has_child t k (codes "ParameterValues")) as (λ b. has_child t k (codes "ParameterValues") ≡ b → IsSome (first_child t k (codes "ParameterValues"))) [
       | true ↦ λ e. found_some (λ c. is_named t c (codes "ParameterValues")) (children t k) e
@@ -178,20 +178,20 @@ outermost_alone t k (inl (Inner _ outer named up is)) h = absurd (none-some oute
 outermost_alone t k (inr is) h = absurd (none-some is.1.0 (sym h ∙ is.1.1))
 
 -- each on the way out is a part
-pub climbs_part : (t : List Node) (k : ℕ) (xs : List ℕ) (x end : ℕ) → IsSound t → IsPart t k → Climbs t k (xs ++ x ∷ []) end → IsPart t x
+pub climbs_part : (t : List Node) (k : ℕ) (xs : List ℕ) (x end : ℕ) → IsSoundStructure t → IsPart t k → Climbs t k (xs ++ x ∷ []) end → IsPart t x
 climbs_part t k [] x end sound is way = subst (IsPart t) (sym way.0) is
 climbs_part t k (y ∷ ys) x end sound is way = climbs_part t way.1.0 ys x end sound (inl (part_inside t k way.1.0 sound is way.1.1)) way.1.2
 
-pub part_has_name : (t : List Node) (k : ℕ) → IsSound t → IsPart t k → attribute t k (codes "name") ≡ Some (text_of t k (codes "name"))
+pub part_has_name : (t : List Node) (k : ℕ) → IsSoundStructure t → IsPart t k → attribute t k (codes "name") ≡ Some (text_of t k (codes "name"))
 part_has_name t k sound (inl is) = is_text (attribute t k (codes "name")) (system_named t k sound is)
 part_has_name t k sound (inr is) = is_text (attribute t k (codes "name")) (component_named t k sound is)
 
 -- a Component has a way out
-pub leads_some : (t : List Node) (k : ℕ) → IsSound t → IsComponent t k → LeadsOut t k [] → ⊥
+pub leads_some : (t : List Node) (k : ℕ) → IsSoundStructure t → IsComponent t k → LeadsOut t k [] → ⊥
 leads_some t k sound is way = alone_in_root t k is.1.0 sound (subst (λ (z : ℕ). parent t z ≡ Some 0) (sym way.1) way.2) is.1.1
 
 -- the element that is last on the way out has its own name
-pub first_name : (t : List Node) (k : ℕ) (xs ys : List ℕ) (x : ℕ) (name : List ℕ) → IsSound t → IsComponent t k → LeadsOut t k ys → ys ≡ xs ++ x ∷ [] → name ≡ text_of t x (codes "name")
+pub first_name : (t : List Node) (k : ℕ) (xs ys : List ℕ) (x : ℕ) (name : List ℕ) → IsSoundStructure t → IsComponent t k → LeadsOut t k ys → ys ≡ xs ++ x ∷ [] → name ≡ text_of t x (codes "name")
     → (last : ℕ) × ((outer : ℕ) × Climbs t k xs last × (holder t last (codes "Elements") ≡ Some outer) × IsFullName t last name)
 first_name t k xs ys x name sound is way split same =
     let climbs : Climbs t k (xs ++ x ∷ []) way.0 = subst (λ (zs : List ℕ). Climbs t k zs way.0) split way.1 in
@@ -200,7 +200,7 @@ first_name t k xs ys x name sound is way split same =
     (x, (way.0, parts.0, parts.1, InOutermost x way.0 name parts.1 way.2 named))
 
 -- the next one's name stands behind it
-pub next_name : (t : List Node) (k : ℕ) (xs ys : List ℕ) (x : ℕ) (old new : List ℕ) → IsSound t → IsComponent t k
+pub next_name : (t : List Node) (k : ℕ) (xs ys : List ℕ) (x : ℕ) (old new : List ℕ) → IsSoundStructure t → IsComponent t k
     → (last : ℕ) × ((outer : ℕ) × Climbs t k ys last × (holder t last (codes "Elements") ≡ Some outer) × IsFullName t last old) → ys ≡ xs ++ x ∷ [] → new ≡ old ++ 46 ∷ text_of t x (codes "name")
     → (last : ℕ) × ((outer : ℕ) × Climbs t k xs last × (holder t last (codes "Elements") ≡ Some outer) × IsFullName t last new)
 next_name t k xs ys x old new sound is (last, (outer, way, up, full)) split same =

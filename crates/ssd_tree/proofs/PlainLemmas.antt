@@ -15,7 +15,7 @@ use Rattle.ssd_tree.specs.declared.tree.SystemTree.{SystemTree}
 use Rattle.ssd_tree.specs.Elements.{IsBinding, IsComponent, first_child}
 use Rattle.ssd_tree.specs.Listings.{IsListing}
 use Rattle.ssd_tree.specs.Parts.{Describes, HasPath, IsBindingPart, IsComponentPart, IsMappingOrigin, IsOrigin, IsPlain, IsPlainOrigin, NamesPlainPaths}
-use Rattle.ssd_tree.specs.Rules.{HasNoPath, IsSound}
+use Rattle.ssd_tree.specs.Rules.{HasNoPath, IsSoundStructure}
 use Rattle.ssd_tree.specs.Sources.{is_astray, is_left_out, is_path}
 
 -- ---- segments
@@ -128,7 +128,7 @@ module _ (t : List Node) (k : ℕ) (is_one : HasNoPath t k → ⊥) where
 
 -- ---- the tree
 
-module _ (t : List Node) (sound : IsSound t) where
+module _ (t : List Node) (sound : IsSoundStructure t) where
   mapping_plain : (k : ℕ) (mapping : Option Origin) → IsMappingOrigin t k mapping → IfSome mapping IsPlainOrigin
   mapping_plain k None is = tt
   mapping_plain k (Some origin) is = origin_plain t is.0 (λ none. sound r.NoSource is.0 (inr (inr (k, is.1, inl none)))) (Some is.0) origin is.2
@@ -144,7 +144,7 @@ each_of Sort R Q so (k ∷ ks) (x ∷ xs) all zip = All-cons Q x xs (so k x (All
 all_listed : (Sort : ℕ → Type 0) (nodes : List ℕ) → IsListing Sort nodes → All Sort nodes
 all_listed Sort nodes is = λ i d below. (is.each _).0 (Contains-get_or nodes i d below)
 
-pub plain_paths : (t : List Node) (tree : SystemTree) → IsSound t → Describes t tree → NamesPlainPaths tree
+pub plain_paths : (t : List Node) (tree : SystemTree) → IsSoundStructure t → Describes t tree → NamesPlainPaths tree
 plain_paths t tree sound d = record {
   components = each_of (IsComponent t) (IsComponentPart t d.nodes) (λ (c : ComponentPart). IsPlain c.source)
       (λ k c is part. path_plain t k (λ none. sound r.NoSource k (inl (is, none))) c.source part.source)

@@ -12,7 +12,7 @@ use Rattle.doc_tables.proofs.CallerLemmas.{AreApart, IsListed}
 use Rattle.doc_tables.specs.Elements.{parent}
 use Rattle.ssd_tree.specs.Elements.{IsComponent, IsMappingOf, IsPart}
 use Rattle.ssd_tree.specs.Listings.{IsListing}
-use Rattle.ssd_tree.specs.Rules.{Violates, IsTooMany, HasNoPath, MappingHasNoSource, ReadsBelowSystem, HasOtherType, HasNoSource, IsIncomplete}
+use Rattle.ssd_tree.specs.Rules.{ViolatesStructure, IsTooMany, HasNoPath, MappingHasNoSource, ReadsBelowSystem, HasOtherType, HasNoSource, IsIncomplete}
 use Rattle.ssd_tree.proofs.ListingLemmas.{one_listing, one_place, contains_at}
 use Rattle.ssd_tree.proofs.ElementLemmas.{parent_within, system_within, component_within, of_part_within, of_system_within}
 
@@ -168,7 +168,7 @@ module _ (t : List Node) (k : ℕ) (past : length t ≤ k) where
   incomplete_past inside (inr (inr (inl a))) = outside (of_system_within t k (codes "Connections") a.0.1)
   incomplete_past inside (inr (inr (inr a))) = outside (of_part_within t k (codes "ParameterBindings") a.0.1)
 
-  pub breaks_none : (k ≡ 0 → ⊥) → (rule : SystemRule) → Violates t rule k → ⊥
+  pub breaks_none : (k ≡ 0 → ⊥) → (rule : SystemRule) → ViolatesStructure t rule k → ⊥
   breaks_none inside r.Structure h = inside h.0
   breaks_none inside r.ElementTwice h = no_part h.0
   breaks_none inside r.OtherType h = other_past h

@@ -7,6 +7,7 @@ use Rattle.ssd_tree.specs.declared.tree.SystemPart.{SystemPart}
 use Rattle.ssd_tree.specs.declared.tree.ComponentPart.{ComponentPart}
 use Rattle.ssd_tree.specs.declared.tree.SystemTree.{SystemTree}
 
+-- the System or Component is in the list of the tree
 abbrev pub IsOwner : SystemTree → Owner → Type 0
 IsOwner t (System place) = place < length t.systems
 IsOwner t (Component place) = place < length t.components

@@ -1,5 +1,5 @@
 -- The rules of a system structure description (SSP 1.0: SystemStructure.ssd), each a statement about one tree and one of its elements.
-use Rattle.std.specs.Prelude.{◌≡◌, ◌≢◌, ◌⊎◌, ℕ, Bool, true, false, ◌||◌, List, Some, None, slice_get, count_by, codes, bytes_eq}
+use Rattle.std.specs.Prelude.{◌≡◌, ◌≢◌, ◌⊎◌, ℕ, Bool, true, false, List, Some, None, slice_get, count_by, codes, bytes_eq}
 use Rattle.std.specs.Option.{option_map_or}
 use Rattle.std.specs.List.{list_any}
 use Rattle.doc_grammar.specs.Nodes.{Node}
@@ -13,12 +13,9 @@ use Rattle.ssd_tree.specs.Elements.{has_child, IsSystem, IsComponent, IsPart, Is
 use Rattle.ssd_tree.specs.Listings.{IsListing}
 use Rattle.ssd_tree.specs.Sources.{is_path}
 use Rattle.ssd_tree.specs.Ends.{IsStart, IsStop, start_kind, end_kind}
+use Rattle.doc_tables.specs.Documents.{has_version, is_transformation}
 
 -- ---- the root
-
-abbrev pub has_version : List Node → ℕ → Bool
-has_version t k =
-    option_map_or (λ text. bytes_eq text (codes "1.0")) (attribute t k (codes "version")) false
 
 abbrev pub system_count : List Node → ℕ → ℕ
 system_count t k = count_by (λ c. is_named t c (codes "System")) (children t k)
@@ -107,13 +104,6 @@ IsIncomplete t k = IsIncompletePart t k ⊎ IsIncompleteEntry t k
 
 -- ---- connections
 
-abbrev pub is_transformation : List ℕ → Bool
-is_transformation name =
-    (bytes_eq name (codes "LinearTransformation") ||
-    bytes_eq name (codes "BooleanMappingTransformation"))
-    || (bytes_eq name (codes "IntegerMappingTransformation") ||
-    bytes_eq name (codes "EnumerationMappingTransformation"))
-
 abbrev pub has_transformation : List Node → ℕ → Bool
 has_transformation t k = list_any (λ c. is_transformation (name_of t c)) (children t k)
 
@@ -145,33 +135,33 @@ abbrev pub IsTooMany : List Node → ℕ → Type 0
 IsTooMany t k = (all : List ℕ) × IsListing (IsComponent t) all × (slice_get all 256 ≡ Some k)
 
 -- the element breaks the rule
-abbrev pub Violates : List Node → SystemRule → ℕ → Type 0
+abbrev pub ViolatesStructure : List Node → SystemRule → ℕ → Type 0
 -- 30: the root is no SystemStructureDescription of version 1.0, or has not just one System
-Violates t r.Structure k = (k ≡ 0) × IsOtherStructure t k
+ViolatesStructure t r.Structure k = (k ≡ 0) × IsOtherStructure t k
 -- 31: an element before it, in the same System, has its name
-Violates t r.ElementTwice k = IsPart t k × IsRepeated (element_key t) k
+ViolatesStructure t r.ElementTwice k = IsPart t k × IsRepeated (element_key t) k
 -- 32: a component is an FMU, and a binding binds a parameter set (nested packages and others are left out)
-Violates t r.OtherType k = HasOtherType t k
+ViolatesStructure t r.OtherType k = HasOtherType t k
 -- 33: a source is a path below the description's folder or, at a component, below the component's
-Violates t r.NoSource k = HasNoSource t k
+ViolatesStructure t r.NoSource k = HasNoSource t k
 -- 34: Model Exchange is left out of this profile
-Violates t r.ModelExchange k =
+ViolatesStructure t r.ModelExchange k =
     IsComponent t k × (attribute t k (codes "implementation") ≡ Some (codes "ModelExchange"))
 -- 35: something required is absent; two connectors of a part have one name; a kind is none of this profile
-Violates t r.Incomplete k = IsIncomplete t k
+ViolatesStructure t r.Incomplete k = IsIncomplete t k
 -- 36: transformations of connections are left out of this profile
-Violates t r.Transformation k = IsConnection t k × (has_transformation t k ≡ true)
+ViolatesStructure t r.Transformation k = IsConnection t k × (has_transformation t k ≡ true)
 -- 37: an end names no element or no connector
-Violates t r.NoEnd k = IsConnection t k × HasNoEnd t k
+ViolatesStructure t r.NoEnd k = IsConnection t k × HasNoEnd t k
 -- 38: it begins or ends at a connector of another kind
-Violates t r.WrongEnd k = IsConnection t k × HasWrongEnd t k
+ViolatesStructure t r.WrongEnd k = IsConnection t k × HasWrongEnd t k
 -- 48: a system has at most 256 components
-Violates t r.TooManyComponents k = IsTooMany t k
+ViolatesStructure t r.TooManyComponents k = IsTooMany t k
 
 -- the first violation: at the first element that breaks a rule, the one of the least number
-abbrev pub IsFirstViolation : List Node → ℕ → SystemRule → Type 0
-IsFirstViolation t k rule = all.IsFirstViolation system_number (Violates t) k rule
+abbrev pub IsFirstStructureViolation : List Node → ℕ → SystemRule → Type 0
+IsFirstStructureViolation t k rule = all.IsFirstViolation system_number (ViolatesStructure t) k rule
 
 -- no element breaks a rule
-abbrev pub IsSound : List Node → Type 0
-IsSound t = all.IsSound (Violates t)
+abbrev pub IsSoundStructure : List Node → Type 0
+IsSoundStructure t = all.HasNoViolation (ViolatesStructure t)

@@ -6,7 +6,7 @@ ghost use Rattle.ssd_tree.specs.Elements.{holder, IsBinding, IsComponent, IsConn
 ghost use Rattle.ssd_tree.specs.Indexed.{IsIndexed, nodes_of};
 ghost use Rattle.ssd_tree.specs.Parts.{base_of, Describes, HasPath, IsBindingPart, IsComponentPart, IsConnectionPart, IsConnectorPart, IsFullName, IsMappingOrigin, IsOrigin, IsPlaceOf, IsSystemPart, IsValuesOrigin, owner_node};
 ghost use Rattle.ssd_tree.specs.Paths.{LeadsOut};
-ghost use Rattle.ssd_tree.specs.Rules.{IsSound};
+ghost use Rattle.ssd_tree.specs.Rules.{IsSoundStructure};
 
 use crate::elements::{first_child, holder, kind_of, type_of};
 use crate::indexed::IndexedTree;
@@ -70,7 +70,7 @@ fn origin(
 
 // Where the values of a binding are given.
 fn values(alloc: Global, tree: &Tree, node: usize) -> Result<Origin, AllocError>
-    requires sound { IsSound tree.now }
+    requires sound { IsSoundStructure tree.now }
     requires is { IsBinding tree.now node }
     ensures { IfOk result (IsValuesOrigin tree.now node) }
 {
@@ -81,7 +81,7 @@ fn values(alloc: Global, tree: &Tree, node: usize) -> Result<Origin, AllocError>
 // The elements from this one out to the outermost System, which isn't among them.
 fn path_out(alloc: Global, tree: &Tree, node: usize) -> Result<Vec<usize>, AllocError>
     requires part { IsPart tree.now node }
-    requires sound { IsSound tree.now }
+    requires sound { IsSoundStructure tree.now }
     ensures { IfOk result (λ path. LeadsOut tree.now node path.items) }
 {
     let mut path = Vec::new(alloc);
@@ -102,7 +102,7 @@ fn joined_names(
 ) -> Result<Text, AllocError>
     requires leads { LeadsOut tree.now node path.items }
     requires component { IsComponent tree.now node }
-    requires sound { IsSound tree.now }
+    requires sound { IsSoundStructure tree.now }
     ensures { IfOk result (IsFullName tree.now node) }
 {
     let mut path = path;
@@ -118,7 +118,7 @@ fn joined_names(
 // The element names below the outermost System, joined with dots.
 fn full_name(alloc: Global, tree: &Tree, node: usize) -> Result<Text, AllocError>
     requires component { IsComponent tree.now node }
-    requires sound { IsSound tree.now }
+    requires sound { IsSoundStructure tree.now }
     ensures { IfOk result (IsFullName tree.now node) }
 {
     let path = path_out(alloc, tree, node)?;
@@ -153,7 +153,7 @@ impl IndexedTree<'_> {
     // The place of the System that a System stands in; the outermost stands in none.
     fn outer_system(&self, node: usize) -> Option<usize>
         requires indexed { IsIndexed self.now }
-        requires sound { IsSound self.now.tree.now }
+        requires sound { IsSoundStructure self.now.tree.now }
         requires is { IsSystem self.now.tree.now node }
         ensures { IsPlaceOf self.now.lists.systems.items result
             (holder self.now.tree.now node (codes "Elements")) }
@@ -192,7 +192,7 @@ impl IndexedTree<'_> {
 
     fn system_part(&self, alloc: Global, node: usize) -> Result<SystemPart, AllocError>
         requires indexed { IsIndexed self.now }
-        requires sound { IsSound self.now.tree.now }
+        requires sound { IsSoundStructure self.now.tree.now }
         requires is { IsSystem self.now.tree.now node }
         ensures { IfOk result (IsSystemPart self.now.tree.now (nodes_of self.now.lists) node) }
     {
@@ -205,7 +205,7 @@ impl IndexedTree<'_> {
 
     fn component_part(&self, alloc: Global, node: usize) -> Result<ComponentPart, AllocError>
         requires indexed { IsIndexed self.now }
-        requires sound { IsSound self.now.tree.now }
+        requires sound { IsSoundStructure self.now.tree.now }
         requires is { IsComponent self.now.tree.now node }
         ensures { IfOk result (IsComponentPart self.now.tree.now (nodes_of self.now.lists) node) }
     {
@@ -219,7 +219,7 @@ impl IndexedTree<'_> {
 
     fn connector_part(&self, alloc: Global, node: usize) -> Result<Connector, AllocError>
         requires indexed { IsIndexed self.now }
-        requires sound { IsSound self.now.tree.now }
+        requires sound { IsSoundStructure self.now.tree.now }
         requires is { IsConnector self.now.tree.now node }
         ensures { IfOk result (IsConnectorPart self.now.tree.now (nodes_of self.now.lists) node) }
     {
@@ -234,7 +234,7 @@ impl IndexedTree<'_> {
 
     fn connection_part(&self, node: usize) -> Connection
         requires indexed { IsIndexed self.now }
-        requires sound { IsSound self.now.tree.now }
+        requires sound { IsSoundStructure self.now.tree.now }
         requires is { IsConnection self.now.tree.now node }
         ensures { IsConnectionPart self.now.tree.now (nodes_of self.now.lists) node result }
     {
@@ -261,7 +261,7 @@ impl IndexedTree<'_> {
 
     fn binding_part(&self, alloc: Global, node: usize) -> Result<Binding, AllocError>
         requires indexed { IsIndexed self.now }
-        requires sound { IsSound self.now.tree.now }
+        requires sound { IsSoundStructure self.now.tree.now }
         requires is { IsBinding self.now.tree.now node }
         ensures { IfOk result (IsBindingPart self.now.tree.now (nodes_of self.now.lists) node) }
     {
@@ -276,7 +276,7 @@ impl IndexedTree<'_> {
 
     fn system_parts(&self, alloc: Global) -> Result<Vec<SystemPart>, AllocError>
         requires indexed { IsIndexed self.now }
-        requires sound { IsSound self.now.tree.now }
+        requires sound { IsSoundStructure self.now.tree.now }
         ensures { IfOk result
             (λ v. AllZip (IsSystemPart self.now.tree.now (nodes_of self.now.lists))
             self.now.lists.systems.items v.items) }
@@ -290,7 +290,7 @@ impl IndexedTree<'_> {
 
     fn component_parts(&self, alloc: Global) -> Result<Vec<ComponentPart>, AllocError>
         requires indexed { IsIndexed self.now }
-        requires sound { IsSound self.now.tree.now }
+        requires sound { IsSoundStructure self.now.tree.now }
         ensures { IfOk result
             (λ v. AllZip (IsComponentPart self.now.tree.now (nodes_of self.now.lists))
             self.now.lists.components.items v.items) }
@@ -304,7 +304,7 @@ impl IndexedTree<'_> {
 
     fn connector_parts(&self, alloc: Global) -> Result<Vec<Connector>, AllocError>
         requires indexed { IsIndexed self.now }
-        requires sound { IsSound self.now.tree.now }
+        requires sound { IsSoundStructure self.now.tree.now }
         ensures { IfOk result
             (λ v. AllZip (IsConnectorPart self.now.tree.now (nodes_of self.now.lists))
             self.now.lists.connectors.items v.items) }
@@ -318,7 +318,7 @@ impl IndexedTree<'_> {
 
     fn connection_parts(&self, alloc: Global) -> Result<Vec<Connection>, AllocError>
         requires indexed { IsIndexed self.now }
-        requires sound { IsSound self.now.tree.now }
+        requires sound { IsSoundStructure self.now.tree.now }
         ensures { IfOk result
             (λ v. AllZip (IsConnectionPart self.now.tree.now (nodes_of self.now.lists))
             self.now.lists.connections.items v.items) }
@@ -332,7 +332,7 @@ impl IndexedTree<'_> {
 
     fn binding_parts(&self, alloc: Global) -> Result<Vec<Binding>, AllocError>
         requires indexed { IsIndexed self.now }
-        requires sound { IsSound self.now.tree.now }
+        requires sound { IsSoundStructure self.now.tree.now }
         ensures { IfOk result
             (λ v. AllZip (IsBindingPart self.now.tree.now (nodes_of self.now.lists))
             self.now.lists.bindings.items v.items) }
@@ -347,7 +347,7 @@ impl IndexedTree<'_> {
     /// What a sound document says.
     pub(crate) fn describe(&self, alloc: Global) -> Result<SystemTree, AllocError>
         requires indexed { IsIndexed self.now }
-        requires sound { IsSound self.now.tree.now }
+        requires sound { IsSoundStructure self.now.tree.now }
         ensures { IfOk result (Describes self.now.tree.now) }
     {
         Ok(SystemTree {

@@ -6,7 +6,8 @@ ghost use Rattle.doc_tables.specs.Violations.{BreaksNoRule, IsLeast};
 ghost use Rattle.ssd_tree.specs.Elements.{IsMappingOf};
 ghost use Rattle.ssd_tree.specs.Indexed.{IsIndexed};
 ghost use Rattle.doc_tree.specs.declared.rule.SystemRule.TheVariants as r;
-ghost use Rattle.ssd_tree.specs.Rules.{has_transformation, has_version, BindingHasNoSource, ComponentHasNoSource, HasNoPath, HasNoSource, HasOtherType, MappingHasNoSource, is_of_type, is_transformation, IsFirstViolation, IsIncomplete, IsIncompleteBinding, IsIncompleteComponent, IsIncompleteConnection, IsIncompleteConnector, IsIncompleteEntry, IsIncompletePart, IsIncompleteRoot, IsIncompleteSystem, IsOtherStructure, IsSound, ReadsBelowSystem, system_count, Violates};
+ghost use Rattle.ssd_tree.specs.Rules.{has_transformation, BindingHasNoSource, ComponentHasNoSource, HasNoPath, HasNoSource, HasOtherType, MappingHasNoSource, is_of_type, IsFirstStructureViolation, IsIncomplete, IsIncompleteBinding, IsIncompleteComponent, IsIncompleteConnection, IsIncompleteConnector, IsIncompleteEntry, IsIncompletePart, IsIncompleteRoot, IsIncompleteSystem, IsOtherStructure, IsSoundStructure, ReadsBelowSystem, system_count, ViolatesStructure};
+ghost use Rattle.doc_tables.specs.Documents.{has_version, is_transformation};
 
 use crate::elements::{has_child, kind_of};
 use crate::indexed::IndexedTree;
@@ -223,7 +224,7 @@ impl IndexedTree<'_> {
 
     fn is_model_exchange(&self, node: usize) -> bool
         requires { IsIndexed self.now }
-        ensures { IsTrue result ↔ Violates self.now.tree.now r.ModelExchange node }
+        ensures { IsTrue result ↔ ViolatesStructure self.now.tree.now r.ModelExchange node }
     {
         self.is_component(node) && says(self.tree, node, "implementation", "ModelExchange")
     }
@@ -231,7 +232,7 @@ impl IndexedTree<'_> {
     /// Whether an element breaks a rule.
     fn breaks(&self, alloc: Global, rule: SystemRule, node: usize) -> Result<bool, AllocError>
         requires { IsIndexed self.now }
-        ensures { IfOk result (λ b. IsTrue b ↔ Violates self.now.tree.now rule node) }
+        ensures { IfOk result (λ b. IsTrue b ↔ ViolatesStructure self.now.tree.now rule node) }
     {
         match rule {
             SystemRule::Structure => Ok(node == 0 && is_other_structure(self.tree, node)),
@@ -253,8 +254,8 @@ impl IndexedTree<'_> {
     fn broken_rule(&self, alloc: Global, node: usize) -> Result<Option<SystemRule>, AllocError>
         requires { IsIndexed self.now }
         ensures { IfOk result (λ found. MatchOption found
-            (BreaksNoRule (Violates self.now.tree.now) node)
-            (IsLeast system_number (Violates self.now.tree.now) node)) }
+            (BreaksNoRule (ViolatesStructure self.now.tree.now) node)
+            (IsLeast system_number (ViolatesStructure self.now.tree.now) node)) }
     {
         for rule in SYSTEM_RULES {
             if self.breaks(alloc, rule, node)? {
@@ -271,8 +272,8 @@ impl IndexedTree<'_> {
     ) -> Result<Option<(usize, SystemRule)>, AllocError>
         requires { IsIndexed self.now }
         ensures { IfOk result (λ found. MatchOption found
-            (IsSound self.now.tree.now)
-            (λ violation. IsFirstViolation self.now.tree.now violation.0 violation.1)) }
+            (IsSoundStructure self.now.tree.now)
+            (λ violation. IsFirstStructureViolation self.now.tree.now violation.0 violation.1)) }
     {
         // Where there is no element, the root is missing.
         for node in 0..self.tree.len().max(1) {

@@ -126,7 +126,7 @@ module _ (t step : ℕ) (fmus : List Fmu) where
 
   module _ (first : Shape → Bool) (who : ComeFirst first t fmus) where
     -- one that doesn't come first ends where it is asked to
-    whole : Each (λ (f : Fmu). first f.shape ≡ false → (e : ℕ) → t < e → f.end e ≡ e) fmus
+    pub whole : Each (λ (f : Fmu). first f.shape ≡ false → (e : ℕ) → t < e → f.end e ≡ e) fmus
     whole i f at un e later = by who where
       by : ComeFirst first t fmus → f.end e ≡ e
       by (AllOfThem all) = absurd (let h : true ≡ false = sym (all i f at) ∙ un in cc)
@@ -147,10 +147,10 @@ module _ (t step : ℕ) (fmus : List Fmu) where
       firsts_are = all_moved t step everyone (comes_first first) b fmus (stand_of g q) front asks ends later
 
       -- where one stands then
-      asked_point : (f : Fmu) → first f.shape ≡ true → first_points f ≡ f.end b
+      pub asked_point : (f : Fmu) → first f.shape ≡ true → first_points f ≡ f.end b
       asked_point f is = ap (λ (x : Bool). if x then f.end b else g f) is
 
-      waiting_point : (i : ℕ) (f : Fmu) → slice_get fmus i ≡ Some f → first f.shape ≡ false → first_points f ≡ t
+      pub waiting_point : (i : ℕ) (f : Fmu) → slice_get fmus i ≡ Some f → first f.shape ≡ false → first_points f ≡ t
       waiting_point i f at is = ap (λ (x : Bool). if x then f.end b else g f) is ∙ waits i f at is
 
       end_of_first : (i : ℕ) (f : Fmu) → slice_get fmus i ≡ Some f → (x : Bool) → first f.shape ≡ x → (t < f.end b) × (f.end b ≤ b)
@@ -199,7 +199,7 @@ module _ (t step : ℕ) (fmus : List Fmu) where
             let e = m_met in
             omega (arith, l, e)
 
-        m_later : t < m
+        pub m_later : t < m
         m_later = by (least_is (λ (x : Stepper). x.end b) b steppers) where
           by : ((least_or b (map (λ (x : Stepper). x.end b) steppers) ≡ b) × (steppers ≡ [])) ⊎ ((x : Stepper) × Holds steppers x × (least_or b (map (λ (x : Stepper). x.end b) steppers) ≡ x.end b)) → t < m
           by (inl none) = let e = m_met in let n = none.0 in omega (arith, e, n, later)
@@ -356,7 +356,7 @@ module _ (t step : ℕ) (fmus : List Fmu) where
             none_there = not_all (λ (f : Fmu). next_points f == m) fmus (sym (all_map (stand_of next_points next_asks) (λ (s : Stand). s.point == m) fmus) ∙ apart2)
 
             -- where one comes first alone, this doesn't come
-            never : ((i j : ℕ) (f g : Fmu) → slice_get fmus i ≡ Some f → slice_get fmus j ≡ Some g → first f.shape ≡ true → first g.shape ≡ true → i ≡ j) → ⊥
+            pub never : ((i j : ℕ) (f g : Fmu) → slice_get fmus i ≡ Some f → slice_get fmus j ≡ Some g → first f.shape ≡ true → first g.shape ≡ true → i ≡ j) → ⊥
             never alone = by (first_points f == m) refl where
               i : ℕ
               i = none_there.0
@@ -458,7 +458,7 @@ module _ (t step : ℕ) (fmus : List Fmu) where
                   ∙ least_of_some second (λ (x : Stepper). x.end m) (is_other b m) m m b steppers some_is rest_is (stepper_of one_behind.0) (one_behind.1.0, at_map stepper_of fmus one_behind.1.0 one_behind.0 one_behind.1.1) (ap not (other_number (one_behind.0.end b) m one_behind.2))
                   ∙ ap (λ (n : ℕ). least_or b (map (λ (x : Stepper). x.end n) (filter (is_other b n) steppers))) m_met
 
-              c_later : (c : ℕ) → c ≡ reached t m nexts → t < c
+              pub c_later : (c : ℕ) → c ≡ reached t m nexts → t < c
               c_later c is = by (least_is second m steppers) where
                 by : ((least_or m (map second steppers) ≡ m) × (steppers ≡ [])) ⊎ ((x : Stepper) × Holds steppers x × (least_or m (map second steppers) ≡ second x)) → t < c
                 by (inl none) = let e = is ∙ ap (least_or m) seconds_here in let n = none.0 in let l = m_later in omega (arith, e, n, l)

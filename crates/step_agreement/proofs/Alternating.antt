@@ -6,10 +6,9 @@ use Rattle.value_types.specs.declared.shape.Shape.{Shape}
 use Rattle.fmi_calls.specs.declared.call.Call.{Call}
 use Rattle.fmi_calls.specs.declared.call.Call.TheVariants as C
 use Rattle.fmu_peer.specs.declared.peer.Exchange.{Exchange}
-use Rattle.fmu_peer.specs.Talk.{IsGood}
+use Rattle.fmu_peer.specs.Talk.{IsGood, calls_in}
 use Rattle.slot_calls.specs.Log.{Sent, part}
 use Rattle.step_agreement.specs.Agreement.{Agrees, Asks, FirstMeet, FirstStops, GoesAnew, InBack, InStep, IsUnfit, NextMeet, NextStops, Outcome, Stand, Stops, comes_first, ends_elsewhere, everyone, is_away, is_elsewhere, moved, stand_by}
-use Rattle.step_agreement.specs.Falling.{calls_in}
 use Rattle.step_agreement.proofs.Falling.{OneCall, own_call, split_calls}
 use Rattle.step_agreement.proofs.Moves.{FromAway, FromHere, Own, Skips, good_end, other_number, own, same_number}
 use Rattle.step_agreement.proofs.Tracks.{stand_here}

@@ -9,6 +9,7 @@ use Rattle.std.proofs.lemmas.Option.{none-some as none_some, same_Some}
 use Rattle.value_types.specs.declared.shape.Shape.{Shape}
 use Rattle.fmi_calls.specs.declared.call.Call.{Call}
 use Rattle.fmi_calls.specs.declared.call.Call.TheVariants as C
+use Rattle.system_model.specs.EarlyReturn.{early_count}
 use Rattle.slot_calls.specs.Log.{Asking, Sent, asking_of, askings, part}
 use Rattle.slot_calls.specs.Stage.{FailsIn, IsAnswered, IsGoodOf}
 use Rattle.slot_calls.specs.declared.bad_answer.BadAnswer.{BadAnswer}
@@ -52,6 +53,13 @@ round_calls P test call is xs log calls_are = λ k d w.
     let at : asking_of s ≡ get_or (askings log) k (asking_of s) = map_at asking_of log k s (asking_of s) w (get_or_default log k d s w) in
     let within : k < length (askings log) = let m = length-map log asking_of in omega (arith, m, w) in
     subst (λ (a : Asking). P a.call) (sym at) (subst (All (λ (a : Asking). P a.call)) (sym calls_are) (calls_of P test call is 0 xs) k (asking_of s) within)
+
+-- in a round of no calls none is answered badly
+pub no_asking : (shapes : List Shape) (bad : BadAnswer) (log : List Sent) → FailsIn shapes [] bad log → ⊥
+no_asking shapes bad log f = by f.front (sym f.calls_are ∙ ap askings f.log_is) where
+  by : (front : List Sent) → [] ≡ askings (front ++ f.last ∷ f.back) → ⊥
+  by [] e = absurd (cc)
+  by (s ∷ front) e = absurd (cc)
 
 module _ (t : ℕ) (shapes : List Shape) where
   good_round : (test : Stand → Bool) (call : Call) (stands : List Stand) (log : List Sent) → IsOfRound t call → shapes_in stands ≡ shapes → IsAnswered shapes (to_some test call stands) log → AreGoodSteps t shapes log
@@ -145,9 +153,10 @@ module _ (t step : ℕ) (shapes : List Shape) where
     pub by : ((size : ℕ) × FailsIn shapes (to_some test (C.DoStep t size) there) bad more)
         ⊎ (AreApart t (stands_by t stands front) × FailsIn shapes (to_some test C.Restore there) bad more)
 
+  -- where it can't go on, all stand apart, if not one alone might return early
   abbrev pub EndsSo : List Stand → List Sent → Outcome → Type 0
   EndsSo stands log (Meets m) = AreGoodSteps t shapes log × (are_at m (stands_by t stands log) ≡ true) × (t < m)
-  EndsSo stands log (Unfit i e) = AreGoodSteps t shapes log × ((log ≡ []) ⊎ AreApart t (stands_by t stands log))
+  EndsSo stands log (Unfit i e) = AreGoodSteps t shapes log × ((log ≡ []) ⊎ (AreApart t (stands_by t stands log) ⊎ (early_count shapes ≡ 1)))
   EndsSo stands log (Fails bad) = IsBroken bad stands log
 
   -- all stand at t, or apart behind it
@@ -165,9 +174,10 @@ module _ (t step : ℕ) (shapes : List Shape) where
     whole : stands_by t mids rest ≡ stands_by t stands (front ++ rest)
     whole = ap (λ (xs : List Stand). stands_by t xs rest) is ∙ sym (stands_on t stands front rest)
 
-    by : (rest ≡ []) ⊎ AreApart t (stands_by t mids rest) → AreApart t (stands_by t stands (front ++ rest))
-    by (inl none) = subst (AreApart t) (sym (stands_none t 0 mids) ∙ ap (stands_by t mids) (sym none) ∙ whole) apart
-    by (inr ends_apart) = subst (AreApart t) whole ends_apart
+    by : (rest ≡ []) ⊎ (AreApart t (stands_by t mids rest) ⊎ (early_count shapes ≡ 1)) → AreApart t (stands_by t stands (front ++ rest)) ⊎ (early_count shapes ≡ 1)
+    by (inl none) = inl (subst (AreApart t) (sym (stands_none t 0 mids) ∙ ap (stands_by t mids) (sym none) ∙ whole) apart)
+    by (inr (inl ends_apart)) = inl (subst (AreApart t) whole ends_apart)
+    by (inr (inr one)) = inr one
   further stands mids front rest (Fails bad) good is apart r = record {
     front = front ++ r.front;
     more = r.more;
@@ -192,18 +202,12 @@ module _ (t step : ℕ) (shapes : List Shape) where
         off true false h = absurd (cc)
         off false y h = refl
 
-  none_fails : (bad : BadAnswer) (log : List Sent) → FailsIn shapes [] bad log → ⊥
-  none_fails bad log f = by f.front (sym f.calls_are ∙ ap askings f.log_is) where
-    by : (front : List Sent) → [] ≡ askings (front ++ f.last ∷ f.back) → ⊥
-    by [] e = absurd (cc)
-    by (s ∷ front) e = absurd (cc)
-
   module _ (sized test : Stand → Bool) (e : ℕ) (stands : List Stand) (same : shapes_in stands ≡ shapes) (begins : Begins stands) where
     stops : (log : List Sent) (outcome : Outcome) → Stops t step sized test e stands log outcome → EndsSo stands log outcome
     stops log outcome (IsUnfit i unfit none is) = subst (EndsSo stands log) (sym is) (subst (AreGoodSteps t shapes) (sym none) (All-nil (IsGoodStep t shapes)), inl none)
     stops log outcome (InBack bad fits fails is) = subst (EndsSo stands log) (sym is) (by begins (subst (λ (ss : List Shape). FailsIn ss (to_some (is_away t test) C.Restore stands) bad log) same fails)) where
       by : Begins stands → FailsIn shapes (to_some (is_away t test) C.Restore stands) bad log → IsBroken bad stands log
-      by (inl home) f = absurd (none_fails bad log (subst (λ (calls : List Asking). FailsIn shapes calls bad log) (none_away test 0 stands home) f))
+      by (inl home) f = absurd (no_asking shapes bad log (subst (λ (calls : List Asking). FailsIn shapes calls bad log) (none_away test 0 stands home) f))
       by (inr apart) f = record {
         front = [];
         more = log;
@@ -223,26 +227,26 @@ module _ (t step : ℕ) (shapes : List Shape) where
       by = inl (e - t, subst (λ (ss : List Shape). FailsIn ss (to_some test (C.DoStep t (e - t)) stands) bad steps) same fails);
     })
 
-  good_asks : (sized test : Stand → Bool) (e : ℕ) (stands : List Stand) → shapes_in stands ≡ shapes → (log : List Sent) → Asks t step sized test e stands log → AreGoodSteps t shapes log
+  pub good_asks : (sized test : Stand → Bool) (e : ℕ) (stands : List Stand) → shapes_in stands ≡ shapes → (log : List Sent) → Asks t step sized test e stands log → AreGoodSteps t shapes log
   good_asks sized test e stands same log asks = asked t step all_first shapes (AreGoodSteps t shapes) (λ (bad : BadAnswer) (l : List Sent). Unit {0}) (good_along t shapes) sized test e stands same log asks
 
-  pub ends_so : (b : ℕ) → t < b → (stands : List Stand) (log : List Sent) (outcome : Outcome) → shapes_in stands ≡ shapes → Begins stands → Agrees t step (λ (shape : Shape). true) b stands log outcome → EndsSo stands log outcome
-  ends_so _ later _ _ _ same begins (FirstStops b stands log outcome h) = stops everyone (comes_first all_first) b stands same begins log outcome h
-  ends_so _ later _ _ _ same begins (FirstMeet b stands log outcome m asks m_is there is) =
+  pub all_end_so : (b : ℕ) → t < b → (stands : List Stand) (log : List Sent) (outcome : Outcome) → shapes_in stands ≡ shapes → Begins stands → Agrees t step (λ (shape : Shape). true) b stands log outcome → EndsSo stands log outcome
+  all_end_so _ later _ _ _ same begins (FirstStops b stands log outcome h) = stops everyone (comes_first all_first) b stands same begins log outcome h
+  all_end_so _ later _ _ _ same begins (FirstMeet b stands log outcome m asks m_is there is) =
       subst (EndsSo stands log) (sym is) (good_asks everyone (comes_first all_first) b stands same log asks, there, subst (λ (n : ℕ). t < n) (sym m_is) (m_later t step b later stands log asks))
-  ends_so _ later _ _ _ same begins (NextStops b stands log outcome m front back mids asks mids_is m_is apart h log_is) =
+  all_end_so _ later _ _ _ same begins (NextStops b stands log outcome m front back mids asks mids_is m_is apart h log_is) =
       let are : AreApart t mids = subst (AreApart t) (sym mids_is) (mids_apart t step b later stands front asks (apart_by t b stands front mids m mids_is m_is apart)) in
       subst (λ (l : List Sent). EndsSo stands l outcome) (sym log_is)
       (further stands mids front back outcome (good_asks everyone (comes_first all_first) b stands same front asks) mids_is are
       (stops (ends_elsewhere t b m) (is_elsewhere m) m mids (ap shapes_in mids_is ∙ same_shapes t step stands front ∙ same) (inr are) back outcome h))
-  ends_so _ later _ _ _ same begins (NextMeet b stands log outcome m front back mids asks mids_is m_is apart next there is log_is) =
+  all_end_so _ later _ _ _ same begins (NextMeet b stands log outcome m front back mids asks mids_is m_is apart next there is log_is) =
       let are : AreApart t mids = subst (AreApart t) (sym mids_is) (mids_apart t step b later stands front asks (apart_by t b stands front mids m mids_is m_is apart)) in
       let after : t < m = subst (λ (n : ℕ). t < n) (sym (m_is ∙ ap (reached t b) mids_is)) (m_later t step b later stands front asks) in
       subst (EndsSo stands log) (sym is)
       (subst (λ (l : List Sent). EndsSo stands l (Meets m)) (sym log_is)
       (further stands mids front back (Meets m) (good_asks everyone (comes_first all_first) b stands same front asks) mids_is are
       (good_asks (ends_elsewhere t b m) (is_elsewhere m) m mids (ap shapes_in mids_is ∙ same_shapes t step stands front ∙ same) back next, there, after)))
-  ends_so _ later _ _ _ same begins (GoesAnew b stands log outcome m c front back rest mids ends asks mids_is m_is apart next ends_is behind c_is more log_is) =
+  all_end_so _ later _ _ _ same begins (GoesAnew b stands log outcome m c front back rest mids ends asks mids_is m_is apart next ends_is behind c_is more log_is) =
       let same_mids : shapes_in mids ≡ shapes = ap shapes_in mids_is ∙ same_shapes t step stands front ∙ same in
       let same_ends : shapes_in ends ≡ shapes = ap shapes_in ends_is ∙ same_shapes t step mids back ∙ same_mids in
       let m_own : m ≡ reached t b (stands_by t stands front) = m_is ∙ ap (reached t b) mids_is in
@@ -258,4 +262,4 @@ module _ (t step : ℕ) (shapes : List Shape) where
       subst (λ (l : List Sent). EndsSo stands l outcome) (append_assoc front back rest ∙ sym log_is)
       (further stands ends (front ++ back) rest outcome
       (All-append (IsGoodStep t shapes) front back (good_asks everyone (comes_first all_first) b stands same front asks) (good_asks (ends_elsewhere t b m) (is_elsewhere m) m mids same_mids back next))
-      (ends_own ∙ sym (stands_on t stands front back)) are (ends_so c after ends rest outcome same_ends (inr are) more))
+      (ends_own ∙ sym (stands_on t stands front back)) are (all_end_so c after ends rest outcome same_ends (inr are) more))

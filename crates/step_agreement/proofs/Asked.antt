@@ -25,14 +25,14 @@ unnot false h = refl
 module _ (fmus : List Stepper) (t step : ℕ) where
   -- a step that is asked for an end behind t ends behind t, and at that at most
   abbrev pub EndWhereAsked : ℕ → Type 0
-  EndWhereAsked b = (i e : ℕ) (f : Stepper) → IsAsked fmus t step b i e → t < e → slice_get fmus i ≡ Some f → (t < f.end e) × (f.end e ≤ e)
+  EndWhereAsked b = (i e : ℕ) (f : Stepper) → IsAsked fmus (λ k. true) t step b i e → t < e → slice_get fmus i ≡ Some f → (t < f.end e) × (f.end e ≤ e)
 
   module _ (b : ℕ) (later : t < b) (well : EndWhereAsked b) (may : MayAsk fmus t step b) where
     met_later : t < met fmus b
     met_later = by (least_is (λ (f : Stepper). f.end b) b fmus) where
       by : ((met fmus b ≡ b) × (fmus ≡ [])) ⊎ ((x : Stepper) × Holds fmus x × (met fmus b ≡ x.end b)) → t < met fmus b
       by (inl none) = let e = none.0 in omega (arith, e, later)
-      by (inr one) = let l = (well one.1.0 b one.0 (AskedFirst b one.1.0 b may refl) later one.1.1).0 in let e = one.2 in omega (arith, e, l)
+      by (inr one) = let l = (well one.1.0 b one.0 (AskedFirst b one.1.0 b may (inl refl) refl) later one.1.1).0 in let e = one.2 in omega (arith, e, l)
 
     fallen_later : met fmus b ≢ b → MayAskAgain fmus t step b → t < fallen_bound fmus b
     fallen_later apart again = by (least_is (λ (f : Stepper). f.end (met fmus b)) b (others fmus b)) where
@@ -45,8 +45,8 @@ module _ (fmus : List Stepper) (t step : ℕ) where
           let e = one.2 in
           omega (arith, e, l)
 
-  pub asked_later : (b i e : ℕ) → IsAsked fmus t step b i e → t < b → EndWhereAsked b → t < e
-  asked_later _ _ _ (AskedFirst b i e may is) later well = omega (arith, is, later)
+  pub asked_later : (b i e : ℕ) → IsAsked fmus (λ k. true) t step b i e → t < b → EndWhereAsked b → t < e
+  asked_later _ _ _ (AskedFirst b i e may who is) later well = omega (arith, is, later)
   asked_later _ _ _ (AskedAgain b i e may apart again f at ne is) later well = let l = met_later b later well may in omega (arith, is, l)
   asked_later _ _ _ (AskedLater b i e may apart again never more) later well =
       asked_later (fallen_bound fmus b) i e more (fallen_later b later well may apart again) (λ j x f asked above at. well j x f (AskedLater b j x may apart again never asked) above at)
@@ -76,11 +76,11 @@ module _ (fmus : List Stepper) (t step : ℕ) where
   kept_of : (h : Stepper → ℕ) (i : ℕ) (f : Stepper) → slice_get fmus i ≡ Some f → kept_at (map h fmus) i ≡ h f
   kept_of h i f at = get_or_from_slice_get (map h fmus) i (h f) 0 (slice_get-map h fmus i ∙ ap (option_map h) at)
 
-  pub kept_asked : (b : ℕ) (kept : List ℕ) (point : ℕ) → Agree fmus t step b kept point → (i : ℕ) (f : Stepper) → slice_get fmus i ≡ Some f → IsAsked fmus t step b i (kept_at kept i)
-  kept_asked _ _ _ (AllMeet b kept point may meets kept_is is) i f at = AskedFirst b i (kept_at kept i) may (ap (λ (xs : List ℕ). kept_at xs i) kept_is ∙ kept_of (λ (x : Stepper). b) i f at)
+  pub kept_asked : (b : ℕ) (kept : List ℕ) (point : ℕ) → Agree fmus t step b kept point → (i : ℕ) (f : Stepper) → slice_get fmus i ≡ Some f → IsAsked fmus (λ k. true) t step b i (kept_at kept i)
+  kept_asked _ _ _ (AllMeet b kept point may meets kept_is is) i f at = AskedFirst b i (kept_at kept i) may (inl refl) (ap (λ (xs : List ℕ). kept_at xs i) kept_is ∙ kept_of (λ (x : Stepper). b) i f at)
   kept_asked _ _ _ (OthersMeet b kept point may apart again ended kept_is is) i f at =
-      subst (IsAsked fmus t step b i) (sym (ap (λ (xs : List ℕ). kept_at xs i) kept_is ∙ kept_of (kept_ask b (met fmus b)) i f at)) (by (f.end b == met fmus b) refl) where
-        by : (x : Bool) → (f.end b == met fmus b) ≡ x → IsAsked fmus t step b i (if x then b else met fmus b)
-        by true h = AskedFirst b i b may refl
+      subst (IsAsked fmus (λ k. true) t step b i) (sym (ap (λ (xs : List ℕ). kept_at xs i) kept_is ∙ kept_of (kept_ask b (met fmus b)) i f at)) (by (f.end b == met fmus b) refl) where
+        by : (x : Bool) → (f.end b == met fmus b) ≡ x → IsAsked fmus (λ k. true) t step b i (if x then b else met fmus b)
+        by true h = AskedFirst b i b may (inl refl) refl
         by false h = AskedAgain b i (met fmus b) may apart again f at (unequal (f.end b) (met fmus b) h) refl
   kept_asked _ _ _ (Falls b kept point may apart again never more) i f at = AskedLater b i (kept_at kept i) may apart again never (kept_asked (fallen_bound fmus b) kept point more i f at)

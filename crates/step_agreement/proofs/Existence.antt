@@ -32,7 +32,7 @@ module _ (fmus : List Stepper) (t step : ℕ) where
     end_of f = f.end b
 
     first : Each (λ (f : Stepper). (t < f.end b) × (f.end b ≤ b)) fmus
-    first i f at = well i b f (AskedFirst b i b may refl) at
+    first i f at = well i b f (AskedFirst b i b may (inl refl) refl) at
 
     met_least : ((met fmus b ≡ b) × (fmus ≡ [])) ⊎ ((x : Stepper) × Holds fmus x × (met fmus b ≡ x.end b))
     met_least = least_is (λ (f : Stepper). f.end b) b fmus

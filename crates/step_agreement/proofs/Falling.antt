@@ -15,7 +15,7 @@ use Rattle.slot_calls.specs.Log.{Asking, Sent, asking_of, askings, part}
 use Rattle.slot_calls.proofs.CallerLemmas.{part_append}
 use Rattle.slot_calls.proofs.CallerLemmas.{first_same, other, rest_same, same, skips, takes}
 use Rattle.step_agreement.specs.Agreement.{Agrees, Asks, FirstMeet, FirstStops, GoesAnew, InBack, InStep, IsUnfit, NextMeet, NextStops, Outcome, Stand, Stops, are_at, comes_first, end_at, ends_elsewhere, everyone, is_away, is_elsewhere, moved, reached, stand_by, stands_by, to_some, to_some_from}
-use Rattle.step_agreement.specs.Falling.{SizesFallAlong, calls_in}
+use Rattle.fmu_peer.specs.Talk.{calls_in}
 use Rattle.step_agreement.proofs.Lists.{Each, Holds, least_is, least_low, not_all}
 use Rattle.step_agreement.proofs.Machines.{stood_from}
 use Rattle.step_agreement.proofs.Moves.{FromAway, FromHere, Own, Skips, good_end, other_number, own}
@@ -86,7 +86,7 @@ module _ {A : Type 0} (test : A → Bool) (call : Call) where
 -- ---- sizes
 
 -- a step of this size may follow
-abbrev Below : Option ℕ → ℕ → Type 0
+abbrev pub Below : Option ℕ → ℕ → Type 0
 Below last size = IfSome last (λ n. size < n)
 
 below_less : (last : Option ℕ) (a b : ℕ) → a ≤ b → Below last b → Below last a
@@ -113,7 +113,7 @@ append_three (x ∷ a) b c = ap (λ (xs : List Call). x ∷ xs) (append_three a 
 
 module _ (t step : ℕ) (first : Shape → Bool) (i : ℕ) where
   -- one asking, and what follows
-  asks_fall : (sized test : Stand → Bool) (e : ℕ) (stands : List Stand) (log : List Sent) → Asks t step sized test e stands log → (s : Stand) → slice_get stands i ≡ Some s → (last : Option ℕ) → (test s ≡ true → Below last (e - t)) → (rest : List Call) →
+  pub asks_fall : (sized test : Stand → Bool) (e : ℕ) (stands : List Stand) (log : List Sent) → Asks t step sized test e stands log → (s : Stand) → slice_get stands i ≡ Some s → (last : Option ℕ) → (test s ≡ true → Below last (e - t)) → (rest : List Call) →
       SizesFall (if test s then Some (e - t) else last) rest → SizesFall last (calls_in (part i log) ++ rest)
   asks_fall sized test e stands log asks s at last below rest h =
       let backs = own_call (is_away t test) C.Restore stands asks.backs asks.back.calls_are i s at in
@@ -123,10 +123,10 @@ module _ (t step : ℕ) (first : Shape → Bool) (i : ℕ) where
       (back_falls (is_away t test s) last (calls_in (part i asks.backs)) (calls_in (part i asks.steps) ++ rest) backs
       (step_falls (test s) last t (e - t) (calls_in (part i asks.steps)) rest steps below h)))
 
-  whole : (last : Option ℕ) (cs : List Call) → SizesFall last (cs ++ []) → SizesFall last cs
+  pub whole : (last : Option ℕ) (cs : List Call) → SizesFall last (cs ++ []) → SizesFall last cs
   whole last cs h = subst (SizesFall last) (append-nil cs) h
 
-  stops_fall : (sized test : Stand → Bool) (e : ℕ) (stands : List Stand) (log : List Sent) (outcome : Outcome) → Stops t step sized test e stands log outcome → (s : Stand) → slice_get stands i ≡ Some s → (last : Option ℕ) → (test s ≡ true → Below last (e - t)) →
+  pub stops_fall : (sized test : Stand → Bool) (e : ℕ) (stands : List Stand) (log : List Sent) (outcome : Outcome) → Stops t step sized test e stands log outcome → (s : Stand) → slice_get stands i ≡ Some s → (last : Option ℕ) → (test s ≡ true → Below last (e - t)) →
       SizesFall last (calls_in (part i log))
   stops_fall sized test e stands log outcome (IsUnfit k h log_is is) s at last below = subst (λ (l : List Sent). SizesFall last (calls_in (part i l))) (sym log_is) tt
   stops_fall sized test e stands log outcome (InBack bad fits fails is) s at last below =
@@ -279,5 +279,6 @@ module _ (t step : ℕ) (first : Shape → Bool) (i : ℕ) where
       (falls more (c_below b later stands firsts front asks mids mids_are m m_is back asks2 lasts lasts_are behind c c_is).0 first_lasts (stand_by t (stand_by t s (part i front)) (part i back)) z_at (if is_elsewhere m (stand_by t s (part i front)) then Some (m - t) else Some (b - t))
       (anew_below b later stands firsts front asks mids mids_are m m_is back asks2 lasts lasts_are behind c c_is (is_elsewhere m (stand_by t s (part i front)))))))))
 
-pub sizes_fall_along : SizesFallAlong
-sizes_fall_along first t step b stands log outcome later firsts agrees i s at = falls t step first i agrees later firsts s at None tt
+-- where all come first
+pub all_fall : (t step : ℕ) (first : Shape → Bool) (i b : ℕ) (stands : List Stand) (log : List Sent) (outcome : Outcome) → t < b → ((j : ℕ) (s : Stand) → slice_get stands j ≡ Some s → first s.shape ≡ true) → Agrees t step first b stands log outcome → (s : Stand) → slice_get stands i ≡ Some s → SizesFall None (calls_in (part i log))
+all_fall t step first i b stands log outcome later firsts agrees s at = falls t step first i agrees later firsts s at None tt

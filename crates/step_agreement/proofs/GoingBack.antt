@@ -1,19 +1,19 @@
 -- Who is put back in an agreed step where all are asked first: none but those beside which another might return early. The bounds fall.
-use Rattle.std.proofs.Common.{◌≡◌, ◌≢◌, ◌⊎◌, inl, inr, ℕ, zero, suc, ◌+◌, ◌-◌, ◌<◌, ◌≤◌, ◌==◌, Bool, true, false, not, nat_lt, cond, List, [], ◌∷◌, Some, refl, sym, ap, ◌∙◌, subst, ap₂, arith}
-use Rattle.std.specs.Prelude.{if◌then◌else◌, count_by}
+use Rattle.std.proofs.Common.{◌≡◌, ◌≢◌, ◌⊎◌, inl, inr, ℕ, suc, ◌-◌, ◌<◌, ◌≤◌, ◌==◌, Bool, true, false, not, nat_lt, List, [], ◌∷◌, Some, refl, sym, ap, ◌∙◌, subst, ap₂, arith}
+use Rattle.std.specs.Prelude.{if◌then◌else◌}
 use Rattle.std.specs.List.{slice_get}
 use Rattle.std.specs.Option.{option_map}
 use Rattle.std.proofs.lemmas.Bool.Decides.{nat_tests}
-use Rattle.std.proofs.lemmas.List.Sums.{sum_by-cons}
 use Rattle.std.proofs.lemmas.Option.{none-some as none_some, same_Some, slice_get-map}
 use Rattle.value_types.specs.declared.shape.Shape.{Shape}
+use Rattle.system_model.specs.EarlyReturn.{early_count}
+use Rattle.system_model.proofs.CallerLemmas.{counts_one, counts_two}
 use Rattle.slot_calls.specs.Log.{Sent, part}
 use Rattle.step_agreement.specs.Agreement.{Asks, Stand, are_at, comes_first, end_at, ends_elsewhere, everyone, is_elsewhere, reached, shapes_in, stand_by, stands_by, stands_from}
-use Rattle.step_agreement.specs.Saving.{early_count, is_saved}
+use Rattle.step_agreement.specs.Saving.{is_saved}
 use Rattle.step_agreement.proofs.Falling.{own_stays, stood}
 use Rattle.step_agreement.proofs.Lists.{Holds, least_is, least_low, not_all}
-use Rattle.step_agreement.proofs.Moves.{IsEnd, other_number, own}
-use Rattle.step_agreement.proofs.Saving.{own_is_end}
+use Rattle.step_agreement.proofs.Moves.{IsEnd, other_number, own, own_is_end}
 use Rattle.step_agreement.proofs.Tracks.{shape_kept}
 
 equal : (a b : ℕ) → (a == b) ≡ true → a ≡ b
@@ -26,65 +26,17 @@ unnot : (x : Bool) → not x ≡ true → x ≡ false
 unnot true h = absurd (cc)
 unnot false h = refl
 
--- ---- counts
-
--- what one adds
-abbrev weight : Bool → ℕ
-weight b = cond b 1 0
-
-one_counts : (b : Bool) → b ≡ true → weight b ≡ 1
-one_counts true h = refl
-one_counts false h = absurd (cc)
-
-count_cons : {A : Type 0} (p : A → Bool) (x : A) (xs : List A) → count_by p (x ∷ xs) ≡ weight (p x) + count_by p xs
-count_cons p x xs = sum_by-cons (λ y. cond (p y) 1 0) x xs
-
-counts_one : {A : Type 0} (p : A → Bool) (xs : List A) (i : ℕ) (x : A) → slice_get xs i ≡ Some x → p x ≡ true → 0 < count_by p xs
-counts_one p [] i x at h = absurd (none_some x at)
-counts_one p (y ∷ xs) zero x at h =
-    let cons = count_cons p y xs in
-    let here : weight (p y) ≡ 1 = one_counts (p y) (ap p (same_Some y x at) ∙ h) in
-    omega (arith, here, cons)
-counts_one p (y ∷ xs) (suc i) x at h =
-    let cons = count_cons p y xs in
-    let more : 0 < count_by p xs = counts_one p xs i x at h in
-    omega (arith, more, cons)
-
-counts_two : {A : Type 0} (p : A → Bool) (xs : List A) (i j : ℕ) (x y : A) → i ≢ j → slice_get xs i ≡ Some x → slice_get xs j ≡ Some y → p x ≡ true → p y ≡ true → 1 < count_by p xs
-counts_two p [] i j x y ne at there h k = absurd (none_some x at)
-counts_two p (z ∷ xs) zero zero x y ne at there h k = absurd (ne refl)
-counts_two p (z ∷ xs) zero (suc j) x y ne at there h k =
-    let cons = count_cons p z xs in
-    let here : weight (p z) ≡ 1 = one_counts (p z) (ap p (same_Some z x at) ∙ h) in
-    let more : 0 < count_by p xs = counts_one p xs j y there k in
-    omega (arith, here, more, cons)
-counts_two p (z ∷ xs) (suc i) zero x y ne at there h k =
-    let cons = count_cons p z xs in
-    let here : weight (p z) ≡ 1 = one_counts (p z) (ap p (same_Some z y there) ∙ k) in
-    let more : 0 < count_by p xs = counts_one p xs i x at h in
-    omega (arith, here, more, cons)
-counts_two p (z ∷ xs) (suc i) (suc j) x y ne at there h k =
-    let cons = count_cons p z xs in
-    let more : 1 < count_by p xs = counts_two p xs i j x y (λ e. ne (ap suc e)) at there h k in
-    omega (arith, more, cons)
-
 is_less : (a b : ℕ) → a < b → nat_lt a b ≡ true
 is_less a b h = grind (arith, nat_tests)
 
--- where two might return early, all are saved; where one does, each that doesn't is
+-- where two might return early, all are saved
 pub saved_beside_two : (early : ℕ) (shape : Shape) → 1 < early → is_saved early shape ≡ true
-saved_beside_two early shape h = by shape.might_return_early where
-  by : (x : Bool) → nat_lt (if x then 1 else 0) early ≡ true
-  by true = is_less 1 early h
-  by false = is_less 0 early (omega (arith, h))
+saved_beside_two early shape h = is_less 1 early h
 
-saved_beside_one : (early : ℕ) (shape : Shape) → shape.might_return_early ≡ false → 0 < early → is_saved early shape ≡ true
-saved_beside_one early shape un h = ap (λ (x : Bool). nat_lt (if x then 1 else 0) early) un ∙ is_less 0 early h
+abbrev pub all_first : Shape → Bool
+all_first shape = true
 
 module _ (t step : ℕ) where
-  abbrev pub all_first : Shape → Bool
-  all_first shape = true
-
   same_shapes_from : (k : ℕ) (stands : List Stand) (log : List Sent) → shapes_in (stands_from t k stands log) ≡ shapes_in stands
   same_shapes_from k [] log = refl
   same_shapes_from k (s ∷ ss) log = ap₂ ◌∷◌ (shape_kept t s (part k log)) (same_shapes_from (suc k) ss log)
@@ -155,21 +107,18 @@ module _ (t step : ℕ) where
       shape_there k x here = slice_get-map (λ (s : Stand). s.shape) mids k ∙ ap (option_map (λ (s : Stand). s.shape)) here
 
       pub one_early : 0 < early_count (shapes_in mids)
-      one_early = let x = early_there in counts_one (λ (s : Shape). s.might_return_early) (shapes_in mids) x.1 x.0.shape (shape_there x.1 x.0 x.2) x.4
+      one_early = let x = early_there in counts_one (shapes_in mids) x.1 x.0.shape (shape_there x.1 x.0 x.2) x.4
 
       -- and where it might return early itself, these are two
       pub two_early : y.shape.might_return_early ≡ true → 1 < early_count (shapes_in mids)
       two_early h =
           let x = early_there in
-          counts_two (λ (s : Shape). s.might_return_early) (shapes_in mids) x.1 j x.0.shape y.shape (λ e. ne (ap (λ (s : Stand). s.point) (same_Some y x.0 (sym at ∙ ap (slice_get mids) (sym e) ∙ x.2)) ∙ x.3))
+          counts_two (shapes_in mids) x.1 j x.0.shape y.shape (λ e. ne (ap (λ (s : Stand). s.point) (same_Some y x.0 (sym at ∙ ap (slice_get mids) (sym e) ∙ x.2)) ∙ x.3))
           (shape_there x.1 x.0 x.2) (shape_there j y at) x.4 h
 
-      -- so its state was saved
-      pub elsewhere_saved : is_saved (early_count (shapes_in mids)) y.shape ≡ true
-      elsewhere_saved = by y.shape.might_return_early refl where
-        by : (z : Bool) → y.shape.might_return_early ≡ z → is_saved (early_count (shapes_in mids)) y.shape ≡ true
-        by true h = saved_beside_two (early_count (shapes_in mids)) y.shape (two_early h)
-        by false h = saved_beside_one (early_count (shapes_in mids)) y.shape h one_early
+      -- so its state was saved, where not one alone might
+      pub elsewhere_saved : early_count (shapes_in mids) ≢ 1 → is_saved (early_count (shapes_in mids)) y.shape ≡ true
+      elsewhere_saved many = let some = one_early in saved_beside_two (early_count (shapes_in mids)) y.shape (omega (arith, some, many))
 
       -- and it is tested for the size of the next step
       pub counts_elsewhere : ends_elsewhere t b m y ≡ true

@@ -7,7 +7,6 @@ mod Tracks
 mod Machines
 mod Existence
 mod Falling
-mod Saving
 mod GoingBack
 mod Along
 mod Apart
@@ -16,3 +15,5 @@ mod Underway
 mod Asked
 mod Broken
 mod Alternating
+mod OneFirst
+mod ByCount

@@ -8,18 +8,21 @@ use Rattle.std.proofs.lemmas.Option.{none-some as none_some, same_Some, slice_ge
 use Rattle.value_types.specs.declared.shape.Shape.{Shape}
 use Rattle.fmu_peer.specs.declared.peer.Exchange.{Exchange}
 use Rattle.fmu_peer.specs.Machine.{IgnoresSlot, Machine, MachineState, SavedMachine, after}
+use Rattle.system_model.specs.EarlyReturn.{early_count}
 use Rattle.system_model.specs.declared.system.Component.{Component}
-use Rattle.run_model.specs.Run.{IsFmu, Run, each, each_from}
+use Rattle.system_model.proofs.CallerLemmas.{counts_two}
+use Rattle.run_model.specs.Run.{IsFmu, Run, each_from}
 use Rattle.run_model.specs.Steps.{Agree, Stepper, StopsShort, least_or}
-use Rattle.run_model.specs.Stepping.{end_in, is_terminating, kept_at, step_to}
+use Rattle.run_model.specs.Stepping.{asked_first, end_in, ending, is_terminating, kept_at, step_to}
 use Rattle.run_model.proofs.CallerLemmas.{each-get}
 use Rattle.slot_calls.specs.Log.{Sent, part}
 use Rattle.slot_calls.specs.Replies.{AreReplies, RepliesBy, state_by}
+use Rattle.slot_calls.specs.Stage.{shapes_of}
 use Rattle.slot_calls.proofs.CallerLemmas.{part_append}
 use Rattle.slot_calls.proofs.CallerLemmas.{replies_front}
 use Rattle.step_agreement.specs.Agreement.{Agrees, Asks, Fails, FirstMeet, FirstStops, GoesAnew, InBack, InStep, IsUnfit, Meets, NextMeet, NextStops, Outcome, Stand, Unfit, are_at, comes_first, end_at, ends_elsewhere, everyone, is_elsewhere, moved, reached, stand_by, stands_by, stands_from}
 use Rattle.step_agreement.specs.Ends.{AllOfThem, AreEnds, ComeFirst, OneAlone, EndsAs, Fmu, ResultAt, asks_in, standing, stepper_of}
-use Rattle.step_agreement.specs.OverMachines.{AgreesOverMachines, EarlyFirstOverMachines, Ending, known_of, looked_at, IgnoreSlots, MachinesCome, RestoresSaved, asks_last, fmus_of, saved_states, slot_in, steppers_of, with_slot}
+use Rattle.step_agreement.specs.OverMachines.{AgreesOverMachines, IgnoreSlots, MachinesCome, RestoresSaved, asks_last, fmus_of, saved_states, slot_in, steppers_of, with_slot}
 use Rattle.step_agreement.proofs.Agreed.{agrees_by_log, all_back, all_front}
 use Rattle.step_agreement.proofs.Lists.{Each, Holds, all_each, least_is}
 use Rattle.step_agreement.proofs.Moves.{IsEnd, FromAway, FromHere, Own, Skips, good_end, own}
@@ -45,7 +48,7 @@ stood_from t k (x ∷ ss) log (suc i) y at =
     let place : suc k + i ≡ k + suc i = omega arith in
     (more.0, more.1, more.2 ∙ ap (λ (n : ℕ). stand_by t more.0 (part n log)) place)
 
-abbrev NotBefore : ℕ → Stand → Type 0
+abbrev pub NotBefore : ℕ → Stand → Type 0
 NotBefore t s = t ≤ s.point
 
 own_later : (t e : ℕ) (b : Bool) (s : Stand) (es : List Exchange) → Own t e b s es → NotBefore t s → NotBefore t (stand_by t s es)
@@ -57,14 +60,14 @@ own_later t e b s es (FromAway asked away y x is back y_good call good) h =
     subst (λ (xs : List Exchange). NotBefore t (stand_by t s xs)) (sym is)
     (subst (NotBefore t) (sym (ap (λ c. moved t (moved t s y.call y.result) c x.result) call)) (let l = (good_end s.shape t (e - t) x good call).later in omega (arith, l)))
 
-asks_later : (t step : ℕ) (sized test : Stand → Bool) (e : ℕ) (stands : List Stand) (log : List Sent) → Asks t step sized test e stands log → Each (NotBefore t) stands → Each (NotBefore t) (stands_by t stands log)
+pub asks_later : (t step : ℕ) (sized test : Stand → Bool) (e : ℕ) (stands : List Stand) (log : List Sent) → Asks t step sized test e stands log → Each (NotBefore t) stands → Each (NotBefore t) (stands_by t stands log)
 asks_later t step sized test e stands log asks h i y at =
     let was = stood_from t 0 stands log i y at in
     let place : 0 + i ≡ i = omega arith in
     subst (NotBefore t) (sym (was.2 ∙ ap (λ (n : ℕ). stand_by t was.0 (part n log)) place))
     (own_later t e (test was.0) was.0 (part i log) (own t step sized test e stands log asks i was.0 was.1) (h i was.0 was.1))
 
-reached_later : (t b : ℕ) (ss : List Stand) → t < b → Each (NotBefore t) ss → t < reached t b ss
+pub reached_later : (t b : ℕ) (ss : List Stand) → t < b → Each (NotBefore t) ss → t < reached t b ss
 reached_later t b ss later h = by (least_is (end_at t b) b ss) where
   end_later : (s : Stand) → NotBefore t s → (x : Bool) → (s.point == t) ≡ x → t < end_at t b s
   end_later s n true is = subst (λ (k : ℕ). t < k) (sym (ap (λ (y : Bool). if y then b else s.point) is)) later
@@ -173,11 +176,18 @@ each_map g h k (c ∷ cs) [] ss = refl
 each_map g h k (c ∷ cs) (m ∷ ms) [] = refl
 each_map g h k (c ∷ cs) (m ∷ ms) (s ∷ ss) = ap (λ xs. h (g k c m s) ∷ xs) (each_map g h (suc k) cs ms ss)
 
-module _ (first : Shape → Bool) (r : Run) (ss : List MachineState) (ending : Ending) (t : ℕ) (known : (c : Component) (m : Machine) (s : MachineState) (e : ℕ) → IsEnd c.shape t (e - t) (end_in m s t e) → ending c m s e ≡ end_in m s t e) (who : ComeFirst first t (fmus_of r ss ending))
-    (step b : ℕ) (saves : ℕ → Bool) (log : List Sent) (outcome : Outcome) (ignore : IgnoreSlots r) (later : t < b) (agrees : Agrees t step first b (standing t (fmus_of r ss ending)) log outcome)
+-- where an FMU ends is where its machine does, if that end is good
+pub known_end : (t : ℕ) (c : Component) (m : Machine) (s : MachineState) (e : ℕ) → IsEnd c.shape t (e - t) (end_in m s t e) → ending t c m s e ≡ end_in m s t e
+known_end t c m s e h = by c.shape.might_return_early refl where
+  by : (x : Bool) → c.shape.might_return_early ≡ x → ending t c m s e ≡ end_in m s t e
+  by true is = ap (λ (y : Bool). if y then end_in m s t e else e) is
+  by false is = ap (λ (y : Bool). if y then end_in m s t e else e) is ∙ (let w = h.whole is in let l = h.later in omega (arith, w, l))
+
+module _ (first : Shape → Bool) (r : Run) (ss : List MachineState) (t : ℕ) (who : ComeFirst first t (fmus_of r ss t))
+    (step b : ℕ) (saves : ℕ → Bool) (log : List Sent) (outcome : Outcome) (ignore : IgnoreSlots r) (later : t < b) (agrees : Agrees t step first b (standing t (fmus_of r ss t)) log outcome)
     (restores : RestoresSaved saves log) (replies : AreReplies r (saved_states r ss saves) log) where
   abbrev fmu_of : ℕ → Component → Machine → MachineState → Fmu
-  fmu_of i c m s = record { shape = c.shape; end = ending c m s }
+  fmu_of i c m s = record { shape = c.shape; end = ending t c m s }
 
   abbrev stand_of : Fmu → Stand
   stand_of f = record { shape = f.shape; point = t; ask = t }
@@ -185,19 +195,19 @@ module _ (first : Shape → Bool) (r : Run) (ss : List MachineState) (ending : E
   abbrev save_of : ℕ → Component → Machine → MachineState → MachineState
   save_of i c m s = with_slot (slot_in (saves i) s) s
 
-  low : Each (NotBefore t) (standing t (fmus_of r ss ending))
-  low i y at = by i y (fmus_of r ss ending) at where
+  low : Each (NotBefore t) (standing t (fmus_of r ss t))
+  low i y at = by i y (fmus_of r ss t) at where
     by : (i : ℕ) (y : Stand) (fs : List Fmu) → slice_get (standing t fs) i ≡ Some y → NotBefore t y
     by i y [] at = absurd (none_some y at)
     by zero y (f ∷ fs) at = subst (NotBefore t) (same_Some (stand_of f) y at) (omega arith)
     by (suc i) y (f ∷ fs) at = by i y fs at
 
   module _ (good : IsGoodOutcome outcome) (i : ℕ) (c : Component) (m : Machine) (s : MachineState) (fmu : IsFmu r ss i c m s) where
-    fmu_here : slice_get (fmus_of r ss ending) i ≡ Some (fmu_of i c m s)
+    fmu_here : slice_get (fmus_of r ss t) i ≡ Some (fmu_of i c m s)
     fmu_here = let place : 0 + i ≡ i = omega arith in each_here fmu_of 0 i r.system.components r.machines ss c m s fmu.component fmu.machine fmu.state ∙ ap (λ n. Some (fmu_of n c m s)) place
 
-    stood : slice_get (standing t (fmus_of r ss ending)) i ≡ Some (stand_of (fmu_of i c m s))
-    stood = slice_get-map stand_of (fmus_of r ss ending) i ∙ ap (option_map stand_of) fmu_here
+    stood : slice_get (standing t (fmus_of r ss t)) i ≡ Some (stand_of (fmu_of i c m s))
+    stood = slice_get-map stand_of (fmus_of r ss t) i ∙ ap (option_map stand_of) fmu_here
 
     saved_fmu : IsFmu r (saved_states r ss saves) i c m (save_of i c m s)
     saved_fmu = record {
@@ -206,29 +216,29 @@ module _ (first : Shape → Bool) (r : Run) (ss : List MachineState) (ending : E
       state = let place : 0 + i ≡ i = omega arith in each_here save_of 0 i r.system.components r.machines ss c m s fmu.component fmu.machine fmu.state ∙ ap (λ n. Some (save_of n c m s)) place;
     }
 
-    tracked : Leads m (ignore i m fmu.machine) s (slot_in (saves i) s) t (fmu_of i c m s) (λ e. known c m s e) step first i (stand_of (fmu_of i c m s)) (save_of i c m s) false (part i log)
+    tracked : Leads m (ignore i m fmu.machine) s (slot_in (saves i) s) t (fmu_of i c m s) (λ e. known_end t c m s e) step first i (stand_of (fmu_of i c m s)) (save_of i c m s) false (part i log)
     tracked =
-        track m (ignore i m fmu.machine) s (slot_in (saves i) s) t (fmu_of i c m s) (λ e. known c m s e) step first i agrees good later low (stand_of (fmu_of i c m s)) stood refl (save_of i c m s) false (T.Home refl refl)
+        track m (ignore i m fmu.machine) s (slot_in (saves i) s) t (fmu_of i c m s) (λ e. known_end t c m s e) step first i agrees good later low (stand_of (fmu_of i c m s)) stood refl (save_of i c m s) false (T.Home refl refl)
         (λ k d w h. ap (λ (x : Bool). slot_in x s) (restores i k d w h)) (replies i c m (save_of i c m s) saved_fmu)
 
-  ends : IsGoodOutcome outcome → AreEnds t (fmus_of r ss ending) log
+  ends : IsGoodOutcome outcome → AreEnds t (fmus_of r ss t) log
   ends good i f at =
       let x = each-get fmu_of 0 i r.system.components r.machines ss f at in
       let fmu : IsFmu r ss i x.component x.machine x.state = record { component = x.of_c; machine = x.of_m; state = x.of_s } in
       subst (λ (g : Fmu). EndsAs t g (part i log)) (sym x.is) (tracked good i x.component x.machine x.state fmu).ends
 
-  steppers_are : map stepper_of (fmus_of r ss ending) ≡ steppers_of r ss ending
+  steppers_are : map stepper_of (fmus_of r ss t) ≡ steppers_of r ss t
   steppers_are = each_map fmu_of stepper_of 0 r.system.components r.machines ss
 
   abbrev lasts : List Stand
-  lasts = stands_by t (standing t (fmus_of r ss ending)) log
+  lasts = stands_by t (standing t (fmus_of r ss t)) log
 
   module _ (good : IsGoodOutcome outcome) (p : ℕ) (p_later : t < p) (there : are_at p lasts ≡ true) (i : ℕ) (c : Component) (m : Machine) (s : MachineState) (fmu : IsFmu r ss i c m s) where
     abbrev last : Stand
     last = stand_by t (stand_of (fmu_of i c m s)) (part i log)
 
     last_here : slice_get lasts i ≡ Some last
-    last_here = stand_here t (standing t (fmus_of r ss ending)) log i (stand_of (fmu_of i c m s)) (stood good i c m s fmu)
+    last_here = stand_here t (standing t (fmus_of r ss t)) log i (stand_of (fmu_of i c m s)) (stood good i c m s fmu)
 
     at_p : last.point ≡ p
     at_p = equal last.point p (all_each (λ (z : Stand). z.point == p) lasts there i last last_here)
@@ -239,7 +249,7 @@ module _ (first : Shape → Bool) (r : Run) (ss : List MachineState) (ending : E
     abbrev Ended : Type 0
     Ended = (state_by m (save_of i c m s) (part i log) ≡ with_slot (slot_in (saves i) s) (after m s (step_to t (kept_at (asks_in lasts) i)))) × (asks_last false (part i log) ≡ is_terminating (m.look s (step_to t (kept_at (asks_in lasts) i))))
 
-    ended_by : Here m (ignore i m fmu.machine) s (slot_in (saves i) s) t (fmu_of i c m s) (λ e. known c m s e) step first i last (state_by m (save_of i c m s) (part i log)) (asks_last false (part i log)) → Ended
+    ended_by : Here m (ignore i m fmu.machine) s (slot_in (saves i) s) t (fmu_of i c m s) (λ e. known_end t c m s e) step first i last (state_by m (save_of i c m s) (part i log)) (asks_last false (part i log)) → Ended
     ended_by (T.Home h is) = absurd (let e = at_p in omega (arith, e, h, p_later))
     ended_by (T.Away h is asks) =
         (is ∙ ap (λ (n : ℕ). with_slot (slot_in (saves i) s) (after m s (step_to t n))) (sym ask_is), asks ∙ ap (λ (n : ℕ). is_terminating (m.look s (step_to t n))) (sym ask_is))
@@ -247,7 +257,7 @@ module _ (first : Shape → Bool) (r : Run) (ss : List MachineState) (ending : E
     ended : Ended
     ended = ended_by (tracked good i c m s fmu).here
 
-  come_by : (o : Outcome) → outcome ≡ o → ResultAt t step b (fmus_of r ss ending) lasts o → MachinesCome r ss ending t step b saves log o
+  come_by : (o : Outcome) → outcome ≡ o → ResultAt t step b (fmus_of r ss t) lasts o → MachinesCome r ss t step b saves log o
   come_by (Meets p) is h =
       let good : IsGoodOutcome outcome = subst IsGoodOutcome (sym is) tt in (
         asks_in lasts,
@@ -264,38 +274,45 @@ module _ (first : Shape → Bool) (r : Run) (ss : List MachineState) (ending : E
   come_by (Unfit i e) is h = subst (λ (xs : List Stepper). StopsShort xs t step b i e) steppers_are h
   come_by (Fails bad) is h = tt
 
-  result : (o : Outcome) → outcome ≡ o → MachinesCome r ss ending t step b saves log o
+  result : (o : Outcome) → outcome ≡ o → MachinesCome r ss t step b saves log o
   result (Meets p) is =
-      come_by (Meets p) is (subst (λ (o : Outcome). ResultAt t step b (fmus_of r ss ending) lasts o) is (agrees_by_log first t step b (fmus_of r ss ending) log outcome later who agrees (ends (subst IsGoodOutcome (sym is) tt))))
+      come_by (Meets p) is (subst (λ (o : Outcome). ResultAt t step b (fmus_of r ss t) lasts o) is (agrees_by_log first t step b (fmus_of r ss t) log outcome later who agrees (ends (subst IsGoodOutcome (sym is) tt))))
   result (Unfit i e) is =
-      come_by (Unfit i e) is (subst (λ (o : Outcome). ResultAt t step b (fmus_of r ss ending) lasts o) is (agrees_by_log first t step b (fmus_of r ss ending) log outcome later who agrees (ends (subst IsGoodOutcome (sym is) tt))))
+      come_by (Unfit i e) is (subst (λ (o : Outcome). ResultAt t step b (fmus_of r ss t) lasts o) is (agrees_by_log first t step b (fmus_of r ss t) log outcome later who agrees (ends (subst IsGoodOutcome (sym is) tt))))
   result (Fails bad) is = tt
+
+-- who comes first, of all that might return early
+pub who_first : (r : Run) (ss : List MachineState) (t : ℕ) → ComeFirst (asked_first (early_count (shapes_of r.system))) t (fmus_of r ss t)
+who_first r ss t = by (early_count (shapes_of r.system) == 1) refl where
+  by : (x : Bool) → (early_count (shapes_of r.system) == 1) ≡ x → ComeFirst (asked_first (early_count (shapes_of r.system))) t (fmus_of r ss t)
+  by false several = AllOfThem (λ i f at. ap (λ (x : Bool). if x then f.shape.might_return_early else true) several)
+  by true alone = OneAlone (λ i j f g a b x y. one i j f g a b (early_of f x) (early_of g y)) (λ i f e at un later. ends i f e at (late_of f un)) where
+    early_of : (f : Fmu) → asked_first (early_count (shapes_of r.system)) f.shape ≡ true → f.shape.might_return_early ≡ true
+    early_of f h = sym (ap (λ (x : Bool). if x then f.shape.might_return_early else true) alone) ∙ h
+
+    late_of : (f : Fmu) → asked_first (early_count (shapes_of r.system)) f.shape ≡ false → f.shape.might_return_early ≡ false
+    late_of f h = sym (ap (λ (x : Bool). if x then f.shape.might_return_early else true) alone) ∙ h
+
+    shape_at : (i : ℕ) (c : Component) → slice_get r.system.components i ≡ Some c → slice_get (shapes_of r.system) i ≡ Some c.shape
+    shape_at i c at = slice_get-map (λ (d : Component). d.shape) r.system.components i ∙ ap (option_map (λ (d : Component). d.shape)) at
+
+    one : (i j : ℕ) (f g : Fmu) → slice_get (fmus_of r ss t) i ≡ Some f → slice_get (fmus_of r ss t) j ≡ Some g → f.shape.might_return_early ≡ true → g.shape.might_return_early ≡ true → i ≡ j
+    one i j f g a b x y = same (i == j) refl where
+      same : (z : Bool) → (i == j) ≡ z → i ≡ j
+      same true h = equal i j h
+      same false h =
+          let u = each-get (λ i c m s. record { shape = c.shape; end = ending t c m s }) 0 i r.system.components r.machines ss f a in
+          let v = each-get (λ i c m s. record { shape = c.shape; end = ending t c m s }) 0 j r.system.components r.machines ss g b in
+          let two = counts_two (shapes_of r.system) i j u.component.shape v.component.shape (unequal i j h) (shape_at i u.component u.of_c) (shape_at j v.component v.of_c)
+          (sym (ap (λ (w : Fmu). w.shape.might_return_early) u.is) ∙ x) (sym (ap (λ (w : Fmu). w.shape.might_return_early) v.is) ∙ y) in
+          let single = equal (early_count (shapes_of r.system)) 1 alone in
+          absurd (omega (arith, two, single))
+
+    ends : (i : ℕ) (f : Fmu) (e : ℕ) → slice_get (fmus_of r ss t) i ≡ Some f → f.shape.might_return_early ≡ false → f.end e ≡ e
+    ends i f e at un =
+        let u = each-get (λ i c m s. record { shape = c.shape; end = ending t c m s }) 0 i r.system.components r.machines ss f at in
+        ap (λ (z : Fmu). z.end e) u.is ∙ ap (λ (y : Bool). if y then end_in u.machine u.state t e else e) (sym (ap (λ (z : Fmu). z.shape.might_return_early) u.is) ∙ un)
 
 pub agrees_over_machines : AgreesOverMachines
 agrees_over_machines r ss t step b saves log outcome ignore later agrees restores replies =
-    result (λ shape. true) r ss (looked_at t) t (λ c m s e h. refl) (AllOfThem (λ i f at. refl)) step b saves log outcome ignore later agrees restores replies outcome refl
-
-known_end : (t : ℕ) (c : Component) (m : Machine) (s : MachineState) (e : ℕ) → t < e → IsEnd c.shape t (e - t) (end_in m s t e) → known_of t c m s e ≡ end_in m s t e
-known_end t c m s e later h = by c.shape.might_return_early refl where
-  by : (x : Bool) → c.shape.might_return_early ≡ x → known_of t c m s e ≡ end_in m s t e
-  by true is = ap (λ (y : Bool). if y then end_in m s t e else e) is
-  by false is = ap (λ (y : Bool). if y then end_in m s t e else e) is ∙ (let w = h.whole is in omega (arith, w, later))
-
-pub early_first_over_machines : EarlyFirstOverMachines
-early_first_over_machines r ss t one step b saves log outcome ignore later agrees restores replies =
-    result (λ shape. shape.might_return_early) r ss (known_of t) t
-    (λ c m s e h. known_end t c m s e (let l = h.later in let w = h.within in omega (arith, l, w)) h)
-    (OneAlone (λ i j f g a b x y. alone i j f g a b x y) (λ i f e at un l. ends i f e at un)) step b saves log outcome ignore later agrees restores replies outcome refl where
-      own : ℕ → Component → Machine → MachineState → Fmu
-      own i c m s = record { shape = c.shape; end = known_of t c m s }
-
-      alone : (i j : ℕ) (f g : Fmu) → slice_get (each r ss (λ i c m s. record { shape = c.shape; end = known_of t c m s })) i ≡ Some f → slice_get (each r ss (λ i c m s. record { shape = c.shape; end = known_of t c m s })) j ≡ Some g → f.shape.might_return_early ≡ true → g.shape.might_return_early ≡ true → i ≡ j
-      alone i j f g a b x y =
-          let u = each-get (λ i c m s. record { shape = c.shape; end = known_of t c m s }) 0 i r.system.components r.machines ss f a in
-          let v = each-get (λ i c m s. record { shape = c.shape; end = known_of t c m s }) 0 j r.system.components r.machines ss g b in
-          one i j u.component v.component u.of_c v.of_c (sym (ap (λ (z : Fmu). z.shape.might_return_early) u.is) ∙ x) (sym (ap (λ (z : Fmu). z.shape.might_return_early) v.is) ∙ y)
-
-      ends : (i : ℕ) (f : Fmu) (e : ℕ) → slice_get (each r ss (λ i c m s. record { shape = c.shape; end = known_of t c m s })) i ≡ Some f → f.shape.might_return_early ≡ false → f.end e ≡ e
-      ends i f e at un =
-          let u = each-get (λ i c m s. record { shape = c.shape; end = known_of t c m s }) 0 i r.system.components r.machines ss f at in
-          ap (λ (z : Fmu). z.end e) u.is ∙ ap (λ (y : Bool). if y then end_in u.machine u.state t e else e) (sym (ap (λ (z : Fmu). z.shape.might_return_early) u.is) ∙ un)
+    result (asked_first (early_count (shapes_of r.system))) r ss t (who_first r ss t) step b saves log outcome ignore later agrees restores replies outcome refl

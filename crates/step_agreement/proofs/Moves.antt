@@ -99,6 +99,14 @@ module _ (t step : ℕ) (sized test : Stand → Bool) (e : ℕ) (stands : List S
       (own_by (test s) (s.point == t) refl refl
       (subst (λ (b : Bool). OneIf (shapes_in stands) i C.Restore b (part i asks.backs)) refl backs) steps)
 
+-- where one that was asked stands is its end
+pub own_is_end : (t e : ℕ) (b : Bool) (s : Stand) (es : List Exchange) → Own t e b s es → b ≡ true → IsEnd s.shape t (e - t) (stand_by t s es).point
+own_is_end t e b s es (Skips un is) h = absurd (cc)
+own_is_end t e b s es (FromHere asked home x is call good) h =
+    subst (IsEnd s.shape t (e - t)) (sym (ap (λ (xs : List Exchange). (stand_by t s xs).point) is ∙ ap (λ (c : Call). (moved t s c x.result).point) call)) (good_end s.shape t (e - t) x good call)
+own_is_end t e b s es (FromAway asked away y x is back y_good call good) h =
+    subst (IsEnd s.shape t (e - t)) (sym (ap (λ (xs : List Exchange). (stand_by t s xs).point) is ∙ ap (λ (c : Call). (moved t (moved t s y.call y.result) c x.result).point) call)) (good_end s.shape t (e - t) x good call)
+
 -- ---- where it stands then
 
 -- behind an asking for e

@@ -1,4 +1,4 @@
--- An agreement between two askings, where all are asked first: who is asked next, and for what; how it goes on from there, and who was put back so far.
+-- An agreement between two askings: who is asked next, and for what; how it goes on from there; and who was put back so far, where all are asked first.
 use Rattle.std.proofs.Common.{◌≡◌, ◌≢◌, ℕ, suc, ◌-◌, ◌<◌, ◌≤◌, ◌==◌, Bool, true, false, not, List, [], ◌∷◌, ◌++◌, Some, refl, sym, ap, ◌∙◌, subst, arith, append_assoc}
 use Rattle.std.specs.Prelude.{All, ◌&&◌}
 use Rattle.std.specs.List.{slice_get}
@@ -8,20 +8,20 @@ use Rattle.std.proofs.lemmas.List.Elements.{All-append, All-nil, All-weaker}
 use Rattle.std.proofs.lemmas.Option.{slice_get-map}
 use Rattle.value_types.specs.declared.shape.Shape.{Shape}
 use Rattle.fmi_calls.specs.declared.call.Call.TheVariants as C
+use Rattle.system_model.specs.EarlyReturn.{early_count}
 use Rattle.slot_calls.specs.Log.{Asking, Sent, askings}
 use Rattle.slot_calls.specs.Stage.{IsGoodOf}
 use Rattle.slot_calls.proofs.CallerLemmas.{sent_all}
 use Rattle.step_agreement.specs.Agreement.{Agrees, Asks, FirstMeet, FirstStops, GoesAnew, InBack, InStep, IsUnfit, Meets, NextMeet, NextStops, Outcome, Stand, Stops, are_at, comes_first, ends_elsewhere, everyone, is_away, is_elsewhere, putting_back, reached, shapes_in, stands_by, stands_from, stepping}
-use Rattle.step_agreement.specs.Saving.{early_count, is_saved}
+use Rattle.step_agreement.specs.Saving.{is_saved}
 use Rattle.step_agreement.proofs.Agreed.{stands_on}
-use Rattle.step_agreement.proofs.GoingBack.{c_before, c_later, elsewhere_saved, m_later, m_within, same_shapes, saved_beside_two, two_at_last}
+use Rattle.step_agreement.proofs.GoingBack.{all_first, c_before, c_later, elsewhere_saved, m_within, same_shapes, saved_beside_two, two_at_last}
+use Rattle.step_agreement.proofs.Lists.{Each}
+use Rattle.step_agreement.proofs.Machines.{NotBefore, asks_later, reached_later}
 use Rattle.step_agreement.proofs.Turns.{IsTo, those_to}
 
 unequal : (a b : ℕ) → (a == b) ≡ false → a ≢ b
 unequal a b q = grind (arith, nat_tests)
-
-abbrev pub all_first : Shape → Bool
-all_first shape = true
 
 -- those of some that are asked next, for an end; those whose size is looked at before; and where all stand
 pub record Next : Type 0 where
@@ -30,10 +30,10 @@ pub record Next : Type 0 where
   pub e : ℕ
   pub stands : List Stand
 
-module _ (t step : ℕ) where
-  -- all are asked for the bound
+module _ (t step : ℕ) (first : Shape → Bool) where
+  -- those that come first are asked for the bound
   abbrev pub first_next : ℕ → List Stand → Next
-  first_next b stands = record { sized = everyone; test = comes_first all_first; e = b; stands = stands }
+  first_next b stands = record { sized = everyone; test = comes_first first; e = b; stands = stands }
 
   abbrev pub mids : List Stand → List Sent → List Stand
   mids stands front = stands_by t stands front
@@ -80,7 +80,7 @@ module _ (t step : ℕ) where
   own : (b : ℕ) (stands : List Stand) (front : List Sent) (P : ℕ → List Stand → Type 0) (m : ℕ) (xs : List Stand) → xs ≡ stands_by t stands front → m ≡ reached t b xs → P m xs → P (least_end b stands front) (stands_by t stands front)
   own b stands front P m xs xs_is m_is h = subst (λ (ys : List Stand). P (reached t b ys) ys) xs_is (subst (λ (n : ℕ). P n xs) m_is h)
 
-  pub lasts : (b : ℕ) (stands : List Stand) (log : List Sent) (outcome : Outcome) → Agrees t step all_first b stands log outcome → Lasts b stands log outcome
+  pub lasts : (b : ℕ) (stands : List Stand) (log : List Sent) (outcome : Outcome) → Agrees t step first b stands log outcome → Lasts b stands log outcome
   lasts _ _ _ _ (FirstStops b stands log outcome h) = record { front = []; more = log; next = first_next b stands; log_is = refl; under = Begins b stands [] (first_next b stands) refl refl; closes = Stopped h }
   lasts _ _ _ _ (FirstMeet b stands log outcome m asks m_is there is) = record { front = []; more = log; next = first_next b stands; log_is = refl; under = Begins b stands [] (first_next b stands) refl refl; closes = Met m asks is }
   lasts _ _ _ _ (NextStops b stands log outcome m front back xs asks xs_is m_is apart h log_is) =
@@ -106,29 +106,30 @@ module _ (t step : ℕ) where
         closes = l.closes;
       }
 
+module _ (t step : ℕ) where
   same_point : (x y : ℕ) → Meets x ≡ Meets y → x ≡ y
   same_point x y h = cc
 
   -- the point where all meet is at most the bound
-  pub meets_within : (b : ℕ) (stands : List Stand) (log : List Sent) (outcome : Outcome) (p : ℕ) → outcome ≡ Meets p → t < b → Agrees t step all_first b stands log outcome → p ≤ b
-  meets_within _ _ _ _ p at later (FirstStops b stands log outcome (IsUnfit i unfit none is)) = absurd (let wrong = sym at ∙ is in cc)
-  meets_within _ _ _ _ p at later (FirstStops b stands log outcome (InBack bad fits fails is)) = absurd (let wrong = sym at ∙ is in cc)
-  meets_within _ _ _ _ p at later (FirstStops b stands log outcome (InStep bad backs steps fits back fails log_is is)) = absurd (let wrong = sym at ∙ is in cc)
-  meets_within _ _ _ _ p at later (FirstMeet b stands log outcome m asks m_is there is) =
+  pub all_meet_within : (b : ℕ) (stands : List Stand) (log : List Sent) (outcome : Outcome) (p : ℕ) → outcome ≡ Meets p → t < b → Agrees t step all_first b stands log outcome → p ≤ b
+  all_meet_within _ _ _ _ p at later (FirstStops b stands log outcome (IsUnfit i unfit none is)) = absurd (let wrong = sym at ∙ is in cc)
+  all_meet_within _ _ _ _ p at later (FirstStops b stands log outcome (InBack bad fits fails is)) = absurd (let wrong = sym at ∙ is in cc)
+  all_meet_within _ _ _ _ p at later (FirstStops b stands log outcome (InStep bad backs steps fits back fails log_is is)) = absurd (let wrong = sym at ∙ is in cc)
+  all_meet_within _ _ _ _ p at later (FirstMeet b stands log outcome m asks m_is there is) =
       let same : m ≡ p = same_point m p (sym is ∙ at) in let l = m_within t step b later stands log asks in omega (arith, same, m_is, l)
-  meets_within _ _ _ _ p at later (NextStops b stands log outcome m front back xs asks xs_is m_is apart (IsUnfit i unfit none is) log_is) = absurd (let wrong = sym at ∙ is in cc)
-  meets_within _ _ _ _ p at later (NextStops b stands log outcome m front back xs asks xs_is m_is apart (InBack bad fits fails is) log_is) = absurd (let wrong = sym at ∙ is in cc)
-  meets_within _ _ _ _ p at later (NextStops b stands log outcome m front back xs asks xs_is m_is apart (InStep bad backs steps fits back_good fails steps_is is) log_is) = absurd (let wrong = sym at ∙ is in cc)
-  meets_within _ _ _ _ p at later (NextMeet b stands log outcome m front back xs asks xs_is m_is apart asks2 there is log_is) =
+  all_meet_within _ _ _ _ p at later (NextStops b stands log outcome m front back xs asks xs_is m_is apart (IsUnfit i unfit none is) log_is) = absurd (let wrong = sym at ∙ is in cc)
+  all_meet_within _ _ _ _ p at later (NextStops b stands log outcome m front back xs asks xs_is m_is apart (InBack bad fits fails is) log_is) = absurd (let wrong = sym at ∙ is in cc)
+  all_meet_within _ _ _ _ p at later (NextStops b stands log outcome m front back xs asks xs_is m_is apart (InStep bad backs steps fits back_good fails steps_is is) log_is) = absurd (let wrong = sym at ∙ is in cc)
+  all_meet_within _ _ _ _ p at later (NextMeet b stands log outcome m front back xs asks xs_is m_is apart asks2 there is log_is) =
       let same : m ≡ p = same_point m p (sym is ∙ at) in let l = m_within t step b later stands front asks in let own_m = m_is ∙ ap (reached t b) xs_is in omega (arith, same, own_m, l)
-  meets_within _ _ _ _ p at later (GoesAnew b stands log outcome m c front back rest xs ys asks xs_is m_is apart asks2 ys_is behind c_is more log_is) =
+  all_meet_within _ _ _ _ p at later (GoesAnew b stands log outcome m c front back rest xs ys asks xs_is m_is apart asks2 ys_is behind c_is more log_is) =
       let P : ℕ → List Stand → Type 0 = λ n zs. Asks t step (ends_elsewhere t b n) (is_elsewhere n) n zs back × ((are_at n (stands_by t zs back) ≡ false) × (c ≡ reached t n (stands_by t zs back))) in
-      let so : P (least_end b stands front) (stands_by t stands front) = own b stands front P m xs xs_is m_is (asks2, (ap (are_at m) (sym ys_is) ∙ behind, c_is ∙ ap (reached t m) ys_is)) in
+      let so : P (reached t b (stands_by t stands front)) (stands_by t stands front) = own t step all_first b stands front P m xs xs_is m_is (asks2, (ap (are_at m) (sym ys_is) ∙ behind, c_is ∙ ap (reached t m) ys_is)) in
       let same = so.1.1 in
       let low = c_before t step b later stands front asks back so.0 so.1.0 in
       let above = c_later t step b later stands front asks back so.0 in
       let m_low = m_within t step b later stands front asks in
-      let rest_within = meets_within c ys rest outcome p at (omega (arith, same, above)) more in
+      let rest_within = all_meet_within c ys rest outcome p at (omega (arith, same, above)) more in
       omega (arith, same, low, m_low, rest_within)
 
 -- ---- who is put back
@@ -193,15 +194,6 @@ module _ (t step : ℕ) where
   stands_none k [] = refl
   stands_none k (s ∷ ss) = ap (λ (xs : List Stand). s ∷ xs) (stands_none (suc k) ss)
 
-  -- where an agreement stands between two askings
-  pub record IsUnder (stands : List Stand) (log : List Sent) (next : Next) : Type 0 where
-    pub later : t < next.e
-    pub shapes : shapes_in next.stands ≡ shapes_in stands
-    pub stands_are : next.stands ≡ stands_by t stands log
-    pub good : All (IsGoodOf (shapes_in stands)) log
-    pub saved : AreSaved t next.test next.stands
-    pub kept : All (IsKept (shapes_in stands)) log
-
   elsewhere : (m p : ℕ) → not (p == m) ≡ true → p ≢ m
   elsewhere m p h = unequal p m (unnot (p == m) h) where
     unnot : (x : Bool) → not x ≡ true → x ≡ false
@@ -211,51 +203,88 @@ module _ (t step : ℕ) where
   all_saved : (stands : List Stand) (test : Stand → Bool) → 1 < early_count (shapes_in stands) → AreSaved t test stands
   all_saved stands test many i s at h away = saved_beside_two (early_count (shapes_in stands)) s.shape many
 
-  pub is_under : (b : ℕ) (stands : List Stand) (log : List Sent) (next : Next) → t < b → AreSaved t everyone stands → Underway t step b stands log next → IsUnder stands log next
-  is_under _ _ _ _ later saved (Begins b stands log next none is) =
-      subst (λ (l : List Sent). IsUnder stands l next) (sym none) (subst (IsUnder stands []) (sym is) (record { later = later; shapes = refl; stands_are = sym (stands_none 0 stands); good = All-nil (IsGoodOf (shapes_in stands)); saved = saved; kept = All-nil (IsKept (shapes_in stands)) }))
-  is_under _ _ _ _ later saved (Others b stands log next asks apart is) =
-      subst (IsUnder stands log) (sym is) (record {
-        later = m_later t step b later stands log asks;
+  -- who was put back so far was saved, and so are those who are next
+  record AreKept (stands : List Stand) (log : List Sent) (next : Next) : Type 0 where
+    shapes : shapes_in next.stands ≡ shapes_in stands
+    saved : AreSaved t next.test next.stands
+    kept : All (IsKept (shapes_in stands)) log
+
+  are_kept : (b : ℕ) (stands : List Stand) (log : List Sent) (next : Next) → t < b → early_count (shapes_in stands) ≢ 1 → AreSaved t everyone stands → Underway t step all_first b stands log next → AreKept stands log next
+  are_kept _ _ _ _ later many saved (Begins b stands log next none is) =
+      subst (λ (l : List Sent). AreKept stands l next) (sym none) (subst (AreKept stands []) (sym is) (record { shapes = refl; saved = saved; kept = All-nil (IsKept (shapes_in stands)) }))
+  are_kept _ _ _ _ later many saved (Others b stands log next asks apart is) =
+      subst (AreKept stands log) (sym is) (record {
         shapes = same_shapes t step stands log;
-        stands_are = refl;
-        good = good_asks everyone (comes_first all_first) b stands log asks;
-        saved = λ i s at h away. elsewhere_saved t step b later stands log asks i s at (elsewhere (reached t b (stands_by t stands log)) s.point h);
+        saved = λ i s at h away. elsewhere_saved t step b later stands log asks i s at (elsewhere (reached t b (stands_by t stands log)) s.point h) (subst (λ (ss : List Shape). early_count ss ≢ 1) (sym (same_shapes t step stands log)) many);
         kept = kept_asks everyone stands saved everyone b log asks;
       })
-  is_under _ _ _ _ later saved (Anew b stands log next front back rest asks apart asks2 behind more log_is) =
+  are_kept _ _ _ _ later many saved (Anew b stands log next front back rest asks apart asks2 behind more log_is) =
       let first_shapes = same_shapes t step stands front in
       let shapes = same_shapes t step (stands_by t stands front) back ∙ first_shapes in
       let m = reached t b (stands_by t stands front) in
+      let many_mids = subst (λ (ss : List Shape). early_count ss ≢ 1) (sym first_shapes) many in
+      let many_lasts = subst (λ (ss : List Shape). early_count ss ≢ 1) (sym shapes) many in
       let two : 1 < early_count (shapes_in (stands_by t (stands_by t stands front) back)) = subst (λ (ss : List Shape). 1 < early_count ss) (sym (same_shapes t step (stands_by t stands front) back)) (two_at_last t step b later stands front asks back asks2 behind) in
-      let u = is_under (reached t m (stands_by t (stands_by t stands front) back)) (stands_by t (stands_by t stands front) back) rest next (c_later t step b later stands front asks back asks2) (all_saved (stands_by t (stands_by t stands front) back) everyone two) more in
+      let u = are_kept (reached t m (stands_by t (stands_by t stands front) back)) (stands_by t (stands_by t stands front) back) rest next (c_later t step b later stands front asks back asks2) many_lasts (all_saved (stands_by t (stands_by t stands front) back) everyone two) more in
       record {
-        later = u.later;
         shapes = u.shapes ∙ shapes;
-        stands_are = u.stands_are ∙ sym (ap (stands_by t stands) log_is ∙ stands_on t stands front (back ++ rest) ∙ stands_on t (stands_by t stands front) back rest);
-        good = subst (λ (l : List Sent). All (IsGoodOf (shapes_in stands)) l) (sym log_is)
-            (All-append (IsGoodOf (shapes_in stands)) front (back ++ rest) (good_asks everyone (comes_first all_first) b stands front asks)
-            (All-append (IsGoodOf (shapes_in stands)) back rest
-            (subst (λ (ss : List Shape). All (IsGoodOf ss) back) first_shapes (good_asks (ends_elsewhere t b m) (is_elsewhere m) m (stands_by t stands front) back asks2))
-            (subst (λ (ss : List Shape). All (IsGoodOf ss) rest) shapes u.good)));
         saved = u.saved;
         kept = subst (λ (l : List Sent). All (IsKept (shapes_in stands)) l) (sym log_is)
             (All-append (IsKept (shapes_in stands)) front (back ++ rest) (kept_asks everyone stands saved everyone b front asks)
             (All-append (IsKept (shapes_in stands)) back rest
             (subst (λ (ss : List Shape). All (IsKept ss) back) first_shapes
-            (kept_asks (is_elsewhere m) (stands_by t stands front) (λ i s at h away. elsewhere_saved t step b later stands front asks i s at (elsewhere m s.point h)) (ends_elsewhere t b m) m back asks2))
+            (kept_asks (is_elsewhere m) (stands_by t stands front) (λ i s at h away. elsewhere_saved t step b later stands front asks i s at (elsewhere m s.point h) many_mids) (ends_elsewhere t b m) m back asks2))
             (subst (λ (ss : List Shape). All (IsKept ss) rest) shapes u.kept)));
       }
 
   -- whatever it comes to, it puts back only those whose states are saved
-  pub puts_back_saved : (b : ℕ) (stands : List Stand) (log : List Sent) (outcome : Outcome) → t < b → AreSaved t everyone stands → Agrees t step all_first b stands log outcome → All (IsKept (shapes_in stands)) log
-  puts_back_saved b stands log outcome later saved agrees = by (lasts t step b stands log outcome agrees) where
-    closed : (next : Next) (more : List Sent) → AreSaved t next.test next.stands → Closes t step next more outcome → All (IsKept (shapes_in next.stands)) more
+  pub all_put_back_saved : (b : ℕ) (stands : List Stand) (log : List Sent) (outcome : Outcome) → t < b → early_count (shapes_in stands) ≢ 1 → AreSaved t everyone stands → Agrees t step all_first b stands log outcome → All (IsKept (shapes_in stands)) log
+  all_put_back_saved b stands log outcome later many saved agrees = by (lasts t step all_first b stands log outcome agrees) where
+    closed : (next : Next) (more : List Sent) → AreSaved t next.test next.stands → Closes t step all_first next more outcome → All (IsKept (shapes_in next.stands)) more
     closed next more so (Met p asks is) = kept_asks next.test next.stands so next.sized next.e more asks
     closed next more so (Stopped stops) = kept_stops next.test next.stands so next.sized next.e more outcome stops
 
-    by : Lasts t step b stands log outcome → All (IsKept (shapes_in stands)) log
+    by : Lasts t step all_first b stands log outcome → All (IsKept (shapes_in stands)) log
     by l =
-        let u = is_under b stands l.front l.next later saved l.under in
+        let u = are_kept b stands l.front l.next later many saved l.under in
         subst (λ (x : List Sent). All (IsKept (shapes_in stands)) x) (sym l.log_is)
         (All-append (IsKept (shapes_in stands)) l.front l.more u.kept (subst (λ (ss : List Shape). All (IsKept ss) l.more) u.shapes (closed l.next l.more u.saved l.closes)))
+
+-- ---- between two askings
+
+module _ (t step : ℕ) (first : Shape → Bool) where
+  -- where an agreement stands between two askings
+  pub record IsUnder (stands : List Stand) (log : List Sent) (next : Next) : Type 0 where
+    pub later : t < next.e
+    pub shapes : shapes_in next.stands ≡ shapes_in stands
+    pub stands_are : next.stands ≡ stands_by t stands log
+    pub good : All (IsGoodOf (shapes_in stands)) log
+
+  pub is_under : (b : ℕ) (stands : List Stand) (log : List Sent) (next : Next) → t < b → Each (NotBefore t) stands → Underway t step first b stands log next → IsUnder stands log next
+  is_under _ _ _ _ later low (Begins b stands log next none is) =
+      subst (λ (l : List Sent). IsUnder stands l next) (sym none) (subst (IsUnder stands []) (sym is) (record { later = later; shapes = refl; stands_are = sym (stands_none t step 0 stands); good = All-nil (IsGoodOf (shapes_in stands)) }))
+  is_under _ _ _ _ later low (Others b stands log next asks apart is) =
+      subst (IsUnder stands log) (sym is) (record {
+        later = reached_later t b (stands_by t stands log) later (asks_later t step everyone (comes_first first) b stands log asks low);
+        shapes = same_shapes t step stands log;
+        stands_are = refl;
+        good = good_asks t step everyone (comes_first first) b stands log asks;
+      })
+  is_under _ _ _ _ later low (Anew b stands log next front back rest asks apart asks2 behind more log_is) =
+      let first_shapes = same_shapes t step stands front in
+      let shapes = same_shapes t step (stands_by t stands front) back ∙ first_shapes in
+      let m = reached t b (stands_by t stands front) in
+      let low_mids = asks_later t step everyone (comes_first first) b stands front asks low in
+      let m_after = reached_later t b (stands_by t stands front) later low_mids in
+      let low_lasts = asks_later t step (ends_elsewhere t b m) (is_elsewhere m) m (stands_by t stands front) back asks2 low_mids in
+      let u = is_under (reached t m (stands_by t (stands_by t stands front) back)) (stands_by t (stands_by t stands front) back) rest next (reached_later t m (stands_by t (stands_by t stands front) back) m_after low_lasts) low_lasts more in
+      record {
+        later = u.later;
+        shapes = u.shapes ∙ shapes;
+        stands_are = u.stands_are ∙ sym (ap (stands_by t stands) log_is ∙ stands_on t stands front (back ++ rest) ∙ stands_on t (stands_by t stands front) back rest);
+        good = subst (λ (l : List Sent). All (IsGoodOf (shapes_in stands)) l) (sym log_is)
+            (All-append (IsGoodOf (shapes_in stands)) front (back ++ rest) (good_asks t step everyone (comes_first first) b stands front asks)
+            (All-append (IsGoodOf (shapes_in stands)) back rest
+            (subst (λ (ss : List Shape). All (IsGoodOf ss) back) first_shapes (good_asks t step (ends_elsewhere t b m) (is_elsewhere m) m (stands_by t stands front) back asks2))
+            (subst (λ (ss : List Shape). All (IsGoodOf ss) rest) shapes u.good)));
+      }

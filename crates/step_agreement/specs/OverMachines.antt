@@ -1,5 +1,5 @@
 -- The agreed step of told machines: the agreement of the run, and the states that it leaves.
-use Rattle.std.specs.Prelude.{◌≡◌, ℕ, ◌<◌, Bool, true, false, if◌then◌else◌, List, [], ◌∷◌, All, Option, Some, None, Result, slice_get}
+use Rattle.std.specs.Prelude.{◌≡◌, ℕ, ◌<◌, Bool, true, false, List, [], ◌∷◌, All, Option, Some, None, Result, slice_get}
 use Rattle.std.specs.List.{list_any}
 use Rattle.fmi_calls.specs.declared.call.Call.{Call}
 use Rattle.fmi_calls.specs.declared.call.Call.TheVariants as C
@@ -7,36 +7,25 @@ use Rattle.fmi_calls.specs.declared.call.Reply.{Reply}
 use Rattle.fmu_peer.specs.declared.peer.Exchange.{Exchange}
 use Rattle.fmu_peer.specs.declared.peer.PeerFault.{PeerFault}
 use Rattle.fmu_peer.specs.Machine.{IgnoresSlot, Machine, MachineState, SavedMachine, after, kept}
-use Rattle.system_model.specs.declared.system.Component.{Component}
-use Rattle.value_types.specs.declared.shape.Shape.{Shape}
+use Rattle.system_model.specs.EarlyReturn.{early_count}
 use Rattle.run_model.specs.Run.{Run, each}
 use Rattle.run_model.specs.Steps.{Agree, Stepper, StopsShort}
-use Rattle.run_model.specs.Stepping.{end_in, is_terminating, kept_at, step_to}
+use Rattle.run_model.specs.Stepping.{asked_first, ending, is_terminating, kept_at, step_to}
 use Rattle.slot_calls.specs.Carried.{ends_by}
 use Rattle.slot_calls.specs.Log.{Sent, part}
 use Rattle.slot_calls.specs.Replies.{AreReplies, states_by}
+use Rattle.slot_calls.specs.Stage.{shapes_of}
 use Rattle.step_agreement.specs.Agreement.{Agrees, Fails, Meets, Outcome, Unfit}
 use Rattle.step_agreement.specs.Ends.{Fmu, standing}
 
--- where an FMU ends that is asked to step to a point, by its component, machine and state before the step
-abbrev pub Ending : Type 0
-Ending = Component → Machine → MachineState → ℕ → ℕ
+-- the FMUs at a step's beginning: where one ends is known by its machine, or by its shape
+abbrev pub fmus_of : Run → List MachineState → ℕ → List Fmu
+fmus_of r ss t = each r ss (λ i c m s. record { shape = c.shape; end = ending t c m s })
 
--- where its machine does
-abbrev pub looked_at : ℕ → Ending
-looked_at t c m s e = end_in m s t e
-
--- the same, but that one that may not return early ends where it is asked to
-abbrev pub known_of : ℕ → Ending
-known_of t c m s e = if c.shape.might_return_early then end_in m s t e else e
-
-abbrev pub fmus_of : Run → List MachineState → Ending → List Fmu
-fmus_of r ss ending = each r ss (λ i c m s. record { shape = c.shape; end = ending c m s })
-
-abbrev pub steppers_of : Run → List MachineState → Ending → List Stepper
-steppers_of r ss ending =
+abbrev pub steppers_of : Run → List MachineState → ℕ → List Stepper
+steppers_of r ss t =
     each r ss (λ i c m s.
-    record { has_variable_steps = c.shape.has_variable_steps; end = ending c m s })
+    record { has_variable_steps = c.shape.has_variable_steps; end = ending t c m s })
 
 -- ---- saved states
 
@@ -79,43 +68,25 @@ some_asks_last r ss log =
 
 -- ---- the law
 
-abbrev pub MachinesCome : Run → List MachineState → Ending → ℕ → ℕ → ℕ → (ℕ → Bool) →
-    List Sent → Outcome → Type 0
-MachinesCome r ss ending t step b saves log (Meets point) =
-    (asks : List ℕ) × Agree (steppers_of r ss ending) t step b asks point × (t < point) ×
+abbrev pub MachinesCome : Run → List MachineState → ℕ → ℕ → ℕ → (ℕ → Bool) → List Sent →
+    Outcome → Type 0
+MachinesCome r ss t step b saves log (Meets point) =
+    (asks : List ℕ) × Agree (steppers_of r ss t) t step b asks point × (t < point) ×
     (states_by r (saved_states r ss saves) log ≡
     each r ss (λ i c m s.
     with_slot (slot_in (saves i) s) (after m s (step_to t (kept_at asks i)))))
     × (some_asks_last r ss log ≡
     list_any (λ b. b) (each r ss (λ i c m s.
     is_terminating (m.look s (step_to t (kept_at asks i))))))
-MachinesCome r ss ending t step b saves log (Unfit i e) =
-    StopsShort (steppers_of r ss ending) t step b i e
-MachinesCome r ss ending t step b saves log (Fails bad) = Unit {0}
+MachinesCome r ss t step b saves log (Unfit i e) = StopsShort (steppers_of r ss t) t step b i e
+MachinesCome r ss t step b saves log (Fails bad) = Unit {0}
 
 -- by a log in which only those whose state was saved are put back, told machines come to the agreement of the run: each is in its state before the step, changed by its kept ask alone, with what it saved
-abbrev pub ComesOverMachines : (Shape → Bool) → Run → List MachineState → Ending → ℕ → Type 0
-ComesOverMachines first r ss ending t =
-    (step b : ℕ) (saves : ℕ → Bool) (log : List Sent) (outcome : Outcome) → IgnoreSlots r →
-    t < b → Agrees t step first b (standing t (fmus_of r ss ending)) log outcome →
-    RestoresSaved saves log → AreReplies r (saved_states r ss saves) log →
-    MachinesCome r ss ending t step b saves log outcome
-
--- where all are asked first
 abbrev pub AgreesOverMachines : Type 0
 AgreesOverMachines =
-    (r : Run) (ss : List MachineState) (t : ℕ) →
-    ComesOverMachines (λ shape. true) r ss (looked_at t) t
-
--- no two components might return early
-abbrev pub OneEarly : Run → Type 0
-OneEarly r =
-    (i j : ℕ) (c d : Component) → slice_get r.system.components i ≡ Some c →
-    slice_get r.system.components j ≡ Some d → c.shape.might_return_early ≡ true →
-    d.shape.might_return_early ≡ true → i ≡ j
-
--- where one at most might return early, and is asked first, alone
-abbrev pub EarlyFirstOverMachines : Type 0
-EarlyFirstOverMachines =
-    (r : Run) (ss : List MachineState) (t : ℕ) → OneEarly r →
-    ComesOverMachines (λ shape. shape.might_return_early) r ss (known_of t) t
+    (r : Run) (ss : List MachineState) (t step b : ℕ) (saves : ℕ → Bool) (log : List Sent)
+    (outcome : Outcome) → IgnoreSlots r → t < b →
+    Agrees t step (asked_first (early_count (shapes_of r.system))) b
+    (standing t (fmus_of r ss t)) log outcome →
+    RestoresSaved saves log → AreReplies r (saved_states r ss saves) log →
+    MachinesCome r ss t step b saves log outcome

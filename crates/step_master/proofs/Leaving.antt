@@ -12,10 +12,9 @@ use Rattle.fmi_calls.specs.declared.phase.Phase.{Phase}
 use Rattle.fmu_peer.specs.declared.peer.Exchange.{Exchange}
 use Rattle.fmu_peer.specs.declared.peer.PeerFault.{PeerFault}
 use Rattle.fmu_peer.specs.Close.{SendsInTurn}
-use Rattle.fmu_peer.specs.Talk.{LegalFrom, phase_from, Closed, EndsFreed, EndsKeeping, IsGood, Legal, StartsBadly, next_by, phase_after}
+use Rattle.fmu_peer.specs.Talk.{LegalFrom, phase_from, Closed, EndsFreed, EndsKeeping, IsGood, Legal, StartsBadly, next_by, phase_after, calls_in}
 use Rattle.fmu_peer.specs.View.{View, Fixed, talked}
 use Rattle.step_master.specs.Lives.{ComeInTurn, Counts, is_unanswered, Freed, IsLife, IsOver, Keeping, Life, LostHere, Unasked, shape_in, talk_in}
-use Rattle.course_laws.specs.Laws.{calls_in}
 use Rattle.slot_calls.specs.Log.{Talks, Has}
 use Rattle.value_types.specs.declared.shape.Shape.{Shape}
 use Rattle.fmi_calls.specs.declared.call.BadStatus.{BadStatus}

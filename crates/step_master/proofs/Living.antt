@@ -1,17 +1,21 @@
 -- The lives of peers, from their seats through a log to their closing.
-use Rattle.std.proofs.Common.{◌≡◌, ℕ, zero, suc, ◌+◌, ◌==◌, Bool, true, false, List, [], ◌∷◌, ◌++◌, Some, refl, sym, ap, ap₂, ◌∙◌, subst, append_assoc, arith, length, map, take, drop}
+use Rattle.std.proofs.Common.{◌≡◌, ℕ, zero, suc, ◌+◌, ◌==◌, Bool, true, false, List, [], ◌∷◌, ◌++◌, Some, refl, sym, ap, ap₂, ◌∙◌, subst, append_assoc, arith, length, map, take, drop, Result}
 use Rattle.std.specs.Prelude.{All, ◌||◌, ◌&&◌, if◌then◌else◌}
 use Rattle.std.specs.List.{slice_get}
 use Rattle.std.proofs.lemmas.List.{append-nil, map-append, take-append-drop, take-map, drop-map}
-use Rattle.std.proofs.lemmas.List.Elements.{All-nil, All-cons, All-head, All-tail, All-take, All-drop}
+use Rattle.std.proofs.lemmas.List.Elements.{All-nil, All-cons, All-head, All-tail, All-append, All-take, All-drop}
 use Rattle.std.proofs.lemmas.List.Folds.{list_any-append}
 use Rattle.std.proofs.lemmas.Bool.{and_from, or_from, or_parts}
 use Rattle.std.proofs.Math.Bool.{and-or_distrib_right, or-true, or_assoc, or_comm}
 use Rattle.std.proofs.lemmas.Option.{same_Some}
 use Rattle.value_types.specs.declared.shape.Shape.{Shape}
+use Rattle.fmi_calls.specs.declared.call.Call.{Call}
 use Rattle.fmi_calls.specs.declared.call.Call.TheVariants as C
+use Rattle.fmi_calls.specs.declared.call.Reply.{Reply}
 use Rattle.fmi_calls.specs.declared.phase.Phase.{Phase}
 use Rattle.fmi_calls.specs.KindFacts.{IsClosingCall, IsRunCall}
+use Rattle.fmu_peer.specs.declared.peer.Exchange.{Exchange}
+use Rattle.fmu_peer.specs.declared.peer.PeerFault.{PeerFault}
 use Rattle.fmu_peer.specs.Close.{any_fatal, closing_calls}
 use Rattle.fmu_peer.specs.CloseAll.{ClosesOne, Closing, InOrder, Instance, afters, befores, is_source_lost, member_of}
 use Rattle.fmu_peer.specs.Lean.{IsLean}
@@ -20,9 +24,10 @@ use Rattle.fmu_peer.specs.Talk as T
 use Rattle.fmu_peer.specs.View.{Fixed, View}
 use Rattle.fmu_peer.proofs.CallerLemmas.{same_number, spared_from, spares_later}
 use Rattle.step_master.specs.Lives.{ClosesInTurn, ComeInTurn, IsLife, Life, any_fatal_closing, any_fatal_run, member_in, shape_in, talk_in}
-use Rattle.course_laws.specs.Laws.{calls_in}
+use Rattle.fmu_peer.specs.Talk.{calls_in}
 use Rattle.slot_calls.specs.Log.{Has, Sent, Talks, part}
-use Rattle.slot_calls.specs.SavedStates.{IsParted, LeavesState, Talk, saved_after}
+use Rattle.slot_calls.specs.SavedStates.{IsParted, LeavesState, Talk, saved_after, saved_by}
+use Rattle.course_laws.specs.Laws.{IsStateless}
 use Rattle.step_master.proofs.Leaving.{counts_of, leaves_one, talk_is, talks_legal, talks_phase, turn_all, turn_comes, turn_talks}
 use Rattle.step_master.proofs.Parted.{Closes, all_ending, is_parted, turn_closes}
 use Rattle.slot_calls.proofs.CallerLemmas.{talks_fixed, talks_on, replies_of}
@@ -68,6 +73,21 @@ closings_are i [] [] e = refl
 closings_are i [] (k ∷ ks) e = absurd (omega (arith, e))
 closings_are i (s ∷ ss) [] e = absurd (omega (arith, e))
 closings_are i (s ∷ ss) (k ∷ ks) e = ap (λ (l : List Closing). k ∷ l) (closings_are (i + 1) ss ks (omega (arith, e)))
+
+-- ---- no saved states
+
+-- a call that saves none leaves none
+leaves_none : (shape : Shape) (c : Call) (r : Result Reply PeerFault) → IsStateless c → saved_by shape c r false ≡ false
+leaves_none shape C.Save r plain = absurd plain
+leaves_none shape C.Free r plain = refl
+leaves_none shape c r plain = refl
+
+-- so it is behind exchanges of such calls
+never_saved : (shape : Shape) (es : List Exchange) → All IsStateless (calls_in es) → saved_after shape false es ≡ false
+never_saved shape [] plain = refl
+never_saved shape (e ∷ es) plain =
+    ap (λ (b : Bool). saved_after shape b es) (leaves_none shape e.call e.result (All-head IsStateless e.call (calls_in es) plain))
+    ∙ never_saved shape es (All-tail IsStateless e.call (calls_in es) plain)
 
 -- ---- one row
 
@@ -131,6 +151,18 @@ module _ (talks : List Talk) (log : List Sent) (row : Row) (r : IsRow talks log 
     counts = counts_of row.seat.view (talk_in life) life.new all_talks;
     replies = λ m s machine state. replies_of m row.seat.view (talk_in life) life.new all_talks s machine state;
   }
+
+  closing_plain : (b saved : Bool) → saved ≡ false → All IsStateless (if b then [] else closing_calls saved)
+  closing_plain true saved none = All-nil IsStateless
+  closing_plain false false none = all_ending IsStateless tt tt
+  closing_plain false true none = absurd (cc)
+
+  -- where no call of its run saves a state, goes back to one or frees one, none of its closing does
+  pub row_plain : All IsStateless (calls_in life.run) → All IsStateless (calls_in (talk_in life))
+  row_plain plain =
+      subst (All IsStateless) (sym (map-append (λ (e : Exchange). e.call) life.run life.closing))
+      (All-append IsStateless (calls_in life.run) (calls_in life.closing) plain
+      (turn_all IsStateless _ mid life.closing life.new (closing_plain r.spared row.closing.old.has_saved (saved_is ∙ never_saved row.seat.view.fixed.shape life.run plain)) r.one.turn))
 
   pub same_source : row.closing.old.source ≡ life.source
   same_source = r.has.source

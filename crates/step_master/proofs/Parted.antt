@@ -12,7 +12,7 @@ use Rattle.fmu_peer.specs.Close.{SendsInTurn, closing_calls}
 use Rattle.fmu_peer.specs.View.{View}
 use Rattle.slot_calls.specs.SavedStates.{IsEnding, IsOfClosing, IsParted, LeavesState, Talk, last_step, saved_after, step_or}
 use Rattle.slot_calls.proofs.CallerLemmas.{first_same, rest_same}
-use Rattle.course_laws.specs.Laws.{calls_in}
+use Rattle.fmu_peer.specs.Talk.{calls_in}
 use Rattle.step_master.proofs.Leaving.{turn_all}
 use Rattle.step_master.proofs.SeatLemmas.{all_under}
 

@@ -30,7 +30,7 @@ use Rattle.calling_sequence.specs.declared.run_end.RunEnd.{RunEnd}
 use Rattle.calling_sequence.specs.declared.run_end.RunEnd.TheVariants as E
 use Rattle.calling_sequence.specs.Calls.{making}
 use Rattle.calling_sequence.specs.Ends.{EndsBy}
-use Rattle.calling_sequence.specs.Plans.{IsPlan}
+use Rattle.system_model.specs.Plans.{IsPlan}
 use Rattle.machine_courses.specs.Laws as Machines
 use Rattle.machine_courses.specs.Laws.{RunByLog, TraceByLog, UnmadeByLog}
 use Rattle.machine_courses.specs.Outcomes.{IsLost}

@@ -1,5 +1,5 @@
 -- From the first call of each peer to its closing.
-use Rattle.std.proofs.Common.{◌≡◌, inl, inr, ℕ, ◌<◌, Bool, true, false, List, [], ◌∷◌, ◌++◌, Option, Some, None, Result, sym, ap, ◌∙◌, subst, arith, length, get_or, map, take, drop}
+use Rattle.std.proofs.Common.{◌≡◌, inl, inr, ℕ, ◌<◌, ◌≤◌, Bool, true, false, List, [], ◌∷◌, ◌++◌, Option, Some, None, Result, sym, ap, ◌∙◌, subst, arith, length, get_or, map, take, drop}
 use Rattle.std.specs.Prelude.{All, ◌||◌}
 use Rattle.std.specs.List.{list_any, slice_get}
 use Rattle.std.specs.Option.{option_map}
@@ -22,6 +22,7 @@ use Rattle.fmu_peer.specs.CloseAll.{ClosesOne, Closing, InOrder, Instance, after
 use Rattle.fmu_peer.specs.Talk as T
 use Rattle.fmu_peer.specs.Updates.{AreUpdatesNeeded}
 use Rattle.fmu_peer.specs.View.{View}
+use Rattle.system_model.specs.EarlyReturn.{early_count}
 use Rattle.system_model.specs.declared.bound.Bound.{Bound}
 use Rattle.system_model.specs.declared.plan.Plan.{Plan}
 use Rattle.system_model.specs.declared.system.Component.{Component}
@@ -34,14 +35,15 @@ use Rattle.slot_calls.proofs.CallerLemmas.{last_on, told_on}
 use Rattle.calling_sequence.specs.declared.run_end.RunEnd.{RunEnd}
 use Rattle.calling_sequence.specs.declared.run_end.RunEnd.TheVariants as E
 use Rattle.calling_sequence.specs.Ends.{EndsBy}
-use Rattle.course_laws.specs.Laws.{AnswersAre, AreNeeded, AreTalks, EndAs, FirstBadAnswer, IsFirstBadOf, NoCallTwice, StatesAreLeft, UpdatesAskedFor, calls_in}
+use Rattle.course_laws.specs.Laws.{AnswersAre, AreNeeded, AreTalks, EndAs, FirstBadAnswer, IsFirstBadOf, IsStateless, NoCallTwice, NothingSaved, StatesAreLeft, UpdatesAskedFor}
+use Rattle.fmu_peer.specs.Talk.{calls_in}
 use Rattle.course_laws.specs.Runs.{Comes, EndsCome, TellsEnd, Unmade}
 use Rattle.step_master.specs.Lived.{LivesAreOver, RunIsLived, UnmadeIsClosed}
 use Rattle.step_master.specs.Lives.{AreGood, AreLives, EndsLives, IsLeastBad, IsLife, Life, is_spared, is_unanswered, shape_in, talk_in, talks_in}
 use Rattle.step_master.specs.Master.{Closes}
 use Rattle.step_master.specs.Seats.{seated, views_of}
 use Rattle.step_master.specs.System.{ArePeersOf}
-use Rattle.step_master.proofs.Living.{IsRow, Row, at_turn, closings_are, is_life, life_of, row_at, row_closed, row_parted, row_siblings, rows_from, seats_are, turn_open}
+use Rattle.step_master.proofs.Living.{IsRow, Row, at_turn, closings_are, is_life, life_of, row_at, row_closed, row_parted, row_plain, row_siblings, rows_from, seats_are, turn_open}
 use Rattle.step_master.proofs.Leaving.{closed_over}
 use Rattle.step_master.proofs.Parted.{closing_steps, turn_closes}
 use Rattle.step_master.proofs.SeatLemmas.{IsSeat, are_seats, got, length_seated, seated_shapes, sources_seated, unmapped, views_seated}
@@ -53,7 +55,8 @@ mapped f xs k x is = slice_get-map f xs k ∙ ap (option_map f) is
 -- a log whose calls are needed, and whose Updates are asked for
 module _ (system : System) (olds : List View) (peers : ArePeersOf system olds) (log : List Sent) (mids : List Instance) (news : List View) (told : Told log (seated system.components olds) mids) (closes : Closes mids news)
     (needed : (k : ℕ) → k < length system.components → AreNeeded (calls_in (part k log))) (updates : (talks : List (List Exchange)) → AreTalks (length system.components) log talks → AreUpdatesNeeded talks)
-    (left : (talks : List Talk) → EndAs system log talks → (k : ℕ) (d : Shape) → k < length system.components → LeavesState talks (get_or (shapes_of system) k d) (part k log)) where
+    (left : (talks : List Talk) → EndAs system log talks → (k : ℕ) (d : Shape) → k < length system.components → LeavesState talks (get_or (shapes_of system) k d) (part k log))
+    (plain : early_count (shapes_of system) ≤ 1 → (k : ℕ) → All IsStateless (calls_in (part k log))) where
   abbrev closings : List Closing
   closings = closes.closes.closings
 
@@ -185,6 +188,7 @@ module _ (system : System) (olds : List View) (peers : ArePeersOf system olds) (
     siblings = row_siblings talks log rows all_rows order;
     updates = updates (map (λ (l : Life). l.run) lives) (record { len = length-map lives (λ (l : Life). l.run) ∙ len_lives; each = talk_at });
     parted = All-map (λ (l : Life). IsParted talks l.run l.closing) (life_of log) rows (λ k d w. row_parted talks log (get_or rows k d) (all_rows k d w));
+    unsaved = λ few. All-map (λ (l : Life). All IsStateless (calls_in (talk_in l))) (life_of log) rows (λ k d w. row_plain talks log (get_or rows k d) (all_rows k d w) (plain few (get_or rows k d).number));
     closed = closed_at;
   }
 
@@ -243,7 +247,7 @@ module _ (system : System) (olds : List View) (peers : ArePeersOf system olds) (
 
 -- ---- the laws, from those of a run's calls
 
-module _ (answers : FirstBadAnswer) (once : NoCallTwice) (asked_for : UpdatesAskedFor) (states : StatesAreLeft) (ends : EndsCome) where
+module _ (answers : FirstBadAnswer) (once : NoCallTwice) (asked_for : UpdatesAskedFor) (states : StatesAreLeft) (unsaved : NothingSaved) (ends : EndsCome) where
   pub run_is_lived : RunIsLived
   run_is_lived a ready done sound binds counts peers prepares runs closes count =
       let text : EndsBy a.system a.bound a.plan runs.log runs.is a.end a.before a.after =
@@ -257,16 +261,17 @@ module _ (answers : FirstBadAnswer) (once : NoCallTwice) (asked_for : UpdatesAsk
       let needed = once a.system come.0 log sound come.2 in
       let updates = λ (talks : List (List Exchange)) (are : AreTalks (length a.system.components) log talks). asked_for a.system come.0 log talks sound come.2 are in
       let left = λ (talks : List Talk) (are : EndAs a.system log talks). states a.system come.0 log talks sound come.2 are in
+      let plain = λ (few : early_count (shapes_of a.system) ≤ 1). unsaved a.system come.0 log sound come.2 few in
       record {
         made = prepares.log;
         log = runs.log;
         is = runs.is;
-        lives = lives a.system a.olds peers log done.instances a.news told closes needed updates left;
+        lives = lives a.system a.olds peers log done.instances a.news told closes needed updates left plain;
         making = prepares.answered;
-        are = are_lives a.system a.olds peers log done.instances a.news told closes needed updates left;
+        are = are_lives a.system a.olds peers log done.instances a.news told closes needed updates left plain;
         text = text;
         counted = count ∙ runs.counted;
-        ends = ends_lives a.system a.olds peers log done.instances a.news told closes needed updates left a.end come.0 come.1 (answers a.system come.0 log sound come.2);
+        ends = ends_lives a.system a.olds peers log done.instances a.news told closes needed updates left plain a.end come.0 come.1 (answers a.system come.0 log sound come.2);
         machines = prepares.machines;
       }
 
@@ -276,12 +281,13 @@ module _ (answers : FirstBadAnswer) (once : NoCallTwice) (asked_for : UpdatesAsk
       let needed = once system (Some bad) u.log sound come in
       let updates = λ (talks : List (List Exchange)) (are : AreTalks (length system.components) u.log talks). asked_for system (Some bad) u.log talks sound come are in
       let left = λ (talks : List Talk) (are : EndAs system u.log talks). states system (Some bad) u.log talks sound come are in
+      let plain = λ (few : early_count (shapes_of system) ≤ 1). unsaved system (Some bad) u.log sound come few in
       record {
         log = u.log;
-        lives = lives system olds peers u.log u.mids news u.told u.closes needed updates left;
+        lives = lives system olds peers u.log u.mids news u.told u.closes needed updates left plain;
         stops = u.stops;
-        are = are_lives system olds peers u.log u.mids news u.told u.closes needed updates left;
-        least = bad_lives system olds peers u.log u.mids news u.told u.closes needed updates left bad (answers system (Some bad) u.log sound come);
+        are = are_lives system olds peers u.log u.mids news u.told u.closes needed updates left plain;
+        least = bad_lives system olds peers u.log u.mids news u.told u.closes needed updates left plain bad (answers system (Some bad) u.log sound come);
       }
 
 pub lives_are_over : LivesAreOver

@@ -22,13 +22,16 @@ use Rattle.fmu_peer.specs.Updates.{AreUpdatesNeeded}
 use Rattle.fmu_peer.specs.View.{View}
 use Rattle.system_model.specs.declared.system.Component.{Component}
 use Rattle.system_model.specs.declared.system.System.{System}
+use Rattle.system_model.specs.EarlyReturn.{early_count}
 use Rattle.slot_calls.specs.declared.bad_answer.BadAnswer.{BadAnswer}
-use Rattle.course_laws.specs.Laws.{calls_in}
+use Rattle.fmu_peer.specs.Talk.{calls_in}
 use Rattle.calling_sequence.specs.declared.run_end.RunEnd.{RunEnd}
 use Rattle.calling_sequence.specs.declared.run_end.RunEnd.TheVariants as E
 use Rattle.slot_calls.specs.Replies.{RepliesBy}
 use Rattle.slot_calls.specs.Log.{Sent, part}
 use Rattle.slot_calls.specs.SavedStates.{IsParted, Talk, saved_after}
+use Rattle.slot_calls.specs.Stage.{shapes_of}
+use Rattle.course_laws.specs.Laws.{IsStateless}
 
 -- ---- one life
 
@@ -119,7 +122,7 @@ abbrev pub talks_in : List Life → List Talk
 talks_in lives =
     map (λ (l : Life). record { shape = shape_in l; exchanges = talk_in l }) lives
 
--- the lives of a system's peers, in the order of the components: each has its part of the log, those behind a Fatal of their source have no closing, and each other is closed; no Update follows another at one point that wasn't asked for; which calls are the run's, and which the closing's, the talks of all tell
+-- the lives of a system's peers, in the order of the components: each has its part of the log, those behind a Fatal of their source have no closing, and each other is closed; no Update follows another at one point that wasn't asked for; which calls are the run's, and which the closing's, the talks of all tell; where at most one FMU might return early, no call saves a state, goes back to one or frees one
 pub record AreLives (system : System) (olds news : List View) (log : List Sent)
     (lives : List Life) : Type 0 where
   pub olds_are : map (λ (l : Life). l.old) lives ≡ olds
@@ -131,6 +134,8 @@ pub record AreLives (system : System) (olds news : List View) (log : List Sent)
   pub siblings : Siblings (map member_in lives)
   pub updates : AreUpdatesNeeded (map (λ (l : Life). l.run) lives)
   pub parted : All (λ (l : Life). IsParted (talks_in lives) l.run l.closing) lives
+  pub unsaved : early_count (shapes_of system) ≤ 1 →
+      All (λ (l : Life). All IsStateless (calls_in (talk_in l))) lives
   pub closed : (k : ℕ) (life : Life) → slice_get lives k ≡ Some life →
       is_spared lives k life ≡ false → T.Closed (shape_in life) (talk_in life)
 

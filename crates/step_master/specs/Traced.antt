@@ -14,7 +14,7 @@ use Rattle.run_model.specs.Run.{Run}
 use Rattle.slot_calls.specs.declared.bad_answer.BadAnswer.{BadAnswer}
 use Rattle.calling_sequence.specs.declared.run_end.RunEnd.{RunEnd}
 use Rattle.calling_sequence.specs.declared.run_end.RunEnd.TheVariants as E
-use Rattle.calling_sequence.specs.Plans.{IsPlan}
+use Rattle.system_model.specs.Plans.{IsPlan}
 use Rattle.machine_courses.specs.Outcomes.{CutsTrace, Output, PutsRun}
 use Rattle.step_master.specs.Lived.{Account, Lived, Unmade}
 

@@ -1,7 +1,8 @@
 ghost use Rattle.std.specs.Prelude.{◌≡◌, IfOk, IfErr, map};
 ghost use Rattle.system_model.specs.Bounds.{BindsParameters};
 ghost use Rattle.system_model.specs.Sound.{IsSound};
-ghost use Rattle.calling_sequence.specs.Plans.{CountsBy, IsPlan};
+ghost use Rattle.calling_sequence.specs.Plans.{CountsBy};
+ghost use Rattle.system_model.specs.Plans.{IsPlan};
 ghost use Rattle.step_master.specs.System.{ArePeersOf};
 
 use crate::seats::Seats;

@@ -15,7 +15,7 @@ use Rattle.ssd_tree.specs.declared.tree.SystemPart.{SystemPart}
 use Rattle.ssd_tree.specs.declared.tree.SystemTree.{SystemTree}
 use Rattle.ssd_tree.specs.Elements.{holder}
 use Rattle.ssd_tree.specs.Parts.{Describes, InInner, InOutermost, IsBindingPart, IsComponentPart, IsFullName, IsPlaceOf, IsSystemPart, owner_node}
-use Rattle.ssd_tree.specs.Rules.{IsSound}
+use Rattle.ssd_tree.specs.Rules.{IsSoundStructure}
 use Rattle.ssd_tree.proofs.CallerLemmas.{holder_cases, alone_in_root}
 use Rattle.structure_laws.proofs.NameLemmas.{each_beside}
 use Rattle.ssd_tree.specs.Named.{Inner, IsInScope, IsNamedTree, IsOwner, IsScope, Outermost}
@@ -66,7 +66,7 @@ module _ (t : List Node) (in_order : IsInOrder t) where
       let parts = holder_cases t k system list e in
       omega (arith, behind k parts.0 parts.1, behind parts.0 system parts.3)
 
-  module _ (tree : SystemTree) (sound : IsSound t) (describes : Describes t tree) where
+  module _ (tree : SystemTree) (sound : IsSoundStructure t) (describes : Describes t tree) where
     -- the element of a System, by its place
     element : (s : ℕ) (part : SystemPart) → slice_get tree.systems s ≡ Some part → (k : ℕ) × (slice_get describes.nodes.systems s ≡ Some k) × IsSystemPart t describes.nodes k part
     element s part e = beside (IsSystemPart t describes.nodes) describes.nodes.systems tree.systems describes.systems s part e

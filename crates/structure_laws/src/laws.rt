@@ -3,7 +3,7 @@ ghost use Rattle.doc_grammar.specs.Nodes.{Denotes, Node};
 ghost use Rattle.ssd_tree.specs.declared.tree.ComponentPart.{ComponentPart};
 ghost use Rattle.ssd_tree.specs.declared.tree.SystemTree.{SystemTree};
 ghost use Rattle.ssd_tree.specs.Parts.{Describes};
-ghost use Rattle.ssd_tree.specs.Rules.{IsSound};
+ghost use Rattle.ssd_tree.specs.Rules.{IsSoundStructure};
 ghost use Rattle.ssd_tree.specs.Named.{IsNamedTree};
 
 use doc_grammar::document_laws;
@@ -12,7 +12,7 @@ use doc_grammar::document_laws;
 /// the document, in bytes.
 pub fn read_structures()
     ensures names { (bytes : List ℕ) (document : List Node) (tree : SystemTree) →
-        Denotes bytes document → IsSound document → Describes document tree →
+        Denotes bytes document → IsSoundStructure document → Describes document tree →
         All (λ (c : ComponentPart). length c.name ≤ length bytes) tree.components }
 {
     document_laws();
@@ -22,7 +22,7 @@ pub fn read_structures()
 /// one that it stands in, and the full name of each component begins with the names of the Systems around it.
 pub fn named_trees()
     ensures { (bytes : List ℕ) (document : List Node) (tree : SystemTree) → Denotes bytes document →
-        IsSound document → Describes document tree → IsNamedTree tree }
+        IsSoundStructure document → Describes document tree → IsNamedTree tree }
 {
     document_laws();
 }

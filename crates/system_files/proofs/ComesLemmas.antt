@@ -16,7 +16,7 @@ use Rattle.system_loading.specs.Readings.{IsMapping, IsMappingWithin, IsModel, I
 use Rattle.system_files.specs.declared.subject.Subject.{Subject}
 use Rattle.system_files.specs.declared.subject.Subject.TheVariants as what
 use Rattle.system_files.specs.Files.{Flaw, structure_path}
-use Rattle.system_files.specs.Order.{Comes, Finding, HasShape, InMapping, InValues, IsGiven, IsMappingPart, LacksBinding, LacksPart, NoBinding, NoOutline, NoSet, NoShape, NoSystem, Outlines, Reaches, ReachesBindings, Search, Whole, model_path, part_path}
+use Rattle.system_files.specs.Order.{Comes, Finding, HasShape, InMapping, InValues, IsGiven, IsMappingPart, LacksBinding, LacksPart, NoBinding, NoOutline, NoSet, NoShape, NoSystem, Outlines, ReachesShapes, ReachesBindings, Search, Whole, model_path, part_path}
 use Rattle.system_files.proofs.ListLemmas.{zip_then}
 use Rattle.system_files.proofs.MoreLemmas.{AreAmong, more_file, more_flaw, more_part}
 
@@ -28,7 +28,7 @@ module _ (some all : List ReadNote) (among : AreAmong some all) where
   has_shape : (s : Search) (c : ComponentPart) (shape : Shape) → HasShape s some c shape → HasShape s all c shape
   has_shape s c shape h = more_file some all among (IsModel s.per_second) (model_path s.directory c) shape h
 
-  reaches : (s : Search) (o : Outline) (taken : List ComponentPart) (shapes : List Shape) (rest : List ComponentPart) → Reaches s some o taken shapes rest → Reaches s all o taken shapes rest
+  reaches : (s : Search) (o : Outline) (taken : List ComponentPart) (shapes : List Shape) (rest : List ComponentPart) → ReachesShapes s some o taken shapes rest → ReachesShapes s all o taken shapes rest
   reaches s o taken shapes rest h = record {
     outline = outlines s.subject s.directory o h.outline;
     is = h.is;

@@ -21,7 +21,7 @@ use Rattle.system_files.specs.declared.loaded.Loaded.{Loaded}
 use Rattle.system_files.specs.declared.subject.Subject.{Subject}
 use Rattle.system_files.specs.declared.subject.Subject.TheVariants as what
 use Rattle.system_files.specs.Files.{AreSteady, Faulty, Flaw, LacksFile, structure_path}
-use Rattle.system_files.specs.Order.{Agree, Comes, ComesAlone, Fails, Finding, Found, HasShape, IsBindingToldIn, IsGiven, LacksBinding, NoBinding, NoOutline, NoSet, NoShape, NoSystem, Outlines, outline_path, Reaches, ReachesBindings, Search, Whole, asked_for, asked_with, folders_of, model_path, origin_of, part_told}
+use Rattle.system_files.specs.Order.{Agree, Comes, ComesAlone, Fails, Finding, Found, HasShape, IsBindingToldIn, IsGiven, LacksBinding, NoBinding, NoOutline, NoSet, NoShape, NoSystem, Outlines, ReachesShapes, ReachesBindings, Search, Whole, asked_for, asked_with, folders_of, model_path, origin_of, outline_path, part_told}
 use Rattle.system_files.specs.Steps.{FailsModel, FailsStructure, HasShapeAlone, IsGivenAlone, IsLoaded, OutlinesAlone}
 use Rattle.system_files.proofs.FileLemmas.{flawed_once, flawed_unsaid, is_flawed, is_said, said_once, said_unflawed}
 use Rattle.system_files.proofs.ListLemmas.{Each, each_in, stops_once, zip_left, zip_once, zip_then}
@@ -40,7 +40,7 @@ pub record ReachesAlone (s : Search) (reads : List ReadNote) (o : Outline) (take
   pub each : AllZip (HasShapeAlone s.per_second s.directory reads) taken shapes
 
 pub reached : (s : Search) (reads : List ReadNote) (o : Outline) (taken : List ComponentPart) (shapes : List Shape) (rest : List ComponentPart) → ReachesAlone s reads o taken shapes rest →
-    Reaches s reads o taken shapes rest
+    ReachesShapes s reads o taken shapes rest
 reached s reads o taken shapes rest a = record {
   outline = is_outline s.subject s.directory reads o a.outline;
   is = a.is;
@@ -156,14 +156,14 @@ module _ (s : Search) (reads : List ReadNote) (steady : AreSteady reads) where
   module _ (o : Outline) (shapes : List Shape) (outline : OutlinesAlone s.subject s.directory reads o)
       (each : AllZip (HasShapeAlone s.per_second s.directory reads) o.systems.components shapes) where
     no_flaw : (o2 : Outline) (taken2 : List ComponentPart) (shapes2 : List Shape) (c2 : ComponentPart) (rest2 : List ComponentPart) (flaw2 : Flaw) →
-        Reaches s reads o2 taken2 shapes2 (c2 ∷ rest2) → LacksFile (BreaksModel s.per_second) reads (model_path s.directory c2) flaw2 → ⊥
+        ReachesShapes s reads o2 taken2 shapes2 (c2 ∷ rest2) → LacksFile (BreaksModel s.per_second) reads (model_path s.directory c2) flaw2 → ⊥
     no_flaw o2 taken2 shapes2 c2 rest2 flaw2 reach f =
         let same = outline_once s.subject s.directory o o2 outline reach.outline in
         let all : o.systems.components ≡ taken2 ++ c2 ∷ rest2 = ap (λ (x : Outline). x.systems.components) same ∙ reach.is in
         each_in (λ c. Bad c → ⊥) taken2 c2 rest2 (subst (Each (λ c. Bad c → ⊥)) all (each_sound o.systems.components shapes each)) (flaw2, f)
 
     -- another outline with shapes is this one with these
-    same_parts : (o2 : Outline) (shapes2 : List Shape) → Reaches s reads o2 o2.systems.components shapes2 [] → (o ≡ o2) × (shapes ≡ shapes2)
+    same_parts : (o2 : Outline) (shapes2 : List Shape) → ReachesShapes s reads o2 o2.systems.components shapes2 [] → (o ≡ o2) × (shapes ≡ shapes2)
     same_parts o2 shapes2 reach =
         let same = outline_once s.subject s.directory o o2 outline reach.outline in (
           same,
@@ -171,7 +171,7 @@ module _ (s : Search) (reads : List ReadNote) (steady : AreSteady reads) where
               (subst (λ (x : Outline). AllZip (HasShape s reads) x.systems.components shapes2) (sym same) reach.each),
         )
 
-    back : (P : Outline → List Shape → Type 0) (o2 : Outline) (shapes2 : List Shape) → Reaches s reads o2 o2.systems.components shapes2 [] → P o2 shapes2 → P o shapes
+    back : (P : Outline → List Shape → Type 0) (o2 : Outline) (shapes2 : List Shape) → ReachesShapes s reads o2 o2.systems.components shapes2 [] → P o2 shapes2 → P o shapes
     back P o2 shapes2 reach p =
         let same = same_parts o2 shapes2 reach in
         subst (λ (x : Outline). P x shapes) (sym same.0) (subst (P o2) (sym same.1) p)

@@ -1,26 +1,22 @@
 -- What is taken is sound, and its names are short.
-use Rattle.std.proofs.Common.{◌≡◌, ℕ, zero, suc, ◌<◌, ◌≤◌, ◌^◌, Bool, List, [], ◌∷◌, length, Option, Some, None, IfSome, refl, sym, ap, ◌∙◌, ◌+◌, ◌*◌, subst, arith}
+use Rattle.std.proofs.Common.{◌≡◌, ℕ, zero, suc, ◌<◌, ◌≤◌, ◌^◌, Bool, List, [], ◌∷◌, length, Option, Some, None, refl, sym, ap, ◌∙◌, ◌+◌, ◌*◌, subst, arith}
 use Rattle.std.specs.Prelude.{All, IsSome, IsSomeAnd, false, slice_get}
-use Rattle.std.specs.List.{AllZip, position}
+use Rattle.std.specs.List.{AllZip}
 use Rattle.std.specs.Option.{option_map}
 use Rattle.std.proofs.lemmas.List.Elements.{All-cons, All-nil}
-use Rattle.std.proofs.lemmas.List.Quantifiers.{position-Some}
 use Rattle.std.proofs.lemmas.Slice.Zip.{AllZip-long}
-use Rattle.sim_base.specs.declared.numbers.PortId.{PortId}
 use Rattle.sim_base.specs.declared.read_book.ReadNote.{ReadNote}
 use Rattle.value_types.specs.declared.shape.Shape.{Shape}
 use Rattle.system_model.specs.Shapes.{IsSoundShape}
 use Rattle.system_model.specs.declared.system.Component.{Component}
 use Rattle.system_model.specs.declared.system.System.{System}
 use Rattle.system_model.proofs.CallerLemmas.{all_at, all_by_place}
-use Rattle.doc_tree.specs.declared.place.Place.{Place}
-use Rattle.doc_tree.specs.declared.rule.Rule.{Rule}
 use Rattle.ssd_tree.specs.declared.tree.ComponentPart.{ComponentPart}
 use Rattle.ssd_tree.specs.declared.tree.SystemTree.{SystemTree}
 use Rattle.doc_grammar.specs.Nodes.{Node}
 use Rattle.doc_tree.specs.declared.rule.ParameterRule.{ParameterRule}
 use Rattle.doc_tree.specs.declared.rule.ParameterRule.TheVariants as p
-use Rattle.flatten.specs.Given.{AreShapesOf, IsWhole}
+use Rattle.flatten.specs.Given.{AreShapesOf, IsWholeTree}
 use Rattle.parameter_binding.specs.declared.sets.BindingSets.{BindingSets}
 use Rattle.parameter_binding.specs.declared.sets.MappingOf.{MappingOf}
 use Rattle.parameter_binding.specs.Binds.{Triple, mapping_of}
@@ -35,11 +31,8 @@ use Rattle.ssd_tree.specs.declared.tree.Owner.{Owner}
 use Rattle.system_model.specs.declared.bound.Bound.{Bound}
 use Rattle.system_model.specs.declared.bound.BoundValue.{BoundValue}
 use Rattle.system_model.specs.Bounds.{AreParameterValues, BindsParameters}
-use Rattle.system_loading.specs.declared.assembly.AssemblyFault.{AssemblyFault}
-use Rattle.system_loading.specs.declared.assembly.AssemblyFault.TheVariants as together
 use Rattle.system_loading.specs.declared.outline.Outline.{Outline}
-use Rattle.system_loading.specs.Assembly.{BreaksTogether, ByLoop, ByPart, Makes}
-use Rattle.system_loading.specs.Faults.{TellsTogether}
+use Rattle.system_loading.specs.Assembly.{Makes}
 use Rattle.system_loading.specs.declared.binding.BindingFault.{BindingFault}
 use Rattle.system_loading.specs.declared.binding.BindingFault.TheVariants as binds
 use Rattle.system_loading.specs.declared.parameters.GivenBinding.{GivenBinding}
@@ -67,9 +60,9 @@ zip_at R (x ∷ xs) (z ∷ ys) h (suc k) y at = zip_at R xs ys h.1 k y at
 abbrev pub HasShortNames : Outline → Type 0
 HasShortNames o = All (λ (c : ComponentPart). length c.name ≤ 2 ^ 24) o.systems.components
 
-pub outline_whole : ((bytes : List ℕ) (o : Outline) → IsStructure bytes o → IsWhole o.systems) → IsWhole lone_tree →
-    (subject : Subject) (directory : List ℕ) (reads : List ReadNote) (o : Outline) → OutlinesAlone subject directory reads o → IsWhole o.systems
-outline_whole law lone what.Fmu directory reads o a = subst (λ (x : Outline). IsWhole x.systems) (sym a) lone
+pub outline_whole : ((bytes : List ℕ) (o : Outline) → IsStructure bytes o → IsWholeTree o.systems) → IsWholeTree lone_tree →
+    (subject : Subject) (directory : List ℕ) (reads : List ReadNote) (o : Outline) → OutlinesAlone subject directory reads o → IsWholeTree o.systems
+outline_whole law lone what.Fmu directory reads o a = subst (λ (x : Outline). IsWholeTree x.systems) (sym a) lone
 outline_whole law lone what.System directory reads o a = law a.2.0 o a.2.3.is
 
 within : (m n : ℕ) → m ≤ n → n ≤ 2 ^ 24 → m ≤ 2 ^ 24
@@ -124,7 +117,7 @@ are_shapes sound resolution per_second directory reads t shapes above most each 
 -- ---- the components
 
 pub are_named : ((per_second : ℕ) (bytes : List ℕ) (shape : Shape) → IsModel per_second bytes shape → length shape.token ≤ length bytes) →
-    (per_second : ℕ) (directory : List ℕ) (reads : List ReadNote) (o : Outline) (shapes : List Shape) (system : System) → IsWhole o.systems → HasShortNames o →
+    (per_second : ℕ) (directory : List ℕ) (reads : List ReadNote) (o : Outline) (shapes : List Shape) (system : System) → IsWholeTree o.systems → HasShortNames o →
     AllZip (HasShapeAlone per_second directory reads) o.systems.components shapes → Makes o shapes system → All IsNamed system.components
 are_named law per_second directory reads o shapes system whole short each makes = all_by_place IsNamed system.components named
   where

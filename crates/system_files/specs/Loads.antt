@@ -19,7 +19,7 @@ use Rattle.system_files.specs.declared.named.FileFault.{FileFault}
 use Rattle.system_files.specs.declared.named.FileFault.TheVariants.{Unread, Missing, TooBig, Broken}
 use Rattle.system_files.specs.declared.subject.Subject.TheVariants as what
 use Rattle.system_files.specs.Files.{Absent, Faulty, Long, structure_path}
-use Rattle.system_files.specs.Order.{ComesAlone, Fails, Finding, IsValuesPart, Reaches, ReachesBindings, Search, asked_for, asked_with, binding_files, model_path, part_files, part_path}
+use Rattle.system_files.specs.Order.{ComesAlone, Fails, Finding, IsValuesPart, ReachesShapes, ReachesBindings, Search, asked_for, asked_with, binding_files, model_path, part_files, part_path}
 
 -- these files were read, no read failed, and by what the reads got the order of reading comes to this
 pub record Loads (s : Search) (finding : Finding) (old new : FolderView) : Type 0 where
@@ -48,7 +48,7 @@ pub data ComesTo (s : Search) (reads : List ReadNote) : List (List ℕ) → List
       path ≡ structure_path s.directory → ComesTo s reads asked path
   ToShape : (o : Outline) (taken : List ComponentPart) (shapes : List Shape) (c : ComponentPart)
       (rest : List ComponentPart) (asked : List (List ℕ)) (path : List ℕ) →
-      Reaches s reads o taken shapes (c ∷ rest) → asked ≡ asked_for s (taken ++ c ∷ []) →
+      ReachesShapes s reads o taken shapes (c ∷ rest) → asked ≡ asked_for s (taken ++ c ∷ []) →
       path ≡ model_path s.directory c → ComesTo s reads asked path
   ToPart : (o : Outline) (shapes : List Shape) (taken : List Binding) (given : List GivenBinding)
       (b : Binding) (rest : List Binding) (files : List (List ℕ))
@@ -73,7 +73,7 @@ pub data AsksSome (s : Search) (reads : List ReadNote) : List (List ℕ) → Typ
       AsksSome s reads asked
   Taken : (o : Outline) (taken : List ComponentPart) (shapes : List Shape)
       (rest : List ComponentPart) (asked : List (List ℕ)) →
-      Reaches s reads o taken shapes rest → asked ≡ asked_for s taken → AsksSome s reads asked
+      ReachesShapes s reads o taken shapes rest → asked ≡ asked_for s taken → AsksSome s reads asked
   TakenBindings : (o : Outline) (shapes : List Shape) (taken : List Binding)
       (given : List GivenBinding) (rest : List Binding) (asked : List (List ℕ)) →
       ReachesBindings s reads o shapes taken given rest → asked ≡ asked_with s o taken →

@@ -80,7 +80,7 @@ abbrev pub HasShape : Search → List ReadNote → ComponentPart → Shape → T
 HasShape s reads c shape = HasFile (IsModel s.per_second) reads (model_path s.directory c) shape
 
 -- the first components of the outline have these shapes, and the others stand behind them
-pub record Reaches (s : Search) (reads : List ReadNote) (o : Outline) (taken : List ComponentPart)
+pub record ReachesShapes (s : Search) (reads : List ReadNote) (o : Outline) (taken : List ComponentPart)
     (shapes : List Shape) (rest : List ComponentPart) : Type 0 where
   pub outline : Outlines s.subject s.directory reads o
   pub is : o.systems.components ≡ taken ++ rest
@@ -171,7 +171,7 @@ pub data LacksBinding (s : Search) (reads : List ReadNote) (o : Outline) (b : Bi
 -- each component has its shape, and the first bindings give this
 pub record ReachesBindings (s : Search) (reads : List ReadNote) (o : Outline) (shapes : List Shape)
     (taken : List Binding) (given : List GivenBinding) (rest : List Binding) : Type 0 where
-  pub reaches : Reaches s reads o o.systems.components shapes []
+  pub reaches : ReachesShapes s reads o o.systems.components shapes []
   pub is : o.systems.bindings ≡ taken ++ rest
   pub each : AllZip (IsGiven s.directory reads o) taken given
 
@@ -209,7 +209,7 @@ pub data Comes (s : Search) (reads : List ReadNote) : List (List ℕ) → Findin
   -- the descriptions before that of a component are taken, and its own isn't
   NoShape : (o : Outline) (taken : List ComponentPart) (shapes : List Shape) (c : ComponentPart)
       (rest : List ComponentPart) (flaw : Flaw)
-      (asked : List (List ℕ)) (finding : Finding) → Reaches s reads o taken shapes (c ∷ rest) →
+      (asked : List (List ℕ)) (finding : Finding) → ReachesShapes s reads o taken shapes (c ∷ rest) →
       LacksFile (BreaksModel s.per_second) reads (model_path s.directory c) flaw →
       asked ≡ asked_for s (taken ++ c ∷ []) →
       finding ≡ Fails (model_path s.directory c) flaw → Comes s reads asked finding

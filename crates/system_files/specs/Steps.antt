@@ -1,5 +1,5 @@
 -- What each step of a loading finds alone, and how it ends.
-use Rattle.std.specs.Prelude.{◌≡◌, ◌⊎◌, ℕ, ◌<◌, Bool, List, [], ◌∷◌, ◌++◌, map, Option, Some, None, IfSome, IsSome, IsSomeAnd, Err, length, slice_get}
+use Rattle.std.specs.Prelude.{◌≡◌, ◌⊎◌, ℕ, ◌<◌, Bool, List, [], ◌∷◌, ◌++◌, map, Option, Some, None, IsSome, IsSomeAnd, Err, length, slice_get}
 use Rattle.std.specs.List.{AllZip, flat_map}
 use Rattle.sim_base.specs.Asking.{Asks}
 use Rattle.sim_base.specs.Folder.{FolderView, with_read}

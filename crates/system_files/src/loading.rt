@@ -6,7 +6,7 @@ ghost use Rattle.ssd_tree.specs.Parts.{IsPlain};
 ghost use Rattle.system_model.specs.declared.system.Component.{Component};
 ghost use Rattle.system_model.specs.Bounds.{BindsParameters};
 ghost use Rattle.system_model.specs.Sound.{IsSound};
-ghost use Rattle.flatten.specs.Given.{AreShapesOf, IsWhole};
+ghost use Rattle.flatten.specs.Given.{AreShapesOf, IsWholeTree};
 ghost use Rattle.system_loading.specs.Binding.{AreReady};
 ghost use Rattle.system_files.specs.Loads.{EndsLoading, IsNamed, Loads};
 ghost use Rattle.system_files.specs.Order.{Found, search_of};
@@ -102,7 +102,7 @@ fn load_models<F: Folder>(
 ) -> Result<Loaded, LoadEnd>
     requires above { 1 ≤ resolution }
     requires within { resolution ≤ 2 ^ 62 }
-    requires whole { IsWhole outline.now.systems }
+    requires whole { IsWholeTree outline.now.systems }
     requires tree { IsNamedTree outline.now.systems }
     requires document { HasDocument outline.now }
     requires short { All (λ (c : ComponentPart). length c.name ≤ 2 ^ 24)
@@ -139,7 +139,7 @@ fn put_together(
     shapes: &[Shape],
     given: Vec<GivenBinding>,
 ) -> Result<Loaded, LoadEnd>
-    requires whole { IsWhole outline.now.systems }
+    requires whole { IsWholeTree outline.now.systems }
     requires shapes { AreShapesOf outline.now.systems shapes.now }
     requires ready { AreReady outline.now shapes.now given.items }
     requires parts { HasParts outline.now.systems.bindings given.items }

@@ -11,7 +11,7 @@ use Rattle.doc_tables.specs.Answers.{Refuses}
 use Rattle.system_model.specs.declared.system.System.{System}
 use Rattle.flatten.specs.Answers.{Faults, GivesParts, TellsLoop}
 use Rattle.flatten.specs.Flat.{Flattens}
-use Rattle.flatten.specs.Rules.{IsFirstViolation, IsFitting}
+use Rattle.flatten.specs.Rules.{IsFirstFlatteningViolation, IsFitting}
 use Rattle.system_loading.specs.declared.assembly.AssemblyFault.{AssemblyFault}
 use Rattle.system_loading.specs.declared.assembly.AssemblyFault.TheVariants as f
 use Rattle.system_loading.specs.declared.outline.Outline.{Outline}
@@ -22,7 +22,7 @@ use Rattle.system_loading.specs.Faults.{SaysTogether, TellsTogether}
 module _ (o : Outline) (shapes : List Shape) where
   -- ---- what excludes what
 
-  unfit : (node : ℕ) (rule : Rule) → IsFirstViolation o.systems shapes node rule → IsFitting o.systems shapes → ⊥
+  unfit : (node : ℕ) (rule : Rule) → IsFirstFlatteningViolation o.systems shapes node rule → IsFitting o.systems shapes → ⊥
   unfit node rule first fits = fits rule node first.is.broken
 
   -- ---- a fault
@@ -36,11 +36,11 @@ module _ (o : Outline) (shapes : List Shape) where
 
   -- ---- a violation
 
-  part_breaks : (node : ℕ) (rule : Rule) → IsFirstViolation o.systems shapes node rule →
-      ((other : Rule) (k : ℕ) → IsFirstViolation o.systems shapes k other → (node ≡ k) × (rule ≡ other)) →
+  part_breaks : (node : ℕ) (rule : Rule) → IsFirstFlatteningViolation o.systems shapes node rule →
+      ((other : Rule) (k : ℕ) → IsFirstFlatteningViolation o.systems shapes k other → (node ≡ k) × (rule ≡ other)) →
       (n : Rule) (place : Place) (ports : List PortId) → n ≡ rule → place ≡ place_in o node → ports ≡ [] → BreaksTogetherAlone o shapes n place ports
   part_breaks node rule first exact n place ports is at none = record {
-    broken = ByPart node n place ports (subst (IsFirstViolation o.systems shapes node) (sym is) first) at none;
+    broken = ByPart node n place ports (subst (IsFirstFlatteningViolation o.systems shapes node) (sym is) first) at none;
     only = same;
     none = λ system m. unfit node rule first m.fits;
   }
@@ -65,7 +65,7 @@ module _ (o : Outline) (shapes : List Shape) where
 
   -- what flattening refuses, as a fault
   pub refusal_told : (refusal : Refusal) (file node : ℕ) (rule : Rule) (ports : List PortId) (fault : AssemblyFault) → refusal ≡ r.At file node rule ports →
-      Faults o.systems shapes refusal → ((other : Rule) (k : ℕ) → IsFirstViolation o.systems shapes k other → Refuses {A = System} (Err refusal) other k) →
+      Faults o.systems shapes refusal → ((other : Rule) (k : ℕ) → IsFirstFlatteningViolation o.systems shapes k other → Refuses {A = System} (Err refusal) other k) →
       ((system : System) → IsFitting o.systems shapes → Flattens o.systems shapes system → GivesParts (Err refusal) system) →
       SaysTogether rule (place_in o node) ports fault → TellsTogether o shapes fault
   refusal_told (r.At file2 k n ports2) file node rule ports fault is broken exact only says = by broken.1
@@ -79,7 +79,7 @@ module _ (o : Outline) (shapes : List Shape) where
       same_ports : ports2 ≡ ports
       same_ports = cc
 
-      by : ((ports2 ≡ []) × IsFirstViolation o.systems shapes k n) ⊎ ((n ≡ Loop) × TellsLoop o.systems shapes k ports2) → TellsTogether o shapes fault
+      by : ((ports2 ≡ []) × IsFirstFlatteningViolation o.systems shapes k n) ⊎ ((n ≡ Loop) × TellsLoop o.systems shapes k ports2) → TellsTogether o shapes fault
       by (inl first) =
           told rule (place_in o node) ports fault
           (λ m p l m_is at l_is. part_breaks k n first.1 (λ other j violated. let x = exact other j violated in (x.1, x.2))

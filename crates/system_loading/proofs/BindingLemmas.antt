@@ -68,14 +68,14 @@ places_apart p q = elim (cases_order p.binding q.binding) [
     by true false a b e = inr (inr (inr (sym e, inl (rw (a, b) tt))))
 
 module _ (t : SystemTree) (shapes : List Shape) (sets : List BindingSets) where
-  pub one_place : (p q : rules.Place) (a b : ParameterRule) → rules.IsFirstViolation t shapes sets p a → rules.IsFirstViolation t shapes sets q b → p ≡ q
+  pub one_place : (p q : rules.Place) (a b : ParameterRule) → rules.IsFirstParameterViolation t shapes sets p a → rules.IsFirstParameterViolation t shapes sets q b → p ≡ q
   one_place p q a b x y = elim (places_apart p q) [
     | inl e ↦ e
     | inr (inl before) ↦ absurd (y.first p a before x.broken)
     | inr (inr before) ↦ absurd (x.first q b before y.broken)
   ]
 
-  pub one_rule : (p : rules.Place) (a b : ParameterRule) → rules.IsFirstViolation t shapes sets p a → rules.IsFirstViolation t shapes sets p b → a ≡ b
+  pub one_rule : (p : rules.Place) (a b : ParameterRule) → rules.IsFirstParameterViolation t shapes sets p a → rules.IsFirstParameterViolation t shapes sets p b → a ≡ b
   one_rule p a b x y = elim (cases_order (parameter_number a) (parameter_number b)) [
     | inl e ↦ same_rule a b e
     | inr (inl lower) ↦ absurd (y.least a lower x.broken)
@@ -118,13 +118,13 @@ bound_alone o shapes given sets bound is gives fits once =
     }
 
 breaks_alone : (o : Outline) (shapes : List Shape) (given : List GivenBinding) (at : rules.Place) (broken : ParameterRule) (n : ℕ) (m : Bool) (rule : Rule) (place : Place) →
-    rules.IsFirstViolation o.systems shapes (sets_of given) at broken → n ≡ at.binding → m ≡ at.in_mapping → rule ≡ Parameters broken → place ≡ place_at o given at →
+    rules.IsFirstParameterViolation o.systems shapes (sets_of given) at broken → n ≡ at.binding → m ≡ at.in_mapping → rule ≡ Parameters broken → place ≡ place_at o given at →
     BreaksBindingAlone o shapes given n m rule place
 breaks_alone o shapes given at broken n m rule place first n_is m_is rule_is place_is = record {
   broken = record { at = at; broken = broken; first = first; binding_is = n_is; mapping_is = m_is; rule_is = rule_is; place_is = place_is };
   only = λ other mapped another elsewhere b.
       let same : at ≡ b.at = one_place o.systems shapes (sets_of given) at b.at broken b.broken first b.first in
-      let rules_same : broken ≡ b.broken = one_rule o.systems shapes (sets_of given) b.at broken b.broken (subst (λ q. rules.IsFirstViolation o.systems shapes (sets_of given) q broken) same first) b.first in (
+      let rules_same : broken ≡ b.broken = one_rule o.systems shapes (sets_of given) b.at broken b.broken (subst (λ q. rules.IsFirstParameterViolation o.systems shapes (sets_of given) q broken) same first) b.first in (
         n_is ∙ ap (λ (q : rules.Place). q.binding) same ∙ sym b.binding_is,
         m_is ∙ ap (λ (q : rules.Place). q.in_mapping) same ∙ sym b.mapping_is,
         rule_is ∙ ap (λ (x : ParameterRule). Parameters x) rules_same ∙ sym b.rule_is,
@@ -134,7 +134,7 @@ breaks_alone o shapes given at broken n m rule place first n_is m_is rule_is pla
 }
 
 told_by : (o : Outline) (shapes : List Shape) (given : List GivenBinding) (at : rules.Place) (broken : ParameterRule) (rule : Rule) (fault : BindingFault) →
-    rules.IsFirstViolation o.systems shapes (sets_of given) at broken → rule ≡ Parameters broken → SaysBinding at.binding at.in_mapping rule (place_at o given at) fault → TellsBinding o shapes given fault
+    rules.IsFirstParameterViolation o.systems shapes (sets_of given) at broken → rule ≡ Parameters broken → SaysBinding at.binding at.in_mapping rule (place_at o given at) fault → TellsBinding o shapes given fault
 told_by o shapes given at broken rule (Broken n m r place) first is says = breaks_alone o shapes given at broken n m r place first says.0 says.1 (says.2 ∙ is) says.3
 told_by o shapes given at broken rule Memory first is says = tt
 
@@ -150,7 +150,7 @@ told_alone o shapes given sets documents (r.At file2 k n ports2) file node rule 
     let told : answers.IsTold o.systems shapes sets file2 k broken.0 = broken.1 in
     let place : rules.Place = told.place in
     let number : file ≡ number_of place.binding place.in_mapping = sym same_file ∙ of_place place file2 is told.file_is in
-    told_by o shapes given place broken.0 rule fault (subst (λ xs. rules.IsFirstViolation o.systems shapes xs place broken.0) is told.first) (sym same_rule ∙ broken.2)
+    told_by o shapes given place broken.0 rule fault (subst (λ xs. rules.IsFirstParameterViolation o.systems shapes xs place broken.0) is told.first) (sym same_rule ∙ broken.2)
     (subst (λ ds. SaysBinding place.binding place.in_mapping rule (place_in_part o ds place.binding place.in_mapping place.node) fault) documents_is
     (subst (λ j. SaysBinding place.binding place.in_mapping rule (place_in_part o documents place.binding place.in_mapping j) fault) (sym (told.node_is ∙ same_node)) (says place.binding place.in_mapping number)))
   where

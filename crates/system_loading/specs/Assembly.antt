@@ -8,7 +8,7 @@ use Rattle.doc_tree.specs.declared.rule.Rule.TheVariants.{Loop}
 use Rattle.system_model.specs.declared.system.System.{System}
 use Rattle.flatten.specs.Answers.{TellsLoop}
 use Rattle.flatten.specs.Flat.{Flattens}
-use Rattle.flatten.specs.Rules.{IsFirstViolation, IsFitting}
+use Rattle.flatten.specs.Rules.{IsFirstFlatteningViolation, IsFitting}
 use Rattle.system_loading.specs.declared.outline.Outline.{Outline}
 use Rattle.system_loading.specs.Outlines.{place_in}
 
@@ -24,7 +24,7 @@ pub data BreaksTogether (o : Outline) (shapes : List Shape) : Rule → Place →
     List PortId → Type 0 where
   -- connectors, connections, saved states, or too many ports
   ByPart : (node : ℕ) (rule : Rule) (place : Place) (ports : List PortId) →
-      IsFirstViolation o.systems shapes node rule → place ≡ place_in o node → ports ≡ [] →
+      IsFirstFlatteningViolation o.systems shapes node rule → place ≡ place_in o node → ports ≡ [] →
       BreaksTogether o shapes rule place ports
   -- a loop
   ByLoop : (node : ℕ) (rule : Rule) (place : Place) (ports : List PortId) →

@@ -90,7 +90,7 @@ pub record BreaksBinding (o : Outline) (shapes : List Shape) (given : List Given
     (binding : ℕ) (in_mapping : Bool) (rule : Rule) (place : Place) : Type 0 where
   pub at : rules.Place
   pub broken : ParameterRule
-  pub first : rules.IsFirstViolation o.systems shapes (sets_of given) at broken
+  pub first : rules.IsFirstParameterViolation o.systems shapes (sets_of given) at broken
   pub binding_is : binding ≡ at.binding
   pub mapping_is : in_mapping ≡ at.in_mapping
   pub rule_is : rule ≡ Parameters broken

@@ -64,23 +64,23 @@ pub record BreaksAlone {A : Type 0} (Says : A → Type 0) (Breaks : Rule → Pla
 -- the bytes are a description of an FMU of this shape, where a second has so many counts
 abbrev pub IsModel : ℕ → List ℕ → Shape → Type 0
 IsModel per_second bytes shape =
-    SaysBy (λ t. model.IsSound t per_second) (λ t s.
+    SaysBy (λ t. model.IsSoundDescription t per_second) (λ t s.
     model_says.Describes t per_second s) bytes shape
 
 abbrev pub BreaksModel : ℕ → List ℕ → Rule → Place → Type 0
 BreaksModel per_second bytes rule place =
     BreaksBy (λ (r : DescriptionRule). Description r) (λ t k r.
-    model.IsFirstViolation t per_second k r) bytes rule place
+    model.IsFirstDescriptionViolation t per_second k r) bytes rule place
 
 -- ---- a system structure description (SSP 1.0, SystemStructure.ssd)
 
 -- the bytes are a description of this tree of systems
 abbrev pub IsStructure : List ℕ → Outline → Type 0
-IsStructure bytes outline = SaysBy structure.IsSound IsOutlineOf bytes outline
+IsStructure bytes outline = SaysBy structure.IsSoundStructure IsOutlineOf bytes outline
 
 abbrev pub BreaksStructure : List ℕ → Rule → Place → Type 0
 BreaksStructure bytes rule place =
-    BreaksBy (λ (r : SystemRule). System r) structure.IsFirstViolation bytes rule place
+    BreaksBy (λ (r : SystemRule). System r) structure.IsFirstStructureViolation bytes rule place
 
 -- ---- a set of parameter values, and a mapping of parameters (SSP 1.0, SSV and SSM)
 

@@ -1,7 +1,7 @@
 //! The system that an outline and the shapes of its FMUs make together.
 ghost use Rattle.std.specs.Prelude.{IfErr, IfOk};
 ghost use Rattle.system_model.specs.Sound.{IsSound};
-ghost use Rattle.flatten.specs.Given.{AreShapesOf, IsWhole};
+ghost use Rattle.flatten.specs.Given.{AreShapesOf, IsWholeTree};
 ghost use Rattle.system_loading.specs.Assembly.{MakesAlone};
 ghost use Rattle.system_loading.specs.Faults.{SaysTogether, TellsTogether};
 ghost use Rattle.system_loading.specs.Outlines.{place_in};
@@ -30,7 +30,7 @@ pub enum AssemblyFault {
 /// The system of an outline, where each component has a shape; or the first rule that they break together and its place:
 /// a rule of connectors, connections, saved states or ports, or a loop of ports (SSP 1.0, 5.3).
 pub fn assemble(alloc: Global, outline: &Outline, shapes: &[Shape]) -> Result<System, AssemblyFault>
-    requires whole { IsWhole outline.now.systems }
+    requires whole { IsWholeTree outline.now.systems }
     requires shapes { AreShapesOf outline.now.systems shapes.now }
     ensures ok { IfOk result (MakesAlone outline.now shapes.now) }
     ensures err { IfErr result (TellsTogether outline.now shapes.now) }

@@ -2,7 +2,7 @@
 ghost use Rattle.std.specs.Prelude.{◌≡◌, ℕ, ◌≤◌, All, List, length};
 ghost use Rattle.value_types.specs.declared.shape.Shape.{Shape};
 ghost use Rattle.system_model.specs.Shapes.{IsSoundShape};
-ghost use Rattle.flatten.specs.Given.{IsWhole};
+ghost use Rattle.flatten.specs.Given.{IsWholeTree};
 ghost use Rattle.ssd_tree.specs.Named.{IsNamedTree};
 ghost use Rattle.ssd_tree.specs.Parts.{NamesPlainPaths};
 ghost use Rattle.ssd_tree.specs.declared.tree.ComponentPart.{ComponentPart};
@@ -27,8 +27,8 @@ pub fn loading_laws()
     ensures token { (per_second : ℕ) (bytes : List ℕ) (shape : Shape) →
         IsModel per_second bytes shape → length shape.token ≤ length bytes }
     ensures whole { (bytes : List ℕ) (outline : Outline) → IsStructure bytes outline →
-        IsWhole outline.systems }
-    ensures lone { IsWhole lone_tree }
+        IsWholeTree outline.systems }
+    ensures lone { IsWholeTree lone_tree }
     ensures named { (bytes : List ℕ) (outline : Outline) → IsStructure bytes outline →
         IsNamedTree outline.systems }
     ensures lone_named { IsNamedTree lone_tree }

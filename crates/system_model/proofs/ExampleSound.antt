@@ -6,6 +6,7 @@ use Rattle.std.proofs.lemmas.Option.{none-some as none_some, same_Some}
 use Rattle.std.proofs.lemmas.List.Elements.{All-nil, All-cons, All-contains}
 use Rattle.std.proofs.lemmas.Map.Keys.{IsDistinct-cons}
 use Rattle.value_types.specs.Shape.{variable_at, is_at, is_clock, is_declared}
+use Rattle.value_types.specs.declared.shape.Shape.{Shape}
 use Rattle.value_types.specs.declared.shape.Variable.{Variable}
 use Rattle.system_model.specs.declared.system.Component.{Component}
 use Rattle.system_model.specs.declared.system.Port.{Port}
@@ -14,6 +15,7 @@ use Rattle.system_model.specs.Needs.{Needs, ByFeed, ByClock, ByDependency, Needs
 use Rattle.system_model.specs.Shapes.{IsSoundShape, HasFittingStart, HasNames, NamesClocks}
 use Rattle.system_model.specs.Sound.{IsSound, IsRole, IsUnder, IsFeed, HasSoundComponents, HasSoundPorts}
 use Rattle.system_model.specs.Example.{variable_c, variable_u, variable_y, sampling_shape, sampling_component, port_c, port_u, port_y, sampling_system}
+use Rattle.system_model.proofs.EarlyLemmas.{none_early}
 use Rattle.system_model.proofs.Lists.{true_false}
 use Rattle.system_model.proofs.OrderLemmas.{order_by}
 
@@ -53,6 +55,10 @@ sound_shape = record {
   serialized = λ e. absurd (true_false (sym e));
 }
 
+one_late : (i : ℕ) (s : Shape) → slice_get (sampling_shape ∷ []) i ≡ Some s → s.might_return_early ≡ false
+one_late zero s e = ap (λ (x : Shape). x.might_return_early) (sym (same_Some sampling_shape s e))
+one_late (suc i) s e = absurd (none_some s e)
+
 sound_components : HasSoundComponents sampling_system
 sound_components = record {
   few = omega arith;
@@ -62,12 +68,8 @@ sound_components = record {
   above = omega arith;
   within = omega arith;
   resolutions = all1 (λ (c : Component). c.shape.resolution ≡ 1000) sampling_component refl;
-  saved = λ i j early other at_i at_j apart e. absurd (apart (first i early at_i ∙ sym (first j other at_j)));
+  saved = λ two. absurd (let none = none_early (sampling_shape ∷ []) one_late in omega (arith, none, two));
 }
-  where
-    first : (i : ℕ) (c : Component) → slice_get sampling_system.components i ≡ Some c → i ≡ 0
-    first zero c e = refl
-    first (suc i) c e = absurd (none_some _ e)
 
 -- ---- the ports
 

@@ -1,5 +1,6 @@
 pub mod CallerLemmas
 mod Lists
+mod EarlyLemmas
 mod Labels
 mod SoundLemmas
 mod OrderLemmas

@@ -1,6 +1,6 @@
 -- FMUs whose ports are outputs, side by side, are a sound system.
-use Rattle.std.proofs.Common.{◌≡◌, ℕ, zero, suc, ◌+◌, ◌<◌, Bool, true, false, ◌&&◌, ◌||◌, not, List, [], ◌∷◌, length, refl, sym, ◌∙◌, ap, subst, arith, All, Contains, ◌⊎◌, inl, inr}
-use Rattle.std.specs.Prelude.{Some, None, IsSomeAnd, is_some, slice_get, ◌==◌}
+use Rattle.std.proofs.Common.{◌≡◌, ℕ, zero, suc, ◌+◌, ◌<◌, Bool, true, false, ◌&&◌, ◌||◌, not, List, [], ◌∷◌, length, map, refl, sym, ◌∙◌, ap, subst, arith, All, Contains, ◌⊎◌, inl, inr}
+use Rattle.std.specs.Prelude.{Option, Some, None, IsSomeAnd, is_some, slice_get, ◌==◌}
 use Rattle.std.specs.Option.{option_map, option_map_or}
 use Rattle.std.specs.List.{AllZip}
 use Rattle.std.proofs.lemmas.Option.{none-some as none_some, same_Some, slice_get-map, slice_get_within}
@@ -23,6 +23,7 @@ use Rattle.system_model.specs.Needs.{Needs, ByFeed, ByClock, ByDependency, Needs
 use Rattle.system_model.specs.Shapes.{IsSoundShape, NamesClocks}
 use Rattle.system_model.specs.Sound.{IsSound, IsPort, IsRole, IsUnder, HasSoundComponents, HasSoundPorts}
 use Rattle.system_model.specs.Outputs.{HasOutputsAlone, IsOfOutputs}
+use Rattle.system_model.proofs.EarlyLemmas.{none_early}
 use Rattle.system_model.proofs.Lists.{all_at, all_by_place, found_at, found_under, true_false}
 use Rattle.system_model.proofs.Labels.{Labels, label_found}
 use Rattle.system_model.proofs.OrderLemmas.{order_by_number}
@@ -61,8 +62,18 @@ sound_components system is = record {
   above = is.above;
   within = is.within;
   resolutions = is.resolutions;
-  saved = λ i j early other at_i at_j apart e. absurd (true_false (sym e ∙ (shape_at system is i early at_i).no_early));
-}
+  saved = λ two. absurd (let none = none_early (map (λ (c : Component). c.shape) system.components) no_early in omega (arith, none, two));
+} where
+  no_early : (i : ℕ) (s : Shape) → slice_get (map (λ (c : Component). c.shape) system.components) i ≡ Some s → s.might_return_early ≡ false
+  no_early i s at = by (slice_get system.components i) refl where
+    named : slice_get (map (λ (c : Component). c.shape) system.components) i ≡ option_map (λ (c : Component). c.shape) (slice_get system.components i)
+    named = slice_get-map (λ (c : Component). c.shape) system.components i
+
+    by : (o : Option Component) → slice_get system.components i ≡ o → s.might_return_early ≡ false
+    by None of = absurd (none_some s (ap (option_map (λ (c : Component). c.shape)) (sym of) ∙ sym named ∙ at))
+    by (Some c) of =
+        let own : c.shape ≡ s = same_Some c.shape s (ap (option_map (λ (c : Component). c.shape)) (sym of) ∙ sym named ∙ at) in
+        ap (λ (x : Shape). x.might_return_early) (sym own) ∙ (shape_at system is i c of).no_early
 
 -- ---- ports
 

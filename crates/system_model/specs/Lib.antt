@@ -3,7 +3,10 @@ pub mod Ports
 pub mod Needs
 pub mod Orders
 pub mod Shapes
+pub mod EarlyReturn
 pub mod Sound
 pub mod Bounds
 pub mod Outputs
 pub mod Example
+pub mod Plans
+pub mod Values

@@ -1,7 +1,7 @@
 -- Sound shapes: what a model description without violation says of an FMU (FMI 3.0, 2.4: model description; 2.2.8: clocks).
-use Rattle.std.specs.Prelude.{◌≡◌, ◌⊎◌, ℕ, ◌<◌, Bool, true, false, length, map, filter, not, IfSome, IsSome, IsSomeAnd, is_some, nat_eq, All}
+use Rattle.std.specs.Prelude.{◌≡◌, ◌⊎◌, ◌<◌, Bool, true, false, length, map, filter, not, IfSome, IsSome, IsSomeAnd, is_some, nat_eq, All}
 use Rattle.std.specs.List.{AllZip, IsDistinct}
-use Rattle.clock_fraction.specs.Counts.{IsCounts}
+use Rattle.clock_fraction.specs.Counts.{IsInCounts}
 use Rattle.clock_fraction.specs.declared.fraction.Fraction.{Fraction}
 use Rattle.value_types.specs.Values.{Fits}
 use Rattle.value_types.specs.Shape.{is_at, is_clock, is_output_port, is_port}
@@ -58,10 +58,6 @@ is_described Triggered supports_fraction = false
 is_described Tunable supports_fraction = false
 is_described Changing supports_fraction = false
 
--- a whole number of counts, of which a second has so many
-abbrev pub IsWhole : ℕ → Fraction → Type 0
-IsWhole per_second f = (counts : ℕ) × IsCounts f per_second counts
-
 -- a Clock with its timing: an interval that is told is above 0, and it and its shift are whole numbers of counts
 pub record IsSoundClock (shape : Shape) (v : Variable) (timing : ClockTiming) : Type 0 where
   pub reference : timing.reference ≡ v.reference
@@ -70,8 +66,8 @@ pub record IsSoundClock (shape : Shape) (v : Variable) (timing : ClockTiming) : 
   pub described : is_described timing.variability timing.supports_fraction ≡ true →
       IsSome timing.interval × IsSome timing.shift
   pub interval : IfSome timing.interval (λ (f : Fraction). (0 < f.counter) ×
-      IsWhole shape.resolution f)
-  pub shift : IfSome timing.shift (IsWhole shape.resolution)
+      IsInCounts shape.resolution f)
+  pub shift : IfSome timing.shift (IsInCounts shape.resolution)
 
 -- ---- dependencies (2.4.9)
 

@@ -1,5 +1,5 @@
 -- Sound systems (SSP 1.0: a system, its components and connections; FMI 3.0, 2.4: their model descriptions): what flattening makes, and what each run asks for.
-use Rattle.std.specs.Prelude.{◌≡◌, ◌≢◌, ℕ, ◌<◌, ◌≤◌, ◌^◌, true, false, length, map, Some, IsSomeAnd, All}
+use Rattle.std.specs.Prelude.{◌≡◌, ℕ, ◌<◌, ◌≤◌, ◌^◌, true, false, length, map, Some, IsSomeAnd, All}
 use Rattle.std.specs.List.{AllZip, slice_get}
 use Rattle.sim_base.specs.declared.numbers.PortId.{PortId}
 use Rattle.clock_fraction.specs.Counts.{IsCounts}
@@ -21,12 +21,13 @@ use Rattle.system_model.specs.declared.system.Port.{Port}
 use Rattle.system_model.specs.declared.system.System.{System}
 use Rattle.system_model.specs.Ports.{numbers, source_of, is_output_role, label_of, labels_from}
 use Rattle.system_model.specs.Needs.{Needs, NeedsInitially, is_unclocked_at}
+use Rattle.system_model.specs.EarlyReturn.{early_count}
 use Rattle.system_model.specs.Orders.{IsOrder}
 use Rattle.system_model.specs.Shapes.{IsSoundShape, is_described}
 
 -- ---- components
 
--- each has a name and a sound shape, all at one resolution; where one might return early, each other saves its state
+-- each has a name and a sound shape, all at one resolution; where two or more might return early, each can save its state
 pub record HasSoundComponents (system : System) : Type 0 where
   pub few : length system.components ≤ 256
   pub named : All (λ (c : Component). 0 < length c.name) system.components
@@ -35,9 +36,8 @@ pub record HasSoundComponents (system : System) : Type 0 where
   pub above : 0 < per_second
   pub within : per_second ≤ 2 ^ 62
   pub resolutions : All (λ (c : Component). c.shape.resolution ≡ per_second) system.components
-  pub saved : (i j : ℕ) (early other : Component) → slice_get system.components i ≡ Some early →
-      slice_get system.components j ≡ Some other → i ≢ j →
-      early.shape.might_return_early ≡ true → other.shape.can_save_state ≡ true
+  pub saved : 1 < early_count (map (λ (c : Component). c.shape) system.components) →
+      All (λ (c : Component). c.shape.can_save_state ≡ true) system.components
 
 -- ---- ports
 

@@ -32,43 +32,22 @@ type_name Boolean = codes "Boolean"
 type_name Enumeration = codes "Enumeration"
 type_name Clock = codes "Clock"
 
--- a component's full name
-abbrev pub component_name : List Component → ℕ → List ℕ
-component_name components k = option_map_or (λ (c : Component). c.name) (slice_get components k) []
+-- ---- lines, each without the line feed that ends it
 
-abbrev pub port_line : List Component → ℕ → Port → List ℕ
-port_line components k port =
-    codes "port " ++ decimal k ++ codes " " ++ type_name port.kind ++ codes " " ++
-    escaped (component_name components port.component.0) ++ codes " " ++
-    escaped port.name ++ codes "\n"
+abbrev pub header_line : ℕ → ℕ → ℕ → List ℕ
+header_line resolution start stop =
+    codes "trace 1 " ++ (decimal resolution ++ (32 ∷ (decimal start ++ (32 ∷ decimal stop))))
 
--- a line for each port, whose numbers go on from k
-abbrev pub port_lines_from : List Component → ℕ → List Port → List ℕ
-port_lines_from components k [] = []
-port_lines_from components k (port ∷ ports) =
-    port_line components k port ++ port_lines_from components (k + 1) ports
+-- a port's line by its fields
+abbrev pub port_fields : ℕ → PortType → List ℕ → List ℕ → List ℕ
+port_fields k kind component variable =
+    codes "port " ++ (decimal k ++ (32 ∷ (type_name kind ++ (32 ∷ (component ++ (32 ∷ variable))))))
 
-abbrev pub header_text : System → ℕ → ℕ → ℕ → List ℕ
-header_text system resolution start stop =
-    codes "trace 1 " ++ decimal resolution ++ codes " " ++ decimal start ++ codes " " ++
-    decimal stop ++ codes "\n" ++ port_lines_from system.components 0 system.ports
+abbrev pub at_line : ℕ → ℕ → List ℕ
+at_line t n = codes "at " ++ (decimal t ++ (32 ∷ decimal n))
 
 abbrev pub value_line : ℕ → ℤ → List ℕ
-value_line k value = decimal k ++ codes " " ++ signed_decimal value ++ codes "\n"
-
--- a line for each port that has a value, whose numbers go on from k
-abbrev pub value_lines_from : ℕ → List (Option ℤ) → List ℕ
-value_lines_from k [] = []
-value_lines_from k (None ∷ values) = value_lines_from (k + 1) values
-value_lines_from k (Some value ∷ values) = value_line k value ++ value_lines_from (k + 1) values
-
-abbrev pub instant_text : ℕ → ℕ → List (Option ℤ) → List ℕ
-instant_text t n values =
-    codes "at " ++ decimal t ++ codes " " ++ decimal n ++ codes "\n" ++ value_lines_from 0 values
-
-abbrev pub instants_text : List Instant → List ℕ
-instants_text [] = []
-instants_text (i ∷ is) = instant_text i.t i.n i.values ++ instants_text is
+value_line k value = decimal k ++ (32 ∷ signed_decimal value)
 
 abbrev pub kind_text : EndKind → List ℕ
 kind_text Stop = codes "stop"
@@ -77,8 +56,51 @@ kind_text Limit = codes "limit"
 kind_text Fixed = codes "fixed"
 kind_text Fault = codes "fault"
 
+abbrev pub end_line : EndKind → ℕ → List ℕ
+end_line kind t = codes "end " ++ (kind_text kind ++ (32 ∷ decimal t))
+
+-- each line with its end
+abbrev pub lines_text : List (List ℕ) → List ℕ
+lines_text [] = []
+lines_text (line ∷ lines) = line ++ (10 ∷ lines_text lines)
+
+-- ---- the text of a run
+
+-- a component's full name
+abbrev pub component_name : List Component → ℕ → List ℕ
+component_name components k = option_map_or (λ (c : Component). c.name) (slice_get components k) []
+
+abbrev pub port_line : List Component → ℕ → Port → List ℕ
+port_line components k port =
+    port_fields k port.kind (escaped (component_name components port.component.0))
+    (escaped port.name)
+
+-- a line for each port, whose numbers go on from k
+abbrev pub port_lines_from : List Component → ℕ → List Port → List (List ℕ)
+port_lines_from components k [] = []
+port_lines_from components k (port ∷ ports) =
+    port_line components k port ∷ port_lines_from components (k + 1) ports
+
+abbrev pub header_text : System → ℕ → ℕ → ℕ → List ℕ
+header_text system resolution start stop =
+    lines_text (header_line resolution start stop ∷
+    port_lines_from system.components 0 system.ports)
+
+-- a line for each port that has a value, whose numbers go on from k
+abbrev pub value_lines_from : ℕ → List (Option ℤ) → List (List ℕ)
+value_lines_from k [] = []
+value_lines_from k (None ∷ values) = value_lines_from (k + 1) values
+value_lines_from k (Some value ∷ values) = value_line k value ∷ value_lines_from (k + 1) values
+
+abbrev pub instant_text : ℕ → ℕ → List (Option ℤ) → List ℕ
+instant_text t n values = lines_text (at_line t n ∷ value_lines_from 0 values)
+
+abbrev pub instants_text : List Instant → List ℕ
+instants_text [] = []
+instants_text (i ∷ is) = instant_text i.t i.n i.values ++ instants_text is
+
 abbrev pub end_text : EndKind → ℕ → List ℕ
-end_text kind t = codes "end " ++ kind_text kind ++ codes " " ++ decimal t ++ codes "\n"
+end_text kind t = lines_text (end_line kind t ∷ [])
 
 abbrev pub trace_text : System → Plan → List Instant → EndKind → ℕ → List ℕ
 trace_text system plan instants kind point =

@@ -3,19 +3,21 @@ use command_line::{CommandLine, Request, WordsFault, read_words};
 use std::alloc::{AllocError, Global};
 use system_model::Plan;
 
-// What words ask for: the directory, and the resolution, start, step, stop and limit; of a check the resolution alone.
+// What words ask for: the directory, and the resolution, start, step, stop and limit; of a check the resolution alone. Of the
+// run of a generated system the seed, and the numbers of components and workers.
 #[derive(Clone, Copy, PartialEq)]
 enum Asked<'a> {
     One(&'a str, [u64; 5]),
     Run(&'a str, [u64; 5]),
     Check(&'a str, u64),
     TraceCheck(&'a str, &'a str),
+    Bench(u32, usize, u32),
 }
 
-use Asked::{Check, One, Run, TraceCheck};
+use Asked::{Bench, Check, One, Run, TraceCheck};
 
 // Words between bars, and what they ask for.
-static LINES: [(&str, Asked<'static>); 31] = [
+static LINES: [(&str, Asked<'static>); 37] = [
     // All is right.
     (
         "one|d|--resolution|10|--step|3|--stop|7",
@@ -135,10 +137,16 @@ static LINES: [(&str, Asked<'static>); 31] = [
         "trace-check|run|trace-check",
         TraceCheck("run", "trace-check"),
     ),
+    ("bench|1|1", Bench(1, 1, 1)),
+    ("bench|0|256", Bench(0, 256, 1)),
+    ("bench|2147483647|2", Bench(2147483647, 2, 1)),
+    ("bench|7|256|--workers|8", Bench(7, 256, 8)),
+    ("bench|--workers|3|1|2", Bench(1, 2, 3)),
+    ("bench|7|--workers=64|256", Bench(7, 256, 64)),
 ];
 
 // Words between bars that are no line.
-static OTHERS: [&str; 145] = [
+static OTHERS: [&str; 160] = [
     // A word is missing.
     "",
     "one",
@@ -294,6 +302,23 @@ static OTHERS: [&str; 145] = [
     "check|d|--resolution|01000",
     "check|d|--resolution|+1000",
     "check|d|--resolution|1000.0",
+    // The seed is too large, there are no components or too many, or one of the two is missing or spelled otherwise.
+    "bench",
+    "bench|1",
+    "bench|1|2|3",
+    "bench|2147483648|1",
+    "bench|1|0",
+    "bench|1|257",
+    "bench|01|1",
+    "bench|1|01",
+    "bench|-1|1",
+    "bench|1|+1",
+    "bench|one|1",
+    // The run of a generated system has no other option.
+    "bench|1|1|--workers|0",
+    "bench|1|1|--workers|65",
+    "bench|1|1|--host|h",
+    "bench|1|1|--resolution|1000",
 ];
 
 // Words between bars, and the host that they ask for.
@@ -389,6 +414,7 @@ fn read(alloc: Global, words: &[String]) -> Result<Asked<'_>, WordsFault> {
             CommandLine::Check(options) => Check(options.directory, options.resolution),
         },
         Request::TraceCheck(options) => TraceCheck(options.directory, options.file),
+        Request::Bench(options) => Bench(options.seed, options.components, options.workers),
     };
     Ok(asked)
 }
@@ -398,7 +424,7 @@ fn host_of<'a>(request: Request<'a>) -> Option<&'a str> {
         Request::System(CommandLine::One(options) | CommandLine::Run(options)) => {
             Some(options.host)
         }
-        Request::System(CommandLine::Check(_)) | Request::TraceCheck(_) => None,
+        Request::System(CommandLine::Check(_)) | Request::TraceCheck(_) | Request::Bench(_) => None,
     }
 }
 
@@ -407,7 +433,7 @@ fn workers_of(request: Request<'_>) -> Option<u32> {
         Request::System(CommandLine::One(options) | CommandLine::Run(options)) => {
             Some(options.plan.workers)
         }
-        Request::System(CommandLine::Check(_)) | Request::TraceCheck(_) => None,
+        Request::System(CommandLine::Check(_)) | Request::TraceCheck(_) | Request::Bench(_) => None,
     }
 }
 

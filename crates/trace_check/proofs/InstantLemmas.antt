@@ -6,9 +6,10 @@ use Rattle.system_model.specs.Text.{Instant}
 use Rattle.system_model.specs.declared.system.System.{System}
 use Rattle.system_model.proofs.CallerLemmas.{all_at, contains_at}
 use Rattle.trace_reading.specs.declared.trace.Trace.{Trace}
-use Rattle.trace_reading.specs.Form.{value_lines_from}
+use Rattle.trace_reading.specs.Form.{told_values_from}
 use Rattle.trace_check.specs.declared.ticks.ConstantClock.{ConstantClock}
-use Rattle.trace_check.specs.Instants.{IsInOrder, lines_to, value}
+use Rattle.trace_check.specs.Instants.{IsInOrder, lines_to}
+use Rattle.system_model.specs.Values.{value}
 use Rattle.trace_check.specs.Values.{DiffersFromSource}
 use Rattle.trace_check.specs.Ticks.{IsConstantClock, IsOffTick}
 use Rattle.trace_check.specs.Rules.{BreaksIn}
@@ -27,7 +28,7 @@ rule_above system t last i o r (OffSource p at rule differs) = omega (arith, rul
 rule_above system t last i o r (OffTick at rule p interval shift clock off) = omega (arith, rule)
 
 -- and stand up to the last of its values
-pub offset_within : (system : System) (t : Trace) (last : Option (ℕ × ℕ)) (i : Instant) (o r : ℕ) → BreaksIn system t last i o r → o ≤ length (value_lines_from 0 i.values)
+pub offset_within : (system : System) (t : Trace) (last : Option (ℕ × ℕ)) (i : Instant) (o r : ℕ) → BreaksIn system t last i o r → o ≤ length (told_values_from 0 i.values)
 offset_within system t last i o r (OutOfOrder at rule no_order) = omega (arith, at)
 offset_within system t last i o r (OffSource p at rule differs) = let within = lines_within i.values p in omega (arith, at, within)
 offset_within system t last i o r (OffTick at rule p interval shift clock off) = omega (arith, at)

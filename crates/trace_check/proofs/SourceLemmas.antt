@@ -6,8 +6,9 @@ use Rattle.std.proofs.lemmas.List.{get_or_past, take-take}
 use Rattle.std.proofs.lemmas.List.Sums.{count_by_more_no, count_by_more_yes, sum_by-cons, sum_by-take-le}
 use Rattle.std.proofs.lemmas.Option.{none-some as none_some}
 use Rattle.system_model.specs.declared.system.System.{System}
-use Rattle.trace_reading.specs.Form.{value_lines_from}
-use Rattle.trace_check.specs.Instants.{lines_to, value}
+use Rattle.trace_reading.specs.Form.{told_values_from}
+use Rattle.trace_check.specs.Instants.{lines_to}
+use Rattle.system_model.specs.Values.{value}
 use Rattle.trace_check.specs.Values.{DiffersFromSource}
 
 -- a port without a value has no line of its own
@@ -18,7 +19,7 @@ pub lines_some : (values : List (Option ℤ)) (p : ℕ) (v : ℤ) → value valu
 lines_some values p v some = ap (λ (o : Option ℤ). cond (is_some o) (count_by is_some (take (p + 1) values)) 0) some
 
 -- the lines of values are as many as the values
-pub value_lines_count : (k : ℕ) (values : List (Option ℤ)) → length (value_lines_from k values) ≡ count_by is_some values
+pub value_lines_count : (k : ℕ) (values : List (Option ℤ)) → length (told_values_from k values) ≡ count_by is_some values
 value_lines_count k [] = refl
 value_lines_count k (None ∷ values) =
     let more = value_lines_count (k + 1) values in
@@ -34,7 +35,7 @@ few_lines None values count few = omega arith
 few_lines (Some v) values count few = few
 
 -- no port's line stands behind those of the values
-pub lines_within : (values : List (Option ℤ)) (p : ℕ) → lines_to values p ≤ length (value_lines_from 0 values)
+pub lines_within : (values : List (Option ℤ)) (p : ℕ) → lines_to values p ≤ length (told_values_from 0 values)
 lines_within values p =
     let all = value_lines_count 0 values in
     let few = few_lines (value values p) values (count_by is_some (take (p + 1) values)) (sum_by-take-le (λ (o : Option ℤ). cond (is_some o) 1 0) values (p + 1)) in

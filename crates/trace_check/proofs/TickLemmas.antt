@@ -17,8 +17,7 @@ use Rattle.system_model.specs.declared.system.System.{System}
 use Rattle.system_model.proofs.CallerLemmas.{all_at, all_by_place, at_contains, true_false}
 use Rattle.trace_reading.proofs.CallerLemmas.{unsome}
 use Rattle.trace_check.specs.declared.ticks.ConstantClock.{ConstantClock}
-use Rattle.trace_check.specs.Instants.{value}
-use Rattle.trace_check.specs.Values.{is_active}
+use Rattle.system_model.specs.Values.{value, is_active}
 use Rattle.trace_check.specs.Ticks.{HasLimits, HasLimitedClocks, IsConstant, IsConstantClock, IsDue, IsOffTick, PassesTick}
 use Rattle.trace_check.specs.Ticks.IsOffTick.{Wrong, Passed}
 use Rattle.trace_check.specs.Steps.{IsAnyOff, IsWithinLimits}

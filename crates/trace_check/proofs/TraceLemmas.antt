@@ -16,10 +16,10 @@ use Rattle.trace_reading.specs.declared.trace.Trace.{Trace}
 use Rattle.trace_reading.specs.declared.trace.TraceLine.{TraceLine}
 use Rattle.trace_reading.specs.declared.trace.TraceLine.TheVariants.{At}
 use Rattle.trace_reading.specs.declared.trace.TracePort.{TracePort}
-use Rattle.trace_reading.specs.Form.{IsInstant, IsTrace, MayHave, instant_lines, kinds_of, value_lines_from}
+use Rattle.trace_reading.specs.Form.{IsInstant, IsTrace, MayHave, instant_lines, kinds_of, told_values_from}
 use Rattle.trace_reading.specs.Written.{ports_told}
 use Rattle.trace_reading.proofs.CallerLemmas.{heads, tails, unsome}
-use Rattle.trace_check.specs.Instants.{AreInstantsOf, Reaches, end_line_number, last_time, line_behind}
+use Rattle.trace_check.specs.Instants.{AreInstantsOf, ReachesPoint, end_line_number, last_time, line_behind}
 use Rattle.trace_check.specs.Rules.{Breaks, BreaksIn, IsFirst, KeepsRules}
 use Rattle.trace_check.specs.Rules.Breaks.{AtPort, InInstant, AtEnd}
 use Rattle.trace_check.specs.Steps.{BeginsNoValue, BeginsWithValues, IsFirstIn, instant_at}
@@ -94,10 +94,10 @@ pub record Along (system : System) (t : Trace) (instants : List Instant) (rest :
   pub parts : instants ≡ before ++ behind
   pub lines : rest ≡ flat_map instant_lines behind
   pub last_is : last ≡ last_time before
-  pub reached : IsTrue is_reached ↔ Reaches t.stop before
+  pub reached : IsTrue is_reached ↔ ReachesPoint t.stop before
   pub good : (a b : List Instant) (i : Instant) (o r : ℕ) → before ≡ a ++ (i ∷ b) → BreaksIn system t (last_time a) i o r → ⊥
 
-reaches_none : (point : ℕ) → Reaches point [] → ⊥
+reaches_none : (point : ℕ) → ReachesPoint point [] → ⊥
 reaches_none point reaches = none_some reaches.instant reaches.at
 
 no_cut : {X : Type 0} (a b : List X) (x : X) → [] ≡ a ++ (x ∷ b) → ⊥
@@ -122,7 +122,7 @@ pub record Coming (system : System) (t : Trace) (instants : List Instant) (rest 
   pub behind : along.behind ≡ instant ∷ later
   pub at : instant.t ≡ time
   pub number : instant.n ≡ n
-  pub rows_are : rows ≡ value_lines_from 0 instant.values ++ flat_map instant_lines later
+  pub rows_are : rows ≡ told_values_from 0 instant.values ++ flat_map instant_lines later
 
 record ComingOf (behind : List Instant) (rows : List TraceLine) (time n : ℕ) : Type 0 where
   instant : Instant
@@ -130,13 +130,13 @@ record ComingOf (behind : List Instant) (rows : List TraceLine) (time n : ℕ) :
   is : behind ≡ instant ∷ later
   at : instant.t ≡ time
   number : instant.n ≡ n
-  rows_are : rows ≡ value_lines_from 0 instant.values ++ flat_map instant_lines later
+  rows_are : rows ≡ told_values_from 0 instant.values ++ flat_map instant_lines later
 
 coming_of : (behind : List Instant) (rows : List TraceLine) (time n : ℕ) → At time n ∷ rows ≡ flat_map instant_lines behind → ComingOf behind rows time n
 coming_of [] rows time n e = absurd (cc e)
 coming_of (i ∷ later) rows time n e =
-    let line : At time n ≡ At i.t i.n = heads (At time n) (At i.t i.n) rows (value_lines_from 0 i.values ++ flat_map instant_lines later) e in
-    let left : rows ≡ value_lines_from 0 i.values ++ flat_map instant_lines later = tails (At time n) (At i.t i.n) rows (value_lines_from 0 i.values ++ flat_map instant_lines later) e in
+    let line : At time n ≡ At i.t i.n = heads (At time n) (At i.t i.n) rows (told_values_from 0 i.values ++ flat_map instant_lines later) e in
+    let left : rows ≡ told_values_from 0 i.values ++ flat_map instant_lines later = tails (At time n) (At i.t i.n) rows (told_values_from 0 i.values ++ flat_map instant_lines later) e in
     let same_time : i.t ≡ time = cc line in
     let same_number : i.n ≡ n = cc line in
     record { instant = i; later = later; is = refl; at = same_time; number = same_number; rows_are = left }
@@ -149,7 +149,7 @@ coming system t instants rest rows time n last is_reached along e =
 
 -- its values are one a port
 pub coming_values : (t : Trace) (before later instants : List Instant) (i : Instant) (rows : List TraceLine) → AreInstantsOf t instants → instants ≡ before ++ (i ∷ later) →
-    rows ≡ value_lines_from 0 i.values ++ flat_map instant_lines later → BeginsWithValues rows (length t.ports) i.values (flat_map instant_lines later)
+    rows ≡ told_values_from 0 i.values ++ flat_map instant_lines later → BeginsWithValues rows (length t.ports) i.values (flat_map instant_lines later)
 coming_values t before later instants i rows told parts lines =
     let whole : AllByRecursion (IsInstant (kinds_of t.ports)) (before ++ (i ∷ later)) = subst (AllByRecursion (IsInstant (kinds_of t.ports))) parts told.each in
     let is = middle (IsInstant (kinds_of t.ports)) before later i whole in
@@ -170,7 +170,7 @@ pub record Here (system : System) (t : Trace) (instants : List Instant) (rest : 
   pub parts : instants ≡ before ++ (i ∷ later)
   pub lines : rest ≡ flat_map instant_lines (i ∷ later)
   pub last_is : last ≡ last_time before
-  pub reached : IsTrue is_reached ↔ Reaches t.stop before
+  pub reached : IsTrue is_reached ↔ ReachesPoint t.stop before
   pub good : (a b : List Instant) (j : Instant) (o r : ℕ) → before ≡ a ++ (j ∷ b) → BreaksIn system t (last_time a) j o r → ⊥
 
 -- what the reading of its values gives
@@ -206,7 +206,7 @@ here system t instants rest rows behind time n last is_reached values told along
 
 -- ---- an instant whose lines break no rule
 
-reached_more : (point : ℕ) (before : List Instant) (i : Instant) → Reaches point before → Reaches point (before ++ (i ∷ []))
+reached_more : (point : ℕ) (before : List Instant) (i : Instant) → ReachesPoint point before → ReachesPoint point (before ++ (i ∷ []))
 reached_more point before i reaches = record {
   place = reaches.place;
   instant = reaches.instant;
@@ -214,18 +214,18 @@ reached_more point before i reaches = record {
   there = reaches.there;
 }
 
-reached_now : (point : ℕ) (before : List Instant) (i : Instant) → i.t ≡ point → Reaches point (before ++ (i ∷ []))
+reached_now : (point : ℕ) (before : List Instant) (i : Instant) → i.t ≡ point → ReachesPoint point (before ++ (i ∷ []))
 reached_now point before i there = record { place = length before; instant = i; at = at_middle before [] i; there = there }
 
-reached_before : (point : ℕ) (before : List Instant) (i : Instant) → Reaches point (before ++ (i ∷ [])) → Reaches point before ⊎ (i.t ≡ point)
+reached_before : (point : ℕ) (before : List Instant) (i : Instant) → ReachesPoint point (before ++ (i ∷ [])) → ReachesPoint point before ⊎ (i.t ≡ point)
 reached_before point before i reaches =
     elim (pushed_at before reaches.place i reaches.instant reaches.at) [
       | Old old ↦ inl (record { place = reaches.place; instant = reaches.instant; at = old; there = reaches.there })
       | New new ↦ inr (sym (ap (λ (j : Instant). j.t) new) ∙ reaches.there)
     ]
 
-reaches_step : (point : ℕ) (before : List Instant) (i : Instant) (was now : Bool) → IsTrue was ↔ Reaches point before → IsTrue now ↔ (IsTrue was ⊎ (i.t ≡ point)) →
-    IsTrue now ↔ Reaches point (before ++ (i ∷ []))
+reaches_step : (point : ℕ) (before : List Instant) (i : Instant) (was now : Bool) → IsTrue was ↔ ReachesPoint point before → IsTrue now ↔ (IsTrue was ⊎ (i.t ≡ point)) →
+    IsTrue now ↔ ReachesPoint point (before ++ (i ∷ []))
 reaches_step point before i was now old new = (
   (λ is. elim (new.0 is) [ inl earlier ↦ reached_more point before i (old.0 earlier) | inr there ↦ reached_now point before i there ]),
   (λ reaches. elim (reached_before point before i reaches) [ inl earlier ↦ new.1 (inl (old.1 earlier)) | inr there ↦ new.1 (inr there) ]),
@@ -275,12 +275,12 @@ nil_right {X} (x ∷ xs) = ap (λ (ys : List X). x ∷ ys) (nil_right xs)
 
 none_behind : (behind : List Instant) → ((time n : ℕ) (rows : List TraceLine) → flat_map instant_lines behind ≡ At time n ∷ rows → ⊥) → behind ≡ []
 none_behind [] no_more = refl
-none_behind (i ∷ later) no_more = absurd (no_more i.t i.n (value_lines_from 0 i.values ++ flat_map instant_lines later) refl)
+none_behind (i ∷ later) no_more = absurd (no_more i.t i.n (told_values_from 0 i.values ++ flat_map instant_lines later) refl)
 
 -- each of the trace's instants was checked
 pub record AtLast (system : System) (t : Trace) (instants : List Instant) (rest : List TraceLine) (is_reached : Bool) : Type 0 where
   pub none_left : rest ≡ []
-  pub reached : IsTrue is_reached ↔ Reaches t.stop instants
+  pub reached : IsTrue is_reached ↔ ReachesPoint t.stop instants
   pub good : (a b : List Instant) (i : Instant) (o r : ℕ) → instants ≡ a ++ (i ∷ b) → BreaksIn system t (last_time a) i o r → ⊥
 
 pub at_last : (system : System) (t : Trace) (instants : List Instant) (rest : List TraceLine) (last : Option (ℕ × ℕ)) (is_reached : Bool) → Along system t instants rest last is_reached →
@@ -288,7 +288,7 @@ pub at_last : (system : System) (t : Trace) (instants : List Instant) (rest : Li
 at_last system t instants rest last is_reached along no_more =
     let none = none_behind along.behind (λ time n rows e. no_more time n rows (along.lines ∙ e)) in
     let whole : along.before ≡ instants = sym (along.parts ∙ (ap (λ (xs : List Instant). along.before ++ xs) none ∙ nil_right along.before)) in
-    let P : List Instant → Type 0 = λ xs. IsTrue is_reached ↔ Reaches t.stop xs in
+    let P : List Instant → Type 0 = λ xs. IsTrue is_reached ↔ ReachesPoint t.stop xs in
     record {
       none_left = along.lines ∙ ap (λ (xs : List Instant). flat_map instant_lines xs) none;
       reached = subst P whole along.reached;
@@ -337,10 +337,10 @@ number_of system t instants rest last is_reached i told at =
     ap length (told.lines ∙ (ap (λ (xs : List Instant). flat_map instant_lines xs) at.parts ∙ flat_map-append instant_lines at.before (i ∷ at.later)))
     ∙ (length-append (flat_map instant_lines at.before) (flat_map instant_lines (i ∷ at.later)) ∙ ap (λ (xs : List TraceLine). length (flat_map instant_lines at.before) + length xs) (sym at.lines))
 
-lines_here : (i : Instant) (later : List Instant) → length (flat_map instant_lines (i ∷ later)) ≡ suc (length (value_lines_from 0 i.values)) + length (flat_map instant_lines later)
+lines_here : (i : Instant) (later : List Instant) → length (flat_map instant_lines (i ∷ later)) ≡ suc (length (told_values_from 0 i.values)) + length (flat_map instant_lines later)
 lines_here i later = length-append (instant_lines i) (flat_map instant_lines later)
 
-lines_past : (before e : List Instant) (i : Instant) → length (flat_map instant_lines (before ++ (i ∷ e))) ≡ length (flat_map instant_lines before) + (suc (length (value_lines_from 0 i.values)) + length (flat_map instant_lines e))
+lines_past : (before e : List Instant) (i : Instant) → length (flat_map instant_lines (before ++ (i ∷ e))) ≡ length (flat_map instant_lines before) + (suc (length (told_values_from 0 i.values)) + length (flat_map instant_lines e))
 lines_past before e i =
     ap length (flat_map-append instant_lines before (i ∷ e)) ∙ (length-append (flat_map instant_lines before) (flat_map instant_lines (i ∷ e)) ∙ ap (λ (m : ℕ). length (flat_map instant_lines before) + m) (lines_here i e))
 
@@ -356,7 +356,7 @@ module _ (system : System) (t : Trace) (rest : List TraceLine) (last : Option (�
       let lines = number_of system t instants rest last is_reached i told (all instants told) in
       omega (arith, number_is, lines)
 
-  within : o ≤ length (value_lines_from 0 i.values)
+  within : o ≤ length (told_values_from 0 i.values)
   within = offset_within system t last i o rule first.breaks
 
   instant_least : (l r : ℕ) → Breaks system t l r → (number + o < l) ⊎ ((number + o ≡ l) × (rule ≤ r))

@@ -4,7 +4,7 @@ use Rattle.std.proofs.Math.ListN.{replicate}
 use Rattle.std.proofs.lemmas.List.{take_all, length-replicate}
 use Rattle.trace_reading.specs.declared.trace.TraceLine.{TraceLine}
 use Rattle.trace_reading.specs.declared.trace.TraceLine.TheVariants.{Value}
-use Rattle.trace_reading.specs.Form.{value_lines_from}
+use Rattle.trace_reading.specs.Form.{told_values_from}
 use Rattle.trace_reading.proofs.CallerLemmas.{heads, tails}
 use Rattle.trace_check.specs.Steps.{BeginsNoValue}
 
@@ -12,9 +12,9 @@ use Rattle.trace_check.specs.Steps.{BeginsNoValue}
 pub record Left (all done : List (Option ℤ)) (rest behind : List TraceLine) : Type 0 where
   pub more : List (Option ℤ)
   pub whole : all ≡ done ++ more
-  pub lines : rest ≡ value_lines_from (length done) more ++ behind
+  pub lines : rest ≡ told_values_from (length done) more ++ behind
 
-pub none_read : (all : List (Option ℤ)) (lines behind : List TraceLine) → lines ≡ value_lines_from 0 all ++ behind → Left all [] lines behind
+pub none_read : (all : List (Option ℤ)) (lines behind : List TraceLine) → lines ≡ told_values_from 0 all ++ behind → Left all [] lines behind
 none_read all lines behind e = record { more = all; whole = refl; lines = e }
 
 -- the next value line is that of the first port with a value
@@ -23,10 +23,10 @@ record Next (k : ℕ) (more : List (Option ℤ)) (p : ℕ) (v : ℤ) (rest behin
   next : List (Option ℤ)
   at : p ≡ k + gap
   parts : more ≡ replicate gap None ++ (Some v ∷ next)
-  lines : rest ≡ value_lines_from (p + 1) next ++ behind
+  lines : rest ≡ told_values_from (p + 1) next ++ behind
 
 next_of : (k : ℕ) (more : List (Option ℤ)) (behind rest : List TraceLine) (p : ℕ) (v : ℤ) → BeginsNoValue behind →
-    value_lines_from k more ++ behind ≡ Value p v ∷ rest → Next k more p v rest behind
+    told_values_from k more ++ behind ≡ Value p v ∷ rest → Next k more p v rest behind
 next_of k [] behind rest p v ends e = absurd (subst BeginsNoValue e ends)
 next_of k (None ∷ more) behind rest p v ends e =
     let n = next_of (k + 1) more behind rest p v ends e in
@@ -34,7 +34,7 @@ next_of k (None ∷ more) behind rest p v ends e =
     record { gap = suc n.gap; next = n.next; at = omega (arith, place); parts = ap (λ (xs : List (Option ℤ)). None ∷ xs) n.parts; lines = n.lines }
 next_of k (Some w ∷ more) behind rest p v ends e =
     let line : Value k w ≡ Value p v = heads _ _ _ _ e in
-    let left : value_lines_from (k + 1) more ++ behind ≡ rest = tails _ _ _ _ e in
+    let left : told_values_from (k + 1) more ++ behind ≡ rest = tails _ _ _ _ e in
     let place : k ≡ p = cc line in
     let same : w ≡ v = cc line in
     record {
@@ -42,7 +42,7 @@ next_of k (Some w ∷ more) behind rest p v ends e =
       next = more;
       at = omega (arith, place);
       parts = ap (λ (x : ℤ). Some x ∷ more) same;
-      lines = sym left ∙ ap (λ (q : ℕ). value_lines_from (q + 1) more ++ behind) place;
+      lines = sym left ∙ ap (λ (q : ℕ). told_values_from (q + 1) more ++ behind) place;
     }
 
 filled : (done : List (Option ℤ)) (p gap : ℕ) → p ≡ length done + gap → take p done ++ replicate (p - length done) None ≡ done ++ replicate gap None
@@ -64,15 +64,15 @@ next_read all done now lines rest behind p v left ends line pushed =
     record {
       more = n.next;
       whole = left.whole ∙ (ap (λ (xs : List (Option ℤ)). done ++ xs) n.parts ∙ sym joined);
-      lines = n.lines ∙ ap (λ (m : ℕ). value_lines_from m n.next ++ behind) size;
+      lines = n.lines ∙ ap (λ (m : ℕ). told_values_from m n.next ++ behind) size;
     }
 
 -- no value line is left: the other ports have no value
-none_left : (k : ℕ) (more : List (Option ℤ)) (behind : List TraceLine) → ((p : ℕ) (v : ℤ) (rest : List TraceLine) → value_lines_from k more ++ behind ≡ Value p v ∷ rest → ⊥) →
-    (more ≡ replicate (length more) None) × (value_lines_from k more ≡ [])
+none_left : (k : ℕ) (more : List (Option ℤ)) (behind : List TraceLine) → ((p : ℕ) (v : ℤ) (rest : List TraceLine) → told_values_from k more ++ behind ≡ Value p v ∷ rest → ⊥) →
+    (more ≡ replicate (length more) None) × (told_values_from k more ≡ [])
 none_left k [] behind no_value = (refl, refl)
 none_left k (None ∷ more) behind no_value = let rec = none_left (k + 1) more behind no_value in (ap (λ (xs : List (Option ℤ)). None ∷ xs) rec.0, rec.1)
-none_left k (Some w ∷ more) behind no_value = absurd (no_value k w (value_lines_from (k + 1) more ++ behind) refl)
+none_left k (Some w ∷ more) behind no_value = absurd (no_value k w (told_values_from (k + 1) more ++ behind) refl)
 
 pub all_read : (all done now : List (Option ℤ)) (ports : ℕ) (rest behind : List TraceLine) → length all ≡ ports → Left all done rest behind →
     ((p : ℕ) (v : ℤ) (lines : List TraceLine) → rest ≡ Value p v ∷ lines → ⊥) → now ≡ take ports done ++ replicate (ports - length done) None → (now ≡ all) × (rest ≡ behind)

@@ -1,14 +1,11 @@
 -- The instants that a trace tells, in super-dense time, and the numbers of their lines (FMI 3.0, 2.1.5: super-dense time).
-use Rattle.std.specs.Prelude.{◌≡◌, ◌⊎◌, ℕ, ◌+◌, ◌-◌, ◌<◌, ◌≤◌, ℤ, if◌then◌else◌, List, Option, Some, None, length, take, count_by, is_some, slice_get, slice_index_or}
+use Rattle.std.specs.Prelude.{◌≡◌, ◌⊎◌, ℕ, ◌+◌, ◌-◌, ◌<◌, ◌≤◌, ℤ, if◌then◌else◌, List, Option, Some, None, length, take, count_by, is_some, slice_get}
 use Rattle.std.specs.List.{AllByRecursion, flat_map}
 use Rattle.std.specs.Option.{option_map}
 use Rattle.system_model.specs.Text.{Instant}
 use Rattle.trace_reading.specs.declared.trace.Trace.{Trace}
 use Rattle.trace_reading.specs.Form.{IsInstant, instant_lines, kinds_of}
-
--- the value of a port, or none
-abbrev pub value : List (Option ℤ) → ℕ → Option ℤ
-value values p = slice_index_or values p None
+use Rattle.system_model.specs.Values.{value}
 
 -- the trace's lines tell these instants
 pub record AreInstantsOf (t : Trace) (instants : List Instant) : Type 0 where
@@ -41,7 +38,7 @@ IsInOrder start stop None t n = (t ≡ start) × (n ≡ 0)
 IsInOrder start stop (Some (s, m)) t n = ((t ≡ s) × (n ≡ m + 1)) ⊎ ((s < t) × (t ≤ stop) × (n ≡ 0))
 
 -- one of these instants is at the point
-pub record Reaches (point : ℕ) (instants : List Instant) : Type 0 where
+pub record ReachesPoint (point : ℕ) (instants : List Instant) : Type 0 where
   pub place : ℕ
   pub instant : Instant
   pub at : slice_get instants place ≡ Some instant

@@ -5,7 +5,8 @@ use Rattle.system_model.specs.declared.plan.EndKind.TheVariants.{Stop}
 use Rattle.system_model.specs.declared.system.System.{System}
 use Rattle.trace_reading.specs.declared.trace.Trace.{Trace}
 use Rattle.trace_reading.specs.Written.{ports_told}
-use Rattle.trace_check.specs.Instants.{AreInstantsOf, IsInOrder, Reaches, end_line_number, last_time, line_behind, lines_to, value}
+use Rattle.trace_check.specs.Instants.{AreInstantsOf, IsInOrder, ReachesPoint, end_line_number, last_time, line_behind, lines_to}
+use Rattle.system_model.specs.Values.{value}
 use Rattle.trace_check.specs.Values.{DiffersFromSource}
 use Rattle.trace_check.specs.Ticks.{IsConstantClock, IsOffTick}
 
@@ -27,7 +28,7 @@ pub data BreaksIn (system : System) (t : Trace) (last : Option (ℕ × ℕ)) (i 
 -- a run that ends at its stop ends there, behind an instant there
 pub record StopsAtStop (t : Trace) (instants : List Instant) : Type 0 where
   pub point : t.point ≡ t.stop
-  pub reached : Reaches t.stop instants
+  pub reached : ReachesPoint t.stop instants
 
 -- the line of the trace, by its number from 1 on, breaks the rule
 pub data Breaks (system : System) (t : Trace) (line rule : ℕ) : Type 0 where

@@ -5,9 +5,10 @@ use Rattle.system_model.specs.Text.{Instant}
 use Rattle.trace_reading.specs.declared.trace.Trace.{Trace}
 use Rattle.trace_reading.specs.declared.trace.TraceLine.{TraceLine}
 use Rattle.trace_reading.specs.declared.trace.TraceLine.TheVariants.{At, Value}
-use Rattle.trace_reading.specs.Form.{value_lines_from}
+use Rattle.trace_reading.specs.Form.{told_values_from}
 use Rattle.trace_check.specs.declared.ticks.ConstantClock.{ConstantClock}
-use Rattle.trace_check.specs.Instants.{lines_to, value}
+use Rattle.trace_check.specs.Instants.{lines_to}
+use Rattle.system_model.specs.Values.{value}
 use Rattle.trace_check.specs.Values.{DiffersFromSource}
 use Rattle.trace_check.specs.Ticks.{IsConstantClock, IsOffTick}
 use Rattle.trace_check.specs.Rules.{BreaksIn}
@@ -46,7 +47,7 @@ BeginsNoValue (Value p v ∷ lines) = ⊥
 pub record BeginsWithValues (lines : List TraceLine) (ports : ℕ) (values : List (Option ℤ))
     (behind : List TraceLine) : Type 0 where
   pub size : length values ≡ ports
-  pub parts : lines ≡ value_lines_from 0 values ++ behind
+  pub parts : lines ≡ told_values_from 0 values ++ behind
   pub ends : BeginsNoValue behind
 
 abbrev pub instant_at : ℕ → ℕ → List (Option ℤ) → Instant

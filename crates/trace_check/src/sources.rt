@@ -4,9 +4,10 @@ ghost use Rattle.std.specs.Option.{option_map};
 ghost use Rattle.sim_base.specs.declared.numbers.PortId.{PortId};
 ghost use Rattle.system_model.specs.Ports.{is_clock_role, source_of};
 ghost use Rattle.system_model.specs.declared.system.Feed.{Feed};
-ghost use Rattle.trace_check.specs.Instants.{lines_to, value};
+ghost use Rattle.trace_check.specs.Instants.{lines_to};
+ghost use Rattle.system_model.specs.Values.{value, is_active, is_present};
 ghost use Rattle.trace_check.specs.Steps.{IsOtherValue};
-ghost use Rattle.trace_check.specs.Values.{is_active, is_present, DiffersFromSource};
+ghost use Rattle.trace_check.specs.Values.{DiffersFromSource};
 
 use sim_base::PortId;
 use system_model::{Feed, Port, Role, System};

@@ -11,7 +11,8 @@ use Rattle.system_model.specs.declared.plan.EndKind.TheVariants as K
 use Rattle.system_model.specs.declared.system.Component.{Component}
 use Rattle.system_model.specs.declared.system.Port.{Port}
 use Rattle.system_model.proofs.CallerLemmas.{true_false}
-use Rattle.run_model.specs.Run.{Every, Run, Situation, each, each_from, value}
+use Rattle.run_model.specs.Run.{Every, Run, Situation, each, each_from}
+use Rattle.system_model.specs.Values.{value}
 use Rattle.run_model.specs.Equations.{Solves}
 use Rattle.run_model.specs.Initial as I
 use Rattle.run_model.specs.AfterInstant.{Again, AtLimit, Done, Ended, Following, any_update, asks_for_end, following, goes_again, updated, written}

@@ -18,7 +18,8 @@ use Rattle.system_model.specs.declared.system.Port.{Port}
 use Rattle.system_model.specs.Ports.{is_clock_role, is_output_role, source_of}
 use Rattle.system_model.specs.Sound.{IsSound}
 use Rattle.system_model.proofs.CallerLemmas.{true_false, clock_type_of, events_of, kind_of_clock, place_of, source_at}
-use Rattle.run_model.specs.Run.{IsFmu, Run, Situation, at_fmu, each_from, value}
+use Rattle.run_model.specs.Run.{IsFmu, Run, Situation, at_fmu, each_from}
+use Rattle.system_model.specs.Values.{value}
 use Rattle.run_model.specs.Inputs.{state_with}
 use Rattle.run_model.specs.Timers.{IsDue}
 use Rattle.run_model.specs.Equations.{IsTickValue, Solves, SolvesAt, ticking, timer_of, value_in}

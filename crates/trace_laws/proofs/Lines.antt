@@ -6,7 +6,7 @@ use Rattle.value_types.specs.declared.values.PortType.{PortType}
 use Rattle.system_model.specs.Text.{Instant}
 use Rattle.trace_reading.specs.declared.trace.TraceLine.{TraceLine}
 use Rattle.trace_reading.specs.declared.trace.TraceLine.TheVariants.{At, Value}
-use Rattle.trace_reading.specs.Form.{IsInstant, MayHave, instant_lines, value_lines_from}
+use Rattle.trace_reading.specs.Form.{IsInstant, MayHave, instant_lines, told_values_from}
 use Rattle.trace_reading.proofs.CallerLemmas.{heads, tails}
 
 -- the lines begin with none of a value
@@ -20,11 +20,11 @@ instants_begin [] = tt
 instants_begin (i ∷ is) = tt
 
 -- the values of later ports have no line of an earlier one
-none_earlier : (k j : ℕ) (v : ℤ) (values : List (Option ℤ)) (behind rest : List TraceLine) → BeginNone behind → j < k → value_lines_from k values ++ behind ≡ Value j v ∷ rest → ⊥
+none_earlier : (k j : ℕ) (v : ℤ) (values : List (Option ℤ)) (behind rest : List TraceLine) → BeginNone behind → j < k → told_values_from k values ++ behind ≡ Value j v ∷ rest → ⊥
 none_earlier k j v [] behind rest begin early e = subst BeginNone e begin
 none_earlier k j v (None ∷ values) behind rest begin early e = none_earlier (k + 1) j v values behind rest begin (omega (arith, early)) e
 none_earlier k j v (Some w ∷ values) behind rest begin early e =
-    let line : Value k w ≡ Value j v = heads (Value k w) (Value j v) (value_lines_from (k + 1) values ++ behind) rest e in
+    let line : Value k w ≡ Value j v = heads (Value k w) (Value j v) (told_values_from (k + 1) values ++ behind) rest e in
     let same : k ≡ j = cc line in
     omega (arith, same, early)
 
@@ -36,19 +36,19 @@ with_first : (o : Option ℤ) (values others : List (Option ℤ)) (behind after 
 with_first o values others behind after same = record { values_are = ap (λ (xs : List (Option ℤ)). o ∷ xs) same.values_are; behind_is = same.behind_is }
 
 same_values : (k : ℕ) (values others : List (Option ℤ)) (behind after : List TraceLine) → length values ≡ length others → BeginNone behind → BeginNone after →
-    value_lines_from k values ++ behind ≡ value_lines_from k others ++ after → IsSame values others behind after
+    told_values_from k values ++ behind ≡ told_values_from k others ++ after → IsSame values others behind after
 same_values k [] [] behind after size begin end e = record { values_are = refl; behind_is = e }
 same_values k [] (o ∷ others) behind after size begin end e = absurd (omega (arith, size))
 same_values k (o ∷ values) [] behind after size begin end e = absurd (omega (arith, size))
 same_values k (None ∷ values) (None ∷ others) behind after size begin end e =
     with_first None values others behind after (same_values (k + 1) values others behind after (omega (arith, size)) begin end e)
 same_values k (None ∷ values) (Some w ∷ others) behind after size begin end e =
-    absurd (none_earlier (k + 1) k w values behind (value_lines_from (k + 1) others ++ after) begin (omega arith) e)
+    absurd (none_earlier (k + 1) k w values behind (told_values_from (k + 1) others ++ after) begin (omega arith) e)
 same_values k (Some v ∷ values) (None ∷ others) behind after size begin end e =
-    absurd (none_earlier (k + 1) k v others after (value_lines_from (k + 1) values ++ behind) end (omega arith) (sym e))
+    absurd (none_earlier (k + 1) k v others after (told_values_from (k + 1) values ++ behind) end (omega arith) (sym e))
 same_values k (Some v ∷ values) (Some w ∷ others) behind after size begin end e =
-    let line : Value k v ≡ Value k w = heads (Value k v) (Value k w) (value_lines_from (k + 1) values ++ behind) (value_lines_from (k + 1) others ++ after) e in
-    let left : value_lines_from (k + 1) values ++ behind ≡ value_lines_from (k + 1) others ++ after = tails (Value k v) (Value k w) (value_lines_from (k + 1) values ++ behind) (value_lines_from (k + 1) others ++ after) e in
+    let line : Value k v ≡ Value k w = heads (Value k v) (Value k w) (told_values_from (k + 1) values ++ behind) (told_values_from (k + 1) others ++ after) e in
+    let left : told_values_from (k + 1) values ++ behind ≡ told_values_from (k + 1) others ++ after = tails (Value k v) (Value k w) (told_values_from (k + 1) values ++ behind) (told_values_from (k + 1) others ++ after) e in
     let value : v ≡ w = cc line in
     let more = with_first (Some v) values others behind after (same_values (k + 1) values others behind after (omega (arith, size)) begin end left) in
     subst (λ (x : ℤ). IsSame (Some v ∷ values) (Some x ∷ others) behind after) value more
@@ -71,9 +71,9 @@ same_instants kinds [] [] all each e = refl
 same_instants kinds [] (j ∷ js) all each e = absurd (cc e)
 same_instants kinds (i ∷ is) [] all each e = absurd (cc e)
 same_instants kinds (i ∷ is) (j ∷ js) all each e =
-    let line : At i.t i.n ≡ At j.t j.n = heads (At i.t i.n) (At j.t j.n) (value_lines_from 0 i.values ++ flat_map instant_lines is) (value_lines_from 0 j.values ++ flat_map instant_lines js) e in
-    let left : value_lines_from 0 i.values ++ flat_map instant_lines is ≡ value_lines_from 0 j.values ++ flat_map instant_lines js =
-    tails (At i.t i.n) (At j.t j.n) (value_lines_from 0 i.values ++ flat_map instant_lines is) (value_lines_from 0 j.values ++ flat_map instant_lines js) e in
+    let line : At i.t i.n ≡ At j.t j.n = heads (At i.t i.n) (At j.t j.n) (told_values_from 0 i.values ++ flat_map instant_lines is) (told_values_from 0 j.values ++ flat_map instant_lines js) e in
+    let left : told_values_from 0 i.values ++ flat_map instant_lines is ≡ told_values_from 0 j.values ++ flat_map instant_lines js =
+    tails (At i.t i.n) (At j.t j.n) (told_values_from 0 i.values ++ flat_map instant_lines is) (told_values_from 0 j.values ++ flat_map instant_lines js) e in
     let size : length i.values ≡ length j.values = zip_length kinds i.values all.0.values ∙ sym (zip_length kinds j.values each.0.values) in
     let same = same_values 0 i.values j.values (flat_map instant_lines is) (flat_map instant_lines js) size (instants_begin is) (instants_begin js) left in
     let t : i.t ≡ j.t = cc line in

@@ -10,14 +10,15 @@ use Rattle.system_model.specs.declared.system.Role.{Role}
 use Rattle.system_model.specs.declared.system.Role.TheVariants.{Input, Output, ClockInput, ClockOutput, TimeClock}
 use Rattle.system_model.specs.Ports.{source_of}
 use Rattle.system_model.specs.Text.{Instant}
-use Rattle.run_model.specs.Run.{Every, Never, Run, Situation, Timer, value}
+use Rattle.run_model.specs.Run.{Every, Never, Run, Situation, Timer}
+use Rattle.system_model.specs.Values.{value}
 use Rattle.run_model.specs.Timers.{IsDue}
 use Rattle.run_model.specs.Equations.{IsTickValue, Solves, SolvesAt, timer_of}
 use Rattle.run_model.specs.Trace.{Continues, Further, IsTrace, Last, Runs, instant_of}
 use Rattle.run_model.specs.Laws.{SolvedByFitting}
 use Rattle.trace_reading.specs.Form.{IsInstant, kinds_of}
 use Rattle.trace_reading.specs.Written.{IsWritable, ports_told, trace_told}
-use Rattle.trace_check.specs.Instants.{IsInOrder, Reaches, last_time}
+use Rattle.trace_check.specs.Instants.{IsInOrder, ReachesPoint, last_time}
 use Rattle.trace_check.specs.Values.{DiffersFromSource}
 use Rattle.trace_check.specs.Ticks.{IsConstantClock, IsOffTick, PassesTick}
 use Rattle.trace_check.specs.Ticks.IsOffTick.{Wrong, Passed}
@@ -108,9 +109,9 @@ pub record Told (r : Run) (last : Option (ℕ × ℕ)) (is : List Instant) (kind
   pub keep : AllBehind (KeepsIn r) last is
   pub form : AllByRecursion (IsInstant (kinds_of (ports_told r.system))) is
   pub low : end ≤ r.plan.stop
-  pub stops : kind ≡ Stop → (end ≡ r.plan.stop) × Reaches r.plan.stop is
+  pub stops : kind ≡ Stop → (end ≡ r.plan.stop) × ReachesPoint r.plan.stop is
 
-reached_later : (point : ℕ) (i : Instant) (is : List Instant) → Reaches point is → Reaches point (i ∷ is)
+reached_later : (point : ℕ) (i : Instant) (is : List Instant) → ReachesPoint point is → ReachesPoint point (i ∷ is)
 reached_later point i is reaches = record { place = suc reaches.place; instant = reaches.instant; at = reaches.at; there = reaches.there }
 
 module _ (r : Run) (well : RunsWell r) (fitting : SolvedByFitting) where
@@ -153,7 +154,7 @@ keeps_told r is kind end all line rule (InInstant a b i offset lines at breaks) 
 keeps_told r is kind end all line rule (AtEnd instants lines at rule_is stop wrong) =
     let same : instants ≡ is = same_instants (kinds_of (ports_told r.system)) instants is lines.each all.form (sym lines.lines) in
     let stops = all.stops stop in
-    wrong (record { point = stops.0; reached = subst (Reaches r.plan.stop) (sym same) stops.1 })
+    wrong (record { point = stops.0; reached = subst (ReachesPoint r.plan.stop) (sym same) stops.1 })
 
 pub is_writable : SolvedByFitting → (r : Run) (is : List Instant) (kind : EndKind) (end : ℕ) → IsTraceOf r is kind end → IsWritable r.system r.plan is end
 is_writable fitting r is kind end of =

@@ -1,17 +1,17 @@
 -- The point that a step reaches: behind the one where it begins, at most the stop, and no tick lies between.
-use Rattle.std.proofs.Common.{◌≡◌, ℕ, suc, ◌+◌, ◌-◌, ◌<◌, ◌≤◌, Bool, true, false, not, cond, List, [], ◌∷◌, map, filter, refl, sym, ap, ◌∙◌, subst, arith}
-use Rattle.std.specs.Prelude.{Some, ◌==◌, slice_get}
+use Rattle.std.proofs.Common.{◌≡◌, inl, ℕ, suc, ◌+◌, ◌-◌, ◌<◌, ◌≤◌, Bool, true, false, not, cond, List, [], ◌∷◌, map, filter, refl, sym, ap, ◌∙◌, subst, arith}
+use Rattle.std.specs.Prelude.{Some, ◌==◌, if◌then◌else◌, slice_get}
 use Rattle.std.specs.List.{AllByRecursion}
 use Rattle.std.proofs.lemmas.Bool.{eq-eqb}
 use Rattle.fmu_peer.specs.Machine.{Machine, MachineState}
 use Rattle.system_model.specs.declared.system.Component.{Component}
 use Rattle.system_model.proofs.CallerLemmas.{true_false}
-use Rattle.run_model.specs.Run.{Run, Situation, Timer}
+use Rattle.run_model.specs.Run.{IsFmu, Run, Situation, Timer}
 use Rattle.run_model.specs.Timers.{TicksAt}
 use Rattle.run_model.specs.Steps.{Agree, AllMeet, AskedAgain, AskedFirst, AskedLater, AtTick, Falls, IsAsked, IsBound, MayAsk, MayAskAgain, OnStop, OthersMeet, Stepper, fallen_bound, is_other, least_or, met, others}
-use Rattle.run_model.specs.Stepping.{IsStep, departing, end_in, step_to, steppers}
+use Rattle.run_model.specs.Stepping.{IsStep, departing, end_in, ending, is_asked_first, step_to, steppers}
 use Rattle.run_model.specs.Behaved.{BehavesInStep}
-use Rattle.run_model.proofs.CallerLemmas.{each-get}
+use Rattle.run_model.proofs.CallerLemmas.{asked_as_first, comes_first, each-get}
 use Rattle.trace_laws.proofs.Replies.{IsBetween, step_end}
 
 -- ---- the least of some numbers
@@ -39,12 +39,12 @@ passing_end P end test (f ∷ fmus) h =
 
 -- an FMU that is asked to step from t to a later point ends above t, and at most there
 abbrev pub EndWell : List Stepper → ℕ → ℕ → ℕ → Type 0
-EndWell fmus t step b = (i e : ℕ) (f : Stepper) → slice_get fmus i ≡ Some f → IsAsked fmus t step b i e → t < e → IsBetween t e (f.end e)
+EndWell fmus t step b = (i e : ℕ) (f : Stepper) → slice_get fmus i ≡ Some f → IsAsked fmus (λ k. true) t step b i e → t < e → IsBetween t e (f.end e)
 
 met_between : (fmus : List Stepper) (t step b : ℕ) → EndWell fmus t step b → MayAsk fmus t step b → t < b → IsBetween t b (met fmus b)
 met_between fmus t step b well may above =
     least_between t b b (map (λ (f : Stepper). f.end b) fmus) (above, omega arith)
-    (each_end (IsBetween t b) (λ (f : Stepper). f.end b) fmus (λ i f at. well i b f at (AskedFirst b i b may refl) above))
+    (each_end (IsBetween t b) (λ (f : Stepper). f.end b) fmus (λ i f at. well i b f at (AskedFirst b i b may (inl refl) refl) above))
 
 is_apart : (x m : ℕ) → not (x == m) ≡ true → x ≡ m → ⊥
 is_apart x m e same = true_false (sym e ∙ ap not (eq-eqb x m same))
@@ -78,13 +78,17 @@ pub record IsReachedFrom (r : Run) (z : Situation) (point : ℕ) : Type 0 where
 module _ (r : Run) (z : Situation) (behave : (i : ℕ) → BehavesInStep r z i) where
   end_well : (bound : ℕ) → IsBound r.plan z.timers z.t bound → EndWell (steppers r z) z.t r.plan.step bound
   end_well bound is i e f at asked above =
-      let stepper : ℕ → Component → Machine → MachineState → Stepper = λ j c m state. record { has_variable_steps = c.shape.has_variable_steps; end = end_in m state z.t } in
+      let stepper : ℕ → Component → Machine → MachineState → Stepper = λ j c m state. record { has_variable_steps = c.shape.has_variable_steps; end = ending z.t c m state } in
       let fmu = each-get stepper 0 i r.system.components r.machines (departing r z) f at in
-      let good = ((behave i).asks bound e is asked above).0 fmu.component fmu.machine fmu.state (record { component = fmu.of_c; machine = fmu.of_m; state = fmu.of_s }) in
-      let whole : z.t + (e - z.t) ≡ e = omega (arith, above) in
-      let ends = step_end fmu.component.shape z.t (e - z.t) (fmu.machine.look fmu.state (step_to z.t e)) good in
-      subst (λ (g : Stepper). IsBetween z.t e (g.end e)) (sym fmu.is)
-      (subst (λ (x : ℕ). IsBetween z.t x (end_in fmu.machine fmu.state z.t e)) whole ends)
+      ends_by fmu.component fmu.machine fmu.state (record { component = fmu.of_c; machine = fmu.of_m; state = fmu.of_s }) (ap (λ (g : Stepper). g.end e) fmu.is) fmu.component.shape.might_return_early refl where
+        ends_by : (c : Component) (m : Machine) (s : MachineState) → IsFmu r (departing r z) i c m s → f.end e ≡ ending z.t c m s e → (x : Bool) → c.shape.might_return_early ≡ x → IsBetween z.t e (f.end e)
+        ends_by c m s fmu same true might =
+            let sent = asked_as_first (steppers r z) z.t r.plan.step (is_asked_first r) bound i e asked (comes_first r i c fmu.component (inl might)) in
+            let good = ((behave i).asks bound e is sent above).0 c m s fmu in
+            let whole : z.t + (e - z.t) ≡ e = omega (arith, above) in
+            let ends = step_end c.shape z.t (e - z.t) (m.look s (step_to z.t e)) good in
+            subst (IsBetween z.t e) (sym (same ∙ ap (λ (y : Bool). if y then end_in m s z.t e else e) might)) (subst (λ (x : ℕ). IsBetween z.t x (end_in m s z.t e)) whole ends)
+        ends_by c m s fmu same false un = subst (IsBetween z.t e) (sym (same ∙ ap (λ (y : Bool). if y then end_in m s z.t e else e) un)) (above, omega arith)
 
   pub step_reaches : (kept : List ℕ) (point : ℕ) → IsStep r z kept point → IsReachedFrom r z point
   step_reaches kept point step =

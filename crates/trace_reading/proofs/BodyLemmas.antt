@@ -16,7 +16,7 @@ use Rattle.trace_reading.specs.declared.item.Item.{Item}
 use Rattle.trace_reading.specs.declared.item.Item.TheVariants.{Row, End}
 use Rattle.trace_reading.specs.declared.item.Place.{Place}
 use Rattle.trace_reading.specs.declared.item.Place.TheVariants.{Between, Within, Ended}
-use Rattle.trace_reading.specs.Form.{MayHave, IsInstant, instant_lines, value_lines_from}
+use Rattle.trace_reading.specs.Form.{MayHave, IsInstant, instant_lines, told_values_from}
 use Rattle.trace_reading.specs.Walk.{walk, is_closed, is_next, is_start, is_clock, fits_at, clocks_before, items_of}
 use Rattle.trace_reading.proofs.ListLemmas.{both, parts, one_more, unsome}
 use Rattle.trace_reading.proofs.FitLemmas.{fitting, fits, fitting_at}
@@ -35,7 +35,7 @@ none_left kinds k e =
     let short : length kinds ≤ k = omega (arith, length-drop k kinds, ap length e) in
     ap (λ (ks : List PortType). count_by is_clock ks) (take_all k kinds short ∙ sym (take_all (length kinds) kinds (omega arith)))
 
-values_walked : (kinds : List PortType) (next k : ℕ) (ks : List PortType) (values : List (Option ℤ)) (rest : List Item) (end : Option Place) → drop k kinds ≡ ks → next ≤ k → clocks_before kinds next ≡ clocks_before kinds k → AllZip MayHave ks values → ((q : ℕ) → is_closed kinds (Within q) ≡ true → walk kinds (Within q) rest ≡ end) → walk kinds (Within next) (rows (value_lines_from k values) ++ rest) ≡ end
+values_walked : (kinds : List PortType) (next k : ℕ) (ks : List PortType) (values : List (Option ℤ)) (rest : List Item) (end : Option Place) → drop k kinds ≡ ks → next ≤ k → clocks_before kinds next ≡ clocks_before kinds k → AllZip MayHave ks values → ((q : ℕ) → is_closed kinds (Within q) ≡ true → walk kinds (Within q) rest ≡ end) → walk kinds (Within next) (rows (told_values_from k values) ++ rest) ≡ end
 values_walked kinds next k [] [] rest end left order same fit more =
     more next (eq-eqb (clocks_before kinds next) (clocks_before kinds (length kinds)) (same ∙ none_left kinds k left))
 values_walked kinds next k [] (v ∷ vs) rest end left order same fit more = absurd fit
@@ -47,21 +47,21 @@ values_walked kinds next k (kind ∷ ks) (Some v ∷ vs) rest end left order sam
     let at = one_more kinds ks k kind left in
     let fitted : fits_at kinds k v ≡ true = ap (λ (o : Option PortType). option_map_or (λ (p : PortType). is_fitting p v) o false) at.1 ∙ fitting kind v fit.0 in
     let test : is_next kinds next k v ≡ true = both (nat_le next k) (fits_at kinds k v && clocks_before kinds next == clocks_before kinds k) (le-leb next k order) (both (fits_at kinds k v) (clocks_before kinds next == clocks_before kinds k) fitted (eq-eqb (clocks_before kinds next) (clocks_before kinds k) same)) in
-    goes kinds (is_next kinds next k v) (Within (k + 1)) (rows (value_lines_from (k + 1) vs) ++ rest) end test
+    goes kinds (is_next kinds next k v) (Within (k + 1)) (rows (told_values_from (k + 1) vs) ++ rest) end test
     (values_walked kinds (k + 1) (k + 1) ks vs rest end at.0 (omega arith) refl fit.1 more)
 
 -- the items of some instants and the end
 abbrev pub body_items : List Instant → EndKind → ℕ → List Item
 body_items [] kind point = End kind point ∷ []
-body_items (i ∷ is) kind point = Row (At i.t i.n) ∷ (rows (value_lines_from 0 i.values) ++ body_items is kind point)
+body_items (i ∷ is) kind point = Row (At i.t i.n) ∷ (rows (told_values_from 0 i.values) ++ body_items is kind point)
 
 pub body_items_are : (is : List Instant) (kind : EndKind) (point : ℕ) → body_items is kind point ≡ items_of (flat_map instant_lines is) kind point
 body_items_are [] kind point = refl
 body_items_are (i ∷ is) kind point =
     ap (λ (xs : List Item). Row (At i.t i.n) ∷ xs) (
-    ap (λ (xs : List Item). rows (value_lines_from 0 i.values) ++ xs) (body_items_are is kind point)
-    ∙ sym (append_assoc (rows (value_lines_from 0 i.values)) (rows (flat_map instant_lines is)) (End kind point ∷ []))
-    ∙ ap (λ (xs : List Item). xs ++ (End kind point ∷ [])) (sym (map-append (λ (line : TraceLine). Row line) (value_lines_from 0 i.values) (flat_map instant_lines is))))
+    ap (λ (xs : List Item). rows (told_values_from 0 i.values) ++ xs) (body_items_are is kind point)
+    ∙ sym (append_assoc (rows (told_values_from 0 i.values)) (rows (flat_map instant_lines is)) (End kind point ∷ []))
+    ∙ ap (λ (xs : List Item). xs ++ (End kind point ∷ [])) (sym (map-append (λ (line : TraceLine). Row line) (told_values_from 0 i.values) (flat_map instant_lines is))))
 
 pub record IsBody (kinds : List PortType) (instants : List Instant) (point : ℕ) : Type 0 where
   pub each : AllByRecursion (IsInstant kinds) instants
@@ -74,7 +74,7 @@ body_walked : (kinds : List PortType) (place : Place) (is : List Instant) (kind 
 body_walked kinds place [] kind point closed all low =
     goes kinds (is_closed kinds place && nat_le point (2 ^ 62)) (Ended kind point) [] (Some (Ended kind point)) (both (is_closed kinds place) (nat_le point (2 ^ 62)) closed (le-leb point (2 ^ 62) low)) refl
 body_walked kinds place (i ∷ is) kind point closed all low =
-    goes kinds (is_closed kinds place && is_start i.t i.n) (Within 0) (rows (value_lines_from 0 i.values) ++ body_items is kind point) (Some (Ended kind point))
+    goes kinds (is_closed kinds place && is_start i.t i.n) (Within 0) (rows (told_values_from 0 i.values) ++ body_items is kind point) (Some (Ended kind point))
     (both (is_closed kinds place) (is_start i.t i.n) closed (start_true i.t i.n all.0.point all.0.number))
     (values_walked kinds 0 0 kinds i.values (body_items is kind point) (Some (Ended kind point)) refl (omega arith) refl all.0.values
     (λ q free. body_walked kinds (Within q) is kind point free all.1 low))
@@ -101,7 +101,7 @@ pub record Open (kinds : List PortType) (kind : EndKind) (point next : ℕ) (ite
   pub later : List Item
   pub fit : AllZip MayHave (drop next kinds) values
   pub body : Body kinds kind point later
-  pub lines : items ≡ rows (value_lines_from next values) ++ later
+  pub lines : items ≡ rows (told_values_from next values) ++ later
 
 -- what lies behind a place, where the walk gets to the end
 abbrev Behind : List PortType → EndKind → ℕ → Place → List Item → Type 0
@@ -115,7 +115,7 @@ begin_instant kinds kind point t n items start left =
     record {
       instants = record { t = t; n = n; values = left.values } ∷ left.body.instants;
       form = record { each = (record { point = leb-true t (2 ^ 62) limits.0; number = ltb-true n 10000 limits.1; values = left.fit }, left.body.form.each); low = left.body.form.low };
-      lines = ap (λ (xs : List Item). Row (At t n) ∷ xs) (left.lines ∙ ap (λ (xs : List Item). rows (value_lines_from 0 left.values) ++ xs) left.body.lines);
+      lines = ap (λ (xs : List Item). Row (At t n) ∷ xs) (left.lines ∙ ap (λ (xs : List Item). rows (told_values_from 0 left.values) ++ xs) left.body.lines);
     }
 
 end_body : (kinds : List PortType) (kind k : EndKind) (point t : ℕ) (items : List Item) → nat_le t (2 ^ 62) ≡ true → (items ≡ []) × (Ended k t ≡ Ended kind point) → Body kinds kind point (End k t ∷ items)

@@ -2,7 +2,8 @@
 use Rattle.std.proofs.Common.{◌≡◌, refl, sym, ap, subst, ◌∙◌, ℕ, ◌+◌, List, [], ◌∷◌, ◌++◌, length}
 use Rattle.std.specs.List.{AllByRecursion}
 use Rattle.std.proofs.lemmas.List.{append_assoc}
-use Rattle.trace_reading.specs.Lines.{Lacks, text_of}
+use Rattle.trace_reading.specs.Lines.{Lacks}
+use Rattle.system_model.specs.Text.{lines_text}
 use Rattle.trace_reading.specs.Faults.{Begins, IsFirstFault, Wrong}
 use Rattle.trace_reading.specs.Faults.Wrong.{NoText, Unended}
 use Rattle.trace_reading.proofs.LineLemmas.{one_cut}
@@ -23,8 +24,8 @@ data Fronts (a : List (List ℕ)) (x : List ℕ) (b : List (List ℕ)) (y : List
   Before : Onward a x b → Fronts a x b y
   Behind : Onward b y a → Fronts a x b y
 
-text_behind : (b : List ℕ) (bs : List (List ℕ)) (y : List ℕ) → text_of (b ∷ bs) ++ y ≡ b ++ (10 ∷ (text_of bs ++ y))
-text_behind b bs y = append_assoc b (10 ∷ text_of bs) y
+text_behind : (b : List ℕ) (bs : List (List ℕ)) (y : List ℕ) → lines_text (b ∷ bs) ++ y ≡ b ++ (10 ∷ (lines_text bs ++ y))
+text_behind b bs y = append_assoc b (10 ∷ lines_text bs) y
 
 with_line : (c : List ℕ) (a : List (List ℕ)) (x : List ℕ) (b : List (List ℕ)) → Onward a x b → Onward (c ∷ a) x (c ∷ b)
 with_line c a x b o = record { line = o.line; more = o.more; rest = o.rest; lines = ap (λ (ls : List (List ℕ)). c ∷ ls) o.lines; cut = o.cut; free = o.free }
@@ -34,12 +35,12 @@ one_more a b ms x bs y e (Same s) = Same (cc (e, s))
 one_more a b ms x bs y e (Before o) = Before (subst (λ (c : List ℕ). Onward (a ∷ ms) x (c ∷ bs)) e (with_line a ms x bs o))
 one_more a b ms x bs y e (Behind o) = Behind (subst (λ (c : List ℕ). Onward (b ∷ bs) y (c ∷ ms)) (sym e) (with_line b bs y ms o))
 
-fronts : (ms : List (List ℕ)) (x : List ℕ) (bs : List (List ℕ)) (y : List ℕ) → AllByRecursion (Lacks 10) ms → AllByRecursion (Lacks 10) bs → text_of ms ++ x ≡ text_of bs ++ y → Fronts ms x bs y
+fronts : (ms : List (List ℕ)) (x : List ℕ) (bs : List (List ℕ)) (y : List ℕ) → AllByRecursion (Lacks 10) ms → AllByRecursion (Lacks 10) bs → lines_text ms ++ x ≡ lines_text bs ++ y → Fronts ms x bs y
 fronts [] x [] y fa fb e = Same refl
-fronts [] x (b ∷ bs) y fa fb e = Before (record { line = b; more = bs; rest = text_of bs ++ y; lines = refl; cut = e ∙ text_behind b bs y; free = fb.0 })
-fronts (a ∷ ms) x [] y fa fb e = Behind (record { line = a; more = ms; rest = text_of ms ++ x; lines = refl; cut = sym e ∙ text_behind a ms x; free = fa.0 })
+fronts [] x (b ∷ bs) y fa fb e = Before (record { line = b; more = bs; rest = lines_text bs ++ y; lines = refl; cut = e ∙ text_behind b bs y; free = fb.0 })
+fronts (a ∷ ms) x [] y fa fb e = Behind (record { line = a; more = ms; rest = lines_text ms ++ x; lines = refl; cut = sym e ∙ text_behind a ms x; free = fa.0 })
 fronts (a ∷ ms) x (b ∷ bs) y fa fb e =
-    let same = one_cut 10 a b (text_of ms ++ x) (text_of bs ++ y) fa.0 fb.0 (sym (text_behind a ms x) ∙ e ∙ text_behind b bs y) in
+    let same = one_cut 10 a b (lines_text ms ++ x) (lines_text bs ++ y) fa.0 fb.0 (sym (text_behind a ms x) ∙ e ∙ text_behind b bs y) in
     one_more a b ms x bs y same.0 (fronts ms x bs y fa.1 fb.1 same.1)
 
 has_it : (xs ys : List ℕ) → Lacks 10 (xs ++ (10 ∷ ys)) → ⊥

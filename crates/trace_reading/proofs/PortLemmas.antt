@@ -9,7 +9,7 @@ use Rattle.trace_reading.specs.declared.trace.TracePort.{TracePort}
 use Rattle.trace_reading.specs.declared.trace.TraceLine.TheVariants.{At, Value}
 use Rattle.trace_reading.specs.declared.item.Item.{Item}
 use Rattle.trace_reading.specs.declared.item.Item.TheVariants.{Row, End}
-use Rattle.trace_reading.specs.Lines.{port_line}
+use Rattle.trace_reading.specs.Lines.{line_of_port}
 use Rattle.trace_reading.specs.Walk.{item_line, IsShortItem}
 use Rattle.trace_reading.proofs.ListLemmas.{heads, tails}
 use Rattle.trace_reading.proofs.LineLemmas.{lacks_decimal, one_cut, begins_with_digit}
@@ -107,7 +107,7 @@ same_port a b c d v w kinds components variables =
     ap (λ (x : PortType). port_of x c v) kinds ∙ ap (λ (x : List ℕ). port_of b x v) components ∙ ap (λ (x : List ℕ). port_of b d x) variables
 
 -- a line of the k-th port is that of one port
-pub one_port : (k : ℕ) (p q : TracePort) → k < 2 ^ 64 → port_line k p ≡ port_line k q → p ≡ q
+pub one_port : (k : ℕ) (p q : TracePort) → k < 2 ^ 64 → line_of_port k p ≡ line_of_port k q → p ≡ q
 one_port k p q low e =
     let rest = behind_word (decimal k ++ (32 ∷ (type_name p.kind ++ (32 ∷ (escaped p.component ++ (32 ∷ escaped p.variable)))))) (decimal k ++ (32 ∷ (type_name q.kind ++ (32 ∷ (escaped q.component ++ (32 ∷ escaped q.variable)))))) e in
     let digits = lacks_decimal 32 k (omega arith) low in
@@ -117,7 +117,7 @@ one_port k p q low e =
     same_port p.kind q.kind p.component q.component p.variable q.variable (one_type p.kind q.kind types.0) (one_name p.component q.component names.0) (one_name p.variable q.variable names.1)
 
 -- no line behind the ports is the line of a port
-pub no_port : (item : Item) (k : ℕ) (p : TracePort) → IsShortItem item → item_line item ≡ port_line k p → ⊥
+pub no_port : (item : Item) (k : ℕ) (p : TracePort) → IsShortItem item → item_line item ≡ line_of_port k p → ⊥
 no_port (Row (At t n)) k p short e = omega (arith, heads 97 112 _ _ e)
 no_port (Row (Value port value)) k p short e = begins_with_digit port 112 _ _ short.0 (omega arith) e
 no_port (End kind t) k p short e = omega (arith, heads 101 112 _ _ e)

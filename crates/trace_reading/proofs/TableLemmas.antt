@@ -10,8 +10,9 @@ use Rattle.std.proofs.lemmas.Bool.{cases_lt, eq-eqb}
 use Rattle.value_types.specs.declared.values.PortType.{PortType}
 use Rattle.value_types.specs.Values.{is_fitting}
 use Rattle.trace_reading.specs.declared.trace.TracePort.{TracePort}
-use Rattle.trace_reading.specs.Form.{IsNamed, kinds_of, port_lines_from}
-use Rattle.trace_reading.specs.Lines.{port_line, text_of}
+use Rattle.trace_reading.specs.Form.{IsNamed, kinds_of, lines_of_ports}
+use Rattle.trace_reading.specs.Lines.{line_of_port}
+use Rattle.system_model.specs.Text.{lines_text}
 use Rattle.trace_reading.specs.Walk.{is_clock, clocks_before, fits_at, is_next, IsClockTable}
 use Rattle.trace_reading.proofs.ClockLemmas.{past_other, past_clock}
 use Rattle.trace_reading.proofs.WalkLemmas.{text_push}
@@ -21,21 +22,21 @@ use Rattle.trace_reading.proofs.FitLemmas.{fitting_at}
 
 -- ---- ports
 
-ports_push : (k : ℕ) (ports : List TracePort) (p : TracePort) → port_lines_from k (ports ++ (p ∷ [])) ≡ port_lines_from k ports ++ (port_line (k + length ports) p ∷ [])
-ports_push k [] p = let same : k ≡ k + 0 = omega arith in ap (λ (n : ℕ). port_line n p ∷ []) same
+ports_push : (k : ℕ) (ports : List TracePort) (p : TracePort) → lines_of_ports k (ports ++ (p ∷ [])) ≡ lines_of_ports k ports ++ (line_of_port (k + length ports) p ∷ [])
+ports_push k [] p = let same : k ≡ k + 0 = omega arith in ap (λ (n : ℕ). line_of_port n p ∷ []) same
 ports_push k (q ∷ ports) p =
     let up : (k + 1) + length ports ≡ k + suc (length ports) = omega arith in
-    ap (λ (ls : List (List ℕ)). port_line k q ∷ ls) (ports_push (k + 1) ports p ∙ ap (λ (n : ℕ). port_lines_from (k + 1) ports ++ (port_line n p ∷ [])) up)
+    ap (λ (ls : List (List ℕ)). line_of_port k q ∷ ls) (ports_push (k + 1) ports p ∙ ap (λ (n : ℕ). lines_of_ports (k + 1) ports ++ (line_of_port n p ∷ [])) up)
 
-pub more_ports : (text rest behind : List ℕ) (ports more : List TracePort) (p : TracePort) → text ≡ text_of (port_lines_from 0 ports) ++ rest → rest ≡ port_line (length ports) p ++ (10 ∷ behind) → more ≡ ports ++ (p ∷ []) → text ≡ text_of (port_lines_from 0 more) ++ behind
+pub more_ports : (text rest behind : List ℕ) (ports more : List TracePort) (p : TracePort) → text ≡ lines_text (lines_of_ports 0 ports) ++ rest → rest ≡ line_of_port (length ports) p ++ (10 ∷ behind) → more ≡ ports ++ (p ∷ []) → text ≡ lines_text (lines_of_ports 0 more) ++ behind
 more_ports text rest behind ports more p parts cut pushed =
     let number : length ports ≡ 0 + length ports = omega arith in
     parts
-    ∙ ap (λ (xs : List ℕ). text_of (port_lines_from 0 ports) ++ xs) cut
-    ∙ sym (text_push (port_lines_from 0 ports) (port_line (length ports) p) behind)
-    ∙ ap (λ (n : ℕ). text_of (port_lines_from 0 ports ++ (port_line n p ∷ [])) ++ behind) number
-    ∙ ap (λ (ls : List (List ℕ)). text_of ls ++ behind) (sym (ports_push 0 ports p))
-    ∙ ap (λ (ps : List TracePort). text_of (port_lines_from 0 ps) ++ behind) (sym pushed)
+    ∙ ap (λ (xs : List ℕ). lines_text (lines_of_ports 0 ports) ++ xs) cut
+    ∙ sym (text_push (lines_of_ports 0 ports) (line_of_port (length ports) p) behind)
+    ∙ ap (λ (n : ℕ). lines_text (lines_of_ports 0 ports ++ (line_of_port n p ∷ [])) ++ behind) number
+    ∙ ap (λ (ls : List (List ℕ)). lines_text ls ++ behind) (sym (ports_push 0 ports p))
+    ∙ ap (λ (ps : List TracePort). lines_text (lines_of_ports 0 ps) ++ behind) (sym pushed)
 
 named_push : (ports : List TracePort) (p : TracePort) → AllByRecursion IsNamed ports → IsNamed p → AllByRecursion IsNamed (ports ++ (p ∷ []))
 named_push [] p all named = (named, tt)

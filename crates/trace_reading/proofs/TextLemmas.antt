@@ -9,14 +9,14 @@ use Rattle.value_types.specs.declared.values.PortType.{PortType}
 use Rattle.value_types.specs.declared.values.PortType.TheVariants.{Int8, UInt8, Int16, UInt16, Int32, UInt32, Int64, UInt64, Boolean, Enumeration, Clock}
 use Rattle.system_model.specs.declared.plan.EndKind.{EndKind}
 use Rattle.system_model.specs.declared.plan.EndKind.TheVariants.{Stop, Asked, Limit, Fixed, Fault}
-use Rattle.system_model.specs.Text.{type_name, kind_text}
+use Rattle.system_model.specs.Text.{type_name, kind_text, header_line, lines_text}
 use Rattle.trace_reading.specs.declared.trace.TracePort.{TracePort}
 use Rattle.trace_reading.specs.declared.trace.TraceLine.TheVariants.{At, Value}
 use Rattle.trace_reading.specs.declared.item.Item.{Item}
 use Rattle.trace_reading.specs.declared.item.Item.TheVariants.{Row, End}
 use Rattle.trace_reading.specs.declared.item.Place.{Place}
-use Rattle.trace_reading.specs.Form.{IsRange, port_lines_from}
-use Rattle.trace_reading.specs.Lines.{Lacks, IsShort, text_of, header_line, port_line}
+use Rattle.trace_reading.specs.Form.{IsRange, lines_of_ports}
+use Rattle.trace_reading.specs.Lines.{Lacks, IsShort, line_of_port}
 use Rattle.trace_reading.specs.Walk.{walk, place_behind, item_line, IsShortItem}
 use Rattle.trace_reading.proofs.LineLemmas.{lacks_decimal, one_cut}
 use Rattle.trace_reading.proofs.FaultLemmas.{stepped}
@@ -100,14 +100,14 @@ is_header_line resolution start stop range =
     (spaced (decimal resolution) (decimal start ++ (32 ∷ decimal stop)) (lacks_decimal 10 resolution (omega arith) (omega (arith, range.within)))
     (spaced (decimal start) (decimal stop) (lacks_decimal 10 start (omega arith) (omega (arith, range.order, range.end))) (lacks_decimal 10 stop (omega arith) (omega (arith, range.end)))))
 
-pub is_port_line : (k : ℕ) (port : TracePort) → k < 2 ^ 64 → Lacks 10 (port_line k port)
+pub is_port_line : (k : ℕ) (port : TracePort) → k < 2 ^ 64 → Lacks 10 (line_of_port k port)
 is_port_line k port low =
     lacks_both 10 (codes "port ") (decimal k ++ (32 ∷ (type_name port.kind ++ (32 ∷ (escaped port.component ++ (32 ∷ escaped port.variable)))))) (search rules)
     (spaced (decimal k) (type_name port.kind ++ (32 ∷ (escaped port.component ++ (32 ∷ escaped port.variable)))) (lacks_decimal 10 k (omega arith) low)
     (spaced (type_name port.kind) (escaped port.component ++ (32 ∷ escaped port.variable)) (lacks_type_10 port.kind)
     (spaced (escaped port.component) (escaped port.variable) (lacks_escaped 10 port.component (omega arith)) (lacks_escaped 10 port.variable (omega arith)))))
 
-pub are_port_lines : (k : ℕ) (ports : List TracePort) → k + length ports < 2 ^ 64 → AllByRecursion (Lacks 10) (port_lines_from k ports)
+pub are_port_lines : (k : ℕ) (ports : List TracePort) → k + length ports < 2 ^ 64 → AllByRecursion (Lacks 10) (lines_of_ports k ports)
 are_port_lines k [] few = tt
 are_port_lines k (port ∷ ports) few = (is_port_line k port (omega (arith, few)), are_port_lines (k + 1) ports (omega (arith, few)))
 
@@ -136,24 +136,24 @@ pub record Front (whole before : List (List ℕ)) (line : List ℕ) : Type 0 whe
   pub more : List (List ℕ)
   pub parts : whole ≡ before ++ (line ∷ more)
 
-pub lines_front : (whole before : List (List ℕ)) (line rest : List ℕ) → AllByRecursion (Lacks 10) whole → AllByRecursion (Lacks 10) before → Lacks 10 line → text_of whole ≡ text_of before ++ (line ++ (10 ∷ rest)) → Front whole before line
+pub lines_front : (whole before : List (List ℕ)) (line rest : List ℕ) → AllByRecursion (Lacks 10) whole → AllByRecursion (Lacks 10) before → Lacks 10 line → lines_text whole ≡ lines_text before ++ (line ++ (10 ∷ rest)) → Front whole before line
 lines_front [] [] line rest aw ab al e = absurd (not_empty line rest 10 e)
 lines_front (x ∷ xs) [] line rest aw ab al e =
-    let both = one_cut 10 x line (text_of xs) rest aw.0 al e in
+    let both = one_cut 10 x line (lines_text xs) rest aw.0 al e in
     record { more = xs; parts = ap (λ (l : List ℕ). l ∷ xs) both.0 }
-lines_front [] (y ∷ ys) line rest aw ab al e = absurd (not_empty y (text_of ys ++ (line ++ (10 ∷ rest))) 10 (e ∙ append_assoc y (10 ∷ text_of ys) (line ++ (10 ∷ rest))))
+lines_front [] (y ∷ ys) line rest aw ab al e = absurd (not_empty y (lines_text ys ++ (line ++ (10 ∷ rest))) 10 (e ∙ append_assoc y (10 ∷ lines_text ys) (line ++ (10 ∷ rest))))
 lines_front (x ∷ xs) (y ∷ ys) line rest aw ab al e =
-    let both = one_cut 10 x y (text_of xs) (text_of ys ++ (line ++ (10 ∷ rest))) aw.0 ab.0 (e ∙ append_assoc y (10 ∷ text_of ys) (line ++ (10 ∷ rest))) in
+    let both = one_cut 10 x y (lines_text xs) (lines_text ys ++ (line ++ (10 ∷ rest))) aw.0 ab.0 (e ∙ append_assoc y (10 ∷ lines_text ys) (line ++ (10 ∷ rest))) in
     let later = lines_front xs ys line rest aw.1 ab.1 al both.1 in
     record { more = later.more; parts = ap (λ (l : List ℕ). l ∷ xs) both.0 ∙ ap (λ (ls : List (List ℕ)). y ∷ ls) later.parts }
 
 -- a text has one list of lines
-pub one_list : (ms bs : List (List ℕ)) → AllByRecursion (Lacks 10) ms → AllByRecursion (Lacks 10) bs → text_of ms ≡ text_of bs → ms ≡ bs
+pub one_list : (ms bs : List (List ℕ)) → AllByRecursion (Lacks 10) ms → AllByRecursion (Lacks 10) bs → lines_text ms ≡ lines_text bs → ms ≡ bs
 one_list [] [] fa fb e = refl
-one_list [] (b ∷ bs) fa fb e = absurd (not_empty b (text_of bs) 10 e)
-one_list (a ∷ ms) [] fa fb e = absurd (not_empty a (text_of ms) 10 (sym e))
+one_list [] (b ∷ bs) fa fb e = absurd (not_empty b (lines_text bs) 10 e)
+one_list (a ∷ ms) [] fa fb e = absurd (not_empty a (lines_text ms) 10 (sym e))
 one_list (a ∷ ms) (b ∷ bs) fa fb e =
-    let both = one_cut 10 a b (text_of ms) (text_of bs) fa.0 fb.0 e in
+    let both = one_cut 10 a b (lines_text ms) (lines_text bs) fa.0 fb.0 e in
     let later = one_list ms bs fa.1 fb.1 both.1 in
     cc (both.0, later)
 
@@ -162,13 +162,13 @@ lacks_not byte [] rest h = h.0 refl
 lacks_not byte (c ∷ cs) rest h = lacks_not byte cs rest h.1
 
 -- a text whose rest behind some lines has no line feed ends with these lines
-pub ends_there : (whole before : List (List ℕ)) (after : List ℕ) → AllByRecursion (Lacks 10) whole → AllByRecursion (Lacks 10) before → Lacks 10 after → text_of whole ≡ text_of before ++ after → (whole ≡ before) × (after ≡ [])
+pub ends_there : (whole before : List (List ℕ)) (after : List ℕ) → AllByRecursion (Lacks 10) whole → AllByRecursion (Lacks 10) before → Lacks 10 after → lines_text whole ≡ lines_text before ++ after → (whole ≡ before) × (after ≡ [])
 ends_there [] [] after aw ab al e = (refl, sym e)
 ends_there (x ∷ xs) [] after aw ab al e =
     let P : List ℕ → Type 0 = λ bytes. Lacks 10 bytes in
-    absurd (lacks_not 10 x (text_of xs) (subst P (sym e) al))
-ends_there [] (y ∷ ys) after aw ab al e = absurd (not_empty y (text_of ys ++ after) 10 (e ∙ append_assoc y (10 ∷ text_of ys) after))
+    absurd (lacks_not 10 x (lines_text xs) (subst P (sym e) al))
+ends_there [] (y ∷ ys) after aw ab al e = absurd (not_empty y (lines_text ys ++ after) 10 (e ∙ append_assoc y (10 ∷ lines_text ys) after))
 ends_there (x ∷ xs) (y ∷ ys) after aw ab al e =
-    let both = one_cut 10 x y (text_of xs) (text_of ys ++ after) aw.0 ab.0 (e ∙ append_assoc y (10 ∷ text_of ys) after) in
+    let both = one_cut 10 x y (lines_text xs) (lines_text ys ++ after) aw.0 ab.0 (e ∙ append_assoc y (10 ∷ lines_text ys) after) in
     let later = ends_there xs ys after aw.1 ab.1 al both.1 in
     (ap (λ (l : List ℕ). l ∷ xs) both.0 ∙ ap (λ (ls : List (List ℕ)). y ∷ ls) later.0, later.1)

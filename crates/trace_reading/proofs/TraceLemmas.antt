@@ -13,8 +13,9 @@ use Rattle.trace_reading.specs.declared.trace.TraceLine.{TraceLine}
 use Rattle.trace_reading.specs.declared.item.Item.{Item}
 use Rattle.trace_reading.specs.declared.item.Place.{Place}
 use Rattle.trace_reading.specs.declared.item.Place.TheVariants.{Between, Ended}
-use Rattle.trace_reading.specs.Lines.{Lacks, header_line, port_line, line_text, end_line, text_of}
-use Rattle.trace_reading.specs.Form.{IsRange, IsNamed, IsTrace, IsTextOf, kinds_of, lines_of, port_lines_from, instant_lines}
+use Rattle.trace_reading.specs.Lines.{Lacks, line_of_port, line_text}
+use Rattle.system_model.specs.Text.{header_line, end_line, lines_text}
+use Rattle.trace_reading.specs.Form.{IsRange, IsNamed, IsTrace, IsTextOf, kinds_of, lines_of, lines_of_ports, instant_lines}
 use Rattle.trace_reading.specs.Faults.{Begins, IsFirstFault, Wrong}
 use Rattle.trace_reading.specs.Faults.Wrong.{NoText, Unended}
 use Rattle.trace_reading.specs.Parts.{StandBefore}
@@ -53,35 +54,35 @@ walked t form =
 
 -- ---- the same ports
 
-not_line : (item : Item) (is : List Item) (k : ℕ) (p : TracePort) (ls : List (List ℕ)) → AllByRecursion IsShortItem (item ∷ is) → map item_line (item ∷ is) ≡ port_line k p ∷ ls → ⊥
-not_line item is k p ls short e = no_port item k p short.0 (heads (item_line item) (port_line k p) (map item_line is) ls e)
+not_line : (item : Item) (is : List Item) (k : ℕ) (p : TracePort) (ls : List (List ℕ)) → AllByRecursion IsShortItem (item ∷ is) → map item_line (item ∷ is) ≡ line_of_port k p ∷ ls → ⊥
+not_line item is k p ls short e = no_port item k p short.0 (heads (item_line item) (line_of_port k p) (map item_line is) ls e)
 
-no_line : (items : List Item) (k : ℕ) (p : TracePort) (ls : List (List ℕ)) → AllByRecursion IsShortItem items → map item_line items ≡ port_line k p ∷ ls → ⊥
+no_line : (items : List Item) (k : ℕ) (p : TracePort) (ls : List (List ℕ)) → AllByRecursion IsShortItem items → map item_line items ≡ line_of_port k p ∷ ls → ⊥
 no_line [] k p ls short e = cc e
 no_line (item ∷ is) k p ls short e = not_line item is k p ls short e
 
-pub same_parts : (k : ℕ) (ps qs : List TracePort) (ms bs : List Item) → k + length ps < 2 ^ 64 → AllByRecursion IsShortItem ms → AllByRecursion IsShortItem bs → port_lines_from k ps ++ map item_line ms ≡ port_lines_from k qs ++ map item_line bs → (ps ≡ qs) × (map item_line ms ≡ map item_line bs)
+pub same_parts : (k : ℕ) (ps qs : List TracePort) (ms bs : List Item) → k + length ps < 2 ^ 64 → AllByRecursion IsShortItem ms → AllByRecursion IsShortItem bs → lines_of_ports k ps ++ map item_line ms ≡ lines_of_ports k qs ++ map item_line bs → (ps ≡ qs) × (map item_line ms ≡ map item_line bs)
 same_parts k [] [] ms bs few sa sb e = (refl, e)
-same_parts k [] (q ∷ qs) ms bs few sa sb e = absurd (no_line ms k q (port_lines_from (k + 1) qs ++ map item_line bs) sa e)
-same_parts k (p ∷ ps) [] ms bs few sa sb e = absurd (no_line bs k p (port_lines_from (k + 1) ps ++ map item_line ms) sb (sym e))
+same_parts k [] (q ∷ qs) ms bs few sa sb e = absurd (no_line ms k q (lines_of_ports (k + 1) qs ++ map item_line bs) sa e)
+same_parts k (p ∷ ps) [] ms bs few sa sb e = absurd (no_line bs k p (lines_of_ports (k + 1) ps ++ map item_line ms) sb (sym e))
 same_parts k (p ∷ ps) (q ∷ qs) ms bs few sa sb e =
-    let first = one_port k p q (omega (arith, few)) (heads (port_line k p) (port_line k q) (port_lines_from (k + 1) ps ++ map item_line ms) (port_lines_from (k + 1) qs ++ map item_line bs) e) in
-    let later = same_parts (k + 1) ps qs ms bs (omega (arith, few)) sa sb (tails (port_line k p) (port_line k q) (port_lines_from (k + 1) ps ++ map item_line ms) (port_lines_from (k + 1) qs ++ map item_line bs) e) in
+    let first = one_port k p q (omega (arith, few)) (heads (line_of_port k p) (line_of_port k q) (lines_of_ports (k + 1) ps ++ map item_line ms) (lines_of_ports (k + 1) qs ++ map item_line bs) e) in
+    let later = same_parts (k + 1) ps qs ms bs (omega (arith, few)) sa sb (tails (line_of_port k p) (line_of_port k q) (lines_of_ports (k + 1) ps ++ map item_line ms) (lines_of_ports (k + 1) qs ++ map item_line bs) e) in
     let others = later.0 in
     (cc (first, others), later.1)
 
 -- the same, where a line follows that is no line of the next port
-pub same_front : (k m : ℕ) (ps qs : List TracePort) (ms bs : List Item) (line : List ℕ) (more : List (List ℕ)) → k + length qs ≡ m → m < 2 ^ 64 → AllByRecursion IsNamed ps → ((port : TracePort) → IsNamed port → bs ≡ [] → line ≡ port_line m port → ⊥) → AllByRecursion IsShortItem ms → AllByRecursion IsShortItem bs → port_lines_from k ps ++ map item_line ms ≡ port_lines_from k qs ++ (map item_line bs ++ (line ∷ more)) → (ps ≡ qs) × (map item_line ms ≡ map item_line bs ++ (line ∷ more))
+pub same_front : (k m : ℕ) (ps qs : List TracePort) (ms bs : List Item) (line : List ℕ) (more : List (List ℕ)) → k + length qs ≡ m → m < 2 ^ 64 → AllByRecursion IsNamed ps → ((port : TracePort) → IsNamed port → bs ≡ [] → line ≡ line_of_port m port → ⊥) → AllByRecursion IsShortItem ms → AllByRecursion IsShortItem bs → lines_of_ports k ps ++ map item_line ms ≡ lines_of_ports k qs ++ (map item_line bs ++ (line ∷ more)) → (ps ≡ qs) × (map item_line ms ≡ map item_line bs ++ (line ∷ more))
 same_front k m [] [] ms bs line more at few named last sa sb e = (refl, e)
-same_front k m [] (q ∷ qs) ms bs line more at few named last sa sb e = absurd (no_line ms k q (port_lines_from (k + 1) qs ++ (map item_line bs ++ (line ∷ more))) sa e)
+same_front k m [] (q ∷ qs) ms bs line more at few named last sa sb e = absurd (no_line ms k q (lines_of_ports (k + 1) qs ++ (map item_line bs ++ (line ∷ more))) sa e)
 same_front k m (p ∷ ps) [] ms [] line more at few named last sa sb e =
     let number : k ≡ m = omega (arith, at) in
-    absurd (last p named.0 refl (sym (heads (port_line k p) line (port_lines_from (k + 1) ps ++ map item_line ms) more e) ∙ ap (λ (j : ℕ). port_line j p) number))
+    absurd (last p named.0 refl (sym (heads (line_of_port k p) line (lines_of_ports (k + 1) ps ++ map item_line ms) more e) ∙ ap (λ (j : ℕ). line_of_port j p) number))
 same_front k m (p ∷ ps) [] ms (b ∷ bs) line more at few named last sa sb e =
-    absurd (no_port b k p sb.0 (sym (heads (port_line k p) (item_line b) (port_lines_from (k + 1) ps ++ map item_line ms) (map item_line bs ++ (line ∷ more)) e)))
+    absurd (no_port b k p sb.0 (sym (heads (line_of_port k p) (item_line b) (lines_of_ports (k + 1) ps ++ map item_line ms) (map item_line bs ++ (line ∷ more)) e)))
 same_front k m (p ∷ ps) (q ∷ qs) ms bs line more at few named last sa sb e =
-    let first = one_port k p q (omega (arith, at, few)) (heads (port_line k p) (port_line k q) (port_lines_from (k + 1) ps ++ map item_line ms) (port_lines_from (k + 1) qs ++ (map item_line bs ++ (line ∷ more))) e) in
-    let later = same_front (k + 1) m ps qs ms bs line more (omega (arith, at)) few named.1 last sa sb (tails (port_line k p) (port_line k q) (port_lines_from (k + 1) ps ++ map item_line ms) (port_lines_from (k + 1) qs ++ (map item_line bs ++ (line ∷ more))) e) in
+    let first = one_port k p q (omega (arith, at, few)) (heads (line_of_port k p) (line_of_port k q) (lines_of_ports (k + 1) ps ++ map item_line ms) (lines_of_ports (k + 1) qs ++ (map item_line bs ++ (line ∷ more))) e) in
+    let later = same_front (k + 1) m ps qs ms bs line more (omega (arith, at)) few named.1 last sa sb (tails (line_of_port k p) (line_of_port k q) (lines_of_ports (k + 1) ps ++ map item_line ms) (lines_of_ports (k + 1) qs ++ (map item_line bs ++ (line ∷ more))) e) in
     let others = later.0 in
     (cc (first, others), later.1)
 
@@ -140,10 +141,10 @@ same_trace r s e r2 s2 e2 ps qs xs ys k l p q er es ee eps exs ek ep =
 
 -- the parts of a trace's lines behind the header
 abbrev pub tail_lines : Trace → List (List ℕ)
-tail_lines t = port_lines_from 0 t.ports ++ map item_line (items_of t.lines t.kind t.point)
+tail_lines t = lines_of_ports 0 t.ports ++ map item_line (items_of t.lines t.kind t.point)
 
 pub lines_are : (t : Trace) → lines_of t ≡ header_line t.resolution t.start t.stop ∷ tail_lines t
-lines_are t = ap (λ (ls : List (List ℕ)). header_line t.resolution t.start t.stop ∷ (port_lines_from 0 t.ports ++ ls)) (lines_items t.lines t.kind t.point)
+lines_are t = ap (λ (ls : List (List ℕ)). header_line t.resolution t.start t.stop ∷ (lines_of_ports 0 t.ports ++ ls)) (lines_items t.lines t.kind t.point)
 
 pub one_trace_of : (t u : Trace) → IsTrace t → IsTrace u → lines_of t ≡ lines_of u → t ≡ u
 one_trace_of t u f g e =
@@ -162,7 +163,7 @@ lines_free t form =
     let P : List (List ℕ) → Type 0 = λ ls. AllByRecursion (Lacks 10) ls in
     subst P (sym (lines_are t)) (
       is_header_line t.resolution t.start t.stop form.range,
-      all_append (port_lines_from 0 t.ports) (map item_line (items_of t.lines t.kind t.point)) (are_port_lines 0 t.ports (omega (arith, form.few)))
+      all_append (lines_of_ports 0 t.ports) (map item_line (items_of t.lines t.kind t.point)) (are_port_lines 0 t.ports (omega (arith, form.few)))
           (are_lines (kinds_of t.ports) (few_kinds t.ports form.few) Between (Ended t.kind t.point) (items_of t.lines t.kind t.point) (walked t form)),
     )
 
@@ -181,9 +182,9 @@ begins_free lines b =
     let P : List (List ℕ) → Type 0 = λ ls. AllByRecursion (Lacks 10) ls in
     front_free lines b.more (subst P b.parts (lines_free b.trace b.form))
 
-wrong_text : (bytes : List ℕ) (before : List (List ℕ)) (after : List ℕ) (t : Trace) → bytes ≡ text_of before ++ after → Begins before → Wrong before after → IsTextOf bytes t → ⊥
+wrong_text : (bytes : List ℕ) (before : List (List ℕ)) (after : List ℕ) (t : Trace) → bytes ≡ lines_text before ++ after → Begins before → Wrong before after → IsTextOf bytes t → ⊥
 wrong_text bytes before after t parts good (NoText line rest cut free none) text =
-    let front = lines_front (lines_of t) before line rest (lines_free t text.form) (begins_free before good) free (sym text.text ∙ parts ∙ ap (λ (xs : List ℕ). text_of before ++ xs) cut) in
+    let front = lines_front (lines_of t) before line rest (lines_free t text.form) (begins_free before good) free (sym text.text ∙ parts ∙ ap (λ (xs : List ℕ). lines_text before ++ xs) cut) in
     none (record { trace = t; form = text.form; more = front.more; parts = front.parts ∙ sym (append_assoc before (line ∷ []) front.more) })
 wrong_text bytes before after t parts good (Unended free none) text =
     none t (record { form = text.form; text = sym parts ∙ text.text })
@@ -233,12 +234,12 @@ cut_of [] = inl tt
 cut_of (b ∷ bytes) = first_cut b bytes (cut_of bytes)
 
 no_header : (bytes : List ℕ) (t : Trace) → ((resolution start stop : ℕ) (rest : List ℕ) → IsRange resolution start stop → bytes ≡ header_line resolution start stop ++ (10 ∷ rest) → ⊥) → IsTextOf bytes t → ⊥
-no_header bytes t none text = none t.resolution t.start t.stop (text_of (port_lines_from 0 t.ports ++ (map line_text t.lines ++ (end_line t.kind t.point ∷ [])))) text.form.range text.text
+no_header bytes t none text = none t.resolution t.start t.stop (lines_text (lines_of_ports 0 t.ports ++ (map line_text t.lines ++ (end_line t.kind t.point ∷ [])))) text.form.range text.text
 
 wrong_header : (bytes : List ℕ) → ((resolution start stop : ℕ) (rest : List ℕ) → IsRange resolution start stop → bytes ≡ header_line resolution start stop ++ (10 ∷ rest) → ⊥) → (Lacks 10 bytes) ⊎ Cut bytes → Wrong [] bytes
 wrong_header bytes none (inl free) = Unended free (λ t text. no_header bytes t none text)
 wrong_header bytes none (inr cut) = NoText cut.line cut.rest cut.parts cut.free (λ b.
-    let is : header_line b.trace.resolution b.trace.start b.trace.stop ≡ cut.line = heads (header_line b.trace.resolution b.trace.start b.trace.stop) cut.line (port_lines_from 0 b.trace.ports ++ (map line_text b.trace.lines ++ (end_line b.trace.kind b.trace.point ∷ []))) b.more b.parts in
+    let is : header_line b.trace.resolution b.trace.start b.trace.stop ≡ cut.line = heads (header_line b.trace.resolution b.trace.start b.trace.stop) cut.line (lines_of_ports 0 b.trace.ports ++ (map line_text b.trace.lines ++ (end_line b.trace.kind b.trace.point ∷ []))) b.more b.parts in
     none b.trace.resolution b.trace.start b.trace.stop cut.rest b.form.range (cut.parts ∙ ap (λ (xs : List ℕ). xs ++ (10 ∷ cut.rest)) (sym is)))
 
 pub header_fault : (bytes : List ℕ) → ((resolution start stop : ℕ) (rest : List ℕ) → IsRange resolution start stop → bytes ≡ header_line resolution start stop ++ (10 ∷ rest) → ⊥) → IsFirstFault bytes 1
@@ -257,19 +258,19 @@ pub record Read (bytes : List ℕ) (r s e : ℕ) (ports : List TracePort) (rest 
   pub header : bytes ≡ header_line r s e ++ (10 ∷ behind_header)
   pub ports_there : StandBefore behind_header ports rest
 
-text_append : (ms bs : List (List ℕ)) → text_of (ms ++ bs) ≡ text_of ms ++ text_of bs
+text_append : (ms bs : List (List ℕ)) → lines_text (ms ++ bs) ≡ lines_text ms ++ lines_text bs
 text_append [] bs = refl
-text_append (a ∷ ms) bs = ap (λ (xs : List ℕ). a ++ (10 ∷ xs)) (text_append ms bs) ∙ sym (append_assoc a (10 ∷ text_of ms) (text_of bs))
+text_append (a ∷ ms) bs = ap (λ (xs : List ℕ). a ++ (10 ∷ xs)) (text_append ms bs) ∙ sym (append_assoc a (10 ∷ lines_text ms) (lines_text bs))
 
-text_behind : (bytes : List ℕ) (r s e : ℕ) (ports : List TracePort) (rest after : List ℕ) (items : List Item) → Read bytes r s e ports rest → rest ≡ text_of (map item_line items) ++ after → bytes ≡ text_of (header_line r s e ∷ (port_lines_from 0 ports ++ map item_line items)) ++ after
+text_behind : (bytes : List ℕ) (r s e : ℕ) (ports : List TracePort) (rest after : List ℕ) (items : List Item) → Read bytes r s e ports rest → rest ≡ lines_text (map item_line items) ++ after → bytes ≡ lines_text (header_line r s e ∷ (lines_of_ports 0 ports ++ map item_line items)) ++ after
 text_behind bytes r s e ports rest after items read parts =
     read.header
     ∙ ap (λ (xs : List ℕ). header_line r s e ++ (10 ∷ xs)) (
     read.ports_there.parts
-    ∙ ap (λ (xs : List ℕ). text_of (port_lines_from 0 ports) ++ xs) parts
-    ∙ sym (append_assoc (text_of (port_lines_from 0 ports)) (text_of (map item_line items)) after)
-    ∙ ap (λ (xs : List ℕ). xs ++ after) (sym (text_append (port_lines_from 0 ports) (map item_line items))))
-    ∙ sym (append_assoc (header_line r s e) (10 ∷ text_of (port_lines_from 0 ports ++ map item_line items)) after)
+    ∙ ap (λ (xs : List ℕ). lines_text (lines_of_ports 0 ports) ++ xs) parts
+    ∙ sym (append_assoc (lines_text (lines_of_ports 0 ports)) (lines_text (map item_line items)) after)
+    ∙ ap (λ (xs : List ℕ). xs ++ after) (sym (text_append (lines_of_ports 0 ports) (map item_line items))))
+    ∙ sym (append_assoc (header_line r s e) (10 ∷ lines_text (lines_of_ports 0 ports ++ map item_line items)) after)
 
 -- the trace that was read
 pub whole_text : (bytes : List ℕ) (r s e : ℕ) (ports : List TracePort) (rest : List ℕ) (lines : List TraceLine) (kind : EndKind) (point : ℕ) → Read bytes r s e ports rest → IsRows (kinds_of ports) rest lines kind point →
@@ -280,13 +281,13 @@ whole_text bytes r s e ports rest lines kind point read rows =
     let t : Trace = record { resolution = r; start = s; stop = e; ports = ports; lines = lines; kind = kind; point = point } in
     record {
       form = record { range = read.range; few = read.ports_there.few; named = read.ports_there.named; instants = body.instants; each = body.form.each; lines = same.lines; point = body.form.low };
-      text = text_behind bytes r s e ports rest [] (items_of lines kind point) read (rows.parts ∙ sym (append_nil (text_of (map item_line (items_of lines kind point)))))
-          ∙ append_nil (text_of (header_line r s e ∷ (port_lines_from 0 ports ++ map item_line (items_of lines kind point))))
-          ∙ ap text_of (sym (lines_are t));
+      text = text_behind bytes r s e ports rest [] (items_of lines kind point) read (rows.parts ∙ sym (append_nil (lines_text (map item_line (items_of lines kind point)))))
+          ∙ append_nil (lines_text (header_line r s e ∷ (lines_of_ports 0 ports ++ map item_line (items_of lines kind point))))
+          ∙ ap lines_text (sym (lines_are t));
     }
 
 -- what was walked begins a trace
-begins_read : (r s e : ℕ) (ports : List TracePort) (before : List Item) (place : Place) → IsRange r s e → AllByRecursion IsNamed ports → length ports < 2 ^ 64 → walk (kinds_of ports) Between before ≡ Some place → Begins (header_line r s e ∷ (port_lines_from 0 ports ++ map item_line before))
+begins_read : (r s e : ℕ) (ports : List TracePort) (before : List Item) (place : Place) → IsRange r s e → AllByRecursion IsNamed ports → length ports < 2 ^ 64 → walk (kinds_of ports) Between before ≡ Some place → Begins (header_line r s e ∷ (lines_of_ports 0 ports ++ map item_line before))
 begins_read r s e ports before place range named few good =
     let on = goes_on (kinds_of ports) before place good in
     let body = sound (kinds_of ports) on.kind on.point (before ++ on.more) on.good in
@@ -298,17 +299,17 @@ begins_read r s e ports before place range named few good =
       form = record { range = range; few = few; named = named; instants = body.instants; each = body.form.each; lines = refl; point = body.form.low };
       more = map item_line on.more;
       parts = lines_are t ∙ ap (λ (ls : List (List ℕ)). header_line r s e ∷ ls) (
-          ap (λ (is : List Item). port_lines_from 0 ports ++ map item_line is) items
-          ∙ ap (λ (ls : List (List ℕ)). port_lines_from 0 ports ++ ls) (map-append item_line before on.more)
-          ∙ sym (append_assoc (port_lines_from 0 ports) (map item_line before) (map item_line on.more)));
+          ap (λ (is : List Item). lines_of_ports 0 ports ++ map item_line is) items
+          ∙ ap (λ (ls : List (List ℕ)). lines_of_ports 0 ports ++ ls) (map-append item_line before on.more)
+          ∙ sym (append_assoc (lines_of_ports 0 ports) (map item_line before) (map item_line on.more)));
     }
 
 -- no trace begins with the lines up to the fault
-no_more : (r s e : ℕ) (ports : List TracePort) (before : List Item) (place : Place) (line : List ℕ) → length ports < 2 ^ 64 → walk (kinds_of ports) Between before ≡ Some place → ((port : TracePort) → IsNamed port → before ≡ [] → line ≡ port_line (length ports) port → ⊥) → ((item : Item) → IsShortItem item → line ≡ item_line item → place_behind (kinds_of ports) place item ≡ None) → Begins ((header_line r s e ∷ (port_lines_from 0 ports ++ map item_line before)) ++ (line ∷ [])) → ⊥
+no_more : (r s e : ℕ) (ports : List TracePort) (before : List Item) (place : Place) (line : List ℕ) → length ports < 2 ^ 64 → walk (kinds_of ports) Between before ≡ Some place → ((port : TracePort) → IsNamed port → before ≡ [] → line ≡ line_of_port (length ports) port → ⊥) → ((item : Item) → IsShortItem item → line ≡ item_line item → place_behind (kinds_of ports) place item ≡ None) → Begins ((header_line r s e ∷ (lines_of_ports 0 ports ++ map item_line before)) ++ (line ∷ [])) → ⊥
 no_more r s e ports before place line few good last wrong b =
     let t = b.trace in
     let form = b.form in
-    let start = port_lines_from 0 ports in
+    let start = lines_of_ports 0 ports in
     let middle = map item_line before in
     let regroup : ((start ++ middle) ++ (line ∷ [])) ++ b.more ≡ start ++ (middle ++ (line ∷ b.more)) =
     append_assoc (start ++ middle) (line ∷ []) b.more ∙ append_assoc start middle (line ∷ b.more) in
@@ -323,10 +324,10 @@ no_more r s e ports before place line few good last wrong b =
     stuck (kinds_of ports) Between place (Ended t.kind t.point) before all line b.more (short_item (kinds_of ports) (few_kinds ports few)) good wrong all_walked front.1
 
 -- the lines before the fault are no whole text
-no_end : (r s e : ℕ) (ports : List TracePort) (before : List Item) (place : Place) (t : Trace) → length ports < 2 ^ 64 → walk (kinds_of ports) Between before ≡ Some place → IsTrace t → lines_of t ≡ header_line r s e ∷ (port_lines_from 0 ports ++ map item_line before) → place ≡ Ended t.kind t.point
+no_end : (r s e : ℕ) (ports : List TracePort) (before : List Item) (place : Place) (t : Trace) → length ports < 2 ^ 64 → walk (kinds_of ports) Between before ≡ Some place → IsTrace t → lines_of t ≡ header_line r s e ∷ (lines_of_ports 0 ports ++ map item_line before) → place ≡ Ended t.kind t.point
 no_end r s e ports before place t few good form same =
     let all = items_of t.lines t.kind t.point in
-    let tail = tails (header_line t.resolution t.start t.stop) (header_line r s e) (tail_lines t) (port_lines_from 0 ports ++ map item_line before) (sym (lines_are t) ∙ same) in
+    let tail = tails (header_line t.resolution t.start t.stop) (header_line r s e) (tail_lines t) (lines_of_ports 0 ports ++ map item_line before) (sym (lines_are t) ∙ same) in
     let all_short = shorts (kinds_of t.ports) (few_kinds t.ports form.few) Between (Ended t.kind t.point) all (walked t form) in
     let before_short = shorts (kinds_of ports) (few_kinds ports few) Between place before good in
     let parts = same_parts 0 t.ports ports all before (omega (arith, form.few)) all_short before_short tail in
@@ -334,28 +335,28 @@ no_end r s e ports before place t few good form same =
     let items = same_items all before (kinds_of ports) Between (Ended t.kind t.point) place (short_item (kinds_of ports) (few_kinds ports few)) all_walked good parts.1 in
     unsome place (Ended t.kind t.point) (sym good ∙ ap (λ (is : List Item). walk (kinds_of ports) Between is) (sym items) ∙ all_walked)
 
-length_port_lines : (k : ℕ) (ports : List TracePort) → length (port_lines_from k ports) ≡ length ports
+length_port_lines : (k : ℕ) (ports : List TracePort) → length (lines_of_ports k ports) ≡ length ports
 length_port_lines k [] = refl
 length_port_lines k (p ∷ ports) = ap suc (length_port_lines (k + 1) ports)
 
-wrong_line : (bytes : List ℕ) (r s e : ℕ) (ports : List TracePort) (rest : List ℕ) (before : List Item) (after : List ℕ) (place : Place) → Read bytes r s e ports rest → rest ≡ text_of (map item_line before) ++ after → walk (kinds_of ports) Between before ≡ Some place → Begins (header_line r s e ∷ (port_lines_from 0 ports ++ map item_line before)) → WrongBehind (kinds_of ports) place after → Wrong (header_line r s e ∷ (port_lines_from 0 ports ++ map item_line before)) after
+wrong_line : (bytes : List ℕ) (r s e : ℕ) (ports : List TracePort) (rest : List ℕ) (before : List Item) (after : List ℕ) (place : Place) → Read bytes r s e ports rest → rest ≡ lines_text (map item_line before) ++ after → walk (kinds_of ports) Between before ≡ Some place → Begins (header_line r s e ∷ (lines_of_ports 0 ports ++ map item_line before)) → WrongBehind (kinds_of ports) place after → Wrong (header_line r s e ∷ (lines_of_ports 0 ports ++ map item_line before)) after
 wrong_line bytes r s e ports rest before after place read parts good start (NoItem line more cut free none) =
     NoText line more cut free (no_more r s e ports before place line read.ports_there.few good
     (λ port named empty is. read.ports_there.last port more named
-    (parts ∙ ap (λ (is : List Item). text_of (map item_line is) ++ after) empty ∙ cut ∙ ap (λ (xs : List ℕ). xs ++ (10 ∷ more)) is))
+    (parts ∙ ap (λ (is : List Item). lines_text (map item_line is) ++ after) empty ∙ cut ∙ ap (λ (xs : List ℕ). xs ++ (10 ∷ more)) is))
     none)
 wrong_line bytes r s e ports rest before after place read parts good start (NoEnd free none) =
     Unended free (λ t text.
-    let there = ends_there (lines_of t) (header_line r s e ∷ (port_lines_from 0 ports ++ map item_line before)) after (lines_free t text.form) (begins_free (header_line r s e ∷ (port_lines_from 0 ports ++ map item_line before)) start) free (sym text.text) in
+    let there = ends_there (lines_of t) (header_line r s e ∷ (lines_of_ports 0 ports ++ map item_line before)) after (lines_free t text.form) (begins_free (header_line r s e ∷ (lines_of_ports 0 ports ++ map item_line before)) start) free (sym text.text) in
     none t.kind t.point (no_end r s e ports before place t read.ports_there.few good text.form there.0) there.1)
 
 -- the fault of a line behind the ports
 pub line_fault : (bytes : List ℕ) (r s e : ℕ) (ports : List TracePort) (rest : List ℕ) (n : ℕ) → Read bytes r s e ports rest → IsFirstFaultOf (kinds_of ports) rest n → IsFirstFault bytes (1 + length ports + n)
 line_fault bytes r s e ports rest n read fault =
     let start = begins_read r s e ports fault.before fault.place read.range read.ports_there.named read.ports_there.few fault.good in
-    let sizes = length-append (port_lines_from 0 ports) (map item_line fault.before) in
+    let sizes = length-append (lines_of_ports 0 ports) (map item_line fault.before) in
     record {
-      before = header_line r s e ∷ (port_lines_from 0 ports ++ map item_line fault.before);
+      before = header_line r s e ∷ (lines_of_ports 0 ports ++ map item_line fault.before);
       after = fault.after;
       parts = text_behind bytes r s e ports rest fault.after fault.before read fault.parts;
       good = start;
@@ -363,11 +364,11 @@ line_fault bytes r s e ports rest n read fault =
       wrong = wrong_line bytes r s e ports rest fault.before fault.after fault.place read fault.parts fault.good start fault.wrong;
     }
 
-no_longer : (lines : List (List ℕ)) → length lines ≤ length (text_of lines)
+no_longer : (lines : List (List ℕ)) → length lines ≤ length (lines_text lines)
 no_longer [] = omega arith
-no_longer (line ∷ lines) = omega (arith, length-append line (10 ∷ text_of lines), no_longer lines)
+no_longer (line ∷ lines) = omega (arith, length-append line (10 ∷ lines_text lines), no_longer lines)
 
 -- a fault's number is at most one more than the bytes
 pub fault_small : (bytes : List ℕ) (n : ℕ) → IsFirstFault bytes n → n ≤ length bytes + 1
 fault_small bytes n fault =
-    omega (arith, fault.number, no_longer fault.before, ap (λ (xs : List ℕ). length xs) fault.parts, length-append (text_of fault.before) fault.after)
+    omega (arith, fault.number, no_longer fault.before, ap (λ (xs : List ℕ). length xs) fault.parts, length-append (lines_text fault.before) fault.after)

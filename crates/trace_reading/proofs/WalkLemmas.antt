@@ -9,19 +9,19 @@ use Rattle.trace_reading.specs.declared.item.Item.{Item}
 use Rattle.trace_reading.specs.declared.item.Item.TheVariants.{Row, End}
 use Rattle.trace_reading.specs.declared.item.Place.{Place}
 use Rattle.trace_reading.specs.declared.item.Place.TheVariants.{Between, Within, Ended}
-use Rattle.trace_reading.specs.Lines.{text_of}
+use Rattle.system_model.specs.Text.{lines_text}
 use Rattle.trace_reading.specs.Walk.{walk, place_behind, item_line, items_in, rows_with, is_closed, is_next, is_start}
 
-pub text_push : (lines : List (List ℕ)) (line rest : List ℕ) → text_of (lines ++ (line ∷ [])) ++ rest ≡ text_of lines ++ (line ++ (10 ∷ rest))
+pub text_push : (lines : List (List ℕ)) (line rest : List ℕ) → lines_text (lines ++ (line ∷ [])) ++ rest ≡ lines_text lines ++ (line ++ (10 ∷ rest))
 text_push [] line rest = append_assoc line (10 ∷ []) rest
 text_push (l ∷ ls) line rest =
-    append_assoc l (10 ∷ text_of (ls ++ (line ∷ []))) rest
+    append_assoc l (10 ∷ lines_text (ls ++ (line ∷ []))) rest
     ∙ ap (λ (xs : List ℕ). l ++ (10 ∷ xs)) (text_push ls line rest)
-    ∙ sym (append_assoc l (10 ∷ text_of ls) (line ++ (10 ∷ rest)))
+    ∙ sym (append_assoc l (10 ∷ lines_text ls) (line ++ (10 ∷ rest)))
 
-pub items_push : (items : List Item) (item : Item) (rest : List ℕ) → text_of (map item_line (items ++ (item ∷ []))) ++ rest ≡ text_of (map item_line items) ++ (item_line item ++ (10 ∷ rest))
+pub items_push : (items : List Item) (item : Item) (rest : List ℕ) → lines_text (map item_line (items ++ (item ∷ []))) ++ rest ≡ lines_text (map item_line items) ++ (item_line item ++ (10 ∷ rest))
 items_push items item rest =
-    ap (λ (lines : List (List ℕ)). text_of lines ++ rest) (map-append item_line items (item ∷ []))
+    ap (λ (lines : List (List ℕ)). lines_text lines ++ rest) (map-append item_line items (item ∷ []))
     ∙ text_push (map item_line items) (item_line item) rest
 
 walk_step : (kinds : List PortType) (o : Option Place) (items : List Item) (item : Item) → ((p : Place) → walk kinds p (items ++ (item ∷ [])) ≡ option_and_then (λ (q : Place). place_behind kinds q item) (walk kinds p items)) → option_and_then (λ (p : Place). walk kinds p (items ++ (item ∷ []))) o ≡ option_and_then (λ (q : Place). place_behind kinds q item) (option_and_then (λ (p : Place). walk kinds p items) o)
@@ -61,12 +61,12 @@ in_push kinds lines (Within k) next (End kind t) e =
     ap (items_in lines) (is_that (is_closed kinds (Within k) && nat_le t (2 ^ 62)) (Ended kind t) next e)
 in_push kinds lines (Ended kind u) next (End k t) e = absurd (cc e)
 
-pub more_text : (bytes rest line behind : List ℕ) (items more : List Item) (item : Item) → bytes ≡ text_of (map item_line items) ++ rest → rest ≡ line ++ (10 ∷ behind) → line ≡ item_line item → more ≡ items ++ (item ∷ []) → bytes ≡ text_of (map item_line more) ++ behind
+pub more_text : (bytes rest line behind : List ℕ) (items more : List Item) (item : Item) → bytes ≡ lines_text (map item_line items) ++ rest → rest ≡ line ++ (10 ∷ behind) → line ≡ item_line item → more ≡ items ++ (item ∷ []) → bytes ≡ lines_text (map item_line more) ++ behind
 more_text bytes rest line behind items more item parts cut is pushed =
     parts
-    ∙ ap (λ (xs : List ℕ). text_of (map item_line items) ++ xs) (cut ∙ ap (λ (xs : List ℕ). xs ++ (10 ∷ behind)) is)
+    ∙ ap (λ (xs : List ℕ). lines_text (map item_line items) ++ xs) (cut ∙ ap (λ (xs : List ℕ). xs ++ (10 ∷ behind)) is)
     ∙ sym (items_push items item behind)
-    ∙ ap (λ (xs : List Item). text_of (map item_line xs) ++ behind) (sym pushed)
+    ∙ ap (λ (xs : List Item). lines_text (map item_line xs) ++ behind) (sym pushed)
 
 pub more_walk : (kinds : List PortType) (items more : List Item) (item : Item) (place next : Place) → walk kinds Between items ≡ Some place → place_behind kinds place item ≡ Some next → more ≡ items ++ (item ∷ []) → walk kinds Between more ≡ Some next
 more_walk kinds items more item place next good step pushed =

@@ -2,7 +2,8 @@
 use Rattle.std.specs.Prelude.{◌≡◌, ℕ, ◌+◌, List, [], ◌∷◌, ◌++◌, length}
 use Rattle.trace_reading.specs.declared.trace.Trace.{Trace}
 use Rattle.trace_reading.specs.Form.{IsTrace, IsTextOf, lines_of}
-use Rattle.trace_reading.specs.Lines.{Lacks, text_of}
+use Rattle.trace_reading.specs.Lines.{Lacks}
+use Rattle.system_model.specs.Text.{lines_text}
 
 -- some text of the form begins with these lines
 pub record Begins (lines : List (List ℕ)) : Type 0 where
@@ -15,14 +16,14 @@ pub record Begins (lines : List (List ℕ)) : Type 0 where
 pub data Wrong (before : List (List ℕ)) (after : List ℕ) : Type 0 where
   NoText : (line rest : List ℕ) → after ≡ line ++ (10 ∷ rest) → Lacks 10 line →
       (Begins (before ++ (line ∷ [])) → ⊥) → Wrong before after
-  Unended : Lacks 10 after → ((t : Trace) → IsTextOf (text_of before ++ after) t → ⊥) →
+  Unended : Lacks 10 after → ((t : Trace) → IsTextOf (lines_text before ++ after) t → ⊥) →
       Wrong before after
 
 -- the lines before the n-th begin a text, and the n-th is out of form or missing
 pub record IsFirstFault (bytes : List ℕ) (n : ℕ) : Type 0 where
   pub before : List (List ℕ)
   pub after : List ℕ
-  pub parts : bytes ≡ text_of before ++ after
+  pub parts : bytes ≡ lines_text before ++ after
   pub good : Begins before
   pub number : n ≡ length before + 1
   pub wrong : Wrong before after

@@ -4,23 +4,23 @@ use Rattle.std.specs.List.{AllByRecursion, AllZip, flat_map}
 use Rattle.value_types.specs.declared.values.PortType.{PortType}
 use Rattle.value_types.specs.declared.values.PortType.TheVariants.{Clock}
 use Rattle.value_types.specs.Values.{Fits}
-use Rattle.system_model.specs.Text.{Instant}
+use Rattle.system_model.specs.Text.{Instant, header_line, end_line, lines_text}
 use Rattle.trace_reading.specs.declared.trace.TracePort.{TracePort}
 use Rattle.trace_reading.specs.declared.trace.TraceLine.{TraceLine}
 use Rattle.trace_reading.specs.declared.trace.TraceLine.TheVariants.{At, Value}
 use Rattle.trace_reading.specs.declared.trace.Trace.{Trace}
-use Rattle.trace_reading.specs.Lines.{header_line, port_line, line_text, end_line, text_of}
+use Rattle.trace_reading.specs.Lines.{line_of_port, line_text}
 
 -- ---- instants
 
 -- a line for each port that has a value, whose numbers go on from k
-abbrev pub value_lines_from : ℕ → List (Option ℤ) → List TraceLine
-value_lines_from k [] = []
-value_lines_from k (None ∷ values) = value_lines_from (k + 1) values
-value_lines_from k (Some value ∷ values) = Value k value ∷ value_lines_from (k + 1) values
+abbrev pub told_values_from : ℕ → List (Option ℤ) → List TraceLine
+told_values_from k [] = []
+told_values_from k (None ∷ values) = told_values_from (k + 1) values
+told_values_from k (Some value ∷ values) = Value k value ∷ told_values_from (k + 1) values
 
 abbrev pub instant_lines : Instant → List TraceLine
-instant_lines i = At i.t i.n ∷ value_lines_from 0 i.values
+instant_lines i = At i.t i.n ∷ told_values_from 0 i.values
 
 -- a port has a value of its type or none; a Clock always has one
 abbrev pub MayHave : PortType → Option ℤ → Type 0
@@ -43,9 +43,9 @@ pub record IsNamed (p : TracePort) : Type 0 where
   pub variable : p.variable ≢ []
 
 -- a line for each port, whose numbers go on from k
-abbrev pub port_lines_from : ℕ → List TracePort → List (List ℕ)
-port_lines_from k [] = []
-port_lines_from k (p ∷ ports) = port_line k p ∷ port_lines_from (k + 1) ports
+abbrev pub lines_of_ports : ℕ → List TracePort → List (List ℕ)
+lines_of_ports k [] = []
+lines_of_ports k (p ∷ ports) = line_of_port k p ∷ lines_of_ports (k + 1) ports
 
 -- ---- the whole
 
@@ -69,9 +69,9 @@ pub record IsTrace (t : Trace) : Type 0 where
 abbrev pub lines_of : Trace → List (List ℕ)
 lines_of t =
     header_line t.resolution t.start t.stop ∷
-    (port_lines_from 0 t.ports ++ (map line_text t.lines ++ (end_line t.kind t.point ∷ [])))
+    (lines_of_ports 0 t.ports ++ (map line_text t.lines ++ (end_line t.kind t.point ∷ [])))
 
 -- the bytes are the text of the trace
 pub record IsTextOf (bytes : List ℕ) (t : Trace) : Type 0 where
   pub form : IsTrace t
-  pub text : bytes ≡ text_of (lines_of t)
+  pub text : bytes ≡ lines_text (lines_of t)

@@ -12,7 +12,8 @@ use Rattle.trace_reading.specs.declared.item.Item.{Item}
 use Rattle.trace_reading.specs.declared.item.Item.TheVariants.{Row, End}
 use Rattle.trace_reading.specs.declared.item.Place.{Place}
 use Rattle.trace_reading.specs.declared.item.Place.TheVariants.{Between, Within, Ended}
-use Rattle.trace_reading.specs.Lines.{Lacks, text_of, line_text, end_line, IsShort}
+use Rattle.trace_reading.specs.Lines.{Lacks, line_text, IsShort}
+use Rattle.system_model.specs.Text.{end_line, lines_text}
 
 -- ---- what a line tells
 
@@ -112,7 +113,7 @@ pub record IsFirstFaultOf (kinds : List PortType) (bytes : List ℕ) (n : ℕ) :
   pub before : List Item
   pub after : List ℕ
   pub place : Place
-  pub parts : bytes ≡ text_of (map item_line before) ++ after
+  pub parts : bytes ≡ lines_text (map item_line before) ++ after
   pub good : walk kinds Between before ≡ Some place
   pub number : n ≡ length before + 1
   pub wrong : WrongBehind kinds place after
@@ -120,5 +121,5 @@ pub record IsFirstFaultOf (kinds : List PortType) (bytes : List ℕ) (n : ℕ) :
 -- the text is that of these lines and this end, each where it may stand
 pub record IsRows (kinds : List PortType) (text : List ℕ) (lines : List TraceLine) (kind : EndKind)
     (point : ℕ) : Type 0 where
-  pub parts : text ≡ text_of (map item_line (items_of lines kind point))
+  pub parts : text ≡ lines_text (map item_line (items_of lines kind point))
   pub good : walk kinds Between (items_of lines kind point) ≡ Some (Ended kind point)

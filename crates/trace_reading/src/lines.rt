@@ -1,10 +1,10 @@
 ghost use Rattle.std.specs.Prelude.{ℤ, ◌≡◌, ℕ, ◌^◌, ◌<◌, List, ◌∷◌, ◌++◌, Some, IfSome, IsSomeAnd, decimal};
 ghost use Rattle.value_types.specs.declared.values.PortType.{PortType};
 ghost use Rattle.system_model.specs.declared.plan.EndKind.{EndKind};
-ghost use Rattle.system_model.specs.Text.{kind_text, type_name};
+ghost use Rattle.system_model.specs.Text.{kind_text, type_name, header_line, port_fields, at_line, value_line, end_line};
 ghost use Rattle.trace_reading.specs.declared.item.Item.{Item};
 ghost use Rattle.trace_reading.specs.Walk.{item_line, IsShortItem};
-ghost use Rattle.trace_reading.specs.Lines.{at_line, header_line, port_fields, value_line, end_line, IsShort, Lacks};
+ghost use Rattle.trace_reading.specs.Lines.{IsShort, Lacks};
 
 use crate::cut::{behind, split_once};
 use crate::item::Item;

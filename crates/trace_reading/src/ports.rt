@@ -1,7 +1,7 @@
 ghost use Rattle.std.specs.Prelude.{◌≡◌, List, ℕ, ◌∷◌, ◌++◌, Ok, None, IfOk, IfSome, if◌then◌else◌};
 ghost use Rattle.trace_reading.specs.declared.trace.TracePort.{TracePort};
 ghost use Rattle.trace_reading.specs.Form.{kinds_of, IsNamed};
-ghost use Rattle.trace_reading.specs.Lines.{port_line};
+ghost use Rattle.trace_reading.specs.Lines.{line_of_port};
 ghost use Rattle.trace_reading.specs.Parts.{StandBefore};
 ghost use Rattle.trace_reading.specs.Walk.{is_clock, IsClockTable};
 
@@ -33,9 +33,9 @@ fn port_before(
     text: &[u8],
 ) -> Result<Option<(TracePort, &[u8])>, AllocError>
     ensures found { IfOk result
-        (λ o. IfSome o (λ p. IsNamed p.0 × (text.now ≡ port_line number p.0 ++ (10 ∷ p.1.now)))) }
+        (λ o. IfSome o (λ p. IsNamed p.0 × (text.now ≡ line_of_port number p.0 ++ (10 ∷ p.1.now)))) }
     ensures none { (port : TracePort) (rest : List ℕ) → IsNamed port →
-        text.now ≡ port_line number port ++ (10 ∷ rest) → result ≡ Ok None → ⊥ }
+        text.now ≡ line_of_port number port ++ (10 ∷ rest) → result ≡ Ok None → ⊥ }
 {
     let Some((line, behind)) = split_once(text, b'\n') else {
         return Ok(None);
@@ -53,8 +53,8 @@ pub fn read_port_line(
     line: &[u8],
 ) -> Result<Option<TracePort>, AllocError>
     ensures found { IfOk result
-        (λ o. IfSome o (λ port. IsNamed port × (line.now ≡ port_line number port))) }
-    ensures none { (port : TracePort) → IsNamed port → line.now ≡ port_line number port →
+        (λ o. IfSome o (λ port. IsNamed port × (line.now ≡ line_of_port number port))) }
+    ensures none { (port : TracePort) → IsNamed port → line.now ≡ line_of_port number port →
         result ≡ Ok None → ⊥ }
 {
     let Some((k, kind, component, variable)) = read_port_fields(line) else {

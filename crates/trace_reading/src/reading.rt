@@ -2,7 +2,7 @@ ghost use Rattle.std.specs.Prelude.{◌≡◌, ◌≤◌, ◌+◌, ◌⊎◌, �
 ghost use Rattle.trace_reading.specs.declared.trace.Trace.{Trace};
 ghost use Rattle.trace_reading.specs.Faults.{IsFirstFault};
 ghost use Rattle.trace_reading.specs.Form.{IsRange, IsTextOf};
-ghost use Rattle.trace_reading.specs.Lines.{header_line};
+ghost use Rattle.system_model.specs.Text.{header_line};
 
 use crate::cut::split_once;
 use crate::fault::TraceFault;

@@ -2,7 +2,7 @@ ghost use Rattle.std.specs.Prelude.{◌≡◌, ◌+◌, ◌≤◌, ℕ, [], Err,
 ghost use Rattle.system_model.specs.declared.plan.EndKind.{EndKind};
 ghost use Rattle.trace_reading.specs.declared.fault.TraceFault.TheVariants.{Line};
 ghost use Rattle.trace_reading.specs.Form.{kinds_of};
-ghost use Rattle.trace_reading.specs.Lines.{text_of};
+ghost use Rattle.system_model.specs.Text.{lines_text};
 ghost use Rattle.trace_reading.specs.Walk.{clocks_before, fits_at, is_closed, is_next, is_start, items_in, place_behind, rows_with, IsClockTable, IsFirstFaultOf, IsRows};
 
 use crate::cut::split_once;

@@ -1,21 +1,18 @@
 -- What a stream that stands in a trace's text tells of the whole, for callers.
-use Rattle.std.proofs.Common.{arith, ◌≡◌, refl, sym, ap, subst, ◌∙◌, ℕ, ◌+◌, List, [], ◌∷◌, ◌++◌, map, length, Option, Some, None}
+use Rattle.std.proofs.Common.{◌≡◌, sym, ap, subst, ◌∙◌, ℕ, ◌+◌, List, [], ◌∷◌, ◌++◌, map, Option, Some}
 use Rattle.std.proofs.lemmas.List.{append-nil}
-use Rattle.value_types.specs.declared.values.PortType.{PortType}
 use Rattle.system_model.specs.declared.plan.EndKind.{EndKind}
 use Rattle.trace_reading.specs.declared.trace.Header.{Header}
 use Rattle.trace_reading.specs.declared.trace.TracePort.{TracePort}
 use Rattle.trace_reading.specs.declared.trace.TraceLine.{TraceLine}
 use Rattle.trace_reading.specs.declared.item.Item.{Item}
-use Rattle.trace_reading.specs.declared.item.Item.TheVariants.{Row, End}
-use Rattle.trace_reading.specs.declared.item.Place.{Place}
-use Rattle.trace_reading.specs.declared.item.Place.TheVariants.{Between, Within, Ended}
+use Rattle.trace_reading.specs.declared.item.Place.TheVariants.{Between}
 use Rattle.trace_reading.specs.Form.{kinds_of, IsTextOf}
-use Rattle.trace_reading.specs.Lines.{text_of}
+use Rattle.system_model.specs.Text.{lines_text}
 use Rattle.trace_reading.specs.Walk.{item_line, items_of, walk, IsRows}
 use Rattle.trace_reading.proofs.CallerLemmas.{whole_text, Read}
 use Rattle.trace_stream.specs.declared.steps.Ahead.{Ahead}
-use Rattle.trace_stream.specs.declared.steps.Ahead.TheVariants.{Begin, Finish}
+use Rattle.trace_stream.specs.declared.steps.Ahead.TheVariants.{Finish}
 use Rattle.trace_stream.specs.declared.stream.TraceStream.{TraceStream}
 use Rattle.trace_stream.specs.Reading.{item_ahead, place_ahead, HasRead, IsLast}
 use Rattle.trace_stream.specs.Streams.{rows, Stands}
@@ -26,7 +23,7 @@ read_whole : (bytes : List ℕ) (header : Header) (ports : List TracePort) (line
 read_whole bytes header ports lines ahead kind t left number read is none =
     let items : rows lines ++ (item_ahead ahead ∷ []) ≡ items_of lines kind t = ap (λ (a : Ahead). rows lines ++ (item_ahead a ∷ [])) is in
     let whole : IsRows (kinds_of ports) read.body lines kind t = record {
-      parts = read.parts ∙ ap (λ (rest : List ℕ). text_of (map item_line (rows lines ++ (item_ahead ahead ∷ []))) ++ rest) none ∙ append-nil (text_of (map item_line (rows lines ++ (item_ahead ahead ∷ [])))) ∙ ap (λ (is : List Item). text_of (map item_line is)) items;
+      parts = read.parts ∙ ap (λ (rest : List ℕ). lines_text (map item_line (rows lines ++ (item_ahead ahead ∷ []))) ++ rest) none ∙ append-nil (lines_text (map item_line (rows lines ++ (item_ahead ahead ∷ [])))) ∙ ap (λ (is : List Item). lines_text (map item_line is)) items;
       good = ap (λ (is : List Item). walk (kinds_of ports) Between is) (sym items) ∙ read.good ∙ ap (λ (a : Ahead). Some (place_ahead a)) is;
     } in
     let front : Read bytes header.resolution header.start header.stop ports read.body = record { range = read.range; behind_header = read.behind; header = read.first; ports_there = read.ports_there } in

@@ -1,6 +1,5 @@
 -- What a read of a stream does to what was read of the text.
-use Rattle.std.proofs.Common.{arith, ◌≡◌, refl, sym, ap, subst, ◌∙◌, ℕ, ◌+◌, ℤ, List, [], ◌∷◌, ◌++◌, Option, Some, None, replicate}
-use Rattle.value_types.specs.declared.values.PortType.{PortType}
+use Rattle.std.proofs.Common.{◌≡◌, refl, sym, ap, subst, ◌∙◌, ℕ, ◌+◌, ℤ, List, [], ◌∷◌, ◌++◌, Option, Some, None, replicate}
 use Rattle.system_model.specs.declared.plan.EndKind.{EndKind}
 use Rattle.trace_reading.specs.declared.trace.Header.{Header}
 use Rattle.trace_reading.specs.declared.trace.TracePort.{TracePort}
@@ -8,7 +7,7 @@ use Rattle.trace_reading.specs.declared.trace.TraceLine.TheVariants.{At, Value}
 use Rattle.trace_reading.specs.declared.item.Item.{Item}
 use Rattle.trace_reading.specs.declared.item.Item.TheVariants.{Row, End}
 use Rattle.trace_reading.specs.declared.item.Place.{Place}
-use Rattle.trace_reading.specs.declared.item.Place.TheVariants.{Between, Within, Ended}
+use Rattle.trace_reading.specs.declared.item.Place.TheVariants.{Between, Ended}
 use Rattle.trace_reading.specs.Form.{kinds_of}
 use Rattle.trace_reading.specs.Walk.{place_behind}
 use Rattle.trace_stream.specs.declared.steps.Ahead.{Ahead}

@@ -1,6 +1,5 @@
 -- One line more of a trace's text, and the first that is out of form.
-use Rattle.std.proofs.Common.{arith, ◌≡◌, refl, sym, ap, subst, ◌∙◌, ℕ, ◌+◌, ◌-◌, ◌^◌, ◌<◌, min, List, [], ◌∷◌, ◌++◌, map, length, Option, Some, None, ◌⊎◌, inl, inr, ◌==◌, cond, Bool, true, false}
-use Rattle.std.specs.List.{AllByRecursion}
+use Rattle.std.proofs.Common.{arith, ◌≡◌, refl, sym, ap, subst, ◌∙◌, ℕ, ◌+◌, ◌-◌, ◌^◌, ◌<◌, min, List, [], ◌∷◌, ◌++◌, length, Option, Some, None, ◌==◌, cond, Bool, true, false}
 use Rattle.std.specs.Option.{option_to_list}
 use Rattle.std.specs.Io.BufRead.{take_through, drop_through}
 use Rattle.std.proofs.lemmas.List.{append-nil, length-append}
@@ -9,17 +8,15 @@ use Rattle.value_types.specs.declared.values.PortType.{PortType}
 use Rattle.system_model.specs.declared.plan.EndKind.{EndKind}
 use Rattle.trace_reading.specs.declared.trace.Header.{Header}
 use Rattle.trace_reading.specs.declared.trace.TracePort.{TracePort}
-use Rattle.trace_reading.specs.declared.trace.TraceLine.{TraceLine}
 use Rattle.trace_reading.specs.declared.trace.TraceLine.TheVariants.{At, Value}
 use Rattle.trace_reading.specs.declared.item.Item.{Item}
 use Rattle.trace_reading.specs.declared.item.Item.TheVariants.{Row, End}
 use Rattle.trace_reading.specs.declared.item.Place.{Place}
-use Rattle.trace_reading.specs.declared.item.Place.TheVariants.{Between, Within, Ended}
-use Rattle.trace_reading.specs.Faults.{IsFirstFault}
-use Rattle.trace_reading.specs.Form.{IsNamed, IsRange, kinds_of, port_lines_from}
-use Rattle.trace_reading.specs.Lines.{Lacks, header_line, port_line, text_of}
-use Rattle.trace_reading.specs.Parts.{StandBefore}
-use Rattle.trace_reading.specs.Walk.{item_line, walk, place_behind, IsShortItem, IsFirstFaultOf, WrongBehind}
+use Rattle.trace_reading.specs.declared.item.Place.TheVariants.{Between, Ended}
+use Rattle.trace_reading.specs.Form.{IsNamed, IsRange, kinds_of}
+use Rattle.trace_reading.specs.Lines.{Lacks, line_of_port}
+use Rattle.system_model.specs.Text.{header_line}
+use Rattle.trace_reading.specs.Walk.{item_line, place_behind, IsShortItem, IsFirstFaultOf, WrongBehind}
 use Rattle.trace_reading.specs.Walk.WrongBehind.{NoItem, NoEnd}
 use Rattle.trace_reading.proofs.CallerLemmas.{unsome, one_cut, is_header_line, is_port_line, lacks_not, more_ports, more_named, more_text, more_walk, header_fault, line_fault, Read}
 use Rattle.trace_stream.specs.Cut.{next_number, IsCut, HasNoLine, TakesLine}
@@ -122,7 +119,7 @@ next_count number lines is = omega (arith, is)
 
 -- ---- ports
 
-pub port_read : (bytes : List ℕ) (header : Header) (ports more : List TracePort) (port : TracePort) (line : List ℕ) (old new : Option (List ℕ)) (number : ℕ) → HasPorts bytes header ports old number → TakesLine old new line → line ≡ port_line (length ports) port → IsNamed port → more ≡ ports ++ (port ∷ []) → HasPorts bytes header more new (next_number number)
+pub port_read : (bytes : List ℕ) (header : Header) (ports more : List TracePort) (port : TracePort) (line : List ℕ) (old new : Option (List ℕ)) (number : ℕ) → HasPorts bytes header ports old number → TakesLine old new line → line ≡ line_of_port (length ports) port → IsNamed port → more ≡ ports ++ (port ∷ []) → HasPorts bytes header more new (next_number number)
 port_read bytes header ports more port line old new number read takes is named pushed =
     let cut = takes read.rest read.left_is in
     let size : length more ≡ length ports + 1 = omega (arith, ap (λ (ps : List TracePort). length ps) pushed, length-append ports (port ∷ [])) in
@@ -138,7 +135,7 @@ port_read bytes header ports more port line old new number read takes is named p
     }
 
 -- the ports go no further than a text that begins with no line of a next port
-ports_end : (bytes : List ℕ) (header : Header) (ports : List TracePort) (left : Option (List ℕ)) (number : ℕ) (read : HasPorts bytes header ports left number) → length ports < 2 ^ 64 → ((port : TracePort) (more : List ℕ) → IsNamed port → read.rest ≡ port_line (length ports) port ++ (10 ∷ more) → ⊥) → HasRead bytes header ports [] Between (Some read.rest) number
+ports_end : (bytes : List ℕ) (header : Header) (ports : List TracePort) (left : Option (List ℕ)) (number : ℕ) (read : HasPorts bytes header ports left number) → length ports < 2 ^ 64 → ((port : TracePort) (more : List ℕ) → IsNamed port → read.rest ≡ line_of_port (length ports) port ++ (10 ∷ more) → ⊥) → HasRead bytes header ports [] Between (Some read.rest) number
 ports_end bytes header ports left number read few last = record {
   range = read.range;
   behind = read.behind;
@@ -152,14 +149,14 @@ ports_end bytes header ports left number read few last = record {
   count = read.count ∙ ap (λ (k : ℕ). min k (2 ^ 64 - 1)) (let same : 1 + length ports ≡ 1 + length ports + 0 = omega arith in same);
 }
 
-pub behind_ports : (bytes : List ℕ) (header : Header) (ports : List TracePort) (line : List ℕ) (old new : Option (List ℕ)) (number : ℕ) → length ports < 2 ^ 64 → HasPorts bytes header ports old number → TakesLine old new line → ((port : TracePort) → IsNamed port → line ≡ port_line (length ports) port → ⊥) → IsBehindPorts bytes header ports line new (next_number number)
+pub behind_ports : (bytes : List ℕ) (header : Header) (ports : List TracePort) (line : List ℕ) (old new : Option (List ℕ)) (number : ℕ) → length ports < 2 ^ 64 → HasPorts bytes header ports old number → TakesLine old new line → ((port : TracePort) → IsNamed port → line ≡ line_of_port (length ports) port → ⊥) → IsBehindPorts bytes header ports line new (next_number number)
 behind_ports bytes header ports line old new number few read takes none =
     let cut = takes read.rest read.left_is in
     record {
       body = read.rest;
       before = number;
       read = ports_end bytes header ports old number read few (λ port more named e.
-          let same = one_cut 10 line (port_line (length ports) port) cut.rest more cut.free (is_port_line (length ports) port few) (sym cut.parts ∙ e) in
+          let same = one_cut 10 line (line_of_port (length ports) port) cut.rest more cut.free (is_port_line (length ports) port few) (sym cut.parts ∙ e) in
           none port named same.0);
       cut = cut;
       count = refl;
@@ -227,7 +224,7 @@ ports_fault bytes header ports left number few read none =
     let P : List ℕ → Type 0 = λ xs. Lacks 10 xs in
     let free = none read.rest read.left_is in
     end_fault bytes header ports [] Between (Some read.rest) number
-    (ports_end bytes header ports left number read few (λ port more named e. lacks_not 10 (port_line (length ports) port) more (subst P e free)))
+    (ports_end bytes header ports left number read few (λ port more named e. lacks_not 10 (line_of_port (length ports) port) more (subst P e free)))
     (λ rest is. subst P (unsome read.rest rest is) free)
     (λ kind t at. absurd (cc at))
 

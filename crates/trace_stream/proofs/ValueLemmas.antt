@@ -1,22 +1,21 @@
 -- The values of an instant as they come, and the lines that tell them.
-use Rattle.std.proofs.Common.{arith, ◌≡◌, refl, sym, ap, subst, ◌∙◌, ℕ, ◌+◌, ◌-◌, ◌<◌, ◌≤◌, ◌^◌, zero, suc, ℤ, List, [], ◌∷◌, ◌++◌, map, length, set, take, drop, Option, Some, None, replicate, slice_get, Bool, true, false, cond, ◌&&◌, ◌==◌, nat_le}
+use Rattle.std.proofs.Common.{arith, ◌≡◌, refl, sym, ap, subst, ◌∙◌, ℕ, ◌+◌, ◌-◌, ◌<◌, ◌≤◌, ◌^◌, zero, suc, ℤ, List, [], ◌∷◌, ◌++◌, length, set, drop, Option, Some, None, replicate, slice_get, Bool, true, false, cond, ◌&&◌, ◌==◌, nat_le}
 use Rattle.std.specs.Option.{option_map_or}
 use Rattle.std.proofs.lemmas.Bool.{leb-true}
 use Rattle.std.proofs.lemmas.List.{append_assoc, append-nil, length-append, length-map, length-replicate, map-append, set-append_right, set_split, take-replicate, drop-replicate}
 use Rattle.std.proofs.lemmas.Option.{slice_get_within}
 use Rattle.value_types.specs.declared.values.PortType.{PortType}
 use Rattle.value_types.specs.Values.{is_fitting}
-use Rattle.system_model.specs.declared.plan.EndKind.{EndKind}
 use Rattle.trace_reading.specs.declared.trace.Header.{Header}
 use Rattle.trace_reading.specs.declared.trace.TracePort.{TracePort}
 use Rattle.trace_reading.specs.declared.trace.TraceLine.{TraceLine}
 use Rattle.trace_reading.specs.declared.trace.TraceLine.TheVariants.{At, Value}
 use Rattle.trace_reading.specs.declared.item.Item.{Item}
-use Rattle.trace_reading.specs.declared.item.Item.TheVariants.{Row, End}
+use Rattle.trace_reading.specs.declared.item.Item.TheVariants.{Row}
 use Rattle.trace_reading.specs.declared.item.Place.{Place}
 use Rattle.trace_reading.specs.declared.item.Place.TheVariants.{Between, Within, Ended}
 use Rattle.system_model.specs.Text.{Instant}
-use Rattle.trace_reading.specs.Form.{instant_lines, kinds_of, value_lines_from}
+use Rattle.trace_reading.specs.Form.{instant_lines, kinds_of, told_values_from}
 use Rattle.trace_reading.specs.Walk.{place_behind, is_closed, is_next, is_start, fits_at, clocks_before}
 use Rattle.trace_stream.specs.declared.steps.Ahead.{Ahead}
 use Rattle.trace_stream.specs.declared.steps.Ahead.TheVariants.{Begin, Finish}
@@ -25,36 +24,36 @@ use Rattle.trace_stream.specs.Streams.{rows}
 
 -- ---- lines of values
 
-values_append : (k : ℕ) (xs ys : List (Option ℤ)) → value_lines_from k (xs ++ ys) ≡ value_lines_from k xs ++ value_lines_from (k + length xs) ys
-values_append k [] ys = let same : k ≡ k + 0 = omega arith in ap (λ (n : ℕ). value_lines_from n ys) same
+values_append : (k : ℕ) (xs ys : List (Option ℤ)) → told_values_from k (xs ++ ys) ≡ told_values_from k xs ++ told_values_from (k + length xs) ys
+values_append k [] ys = let same : k ≡ k + 0 = omega arith in ap (λ (n : ℕ). told_values_from n ys) same
 values_append k (None ∷ xs) ys =
     let up : (k + 1) + length xs ≡ k + suc (length xs) = omega arith in
-    values_append (k + 1) xs ys ∙ ap (λ (n : ℕ). value_lines_from (k + 1) xs ++ value_lines_from n ys) up
+    values_append (k + 1) xs ys ∙ ap (λ (n : ℕ). told_values_from (k + 1) xs ++ told_values_from n ys) up
 values_append k (Some v ∷ xs) ys =
     let up : (k + 1) + length xs ≡ k + suc (length xs) = omega arith in
-    ap (λ (ls : List TraceLine). Value k v ∷ ls) (values_append (k + 1) xs ys ∙ ap (λ (n : ℕ). value_lines_from (k + 1) xs ++ value_lines_from n ys) up)
+    ap (λ (ls : List TraceLine). Value k v ∷ ls) (values_append (k + 1) xs ys ∙ ap (λ (n : ℕ). told_values_from (k + 1) xs ++ told_values_from n ys) up)
 
-none_told : (k m : ℕ) (ys : List (Option ℤ)) → value_lines_from k (replicate m None ++ ys) ≡ value_lines_from (k + m) ys
-none_told k zero ys = let same : k ≡ k + 0 = omega arith in ap (λ (n : ℕ). value_lines_from n ys) same
+none_told : (k m : ℕ) (ys : List (Option ℤ)) → told_values_from k (replicate m None ++ ys) ≡ told_values_from (k + m) ys
+none_told k zero ys = let same : k ≡ k + 0 = omega arith in ap (λ (n : ℕ). told_values_from n ys) same
 none_told k (suc m) ys =
     let up : (k + 1) + m ≡ k + suc m = omega arith in
-    none_told (k + 1) m ys ∙ ap (λ (n : ℕ). value_lines_from n ys) up
+    none_told (k + 1) m ys ∙ ap (λ (n : ℕ). told_values_from n ys) up
 
 -- ports without a value behind the others have no lines
-pub values_end : (front : List (Option ℤ)) (empty : ℕ) → value_lines_from 0 (front ++ replicate empty None) ≡ value_lines_from 0 front
+pub values_end : (front : List (Option ℤ)) (empty : ℕ) → told_values_from 0 (front ++ replicate empty None) ≡ told_values_from 0 front
 values_end front empty =
     values_append 0 front (replicate empty None)
-    ∙ ap (λ (ls : List TraceLine). value_lines_from 0 front ++ ls) (
-    ap (λ (vs : List (Option ℤ)). value_lines_from (0 + length front) vs) (sym (append-nil (replicate empty None)))
+    ∙ ap (λ (ls : List TraceLine). told_values_from 0 front ++ ls) (
+    ap (λ (vs : List (Option ℤ)). told_values_from (0 + length front) vs) (sym (append-nil (replicate empty None)))
     ∙ none_told (0 + length front) empty [])
-    ∙ append-nil (value_lines_from 0 front)
+    ∙ append-nil (told_values_from 0 front)
 
 -- one port more that has a value
-values_more : (front : List (Option ℤ)) (gap port : ℕ) (v : ℤ) → length front + gap ≡ port → value_lines_from 0 (front ++ (replicate gap None ++ (Some v ∷ []))) ≡ value_lines_from 0 front ++ (Value port v ∷ [])
+values_more : (front : List (Option ℤ)) (gap port : ℕ) (v : ℤ) → length front + gap ≡ port → told_values_from 0 (front ++ (replicate gap None ++ (Some v ∷ []))) ≡ told_values_from 0 front ++ (Value port v ∷ [])
 values_more front gap port v at =
     let there : (0 + length front) + gap ≡ port = omega (arith, at) in
     values_append 0 front (replicate gap None ++ (Some v ∷ []))
-    ∙ ap (λ (ls : List TraceLine). value_lines_from 0 front ++ ls) (none_told (0 + length front) gap (Some v ∷ []) ∙ ap (λ (n : ℕ). Value n v ∷ []) there)
+    ∙ ap (λ (ls : List TraceLine). told_values_from 0 front ++ ls) (none_told (0 + length front) gap (Some v ∷ []) ∙ ap (λ (n : ℕ). Value n v ∷ []) there)
 
 -- ---- values
 
@@ -134,26 +133,26 @@ within_more bytes header ports before values more port v place next old new numb
     let tail : length (replicate {A = Option ℤ} gap None ++ (Some v ∷ [])) ≡ gap + 1 = omega (arith, length-append (replicate {A = Option ℤ} gap None) (Some v ∷ []), length-replicate {A = Option ℤ} gap None) in
     let count : port + 1 ≡ length front = omega (arith, at, tail, length-append within.front (replicate gap None ++ (Some v ∷ []))) in
     let P : List Item → Type 0 = λ items. HasRead bytes header ports items next new number2 in
-    let lines : value_lines_from 0 within.front ++ (Value port v ∷ []) ≡ value_lines_from 0 front = sym (values_more within.front gap port v at) in
+    let lines : told_values_from 0 within.front ++ (Value port v ∷ []) ≡ told_values_from 0 front = sym (values_more within.front gap port v at) in
     record {
       front = front;
       empty = within.empty - suc gap;
       values_are = put ∙ ap (λ (vs : List (Option ℤ)). set vs port (Some v)) within.values_are ∙ put_value within.front within.empty gap port v at low;
       at = goes.at ∙ ap (λ (k : ℕ). Within k) count;
-      read = subst P (rows_more before (value_lines_from 0 within.front) (Value port v) ∙ ap (λ (ls : List TraceLine). before ++ rows ls) lines) (reads (before ++ rows (value_lines_from 0 within.front)) within.read);
+      read = subst P (rows_more before (told_values_from 0 within.front) (Value port v) ∙ ap (λ (ls : List TraceLine). before ++ rows ls) lines) (reads (before ++ rows (told_values_from 0 within.front)) within.read);
     }
 
 -- ---- behind an instant
 
-instant_told : (before : List Item) (i : Instant) (front : List (Option ℤ)) (empty : ℕ) → i.values ≡ front ++ replicate empty None → (before ++ (Row (At i.t i.n) ∷ [])) ++ rows (value_lines_from 0 front) ≡ before ++ rows (instant_lines i)
+instant_told : (before : List Item) (i : Instant) (front : List (Option ℤ)) (empty : ℕ) → i.values ≡ front ++ replicate empty None → (before ++ (Row (At i.t i.n) ∷ [])) ++ rows (told_values_from 0 front) ≡ before ++ rows (instant_lines i)
 instant_told before i front empty is =
-    append_assoc before (Row (At i.t i.n) ∷ []) (rows (value_lines_from 0 front))
-    ∙ ap (λ (ls : List TraceLine). before ++ (Row (At i.t i.n) ∷ rows ls)) (sym (ap (λ (vs : List (Option ℤ)). value_lines_from 0 vs) is ∙ values_end front empty))
+    append_assoc before (Row (At i.t i.n) ∷ []) (rows (told_values_from 0 front))
+    ∙ ap (λ (ls : List TraceLine). before ++ (Row (At i.t i.n) ∷ rows ls)) (sym (ap (λ (vs : List (Option ℤ)). told_values_from 0 vs) is ∙ values_end front empty))
 
 -- the instant's lines were read, and the line ahead
 pub instant_read : (bytes : List ℕ) (header : Header) (ports : List TracePort) (before : List Item) (i : Instant) (place next : Place) (ahead : Ahead) (old new : Option (List ℕ)) (number number2 : ℕ) → IsWithin bytes header ports (before ++ (Row (At i.t i.n) ∷ [])) i.values place old number → ((items : List Item) → HasRead bytes header ports items place old number → HasRead bytes header ports (items ++ (item_ahead ahead ∷ [])) next new number2) → place_behind (kinds_of ports) place (item_ahead ahead) ≡ Some next → HasRead bytes header ports ((before ++ rows (instant_lines i)) ++ (item_ahead ahead ∷ [])) (place_ahead ahead) new number2
 instant_read bytes header ports before i place next ahead old new number number2 within reads step =
     let P : List Item → Type 0 = λ items. HasRead bytes header ports (items ++ (item_ahead ahead ∷ [])) (place_ahead ahead) new number2 in
-    let Q : Place → Type 0 = λ p. HasRead bytes header ports (((before ++ (Row (At i.t i.n) ∷ [])) ++ rows (value_lines_from 0 within.front)) ++ (item_ahead ahead ∷ [])) p new number2 in
+    let Q : Place → Type 0 = λ p. HasRead bytes header ports (((before ++ (Row (At i.t i.n) ∷ [])) ++ rows (told_values_from 0 within.front)) ++ (item_ahead ahead ∷ [])) p new number2 in
     subst P (instant_told before i within.front within.empty within.values_are)
-    (subst Q (ahead_place (kinds_of ports) place ahead next step) (reads ((before ++ (Row (At i.t i.n) ∷ [])) ++ rows (value_lines_from 0 within.front)) within.read))
+    (subst Q (ahead_place (kinds_of ports) place ahead next step) (reads ((before ++ (Row (At i.t i.n) ∷ [])) ++ rows (told_values_from 0 within.front)) within.read))

@@ -1,5 +1,5 @@
 -- What was read of a trace's text, line by line, and what is left of it.
-use Rattle.std.specs.Prelude.{◌≡◌, ◌≢◌, ◌⊎◌, ℕ, ◌+◌, ◌-◌, ◌^◌, min, ℤ, List, [], ◌∷◌, ◌++◌, Option, Some, None, map, length, replicate}
+use Rattle.std.specs.Prelude.{◌≡◌, ◌≢◌, ℕ, ◌+◌, ◌-◌, ◌^◌, min, ℤ, List, [], ◌∷◌, ◌++◌, Option, Some, None, map, length, replicate}
 use Rattle.std.specs.List.{AllByRecursion}
 use Rattle.system_model.specs.declared.plan.EndKind.{EndKind}
 use Rattle.trace_reading.specs.declared.trace.Header.{Header}
@@ -11,8 +11,8 @@ use Rattle.trace_reading.specs.declared.item.Item.TheVariants.{Row, End}
 use Rattle.trace_reading.specs.declared.item.Place.{Place}
 use Rattle.trace_reading.specs.declared.item.Place.TheVariants.{Between, Within, Ended}
 use Rattle.trace_reading.specs.Faults.{IsFirstFault}
-use Rattle.trace_reading.specs.Form.{IsNamed, IsRange, kinds_of, port_lines_from, value_lines_from}
-use Rattle.trace_reading.specs.Lines.{header_line, text_of}
+use Rattle.trace_reading.specs.Form.{IsNamed, IsRange, kinds_of, lines_of_ports, told_values_from}
+use Rattle.system_model.specs.Text.{header_line, lines_text}
 use Rattle.trace_reading.specs.Parts.{StandBefore}
 use Rattle.trace_reading.specs.Walk.{item_line, walk}
 use Rattle.trace_stream.specs.declared.steps.Ahead.{Ahead}
@@ -66,7 +66,7 @@ pub record HasPorts (bytes : List ℕ) (header : Header) (ports : List TracePort
   pub behind : List ℕ
   pub first : bytes ≡ header_line header.resolution header.start header.stop ++ (10 ∷ behind)
   pub rest : List ℕ
-  pub parts : behind ≡ text_of (port_lines_from 0 ports) ++ rest
+  pub parts : behind ≡ lines_text (lines_of_ports 0 ports) ++ rest
   pub named : AllByRecursion IsNamed ports
   pub left_is : left ≡ Some rest
   pub count : number ≡ min (1 + length ports) (2 ^ 64 - 1)
@@ -80,7 +80,7 @@ pub record HasRead (bytes : List ℕ) (header : Header) (ports : List TracePort)
   pub body : List ℕ
   pub ports_there : StandBefore behind ports body
   pub rest : List ℕ
-  pub parts : body ≡ text_of (map item_line items) ++ rest
+  pub parts : body ≡ lines_text (map item_line items) ++ rest
   pub good : walk (kinds_of ports) Between items ≡ Some place
   pub left_is : left ≡ Some rest
   pub count : number ≡ min (1 + length ports + length items) (2 ^ 64 - 1)
@@ -102,7 +102,7 @@ pub record IsWithin (bytes : List ℕ) (header : Header) (ports : List TracePort
   pub values_are : values ≡ front ++ replicate empty None
   pub at : place ≡ Within (length front)
   pub read : HasRead bytes header ports
-      (before ++ map (λ (line : TraceLine). Row line) (value_lines_from 0 front)) place left number
+      (before ++ map (λ (line : TraceLine). Row line) (told_values_from 0 front)) place left number
 
 -- somewhere within an instant
 pub record IsReading (bytes : List ℕ) (header : Header) (ports : List TracePort) (place : Place)

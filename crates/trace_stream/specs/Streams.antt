@@ -1,5 +1,5 @@
 -- Where a stream stands in a trace's text, and what it tells of an instant.
-use Rattle.std.specs.Prelude.{◌≡◌, ℕ, List, [], ◌∷◌, ◌++◌, Bool, true, false, Option, Some, map, length}
+use Rattle.std.specs.Prelude.{◌≡◌, ℕ, List, [], ◌∷◌, ◌++◌, Bool, true, false, Option, Some, map}
 use Rattle.system_model.specs.declared.plan.EndKind.{EndKind}
 use Rattle.system_model.specs.Text.{Instant}
 use Rattle.trace_reading.specs.declared.trace.TraceLine.{TraceLine}
@@ -8,7 +8,6 @@ use Rattle.trace_reading.specs.declared.item.Item.{Item}
 use Rattle.trace_reading.specs.declared.item.Item.TheVariants.{Row}
 use Rattle.trace_reading.specs.Form.{instant_lines}
 use Rattle.trace_stream.specs.declared.moment.Moment.{Moment}
-use Rattle.trace_stream.specs.declared.steps.Ahead.{Ahead}
 use Rattle.trace_stream.specs.declared.steps.Ahead.TheVariants.{Begin, Finish}
 use Rattle.trace_stream.specs.declared.stream.TraceStream.{TraceStream}
 use Rattle.trace_stream.specs.Reading.{item_ahead, place_ahead, HasRead, IsLast}

@@ -1,5 +1,5 @@
 -- Each text of a trace of a system fits into the system's room.
-use Rattle.std.proofs.Common.{◌≡◌, ℕ, suc, ◌+◌, ◌*◌, ◌^◌, ◌<◌, ◌≤◌, ℤ, pos, negsuc, FitsSigned, List, [], ◌∷◌, length, sum_by, Option, Some, None, decimal, length-append, arith}
+use Rattle.std.proofs.Common.{◌≡◌, ℕ, suc, ◌+◌, ◌*◌, ◌^◌, ◌<◌, ◌≤◌, ℤ, pos, negsuc, FitsSigned, List, [], ◌∷◌, length, sum_by, Option, Some, None, decimal, append_assoc, length-append, sym, ap, ◌∙◌, subst, arith}
 use Rattle.std.specs.Fmt.{signed_decimal}
 use Rattle.std.specs.Int.{w128}
 use Rattle.std.proofs.lemmas.Fmt.{length-decimal-le, length-decimal-le_wide}
@@ -12,8 +12,8 @@ use Rattle.system_model.specs.declared.system.Port.{Port}
 use Rattle.system_model.specs.declared.system.System.{System}
 use Rattle.system_model.specs.declared.plan.EndKind.{EndKind}
 use Rattle.system_model.specs.declared.plan.EndKind.TheVariants.{Stop, Asked, Limit, Fixed, Fault}
-use Rattle.system_model.specs.Text.{end_text, type_name, component_name, port_line, port_lines_from, value_line, value_lines_from}
-use Rattle.trace_text.specs.Lines.{first_line, instant_line}
+use Rattle.system_model.specs.Text.{at_line, component_name, end_text, header_line, lines_text, port_line, port_lines_from, type_name, value_line, value_lines_from}
+use Rattle.trace_text.specs.Lines.{ended}
 use Rattle.trace_text.specs.Room.{port_room, room_of, IsCount, AreValues, HoldsEach}
 
 -- a part of a sum, which a word holds, and the rest make the whole
@@ -52,7 +52,7 @@ length-type_name Clock = omega arith
 
 -- ---- lines
 
-pub length-port_line : (components : List Component) (k : ℕ) (port : Port) → k < 2 ^ 64 → length (port_line components k port) ≤ port_room components port
+pub length-port_line : (components : List Component) (k : ℕ) (port : Port) → k < 2 ^ 64 → length (ended (port_line components k port)) ≤ port_room components port
 length-port_line components k port small =
     let number = length-decimal k small in
     let kind = length-type_name port.kind in
@@ -60,23 +60,31 @@ length-port_line components k port small =
     let name = length-escaped port.name in
     grind (arith, common_steps)
 
-pub length-value_line : (k : ℕ) (value : ℤ) → k < 2 ^ 64 → FitsSigned w128 value → length (value_line k value) ≤ 64
+pub length-value_line : (k : ℕ) (value : ℤ) → k < 2 ^ 64 → FitsSigned w128 value → length (ended (value_line k value)) ≤ 64
 length-value_line k value small fits =
     let number = length-decimal k small in
     let text = length-signed_decimal value fits in
     grind (arith, common_steps)
 
+-- a line stands before the others
+length-lines : (line : List ℕ) (lines : List (List ℕ)) → length (lines_text (line ∷ lines)) ≡ length (ended line) + length (lines_text lines)
+length-lines line lines = ap (λ (text : List ℕ). length text) (sym (append_assoc line (10 ∷ []) (lines_text lines))) ∙ length-append (ended line) (lines_text lines)
+
+-- where a line and the others have room, they have both
+lines_fit : (line : List ℕ) (lines : List (List ℕ)) (a b : ℕ) → length (ended line) ≤ a → length (lines_text lines) ≤ b → length (lines_text (line ∷ lines)) ≤ a + b
+lines_fit line lines a b one others = omega (arith, length-lines line lines, one, others)
+
 -- ---- texts
 
-pub length-first_line : (resolution start stop : ℕ) → IsCount resolution → IsCount start → IsCount stop → length (first_line resolution start stop) ≤ 128
-length-first_line resolution start stop is_resolution is_start is_stop =
+pub length-header_line : (resolution start stop : ℕ) → IsCount resolution → IsCount start → IsCount stop → length (ended (header_line resolution start stop)) ≤ 128
+length-header_line resolution start stop is_resolution is_start is_stop =
     let first = length-decimal resolution is_resolution in
     let second = length-decimal start is_start in
     let third = length-decimal stop is_stop in
     grind (arith, common_steps)
 
-pub length-instant_line : (t n : ℕ) → IsCount t → IsCount n → length (instant_line t n) ≤ 128
-length-instant_line t n is_t is_n =
+pub length-at_line : (t n : ℕ) → IsCount t → IsCount n → length (ended (at_line t n)) ≤ 128
+length-at_line t n is_t is_n =
     let first = length-decimal t is_t in
     let second = length-decimal n is_n in
     grind (arith, common_steps)
@@ -93,14 +101,15 @@ pub room_each : (components : List Component) (ports : List Port) → 64 * lengt
 room_each components [] = grind (arith, common_steps)
 room_each components (port ∷ ports) = grind (arith, common_steps, room_each components ports)
 
-pub length-port_lines_from : (components : List Component) (k : ℕ) (ports : List Port) → k + length ports ≤ 2 ^ 64 → length (port_lines_from components k ports) ≤ sum_by (port_room components) ports
+pub length-port_lines_from : (components : List Component) (k : ℕ) (ports : List Port) → k + length ports ≤ 2 ^ 64 → length (lines_text (port_lines_from components k ports)) ≤ sum_by (port_room components) ports
 length-port_lines_from components k [] few = grind (arith, common_steps)
 length-port_lines_from components k (port ∷ ports) few =
-    let line = length-port_line components k port (omega arith) in
-    let lines = length-port_lines_from components (k + 1) ports (omega arith) in
-    grind (arith, common_steps)
+    let total : sum_by (port_room components) (port ∷ ports) ≡ port_room components port + sum_by (port_room components) ports = grind (arith, common_steps) in
+    subst (λ (room : ℕ). length (lines_text (port_lines_from components k (port ∷ ports))) ≤ room) (sym total)
+    (lines_fit (port_line components k port) (port_lines_from components (k + 1) ports) (port_room components port) (sum_by (port_room components) ports)
+    (length-port_line components k port (omega arith)) (length-port_lines_from components (k + 1) ports (omega arith)))
 
-pub length-value_lines_from : (k : ℕ) (values : List (Option ℤ)) → k + length values ≤ 2 ^ 64 → AreValues values → length (value_lines_from k values) ≤ 64 * length values
+pub length-value_lines_from : (k : ℕ) (values : List (Option ℤ)) → k + length values ≤ 2 ^ 64 → AreValues values → length (lines_text (value_lines_from k values)) ≤ 64 * length values
 length-value_lines_from k [] few fit = grind (arith, common_steps)
 length-value_lines_from k (None ∷ values) few fit =
     let lines = length-value_lines_from (k + 1) values (omega arith) (λ at value within. fit (suc at) value (omega arith)) in
@@ -108,19 +117,19 @@ length-value_lines_from k (None ∷ values) few fit =
 length-value_lines_from k (Some value ∷ values) few fit =
     let line = length-value_line k value (omega arith) (fit 0 None (omega arith)) in
     let lines = length-value_lines_from (k + 1) values (omega arith) (λ at value within. fit (suc at) value (omega arith)) in
-    grind (arith, common_steps)
+    omega (arith, length-lines (value_line k value) (value_lines_from (k + 1) values))
 
 pub room_holds : (system : System) (room : ℕ) → room ≡ room_of system → IsCount room → HoldsEach system room
 room_holds system room is small =
     let each = room_each system.components system.ports in
     record {
       header = λ resolution start stop is_resolution is_start is_stop.
-          let first = length-first_line resolution start stop is_resolution is_start is_stop in
+          let first = length-header_line resolution start stop is_resolution is_start is_stop in
           let lines = length-port_lines_from system.components 0 system.ports (omega arith) in
-          omega (arith, length-append (first_line resolution start stop) (port_lines_from system.components 0 system.ports));
+          omega (arith, length-lines (header_line resolution start stop) (port_lines_from system.components 0 system.ports));
       instant = λ t n values is_t is_n fit few.
-          let first = length-instant_line t n is_t is_n in
+          let first = length-at_line t n is_t is_n in
           let lines = length-value_lines_from 0 values (omega arith) fit in
-          omega (arith, length-append (instant_line t n) (value_lines_from 0 values));
+          omega (arith, length-lines (at_line t n) (value_lines_from 0 values));
       end = λ kind t is_t. let text = length-end_text kind t is_t in omega arith;
     }

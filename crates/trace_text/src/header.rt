@@ -1,6 +1,6 @@
 ghost use Rattle.std.specs.Prelude.{◌≡◌, ◌+◌, ◌≤◌, ◌++◌, length, take};
-ghost use Rattle.system_model.specs.Text.{header_text, port_line, component_name, type_name};
-ghost use Rattle.trace_text.specs.Lines.{first_line};
+ghost use Rattle.system_model.specs.Text.{component_name, header_line, header_text, port_line, type_name};
+ghost use Rattle.trace_text.specs.Lines.{ended};
 
 use crate::append::{append, append_name, append_number};
 use sim_base::CompId;
@@ -23,9 +23,9 @@ pub fn put_header(system: &System, resolution: u64, start: u64, stop: u64, out: 
 }
 
 fn put_first_line(resolution: u64, start: u64, stop: u64, out: &mut [u8]) -> usize
-    requires { length (first_line resolution start stop) ≤ length out.old }
-    ensures length { result ≡ length (first_line resolution start stop) }
-    ensures text { take result out.new ≡ first_line resolution start stop }
+    requires { length (ended (header_line resolution start stop)) ≤ length out.old }
+    ensures length { result ≡ length (ended (header_line resolution start stop)) }
+    ensures text { take result out.new ≡ ended (header_line resolution start stop) }
 {
     let at = append(b"trace 1 ", out, 0);
     let at = append_number(resolution, out, at);
@@ -43,10 +43,10 @@ fn append_port_line(
     out: &mut [u8],
     at: usize,
 ) -> usize
-    requires { at + length (port_line components.now number port.now) ≤ length out.old }
-    ensures end { result ≡ at + length (port_line components.now number port.now) }
-    ensures text { take result out.new ≡ take at out.old ++ port_line components.now number
-        port.now }
+    requires { at + length (ended (port_line components.now number port.now)) ≤ length out.old }
+    ensures end { result ≡ at + length (ended (port_line components.now number port.now)) }
+    ensures text { take result out.new ≡ take at out.old ++ ended (port_line components.now
+        number port.now) }
 {
     let at = append(b"port ", out, at);
     let at = append_number(number as u64, out, at);

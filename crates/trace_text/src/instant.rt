@@ -1,6 +1,6 @@
 ghost use Rattle.std.specs.Prelude.{◌≡◌, ◌+◌, ◌≤◌, ◌++◌, length, take};
-ghost use Rattle.system_model.specs.Text.{instant_text, value_line};
-ghost use Rattle.trace_text.specs.Lines.{instant_line};
+ghost use Rattle.system_model.specs.Text.{at_line, instant_text, value_line};
+ghost use Rattle.trace_text.specs.Lines.{ended};
 
 use crate::append::{append, append_number, append_value};
 use system_model::System;
@@ -28,9 +28,9 @@ pub fn put_instant(
 }
 
 fn put_instant_line(t: u64, n: u64, out: &mut [u8]) -> usize
-    requires { length (instant_line t n) ≤ length out.old }
-    ensures length { result ≡ length (instant_line t n) }
-    ensures text { take result out.new ≡ instant_line t n }
+    requires { length (ended (at_line t n)) ≤ length out.old }
+    ensures length { result ≡ length (ended (at_line t n)) }
+    ensures text { take result out.new ≡ ended (at_line t n) }
 {
     let at = append(b"at ", out, 0);
     let at = append_number(t, out, at);
@@ -40,9 +40,9 @@ fn put_instant_line(t: u64, n: u64, out: &mut [u8]) -> usize
 }
 
 fn append_value_line(number: usize, value: i128, out: &mut [u8], at: usize) -> usize
-    requires { at + length (value_line number value) ≤ length out.old }
-    ensures end { result ≡ at + length (value_line number value) }
-    ensures text { take result out.new ≡ take at out.old ++ value_line number value }
+    requires { at + length (ended (value_line number value)) ≤ length out.old }
+    ensures end { result ≡ at + length (ended (value_line number value)) }
+    ensures text { take result out.new ≡ take at out.old ++ ended (value_line number value) }
 {
     let at = append_number(number as u64, out, at);
     let at = append(b" ", out, at);

@@ -1,6 +1,6 @@
 -- The two gains are a sound system, which a master takes with a peer for each.
 use Rattle.std.proofs.Common.{◌≡◌, ℕ, zero, suc, List, [], ◌∷◌, refl, sym, subst}
-use Rattle.std.specs.Prelude.{All, Some, codes, false, slice_get}
+use Rattle.std.specs.Prelude.{All, Some, codes, slice_get}
 use Rattle.std.proofs.lemmas.List.Elements.{All-cons, All-nil}
 use Rattle.std.proofs.lemmas.Option.{none-some as none_some, same_Some}
 use Rattle.std.specs.List.{AllZip, IsDistinct}

@@ -1,6 +1,6 @@
 -- The FMU that settles and the one that it feeds are a sound system, which a master takes with a peer for each.
 use Rattle.std.proofs.Common.{◌≡◌, ℕ, zero, suc, List, [], ◌∷◌, refl, sym, subst}
-use Rattle.std.specs.Prelude.{All, Some, false, slice_get}
+use Rattle.std.specs.Prelude.{All, Some, slice_get}
 use Rattle.std.specs.List.{AllZip, IsDistinct}
 use Rattle.std.proofs.lemmas.List.Elements.{All-nil}
 use Rattle.std.proofs.lemmas.Option.{none-some as none_some, same_Some}

@@ -8,7 +8,8 @@ use Rattle.fmi_calls.specs.declared.call.Call.TheVariants as C
 use Rattle.fmi_calls.specs.declared.call.Reply.{Reply}
 use Rattle.fmu_peer.specs.declared.peer.PeerFault.{PeerFault}
 use Rattle.fmu_peer.specs.declared.talk_room.TalkRoom.{TalkRoom}
-use Rattle.fmu_peer.specs.Machine.{IgnoresSlot, IsLawful, IsMachineOf, MachineState, changes_mode, is_discard, is_input_clock}
+use Rattle.fmu_peer.specs.Machine.{IgnoresSlot, IsLawful, IsMachineOf, MachineState, changes_mode, is_discard}
+use Rattle.fmi_calls.specs.Permission.{is_input_clock}
 use Rattle.worked_rows.specs.declared.counted.Counts.{Counts}
 use Rattle.worked_rows.specs.Ticker.{answer, clocks_of, first_values, is_marked, numbers_after, numbers_in, references_of, ticker}
 

@@ -3,7 +3,7 @@ ghost use Rattle.std.specs.Prelude.{IfErr, IfOk};
 ghost use Rattle.std.specs.List.{AllZip};
 ghost use Rattle.system_model.specs.Bounds.{AreParameterValues};
 ghost use Rattle.system_model.specs.Sound.{IsSound};
-ghost use Rattle.flatten.specs.Given.{AreShapesOf, IsWhole};
+ghost use Rattle.flatten.specs.Given.{AreShapesOf, IsWholeTree};
 ghost use Rattle.system_loading.specs.Assembly.{MakesAlone};
 ghost use Rattle.system_loading.specs.Binding.{AreReady, BindsAlone, TellsBinding};
 ghost use Rattle.system_loading.specs.Faults.{TellsFirst, TellsTogether};
@@ -33,7 +33,7 @@ pub fn assemble_system(
     outline: &Outline,
     shapes: &[Shape],
 ) -> Result<System, AssemblyFault>
-    requires whole { IsWhole outline.now.systems }
+    requires whole { IsWholeTree outline.now.systems }
     requires shapes { AreShapesOf outline.now.systems shapes.now }
     ensures ok { IfOk result (MakesAlone outline.now shapes.now) }
     ensures err { IfErr result (TellsTogether outline.now shapes.now) }

@@ -5,7 +5,7 @@ ghost use Rattle.doc_tree.specs.declared.rule.SystemRule.{SystemRule};
 ghost use Rattle.doc_tables.specs.Answers.{Gives, Refuses};
 ghost use Rattle.ssd_tree.specs.Answers.{Faults};
 ghost use Rattle.ssd_tree.specs.Parts.{Describes};
-ghost use Rattle.ssd_tree.specs.Rules.{IsFirstViolation, IsSound};
+ghost use Rattle.ssd_tree.specs.Rules.{IsFirstStructureViolation, IsSoundStructure};
 ghost use Rattle.ssd_tree.specs.declared.tree.SystemTree.{SystemTree};
 
 use doc_tree::{Refusal, Tree};
@@ -14,12 +14,12 @@ use std::alloc::Global;
 
 /// What the tree of a system structure description says of its systems, or the first rule that it breaks.
 pub fn read_structure(alloc: Global, tree: &Tree) -> Result<SystemTree, Refusal>
-    ensures sound { IfOk result (λ read. IsSound tree.now) }
+    ensures sound { IfOk result (λ read. IsSoundStructure tree.now) }
     ensures found { IfOk result (Describes tree.now) }
     ensures fault { IfErr result (Faults tree.now) }
-    ensures exact { (rule : SystemRule) (node : ℕ) → IsFirstViolation tree.now node rule →
+    ensures exact { (rule : SystemRule) (node : ℕ) → IsFirstStructureViolation tree.now node rule →
         Refuses result (Rule.System rule) node }
-    ensures only { (read : SystemTree) → IsSound tree.now → Describes tree.now read →
+    ensures only { (read : SystemTree) → IsSoundStructure tree.now → Describes tree.now read →
         Gives result read }
 {
     read_ssd(alloc, tree)

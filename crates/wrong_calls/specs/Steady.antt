@@ -7,11 +7,10 @@ use Rattle.value_types.specs.declared.shape.Causality.TheVariants as V
 use Rattle.value_types.specs.declared.shape.Variable.{Variable}
 use Rattle.value_types.specs.declared.shape.Knowns.TheVariants.{Listed}
 use Rattle.value_types.specs.declared.shape.Shape.{Shape}
-use Rattle.value_types.specs.Values.{word_of}
 use Rattle.fmi_calls.specs.declared.call.Content.TheVariants as A
 use Rattle.fmi_calls.specs.declared.call.Reply.TheVariants.{Done}
 use Rattle.fmu_peer.specs.Machine.{IgnoresSlot, IsLawful, IsMachineOf, Machine}
-use Rattle.bench_fmus.specs.BuiltIn.{machine_of, value_of}
+use Rattle.bench_fmus.specs.BuiltIn.{machine_of}
 use Rattle.bench_fmus.specs.Counter.{counter}
 use Rattle.bench_fmus.specs.Laws.{machine_is as counter_is}
 

@@ -10,7 +10,7 @@ use Rattle.calling_sequence.specs.Course.{Place}
 use Rattle.calling_sequence.specs.Goes.{Breaks, Onward, spot}
 use Rattle.calling_sequence.specs.Ready.{AreTimed}
 use Rattle.calling_sequence.proofs.ScheduleSteps.{begins, never_first, timed_behind}
-use Rattle.calling_sequence.proofs.Ways.{again_there, asked_by_step, asked_there, breaks_on, done_there, limited_there, stepped_there, stops_there, unfit_there}
+use Rattle.calling_sequence.proofs.Ways.{again_there, asked_by_step, asked_there, done_there, limited_there, stepped_there, stops_there, unfit_there}
 use Rattle.calling_sequence.proofs.run.follow.Goals as goal
 
 -- what breaks off behind a place breaks off behind those that lead to it

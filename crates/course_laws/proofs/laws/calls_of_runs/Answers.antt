@@ -2,6 +2,7 @@ use Rattle.course_laws.proofs.CallsOnce.{no_call_twice}
 use Rattle.course_laws.proofs.FirstBad.{first_bad_answer}
 use Rattle.course_laws.proofs.RunEnds.{ends_come}
 use Rattle.course_laws.proofs.StatesLeft.{states_are_left}
+use Rattle.course_laws.proofs.Unsaved.{nothing_saved}
 use Rattle.course_laws.proofs.UpdatesAlong.{updates_asked_for}
 use Rattle.course_laws.proofs.laws.calls_of_runs.Goals as goal
 
@@ -12,4 +13,5 @@ returns c = record {
   once = no_call_twice;
   updates = updates_asked_for;
   left = states_are_left;
+  unsaved = nothing_saved;
 }

@@ -2,7 +2,7 @@ use Rattle.std.proofs.Common.{rules, ◌<◌, ap, ◌∙◌, length, sym, subst,
 use Rattle.std.specs.Prelude.{None, if◌then◌else◌}
 use Rattle.std.proofs.lemmas.List.Elements.{All-set}
 use Rattle.fmu_peer.specs.CloseAll.{instance_in}
-use Rattle.run_model.specs.Run.{value}
+use Rattle.system_model.specs.Values.{value}
 use Rattle.slot_calls.specs.Slots.{LiveSlot}
 use Rattle.event_iteration.specs.Settings.{before_step, sets_to}
 use Rattle.event_iteration.specs.Turns.{MayAsk}

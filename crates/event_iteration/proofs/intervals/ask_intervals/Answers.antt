@@ -1,7 +1,7 @@
 use Rattle.std.proofs.Common.{refl, sym, subst, ap, ◌∙◌, Some, false, arith, length, get_or, map}
 use Rattle.fmi_calls.specs.declared.call.Interval.{Interval}
 use Rattle.fmu_peer.specs.CloseAll.{Instance, instance_in}
-use Rattle.run_model.specs.Run.{value}
+use Rattle.system_model.specs.Values.{value}
 use Rattle.run_model.specs.Timers.{is_armed_for}
 use Rattle.tick_schedule.specs.Timetable.{with_clock}
 use Rattle.slot_calls.proofs.CallerLemmas.{shapes_same}

@@ -1,7 +1,7 @@
 use Rattle.std.proofs.Common.{◌≡◌, ◌∙◌, ◌<◌, List, ℕ, IfOk, length, arith, subst}
 use Rattle.nested_documents.specs.declared.parts.Parts.{Parts}
 use Rattle.nested_documents.specs.declared.seam.Seam.{Seam}
-use Rattle.nested_documents.specs.Inlining.{ends_of, put_together}
+use Rattle.nested_documents.specs.Inlining.{inner_ends, put_together}
 use Rattle.nested_documents.specs.Parts.{tree_of}
 use Rattle.nested_documents.proofs.SeamLemmas.{component_is, connectors_within, systems_within}
 use Rattle.nested_documents.proofs.inlining.inlined.Goals as goal
@@ -32,7 +32,7 @@ returns c part at =
     let outer = tree_of c.args.outer in
     let inner = tree_of c.args.inner in
     let frame = c.args.frame.now in
-    let ends : c.in_ok-ends.ends.items ≡ ends_of c.seam_of-seam.result outer.connectors inner.connectors = rw (c.deref.ensures.value, c.deref-2.ensures.value) at c.in_ok-ends.ensures.ends in
-    let whole : IfOk c.put_together.result (λ whole. tree_of whole ≡ put_together c.seam_of-seam.result frame (ends_of c.seam_of-seam.result outer.connectors inner.connectors) outer inner) =
+    let ends : c.in_ok-ends.ends.items ≡ inner_ends c.seam_of-seam.result outer.connectors inner.connectors = rw (c.deref.ensures.value, c.deref-2.ensures.value) at c.in_ok-ends.ensures.ends in
+    let whole : IfOk c.put_together.result (λ whole. tree_of whole ≡ put_together c.seam_of-seam.result frame (inner_ends c.seam_of-seam.result outer.connectors inner.connectors) outer inner) =
     subst (λ (es : List ℕ). IfOk c.put_together.result (λ (whole : Parts). tree_of whole ≡ put_together c.seam_of-seam.result frame es outer inner)) (c.deref-3.ensures.value ∙ ends) c.put_together.ensures in
-    subst (λ (s : Seam). IfOk c.put_together.result (λ (whole : Parts). tree_of whole ≡ put_together s frame (ends_of s outer.connectors inner.connectors) outer inner)) (c.seam_of-seam.ensures part at) whole
+    subst (λ (s : Seam). IfOk c.put_together.result (λ (whole : Parts). tree_of whole ≡ put_together s frame (inner_ends s outer.connectors inner.connectors) outer inner)) (c.seam_of-seam.ensures part at) whole

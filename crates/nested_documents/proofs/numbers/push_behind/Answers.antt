@@ -1,4 +1,5 @@
-use Rattle.nested_documents.proofs.RunLemmas.{none_behind, one_behind}
+use Rattle.std.proofs.Common.{◌+◌, ◌-◌, refl}
+use Rattle.nested_documents.proofs.RunLemmas.{none_behind, part_more}
 use Rattle.nested_documents.proofs.numbers.push_behind.Goals as goal
 
 pub returns-then-one-less : goal.returns-then-one-less
@@ -7,4 +8,4 @@ returns-then-one-less c =
 
 pub returns : goal.returns
 returns c =
-    one_behind c.args.runs.now.items c.push.new.self.items c.args.one.now c.behind.result c.args.less c.in_ok-push.ensures.items c.behind.ensures
+    part_more c.args.runs.now.items c.push.new.self.items _ c.args.one.now.document (c.args.one.now.node + c.args.less) (c.args.one.now.count - c.args.less) c.in_ok-push.ensures.items refl refl refl

@@ -1,4 +1,5 @@
-use Rattle.nested_documents.proofs.RunLemmas.{none_first, one_first}
+use Rattle.std.proofs.Common.{min, refl}
+use Rattle.nested_documents.proofs.RunLemmas.{none_first, part_more}
 use Rattle.nested_documents.proofs.numbers.push_first.Goals as goal
 
 pub returns-then-most-eq0 : goal.returns-then-most-eq0
@@ -7,4 +8,4 @@ returns-then-most-eq0 c =
 
 pub returns : goal.returns
 returns c =
-    one_first c.args.runs.now.items c.push.new.self.items c.args.one.now c.first.result c.args.most c.in_ok-push.ensures.items c.first.ensures
+    part_more c.args.runs.now.items c.push.new.self.items _ c.args.one.now.document c.args.one.now.node (min c.args.one.now.count c.args.most) c.in_ok-push.ensures.items refl refl c.min.ensures

@@ -1,6 +1,6 @@
 use Rattle.std.proofs.Common.{◌≡◌, ◌++◌, filter, take}
 use Rattle.doc_tables.specs.Elements.{children, name_of}
-use Rattle.parameter_sets.specs.Elements.{is_transformation}
+use Rattle.doc_tables.specs.Documents.{is_transformation}
 use Rattle.parameter_sets.proofs.elements.put_transformations.Given as goal
 
 abbrev pub invariant-loop-child : goal.invariant-loop-child

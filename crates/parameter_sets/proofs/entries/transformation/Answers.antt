@@ -1,6 +1,6 @@
 use Rattle.std.proofs.Common.{sym, ◌∙◌}
 use Rattle.doc_tables.specs.Elements.{children, name_of}
-use Rattle.parameter_sets.specs.Elements.{is_transformation}
+use Rattle.doc_tables.specs.Documents.{is_transformation}
 use Rattle.parameter_sets.specs.Rules.{IsMisreadTransformation}
 use Rattle.parameter_sets.specs.Sets.{IsChange}
 use Rattle.parameter_sets.proofs.ListLemmas.{found_kept}

@@ -1,12 +1,12 @@
 use Rattle.std.proofs.Common.{codes, sym, ◌∙◌}
-use Rattle.parameter_sets.specs.Numbers.{IsBoolean, IsWhole}
+use Rattle.parameter_sets.specs.Numbers.{IsBoolean, IsWholeNumber}
 use Rattle.parameter_sets.proofs.ReadLemmas.{no_boolean, no_integer, unread}
 use Rattle.parameter_sets.proofs.parameters.value_in.Goals as goal
 
 pub returns-in_err-whole_number : goal.returns-in_err-whole_number
 returns-in_err-whole_number c =
     rw c.from_residual.ensures
-    (no_integer c.args.tree.now c.args.node (sym c.is_named.ensures ∙ c.if-is_named.true) (unread (IsWhole c.args.tree.now c.args.node (codes "value")) c.whole_number.result c.in_err-whole_number.was c.whole_number.ensures.exact))
+    (no_integer c.args.tree.now c.args.node (sym c.is_named.ensures ∙ c.if-is_named.true) (unread (IsWholeNumber c.args.tree.now c.args.node (codes "value")) c.whole_number.result c.in_err-whole_number.was c.whole_number.ensures.exact))
 
 pub returns-in_err-boolean : goal.returns-in_err-boolean
 returns-in_err-boolean c =

@@ -2,10 +2,10 @@ use Rattle.std.proofs.Common.{List, ℕ, arith, ◌≡◌, ◌+◌, ◌∷◌, [
 use Rattle.std.specs.Prelude.{slice_get}
 use Rattle.std.proofs.lemmas.List.{length-map, map-append, take_all}
 use Rattle.std.proofs.lemmas.List.Elements.{All-nil}
-use Rattle.std.proofs.lemmas.Option.{slice_get_read}
-use Rattle.fmu_peer.specs.Start.{IsStarted}
-use Rattle.run_program.specs.Peers.{AreKnown, AreStarted}
-use Rattle.run_program.proofs.PeerLemmas.{known_more, none_started, noted_fault, one_started, started_more}
+use Rattle.std.proofs.lemmas.Option.{none-some as none_some, slice_get_read}
+use Rattle.fmu_peer.specs.Start.{IsMade, IsStarted, SpawnerView}
+use Rattle.run_program.specs.Peers.{AreKnown, AreMade, AreStarted}
+use Rattle.run_program.proofs.PeerLemmas.{known_more, made_more, none_started, noted_fault, one_started, started_more}
 use Rattle.run_program.proofs.peers.start_each.Goals as goal
 
 pub loop-place-init : goal.loop-place-init
@@ -14,6 +14,8 @@ loop-place-init g c = record {
   within = omega arith;
   room = c.requires.room;
   are = subst (λ (xs : List g.row.S-Link.Denot). AreStarted c.args.host.now c.args.folders.now c.args.components.now (map g.S.Link.Peer.view xs)) (sym c.requires.empty) tt;
+  made = subst (λ (xs : List g.row.S-Link.Denot). AreMade c.args.host.now (g.S.Spawner.view c.args.spawner.now) c.args.components.now (map g.S.Link.Peer.view xs)) (sym c.requires.empty)
+      (λ i d v at there. absurd (none_some v there));
   known = All-nil _;
   told = none_started (g.S.Spawner.view c.args.spawner.now);
 }
@@ -58,6 +60,10 @@ loop-place-preserved g c =
           (started_more c.args.host.now c.args.folders.now c.args.components.now (map view c.loop-place.peers.items) folder component (view c.in-Ok.peer) i.are
           (ap (λ (n : ℕ). slice_get c.args.folders.now n) (length-map c.loop-place.peers.items view ∙ i.each) ∙ there)
           (ap (λ (n : ℕ). slice_get c.args.components.now n) (length-map c.loop-place.peers.items view ∙ i.each) ∙ here) started);
+      made = subst (AreMade c.args.host.now (g.S.Spawner.view c.args.spawner.now) c.args.components.now) (sym (ap (map view) c.push_reserved.ensures.items ∙ map-append view c.loop-place.peers.items (c.in-Ok.peer ∷ [])))
+          (made_more c.args.host.now (g.S.Spawner.view c.args.spawner.now) c.args.components.now (map view c.loop-place.peers.items) component (view c.in-Ok.peer) i.made
+          (ap (λ (n : ℕ). slice_get c.args.components.now n) (length-map c.loop-place.peers.items view ∙ i.each) ∙ here)
+          (subst (λ (s : SpawnerView). IsMade s c.args.host.now component.shape (view c.in-Ok.peer)) i.told c.in-Ok.ensures.made));
       known = known_more c.args.host.now (g.S.Spawner.view c.args.spawner.now) c.args.components.now c.loop-place.place component i.known here
           (sym (ap (λ s. s.knows c.args.host.now component.shape.identifier) i.told) ∙ c.in-Ok.ensures.unknown);
       told = one_started (g.S.Spawner.view c.args.spawner.now) (g.S.Spawner.view c.loop-place.spawner) (g.S.Spawner.view c.start.new.self) c.loop-place.place i.told c.in-Ok.ensures.noted;
@@ -72,6 +78,7 @@ returns-clause-ok g c =
     record {
       each = n ∙ all;
       are = i.are;
+      made = i.made;
       known = subst (AreKnown c.args.host.now (g.S.Spawner.view c.args.spawner.now)) (ap (λ (k : ℕ). take k c.args.components.now) all ∙ take_all (length c.args.components.now) c.args.components.now (omega arith)) i.known;
       told = i.told ∙ ap (λ (k : ℕ). record (g.S.Spawner.view c.args.spawner.now) { started = (g.S.Spawner.view c.args.spawner.now).started + k }) (sym n);
     }

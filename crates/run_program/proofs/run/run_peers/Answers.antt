@@ -1,4 +1,4 @@
-use Rattle.std.proofs.Common.{◌≡◌, ◌<◌, ℕ, List, arith, length, map, refl, sym, ap, subst, ◌∙◌}
+use Rattle.std.proofs.Common.{◌≡◌, ◌<◌, ◌≤◌, ℕ, List, arith, length, map, refl, sym, ap, subst, ◌∙◌}
 use Rattle.std.proofs.lemmas.List.{length-map}
 use Rattle.fmu_peer.specs.Start.{SpawnerView}
 use Rattle.step_master.specs.Lived.{Lived, Unmade}
@@ -10,11 +10,12 @@ use Rattle.command_line.specs.declared.words.Options.{Options}
 use Rattle.system_model.specs.declared.system.Component.{Component}
 use Rattle.system_model.specs.declared.bound.Bound.{Bound}
 use Rattle.run_program.specs.declared.outcome.Outcome.{Outcome}
-use Rattle.run_program.specs.Facts.{RunFacts}
+use Rattle.run_program.specs.Bench.{RanFacts}
 use Rattle.run_program.specs.Happened.{scene}
 use Rattle.run_program.specs.Peers.{with_all_retired, with_all_started}
 use Rattle.run_program.specs.Runs.{Broke, IsEndOf, NamesOne, RunsPeers, Task, Went}
-use Rattle.run_program.proofs.Running.{account_of, fails, given_back, goes, lived_names, lived_news, new_peers, plan_within, unmade_names}
+use Rattle.run_program.proofs.Counting.{are_numbers, no_numbers, numbers_of}
+use Rattle.run_program.proofs.Running.{account_of, fails, given_back, goes, lived_names, lived_news, new_peers, unmade_names}
 use Rattle.run_program.proofs.run.run_peers.Goals as goal
 
 abbrev task_with : Options → Bound → List (List ℕ) → Task
@@ -29,22 +30,34 @@ pub retire_each-requires-after_bounds : goal.retire_each-requires-after_bounds
 retire_each-requires-after_bounds g c κs within =
     let view = g.S.Link.Peer.view in
     let olds = map view c.args.peers.items in
-    let news = map view c.close.result.items in
+    let news = map view c.close-peers.result.items in
     let peers = new_peers c.args.options.host.now c.args.folders.now c.args.system olds c.requires.started (length-map c.args.peers.items view ∙ c.requires.each) in
     let account = account_of c.args.system c.args.bound c.args.options.plan olds news (g.O.Sink.view c.args.out.now) (g.O.Sink.view c.run-end.new.out) (standing view c.run-end.new.self) c.run-end.result in
-    let lived : Lived account = c.lives_of_peers.ensures.run account (standing view c.in-Ok.master) (standing view c.run-end.new.self) c.requires.runnable.sound c.requires.bound c.requires.counts peers c.in-Ok.ensures.ok c.run-end.ensures c.close.ensures refl in
-    let same : length c.close.result.items ≡ length c.args.peers.items = sym (length-map c.close.result.items view) ∙ lived_news account lived ∙ sym c.requires.each in
+    let lived : Lived account = c.lives_of_peers.ensures.run account (standing view c.in-Ok.master) (standing view c.run-end.new.self) c.requires.runnable.sound c.requires.bound c.requires.counts peers c.in-Ok.ensures.ok c.run-end.ensures c.close-peers.ensures refl in
+    let same : length c.close-peers.result.items ≡ length c.args.peers.items = sym (length-map c.close-peers.result.items view) ∙ lived_news account lived ∙ sym c.requires.each in
     let room = c.requires.fewer in
     omega (arith, same, room)
+
+pub call_counts-counts-requires-after_bounds : goal.call_counts-counts-requires-after_bounds
+call_counts-counts-requires-after_bounds g c κs within =
+    let view = g.S.Link.Peer.view in
+    let olds = map view c.args.peers.items in
+    let news = map view c.close-peers.result.items in
+    let peers = new_peers c.args.options.host.now c.args.folders.now c.args.system olds c.requires.started (length-map c.args.peers.items view ∙ c.requires.each) in
+    let account = account_of c.args.system c.args.bound c.args.options.plan olds news (g.O.Sink.view c.args.out.now) (g.O.Sink.view c.run-end.new.out) (standing view c.run-end.new.self) c.run-end.result in
+    let lived : Lived account = c.lives_of_peers.ensures.run account (standing view c.in-Ok.master) (standing view c.run-end.new.self) c.requires.runnable.sound c.requires.bound c.requires.counts peers c.in-Ok.ensures.ok c.run-end.ensures c.close-peers.ensures refl in
+    let same : length c.deref.result.now ≡ length c.args.system.components = ap length c.deref.ensures.value ∙ sym (length-map c.close-peers.result.items view) ∙ lived_news account lived in
+    let few : length c.args.system.components ≤ 256 = c.requires.runnable.sound.components.few in
+    omega (arith, same, few)
 
 pub report_end-requires : goal.report_end-requires
 report_end-requires g c =
     let view = g.S.Link.Peer.view in
     let olds = map view c.args.peers.items in
-    let news = map view c.close.result.items in
+    let news = map view c.close-peers.result.items in
     let peers = new_peers c.args.options.host.now c.args.folders.now c.args.system olds c.requires.started (length-map c.args.peers.items view ∙ c.requires.each) in
     let account = account_of c.args.system c.args.bound c.args.options.plan olds news (g.O.Sink.view c.args.out.now) (g.O.Sink.view c.run-end.new.out) (standing view c.run-end.new.self) c.run-end.result in
-    let lived : Lived account = c.lives_of_peers.ensures.run account (standing view c.in-Ok.master) (standing view c.run-end.new.self) c.requires.runnable.sound c.requires.bound c.requires.counts peers c.in-Ok.ensures.ok c.run-end.ensures c.close.ensures refl in
+    let lived : Lived account = c.lives_of_peers.ensures.run account (standing view c.in-Ok.master) (standing view c.run-end.new.self) c.requires.runnable.sound c.requires.bound c.requires.counts peers c.in-Ok.ensures.ok c.run-end.ensures c.close-peers.ensures refl in
     subst (λ (n : ℕ). NamesOne n c.run-end.result) (sym (ap length c.requires.names ∙ length-map c.args.system.components (λ (x : Component). x.name))) (lived_names account lived)
 
 pub retire_each-requires-in-Err-after_bounds : goal.retire_each-requires-in-Err-after_bounds
@@ -70,13 +83,13 @@ report_end-requires-in-Bad g c =
     subst (λ (n : ℕ). c.in-Bad.bad.component.0 < n) (sym (ap length c.requires.names ∙ length-map c.args.system.components (λ (x : Component). x.name))) (unmade_names c.args.system olds news c.in-Bad.bad unmade)
 
 pub returns-in-Ok : goal.returns-in-Ok
-returns-in-Ok g c before known told =
+returns-in-Ok g c before known made told =
     let view = g.S.Link.Peer.view in
     let olds = map view c.args.peers.items in
-    let news = map view c.close.result.items in
+    let news = map view c.close-peers.result.items in
     let peers = new_peers c.args.options.host.now c.args.folders.now c.args.system olds c.requires.started (length-map c.args.peers.items view ∙ c.requires.each) in
     let account = account_of c.args.system c.args.bound c.args.options.plan olds news (g.O.Sink.view c.args.out.now) (g.O.Sink.view c.run-end.new.out) (standing view c.run-end.new.self) c.run-end.result in
-    let lived : Lived account = c.lives_of_peers.ensures.run account (standing view c.in-Ok.master) (standing view c.run-end.new.self) c.requires.runnable.sound c.requires.bound c.requires.counts peers c.in-Ok.ensures.ok c.run-end.ensures c.close.ensures refl in
+    let lived : Lived account = c.lives_of_peers.ensures.run account (standing view c.in-Ok.master) (standing view c.run-end.new.self) c.requires.runnable.sound c.requires.bound c.requires.counts peers c.in-Ok.ensures.ok c.run-end.ensures c.close-peers.ensures refl in
     let task = task_with c.args.options c.args.bound c.args.folders.now in
     let old = scene before (g.O.Sink.view c.args.out.now) in
     let new = scene (g.S.Spawner.view c.retire_each.new.spawner) (g.O.Sink.view c.run-end.new.out) in
@@ -84,17 +97,19 @@ returns-in-Ok g c before known told =
       known = known;
       each = length-map c.args.peers.items view ∙ c.requires.each;
       are = c.requires.started;
+      made = made;
       told = c.retire_each.ensures ∙ ap (λ (s : SpawnerView). with_all_retired s news) (told ∙ ap (with_all_started before) (sym (length-map c.args.peers.items view)));
     } in
     let ended = c.report_end.ensures in
-    subst (λ (o : Outcome). RunFacts o task c.args.system old new) (sym ended.1) (
-      c.run-end.result,
-      subst (λ (names : List (List ℕ)). IsEndOf names c.run-end.result ended.0) c.requires.names ended.2,
-      Went (goes account task old new c.requires.runnable c.requires.bound (plan_within c.args.options.plan c.requires.within) refl refl refl refl runs lived c.lives_of_peers.ensures.over c.runs_of_machines.ensures.run c.runs_of_machines.ensures.trace),
-    )
+    subst (λ (o : Outcome). RanFacts o (numbers_of c.instants-instants.result c.call_counts-counts.result) task c.args.system old new) (sym ended.1) (record {
+      end = c.run-end.result;
+      named = subst (λ (names : List (List ℕ)). IsEndOf names c.run-end.result ended.0) c.requires.names ended.2;
+      run = Went (goes account task old new c.requires.runnable c.requires.bound c.requires.within.plan_is refl refl refl refl runs lived c.lives_of_peers.ensures.over c.runs_of_machines.ensures.run c.runs_of_machines.ensures.trace);
+      numbered = are_numbers view c.close-peers.result.items c.call_counts-counts.result account lived refl c.counted_talks.ensures c.deref.result.now c.deref.ensures.value c.instants-instants.result c.instants-instants.ensures c.call_counts-counts.ensures.calls c.call_counts-counts.ensures.rollbacks;
+    })
 
 pub returns-in-Bad : goal.returns-in-Bad
-returns-in-Bad g c before known told =
+returns-in-Bad g c before known made told =
     let view = g.S.Link.Peer.view in
     let olds = map view c.args.peers.items in
     let news = map view c.in-Err.field-0.peers.items in
@@ -109,11 +124,13 @@ returns-in-Bad g c before known told =
       known = known;
       each = length-map c.args.peers.items view ∙ c.requires.each;
       are = c.requires.started;
+      made = made;
       told = c.retire_each-in-Err.ensures ∙ ap (λ (s : SpawnerView). with_all_retired s news) (told ∙ ap (with_all_started before) (sym (length-map c.args.peers.items view)));
     } in
     let ended = c.report_end-in-Bad.ensures in
-    subst (λ (o : Outcome). RunFacts o task c.args.system old new) (sym ended.1) (
-      E.Bad c.in-Bad.bad,
-      subst (λ (names : List (List ℕ)). IsEndOf names (E.Bad c.in-Bad.bad) ended.0) c.requires.names ended.2,
-      Broke c.in-Bad.bad refl (fails task c.args.system c.in-Bad.bad olds news old new c.requires.runnable runs unmade refl c.lives_of_peers.ensures.over c.runs_of_machines.ensures.unmade),
-    )
+    subst (λ (o : Outcome). RanFacts o no_numbers task c.args.system old new) (sym ended.1) (record {
+      end = E.Bad c.in-Bad.bad;
+      named = subst (λ (names : List (List ℕ)). IsEndOf names (E.Bad c.in-Bad.bad) ended.0) c.requires.names ended.2;
+      run = Broke c.in-Bad.bad refl (fails task c.args.system c.in-Bad.bad olds news old new c.requires.runnable runs unmade refl c.lives_of_peers.ensures.over c.runs_of_machines.ensures.unmade);
+      numbered = tt;
+    })

@@ -1,7 +1,7 @@
 use Rattle.std.proofs.Common.{◌≡◌, refl, subst}
-use Rattle.command_line.specs.Line.{Asked, IsAsked, asked_of, line_of, texts, trace_of}
+use Rattle.command_line.specs.Line.{Asked, IsAsked, asked_of, bench_of, line_of, texts, trace_of}
 use Rattle.command_line.specs.declared.words.Request.{Request}
-use Rattle.run_program.proofs.TraceRows.{no_line_rows, of_trace, system_rows, unread_rows}
+use Rattle.run_program.proofs.TraceRows.{no_line_rows, of_bench, of_trace, system_rows, unread_rows}
 use Rattle.run_program.proofs.run.run_words.Goals as goal
 
 pub returns-in-Ok-System-clause-rows : goal.returns-in-Ok-System-clause-rows
@@ -20,6 +20,15 @@ returns-in-Ok-TraceCheck-clause-rows g c =
     (subst (λ (x : Request). IsAsked words (asked_of x)) r c.in-Ok-TraceCheck.ensures.ok)
     (subst (λ (x : Request). (asked : Asked) → IsAsked words asked → asked_of x ≡ asked) r c.in-Ok-TraceCheck.ensures.only)
     (record { calm = refl; ends = c.check_trace.ensures words (g.S.Spawner.view c.args.spawner.now) })
+
+pub returns-in-Ok-Bench-clause-rows : goal.returns-in-Ok-Bench-clause-rows
+returns-in-Ok-Bench-clause-rows g c =
+    let words = texts c.args.words.now in
+    let r = c.in-Ok-Bench.field-0-is in
+    of_bench _ (bench_of c.in-Ok-Bench.options)
+    (subst (λ (x : Request). IsAsked words (asked_of x)) r c.in-Ok-Bench.ensures.ok)
+    (subst (λ (x : Request). (asked : Asked) → IsAsked words asked → asked_of x ≡ asked) r c.in-Ok-Bench.ensures.only)
+    (record { files = refl; outcome = c.run_bench.result.outcome; facts = c.run_bench.ensures; told = c.put-in-Ok-Bench.ensures })
 
 pub returns-in-Err-NoLine-clause-rows : goal.returns-in-Err-NoLine-clause-rows
 returns-in-Err-NoLine-clause-rows g c =

@@ -13,13 +13,13 @@ abbrev rule_of : DescriptionRule → Rule
 rule_of r = Description r
 
 abbrev IsSoundAt : ℕ → List Node → Type 0
-IsSoundAt per_second t = model.IsSound t per_second
+IsSoundAt per_second t = model.IsSoundDescription t per_second
 
 abbrev DescribesAt : ℕ → List Node → Shape → Type 0
 DescribesAt per_second t shape = model_says.Describes t per_second shape
 
 abbrev IsFirstAt : ℕ → List Node → ℕ → DescriptionRule → Type 0
-IsFirstAt per_second t k rule = model.IsFirstViolation t per_second k rule
+IsFirstAt per_second t k rule = model.IsFirstDescriptionViolation t per_second k rule
 
 pub returns-in-Err-clause-err : goal.returns-in-Err-clause-err
 returns-in-Err-clause-err c =

@@ -1,6 +1,6 @@
 use Rattle.std.proofs.Common.{rules, ◌≡◌, ◌<◌, length, true, false}
 use Rattle.std.specs.Prelude.{is_some}
-use Rattle.trace_check.specs.Instants.{value}
+use Rattle.system_model.specs.Values.{value}
 use Rattle.trace_check.specs.Values.{DiffersFromSource}
 use Rattle.trace_check.proofs.SourceLemmas.{counted_next, counted_same, first_line, none_with, none_without}
 use Rattle.trace_check.proofs.sources.first_other_value.Goals as goal

@@ -1,5 +1,5 @@
 use Rattle.std.proofs.Common.{◌≡◌, ℕ, ◌<◌, None}
-use Rattle.trace_check.specs.Instants.{value}
+use Rattle.system_model.specs.Values.{value}
 use Rattle.trace_check.specs.Values.{DiffersFromSource}
 use Rattle.trace_check.proofs.sources.first_without_value.Given as goal
 

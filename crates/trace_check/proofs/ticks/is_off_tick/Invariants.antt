@@ -1,7 +1,7 @@
 use Rattle.std.proofs.Common.{◌≡◌, ℕ, ◌<◌, Some}
 use Rattle.std.specs.List.{slice_get}
 use Rattle.trace_check.specs.declared.ticks.ConstantClock.{ConstantClock}
-use Rattle.trace_check.specs.Instants.{value}
+use Rattle.system_model.specs.Values.{value}
 use Rattle.trace_check.specs.Ticks.{IsOffTick}
 use Rattle.trace_check.proofs.ticks.is_off_tick.Given as goal
 

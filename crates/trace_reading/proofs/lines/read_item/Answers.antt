@@ -3,7 +3,7 @@ use Rattle.system_model.specs.declared.plan.EndKind.{EndKind}
 use Rattle.trace_reading.specs.declared.trace.TraceLine.TheVariants.{At, Value}
 use Rattle.trace_reading.specs.declared.item.Item.{Item}
 use Rattle.trace_reading.specs.declared.item.Item.TheVariants.{Row, End}
-use Rattle.trace_reading.specs.Lines.{at_line, end_line}
+use Rattle.system_model.specs.Text.{at_line, end_line}
 use Rattle.trace_reading.specs.Walk.{item_line, IsShortItem}
 use Rattle.trace_reading.proofs.ListLemmas.{heads, unsome}
 use Rattle.trace_reading.proofs.LineLemmas.{begins_with_digit}

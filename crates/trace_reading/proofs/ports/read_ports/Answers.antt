@@ -1,5 +1,5 @@
 use Rattle.std.proofs.Common.{rules, arith, ◌≡◌, ◌∙◌, sym, ap, ℕ, [], ◌∷◌, ◌++◌, length}
-use Rattle.trace_reading.specs.Lines.{port_line}
+use Rattle.trace_reading.specs.Lines.{line_of_port}
 use Rattle.trace_reading.proofs.TableLemmas.{more_ports, more_named}
 use Rattle.trace_reading.proofs.ports.read_ports.Goals as goal
 
@@ -9,7 +9,7 @@ loop-ports-preserved c =
     let found = rw c.in-Some.is at c.in_ok-port.ensures.found in
     let pushed : c.push.new.self.items ≡ c.loop-ports.ports.items ++ (c.in-Some.port ∷ []) = c.in_ok-push.ensures.items in
     record {
-      parts = more_ports c.args.text.now c.loop-ports.rest.now c.in-Some.behind.now c.loop-ports.ports.items c.push.new.self.items c.in-Some.port c.loop-ports.invariant.parts (found.1 ∙ ap (λ (n : ℕ). port_line n c.in-Some.port ++ (10 ∷ c.in-Some.behind.now)) number) pushed;
+      parts = more_ports c.args.text.now c.loop-ports.rest.now c.in-Some.behind.now c.loop-ports.ports.items c.push.new.self.items c.in-Some.port c.loop-ports.invariant.parts (found.1 ∙ ap (λ (n : ℕ). line_of_port n c.in-Some.port ++ (10 ∷ c.in-Some.behind.now)) number) pushed;
       named = more_named c.loop-ports.ports.items c.push.new.self.items c.in-Some.port c.loop-ports.invariant.named found.0 pushed;
     }
 
@@ -20,5 +20,5 @@ returns c =
       parts = c.loop-ports.invariant.parts;
       named = c.loop-ports.invariant.named;
       few = omega (arith, number);
-      last = λ port more named e. c.in_ok-port.ensures.none port more named (e ∙ ap (λ (n : ℕ). port_line n port ++ (10 ∷ more)) (sym number)) (cc c.in_default.is);
+      last = λ port more named e. c.in_ok-port.ensures.none port more named (e ∙ ap (λ (n : ℕ). line_of_port n port ++ (10 ∷ more)) (sym number)) (cc c.in_default.is);
     }

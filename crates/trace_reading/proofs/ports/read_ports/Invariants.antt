@@ -1,12 +1,12 @@
 use Rattle.std.proofs.Common.{◌≡◌, ◌++◌, length}
 use Rattle.std.specs.List.{AllByRecursion}
-use Rattle.trace_reading.specs.Form.{IsNamed, port_lines_from}
-use Rattle.trace_reading.specs.Lines.{text_of}
+use Rattle.trace_reading.specs.Form.{IsNamed, lines_of_ports}
+use Rattle.system_model.specs.Text.{lines_text}
 use Rattle.trace_reading.proofs.ports.read_ports.Given as goal
 
 abbrev pub invariant-loop-ports : goal.invariant-loop-ports
 invariant-loop-ports l = record {
-  parts : l.text ≡ text_of (port_lines_from 0 l.ports.items) ++ l.rest;
+  parts : l.text ≡ lines_text (lines_of_ports 0 l.ports.items) ++ l.rest;
   named : AllByRecursion IsNamed l.ports.items;
 }
 

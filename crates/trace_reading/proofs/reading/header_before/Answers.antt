@@ -1,5 +1,5 @@
 use Rattle.std.proofs.Common.{rules}
-use Rattle.trace_reading.specs.Lines.{header_line}
+use Rattle.system_model.specs.Text.{header_line}
 use Rattle.trace_reading.proofs.TextLemmas.{is_header_line}
 use Rattle.trace_reading.proofs.reading.header_before.Goals as goal
 

@@ -1,8 +1,6 @@
-use Rattle.std.proofs.Common.{rules, ◌≡◌, ◌∙◌, sym, ap, subst, ℕ, ◌++◌, ◌∷◌, [], Some, Err}
-use Rattle.trace_reading.specs.Form.{kinds_of}
-use Rattle.trace_reading.specs.Walk.{item_line, place_behind}
+use Rattle.std.proofs.Common.{rules, ◌≡◌, ◌∙◌, sym, subst, ℕ, ◌++◌, ◌∷◌, [], Err}
+use Rattle.trace_reading.specs.Walk.{item_line}
 use Rattle.trace_stream.specs.declared.fault.StreamFault.TheVariants.{Line}
-use Rattle.trace_stream.specs.Cut.{next_number}
 use Rattle.trace_stream.specs.Reading.{HasRead, IsFaultAt}
 use Rattle.trace_stream.proofs.StreamLemmas.{line_read, item_fault, end_fault}
 use Rattle.trace_stream.proofs.steps.next_item.Goals as goal

@@ -1,7 +1,6 @@
-use Rattle.std.proofs.Common.{rules, arith, ◌≡◌, ◌∙◌, sym, ap, subst, ℕ, [], Some, Err}
-use Rattle.trace_reading.specs.Lines.{header_line}
+use Rattle.std.proofs.Common.{rules, arith, ◌≡◌, ◌∙◌, sym, subst, ℕ, [], Err}
+use Rattle.system_model.specs.Text.{header_line}
 use Rattle.trace_stream.specs.declared.fault.StreamFault.TheVariants.{Line}
-use Rattle.trace_stream.specs.Cut.{next_number}
 use Rattle.trace_stream.specs.Reading.{HasPorts, IsFaultAt}
 use Rattle.trace_stream.proofs.StreamLemmas.{header_missing, header_wrong, header_read}
 use Rattle.trace_stream.proofs.steps.read_front.Goals as goal

@@ -1,7 +1,6 @@
-use Rattle.std.proofs.Common.{rules, arith, ◌≡◌, ◌∙◌, sym, ap, subst, ℕ, ◌^◌, ◌<◌, [], ◌∷◌, ◌++◌, length, Some, None, Ok, Err}
-use Rattle.trace_reading.specs.Lines.{port_line}
+use Rattle.std.proofs.Common.{rules, arith, ◌≡◌, ◌∙◌, sym, ap, subst, ℕ, ◌^◌, ◌<◌, [], ◌∷◌, ◌++◌, length, Err}
+use Rattle.trace_reading.specs.Lines.{line_of_port}
 use Rattle.trace_stream.specs.declared.fault.StreamFault.TheVariants.{Line}
-use Rattle.trace_stream.specs.Cut.{next_number}
 use Rattle.trace_stream.specs.Reading.{HasPorts, IsBehindPorts, IsFaultAt}
 use Rattle.trace_stream.proofs.StreamLemmas.{port_read, behind_ports, ports_fault}
 use Rattle.trace_stream.proofs.steps.read_ports.Goals as goal
@@ -23,14 +22,14 @@ returns-in-None-clause-read g c = λ bytes header read.
     let P : ℕ → Type 0 = λ k. IsBehindPorts bytes header c.ports.ports.items c.advance.new.self.bytes.items (g.B.Read.remaining c.advance.new.self.input) k in
     subst P (sym c.advance.ensures.number)
     (behind_ports bytes header c.ports.ports.items c.advance.new.self.bytes.items (g.B.Read.remaining c.ports.lines.input) (g.B.Read.remaining c.advance.new.self.input) c.ports.lines.number few (c.ports.invariant bytes header read) c.in_ok-advance.ensures.taken
-    (λ port named e. c.read_port_line.ensures.none port named (line ∙ e ∙ ap (λ (k : ℕ). port_line k port) (sym count)) (search rules)))
+    (λ port named e. c.read_port_line.ensures.none port named (line ∙ e ∙ ap (λ (k : ℕ). line_of_port k port) (sym count)) (search rules)))
 
 pub ports-preserved : goal.ports-preserved
 ports-preserved g c = λ bytes header read.
     let count : c.len-number.result ≡ length c.ports.ports.items = search rules in
     let found = rw c.in-Some.is at c.in_ok-port.ensures.found in
     let line : c.deref.result.now ≡ c.advance.new.self.bytes.items = search rules in
-    let is : c.advance.new.self.bytes.items ≡ port_line (length c.ports.ports.items) c.in-Some.port = sym line ∙ found.1 ∙ ap (λ (k : ℕ). port_line k c.in-Some.port) count in
+    let is : c.advance.new.self.bytes.items ≡ line_of_port (length c.ports.ports.items) c.in-Some.port = sym line ∙ found.1 ∙ ap (λ (k : ℕ). line_of_port k c.in-Some.port) count in
     let pushed : c.push.new.self.items ≡ c.ports.ports.items ++ (c.in-Some.port ∷ []) = c.in_ok-push-in-Some.ensures.items in
     let P : ℕ → Type 0 = λ k. HasPorts bytes header c.push.new.self.items (g.B.Read.remaining c.advance.new.self.input) k in
     subst P (sym c.advance.ensures.number)

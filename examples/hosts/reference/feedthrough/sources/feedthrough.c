@@ -13,7 +13,7 @@ struct model {
 };
 
 static const char token[] = "{feedthrough}";
-static const struct model start = {0.1f, 0.0, -0.1, -0.0, 0, true, 1};
+static const struct model start = {-0.1f, 0.0, -0.1, -0.0, 0, true, 1};
 
 static const struct variable variables[] = {
     VARIABLE(1, Float32, single_real), VARIABLE(2, Float32, single_real), VARIABLE(5, Float64, parameter),

@@ -2,7 +2,7 @@ use Rattle.std.proofs.Common.{ℕ, get_or, refl, arith, below_more}
 use Rattle.std.proofs.lemmas.Bool.{iff_false}
 use Rattle.doc_tree.specs.declared.rule.DescriptionRule.TheVariants as r
 use Rattle.doc_tree.specs.declared.rule.TheConstants.{DESCRIPTION_RULES}
-use Rattle.fmu_description.specs.Rules.{Violates}
+use Rattle.fmu_description.specs.Rules.{ViolatesDescription}
 use Rattle.fmu_description.proofs.RuleLemmas.{keeps_all, least_at}
 use Rattle.fmu_description.proofs.indexed.IndexedTree.broken_rule.Goals as goal
 
@@ -13,7 +13,7 @@ returns-then-branch c =
 
 pub loop-rule-preserved : goal.loop-rule-preserved
 loop-rule-preserved c =
-    below_more (λ (j : ℕ). Violates c.args.self.now.tree.now c.args.self.now.resolution (get_or DESCRIPTION_RULES j r.RootName) c.args.node → ⊥)
+    below_more (λ (j : ℕ). ViolatesDescription c.args.self.now.tree.now c.args.self.now.resolution (get_or DESCRIPTION_RULES j r.RootName) c.args.node → ⊥)
     c.loop-rule.rule-index c.loop-rule.invariant (iff_false c.in_ok-breaks.ensures c.if-branch.false)
 
 pub returns : goal.returns

@@ -4,7 +4,7 @@ use Rattle.nested_documents.specs.declared.numbers.Place.{Place}
 use Rattle.nested_documents.specs.declared.seam.Seam.{Seam}
 use Rattle.nested_documents.specs.Between.{AreBetween, places_of, waiting_places}
 use Rattle.nested_documents.specs.Inlining.{seam_of}
-use Rattle.nested_documents.specs.Nest.{earlier, lacking_in}
+use Rattle.nested_documents.specs.Nest.{earlier_place, lacking_in}
 use Rattle.nested_documents.specs.Numbers.{elements_of, with_elements}
 use Rattle.nested_documents.specs.Parts.{tree_of}
 use Rattle.nested_documents.proofs.NestLemmas.{placed_added, rest_behind, taken, waits_added, within_parts}
@@ -35,7 +35,7 @@ invariant_of-result c =
     let inside : AreBetween 0 (length document.parts.components.items) (places_of document.nested.items) = subst (λ (n : ℕ). AreBetween 0 n (places_of document.nested.items)) document.parts.components.ok.0 document.placed in
     let behind : AreBetween (suc next.component) (length nest.parts.components.items) (waiting_places rest) =
     subst (λ (n : ℕ). AreBetween (suc next.component) n (waiting_places rest)) nest.parts.components.ok.0 (rest_behind nest.parts.components.len nest.waiting.items next rest waits nest.placed) in
-    let all = waits_added c.seam_of-seam.result seam nest.documents next.level document.nested.items rest c.in_ok-waits.waits.items c.in_ok-rest.rest.items c.append.new.self.items (c.seam_of-seam.ensures at.0 at.1) c.in_ok-waits.ensures c.in_ok-rest.ensures c.in_ok-append.ensures.items in
+    let all = waits_added c.seam_of-seam.result seam next.component nest.documents next.level document.nested.items rest c.in_ok-waits.waits.items c.in_ok-rest.rest.items c.append.new.self.items (c.seam_of-seam.ensures at.0 at.1) c.in_ok-waits.ensures c.in_ok-rest.ensures c.in_ok-append.ensures.items in
     let placed = placed_added outer inner (tree_of c.in_ok-parts.parts) next.component document.elements nest.documents (suc next.level) at.0 c.in_ok-frame.frame document.nested.items rest c.append.new.self.items less inside behind (c.in_ok-parts.ensures at.0 at.1) all in record {
       placed = subst (λ (n : ℕ). AreBetween 0 n (waiting_places c.append.new.self.items)) (sym c.in_ok-parts.parts.components.ok.0) placed;
     }
@@ -62,8 +62,8 @@ returns c =
       frame = c.in_ok-frame.frame;
       is_frame = c.in_ok-frame.ensures;
       parts = c.in_ok-parts.ensures component at;
-      waiting = waits_added c.seam_of-seam.result seam nest.documents next.level document.nested.items rest c.in_ok-waits.waits.items c.in_ok-rest.rest.items c.append.new.self.items same c.in_ok-waits.ensures c.in_ok-rest.ensures c.in_ok-append.ensures.items;
+      waiting = waits_added c.seam_of-seam.result seam next.component nest.documents next.level document.nested.items rest c.in_ok-waits.waits.items c.in_ok-rest.rest.items c.append.new.self.items same c.in_ok-waits.ensures c.in_ok-rest.ensures c.in_ok-append.ensures.items;
       numbers = subst (λ (s : Seam). elements_of c.insert.new.self ≡ with_elements s.node nest.documents document.elements (elements_of nest.numbers)) same c.in_ok-insert.ensures;
       documents = omega arith;
-      lacking = c.earlier.ensures ∙ ap (λ (p : Option Place). earlier nest.lacking p) there;
+      lacking = c.earlier_place.ensures ∙ ap (λ (p : Option Place). earlier_place nest.lacking p) there;
     }

@@ -1,12 +1,12 @@
 use Rattle.std.proofs.Common.{◌↔◌, IsTrue, IfOk, sym, subst}
 use Rattle.doc_tree.specs.declared.rule.SystemRule.{SystemRule}
-use Rattle.ssd_tree.specs.Rules.{Violates}
+use Rattle.ssd_tree.specs.Rules.{ViolatesStructure}
 use Rattle.ssd_tree.proofs.indexed.IndexedTree.breaks.Goals as goal
 
 pub returns-in-NoSource : goal.returns-in-NoSource
 returns-in-NoSource c =
-    subst (λ (rule : SystemRule). IfOk c.has_no_source.result (λ b. IsTrue b ↔ Violates c.args.self.now.tree.now rule c.args.node)) (sym c.in-NoSource.is) c.has_no_source.ensures
+    subst (λ (rule : SystemRule). IfOk c.has_no_source.result (λ b. IsTrue b ↔ ViolatesStructure c.args.self.now.tree.now rule c.args.node)) (sym c.in-NoSource.is) c.has_no_source.ensures
 
 pub returns-in-Incomplete : goal.returns-in-Incomplete
 returns-in-Incomplete c =
-    subst (λ (rule : SystemRule). IsTrue c.is_incomplete.result ↔ Violates c.args.self.now.tree.now rule c.args.node) (sym c.in-Incomplete.is) c.is_incomplete.ensures
+    subst (λ (rule : SystemRule). IsTrue c.is_incomplete.result ↔ ViolatesStructure c.args.self.now.tree.now rule c.args.node) (sym c.in-Incomplete.is) c.is_incomplete.ensures

@@ -3,17 +3,17 @@ use Rattle.std.proofs.lemmas.Option.{MatchOption-at_none}
 use Rattle.doc_tree.specs.Rules.{system_number}
 use Rattle.doc_tables.specs.Violations.{BreaksNoRule, IsLeast}
 use Rattle.doc_tables.proofs.CallerLemmas.{all_sound}
-use Rattle.ssd_tree.specs.Rules.{Violates}
+use Rattle.ssd_tree.specs.Rules.{ViolatesStructure}
 use Rattle.ssd_tree.proofs.RuleLemmas.{breaks_none}
 use Rattle.ssd_tree.proofs.indexed.IndexedTree.first_violation.Goals as goal
 
 pub loop-node-preserved : goal.loop-node-preserved
 loop-node-preserved c =
     let t = c.args.self.now.tree.now in
-    below_more (BreaksNoRule (Violates t)) c.loop-node.node c.loop-node.invariant
-    (MatchOption-at_none (BreaksNoRule (Violates t) c.loop-node.node) (IsLeast system_number (Violates t) c.loop-node.node) c.in_default.is c.in_ok-rule.ensures)
+    below_more (BreaksNoRule (ViolatesStructure t)) c.loop-node.node c.loop-node.invariant
+    (MatchOption-at_none (BreaksNoRule (ViolatesStructure t) c.loop-node.node) (IsLeast system_number (ViolatesStructure t) c.loop-node.node) c.in_default.is c.in_ok-rule.ensures)
 
 pub returns : goal.returns
 returns c =
     let t = c.args.self.now.tree.now in
-    all_sound system_number (Violates t) c.loop-node.node (λ k past. breaks_none t k (omega (arith, past)) (λ e. omega (arith, past, e))) c.loop-node.invariant
+    all_sound system_number (ViolatesStructure t) c.loop-node.node (λ k past. breaks_none t k (omega (arith, past)) (λ e. omega (arith, past, e))) c.loop-node.invariant

@@ -1,4 +1,4 @@
-use Rattle.std.proofs.Common.{arith, ◌≡◌, ◌∙◌, ap, ℤ, ◌<◌, List, [], ◌∷◌, ◌++◌, length, Option, None}
+use Rattle.std.proofs.Common.{arith, ◌∙◌, ap, ℤ, ◌<◌, List, [], ◌∷◌, ◌++◌, length, Option, None}
 use Rattle.std.proofs.lemmas.List.{take_more_set, replicate_more}
 use Rattle.trace_stream.proofs.moment.Moment.begin.Goals as goal
 

@@ -1,11 +1,10 @@
-use Rattle.std.proofs.Common.{rules, arith, ◌≡◌, ◌∙◌, sym, ap, subst, ℕ, List, [], ◌∷◌, ◌++◌, Option, Some, Err}
+use Rattle.std.proofs.Common.{rules, ◌≡◌, ◌∙◌, sym, ap, subst, ℕ, List, [], ◌∷◌, ◌++◌, Some, Err}
 use Rattle.trace_reading.specs.declared.item.Item.{Item}
 use Rattle.trace_reading.specs.declared.item.Place.{Place}
 use Rattle.trace_reading.specs.declared.item.Place.TheVariants.{Between}
 use Rattle.trace_reading.specs.declared.trace.TracePort.{TracePort}
 use Rattle.trace_reading.specs.Form.{kinds_of}
 use Rattle.trace_reading.specs.Walk.{item_line, place_behind}
-use Rattle.trace_stream.specs.declared.steps.Ahead.{Ahead}
 use Rattle.trace_stream.specs.Reading.{item_ahead, place_ahead, HasRead, IsBehindPorts, IsFaultAt, IsLast}
 use Rattle.trace_stream.proofs.StreamLemmas.{first_read, first_fault, read_same}
 use Rattle.trace_reading.proofs.CallerLemmas.{unsome}

@@ -1,8 +1,7 @@
-use Rattle.std.proofs.Common.{rules, arith, ◌≡◌, ◌∙◌, refl, sym, ap, subst, ℕ, ℤ, List, [], ◌∷◌, ◌++◌, length, set, Option, Some, None, Ok, Err}
+use Rattle.std.proofs.Common.{rules, ◌≡◌, ◌∙◌, refl, sym, ap, subst, ℕ, ℤ, List, [], ◌∷◌, ◌++◌, length, set, Option, Some, None, Err}
 use Rattle.std.proofs.lemmas.List.{length-set, length-replicate}
 use Rattle.trace_reading.specs.declared.item.Item.{Item}
 use Rattle.trace_reading.specs.declared.item.Item.TheVariants.{Row, End}
-use Rattle.trace_reading.specs.declared.item.Place.{Place}
 use Rattle.trace_reading.specs.declared.trace.Header.{Header}
 use Rattle.trace_reading.specs.declared.trace.TraceLine.TheVariants.{At, Value}
 use Rattle.trace_reading.specs.declared.trace.TracePort.{TracePort}
@@ -12,7 +11,7 @@ use Rattle.trace_reading.proofs.CallerLemmas.{unsome}
 use Rattle.trace_stream.specs.declared.fault.StreamFault.TheVariants.{Line}
 use Rattle.trace_stream.specs.declared.steps.Ahead.{Ahead}
 use Rattle.trace_stream.specs.declared.steps.Ahead.TheVariants.{Begin, Finish}
-use Rattle.trace_stream.specs.Reading.{item_ahead, place_ahead, HasRead, IsFaultAt, IsReading, IsWithin}
+use Rattle.trace_stream.specs.Reading.{item_ahead, place_ahead, HasRead, IsReading, IsWithin}
 use Rattle.trace_stream.specs.Streams.{instant_of, rows}
 use Rattle.trace_stream.proofs.StreamLemmas.{read_same}
 use Rattle.trace_stream.proofs.ValueLemmas.{ahead_place, instant_read, within_more}

@@ -1,7 +1,6 @@
-use Rattle.std.proofs.Common.{◌≡◌, ℕ, List, [], ◌∷◌, ◌++◌, length}
+use Rattle.std.proofs.Common.{◌≡◌, ℕ, List, length}
 use Rattle.trace_reading.specs.declared.item.Item.{Item}
-use Rattle.trace_reading.specs.declared.item.Place.TheVariants.{Within}
-use Rattle.trace_stream.specs.Reading.{HasRead, IsReading, IsWithin}
+use Rattle.trace_stream.specs.Reading.{IsReading, IsWithin}
 use Rattle.trace_stream.proofs.stream.TraceStream.read.Given as goal
 
 abbrev pub invariant-lines : goal.invariant-lines

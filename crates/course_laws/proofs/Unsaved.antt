@@ -1,0 +1,134 @@
+-- Where at most one FMU might return early: no call of a run saves a state, goes back to one or frees one.
+use Rattle.std.proofs.Common.{◌≡◌, ℕ, ◌+◌, ◌<◌, ◌≤◌, ℤ, Bool, true, false, List, [], ◌∷◌, ◌++◌, inl, inr, nat_lt, Option, refl, sym, ap, ◌∙◌, subst, arith, get_or}
+use Rattle.std.specs.Prelude.{All, if◌then◌else◌}
+use Rattle.std.proofs.lemmas.Bool.Decides.{nat_tests}
+use Rattle.std.proofs.lemmas.List.Elements.{All-append, All-nil, All-weaker}
+use Rattle.value_types.specs.declared.shape.Shape.{Shape}
+use Rattle.fmi_calls.specs.declared.call.Call.{Call}
+use Rattle.fmi_calls.specs.declared.call.Call.TheVariants as C
+use Rattle.fmi_calls.specs.declared.call.Kind.{Kind}
+use Rattle.fmi_calls.specs.declared.call.Kind.TheVariants as K
+use Rattle.fmu_peer.specs.Mode.{instantiate_of}
+use Rattle.system_model.specs.declared.bound.Bound.{Bound}
+use Rattle.system_model.specs.declared.plan.Plan.{Plan}
+use Rattle.system_model.specs.declared.system.System.{System}
+use Rattle.system_model.specs.Bounds.{BindsParameters}
+use Rattle.system_model.specs.EarlyReturn.{early_count}
+use Rattle.system_model.specs.Sound.{IsSound}
+use Rattle.system_model.specs.Text.{Instant}
+use Rattle.slot_calls.specs.declared.bad_answer.BadAnswer.{BadAnswer}
+use Rattle.slot_calls.specs.Log.{Asking, Sent, askings}
+use Rattle.slot_calls.specs.Stage.{IsAnswered, everyone, shapes_of, to_those_from}
+use Rattle.step_agreement.specs.Agreement.{Fails, Outcome}
+use Rattle.step_agreement.specs.Saving.{is_saved}
+use Rattle.step_agreement.proofs.CallerLemmas.{IsOfRound}
+use Rattle.event_iteration.specs.WalkCalls.{own}
+use Rattle.calling_sequence.specs.Calls.{making}
+use Rattle.calling_sequence.specs.Course.{Agreed, Course, Departing, Place, Saved, part_at}
+use Rattle.calling_sequence.specs.Parts.{Agreement, AllAgree, Calls, Does, Falls, Part, Round, Walk}
+use Rattle.calling_sequence.proofs.Along.{along}
+use Rattle.course_laws.specs.Laws.{IsStateless, NothingSaved}
+use Rattle.course_laws.specs.Runs.{Comes, Falling, Stands, Unmade}
+use Rattle.course_laws.proofs.CallsOnce.{IsLater, later_on}
+use Rattle.course_laws.proofs.LastSteps.{back_from}
+use Rattle.course_laws.proofs.OwnCalls.{own_calls, own_log}
+use Rattle.course_laws.proofs.Sorts.{IsOf, IsThroughout, Only, Rounds, Sort, Uses, agreement_so, does_all, falls_all, own_sent, sort_at, sorts_are, those}
+use Rattle.course_laws.proofs.UpdatesNeeded.{Throughout}
+
+-- ---- by the sort of a call
+
+abbrev is_stateless : Sort → Bool
+is_stateless (Only K.Save) = false
+is_stateless (Only K.Restore) = false
+is_stateless (Only K.Free) = false
+is_stateless Rounds = false
+is_stateless sort = true
+
+stateless_of : (sort : Sort) → is_stateless sort ≡ true → (c : Call) → IsOf sort c → IsStateless c
+stateless_of Uses plain C.Save is = absurd (omega (arith, is))
+stateless_of Uses plain C.Restore is = absurd (omega (arith, is))
+stateless_of Uses plain C.Free is = absurd (omega (arith, is))
+stateless_of (Only kind) plain C.Save is = absurd (let wrong : false ≡ true = ap (λ (k : Kind). is_stateless (Only k)) is ∙ plain in cc)
+stateless_of (Only kind) plain C.Restore is = absurd (let wrong : false ≡ true = ap (λ (k : Kind). is_stateless (Only k)) is ∙ plain in cc)
+stateless_of (Only kind) plain C.Free is = absurd (let wrong : false ≡ true = ap (λ (k : Kind). is_stateless (Only k)) is ∙ plain in cc)
+stateless_of Rounds plain c is = absurd (cc)
+stateless_of sort plain c is = tt
+
+-- one of an agreement in which nobody is put back
+round_stateless : (t : ℕ) (c : Call) → IsOfRound t c → (c ≡ C.Restore → ⊥) → IsStateless c
+round_stateless t c (inl is) never = absurd (never is)
+round_stateless t c (inr (size, is)) never = subst IsStateless (sym is) tt
+
+to_none : (test : Shape → Bool) (call : Shape → Call) → ((s : Shape) → test s ≡ false) → (k : ℕ) (xs : List Shape) → to_those_from k test call xs ≡ []
+to_none test call none k [] = refl
+to_none test call none k (x ∷ xs) = ap (λ (b : Bool). if b then record { component = k; call = call x } ∷ to_those_from (k + 1) test call xs else to_those_from (k + 1) test call xs) (none x) ∙ to_none test call none (k + 1) xs
+
+not_more : (n : ℕ) → n ≤ 1 → nat_lt 1 n ≡ false
+not_more n few = grind (arith, nat_tests)
+
+module _ (system : System) where
+  stateless_on : (front more : List Sent) → Throughout system IsStateless front → Throughout system IsStateless more → Throughout system IsStateless (front ++ more)
+  stateless_on front more f m i = subst (All IsStateless) (sym (own_log i front more)) (All-append IsStateless (own i (askings front)) (own i (askings more)) (f i) (m i))
+
+  made_stateless : (i : ℕ) → All IsStateless (own i (making system))
+  made_stateless = those system IsStateless everyone instantiate_of (λ s. tt)
+
+  made_all : (made : List Sent) → IsAnswered (shapes_of system) (making system) made → Throughout system IsStateless made
+  made_all made answered i = subst (λ (cs : List Asking). All IsStateless (own i cs)) (sym answered.calls_are) (made_stateless i)
+
+  weaken : (P Q : Call → Type 0) → ((c : Call) → P c → Q c) → (part : Part) → IsThroughout system P part → IsThroughout system Q part
+  weaken P Q h (Calls calls) all = λ i. All-weaker P Q h (own i calls) (all i)
+  weaken P Q h (Round calls) all = λ i. All-weaker P Q h (own i calls) (all i)
+  weaken P Q h (Walk rules before order) all = λ log walks i. All-weaker P Q h (own i (askings log)) (all log walks i)
+  weaken P Q h (Agreement t step b) all = λ call is. h call (all call is)
+
+  -- ---- along a course
+
+  module _ (sound : IsSound system) (few : early_count (shapes_of system) ≤ 1) where
+    none_to : (call : Call) (i : ℕ) → All IsStateless (own i (to_those_from 0 (is_saved (early_count (shapes_of system))) (λ (z : Shape). call) (shapes_of system)))
+    none_to call i =
+        subst (λ (l : List Asking). All IsStateless (own i l))
+        (sym (to_none (is_saved (early_count (shapes_of system))) (λ (z : Shape). call) (λ s. not_more (early_count (shapes_of system)) few) 0 (shapes_of system))) (All-nil IsStateless)
+
+    agreement_stateless : (t step b : ℕ) → t < b → (log : List Sent) (o : Outcome) → AllAgree system t step b log o → Throughout system IsStateless log
+    agreement_stateless t step b later log o agrees =
+        let rounds = agreement_so system (IsOfRound t) t step b (λ c is. is) log o agrees in
+        let backs = back_from t step (shapes_of system) b later log o agrees in
+        own_sent system IsStateless log (λ k d w. round_stateless t (get_or log k d).exchange.call (rounds k d w) (λ back. absurd (let two = backs k d w back in omega (arith, two, few))))
+
+    module _ (bound : Bound) (plan : Plan) (binds : BindsParameters system bound) where
+      -- an agreement is looked at as a whole
+      abbrev AtPart : Place → Type 0
+      AtPart (Saved w) = Unit {0}
+      AtPart p = IsThroughout system IsStateless (part_at system bound plan p)
+
+      at_part : (p : Place) → AtPart p
+      at_part (Departing w) = none_to C.Save
+      at_part (Saved w) = tt
+      at_part (Agreed w m asked) = none_to C.Free
+      at_part p = weaken (IsOf (sort_at p)) IsStateless (stateless_of (sort_at p) refl) (part_at system bound plan p) (sorts_are system sound bound plan binds p)
+
+      does_stateless : (p : Place) → IsLater p → (values : List (Option ℤ)) (more : List Sent) → Does system (part_at system bound plan p) values more → Throughout system IsStateless more
+      does_stateless (Saved w) later values more (o, is, agrees) = agreement_stateless w.s.t plan.step w.to later more o agrees
+      does_stateless p later values more does = does_all system IsStateless (part_at system bound plan p) (at_part p) values more does
+
+      falls_stateless : (p : Place) → IsLater p → (bad : BadAnswer) (more : List Sent) → Falls system (part_at system bound plan p) bad more → Throughout system IsStateless more
+      falls_stateless (Saved w) later bad more agrees = agreement_stateless w.s.t plan.step w.to later more (Fails bad) agrees
+      falls_stateless p later bad more falls = falls_all system IsStateless (part_at system bound plan p) (at_part p) bad more falls
+
+      course_stateless : (p : Place) (log : List Sent) (is : List Instant) → Course system bound plan p log is → IsLater p × Throughout system IsStateless log
+      course_stateless = along system bound plan (λ p log is. IsLater p × Throughout system IsStateless log) (tt, λ i. All-nil IsStateless)
+          (λ p q values front more is course at does leads. (
+            later_on system plan p q values more leads at.0,
+            stateless_on front more at.1 (does_stateless p at.0 values more does),
+          ))
+
+    pub comes_stateless : (bad : Option BadAnswer) (log : List Sent) → Comes system bad log → Throughout system IsStateless log
+    comes_stateless _ _ (Unmade bad log stops) = falls_all system IsStateless (Calls (making system)) made_stateless bad log stops
+    comes_stateless _ _ (Stands bound plan p made log is binds counts answered course halts) = stateless_on made log (made_all made answered) (course_stateless bound plan binds p log is course).1
+    comes_stateless _ _ (Falling bound plan p bad made front more is binds counts answered course falls) =
+        let at = course_stateless bound plan binds p front is course in
+        stateless_on made (front ++ more) (made_all made answered) (stateless_on front more at.1 (falls_stateless bound plan binds p at.0 bad more falls))
+
+pub nothing_saved : NothingSaved
+nothing_saved system bad log sound comes few k = subst (All IsStateless) (sym (own_calls k log)) (comes_stateless system sound few bad log comes k)
