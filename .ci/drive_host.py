@@ -5,6 +5,8 @@
     drive_host.py --page PAGE HOST DIR R    the dump of a page: its calls are sent, and each reply has to be the page's
     drive_host.py --sampler HOST DIR R      the calls of a run with a Clock, for the sampler
     drive_host.py --alarm HOST DIR R        steps that end early, and are undone, for the alarm
+    drive_host.py --pulse HOST DIR R        three ticks of a changing Clock, for the pulse
+    drive_host.py --waker HOST DIR R        the steps to a next event time, for the waker
     drive_host.py --odd HOST DIR R          what is no frame, ends inside one, or is no call for a counter
 
 Status and error line are those of ssprun where the link fails (5), a call is refused (6) or a reply is of another kind
@@ -260,6 +262,63 @@ def drive_alarm(program, directory, resolution):
     expect("behind FreeInstance", host.end(), (b"", 0))
 
 
+def drive_pulse(program, directory, resolution):
+    """The pulse: its Clock is under 1, the first interval and the shift under 2 and 3, in thousandths of a second."""
+    host = Host(program, directory, resolution)
+    host.instantiate("p", "{pulse}", event_mode=True)
+    for reference, value in ((2, 3), (3, 2)):
+        host.ask("Set", type=TYPES.index("Int32") + 1, reference=reference, first=value)
+    host.ask("EnterInitialization", first=0, second=resolution)
+    counter, parts = host.ask("GetShift", reference=1)[2:]
+    print(f"shift {counter}/{parts}")
+    host.ask("ExitInitialization")
+    host.ask("Update")
+    point = 0
+    for _ in range(3):
+        host.ask("EnterStep")
+        point = host.ask("DoStep", first=point, second=resolution * counter // parts)[2]
+        host.ask("EnterEvent")
+        host.ask("SetClock", reference=1)
+        _, qualifier, counter, parts = host.ask("GetInterval", reference=1)
+        print(f"at {point}: interval {qualifier} {counter}/{parts}")
+        host.ask("Update")
+    host.ask("Terminate")
+    host.ask("FreeInstance")
+    expect("behind FreeInstance", host.end(), (b"", 0))
+
+
+def drive_waker(program, directory, resolution):
+    """The waker at 7 thousandths of a second: a step of one count, one to the time that it names, and one more."""
+    int32 = TYPES.index("Int32") + 1
+    host = Host(program, directory, resolution)
+    host.instantiate("w", "{waker}", event_mode=True)
+    host.ask("Set", type=int32, reference=1, first=7)
+    host.ask("EnterInitialization", first=0, second=resolution)
+    host.ask("ExitInitialization")
+
+    def instant(point):
+        shown = number_of(int32, host.ask("Get", type=int32, reference=2)[2])
+        flags, _, event, _ = host.ask("Update")
+        print(f"at {point}: y {shown}, flags {flags}, event {event}")
+        return event
+
+    def step(point, end):
+        host.ask("EnterStep")
+        host.ask("DoStep", first=point, second=end - point)
+        host.ask("EnterEvent")
+
+    instant(0)
+    step(0, 1)
+    event = instant(1)
+    step(1, event)
+    instant(event)
+    step(event, event + 1)
+    instant(event + 1)
+    host.ask("Terminate")
+    host.ask("FreeInstance")
+    expect("behind FreeInstance", host.end(), (b"", 0))
+
+
 # What is no frame of a call: its bytes, each behind a good Instantiate.
 NO_FRAMES = (
     ("the kind 0", FRAME.pack(0, 0, 0, 0, 0, 0, 0)),
@@ -344,6 +403,10 @@ def main(words):
             drive_sampler(*words[1:])
         elif len(words) == 4 and words[0] == "--alarm":
             drive_alarm(*words[1:])
+        elif len(words) == 4 and words[0] == "--pulse":
+            drive_pulse(*words[1:3], int(words[3]))
+        elif len(words) == 4 and words[0] == "--waker":
+            drive_waker(*words[1:3], int(words[3]))
         elif len(words) == 4 and words[0] == "--odd":
             drive_odd(*words[1:])
         elif len(words) == 5:

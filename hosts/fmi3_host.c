@@ -12,8 +12,9 @@
  * bits of a Float64 or a Float32: the FMU is asked for these, and set to them. `tools/ssp reals` writes such files.
  *
  * What doesn't work is told on standard error, and the call is answered with Error: no library or two of them, a
- * function that the library doesn't have, a time that is no count. What the FMU writes on standard output goes to
- * standard error, line by line. An FMU that crashes ends its host.
+ * function that the library doesn't have, the end of a step, an interval or a shift that is no count. A next event time
+ * that is none goes up to the next count, which is told once. What the FMU writes on standard output goes to standard
+ * error, line by line. An FMU that crashes ends its host.
  *
  *     FMI3_HOST_LOG=1         the FMU is to log
  *     FMI3_HOST_SECONDS=N     where an answer takes longer than N seconds, 1 to 1,000,000, the host ends
@@ -483,6 +484,24 @@ static bool nearest_count(fmi3Float64 time, uint64_t *count)
     return is_near;
 }
 
+/*
+ * The count at which an event of this time is handled: the nearest one, or where that is too far off the first one that
+ * isn't before the time. An event at 0 or before is over at every point. The time is below the 2^62nd count.
+ */
+static uint64_t event_count(fmi3Float64 time)
+{
+    static bool is_known;
+    uint64_t count;
+    if (nearest_count(time, &count))
+        return count;
+    if (!is_known)
+        complain("a next event time is no count: the next count is taken", "");
+    is_known = true;
+    long double exact = (long double)time * (long double)resolution;
+    count = exact > 0.0L ? (uint64_t)exact : 0;
+    return (long double)count < exact ? count + 1 : count;
+}
+
 /* ---- One function for each group of calls */
 
 static void log_message(fmi3InstanceEnvironment who, fmi3Status status, fmi3String category, fmi3String message)
@@ -541,7 +560,10 @@ static fmi3Status do_step(uint64_t point, uint64_t size, struct reply *reply)
     return status;
 }
 
-/* fmi3UpdateDiscreteStates (2.3). The two flags on continuous states aren't handed on. */
+/*
+ * fmi3UpdateDiscreteStates (2.3). The two flags on continuous states aren't handed on, and neither is a time that no run
+ * comes to.
+ */
 static fmi3Status update(struct reply *reply)
 {
     fmi3Boolean again = fmi3False, terminate = fmi3False, nominals = fmi3False, values = fmi3False;
@@ -549,9 +571,11 @@ static fmi3Status update(struct reply *reply)
     fmi3Float64 time = 0.0;
     NEEDS(UpdateDiscreteStates);
     fmi3Status status = fmu.UpdateDiscreteStates(instance, &again, &terminate, &nominals, &values, &has_time, &time);
-    has_time = has_time && !(time >= seconds(MOST_COUNTS)); /* no run comes to such a time */
-    if (is_good(status) && has_time && !nearest_count(time, &reply->first))
-        return complain("the next event time is no count", "");
+    if (is_good(status) && has_time && time != time)
+        return complain("the next event time is no number", "");
+    has_time = has_time && time < seconds(MOST_COUNTS);
+    if (is_good(status) && has_time)
+        reply->first = event_count(time);
     reply->flags = (again ? NEEDS_UPDATE : 0) | (terminate ? TERMINATE_ASKED : 0) | (has_time ? NEXT_EVENT_TIME : 0);
     return status;
 }
@@ -666,7 +690,8 @@ static fmi3Status get_interval(fmi3ValueReference reference, struct reply *reply
         NEEDS(GetIntervalDecimal);
         status = fmu.GetIntervalDecimal(instance, &reference, 1, &interval, &qualifier);
         bool is_count = nearest_count(interval, &reply->first);
-        if (is_good(status) && qualifier == fmi3IntervalChanged && !is_count)
+        bool is_told = qualifier == fmi3IntervalUnchanged || qualifier == fmi3IntervalChanged;
+        if (is_good(status) && is_told && !is_count)
             return complain("the interval of a Clock is no count", "");
         reply->second = resolution;
     }

@@ -1,11 +1,14 @@
 """What the subcommands share: words, errors in one line, and XML with the places of its elements."""
 import argparse
+import contextlib
 import importlib
 import os
 import pkgutil
 import re
 import shlex
+import signal
 import sys
+import tempfile
 from xml.parsers import expat
 
 TOP = os.path.dirname(os.path.dirname(os.path.dirname(os.path.realpath(__file__))))
@@ -20,6 +23,19 @@ DEEPEST = 64
 
 class Told(Exception):
     """What doesn't work, in one line. The status is 2."""
+
+
+@contextlib.contextmanager
+def room_in(folder, prefix):
+    """A folder for what is half made, which is taken away again. A signal that comes while it is made waits until that is
+    certain."""
+    held = signal.pthread_sigmask(signal.SIG_BLOCK, (signal.SIGHUP, signal.SIGINT, signal.SIGTERM))
+    try:
+        room = tempfile.TemporaryDirectory(prefix=prefix, dir=folder)
+    finally:
+        signal.pthread_sigmask(signal.SIG_SETMASK, held)
+    with room as path:
+        yield path
 
 
 class Parser(argparse.ArgumentParser):

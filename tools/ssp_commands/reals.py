@@ -9,11 +9,10 @@ import os
 import re
 import shutil
 import struct
-import tempfile
 from fractions import Fraction
 
 from . import common
-from .common import Told
+from .common import Told, room_in
 
 # beside a description: the value references of the variables that were real, for the host
 REFERENCES = "reals.txt"
@@ -736,8 +735,7 @@ def copy(plan, out):
         raise Told(f"{out} lies within {plan.top}")
     if not os.path.isdir(os.path.dirname(out)):
         raise Told(f"{os.path.dirname(out)}: there is no such folder")
-    room = tempfile.mkdtemp(prefix=".reals", dir=os.path.dirname(out))
-    try:
+    with room_in(os.path.dirname(out), ".reals") as room:
         made = os.path.join(room, "made")
         try:
             shutil.copytree(plan.top, made)
@@ -751,5 +749,3 @@ def copy(plan, out):
             with open(path, "wb") as stream:
                 stream.write(data)
         os.rename(made, out)
-    finally:
-        shutil.rmtree(room, ignore_errors=True)

@@ -114,7 +114,7 @@ class Experiment:
     def read_clock(self, description, clock, name):
         element, path = clock.element, description.path
         kind, has_fraction = element.get("intervalVariability"), element.get("supportsFraction") in ("true", "1")
-        if kind == "fixed" and has_fraction:
+        if kind == "changing" or (kind == "fixed" and has_fraction):
             self.asked.append(name)
         if kind not in ("constant", "fixed") or (kind == "fixed" and has_fraction):
             return

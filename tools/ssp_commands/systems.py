@@ -12,7 +12,7 @@ TYPES = (*INTEGERS, "Boolean", "Enumeration", "Clock", "Float32", "Float64", "St
 FOREIGN_TYPES = ("Float32", "Float64", "String", "Binary")
 CAUSALITIES = ("parameter", "calculatedParameter", "structuralParameter", "input", "output", "local", "independent")
 # the machines that are part of the program, by their model identifiers
-BUILT_IN = ("counter", "gain", "sampler", "alarm", "timer", "relay", "settle")
+BUILT_IN = ("counter", "gain", "sampler", "alarm", "timer", "relay", "settle", "pulse", "waker")
 
 
 class Variable:

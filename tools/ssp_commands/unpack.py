@@ -3,11 +3,10 @@ import lzma
 import os
 import shutil
 import stat
-import tempfile
 import zipfile
 import zlib
 
-from .common import DESCRIPTION, STRUCTURE, Told, one_line
+from .common import DESCRIPTION, STRUCTURE, Told, one_line, room_in
 from .suggest import cautions, suggestion
 from .systems import read_system
 
@@ -39,7 +38,7 @@ def run(args):
     if not os.path.isdir(above):
         raise Told(f"{above}: there is no such folder to make {os.path.basename(place)} in")
     # beside DIR, or in it where it is there, so that it can be put into its place as a whole
-    with tempfile.TemporaryDirectory(prefix=".ssp-unpack-", dir=above) as room:
+    with room_in(above, ".ssp-unpack-") as room:
         made = os.path.join(room, "made")
         files, fmus = unpack(args.file, made)
         if is_there:

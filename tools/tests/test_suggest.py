@@ -56,6 +56,15 @@ class Suggest(Case):
             "In counts: H 300 (0.5 s), T 1200 (2 s).",
         )
 
+    def test_a_clock_that_is_asked(self):
+        clock = '<Clock name="c" valueReference="1" causality="input" intervalVariability="changing" intervalDecimal="0.003"/>'
+        text = description(clock, f'hasEventMode="true" {VARIABLE}', experiment(stepSize="0.5", stopTime="2"))
+        self.write("d/modelDescription.xml", text)
+        self.suggests(
+            "./ssprun one d --resolution 2 --step 1 --stop 4 --host ./fmi3_host",
+            "Asked in the run: the intervals of fmu.c; R has to be a multiple of their denominators too.",
+        )
+
     def test_a_step_that_an_fmu_cannot_make(self):
         clock = '<Clock name="c" valueReference="1" causality="input" intervalVariability="constant" intervalDecimal="0.03"/>'
         text = description(clock, 'hasEventMode="true"', experiment(stepSize="0.02", stopTime="0.05"))

@@ -28,7 +28,8 @@ alarm = record {
   early_end = rung_at;
   asks_to_end = λ variables values size. false;
   asks_again = λ variables n values. false;
+  event_time = λ variables n values. None;
   interval = λ shape n values reference. NotYetKnown;
-  shift = λ variables values reference. no_fraction;
+  shift = λ shape values reference. no_fraction;
   changed = rung;
 }

@@ -13,7 +13,7 @@ use Rattle.fmi_calls.specs.declared.call.Content.{Content}
 use Rattle.fmi_calls.specs.declared.call.Content.TheVariants as A
 use Rattle.fmi_calls.specs.declared.call.Interval.{Interval}
 use Rattle.fmi_calls.specs.declared.call.Reply.TheVariants.{Done}
-use Rattle.fmu_peer.specs.Machine.{Machine, MachineState, value_at}
+use Rattle.fmu_peer.specs.Machine.{Machine, MachineState, mark_after, value_at}
 use Rattle.fmi_calls.specs.Permission.{is_input_clock}
 use Rattle.bench_fmus.specs.Wrapping.{count_of, wrapped, wrapped_int64}
 
@@ -50,8 +50,8 @@ abbrev pub one_more : Numbers → Numbers
 one_more n = record n { count = wrapped_int64 (n.count +ℤ pos 1) }
 
 -- the state is in Initialization Mode
-abbrev pub is_marked : Numbers → Bool
-is_marked n = int_lt (pos 0) n.mark
+abbrev pub is_in_initialization : Numbers → Bool
+is_in_initialization n = int_lt (pos 0) n.mark
 
 -- what happens once has happened
 abbrev pub has_fired : Numbers → Bool
@@ -94,14 +94,15 @@ first_state variables = record {
 
 -- ---- a machine
 
--- how a machine behaves: what a reference shows, where a step from a point of a size ends early, whether a step of a size asks to end the simulation, whether an Update asks for another, the interval and the shift of the Clock under a reference, and the numbers after a call, mark and point aside; each by the numbers and the values
+-- how a machine behaves: what a reference shows, where a step from a point of a size ends early, whether a step of a size asks to end the simulation, whether an Update asks for another, the event time that it asks for, the interval and the shift of the Clock under a reference, and the numbers after a call, mark and point aside; each by the numbers and the values
 pub record Behaviour : Type 0 where
   pub shown : Shape → Numbers → List ℤ → ℕ → ℤ
   pub early_end : Shape → List ℤ → ℕ → ℕ → Option ℕ
   pub asks_to_end : List Variable → List ℤ → ℕ → Bool
   pub asks_again : List Variable → Numbers → List ℤ → Bool
+  pub event_time : List Variable → Numbers → List ℤ → Option ℕ
   pub interval : Shape → Numbers → List ℤ → ℕ → Interval
-  pub shift : List Variable → List ℤ → ℕ → Fraction
+  pub shift : Shape → List ℤ → ℕ → Fraction
   pub changed : Shape → Numbers → List ℤ → Call → Numbers
 
 -- the count under a reference of its own, and the value under any other
@@ -112,7 +113,7 @@ count_at own shape n values reference =
 -- the output declares to depend on the variable under a reference, by the list of the mode
 abbrev pub is_declared_at : Shape → Numbers → ℕ → ℕ → Bool
 is_declared_at shape n output reference =
-    is_at (is_declared shape (is_marked n) output) shape.variables reference
+    is_at (is_declared shape (is_in_initialization n) output) shape.variables reference
 
 -- what an output sees of the variable under a reference: its value where the output declares to depend on it, else the value that is held
 abbrev pub seen_by : Shape → Numbers → List ℤ → ℕ → ℕ → ℤ
@@ -137,8 +138,10 @@ content_of b shape n values (C.GetClock reference) =
 content_of b shape n values (C.GetInterval reference) =
     A.GetInterval (b.interval shape n values reference)
 content_of b shape n values (C.GetShift reference) =
-    A.GetShift (b.shift shape.variables values reference)
-content_of b shape n values C.Update = A.Update (b.asks_again shape.variables n values) false None
+    A.GetShift (b.shift shape values reference)
+content_of b shape n values C.Update =
+    A.Update (b.asks_again shape.variables n values) false
+    (b.event_time shape.variables n values)
 content_of b shape n values (C.Instantiate event_mode early_return) = A.Instantiate
 content_of b shape n values (C.EnterInitialization start stop) = A.EnterInitialization
 content_of b shape n values C.ExitInitialization = A.ExitInitialization
@@ -151,12 +154,6 @@ content_of b shape n values C.Restore = A.Restore
 content_of b shape n values C.Free = A.Free
 content_of b shape n values C.Terminate = A.Terminate
 content_of b shape n values C.FreeInstance = A.FreeInstance
-
--- Initialization Mode begins with EnterInitialization and ends with ExitInitialization
-abbrev pub mark_after : ℤ → Call → ℤ
-mark_after mark (C.EnterInitialization start stop) = pos 1
-mark_after mark C.ExitInitialization = pos 0
-mark_after mark _ = mark
 
 -- time begins with EnterInitialization, and goes on to the end of each step
 abbrev pub point_after : Behaviour → Shape → ℤ → List ℤ → Call → ℤ
@@ -177,7 +174,7 @@ machine_of b shape = record {
   references = map (λ (v : Variable). v.reference) shape.variables;
   clocks = map (λ (v : Variable). v.reference) (filter is_input_clock shape.variables);
   first = first_state shape.variables;
-  initializing = λ numbers. is_marked (numbers_in numbers);
+  initializing = λ numbers. is_in_initialization (numbers_in numbers);
   look = λ s call. Done false (content_of b shape (numbers_in s.numbers) s.values call);
   change = λ s call. listed (numbers_after b shape (numbers_in s.numbers) s.values call);
 }

@@ -21,7 +21,8 @@ counter = record {
       λ variables values size. int_lt (pos 0) (value_of variables values 3) &&
       int_le (value_of variables values 3) (pos size);
   asks_again = λ variables n values. false;
+  event_time = λ variables n values. None;
   interval = λ shape n values reference. NotYetKnown;
-  shift = λ variables values reference. no_fraction;
+  shift = λ shape values reference. no_fraction;
   changed = counted;
 }

@@ -38,7 +38,8 @@ gain = record {
   early_end = λ shape values at size. None;
   asks_to_end = λ variables values size. false;
   asks_again = λ variables n values. false;
+  event_time = λ variables n values. None;
   interval = λ shape n values reference. NotYetKnown;
-  shift = λ variables values reference. no_fraction;
+  shift = λ shape values reference. no_fraction;
   changed = holding;
 }

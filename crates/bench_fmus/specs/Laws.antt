@@ -17,8 +17,8 @@ use Rattle.fmi_calls.specs.declared.call.Content.TheVariants as A
 use Rattle.fmi_calls.specs.declared.call.Reply.TheVariants.{Done}
 use Rattle.fmu_peer.specs.Machine.{IgnoresSlot, IsLawful, IsMachineOf, MachineState, changes_mode}
 use Rattle.bench_fmus.specs.declared.model.Model.{Model}
-use Rattle.bench_fmus.specs.declared.model.Model.TheVariants.{Counter, Gain, Sampler, Alarm, Timer, Relay, Settle}
-use Rattle.bench_fmus.specs.BuiltIn.{Behaviour, Numbers, count_at, is_declared_at, is_marked, machine_of, numbers_after, numbers_in, seen_by, value_of}
+use Rattle.bench_fmus.specs.declared.model.Model.TheVariants.{Counter, Gain, Sampler, Alarm, Timer, Relay, Settle, Pulse, Waker}
+use Rattle.bench_fmus.specs.BuiltIn.{Behaviour, Numbers, count_at, is_declared_at, is_in_initialization, machine_of, numbers_after, numbers_in, seen_by, value_of}
 use Rattle.bench_fmus.specs.Counter.{counter}
 use Rattle.bench_fmus.specs.Gain.{factor, gain, product}
 use Rattle.bench_fmus.specs.Sampler.{sampler}
@@ -26,6 +26,8 @@ use Rattle.bench_fmus.specs.Alarm.{alarm}
 use Rattle.bench_fmus.specs.Timer.{timer}
 use Rattle.bench_fmus.specs.Relay.{differ, relay}
 use Rattle.bench_fmus.specs.Settle.{settle}
+use Rattle.bench_fmus.specs.Pulse.{pulse}
+use Rattle.bench_fmus.specs.Waker.{waker}
 use Rattle.bench_fmus.specs.Models.{behaviour_of}
 use Rattle.bench_fmus.specs.Wrapping.{wrapped, wrapped_int64}
 use Rattle.value_types.specs.Values.{word_of}
@@ -40,8 +42,8 @@ and_false false = refl
 -- only EnterInitialization and ExitInitialization change the mark
 keeps_mark : (b : Behaviour) (shape : Shape) (s : MachineState) (call : Call) →
     changes_mode call ≡ false →
-    is_marked (numbers_after b shape (numbers_in s.numbers) s.values call) ≡
-    is_marked (numbers_in s.numbers)
+    is_in_initialization (numbers_after b shape (numbers_in s.numbers) s.values call) ≡
+    is_in_initialization (numbers_in s.numbers)
 keeps_mark b shape s (C.EnterInitialization start stop) other = absurd (cc)
 keeps_mark b shape s C.ExitInitialization other = absurd (cc)
 keeps_mark b shape s (C.DoStep at size) other = refl
@@ -155,7 +157,7 @@ value_same shape initializing output xs ys agree found =
 abbrev pub ShowsDeclared : Behaviour → Type 0
 ShowsDeclared b = (shape : Shape) (n : Numbers) (output : ℕ) (xs ys : List ℤ) →
     IsSomeAnd (variable_at shape.variables output) (λ (v : Variable). v.causality ≡ Output) →
-    AgreeFor shape (is_marked n) output xs ys →
+    AgreeFor shape (is_in_initialization n) output xs ys →
     b.shown shape n xs output ≡ b.shown shape n ys output
 
 shown_same : (b : Behaviour) (shape : Shape) → ShowsDeclared b →
@@ -204,15 +206,15 @@ own_is_lawful b shape own C.FreeInstance output s xs ys looked found mode agree 
 
 count_declared : (own : ℕ) (shape : Shape) (n : Numbers) (output : ℕ) (xs ys : List ℤ) →
     IsSomeAnd (variable_at shape.variables output) (λ (v : Variable). v.causality ≡ Output) →
-    AgreeFor shape (is_marked n) output xs ys →
+    AgreeFor shape (is_in_initialization n) output xs ys →
     count_at own shape n xs output ≡ count_at own shape n ys output
 count_declared own shape n output xs ys found agree =
     ap (λ (x : ℤ). if output == own then n.count else x)
-    (value_same shape (is_marked n) output xs ys agree found)
+    (value_same shape (is_in_initialization n) output xs ys agree found)
 
 -- what an output sees is one
 seen_same : (shape : Shape) (n : Numbers) (output : ℕ) (xs ys : List ℤ) →
-    AgreeFor shape (is_marked n) output xs ys → (reference : ℕ) →
+    AgreeFor shape (is_in_initialization n) output xs ys → (reference : ℕ) →
     seen_by shape n xs output reference ≡ seen_by shape n ys output reference
 seen_same shape n output xs ys agree reference = by (is_declared_at shape n output reference) refl
   where
@@ -220,12 +222,12 @@ seen_same shape n output xs ys agree reference = by (is_declared_at shape n outp
         (if q then value_of shape.variables xs reference else n.held) ≡
         (if q then value_of shape.variables ys reference else n.held)
     by true is =
-        reference_same shape (is_marked n) output reference xs ys agree
-        (declared_known shape (is_marked n) output (variable_at shape.variables reference) is)
+        reference_same shape (is_in_initialization n) output reference xs ys agree
+        (declared_known shape (is_in_initialization n) output (variable_at shape.variables reference) is)
     by false other = refl
 
 module _ (shape : Shape) (n : Numbers) (xs ys : List ℤ)
-    (agree : AgreeFor shape (is_marked n) 3 xs ys) where
+    (agree : AgreeFor shape (is_in_initialization n) 3 xs ys) where
   factor_same : factor shape n xs ≡ factor shape n ys
   factor_same = by (is_at (λ (v : Variable). is_input v.causality) shape.variables 1) refl
     where
@@ -234,8 +236,8 @@ module _ (shape : Shape) (n : Numbers) (xs ys : List ℤ)
           (if q then seen_by shape n ys 3 1 else value_of shape.variables ys 1)
       by true is = seen_same shape n 3 xs ys agree 1
       by false other =
-          reference_same shape (is_marked n) 3 1 xs ys agree
-          (no_input shape (is_marked n) 3 (variable_at shape.variables 1) other)
+          reference_same shape (is_in_initialization n) 3 1 xs ys agree
+          (no_input shape (is_in_initialization n) 3 (variable_at shape.variables 1) other)
 
   product_same : product shape n xs ≡ product shape n ys
   product_same =
@@ -248,9 +250,9 @@ gain_declared shape n output xs ys found agree = by (output == 3) refl
         (if q then product shape n xs else value_of shape.variables xs output) ≡
         (if q then product shape n ys else value_of shape.variables ys output)
     by true is =
-        product_same shape n xs ys (subst (λ (o : ℕ). AgreeFor shape (is_marked n) o xs ys)
+        product_same shape n xs ys (subst (λ (o : ℕ). AgreeFor shape (is_in_initialization n) o xs ys)
         (eqb-true output 3 is) agree)
-    by false other = value_same shape (is_marked n) output xs ys agree found
+    by false other = value_same shape (is_in_initialization n) output xs ys agree found
 
 sampler_declared : ShowsDeclared sampler
 sampler_declared shape n output xs ys found agree = by (output == 3) refl
@@ -259,9 +261,9 @@ sampler_declared shape n output xs ys found agree = by (output == 3) refl
         (if q then seen_by shape n xs 3 2 else value_of shape.variables xs output) ≡
         (if q then seen_by shape n ys 3 2 else value_of shape.variables ys output)
     by true is =
-        seen_same shape n 3 xs ys (subst (λ (o : ℕ). AgreeFor shape (is_marked n) o xs ys)
+        seen_same shape n 3 xs ys (subst (λ (o : ℕ). AgreeFor shape (is_in_initialization n) o xs ys)
         (eqb-true output 3 is) agree) 2
-    by false other = value_same shape (is_marked n) output xs ys agree found
+    by false other = value_same shape (is_in_initialization n) output xs ys agree found
 
 relay_declared : ShowsDeclared relay
 relay_declared shape n output xs ys found agree = by (output == 2) (output == 3) refl refl
@@ -274,12 +276,12 @@ relay_declared shape n output xs ys found agree = by (output == 2) (output == 3)
     by : (p q : Bool) → (output == 2) ≡ p → (output == 3) ≡ q → at xs p q ≡ at ys p q
     by true q is other =
         ap (λ (x : ℤ). if differ x n.held then pos 1 else pos 0)
-        (seen_same shape n 2 xs ys (subst (λ (o : ℕ). AgreeFor shape (is_marked n) o xs ys)
+        (seen_same shape n 2 xs ys (subst (λ (o : ℕ). AgreeFor shape (is_in_initialization n) o xs ys)
         (eqb-true output 2 is) agree) 1)
     by false true other is =
-        seen_same shape n 3 xs ys (subst (λ (o : ℕ). AgreeFor shape (is_marked n) o xs ys)
+        seen_same shape n 3 xs ys (subst (λ (o : ℕ). AgreeFor shape (is_in_initialization n) o xs ys)
         (eqb-true output 3 is) agree) 1
-    by false false other another = value_same shape (is_marked n) output xs ys agree found
+    by false false other another = value_same shape (is_in_initialization n) output xs ys agree found
 
 pub is_lawful : (model : Model) (shape : Shape) →
     IsLawful shape (machine_of (behaviour_of model) shape)
@@ -290,3 +292,5 @@ is_lawful Alarm shape = own_is_lawful alarm shape (count_declared 2)
 is_lawful Timer shape = own_is_lawful timer shape (count_declared 3)
 is_lawful Relay shape = own_is_lawful relay shape relay_declared
 is_lawful Settle shape = own_is_lawful settle shape (count_declared 2)
+is_lawful Pulse shape = own_is_lawful pulse shape (count_declared 4)
+is_lawful Waker shape = own_is_lawful waker shape (count_declared 2)

@@ -8,6 +8,8 @@ pub mod Alarm
 pub mod Timer
 pub mod Relay
 pub mod Settle
+pub mod Pulse
+pub mod Waker
 pub mod Models
 pub mod Told
 pub mod Laws

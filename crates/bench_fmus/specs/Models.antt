@@ -1,7 +1,7 @@
 -- The built-in machines by their names.
 use Rattle.std.specs.Prelude.{Bool, List, ℕ, Option, Some, None, bytes_eq, codes, is_some, option_map, if◌then◌else◌}
 use Rattle.bench_fmus.specs.declared.model.Model.{Model}
-use Rattle.bench_fmus.specs.declared.model.Model.TheVariants.{Counter, Gain, Sampler, Alarm, Timer, Relay, Settle}
+use Rattle.bench_fmus.specs.declared.model.Model.TheVariants.{Counter, Gain, Sampler, Alarm, Timer, Relay, Settle, Pulse, Waker}
 use Rattle.value_types.specs.declared.shape.Shape.{Shape}
 use Rattle.fmu_peer.specs.Machine.{Machine}
 use Rattle.bench_fmus.specs.BuiltIn.{Behaviour, machine_of}
@@ -12,6 +12,8 @@ use Rattle.bench_fmus.specs.Alarm.{alarm}
 use Rattle.bench_fmus.specs.Timer.{timer}
 use Rattle.bench_fmus.specs.Relay.{relay}
 use Rattle.bench_fmus.specs.Settle.{settle}
+use Rattle.bench_fmus.specs.Pulse.{pulse}
+use Rattle.bench_fmus.specs.Waker.{waker}
 
 abbrev pub behaviour_of : Model → Behaviour
 behaviour_of Counter = counter
@@ -21,6 +23,8 @@ behaviour_of Alarm = alarm
 behaviour_of Timer = timer
 behaviour_of Relay = relay
 behaviour_of Settle = settle
+behaviour_of Pulse = pulse
+behaviour_of Waker = waker
 
 -- the machine of a name
 abbrev pub model_named : List ℕ → Option Model
@@ -31,7 +35,9 @@ model_named name =
     else (if bytes_eq name (codes "alarm") then Some Alarm
     else (if bytes_eq name (codes "timer") then Some Timer
     else (if bytes_eq name (codes "relay") then Some Relay
-    else (if bytes_eq name (codes "settle") then Some Settle else None))))))
+    else (if bytes_eq name (codes "settle") then Some Settle
+    else (if bytes_eq name (codes "pulse") then Some Pulse
+    else (if bytes_eq name (codes "waker") then Some Waker else None))))))))
 
 abbrev pub is_model : List ℕ → Bool
 is_model name = is_some (model_named name)

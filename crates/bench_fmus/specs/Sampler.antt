@@ -4,7 +4,6 @@
 use Rattle.std.specs.Prelude.{ℕ, List, ℤ, ◌==◌, false, None, if◌then◌else◌}
 use Rattle.clock_fraction.specs.declared.fraction.Fraction.{Fraction}
 use Rattle.value_types.specs.declared.shape.Shape.{Shape}
-use Rattle.value_types.specs.declared.shape.Variable.{Variable}
 use Rattle.fmi_calls.specs.declared.call.Call.{Call}
 use Rattle.fmi_calls.specs.declared.call.Call.TheVariants as C
 use Rattle.fmi_calls.specs.declared.call.Interval.{Interval}
@@ -23,9 +22,9 @@ abbrev pub sampling_interval : Shape → Numbers → List ℤ → ℕ → Interv
 sampling_interval shape n values reference =
     if reference == 1 then Changed (fraction_at shape.variables values 4 5) else NotYetKnown
 
-abbrev pub sampling_shift : List Variable → List ℤ → ℕ → Fraction
-sampling_shift variables values reference =
-    if reference == 1 then fraction_at variables values 6 5 else no_fraction
+abbrev pub sampling_shift : Shape → List ℤ → ℕ → Fraction
+sampling_shift shape values reference =
+    if reference == 1 then fraction_at shape.variables values 6 5 else no_fraction
 
 abbrev pub sampler : Behaviour
 sampler = record {
@@ -35,6 +34,7 @@ sampler = record {
   early_end = λ shape values at size. None;
   asks_to_end = λ variables values size. false;
   asks_again = λ variables n values. false;
+  event_time = λ variables n values. None;
   interval = sampling_interval;
   shift = sampling_shift;
   changed = sampled;

@@ -19,7 +19,8 @@ settle = record {
   early_end = λ shape values at size. None;
   asks_to_end = λ variables values size. false;
   asks_again = λ variables n values. int_lt n.count (value_of variables values 1);
+  event_time = λ variables n values. None;
   interval = λ shape n values reference. NotYetKnown;
-  shift = λ variables values reference. no_fraction;
+  shift = λ shape values reference. no_fraction;
   changed = updated;
 }

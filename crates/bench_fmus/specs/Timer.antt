@@ -42,8 +42,9 @@ timer = record {
   early_end = λ shape values at size. None;
   asks_to_end = λ variables values size. false;
   asks_again = λ variables n values. false;
+  event_time = λ variables n values. None;
   interval =
       λ shape n values reference. if reference == 2 then countdown shape n values else NotYetKnown;
-  shift = λ variables values reference. no_fraction;
+  shift = λ shape values reference. no_fraction;
   changed = timed;
 }

@@ -1,9 +1,9 @@
 ghost use Rattle.std.specs.Prelude.{◌≡◌, ◌+◌, ◌<◌, ◌≤◌, IfOk, false, filter, if◌then◌else◌, int_lt, length, map, pos, set, slice_get, true, unwrap_or};
 ghost use Rattle.std.specs.Option.{option_map_or};
 ghost use Rattle.fmi_calls.specs.Permission.{Permitted, is_input_clock};
-ghost use Rattle.fmu_peer.specs.Machine.{after, all_written, written, zero_at};
+ghost use Rattle.fmu_peer.specs.Machine.{after, all_written, mark_after, written, zero_at};
 ghost use Rattle.value_types.specs.Shape.{dependency_at, is_known};
-ghost use Rattle.bench_fmus.specs.BuiltIn.{mark_after, no_fraction, spread, start_of, step_content};
+ghost use Rattle.bench_fmus.specs.BuiltIn.{no_fraction, spread, start_of, step_content};
 ghost use Rattle.bench_fmus.specs.Told.{number_of_flag};
 
 use crate::wrap::{count_of, wrapped_word, wrapping_sum};
@@ -173,7 +173,7 @@ impl BuiltInState {
             Call::Update => Content::Update {
                 again: model.asks_again(&shape.variables, self),
                 terminate: false,
-                event_time: None,
+                event_time: model.event_time(&shape.variables, self),
             },
             Call::Get { kind, reference } => Content::Get {
                 word: wrapped_word(kind, model.shown_value(shape, self, reference)),
@@ -187,7 +187,7 @@ impl BuiltInState {
                 interval: model.interval(shape, self, reference),
             },
             Call::GetShift { reference } => Content::GetShift {
-                shift: model.shift(&shape.variables, self, reference),
+                shift: model.shift(shape, self, reference),
             },
             Call::Save => Content::Save,
             Call::Restore => Content::Restore,

@@ -9,6 +9,7 @@ mod counter;
 mod gain;
 mod model;
 mod origin;
+mod pulse;
 mod relay;
 mod retired;
 mod sampler;
@@ -18,6 +19,7 @@ mod scripts;
 mod settle;
 mod start_plan;
 mod timer;
+mod waker;
 mod wrap;
 
 pub use bench::{Bench, FailingCall};

@@ -1,7 +1,9 @@
 ghost use Rattle.std.specs.Prelude.{◌≡◌, ◌+◌, ◌<◌, ◌^◌};
 
 use crate::built_in_state::no_fraction;
-use crate::{BuiltInState, Numbers, alarm, counter, gain, relay, sampler, settle, timer};
+use crate::{
+    BuiltInState, Numbers, alarm, counter, gain, pulse, relay, sampler, settle, timer, waker,
+};
 use clock_fraction::Fraction;
 use fmi_calls::{Call, Interval};
 use value_types::{ByReference, Shape, Variable};
@@ -16,6 +18,8 @@ pub enum Model {
     Timer,
     Relay,
     Settle,
+    Pulse,
+    Waker,
 }
 
 impl Model {
@@ -34,6 +38,8 @@ impl Model {
             "timer" => Some(Model::Timer),
             "relay" => Some(Model::Relay),
             "settle" => Some(Model::Settle),
+            "pulse" => Some(Model::Pulse),
+            "waker" => Some(Model::Waker),
             _ => None,
         }
     }
@@ -52,6 +58,8 @@ impl Model {
             Model::Timer => timer::shown_value(shape, state, reference),
             Model::Relay => relay::shown_value(shape, state, reference),
             Model::Settle => settle::shown_value(shape, state, reference),
+            Model::Pulse => pulse::shown_value(shape, state, reference),
+            Model::Waker => waker::shown_value(shape, state, reference),
         }
     }
 
@@ -101,6 +109,21 @@ impl Model {
         }
     }
 
+    /// The event time that an update asks for.
+    pub(crate) fn event_time(
+        self,
+        variables: &ByReference<Variable>,
+        state: &BuiltInState,
+    ) -> Option<u64>
+        ensures { result ≡ (behaviour_of self).event_time variables.now (told state.now.numbers)
+            (values_in variables.now state.now) }
+    {
+        match self {
+            Model::Waker => waker::event_time(variables, state),
+            _ => None,
+        }
+    }
+
     /// The interval of the Clock under a reference.
     pub(crate) fn interval(self, shape: &Shape, state: &BuiltInState, reference: u32) -> Interval
         ensures { result ≡ (behaviour_of self).interval shape.now (told state.now.numbers)
@@ -109,22 +132,19 @@ impl Model {
         match self {
             Model::Sampler => sampler::interval(shape, state, reference),
             Model::Timer => timer::interval(shape, state, reference),
+            Model::Pulse => pulse::interval(shape, state, reference),
             _ => Interval::NotYetKnown,
         }
     }
 
     /// The shift of the Clock under a reference.
-    pub(crate) fn shift(
-        self,
-        variables: &ByReference<Variable>,
-        state: &BuiltInState,
-        reference: u32,
-    ) -> Fraction
-        ensures { result ≡ (behaviour_of self).shift variables.now
-            (values_in variables.now state.now) reference }
+    pub(crate) fn shift(self, shape: &Shape, state: &BuiltInState, reference: u32) -> Fraction
+        ensures { result ≡ (behaviour_of self).shift shape.now
+            (values_in shape.now.variables state.now) reference }
     {
         match self {
-            Model::Sampler => sampler::shift(variables, state, reference),
+            Model::Sampler => sampler::shift(shape, state, reference),
+            Model::Pulse => pulse::shift(shape, state, reference),
             _ => no_fraction(),
         }
     }
@@ -142,6 +162,8 @@ impl Model {
             Model::Timer => timer::changed_numbers(shape, state, call),
             Model::Relay => relay::changed_numbers(shape, state, call),
             Model::Settle => settle::changed_numbers(shape, state, call),
+            Model::Pulse => pulse::changed_numbers(shape, state, call),
+            Model::Waker => waker::changed_numbers(shape, state, call),
         }
     }
 }

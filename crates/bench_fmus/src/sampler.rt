@@ -8,7 +8,7 @@ use crate::wrap::wrapping_value;
 use crate::{BuiltInState, Numbers};
 use clock_fraction::Fraction;
 use fmi_calls::{Call, Interval};
-use value_types::{ByReference, Shape, Variable};
+use value_types::Shape;
 
 /// The Clock, an input.
 const CLOCK: u32 = 1;
@@ -52,15 +52,12 @@ pub(crate) fn interval(shape: &Shape, state: &BuiltInState, reference: u32) -> I
 }
 
 /// The shift of the Clock under a reference.
-pub(crate) fn shift(
-    variables: &ByReference<Variable>,
-    state: &BuiltInState,
-    reference: u32,
-) -> Fraction
-    ensures { result ≡ sampling_shift variables.now (values_in variables.now state.now) reference }
+pub(crate) fn shift(shape: &Shape, state: &BuiltInState, reference: u32) -> Fraction
+    ensures { result ≡ sampling_shift shape.now (values_in shape.now.variables state.now)
+        reference }
 {
     if reference == CLOCK {
-        state.fraction_at(variables, SHIFT, RESOLUTION)
+        state.fraction_at(&shape.variables, SHIFT, RESOLUTION)
     } else {
         no_fraction()
     }

@@ -13,7 +13,8 @@ use Rattle.system_model.specs.declared.system.Component.{Component}
 use Rattle.system_model.specs.declared.system.Port.{Port}
 use Rattle.system_model.specs.declared.system.Role.{Role}
 use Rattle.system_model.specs.declared.system.Role.TheVariants.{Input, Output, ClockInput, ClockOutput, TimeClock}
-use Rattle.system_model.specs.declared.system.Timing.TheVariants.{Periodic, Answered, Countdown}
+use Rattle.system_model.specs.declared.system.Timing.{Timing}
+use Rattle.system_model.specs.declared.system.Timing.TheVariants.{Periodic, Answered, Countdown, Changing}
 use Rattle.system_model.specs.Sound.{IsSound}
 use Rattle.run_model.specs.AlwaysWell.{RunSends, TimesWell, WellButTimings, asks_timing}
 use Rattle.run_model.specs.AfterInstant.{written}
@@ -21,7 +22,7 @@ use Rattle.run_model.specs.Behaved as B
 use Rattle.run_model.specs.Behaved.{IsAnsweredWell}
 use Rattle.run_model.specs.Initial.{bound_values, initialized}
 use Rattle.run_model.specs.Run.{IsFmu, Run, Situation}
-use Rattle.run_model.proofs.CallerLemmas.{IsOwn, own_port, shift_call, timed_behaves, timing_of}
+use Rattle.run_model.proofs.CallerLemmas.{IsOwn, changing_shift_call, own_port, shift_call, timed_behaves, timing_of}
 use Rattle.built_in_laws.specs.BuiltInRuns.{BuiltInsAnswerWell, BuiltInsBehaveWell, IsBuiltIn, IsBuiltInOf}
 use Rattle.built_in_laws.proofs.AlongRun as R
 use Rattle.built_in_laws.proofs.Timings.{AreSet, countdown_right, interval_right, shift_right}
@@ -84,21 +85,25 @@ module _ (r : Run) (sound : IsSound r.system) (i : ℕ) (all : (c : Component) (
     own : (c : Component) → slice_get r.system.components i ≡ Some c → IsOwn r port c
     own c of_c = own_port r sound p port at_port c (ap (slice_get r.system.components) at ∙ of_c)
 
-    fixed : (states : List MachineState) → AreSetAt states → port.role ≡ TimeClock Answered →
-        B.AnswersWell r states port.component.0 (λ shape. C.GetInterval port.reference) × B.AnswersWell r states port.component.0 (λ shape. C.GetShift port.reference)
-    fixed states set e = (
-      subst (λ (k : ℕ). B.AnswersWell r states k (λ shape. C.GetInterval port.reference)) (sym at)
-          (λ c m s fmu. let is = all c m fmu.component fmu.machine in
-          at_model c m is s (C.GetInterval port.reference)
-          (good _ (interval_right c.shape (bound_values r i) s.values (set c m s fmu) is.built_in.counts (numbers_in s.numbers) port.reference is.built_in.model is.timings (shift_call r port c (own c fmu.component) e)))),
-      subst (λ (k : ℕ). B.AnswersWell r states k (λ shape. C.GetShift port.reference)) (sym at)
-          (λ c m s fmu. let is = all c m fmu.component fmu.machine in
-          at_model c m is s (C.GetShift port.reference)
-          (good _ (shift_right c.shape (bound_values r i) s.values (set c m s fmu) is.built_in.counts (numbers_in s.numbers) port.reference is.built_in.model is.timings (shift_call r port c (own c fmu.component) e)))),
-    )
+    -- a Clock whose shift is asked
+    abbrev Asks : Type 0
+    Asks = (c : Component) → IsOwn r port c → RunSends c.shape (C.GetShift port.reference)
+
+    shifts : (states : List MachineState) → AreSetAt states → Asks → B.AnswersWell r states port.component.0 (λ shape. C.GetShift port.reference)
+    shifts states set asks = subst (λ (k : ℕ). B.AnswersWell r states k (λ shape. C.GetShift port.reference)) (sym at)
+        (λ c m s fmu. let is = all c m fmu.component fmu.machine in
+        at_model c m is s (C.GetShift port.reference)
+        (good _ (shift_right c.shape (bound_values r i) s.values (set c m s fmu) is.built_in.counts (numbers_in s.numbers) port.reference is.built_in.model is.timings (asks c (own c fmu.component)))))
+
+    intervals : (states : List MachineState) → AreSetAt states → Asks → B.AnswersWell r states port.component.0 (λ shape. C.GetInterval port.reference)
+    intervals states set asks = subst (λ (k : ℕ). B.AnswersWell r states k (λ shape. C.GetInterval port.reference)) (sym at)
+        (λ c m s fmu. let is = all c m fmu.component fmu.machine in
+        at_model c m is s (C.GetInterval port.reference)
+        (good _ (interval_right c.shape (bound_values r i) s.values (set c m s fmu) is.built_in.counts (numbers_in s.numbers) port.reference is.built_in.model is.timings (asks c (own c fmu.component)))))
 
     initially : (states : List MachineState) → AreSetAt states → (role : Role) → port.role ≡ role → B.AnswersInitially role r states port
-    initially states set (TimeClock Answered) e = fixed states set e
+    initially states set (TimeClock Answered) e = (intervals states set (λ c mine. shift_call r port c mine e), shifts states set (λ c mine. shift_call r port c mine e))
+    initially states set (TimeClock Changing) e = shifts states set (λ c mine. changing_shift_call r port c mine e)
     initially states set (TimeClock (Periodic interval shift)) e = tt
     initially states set (TimeClock Countdown) e = tt
     initially states set (Input feed) e = tt
@@ -112,10 +117,16 @@ module _ (r : Run) (sound : IsSound r.system) (i : ℕ) (all : (c : Component) (
         at_model c m is s (C.GetInterval port.reference)
         (good _ (countdown_right c.shape (bound_values r i) s.values (set c m s fmu) is.built_in.counts (numbers_in s.numbers) port.reference is.built_in.model is.timings (timing_of r port c (own c fmu.component) Countdown e))))
 
+    in_instant : (s : Situation) (values : List (Option ℤ)) → AreSetAt (written r s values) → (timing : Timing) → port.role ≡ TimeClock timing → B.AnswersAt (TimeClock timing) r s values p port
+    in_instant s values set Countdown e = counting (written r s values) set e
+    in_instant s values set Changing e = λ active. intervals (written r s values) set (λ c mine. changing_shift_call r port c mine e)
+    in_instant s values set (Periodic interval shift) e = tt
+    in_instant s values set Answered e = tt
+
   times_well : TimesWell r i
   times_well = record {
     initially = λ values solves p port at_port at. initially p port at_port at (initialized r values) (set_initially values) port.role refl;
-    in_instants = λ s values reached solves p port at_port at e. counting p port at_port at (written r s values) (set_written s values reached) e;
+    in_instants = λ s values reached solves p port at_port at. in_instant p port at_port at s values (set_written s values reached);
   }
 
 pub behave_well : BuiltInsBehaveWell

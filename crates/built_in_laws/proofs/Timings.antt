@@ -1,9 +1,10 @@
 -- What the built-in machines tell of intervals and shifts is right, where they can tell it.
-use Rattle.std.proofs.Common.{◌≡◌, ℕ, ◌*◌, ◌/◌, ◌%◌, ◌<◌, ◌≤◌, ℤ, Bool, true, false, Option, Some, None, IsSomeAnd, List, [], ◌==◌, if◌then◌else◌, nat_le, refl, sym, ap, ap₂, ◌∙◌, subst, arith}
-use Rattle.std.specs.Prelude.{◌&&◌, not}
+use Rattle.std.proofs.Common.{◌≡◌, inl, inr, ℕ, ◌+◌, ◌-◌, ◌*◌, ◌/◌, ◌%◌, ◌^◌, ◌<◌, ◌≤◌, ℤ, pos, negsuc, ◌≤ℤ◌, Bool, true, false, Option, Some, None, IsSomeAnd, List, [], ◌==◌, if◌then◌else◌, nat_le, refl, sym, ap, ap₂, ◌∙◌, subst, arith}
+use Rattle.std.specs.Prelude.{◌&&◌, min, not}
 use Rattle.std.specs.Option.{option_map, option_map_or}
 use Rattle.std.proofs.Math.Nat.{mul-div_cancel, mul-mod_left}
 use Rattle.std.proofs.lemmas.Bool.Decides.{nat_tests}
+use Rattle.std.proofs.lemmas.Int.{ints}
 use Rattle.clock_fraction.specs.declared.fraction.Fraction.{Fraction}
 use Rattle.value_types.specs.Shape.{timing_at}
 use Rattle.value_types.specs.declared.shape.IntervalVariability.{IntervalVariability}
@@ -12,16 +13,16 @@ use Rattle.value_types.specs.declared.shape.ClockTiming.{ClockTiming}
 use Rattle.value_types.specs.declared.shape.Shape.{Shape}
 use Rattle.fmi_calls.specs.declared.call.Interval.{Interval}
 use Rattle.fmi_calls.specs.declared.call.Interval.TheVariants.{NotYetKnown, Unchanged, Changed}
-use Rattle.fmi_calls.specs.Worth.{has_counts, is_interval, variability_at}
+use Rattle.fmi_calls.specs.Worth.{has_counts, is_interval, is_known_interval, variability_at}
 use Rattle.bench_fmus.specs.declared.model.Model.{Model}
-use Rattle.bench_fmus.specs.declared.model.Model.TheVariants.{Counter, Gain, Sampler, Alarm, Timer, Relay, Settle}
+use Rattle.bench_fmus.specs.declared.model.Model.TheVariants.{Counter, Gain, Sampler, Alarm, Timer, Relay, Settle, Pulse, Waker}
 use Rattle.bench_fmus.specs.BuiltIn.{Numbers, fraction_at, has_fired, no_fraction, value_of}
 use Rattle.bench_fmus.specs.Models.{behaviour_of}
 use Rattle.bench_fmus.specs.Timer.{countdown, is_due}
 use Rattle.bench_fmus.specs.Wrapping.{count_of}
-use Rattle.run_model.specs.AlwaysWell.{IsAskedFixed}
+use Rattle.run_model.specs.AlwaysWell.{IsAskedForShift}
 use Rattle.system_model.specs.declared.bound.BoundValue.{BoundValue}
-use Rattle.built_in_laws.specs.Clocks.{HasCounts, IsCountdown, IsFixedAsked, IsNoInput, TellsInterval, TellsOfNoClocks, TellsTimings, fraction_set, value_set}
+use Rattle.built_in_laws.specs.Clocks.{HasCounts, IsCountdown, IsAsked, IsNoInput, TellsInterval, TellsOfNoClocks, TellsTimings, fraction_set, value_set}
 
 -- ---- counts
 
@@ -48,9 +49,11 @@ countdown_at : (o : Option ClockTiming) → IsSomeAnd o (λ (t : ClockTiming). t
 countdown_at None is = absurd is
 countdown_at (Some t) is = ap (λ (v : IntervalVariability). Some v) is
 
-fixed_at : (o : Option ClockTiming) → IsSomeAnd o IsAskedFixed → option_map (λ (t : ClockTiming). t.variability) o ≡ Some T.Fixed
-fixed_at None is = absurd is
-fixed_at (Some t) is = ap (λ (v : IntervalVariability). Some v) is.0
+-- of a fixed or changing Clock the interval has to be known
+known_at : (o : Option ClockTiming) (interval : Interval) (per_second : ℕ) → IsSomeAnd o IsAskedForShift → is_interval (option_map (λ (t : ClockTiming). t.variability) o) interval per_second ≡ is_known_interval interval per_second
+known_at None interval per_second is = absurd is
+known_at (Some t) interval per_second (inl changing) = ap (λ (v : IntervalVariability). is_interval (Some v) interval per_second) changing
+known_at (Some t) interval per_second (inr fixed) = ap (λ (v : IntervalVariability). is_interval (Some v) interval per_second) fixed.0
 
 -- the interval may be that of a countdown Clock
 abbrev MayCountDown : Interval → ℕ → Type 0
@@ -85,6 +88,21 @@ timer_right shape n values some = by (has_fired n) (is_due shape n values)
     by false true = timing_whole (count_of (value_of shape.variables values 4)) shape.resolution some
     by false false = refl
 
+-- a pulse tells its first interval and a count for each tick
+abbrev pulse_counts : Shape → List ℤ → Numbers → ℕ
+pulse_counts shape values n = min (count_of n.count + count_of (value_of shape.variables values 2)) (2 ^ 64 - 1)
+
+count_some : (z : ℤ) → pos 1 ≤ℤ z → 1 ≤ count_of z
+count_some (pos n) h = omega (arith, ints)
+count_some (negsuc n) h = absurd (omega (arith, ints))
+
+pulse_whole : (shape : Shape) (values : List ℤ) (n : Numbers) → 0 < shape.resolution → pos 1 ≤ℤ value_of shape.variables values 2 → has_counts 1 (record { counter = pulse_counts shape values n; resolution = shape.resolution }) shape.resolution ≡ true
+pulse_whole shape values n known first =
+    let least : 1 ≤ count_of (value_of shape.variables values 2) = count_some (value_of shape.variables values 2) first in
+    let enough : 1 ≤ pulse_counts shape values n = omega (arith, least) in
+    counts_right 1 (record { counter = pulse_counts shape values n; resolution = shape.resolution }) shape.resolution
+    (record { counts = pulse_counts shape values n; whole = record { known = known; whole = omega arith }; enough = enough })
+
 -- what a machine tells of a countdown Clock
 module _ (shape : Shape) (bound : List BoundValue) (values : List ℤ) (set : AreSet shape bound values) (some : 0 < shape.resolution) (n : Numbers) (reference : ℕ) where
   counting : (model : Model) → TellsTimings model shape bound → IsCountdown shape reference → MayCountDown ((behaviour_of model).interval shape n values reference) shape.resolution
@@ -105,36 +123,49 @@ module _ (shape : Shape) (bound : List BoundValue) (values : List ℤ) (set : Ar
   counting Alarm tells is = refl
   counting Relay tells is = refl
   counting Settle tells is = refl
+  counting Waker tells is = refl
+  counting Pulse tells is = by (reference == 1)
+    where
+      by : (b : Bool) → MayCountDown (if b then Changed (record { counter = pulse_counts shape values n; resolution = shape.resolution }) else NotYetKnown) shape.resolution
+      by true = timing_whole (pulse_counts shape values n) shape.resolution some
+      by false = refl
 
   pub countdown_right : (model : Model) → TellsTimings model shape bound → IsCountdown shape reference →
       is_interval (variability_at shape reference) ((behaviour_of model).interval shape n values reference) shape.resolution ≡ true
   countdown_right model tells is =
       ap (λ (v : Option IntervalVariability). is_interval v ((behaviour_of model).interval shape n values reference) shape.resolution) (countdown_at (timing_at shape.clocks reference) is) ∙ counting model tells is
 
-  -- only a sampler has fixed Clocks whose timing is asked, and that is its own
-  fixing : (model : Model) → TellsTimings model shape bound → IsFixedAsked shape reference →
-      is_interval (Some T.Fixed) ((behaviour_of model).interval shape n values reference) shape.resolution ≡ true
+  -- only a sampler and a pulse have a Clock whose shift is asked, and that is its own
+  fixing : (model : Model) → TellsTimings model shape bound → IsAsked shape reference →
+      is_known_interval ((behaviour_of model).interval shape n values reference) shape.resolution ≡ true
   fixing Sampler tells is =
       let one : reference ≡ 1 = tells.alone reference is in
       let tested : (reference == 1) ≡ true = grind (arith, nat_tests) in
-      ap (λ (b : Bool). is_interval (Some T.Fixed) (if b then Changed (fraction_at shape.variables values 4 5) else NotYetKnown) shape.resolution) tested
-      ∙ sampling 1 shape bound values set (tells.interval (subst (IsFixedAsked shape) one is))
+      ap (λ (b : Bool). is_known_interval (if b then Changed (fraction_at shape.variables values 4 5) else NotYetKnown) shape.resolution) tested
+      ∙ sampling 1 shape bound values set (tells.interval (subst (IsAsked shape) one is))
   fixing Timer tells is = absurd (tells reference is)
   fixing Counter tells is = absurd (tells reference is)
   fixing Gain tells is = absurd (tells reference is)
   fixing Alarm tells is = absurd (tells reference is)
   fixing Relay tells is = absurd (tells reference is)
   fixing Settle tells is = absurd (tells reference is)
+  fixing Pulse tells is =
+      let one : reference ≡ 1 = tells.alone reference is in
+      let at_one : IsAsked shape 1 = subst (IsAsked shape) one is in
+      let tested : (reference == 1) ≡ true = grind (arith, nat_tests) in
+      ap (λ (b : Bool). is_known_interval (if b then Changed (record { counter = pulse_counts shape values n; resolution = shape.resolution }) else NotYetKnown) shape.resolution) tested
+      ∙ pulse_whole shape values n some (subst (λ (x : ℤ). pos 1 ≤ℤ x) (sym (set 2 (tells.first at_one))) (tells.some at_one))
+  fixing Waker tells is = absurd (tells reference is)
 
-  pub interval_right : (model : Model) → TellsTimings model shape bound → IsFixedAsked shape reference →
+  pub interval_right : (model : Model) → TellsTimings model shape bound → IsAsked shape reference →
       is_interval (variability_at shape reference) ((behaviour_of model).interval shape n values reference) shape.resolution ≡ true
   interval_right model tells is =
-      ap (λ (v : Option IntervalVariability). is_interval v ((behaviour_of model).interval shape n values reference) shape.resolution) (fixed_at (timing_at shape.clocks reference) is) ∙ fixing model tells is
+      known_at (timing_at shape.clocks reference) ((behaviour_of model).interval shape n values reference) shape.resolution is ∙ fixing model tells is
 
-  pub shift_right : (model : Model) → TellsTimings model shape bound → IsFixedAsked shape reference → has_counts 0 ((behaviour_of model).shift shape.variables values reference) shape.resolution ≡ true
+  pub shift_right : (model : Model) → TellsTimings model shape bound → IsAsked shape reference → has_counts 0 ((behaviour_of model).shift shape values reference) shape.resolution ≡ true
   shift_right Sampler tells is =
       let one : reference ≡ 1 = tells.alone reference is in
-      let at_one : IsFixedAsked shape 1 = subst (IsFixedAsked shape) one is in
+      let at_one : IsAsked shape 1 = subst (IsAsked shape) one is in
       let tested : (reference == 1) ≡ true = grind (arith, nat_tests) in
       let told = tells.shift at_one in
       ap (λ (b : Bool). has_counts 0 (if b then fraction_at shape.variables values 6 5 else no_fraction) shape.resolution) tested
@@ -145,6 +176,12 @@ module _ (shape : Shape) (bound : List BoundValue) (values : List ℤ) (set : Ar
   shift_right Alarm tells is = absurd (tells reference is)
   shift_right Relay tells is = absurd (tells reference is)
   shift_right Settle tells is = absurd (tells reference is)
+  shift_right Pulse tells is =
+      let one : reference ≡ 1 = tells.alone reference is in
+      let tested : (reference == 1) ≡ true = grind (arith, nat_tests) in
+      ap (λ (b : Bool). has_counts 0 (if b then record { counter = count_of (value_of shape.variables values 3); resolution = shape.resolution } else no_fraction) shape.resolution) tested
+      ∙ timing_whole (count_of (value_of shape.variables values 3)) shape.resolution some
+  shift_right Waker tells is = absurd (tells reference is)
 
 -- ---- no Clocks
 
@@ -153,14 +190,20 @@ none_there shape none reference Is is = subst (λ (clocks : List ClockTiming). I
 
 pub tells_of_none : TellsOfNoClocks
 tells_of_none Sampler shape bound none = record {
-  alone = λ reference is. absurd (none_there shape none reference IsAskedFixed is);
+  alone = λ reference is. absurd (none_there shape none reference IsAskedForShift is);
   countdown = λ is. absurd (none_there shape none 1 (λ (t : ClockTiming). t.variability ≡ T.Countdown) is);
-  interval = λ is. absurd (none_there shape none 1 IsAskedFixed is);
-  shift = λ is. absurd (none_there shape none 1 IsAskedFixed is);
+  interval = λ is. absurd (none_there shape none 1 IsAskedForShift is);
+  shift = λ is. absurd (none_there shape none 1 IsAskedForShift is);
 }
-tells_of_none Counter shape bound none = λ reference is. none_there shape none reference IsAskedFixed is
-tells_of_none Gain shape bound none = λ reference is. none_there shape none reference IsAskedFixed is
-tells_of_none Alarm shape bound none = λ reference is. none_there shape none reference IsAskedFixed is
-tells_of_none Timer shape bound none = λ reference is. none_there shape none reference IsAskedFixed is
-tells_of_none Relay shape bound none = λ reference is. none_there shape none reference IsAskedFixed is
-tells_of_none Settle shape bound none = λ reference is. none_there shape none reference IsAskedFixed is
+tells_of_none Counter shape bound none = λ reference is. none_there shape none reference IsAskedForShift is
+tells_of_none Gain shape bound none = λ reference is. none_there shape none reference IsAskedForShift is
+tells_of_none Alarm shape bound none = λ reference is. none_there shape none reference IsAskedForShift is
+tells_of_none Timer shape bound none = λ reference is. none_there shape none reference IsAskedForShift is
+tells_of_none Relay shape bound none = λ reference is. none_there shape none reference IsAskedForShift is
+tells_of_none Settle shape bound none = λ reference is. none_there shape none reference IsAskedForShift is
+tells_of_none Pulse shape bound none = record {
+  alone = λ reference is. absurd (none_there shape none reference IsAskedForShift is);
+  first = λ is. absurd (none_there shape none 1 IsAskedForShift is);
+  some = λ is. absurd (none_there shape none 1 IsAskedForShift is);
+}
+tells_of_none Waker shape bound none = λ reference is. none_there shape none reference IsAskedForShift is

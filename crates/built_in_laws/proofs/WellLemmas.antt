@@ -12,7 +12,7 @@ use Rattle.value_types.specs.declared.shape.Shape.{Shape}
 use Rattle.fmi_calls.specs.Worth.{is_step_end, is_valid}
 use Rattle.fmi_calls.specs.declared.call.Call.TheVariants as C
 use Rattle.bench_fmus.specs.declared.model.Model.{Model}
-use Rattle.bench_fmus.specs.declared.model.Model.TheVariants.{Counter, Gain, Sampler, Alarm, Timer, Relay, Settle}
+use Rattle.bench_fmus.specs.declared.model.Model.TheVariants.{Counter, Gain, Sampler, Alarm, Timer, Relay, Settle, Pulse, Waker}
 use Rattle.bench_fmus.specs.Alarm.{rung_at}
 use Rattle.bench_fmus.specs.BuiltIn.{Behaviour, step_content, value_of}
 use Rattle.bench_fmus.specs.Models.{behaviour_of}
@@ -151,3 +151,5 @@ ends_right Alarm shape values at size = rung_right shape values at size
 ends_right Timer shape values at size = tt
 ends_right Relay shape values at size = tt
 ends_right Settle shape values at size = tt
+ends_right Pulse shape values at size = tt
+ends_right Waker shape values at size = tt

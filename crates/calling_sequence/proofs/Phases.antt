@@ -1,5 +1,5 @@
 -- Where a good answer leads.
-use Rattle.std.proofs.Common.{◌≡◌, ℕ, Bool, true, false, List, inl, inr, refl, sym, ap, ◌∙◌, subst, length, not, replicate, set, zero, suc, ◌-◌}
+use Rattle.std.proofs.Common.{◌≡◌, ℕ, Bool, true, false, List, inl, inr, refl, sym, ap, ◌∙◌, subst, length, not, replicate, set, zero, suc}
 use Rattle.std.specs.Prelude.{if◌then◌else◌, IfSome, Option, Some, None}
 use Rattle.std.specs.List.{list_any}
 use Rattle.std.specs.Option.{option_map_or}

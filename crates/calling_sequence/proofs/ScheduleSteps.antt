@@ -1,6 +1,6 @@
--- The bound of a step by the schedule's next tick, and where the schedule stands behind the step.
-use Rattle.std.proofs.Common.{◌≡◌, ℕ, ℤ, length, zero, suc, ◌+◌, ◌*◌, ◌<◌, ◌≤◌, Bool, true, false, List, [], ◌∷◌, Option, Some, None, refl, sym, ap, ◌∙◌, subst, arith, get_or, map}
-use Rattle.std.specs.Prelude.{All, IsSomeAnd, ◌||◌, ◌==◌, min, nat_lt, slice_get}
+-- The bound of a step by the schedule's next tick or event time, and where the schedule stands behind the step.
+use Rattle.std.proofs.Common.{◌≡◌, ◌⊎◌, inl, inr, ℕ, ℤ, length, zero, suc, ◌+◌, ◌*◌, ◌<◌, ◌≤◌, Bool, true, false, List, [], ◌∷◌, Option, Some, None, refl, sym, ap, ◌∙◌, subst, arith, get_or, map}
+use Rattle.std.specs.Prelude.{All, IfSome, IsSomeAnd, ◌||◌, ◌==◌, min, nat_lt, slice_get}
 use Rattle.std.specs.List.{list_any}
 use Rattle.std.proofs.Math.Nat.{mul-le-mul_left}
 use Rattle.std.proofs.lemmas.Bool.Decides.{nat_tests}
@@ -8,15 +8,16 @@ use Rattle.std.proofs.lemmas.List.Elements.{All-head, All-tail}
 use Rattle.std.proofs.lemmas.Option.{same_Some, slice_get-get_or}
 use Rattle.tick_schedule.specs.declared.clock.ClockState.{ClockState}
 use Rattle.tick_schedule.specs.declared.clock.ClockState.TheVariants as S
-use Rattle.tick_schedule.specs.Timetable.{IsToTick, TicksAt, Timetable}
+use Rattle.tick_schedule.specs.Timetable.{EventAt, IsToTick, TicksAt, Timetable}
 use Rattle.system_model.specs.declared.plan.Plan.{Plan}
 use Rattle.system_model.specs.declared.system.System.{System}
 use Rattle.run_model.specs.Run.{Timer}
-use Rattle.run_model.specs.Steps.{AtTick, IsBound, IsMark, OnGrid, OnStop, SomeTicksAt}
+use Rattle.run_model.specs.Steps.{AtEvent, AtTick, IsBound, IsMark, OnGrid, OnStop, SomeEventAt, SomeTicksAt}
 use Rattle.run_model.specs.Timers.{TicksAt as TimerTicksAt, is_armed_for}
 use Rattle.event_iteration.proofs.ByLog.{are_ticks}
 use Rattle.event_iteration.specs.Clocks.{AreTicks, IsNextFrom, StandsAt, first_table, is_due_at, timer_in, timers_in}
 use Rattle.event_iteration.specs.Intervals.{is_some_armed}
+use Rattle.event_iteration.specs.Updates.{AreLater, with_events}
 use Rattle.calling_sequence.specs.declared.buffers.Buffers.{Buffers}
 use Rattle.calling_sequence.specs.declared.experiment.Experiment.{Experiment}
 use Rattle.calling_sequence.specs.Calls.{IsBoundOf}
@@ -92,6 +93,18 @@ some_at P (Some state) h = (state, refl, h)
 no_mark : (start point : ℕ) → SomeTicksAt start [] point → ⊥
 no_mark start point (p, timer, at, ticks) = cc
 
+no_event : (point : ℕ) → SomeEventAt [] point → ⊥
+no_event point (i, at) = cc
+
+-- an event time that a component has lies behind the point
+event_later : (t : ℕ) (events : List (Option ℕ)) → AreLater t events → (i time : ℕ) → slice_get events i ≡ Some (Some time) → t < time
+event_later t [] later i time is = absurd (cc)
+event_later t (e ∷ es) later zero time is = subst (λ (o : Option ℕ). IfSome o (λ x. t < x)) (same_Some _ _ is) (All-head (λ (o : Option ℕ). IfSome o (λ x. t < x)) e es later)
+event_later t (e ∷ es) later (suc i) time is = event_later t es (All-tail (λ (o : Option ℕ). IfSome o (λ x. t < x)) e es later) i time is
+
+pub events_up_to : (table : Timetable) (t : ℕ) → AreLater t table.events → (component point : ℕ) → EventAt table component point → t < point
+events_up_to table t later component point h = event_later t table.events later component point h.1
+
 module _ (table : Timetable) (t : ℕ) (next : All (IsNextFrom table.start t false) table.clocks) (none : is_some_armed t (timers_in table) ≡ false) where
   -- each tick that is still to be made lies behind the point
   pub none_up_to : (clock point : ℕ) → TicksAt table clock point → t < point
@@ -111,20 +124,28 @@ module _ (table : Timetable) (t : ℕ) (next : All (IsNextFrom table.start t fal
       (subst (λ (x : Timer). TimerTicksAt table.start x point) (sym s.2) ticks) in
       (p, (within, subst (λ (o : Option ClockState). IsSomeAnd o (λ state. IsToTick table.start state point)) (sym s.1) left))
 
-  module _ (plan : Plan) (starts : table.start ≡ plan.start) (stops : table.stop ≡ plan.stop) (before : t < plan.stop) (mark : ℕ) (b : IsBound plan [] t mark) where
+  module _ (plan : Plan) (starts : table.start ≡ plan.start) (stops : table.stop ≡ plan.stop) (before : t < plan.stop) (mark : ℕ) (b : IsBound plan [] [] t mark) where
     most : mark ≤ plan.stop
     most = b.least plan.stop before (OnStop refl)
 
-    marks : (point : ℕ) → IsMark plan [] point → IsMark plan (timers_in table) point
+    marks : (point : ℕ) → IsMark plan [] [] point → IsMark plan (timers_in table) table.events point
     marks point (OnGrid h) = OnGrid h
     marks point (AtTick h) = absurd (no_mark plan.start point h)
+    marks point (AtEvent h) = absurd (no_event point h)
     marks point (OnStop h) = OnStop h
 
-    -- below the ticks and the mark
-    least_by : (bound : ℕ) → bound ≤ mark → ((clock other : ℕ) → TicksAt table clock other → bound ≤ other) → (point : ℕ) → t < point → IsMark plan (timers_in table) point → bound ≤ point
-    least_by bound low ticks point later (OnGrid h) = let l = b.least point later (OnGrid h) in omega (arith, low, l)
-    least_by bound low ticks point later (OnStop h) = let l = b.least point later (OnStop h) in omega (arith, low, l)
-    least_by bound low ticks point later (AtTick h) = by_test (nat_lt plan.stop point) refl where
+    -- below the ticks, the event times and the mark
+    least_by : (bound : ℕ) → bound ≤ mark → ((clock other : ℕ) → TicksAt table clock other → bound ≤ other) → ((component other : ℕ) → EventAt table component other → bound ≤ other) → (point : ℕ) → t < point →
+        IsMark plan (timers_in table) table.events point → bound ≤ point
+    least_by bound low ticks events point later (OnGrid h) = let l = b.least point later (OnGrid h) in omega (arith, low, l)
+    least_by bound low ticks events point later (OnStop h) = let l = b.least point later (OnStop h) in omega (arith, low, l)
+    least_by bound low ticks events point later (AtEvent h) = by_test (nat_lt plan.stop point) refl where
+      by_test : (test : Bool) → nat_lt plan.stop point ≡ test → bound ≤ point
+      by_test true is = let past : plan.stop < point = grind (arith, nat_tests) in let m = most in omega (arith, low, m, past)
+      by_test false is =
+          let within : point ≤ plan.stop = grind (arith, nat_tests) in
+          events h.0 point (subst (λ (s : ℕ). point ≤ s) (sym stops) within, h.1)
+    least_by bound low ticks events point later (AtTick h) = by_test (nat_lt plan.stop point) refl where
       by_test : (test : Bool) → nat_lt plan.stop point ≡ test → bound ≤ point
       by_test true is = let past : plan.stop < point = grind (arith, nat_tests) in let m = most in omega (arith, low, m, past)
       by_test false is =
@@ -132,33 +153,39 @@ module _ (table : Timetable) (t : ℕ) (next : All (IsNextFrom table.start t fal
           let left = tick_left point later (subst (λ (s : ℕ). point ≤ s) (sym stops) within) (subst (λ (s : ℕ). SomeTicksAt s (timers_in table) point) (sym starts) h) in
           ticks left.0 point left.1
 
-    -- no tick is left
-    pub bound_alone : ((clock point : ℕ) → TicksAt table clock point → ⊥) → IsBound plan (timers_in table) t mark
-    bound_alone alone = record {
+    -- no tick and no event time is left
+    pub bound_alone : ((clock point : ℕ) → TicksAt table clock point → ⊥) → ((component point : ℕ) → EventAt table component point → ⊥) → IsBound plan (timers_in table) table.events t mark
+    bound_alone alone none_left = record {
       later = b.later;
       mark = marks mark b.mark;
-      least = least_by mark (omega arith) (λ clock other h. absurd (alone clock other h));
+      least = least_by mark (omega arith) (λ clock other h. absurd (alone clock other h)) (λ component other h. absurd (none_left component other h));
     }
 
-    -- the next tick, or the mark before it
-    pub bound_tick : (tick : ℕ) → (clock : ℕ) × TicksAt table clock tick → t < tick → ((clock other : ℕ) → TicksAt table clock other → tick ≤ other) → IsBound plan (timers_in table) t (min mark tick)
-    bound_tick tick due after least = by_test (nat_lt tick mark) refl where
-      by_test : (test : Bool) → nat_lt tick mark ≡ test → IsBound plan (timers_in table) t (min mark tick)
+    -- a tick or an event time is a mark
+    found_mark : (point : ℕ) → ((clock : ℕ) × TicksAt table clock point) ⊎ ((component : ℕ) × EventAt table component point) → IsMark plan (timers_in table) table.events point
+    found_mark point (inl due) = AtTick (subst (λ (s : ℕ). SomeTicksAt s (timers_in table) point) starts (some_ticks due.0 point due.1))
+    found_mark point (inr due) = AtEvent (due.0, due.1.1)
+
+    -- the next tick or event time, or the mark before it
+    pub bound_tick : (tick : ℕ) → ((clock : ℕ) × TicksAt table clock tick) ⊎ ((component : ℕ) × EventAt table component tick) → t < tick → ((clock other : ℕ) → TicksAt table clock other → tick ≤ other) → ((component other : ℕ) → EventAt table component other → tick ≤ other) →
+        IsBound plan (timers_in table) table.events t (min mark tick)
+    bound_tick tick due after least least_event = by_test (nat_lt tick mark) refl where
+      by_test : (test : Bool) → nat_lt tick mark ≡ test → IsBound plan (timers_in table) table.events t (min mark tick)
       by_test true is =
           let low : tick < mark = grind (arith, nat_tests) in
           let same : min mark tick ≡ tick = omega (arith, low) in
-          subst (IsBound plan (timers_in table) t) (sym same) (record {
+          subst (IsBound plan (timers_in table) table.events t) (sym same) (record {
             later = after;
-            mark = AtTick (subst (λ (s : ℕ). SomeTicksAt s (timers_in table) tick) starts (some_ticks due.0 tick due.1));
-            least = least_by tick (omega (arith, low)) least;
+            mark = found_mark tick due;
+            least = least_by tick (omega (arith, low)) least least_event;
           })
       by_test false is =
           let high : mark ≤ tick = grind (arith, nat_tests) in
           let same : min mark tick ≡ mark = omega (arith, high) in
-          subst (IsBound plan (timers_in table) t) (sym same) (record {
+          subst (IsBound plan (timers_in table) table.events t) (sym same) (record {
             later = b.later;
             mark = marks mark b.mark;
-            least = least_by mark (omega arith) (λ clock other h. let l = least clock other h in omega (arith, high, l));
+            least = least_by mark (omega arith) (λ clock other h. let l = least clock other h in omega (arith, high, l)) (λ component other h. let l = least_event component other h in omega (arith, high, l));
           })
 
 -- ---- behind an instant, and behind the step
@@ -167,7 +194,7 @@ pub never_first : (m n : ℕ) → m ≡ suc n → (m == 0) ≡ false
 never_first m n is = grind (arith, nat_tests)
 
 module _ (system : System) (plan : Plan) (table : Timetable) (t to : ℕ) (stands : StandsAt system t false table) (none : is_some_armed t (timers_in table) ≡ false)
-    (starts : table.start ≡ plan.start) (stops : table.stop ≡ plan.stop) (before : t < plan.stop) (b : IsBound plan (timers_in table) t to) (m : ℕ) (past : t < m) (within : m ≤ to) where
+    (starts : table.start ≡ plan.start) (stops : table.stop ≡ plan.stop) (before : t < plan.stop) (b : IsBound plan (timers_in table) table.events t to) (m : ℕ) (past : t < m) (within : m ≤ to) where
   up_to : (clock : ℕ) (state : ClockState) → slice_get table.clocks clock ≡ Some state → (point : ℕ) → t < point → TimerTicksAt table.start (timer_in state) point → m ≤ point
   up_to clock state is point later ticks =
       let least = b.least point later (AtTick (subst (λ (s : ℕ). SomeTicksAt s (timers_in table) point) starts (clock, timer_in state, timer_at table.clocks clock state is, ticks))) in
@@ -187,12 +214,23 @@ module _ (system : System) (plan : Plan) (table : Timetable) (t to : ℕ) (stand
   pub stands_behind : StandsAt system m true table
   stands_behind = record {
     len = stands.len;
+    components = stands.components;
     places = stands.places;
     next = λ k d w.
         let is = slice_get-get_or table.clocks k d w in
         next_by k (get_or table.clocks k d) is (stands.next k d w) (none_armed_at t table.clocks none k (get_or table.clocks k d) is);
     within = let most : to ≤ plan.stop = b.least plan.stop before (OnStop refl) in omega (arith, most, stops, within);
   }
+
+-- where other event times stand, the Clocks stand as before
+pub stands_with : (system : System) (t : ℕ) (is_first : Bool) (old new : Timetable) → new ≡ with_events old new.events → length new.events ≡ length old.events → StandsAt system t is_first old → StandsAt system t is_first new
+stands_with system t is_first old new same len stands = subst (StandsAt system t is_first) (sym same) (record {
+  len = stands.len;
+  components = len ∙ stands.components;
+  places = stands.places;
+  next = stands.next;
+  within = stands.within;
+})
 
 -- ---- the schedule before a run, and the ticks of one that begins where the run does
 
@@ -201,14 +239,14 @@ first_again system table start stop is =
     is ∙ ap (λ (a : ℕ). first_table system a stop) (sym (ap (λ (x : Timetable). x.start) is)) ∙ ap (λ (b : ℕ). first_table system table.start b) (sym (ap (λ (x : Timetable). x.stop) is))
 
 pub begins : (system : System) (plan : Plan) (table : Timetable) (t n : ℕ) (is_first : Bool) (values : List (Option ℤ)) → length values ≡ length system.ports → table.start ≡ plan.start → StandsAt system t is_first table → (n == 0) ≡ is_first →
-    Begins system plan (record { t = t; n = n; values = values; timers = timers_in table }) (is_due_at table t)
+    Begins system plan (record { t = t; n = n; values = values; timers = timers_in table; events = table.events }) (is_due_at table t)
 begins system plan table t n is_first values known starts stands first = record {
   known = known;
   are_ticks = subst (λ (s : ℕ). AreTicks system s (timers_in table) t n (is_due_at table t)) starts (are_ticks system t is_first table stands n first);
 }
 
 -- the buffers at the end of a step to at most its bound
-pub timed_behind : (e : Experiment) (t n to m : ℕ) (b : Buffers) → IsPlan e.plan → AreTimed e t (n + 1) false b → is_some_armed t (timers_in b.schedule) ≡ false → IsBoundOf e.plan (timers_in b.schedule) t to → t < m → m ≤ to → AreTimed e m 0 true b
+pub timed_behind : (e : Experiment) (t n to m : ℕ) (b : Buffers) → IsPlan e.plan → AreTimed e t (n + 1) false b → is_some_armed t (timers_in b.schedule) ≡ false → IsBoundOf e.plan (timers_in b.schedule) b.schedule.events t to → t < m → m ≤ to → AreTimed e m 0 true b
 timed_behind e t n to m b plan h none bound later within = record {
   starts = h.starts;
   stops = h.stops;

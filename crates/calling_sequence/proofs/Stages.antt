@@ -4,7 +4,7 @@ use Rattle.std.specs.Prelude.{All, IfOk, OnOk, ◌||◌}
 use Rattle.std.proofs.lemmas.List.{length-map}
 use Rattle.sim_base.specs.Sink.{SinkView, with_piece}
 use Rattle.system_model.specs.Text.{instant_text}
-use Rattle.event_iteration.specs.Updates.{updated_by, updating}
+use Rattle.event_iteration.specs.Updates.{Updates as UpdatesAt, events_told, updated_by, updating}
 use Rattle.event_iteration.specs.declared.updates.Updated.{Updated}
 use Rattle.value_types.specs.declared.shape.Shape.{Shape}
 use Rattle.fmi_calls.specs.declared.call.Call.{Call}
@@ -73,37 +73,52 @@ sets_as system order mids news r a b same w = subst (λ (vs : List (Option ℤ))
 pub asks_as : (system : System) (per_second t : ℕ) (timers next : List Timer) (mids news : List Instance) (r : Result Bool BadAnswer) (a b : List (Option ℤ)) → a ≡ b → AsksIntervals system per_second t a timers next mids news r → AsksIntervals system per_second t b timers next mids news r
 asks_as system per_second t timers next mids news r a b same w = subst (λ (vs : List (Option ℤ)). AsksIntervals system per_second t vs timers next mids news r) same w
 
--- the questions for the timing of fixed Clocks
-pub by_fixes : (e : Experiment) (timers : List Timer) (mids news : List Instance) (count : ℕ) (r : Result (Unit {0}) BadAnswer) → Fixes e.system e.plan.resolution timers mids news r → Goes e Found (λ (x : Unit {0}). Timed timers) mids news count count r
+-- the questions for the timing of fixed and changing Clocks
+pub by_fixes : (e : Experiment) (timers : List Timer) (mids news : List Instance) (count : ℕ) (r : Result (Unit {0}) BadAnswer) → Fixes e.system e.plan.resolution e.plan.start timers mids news r → Goes e Found (λ (x : Unit {0}). Timed timers) mids news count count r
 by_fixes e timers mids news count (Ok x) f = λ v olds before h. on_quietly e olds before Found mids news v count h f.log f.told (Timed timers) [] f.says.0 (Times [] f.log timers f.says.1) refl
 by_fixes e timers mids news count (Err bad) f = λ v olds before h. off e olds before Found mids news v count h f.log f.told bad f.says
 
+-- by another name of the start
+pub fixes_as : (system : System) (per_second a b : ℕ) → a ≡ b → (timers : List Timer) (mids news : List Instance) (r : Result (Unit {0}) BadAnswer) → Fixes system per_second a timers mids news r → Fixes system per_second b timers mids news r
+fixes_as system per_second a b same timers mids news r f = subst (λ (start : ℕ). Fixes system per_second start timers mids news r) same f
+
 -- the questions for intervals
-pub by_asking : (e : Experiment) (t n : ℕ) (values : List (Option ℤ)) (timers next : List Timer) (mids news : List Instance) (count : ℕ) (r : Result Bool BadAnswer) → AsksIntervals e.system e.plan.resolution t values timers next mids news r →
-    Goes e (Read (record { t = t; n = n; values = values; timers = timers })) (λ (armed : Bool). Rearmed (record { t = t; n = n; values = values; timers = next })) mids news count count r
-by_asking e t n values timers next mids news count (Ok x) a = λ v olds before h.
-    on_quietly e olds before (Read (record { t = t; n = n; values = values; timers = timers })) mids news v count h a.log a.told (Rearmed (record { t = t; n = n; values = values; timers = next })) values a.says.0.explains (Rearming (record { t = t; n = n; values = values; timers = timers }) values next a.log a.says.0) refl
-by_asking e t n values timers next mids news count (Err bad) a = λ v olds before h.
-    off e olds before (Read (record { t = t; n = n; values = values; timers = timers })) mids news v count h a.log a.told bad (values, a.says)
+pub by_asking : (e : Experiment) (s : Spot) (next : List Timer) (mids news : List Instance) (count : ℕ) (r : Result Bool BadAnswer) → AsksIntervals e.system e.plan.resolution s.t s.values s.timers next mids news r →
+    Goes e (Read s) (λ (armed : Bool). Rearmed (record s { timers = next })) mids news count count r
+by_asking e s next mids news count (Ok x) a = λ v olds before h.
+    on_quietly e olds before (Read s) mids news v count h a.log a.told (Rearmed (record s { timers = next })) s.values a.says.0.explains (Rearming s s.values next a.log a.says.0) refl
+by_asking e s next mids news count (Err bad) a = λ v olds before h.
+    off e olds before (Read s) mids news v count h a.log a.told bad (s.values, a.says)
+
+-- the same event times, by another name
+pub goes_as : (e : Experiment) (p : Place) (s : Spot) (events : List (Option ℕ)) → s.events ≡ events → (mids news : List Instance) (count counted : ℕ) (r : Result Bool BadAnswer) → Goes e p (λ (armed : Bool). Rearmed s) mids news count counted r →
+    Goes e p (λ (armed : Bool). Rearmed (record s { events = events })) mids news count counted r
+goes_as e p s events same mids news count counted r goes = subst (λ (es : List (Option ℕ)). Goes {T = Bool} e p (λ (armed : Bool). Rearmed (record s { events = es })) mids news count counted r) same goes
 
 pub armed_by : {system : System} {per_second t : ℕ} {values : List (Option ℤ)} {timers next : List Timer} {mids news : List Instance} (r : Result Bool BadAnswer) → AsksIntervals system per_second t values timers next mids news r → IfOk r (λ (b : Bool). b ≡ is_some_armed t next)
 armed_by (Ok x) a = a.says.1
 armed_by (Err bad) a = tt
 
 -- Updates behind which the instant is put
-module _ (e : Experiment) (s : Spot) (u v : Updated) (again : v.again ≡ (u.again || is_some_armed s.t s.timers)) (asked : v.asked ≡ u.asked) (mids news : List Instance) (fits : shapes mids ≡ shapes_of e.system) (stage : Stage (updating (shapes mids)) updated_by mids news (Ok u))
+module _ (e : Experiment) (s : Spot) (events : List (Option ℕ)) (u v : Updated) (again : v.again ≡ (u.again || is_some_armed s.t s.timers)) (asked : v.asked ≡ u.asked) (mids news : List Instance) (fits : shapes mids ≡ shapes_of e.system) (updates : UpdatesAt s.t events mids news (Ok u))
     (olds : List Instance) (before present : SinkView) (count : ℕ) (h : Here e olds before (Rearmed s) mids present count) (after : SinkView) where
-  done : IsAnswered (shapes_of e.system) (updating (shapes_of e.system)) stage.log
-  done = subst (λ (ss : List Shape). IsAnswered ss (updating ss) stage.log) fits stage.says.0
+  done : IsAnswered (shapes_of e.system) (updating (shapes_of e.system)) updates.stage.log
+  done = subst (λ (ss : List Shape). IsAnswered ss (updating ss) updates.stage.log) fits updates.stage.says.0
 
-  sees : LeadsTo e.system e.plan (Rearmed s) [] stage.log (Seen s v.again v.asked)
-  sees = Updates s [] stage.log v.again v.asked (again ∙ ap (λ (x : Updated). x.again || is_some_armed s.t s.timers) stage.says.1) (asked ∙ ap (λ (x : Updated). x.asked) stage.says.1)
+  -- the spot with the event times that the Updates tell
+  abbrev told_spot : Spot
+  told_spot = record s { events = events }
 
-  pub by_put : after ≡ with_piece present (instant_text s.t s.n s.values) → Here e olds before (Seen s v.again v.asked) news after (count + 1)
-  by_put put = on_shown e olds before (Rearmed s) mids news present count h stage.log stage.told (Seen s v.again v.asked) [] done sees _ refl after put
+  sees : LeadsTo e.system e.plan (Rearmed s) [] updates.stage.log (Seen told_spot v.again v.asked)
+  sees =
+      Updates s [] updates.stage.log events v.again v.asked (updates.events_are ∙ ap (λ (ss : List Shape). events_told s.t ss updates.stage.log) fits) (again ∙ ap (λ (x : Updated). x.again || is_some_armed s.t s.timers) updates.stage.says.1)
+      (asked ∙ ap (λ (x : Updated). x.asked) updates.stage.says.1)
+
+  pub by_put : after ≡ with_piece present (instant_text s.t s.n s.values) → Here e olds before (Seen told_spot v.again v.asked) news after (count + 1)
+  by_put put = on_shown e olds before (Rearmed s) mids news present count h updates.stage.log updates.stage.told (Seen told_spot v.again v.asked) [] done sees _ refl after put
 
   pub by_cut : CutsPiece present (instant_text s.t s.n s.values) after → RunsSlots e.system e.bound e.plan olds news before after count E.WriteFault
-  by_cut put = cut e olds before (Rearmed s) mids news present count h stage.log stage.told (Seen s v.again v.asked) [] done sees _ refl after put
+  by_cut put = cut e olds before (Rearmed s) mids news present count h updates.stage.log updates.stage.told (Seen told_spot v.again v.asked) [] done sees _ refl after put
 
 pub badly_updated : (e : Experiment) (s : Spot) (mids news : List Instance) → shapes mids ≡ shapes_of e.system → (bad : BadAnswer) → Stage (updating (shapes mids)) updated_by mids news (Err bad) → (v : SinkView) (count : ℕ) →
     Comes e (Rearmed s) (record { end = E.Bad bad; point = s.t }) mids news v v count count
@@ -177,10 +192,10 @@ module _ {L : Type 0} {g : _} (view : L → View) (e : Experiment) where
       keeping_walk rules before order values goodly (Ok x) w live = keeping (Ok x) w.log w.told (goodly w.log w.says) live
       keeping_walk rules before order values goodly (Err bad) w live = tt
 
-pub fixes_goodly : (system : System) (per_second : ℕ) (timers : List Timer) (olds news : List Instance) (r : Result (Unit {0}) BadAnswer) → (f : Fixes system per_second timers olds news r) → OnOk r (All (IsGoodly (λ shape. IsQuestion) (shapes_of system)) f.log)
-fixes_goodly system per_second timers olds news (Ok x) f = timing_goodly system f.log f.says.0
-fixes_goodly system per_second timers olds news (Err bad) f = tt
+pub fixes_goodly : (system : System) (per_second start : ℕ) (timers : List Timer) (olds news : List Instance) (r : Result (Unit {0}) BadAnswer) → (f : Fixes system per_second start timers olds news r) → OnOk r (All (IsGoodly (λ shape. IsQuestion) (shapes_of system)) f.log)
+fixes_goodly system per_second start timers olds news (Ok x) f = timing_goodly system f.log f.says.0
+fixes_goodly system per_second start timers olds news (Err bad) f = tt
 
 pub asks_goodly : (system : System) (per_second t : ℕ) (values : List (Option ℤ)) (timers next : List Timer) (olds news : List Instance) (r : Result Bool BadAnswer) → (a : AsksIntervals system per_second t values timers next olds news r) → OnOk r (All (IsGoodly (λ shape. IsQuestion) (shapes_of system)) a.log)
-asks_goodly system per_second t values timers next olds news (Ok x) a = asking_goodly system values (port_order system) values a.log a.says.0.explains
+asks_goodly system per_second t values timers next olds news (Ok x) a = asking_goodly system values (port_order system) values a.log values a.says.0.explains
 asks_goodly system per_second t values timers next olds news (Err bad) a = tt

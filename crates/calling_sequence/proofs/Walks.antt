@@ -16,7 +16,7 @@ use Rattle.system_model.specs.declared.system.Component.{Component}
 use Rattle.system_model.specs.declared.system.Role.{Role}
 use Rattle.system_model.specs.declared.system.Role.TheVariants.{Input, Output, ClockInput, ClockOutput, TimeClock}
 use Rattle.system_model.specs.declared.system.Port.{Port}
-use Rattle.system_model.specs.declared.system.Timing.TheVariants.{Answered, Countdown, Periodic}
+use Rattle.system_model.specs.declared.system.Timing.TheVariants.{Answered, Changing, Countdown, Periodic}
 use Rattle.system_model.specs.declared.system.System.{System}
 use Rattle.run_model.specs.Equations.{fed}
 use Rattle.run_model.specs.Initial.{is_read}
@@ -133,16 +133,17 @@ in_instants shape (ClockInput (Some feed)) port is_first ticks values k h result
 in_instants shape ClockOutput port is_first ticks values k h result = inr (inr (port.reference, inr (sym (same_Some _ _ h))))
 in_instants shape (TimeClock timing) port is_first ticks values k h result = inr (inr (set_clock ticks port.reference k h result))
 
-questions : (role : Role) (port : Port) (k : Call) → asks_interval role port ≡ Some k → IsSort IsQuestion k
-questions (TimeClock Countdown) port k h result = (port.reference, inl (sym (same_Some _ _ h)))
-questions (TimeClock (Periodic interval shift)) port k h result = absurd (cc)
-questions (TimeClock Answered) port k h result = absurd (cc)
-questions (Input feed) port k h result = absurd (cc)
-questions Output port k h result = absurd (cc)
-questions (ClockInput feed) port k h result = absurd (cc)
-questions ClockOutput port k h result = absurd (cc)
+questions : (role : Role) (port : Port) (v : Option ℤ) (k : Call) → asks_interval role port v ≡ Some k → IsSort IsQuestion k
+questions (TimeClock Countdown) port v k h result = (port.reference, inl (sym (same_Some _ _ h)))
+questions (TimeClock Changing) port v k h result = (port.reference, inl (sym (same_Some _ _ (if_some (is_active v) (Some (C.GetInterval port.reference)) k h))))
+questions (TimeClock (Periodic interval shift)) port v k h result = absurd (cc)
+questions (TimeClock Answered) port v k h result = absurd (cc)
+questions (Input feed) port v k h result = absurd (cc)
+questions Output port v k h result = absurd (cc)
+questions (ClockInput feed) port v k h result = absurd (cc)
+questions ClockOutput port v k h result = absurd (cc)
 
--- ---- the questions for fixed Clocks
+-- ---- the questions for fixed and changing Clocks, in Initialization Mode
 
 abbrev IsQuestionAsked : Asking → Type 0
 IsQuestionAsked a = (reference : ℕ) × ((a.call ≡ C.GetInterval reference) ⊎ (a.call ≡ C.GetShift reference))
@@ -151,6 +152,8 @@ timing_of : (role : Role) (port : Port) → All IsQuestionAsked (timing_calls_of
 timing_of (TimeClock Answered) port =
     All-cons IsQuestionAsked (record { component = port.component.0; call = C.GetInterval port.reference }) (record { component = port.component.0; call = C.GetShift port.reference } ∷ []) (port.reference, inl refl)
     (All-cons IsQuestionAsked (record { component = port.component.0; call = C.GetShift port.reference }) [] (port.reference, inr refl) (All-nil IsQuestionAsked))
+timing_of (TimeClock Changing) port =
+    All-cons IsQuestionAsked (record { component = port.component.0; call = C.GetShift port.reference }) [] (port.reference, inr refl) (All-nil IsQuestionAsked)
 timing_of (TimeClock (Periodic interval shift)) port = All-nil IsQuestionAsked
 timing_of (TimeClock Countdown) port = All-nil IsQuestionAsked
 timing_of (Input feed) port = All-nil IsQuestionAsked
@@ -171,8 +174,8 @@ module _ (system : System) (before : List (Option ℤ)) (taken : List ℕ) (valu
   pub instant_goodly : (ticks : ℕ → Bool) (is_first : Bool) → Explains system (in_instant ticks is_first) before taken values log → All (IsGoodly IsOfInstant (shapes_of system)) log
   instant_goodly ticks is_first told = walk_goodly system IsOfInstant (in_instant ticks is_first) before taken values log (λ p port c k h. in_instants c.shape port.role port is_first (ticks p) values k h) told
 
-  pub asking_goodly : Explains system intervals before taken values log → All (IsGoodly (λ shape. IsQuestion) (shapes_of system)) log
-  asking_goodly told = walk_goodly system (λ shape. IsQuestion) intervals before taken values log (λ p port c k h. questions port.role port k h) told
+  pub asking_goodly : (now : List (Option ℤ)) → Explains system (intervals now) before taken values log → All (IsGoodly (λ shape. IsQuestion) (shapes_of system)) log
+  asking_goodly now told = walk_goodly system (λ shape. IsQuestion) (intervals now) before taken values log (λ p port c k h. questions port.role port (value now p) k h) told
 
   pub setting_goodly : (now : List (Option ℤ)) → Explains system (before_step now) before taken values log → All (IsGoodly (λ shape. IsSet) (shapes_of system)) log
   setting_goodly now told =

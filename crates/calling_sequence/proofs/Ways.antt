@@ -49,7 +49,7 @@ module _ (e : Experiment) (t n : ℕ) (b : Buffers) (u : Updated) (olds : List I
   pub stops_there : u.again ≡ false → u.asked ≡ false → t ≡ e.plan.stop → Follows e olds before (record { end = E.Stop; point = t }) mids present count
   stops_there f g is = ended E.Stop false false f g (AtStop here is)
 
-  pub unfit_there : u.again ≡ false → u.asked ≡ false → (component : CompId) (to : ℕ) → IsBoundOf e.plan (timers_in b.schedule) t to → first_unfit e.system e.plan (to - t) ≡ Some component.0 → Follows e olds before (record { end = E.FixedStep component t to; point = t }) mids present count
+  pub unfit_there : u.again ≡ false → u.asked ≡ false → (component : CompId) (to : ℕ) → IsBoundOf e.plan (timers_in b.schedule) b.schedule.events t to → first_unfit e.system e.plan (to - t) ≡ Some component.0 → Follows e olds before (record { end = E.FixedStep component t to; point = t }) mids present count
   unfit_there f g component to bound unfit = ended (E.FixedStep component t to) false false f g (Unfit here component to bound unfit)
 
   -- the point is done

@@ -65,12 +65,14 @@ first_unfit system plan size =
     if size == plan.step then None
     else position (λ (c : Component). not c.shape.has_variable_steps) system.components
 
--- a step before the stop goes from one point to at most its bound, the next grid point, tick or the stop
-pub record IsBoundOf (plan : Plan) (timers : List Timer) (from to : ℕ) : Type 0 where
+-- a step before the stop goes from one point to at most its bound, the next grid point, tick, event time or the stop
+pub record IsBoundOf (plan : Plan) (timers : List Timer) (events : List (Option ℕ))
+    (from to : ℕ) : Type 0 where
   pub before_stop : from < plan.stop
-  pub bound : IsBound plan timers from to
+  pub bound : IsBound plan timers events from to
 
 -- and each takes a step to the bound
-pub record IsStep (system : System) (plan : Plan) (timers : List Timer) (from to : ℕ) : Type 0 where
-  pub bound : IsBoundOf plan timers from to
+pub record IsStep (system : System) (plan : Plan) (timers : List Timer) (events : List (Option ℕ))
+    (from to : ℕ) : Type 0 where
+  pub bound : IsBoundOf plan timers events from to
   pub fit : first_unfit system plan (to - from) ≡ None

@@ -6,12 +6,12 @@ use Rattle.system_model.specs.declared.system.System.{System}
 use Rattle.system_model.specs.Text.{Instant}
 use Rattle.system_model.specs.Ports.{numbers}
 use Rattle.run_model.specs.Run.{Timer}
-use Rattle.event_iteration.specs.Clocks.{AreTicks}
+use Rattle.event_iteration.specs.Clocks.{AreTicks, no_events}
 use Rattle.event_iteration.specs.Initialization.{initially, no_values}
 use Rattle.event_iteration.specs.Instants.{in_instant}
 use Rattle.event_iteration.specs.Intervals.{Rearms, first_told, intervals, is_some_armed, timing_calls}
 use Rattle.event_iteration.specs.Settings.{before_step, port_order}
-use Rattle.event_iteration.specs.Updates.{updated_by, updating}
+use Rattle.event_iteration.specs.Updates.{events_told, updated_by, updating}
 use Rattle.slot_calls.specs.Log.{Sent}
 use Rattle.slot_calls.specs.Stage.{shapes_of}
 use Rattle.step_agreement.specs.Agreement.{Meets, Unfit}
@@ -21,12 +21,13 @@ use Rattle.calling_sequence.specs.Parts.{Agreement, AllAgree, Calls, Does, Part,
 
 -- ---- places
 
--- a point, the number of an instant there, the values that are known, in the stored order, and the timers of the Clocks
+-- a point, the number of an instant there, the values that are known, in the stored order, the timers of the Clocks, and the event times of the components
 pub record Spot : Type 0 where
   pub t : ℕ
   pub n : ℕ
   pub values : List (Option ℤ)
   pub timers : List Timer
+  pub events : List (Option ℕ)
 
 -- a step from there, with its bound
 pub record Way : Type 0 where
@@ -38,16 +39,16 @@ pub data Place : Type 0 where
   -- each instance was made; the bound parameters were set
   Made : Place
   Configured : Place
-  -- each is in Initialization Mode; its values were found; the fixed Clocks were asked, which tells these timers
+  -- each is in Initialization Mode; its values were found; the fixed and changing Clocks were asked, which tells these timers
   Entered : Place
   Found : Place
   Timed : (timers : List Timer) → Place
   -- before an instant with these ticks, with the values of the instant before it
   Before : (s : Spot) (ticks : ℕ → Bool) → Place
-  -- its values were found; the countdown Clocks were asked, which tells the timers
+  -- its values were found; the countdown Clocks and the changing ones that ticked were asked, which tells the timers
   Read : (s : Spot) → Place
   Rearmed : (s : Spot) → Place
-  -- behind an instant: whether another is asked for at the point, and whether the end is
+  -- behind an instant, whose Updates tell the event times: whether another is asked for at the point, and whether the end is
   Seen : (s : Spot) (again asked : Bool) → Place
   -- on the way to a step: the point is done; those with event mode are in Step Mode; the inputs of the others were set; the states were saved
   Leaving : (w : Way) → Place
@@ -71,7 +72,7 @@ part_at system bound plan Found = Calls (timing_calls system)
 part_at system bound plan (Timed timers) = Calls (leaving system)
 part_at system bound plan (Before s ticks) =
     Walk (in_instant ticks (s.n == 0)) s.values (numbers system.instant_order)
-part_at system bound plan (Read s) = Walk intervals s.values (port_order system)
+part_at system bound plan (Read s) = Walk (intervals s.values) s.values (port_order system)
 part_at system bound plan (Rearmed s) = Calls (updating (shapes_of system))
 part_at system bound plan (Seen s again asked) = Calls []
 part_at system bound plan (Leaving w) = Calls (entering_step system)
@@ -99,14 +100,20 @@ pub data LeadsTo (system : System) (plan : Plan) : Place → List (Option ℤ) �
       LeadsTo system plan Configured values log Entered
   Finds : (values : List (Option ℤ)) (log : List Sent) →
       LeadsTo system plan Entered values log Found
-  -- the timers of the Clocks before the first instant, by what the fixed ones answered
+  -- the timers of the Clocks before the first instant, by what the fixed and changing ones answered
   Times : (values : List (Option ℤ)) (log : List Sent) (timers : List Timer) →
-      timers ≡ first_told plan.resolution system log →
+      timers ≡ first_told plan.resolution plan.start system log →
       LeadsTo system plan Found values log (Timed timers)
-  -- the first instant, at the start, before which no port has a value
+  -- the first instant, at the start, before which no port has a value and no component an event time
   Exits : (timers : List Timer) (values : List (Option ℤ)) (log : List Sent) (s : Spot)
       (ticks : ℕ → Bool) →
-      s ≡ record { t = plan.start; n = 0; values = no_values system; timers = timers } →
+      s ≡ record {
+        t = plan.start;
+        n = 0;
+        values = no_values system;
+        timers = timers;
+        events = no_events system;
+      } →
       Begins system plan s ticks → LeadsTo system plan (Timed timers) values log (Before s ticks)
   Reads : (s : Spot) (ticks : ℕ → Bool) (values : List (Option ℤ)) (log : List Sent) →
       length values ≡ length system.ports →
@@ -114,18 +121,19 @@ pub data LeadsTo (system : System) (plan : Plan) : Place → List (Option ℤ) �
   Rearming : (s : Spot) (values : List (Option ℤ)) (next : List Timer) (log : List Sent) →
       Rearms system plan.resolution s.t s.values s.timers next log →
       LeadsTo system plan (Read s) values log (Rearmed (record s { timers = next }))
-  -- another instant is asked for by an Update, or by a Clock that is armed for the point
-  Updates : (s : Spot) (values : List (Option ℤ)) (log : List Sent) (again asked : Bool) →
+  -- the event times are those that the Updates ask for; another instant is asked for by an Update, or by a Clock that is armed for the point
+  Updates : (s : Spot) (values : List (Option ℤ)) (log : List Sent) (events : List (Option ℕ))
+      (again asked : Bool) → events ≡ events_told s.t (shapes_of system) log →
       again ≡ ((updated_by log).again || is_some_armed s.t s.timers) →
       asked ≡ (updated_by log).asked →
-      LeadsTo system plan (Rearmed s) values log (Seen s again asked)
+      LeadsTo system plan (Rearmed s) values log (Seen (record s { events = events }) again asked)
   -- another instant at the point, of which there may be one more
   Again : (s : Spot) (values : List (Option ℤ)) (log : List Sent) (ticks : ℕ → Bool) →
       (suc s.n == plan.limit) ≡ false → Begins system plan (record s { n = suc s.n }) ticks →
       LeadsTo system plan (Seen s true false) values log (Before (record s { n = suc s.n }) ticks)
   -- the point is done, from which a step is to be made
   GoesOn : (w : Way) (values : List (Option ℤ)) (log : List Sent) →
-      IsStep system plan w.s.timers w.s.t w.to →
+      IsStep system plan w.s.timers w.s.events w.s.t w.to →
       LeadsTo system plan (Seen w.s false false) values log (Leaving w)
   Leaves : (w : Way) (values : List (Option ℤ)) (log : List Sent) →
       LeadsTo system plan (Leaving w) values log (Left w)

@@ -52,7 +52,7 @@ pub data EndsAt (system : System) (plan : Plan) : RunEnd → Place → Type 0 wh
   AtLimit : (s : Spot) → (suc s.n == plan.limit) ≡ true →
       EndsAt system plan (E.EventLimit s.t) (Seen s true false)
   -- the point is done, and the size of the step from there is one that the component doesn't take, the least of those
-  Unfit : (s : Spot) (component : CompId) (end : ℕ) → IsBoundOf plan s.timers s.t end →
+  Unfit : (s : Spot) (component : CompId) (end : ℕ) → IsBoundOf plan s.timers s.events s.t end →
       first_unfit system plan (end - s.t) ≡ Some component.0 →
       EndsAt system plan (E.FixedStep component s.t end) (Seen s false false)
   -- and so is that of the one which it would be asked for next, on the way to an agreement

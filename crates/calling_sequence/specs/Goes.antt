@@ -19,7 +19,13 @@ use Rattle.calling_sequence.specs.Here.{Follows, Here}
 -- ---- places, by what the code holds
 
 abbrev pub spot : (t n : ℕ) → Buffers → Spot
-spot t n b = record { t = t; n = n; values = b.values.items; timers = timers_in b.schedule }
+spot t n b = record {
+  t = t;
+  n = n;
+  values = b.values.items;
+  timers = timers_in b.schedule;
+  events = b.schedule.events;
+}
 
 abbrev pub timed : Buffers → Place
 timed b = Timed (timers_in b.schedule)

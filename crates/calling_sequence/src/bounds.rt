@@ -2,6 +2,7 @@ ghost use Rattle.std.specs.Prelude.{◌≡◌, ◌≤◌, ◌<◌, ◌^◌, None
 ghost use Rattle.run_model.specs.Steps.{IsBound};
 ghost use Rattle.event_iteration.specs.Clocks.{IsNextFrom, timers_in};
 ghost use Rattle.event_iteration.specs.Intervals.{is_some_armed};
+ghost use Rattle.event_iteration.specs.Updates.{AreLater};
 ghost use Rattle.calling_sequence.specs.Calls.{first_unfit};
 ghost use Rattle.system_model.specs.Plans.{IsPlan};
 
@@ -9,7 +10,8 @@ use sim_base::CompId;
 use system_model::{Component, Plan, System};
 use tick_schedule::{Schedule, plain};
 
-/// The bound of the step from a point before the stop that is done, in counts: the next grid point, the next tick or the stop.
+/// The bound of the step from a point before the stop that is done, in counts: the next grid point, the next tick, the next
+/// event time or the stop.
 pub(crate) fn next_bound(plan: &Plan, schedule: &Schedule, t: u64) -> u64
     requires plan { IsPlan plan.now }
     requires begun { plan.now.start ≤ t }
@@ -17,21 +19,22 @@ pub(crate) fn next_bound(plan: &Plan, schedule: &Schedule, t: u64) -> u64
     requires table { (schedule.now.start ≡ plan.now.start) × (schedule.now.stop ≡ plan.now.stop) }
     requires next { All (IsNextFrom schedule.now.start t false) schedule.now.clocks }
     requires done { is_some_armed t (timers_in schedule.now) ≡ false }
-    ensures { IsBound plan.now (timers_in schedule.now) t result }
+    requires later { AreLater t schedule.now.events }
+    ensures { IsBound plan.now (timers_in schedule.now) schedule.now.events t result }
 {
     let mark = next_mark(plan, t);
     match plain::next_after(schedule, t) {
-        Some(tick) => mark.min(tick),
+        Some(point) => mark.min(point),
         None => mark,
     }
 }
 
-/// The bound where no Clock ticks: the next grid point or the stop.
+/// The bound where no Clock ticks and no event time is asked for: the next grid point or the stop.
 pub(crate) fn next_mark(plan: &Plan, t: u64) -> u64
     requires plan { IsPlan plan.now }
     requires begun { plan.now.start ≤ t }
     requires before { t < plan.now.stop }
-    ensures { IsBound plan.now [] t result }
+    ensures { IsBound plan.now [] [] t result }
 {
     let steps = (t - plan.start) / plan.step + 1;
     let grid = plan.start + steps * plan.step;

@@ -19,8 +19,8 @@ impl From<AllocError> for NoMemory {
     }
 }
 
-/// All memory of a run: which outputs Initialization Mode reads, when Clocks tick, a place for the value of each port, room
-/// for the longest text of a trace, and the number of instants that were put.
+/// All memory of a run: which outputs Initialization Mode reads, when Clocks tick and components have their event times, a
+/// place for the value of each port, room for the longest text of a trace, and the number of instants that were put.
 #[derive(Drop)]
 pub struct Buffers {
     pub reads: InitialReads,

@@ -1,6 +1,6 @@
 ghost use Rattle.std.specs.Prelude.{◌≡◌, ◌≤◌, ℕ, None, OnOk, true, length, replicate};
 ghost use Rattle.event_iteration.specs.Initialization.{AreReads};
-ghost use Rattle.event_iteration.specs.Clocks.{first_table};
+ghost use Rattle.event_iteration.specs.Clocks.{no_events};
 ghost use Rattle.run_model.specs.Machines.{AreFitting};
 ghost use Rattle.slot_calls.specs.Slots.{instances};
 ghost use Rattle.calling_sequence.specs.Course.{Configured, Entered, Found, Made};
@@ -15,7 +15,8 @@ use fmu_peer::{Peer, Slot};
 use slot_calls::{Ask, each};
 
 /// Sets the bound parameters, leads each FMU through Initialization Mode, where it finds the values and asks each fixed Clock
-/// for interval and shift, and takes the values away: before the first instant no port has one.
+/// for interval and shift and each changing Clock for its shift, and takes the values away: before the first instant no port
+/// has one.
 pub(crate) fn initialize<L: Peer>(
     slots: &mut [Slot<L>],
     experiment: &Experiment,
@@ -103,7 +104,7 @@ fn find<L: Peer>(
     )
 }
 
-// Asks each fixed Clock for its interval and its shift.
+// Asks each fixed Clock for its interval and its shift, and each changing Clock for its shift.
 fn ask<L: Peer>(
     slots: &mut [Slot<L>],
     experiment: &Experiment,
@@ -117,6 +118,7 @@ fn ask<L: Peer>(
         (λ stop step. IsInitializing experiment.now.plan.start stop) slots.new) }
     ensures timed { OnOk result
         (AreTimed experiment.now experiment.now.plan.start 0 true buffers.new) }
+    ensures none { buffers.new.schedule.events ≡ no_events experiment.now.system }
     ensures text { length buffers.new.text.items ≡ length buffers.old.text.items }
     ensures goes { Goes experiment.now Found (λ x. timed buffers.new) (instances L.view slots.old)
         (instances L.view slots.new) buffers.old.instants buffers.new.instants result }
@@ -126,6 +128,7 @@ fn ask<L: Peer>(
         &experiment.system,
         &mut buffers.schedule,
         experiment.plan.resolution,
+        experiment.plan.start,
     )
 }
 
@@ -138,6 +141,7 @@ fn exit<L: Peer>(
     requires ready { Ready L.view experiment.now
         (λ stop step. IsInitializing experiment.now.plan.start stop) slots.old }
     requires timed { AreTimed experiment.now experiment.now.plan.start 0 true buffers.old }
+    requires none { buffers.old.schedule.events ≡ no_events experiment.now.system }
     ensures ready { OnOk result
         (Ready L.view experiment.now (IsAt experiment.now.plan.start) slots.new) }
     ensures timed { AreTimed experiment.now experiment.now.plan.start 0 true buffers.new }

@@ -1,6 +1,8 @@
 ghost use Rattle.std.specs.Prelude.{◌≡◌, ◌==◌, ◌<◌, ◌^◌, ◌+◌, ◌||◌, ℕ, false, OnOk, IfOk, All, length};
 ghost use Rattle.event_iteration.specs.Clocks.{timers_in};
 ghost use Rattle.event_iteration.specs.Intervals.{TellsTicks, is_some_armed};
+ghost use Rattle.event_iteration.specs.Questions.{AreActive, modes};
+ghost use Rattle.event_iteration.specs.Updates.{AreLater};
 ghost use Rattle.slot_calls.specs.Slots.{instances};
 ghost use Rattle.calling_sequence.specs.Course.{Read, Rearmed};
 ghost use Rattle.calling_sequence.specs.Goes.{Goes, Puts, before_instant, seen, spot};
@@ -14,8 +16,9 @@ use fmu_peer::{Peer, Slot};
 use sim_base::Sink;
 
 /// Takes the n-th instant at a point, up to the first answer that isn't good: it finds the values from those of the instant
-/// before, asks each countdown Clock for its interval and each FMU with event mode for what follows, and puts the instant. It
-/// is told whether another follows at the point, by an Update or by a Clock that is armed for it.
+/// before, asks each countdown Clock, and each changing one that ticked, for its interval and each FMU with event mode for what
+/// follows, and puts the instant. It is told whether another follows at the point, by an Update or by a Clock that is armed for
+/// it; the event times are those that the Updates ask for.
 pub(crate) fn take<L: Peer, O: Sink>(
     slots: &mut [Slot<L>],
     experiment: &Experiment,
@@ -33,6 +36,7 @@ pub(crate) fn take<L: Peer, O: Sink>(
     ensures timed { OnOk result (AreTimed experiment.now t (n + 1) false buffers.new) }
     ensures unarmed { IfOk result (λ u. u.again ≡ false →
         is_some_armed t (timers_in buffers.new.schedule) ≡ false) }
+    ensures later { OnOk result (AreLater t buffers.new.schedule.events) }
     ensures text { length buffers.new.text.items ≡ length buffers.old.text.items }
     ensures puts { Puts experiment.now (before_instant t n buffers.old)
         (λ u. seen t n buffers.new u) (instances L.view slots.old) (instances L.view slots.new)
@@ -73,6 +77,8 @@ fn find<L: Peer>(
     ensures timed { AreTimed experiment.now t n (n == 0) buffers.new }
     ensures ticks { OnOk result (TellsTicks experiment.now.system buffers.new.schedule t
         buffers.new.values.items) }
+    ensures active { OnOk result (AreActive experiment.now.system buffers.new.values.items
+        (modes (instances L.view slots.new))) }
     ensures text { length buffers.new.text.items ≡ length buffers.old.text.items }
     ensures goes { Goes experiment.now (before_instant t n buffers.old)
         (λ x. Read (spot t n buffers.new)) (instances L.view slots.old)
@@ -88,7 +94,8 @@ fn find<L: Peer>(
     )
 }
 
-// Asks each countdown Clock for its interval, and tells whether a Clock is armed for the point.
+// Asks each countdown Clock, and each changing one that ticked, for its interval, and tells whether a Clock is armed for the
+// point.
 fn ask<L: Peer>(
     slots: &mut [Slot<L>],
     experiment: &Experiment,
@@ -100,6 +107,8 @@ fn ask<L: Peer>(
     requires timed { AreTimed experiment.now t n (n == 0) buffers.old }
     requires ticks { TellsTicks experiment.now.system buffers.old.schedule t
         buffers.old.values.items }
+    requires active { AreActive experiment.now.system buffers.old.values.items
+        (modes (instances L.view slots.old)) }
     ensures ready { OnOk result (Ready L.view experiment.now (IsTaking t) slots.new) }
     ensures timed { OnOk result (AreTimed experiment.now t n false buffers.new) }
     ensures armed { IfOk result (λ armed.
@@ -120,7 +129,7 @@ fn ask<L: Peer>(
     )
 }
 
-// Asks each FMU with event mode for what follows, and puts the instant.
+// Asks each FMU with event mode for what follows, which tells the event times, and puts the instant.
 fn show<L: Peer, O: Sink>(
     slots: &mut [Slot<L>],
     experiment: &Experiment,
@@ -140,12 +149,13 @@ fn show<L: Peer, O: Sink>(
     ensures timed { OnOk result (AreTimed experiment.now t (n + 1) false buffers.new) }
     ensures unarmed { IfOk result (λ u. u.again ≡ false →
         is_some_armed t (timers_in buffers.new.schedule) ≡ false) }
+    ensures later { OnOk result (AreLater t buffers.new.schedule.events) }
     ensures text { length buffers.new.text.items ≡ length buffers.old.text.items }
     ensures puts { Puts experiment.now (Rearmed (spot t n buffers.old))
         (λ u. seen t n buffers.new u) (instances L.view slots.old) (instances L.view slots.new)
         (O.view out.old) (O.view out.new) buffers.old.instants buffers.new.instants result }
 {
-    let updated = match update(slots, &experiment.system) {
+    let updated = match update(slots, &experiment.system, &mut buffers.schedule, t) {
         Ok(updated) => updated,
         Err(bad) => {
             return Err(Break::Ends(Ending {

@@ -17,12 +17,13 @@ use std::thread::Threads;
 
 /// Follows the calling sequence of Co-Simulation from instances that were made to the end line of the trace. It puts the
 /// header, sets the bound parameters, and leads each instance through Initialization Mode, where it asks fixed Clocks for
-/// interval and shift. At each point it takes one instant after the other, until no Update asks for another and no Clock is
-/// armed for the point: it finds the values, asks each countdown Clock for its interval and each FMU with event mode for what
-/// follows, and puts the instant. Then it steps all instances until they stand at one point, at most at the next grid point,
-/// the next tick or the stop: those with event mode go into Step Mode and behind the step into Event Mode, and the connected
-/// inputs of the others are set before it. It puts one piece for the header, one for each instant, and one for the end line, but behind a put that failed. Points
-/// and sizes of steps are counts over the plan's resolution.
+/// interval and shift and changing Clocks for their shift. At each point it takes one instant after the other, until no Update
+/// asks for another and no Clock is armed for the point: it finds the values, asks each countdown Clock, and each changing one
+/// that ticked, for its interval and each FMU with event mode for what follows, and puts the instant. Then it steps all
+/// instances until they stand at one point, at most at the next grid point, the next tick, the next event time or the stop:
+/// those with event mode go into Step Mode and behind the step into Event Mode, and the connected inputs of the others are set
+/// before it. It puts one piece for the header, one for each instant, and one for the end line, but behind a put that failed.
+/// Points and sizes of steps are counts over the plan's resolution.
 ///
 /// Each FMU counts by the plan's resolution, and the bound values are for parameters of the components. There is a slot for
 /// each component, in their order and of its shape; each instance was made, and is held in the state of its phase. The

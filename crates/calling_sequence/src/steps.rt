@@ -31,7 +31,7 @@ pub(crate) fn cross<R: Threads + Sync, L: Peer>(
     requires ready { Ready L.view experiment.now (IsSettled t) slots.old }
     requires timed { AreTimed experiment.now t (n + 1) false buffers.now }
     requires step { IsStep experiment.now.system experiment.now.plan
-        (timers_in buffers.now.schedule) t bound }
+        (timers_in buffers.now.schedule) buffers.now.schedule.events t bound }
     ensures later { IfOk result (λ agreed. t < agreed.point) }
     ensures within { IfOk result (λ agreed. agreed.point ≤ bound) }
     ensures ready { IfOk result (λ agreed.

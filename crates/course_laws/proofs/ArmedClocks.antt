@@ -1,6 +1,6 @@
--- Where a Clock is armed for the point of an instant behind it, it was armed in that instant: its FMU answered a new interval of no length (FMI 3.0, 2.2.9: countdown Clocks).
+-- Where a Clock is armed for the point of an instant behind it, it was armed in that instant: its FMU answered a new interval of no length (FMI 3.0, 2.2.9: countdown Clocks; a changing Clock has an interval of at least one count).
 use Rattle.std.proofs.Common.{◌≡◌, ◌⊎◌, inl, inr, ℕ, zero, suc, ◌+◌, ◌*◌, ◌/◌, ◌%◌, ◌<◌, ◌==◌, ℤ, Bool, true, false, List, [], ◌∷◌, Option, Some, None, Ok, Result, refl, sym, ap, ◌∙◌, subst, arith}
-use Rattle.std.specs.Prelude.{◌&&◌, ◌||◌, if◌then◌else◌}
+use Rattle.std.specs.Prelude.{◌&&◌, ◌||◌, ◌≤◌, if◌then◌else◌, nat_le}
 use Rattle.std.specs.List.{list_any, slice_get}
 use Rattle.std.specs.Option.{option_and_then, option_map_or}
 use Rattle.std.proofs.Math.Nat.{div-add-mod}
@@ -17,6 +17,7 @@ use Rattle.fmi_calls.specs.declared.call.Interval.{Interval}
 use Rattle.fmi_calls.specs.declared.call.Interval.TheVariants.{NotYetKnown, Unchanged, Changed}
 use Rattle.fmi_calls.specs.declared.call.Reply.{Reply}
 use Rattle.fmi_calls.specs.declared.call.Reply.TheVariants as R
+use Rattle.fmi_calls.specs.Worth.{has_counts, is_known_interval}
 use Rattle.fmu_peer.specs.declared.peer.Exchange.{Exchange}
 use Rattle.fmu_peer.specs.declared.peer.PeerFault.{PeerFault}
 use Rattle.fmu_peer.specs.Updates.{is_instant_interval}
@@ -25,14 +26,16 @@ use Rattle.system_model.specs.declared.system.Port.{Port}
 use Rattle.system_model.specs.declared.system.Role.{Role}
 use Rattle.system_model.specs.declared.system.Role.TheVariants.{TimeClock}
 use Rattle.system_model.specs.declared.system.System.{System}
-use Rattle.system_model.specs.declared.system.Timing.TheVariants.{Answered, Countdown}
+use Rattle.system_model.specs.declared.system.Timing.{Timing}
+use Rattle.system_model.specs.declared.system.Timing.TheVariants.{Answered, Changing, Countdown}
 use Rattle.system_model.specs.Ports.{is_clock_role, numbers}
 use Rattle.system_model.specs.Sound.{IsSound}
 use Rattle.system_model.proofs.CallerLemmas.{Placed, events_of, place_of}
 use Rattle.run_model.specs.Equations.{timer_of}
+use Rattle.run_model.specs.Initial.{interval_in}
 use Rattle.run_model.specs.Run.{Every, Never, Once, Timer}
 use Rattle.system_model.specs.Values.{value, is_active}
-use Rattle.run_model.specs.Timers.{IsDue, answered, armed_after, fixed, periodic_of}
+use Rattle.run_model.specs.Timers.{IsDue, answered, armed_after, fixed, periodic_of, rearmed}
 use Rattle.slot_calls.specs.Carried.{reply_in}
 use Rattle.slot_calls.specs.Log.{Sent, part}
 use Rattle.slot_calls.proofs.CallerLemmas.{part_append, part_own}
@@ -41,9 +44,9 @@ use Rattle.event_iteration.specs.Explains.{Explains, all_said, call_at, said}
 use Rattle.event_iteration.specs.Instants.{in_instant, takes_in_instant, tick_value}
 use Rattle.event_iteration.specs.Intervals.{Rearms, asks_interval, first_told, first_told_by, first_told_in, interval_by, intervals, is_some_armed, log_behind, shift_by, timer_behind, timers_behind_from}
 use Rattle.event_iteration.specs.Settings.{port_order}
-use Rattle.event_iteration.specs.Turns.{sent_of}
+use Rattle.event_iteration.specs.Turns.{IsPaired, sent_of}
 use Rattle.event_iteration.specs.WalkCalls.{has_events_at}
-use Rattle.event_iteration.proofs.ByLog.{port_number}
+use Rattle.event_iteration.proofs.ByLog.{changing_interval, in_order, port_number}
 
 abbrev arms_by : Call → Result Reply PeerFault → Bool
 arms_by (C.GetInterval reference) result = is_instant_interval result
@@ -59,15 +62,19 @@ pub record IsArmed (system : System) (log : List Sent) : Type 0 where
   pub event : has_events_at system component ≡ true
   pub arms : list_any is_arming (part component log) ≡ true
 
--- timers that are armed are those of countdown Clocks
+-- a countdown Clock or a changing one
+abbrev pub IsArmable : Role → Type 0
+IsArmable role = (role ≡ TimeClock Countdown) ⊎ (role ≡ TimeClock Changing)
+
+-- timers that are armed are those of such Clocks
 abbrev pub AreArmable : System → List Timer → Type 0
-AreArmable system timers = (p : ℕ) (port : Port) (point : ℕ) → slice_get system.ports p ≡ Some port → slice_get timers p ≡ Some (Once point) → port.role ≡ TimeClock Countdown
+AreArmable system timers = (p : ℕ) (port : Port) (point : ℕ) → slice_get system.ports p ≡ Some port → slice_get timers p ≡ Some (Once point) → IsArmable port.role
 
 -- what was armed for the point is over with its tick
 abbrev pub AreTaken : System → ℕ → List (Option ℤ) → List Timer → Type 0
-AreTaken system t values timers = (p : ℕ) (port : Port) → slice_get system.ports p ≡ Some port → port.role ≡ TimeClock Countdown → slice_get timers p ≡ Some (Once t) → is_active (value values p) ≡ true
+AreTaken system t values timers = (p : ℕ) (port : Port) → slice_get system.ports p ≡ Some port → IsArmable port.role → slice_get timers p ≡ Some (Once t) → is_active (value values p) ≡ true
 
--- ---- before the first instant none is armed
+-- ---- before the first instant a changing Clock alone is armed
 
 periodic_not : (i s : Option ℕ) (point : ℕ) → periodic_of i s ≡ Once point → ⊥
 periodic_not (Some interval) (Some shift) point h = absurd (cc)
@@ -79,30 +86,37 @@ fixed_not per_second NotYetKnown s point h = absurd (cc)
 fixed_not per_second (Unchanged f) s point h = periodic_not (counts_of f per_second) (counts_of s per_second) point h
 fixed_not per_second (Changed f) s point h = periodic_not (counts_of f per_second) (counts_of s per_second) point h
 
-told_not : (role : Role) (per_second : ℕ) (log : List Sent) (point : ℕ) → first_told_by role per_second log ≡ Once point → ⊥
-told_not (TimeClock Answered) per_second (interval ∷ (shift ∷ log)) point h = fixed_not per_second (interval_by (reply_in interval.exchange)) (shift_by (reply_in shift.exchange)) point h
-told_not (TimeClock Answered) per_second (interval ∷ []) point h = absurd (cc)
-told_not (TimeClock Answered) per_second [] point h = absurd (cc)
-told_not role per_second log point h = absurd (cc)
+told_armable : (role : Role) (per_second start : ℕ) (log : List Sent) (point : ℕ) → first_told_by role per_second start log ≡ Once point → IsArmable role
+told_armable (TimeClock Answered) per_second start (interval ∷ (shift ∷ log)) point h = absurd (fixed_not per_second (interval_by (reply_in interval.exchange)) (shift_by (reply_in shift.exchange)) point h)
+told_armable (TimeClock Answered) per_second start (interval ∷ []) point h = absurd (cc)
+told_armable (TimeClock Answered) per_second start [] point h = absurd (cc)
+told_armable (TimeClock Changing) per_second start log point h = inr refl
+told_armable role per_second start log point h = absurd (cc)
 
-first_not : (per_second : ℕ) (ports : List Port) (log : List Sent) (p point : ℕ) → slice_get (first_told_in per_second ports log) p ≡ Some (Once point) → ⊥
-first_not per_second [] log p point h = absurd (cc)
-first_not per_second (port ∷ ports) log zero point h = told_not port.role per_second log point (same_Some _ _ h)
-first_not per_second (port ∷ ports) log (suc p) point h = first_not per_second ports (log_behind port.role log) p point h
+armable_in : (per_second start : ℕ) (ports : List Port) (log : List Sent) (p point : ℕ) (port : Port) → slice_get ports p ≡ Some port → slice_get (first_told_in per_second start ports log) p ≡ Some (Once point) → IsArmable port.role
+armable_in per_second start [] log p point port is h = absurd (cc)
+armable_in per_second start (x ∷ ports) log zero point port is h = subst (λ (y : Port). IsArmable y.role) (same_Some _ _ is) (told_armable x.role per_second start log point (same_Some _ _ h))
+armable_in per_second start (x ∷ ports) log (suc p) point port is h = armable_in per_second start ports (log_behind x.role log) p point port is h
 
-pub first_armable : (system : System) (per_second : ℕ) (log : List Sent) → AreArmable system (first_told per_second system log)
-first_armable system per_second log p port point at_port at = absurd (first_not per_second system.ports log p point at)
+pub first_armable : (system : System) (per_second start : ℕ) (log : List Sent) → AreArmable system (first_told per_second start system log)
+first_armable system per_second start log p port point at_port at = armable_in per_second start system.ports log p point port at_port at
 
 -- ---- in an instant
 
 pub instant_takes : (system : System) (sound : IsSound system) (start t n : ℕ) (timers : List Timer) (ticks : ℕ → Bool) (before values : List (Option ℤ)) (log : List Sent) → AreTicks system start timers t n ticks →
     Explains system (in_instant ticks (n == 0)) before (numbers system.instant_order) values log → AreTaken system t values timers
-instant_takes system sound start t n timers ticks before values log are explains p port at role armed =
-    let due : timer_of timers p ≡ Once t = get_or_from_slice_get timers p (Once t) Never armed in
-    let ticked : ticks p ≡ true = (are p port Countdown at role).1 (subst (λ (x : Timer). IsDue start x t n) (sym due) refl) in
-    ap is_active
-    (explains.taken_values p port at (sound.instant_order.each p (slice_get_within system.ports p port at))
-    ∙ ap (λ (r : Role). takes_in_instant r port (ticks p) values (value before p) (explains.replies p)) role ∙ ap (λ (b : Bool). Some (tick_value b)) ticked)
+instant_takes system sound start t n timers ticks before values log are explains p port at sort armed = by sort where
+  by_timing : (timing : Timing) → port.role ≡ TimeClock timing → is_active (value values p) ≡ true
+  by_timing timing role =
+      let due : timer_of timers p ≡ Once t = get_or_from_slice_get timers p (Once t) Never armed in
+      let ticked : ticks p ≡ true = (are p port timing at role).1 (subst (λ (x : Timer). IsDue start x t n) (sym due) refl) in
+      ap is_active
+      (explains.taken_values p port at (sound.instant_order.each p (slice_get_within system.ports p port at))
+      ∙ ap (λ (r : Role). takes_in_instant r port (ticks p) values (value before p) (explains.replies p)) role ∙ ap (λ (b : Bool). Some (tick_value b)) ticked)
+
+  by : IsArmable port.role → is_active (value values p) ≡ true
+  by (inl role) = by_timing Countdown role
+  by (inr role) = by_timing Changing role
 
 -- ---- numbers
 
@@ -140,9 +154,25 @@ some_once t (Once point ∷ timers) h = by (point == t) refl h (some_once t time
   by true same h more = (0, ap (λ (x : ℕ). Some (Once x)) (is_equal point t same))
   by false other h more = let m = more h in (suc m.0, m.1)
 
-countdown_or : (role : Role) (per_second t : ℕ) (v : Option ℤ) (reply : Option Reply) (timer old : Timer) → timer ≡ timer_behind role per_second t v reply old → (role ≡ TimeClock Countdown) ⊎ (timer ≡ old)
-countdown_or (TimeClock Countdown) per_second t v reply timer old h = inl refl
-countdown_or role per_second t v reply timer old h = inr h
+armable_or : (role : Role) (per_second t : ℕ) (v : Option ℤ) (reply : Option Reply) (timer old : Timer) → timer ≡ timer_behind role per_second t v reply old → IsArmable role ⊎ (timer ≡ old)
+armable_or (TimeClock Countdown) per_second t v reply timer old h = inl (inl refl)
+armable_or (TimeClock Changing) per_second t v reply timer old h = inl (inr refl)
+armable_or role per_second t v reply timer old h = inr h
+
+-- no interval of at least one count arms a Clock for the point
+no_length : (per_second t : ℕ) (f : Fraction) → has_counts 1 f per_second ≡ true → Once t ≡ armed_after t (counts_of f per_second) → ⊥
+no_length per_second t f known h = by (counts_of f per_second) known h where
+  by : (o : Option ℕ) → option_map_or (λ n. nat_le 1 n) o false ≡ true → Once t ≡ armed_after t o → ⊥
+  by None known h = cc
+  by (Some c) known h =
+      let e : t ≡ t + c = cc in
+      let above : 1 ≤ c = grind (arith, nat_tests) in
+      omega (arith, e, above)
+
+never_rearmed : (per_second t : ℕ) (i : Interval) → is_known_interval i per_second ≡ true → Once t ≡ rearmed per_second t i → ⊥
+never_rearmed per_second t NotYetKnown known h = cc
+never_rearmed per_second t (Unchanged f) known h = no_length per_second t f known h
+never_rearmed per_second t (Changed f) known h = no_length per_second t f known h
 
 module _ (system : System) (sound : IsSound system) (per_second t : ℕ) (values : List (Option ℤ)) (olds news : List Timer) (log : List Sent) (rearms : Rearms system per_second t values olds news log) (armable : AreArmable system olds) where
   abbrev replies : ℕ → Option Reply
@@ -179,27 +209,27 @@ module _ (system : System) (sound : IsSound system) (per_second t : ℕ) (values
   here_behind : (p : ℕ) (timer : Timer) → slice_get news p ≡ Some timer → IsBehind 0 system.ports olds p timer
   here_behind p timer at = behind_at 0 system.ports olds p timer (ap (λ (l : List Timer). slice_get l p) (sym rearms.timers_are) ∙ at)
 
-  is_countdown : (p point : ℕ) (b : IsBehind 0 system.ports olds p (Once point)) → b.port.role ≡ TimeClock Countdown
-  is_countdown p point b = by (countdown_or b.port.role per_second t (value values (0 + p)) (replies (0 + p)) (Once point) b.old b.is) where
-    by : (b.port.role ≡ TimeClock Countdown) ⊎ (Once point ≡ b.old) → b.port.role ≡ TimeClock Countdown
+  is_armable : (p point : ℕ) (b : IsBehind 0 system.ports olds p (Once point)) → IsArmable b.port.role
+  is_armable p point b = by (armable_or b.port.role per_second t (value values (0 + p)) (replies (0 + p)) (Once point) b.old b.is) where
+    by : IsArmable b.port.role ⊎ (Once point ≡ b.old) → IsArmable b.port.role
     by (inl is) = is
     by (inr same) = armable p b.port point b.port_at (b.old_at ∙ ap Some (sym same))
 
   pub rearmed_armable : AreArmable system news
   rearmed_armable p port point at_port at =
       let b = here_behind p (Once point) at in
-      ap (λ (x : Port). x.role) (same_Some _ _ (sym at_port ∙ b.port_at)) ∙ is_countdown p point b
+      subst (λ (x : Port). IsArmable x.role) (same_Some _ _ (sym b.port_at ∙ at_port)) (is_armable p point b)
 
   -- what is said for one of the ports is among what is said for all
-  among : (f : Exchange → Bool) (i : ℕ) (order : List ℕ) (j p : ℕ) → slice_get order j ≡ Some p → list_any f (part i (said system intervals values replies p)) ≡ true → list_any f (part i (all_said system intervals values replies order)) ≡ true
+  among : (f : Exchange → Bool) (i : ℕ) (order : List ℕ) (j p : ℕ) → slice_get order j ≡ Some p → list_any f (part i (said system (intervals values) values replies p)) ≡ true → list_any f (part i (all_said system (intervals values) values replies order)) ≡ true
   among f i [] j p at h = absurd (cc)
   among f i (q ∷ order) zero p at h =
-      let a = said system intervals values replies q in
-      let b = all_said system intervals values replies order in
-      ap (list_any f) (part_append i a b) ∙ list_any-append f (part i a) (part i b) ∙ or_left _ _ (ap (λ (x : ℕ). list_any f (part i (said system intervals values replies x))) (same_Some q p at) ∙ h)
+      let a = said system (intervals values) values replies q in
+      let b = all_said system (intervals values) values replies order in
+      ap (list_any f) (part_append i a b) ∙ list_any-append f (part i a) (part i b) ∙ or_left _ _ (ap (λ (x : ℕ). list_any f (part i (said system (intervals values) values replies x))) (same_Some q p at) ∙ h)
   among f i (q ∷ order) (suc j) p at h =
-      let a = said system intervals values replies q in
-      let b = all_said system intervals values replies order in
+      let a = said system (intervals values) values replies q in
+      let b = all_said system (intervals values) values replies order in
       ap (list_any f) (part_append i a b) ∙ list_any-append f (part i a) (part i b) ∙ or_right _ _ (among f i order j p at h)
 
   module _ (above : (i : ℕ) (c : Component) → slice_get system.components i ≡ Some c → 0 < per_second) (taken : AreTaken system t values olds) (p : ℕ) (port : Port) (at : slice_get system.ports p ≡ Some port) (role : port.role ≡ TimeClock Countdown) where
@@ -209,10 +239,10 @@ module _ (system : System) (sound : IsSound system) (per_second t : ℕ) (values
     event : has_events_at system port.component.0 ≡ true
     event = ap (λ (o : Option Component). option_map_or (λ (c : Component). c.shape.has_event_mode) o false) placed.is.of ∙ events_of system p port placed (ap is_clock_role role)
 
-    said_here : (reply : Reply) → replies p ≡ Some reply → said system intervals values replies p ≡ record { component = port.component.0; exchange = record { call = C.GetInterval port.reference; result = Ok reply } } ∷ []
+    said_here : (reply : Reply) → replies p ≡ Some reply → said system (intervals values) values replies p ≡ record { component = port.component.0; exchange = record { call = C.GetInterval port.reference; result = Ok reply } } ∷ []
     said_here reply is =
-        ap (λ o. option_map_or (λ (x : Port). sent_of x.component.0 (call_at system intervals values p x) (replies p)) o []) at
-        ∙ ap (λ call. sent_of port.component.0 call (replies p)) (ap (λ o. option_and_then (λ (x : Component). asks_interval port.role port) o) placed.is.of ∙ ap (λ r. asks_interval r port) role)
+        ap (λ o. option_map_or (λ (x : Port). sent_of x.component.0 (call_at system (intervals values) values p x) (replies p)) o []) at
+        ∙ ap (λ call. sent_of port.component.0 call (replies p)) (ap (λ o. option_and_then (λ (x : Component). asks_interval port.role port (value values p)) o) placed.is.of ∙ ap (λ r. asks_interval r port (value values p)) role)
         ∙ ap (λ o. sent_of port.component.0 (Some (C.GetInterval port.reference)) o) is
 
     told_here : (f : Fraction) → interval_by (replies p) ≡ Changed f → f.counter ≡ 0 → IsArmed system log
@@ -220,7 +250,7 @@ module _ (system : System) (sound : IsSound system) (per_second t : ℕ) (values
         let told = interval_told (replies p) f is in
         let e : Exchange = record { call = C.GetInterval port.reference; result = Ok (R.Done told.0 (A.GetInterval (Changed f))) } in
         let i = port.component.0 in
-        let here : list_any is_arming (part i (said system intervals values replies p)) ≡ true =
+        let here : list_any is_arming (part i (said system (intervals values) values replies p)) ≡ true =
         ap (λ (l : List Sent). list_any is_arming (part i l)) (said_here (R.Done told.0 (A.GetInterval (Changed f))) told.1) ∙ ap (list_any is_arming) (part_own i e) ∙ or_left (f.counter == 0) false (let zero : (f.counter == 0) ≡ true = grind (arith, nat_tests, none) in zero) in
         record {
           component = i;
@@ -236,20 +266,44 @@ module _ (system : System) (sound : IsSound system) (per_second t : ℕ) (values
 
     by_old : (b : Bool) → is_active (value values p) ≡ b → (old : Timer) → slice_get olds p ≡ Some old → Once t ≡ (if b then Never else old) → IsArmed system log
     by_old true active old old_at h = absurd (cc)
-    by_old false active old old_at h = absurd (let wrong : true ≡ false = sym (taken p port at role (old_at ∙ ap Some (sym h))) ∙ active in cc)
+    by_old false active old old_at h = absurd (let wrong : true ≡ false = sym (taken p port at (inl role) (old_at ∙ ap Some (sym h))) ∙ active in cc)
 
     by_interval : (i : Interval) → interval_by (replies p) ≡ i → (old : Timer) → slice_get olds p ≡ Some old → Once t ≡ answered per_second t i (if is_active (value values p) then Never else old) → IsArmed system log
     by_interval NotYetKnown is old old_at h = absurd (cc)
     by_interval (Unchanged f) is old old_at h = by_old (is_active (value values p)) refl old old_at h
     by_interval (Changed f) is old old_at h = by_counts f is (counts_of f per_second) refl h
 
-  pub rearmed_armed : ((i : ℕ) (c : Component) → slice_get system.components i ≡ Some c → 0 < per_second) → AreTaken system t values olds → is_some_armed t news ≡ true → IsArmed system log
-  rearmed_armed above taken h =
+  -- a changing Clock is armed for the point neither by its tick nor without one
+  module _ (counts : (i : ℕ) (c : Component) → slice_get system.components i ≡ Some c → c.shape.resolution ≡ per_second) (taken : AreTaken system t values olds) (p : ℕ) (port : Port) (at : slice_get system.ports p ≡ Some port) (role : port.role ≡ TimeClock Changing) where
+    changing_placed : Placed system p port
+    changing_placed = place_of system sound p port at
+
+    asks_when : (b : Bool) → is_active (value values p) ≡ b → asks_interval port.role port (value values p) ≡ (if b then Some (C.GetInterval port.reference) else None)
+    asks_when b active = ap (λ r. asks_interval r port (value values p)) role ∙ ap (λ (x : Bool). if x then Some (C.GetInterval port.reference) else None) active
+
+    by_reply : (o : Option Reply) → IsPaired changing_placed.component.shape (Some (C.GetInterval port.reference)) o → Once t ≡ rearmed per_second t (interval_by o) → ⊥
+    by_reply None paired h = paired
+    by_reply (Some reply) good h =
+        never_rearmed per_second t (interval_in reply) (changing_interval system p port changing_placed per_second (counts port.component.0 changing_placed.component changing_placed.is.of) role reply good) h
+
+    by_tick : (b : Bool) → is_active (value values p) ≡ b → (old : Timer) → slice_get olds p ≡ Some old → Once t ≡ (if b then rearmed per_second t (interval_by (replies p)) else old) → ⊥
+    by_tick false active old old_at h = let wrong : true ≡ false = sym (taken p port at (inr role) (old_at ∙ ap Some (sym h))) ∙ active in cc
+    by_tick true active old old_at h =
+        let among_order = (in_order system).each p (slice_get_within system.ports p port at) in
+        by_reply (replies p) (subst (λ (o : Option Call). IsPaired changing_placed.component.shape o (replies p)) (asks_when true active) (rearms.explains.paired p port changing_placed.component at changing_placed.is.of among_order)) h
+
+  timer_here : (p : ℕ) (b : IsBehind 0 system.ports olds p (Once t)) (r : Role) → b.port.role ≡ r → Once t ≡ timer_behind r per_second t (value values p) (replies p) b.old
+  timer_here p b r role = subst (λ (x : Role). Once t ≡ timer_behind x per_second t (value values p) (replies p) b.old) role
+      (subst (λ (q : ℕ). Once t ≡ timer_behind b.port.role per_second t (value values q) (replies q) b.old) (let e : 0 + p ≡ p = omega arith in e) b.is)
+
+  armed_by : ((i : ℕ) (c : Component) → slice_get system.components i ≡ Some c → 0 < per_second) → ((i : ℕ) (c : Component) → slice_get system.components i ≡ Some c → c.shape.resolution ≡ per_second) → AreTaken system t values olds → (p : ℕ) (b : IsBehind 0 system.ports olds p (Once t)) →
+      IsArmable b.port.role → IsArmed system log
+  armed_by above counts taken p b (inl role) = by_interval above taken p b.port b.port_at role (interval_by (replies p)) refl b.old b.old_at (timer_here p b (TimeClock Countdown) role)
+  armed_by above counts taken p b (inr role) = absurd (by_tick counts taken p b.port b.port_at role (is_active (value values p)) refl b.old b.old_at (timer_here p b (TimeClock Changing) role))
+
+  pub rearmed_armed : ((i : ℕ) (c : Component) → slice_get system.components i ≡ Some c → 0 < per_second) → ((i : ℕ) (c : Component) → slice_get system.components i ≡ Some c → c.shape.resolution ≡ per_second) → AreTaken system t values olds → is_some_armed t news ≡ true →
+      IsArmed system log
+  rearmed_armed above counts taken h =
       let some = some_once t news h in
-      let p = some.0 in
-      let b = here_behind p (Once t) some.1 in
-      let role = is_countdown p t b in
-      let is : Once t ≡ timer_behind (TimeClock Countdown) per_second t (value values p) (replies p) b.old =
-      subst (λ (r : Role). Once t ≡ timer_behind r per_second t (value values p) (replies p) b.old) role
-      (subst (λ (q : ℕ). Once t ≡ timer_behind b.port.role per_second t (value values q) (replies q) b.old) (let e : 0 + p ≡ p = omega arith in e) b.is) in
-      by_interval above taken p b.port b.port_at role (interval_by (replies p)) refl b.old b.old_at is
+      let b = here_behind some.0 (Once t) some.1 in
+      armed_by above counts taken some.0 b (is_armable some.0 t b)

@@ -330,7 +330,7 @@ module _ (system : System) (sound : IsSound system) (k : ℕ) (c : Component) (o
         to_all l (limit_behind e plan (Timed timers)) calls so C.ExitInitialization refl (differ_by l C.ExitInitialization refl refl) refl (NamesNone refl refl tt) tt refl
     adds (Before s ticks) calls later so = λ log walks.
         named (limit_at e (Before s ticks)) (instant_span (s.n == 0) e.events) calls (mine log) so (omega arith) (instant_on (s.n == 0) e.events) (uses.instant ticks (s.n == 0) _ log walks k)
-    adds (Read s) calls later so = λ log walks. let r = read_asked (s.n == 0) e.events in named (limit_at e (Read s)) (interval_span e.events) calls (mine log) so r.0 r.1 (uses.interval _ log walks k)
+    adds (Read s) calls later so = λ log walks. let r = read_asked (s.n == 0) e.events in named (limit_at e (Read s)) (interval_span e.events) calls (mine log) so r.0 r.1 (uses.interval s.values _ log walks k)
     adds (Rearmed s) calls later so =
         let l = limit_at e (Rearmed s) in
         let m = limit_behind e plan (Rearmed s) in

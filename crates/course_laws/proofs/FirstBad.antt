@@ -18,7 +18,7 @@ use Rattle.system_model.specs.declared.system.Port.{Port}
 use Rattle.system_model.specs.declared.system.Role.{Role}
 use Rattle.system_model.specs.declared.system.Role.TheVariants.{TimeClock}
 use Rattle.system_model.specs.declared.system.System.{System}
-use Rattle.system_model.specs.declared.system.Timing.TheVariants.{Answered}
+use Rattle.system_model.specs.declared.system.Timing.TheVariants.{Answered, Changing}
 use Rattle.system_model.specs.Bounds.{AreParameterValues, BindsParameters}
 use Rattle.system_model.specs.Sound.{IsSound}
 use Rattle.system_model.specs.Text.{Instant}
@@ -57,6 +57,7 @@ module _ (n : ℕ) where
   binding_to_one i (values ∷ lists) w = All-append (IsToOne n) (sets_of i values) (binding_from (i + 1) lists) (sets_to_one i values (omega (arith, w))) (binding_to_one (i + 1) lists (omega (arith, w)))
 
   timing_to_one : (role : Role) (port : Port) → port.component.0 < n → All (IsToOne n) (timing_calls_of role port)
+  timing_to_one (TimeClock Changing) port w = All-cons (IsToOne n) (record { component = port.component.0; call = C.GetShift port.reference }) [] w (All-nil (IsToOne n))
   timing_to_one (TimeClock Answered) port w =
       All-cons (IsToOne n) (record { component = port.component.0; call = C.GetInterval port.reference }) (record { component = port.component.0; call = C.GetShift port.reference } ∷ []) w
       (All-cons (IsToOne n) (record { component = port.component.0; call = C.GetShift port.reference }) [] w (All-nil (IsToOne n)))

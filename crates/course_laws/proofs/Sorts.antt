@@ -139,7 +139,7 @@ module _ (system : System) (sound : IsSound system) (bound : Bound) (plan : Plan
   sorts_are Found = λ i. name_ports _ _ (uses.timing i)
   sorts_are (Timed timers) = those system (IsOf (Only K.ExitInitialization)) _ _ (λ s. refl)
   sorts_are (Before s ticks) = walk_sort _ _ _ (instant_span (s.n == 0)) (uses.instant ticks (s.n == 0))
-  sorts_are (Read s) = walk_sort _ _ _ interval_span uses.interval
+  sorts_are (Read s) = walk_sort _ _ _ interval_span (uses.interval s.values)
   sorts_are (Rearmed s) = those system (IsOf (Only K.Update)) _ _ (λ s. refl)
   sorts_are (Seen s again asked) = λ i. All-nil (IsOf Uses)
   sorts_are (Leaving w) = those system (IsOf (Only K.EnterStep)) _ _ (λ s. refl)

@@ -118,8 +118,11 @@ module _ (system : System) (sound : IsSound system) (bound : Bound) (plan : Plan
       let its = all_at (λ (x : Component). x.shape.resolution ≡ sound.components.per_second) system.components i c sound.components.resolutions of in
       subst (λ (x : ℕ). 0 < x) (sym its ∙ mine) sound.components.above
 
+  counting : (i : ℕ) (c : Component) → slice_get system.components i ≡ Some c → c.shape.resolution ≡ plan.resolution
+  counting i c of = all_at (λ (x : Component). x.shape.resolution ≡ plan.resolution) system.components i c counts of
+
   timers_on : (p q : Place) (values : List (Option ℤ)) (more : List Sent) → Does system (part_at system bound plan p) values more → LeadsTo system plan p values more q → TimersAt p → TimersAt q
-  timers_on _ _ _ _ does (Times values log timers is) at = subst (AreArmable system) (sym is) (first_armable system plan.resolution log)
+  timers_on _ _ _ _ does (Times values log timers is) at = subst (AreArmable system) (sym is) (first_armable system plan.resolution plan.start log)
   timers_on _ _ _ _ does (Exits timers values log s ticks is begins) at = (subst (λ (z : Spot). AreArmable system z.timers) (sym is) at, begins.are_ticks)
   timers_on _ _ _ _ does (Reads s ticks values log places) at = (at.0, instant_takes system sound plan.start s.t s.n s.timers ticks s.values values log at.1 does)
   timers_on _ _ _ _ does (Rearming s values next log rearms) at = rearmed_armable system sound plan.resolution s.t s.values s.timers next log rearms at.0
@@ -166,9 +169,9 @@ module _ (system : System) (sound : IsSound system) (bound : Bound) (plan : Plan
     on _ _ _ _ timers a does all (Reads s ticks values log places) = onward (Before s ticks) (Read (record s { values = values })) log all a (λ is. asked_on (Before s ticks) log all a (a.besides is))
     on _ _ _ _ timers a does all (Rearming s values next log rearms) = onward (Read s) (Rearmed (record s { timers = next })) log all a (
       λ is. asked_on (Read s) log all a (a.besides is),
-      λ some. let x = rearmed_armed system sound plan.resolution s.t s.values s.timers next log rearms timers.0 above timers.1 some in arm system front log x.component x.event all x.arms,
+      λ some. let x = rearmed_armed system sound plan.resolution s.t s.values s.timers next log rearms timers.0 above counting timers.1 some in arm system front log x.component x.event all x.arms,
     )
-    on _ _ _ _ timers a does all (Updates s values log again asked again_is asked_is) = record {
+    on _ _ _ _ timers a does all (Updates s values log events again asked events_are again_is asked_is) = record {
       m = suc a.m;
       flag = true;
       talks = updated system front log a.m a.flag a.talks does.calls_are a.besides.0;

@@ -97,8 +97,8 @@ module _ (t : List Node) (per_second : ℕ) (sound : IsSoundDescription t per_se
   may_tick k v.Fixed timed is = surely_input (causality_of t k) (λ other. sound r.ClockCausality k (timed, inl ((v.Fixed, is, λ e. cc), other)))
   may_tick k v.Countdown timed is = surely_input (causality_of t k) (λ other. sound r.ClockCausality k (timed, inl ((v.Countdown, is, λ e. cc), other)))
   may_tick k v.Triggered timed is = surely_port (causality_of t k) (λ no_input no_output. sound r.ClockCausality k (timed, inr (is, no_input, no_output)))
-  may_tick k v.Tunable timed is = sound r.LeftOut k (timed, inl is)
-  may_tick k v.Changing timed is = sound r.LeftOut k (timed, inr is)
+  may_tick k v.Changing timed is = surely_input (causality_of t k) (λ other. sound r.ClockCausality k (timed, inl ((v.Changing, is, λ e. cc), other)))
+  may_tick k v.Tunable timed is = sound r.LeftOut k (timed, is)
 
   -- ---- event mode, which a Clock asks for
 
@@ -157,18 +157,22 @@ module _ (t : List Node) (per_second : ℕ) (sound : IsSoundDescription t per_se
   are_told k None shift timed needs told beside = absurd (sound r.NoInterval k (timed, needs, has_none k timed told))
   are_told k (Some f) shift timed needs told beside = (refl, ap is_some beside.1)
 
-  whole_interval : (k : ℕ) (interval : Option Fraction) → IsTimed t k → IsTold (IsInterval t k) interval → IfSome interval (λ (f : Fraction). (0 < f.counter) × IsInCounts per_second f)
-  whole_interval k None timed told = tt
-  whole_interval k (Some f) timed told = (
-    above_zero f.counter (λ zero. sound r.Uneven k (timed, (f, told, inl zero))),
-    surely_whole per_second f (λ uneven. sound r.Uneven k (timed, (f, told, inr (inl uneven)))),
+  -- whether the interval and the shift that the element has are used
+  abbrev IsUsed : ℕ → Type 0
+  IsUsed k = variability_of t k ≡ Some v.Changing → ⊥
+
+  whole_interval : (k : ℕ) (interval : Option Fraction) → IsTimed t k → IsUsed k → IsTold (IsInterval t k) interval → IfSome interval (λ (f : Fraction). (0 < f.counter) × IsInCounts per_second f)
+  whole_interval k None timed used told = tt
+  whole_interval k (Some f) timed used told = (
+    above_zero f.counter (λ zero. sound r.Uneven k (timed, (used, (f, told, inl zero)))),
+    surely_whole per_second f (λ uneven. sound r.Uneven k (timed, (used, (f, told, inr (inl uneven))))),
   )
 
-  whole_shift : (k : ℕ) (interval shift : Option Fraction) → IsTimed t k → IsTold (IsInterval t k) interval → IsShiftTold t k interval shift → IfSome shift (IsInCounts per_second)
-  whole_shift k None shift timed told none = subst (λ (o : Option Fraction). IfSome o (IsInCounts per_second)) (sym none) tt
-  whole_shift k (Some f) shift timed told beside =
+  whole_shift : (k : ℕ) (interval shift : Option Fraction) → IsTimed t k → IsUsed k → IsTold (IsInterval t k) interval → IsShiftTold t k interval shift → IfSome shift (IsInCounts per_second)
+  whole_shift k None shift timed used told none = subst (λ (o : Option Fraction). IfSome o (IsInCounts per_second)) (sym none) tt
+  whole_shift k (Some f) shift timed used told beside =
       subst (λ (o : Option Fraction). IfSome o (IsInCounts per_second)) (sym beside.1)
-      (surely_whole per_second beside.0 (λ uneven. sound r.Uneven k (timed, (f, told, inr (inr (beside.0, beside.2, uneven))))))
+      (surely_whole per_second beside.0 (λ uneven. sound r.Uneven k (timed, (used, (f, told, inr (inr (beside.0, beside.2, uneven)))))))
 
   module _ (shape : Shape) (describes : Describes t per_second shape) where
     -- the element of a Clock: it isn't local, and the causality is its own
@@ -207,8 +211,8 @@ module _ (t : List Node) (per_second : ℕ) (sound : IsSoundDescription t per_se
       causality = subst (MayTick timing.variability) (sym is.causality) (may_tick k timing.variability is.timed says.variability);
       described = λ described. are_told k timing.interval timing.shift is.timed
           (needs k timing.variability says.variability (ap (is_described timing.variability) (sym says.fraction) ∙ described)) says.interval says.shift;
-      interval = subst (λ (n : ℕ). IfSome timing.interval (λ (f : Fraction). (0 < f.counter) × IsInCounts n f)) (sym describes.resolution) (whole_interval k timing.interval is.timed says.interval);
-      shift = subst (λ (n : ℕ). IfSome timing.shift (IsInCounts n)) (sym describes.resolution) (whole_shift k timing.interval timing.shift is.timed says.interval says.shift);
+      interval = λ other. subst (λ (n : ℕ). IfSome timing.interval (λ (f : Fraction). (0 < f.counter) × IsInCounts n f)) (sym describes.resolution) (whole_interval k timing.interval is.timed (used other) says.interval);
+      shift = λ other. subst (λ (n : ℕ). IfSome timing.shift (IsInCounts n)) (sym describes.resolution) (whole_shift k timing.interval timing.shift is.timed (used other) says.interval says.shift);
     }
       where
         k : ℕ
@@ -219,6 +223,9 @@ module _ (t : List Node) (per_second : ℕ) (sound : IsSoundDescription t per_se
 
         says : IsTiming t k timing
         says = subst (λ (n : ℕ). IsTiming t n timing) (one_variable t (per_second, sound) x.reference of.0 k of.1 is.key) of.2
+
+        used : timing.variability ≢ v.Changing → IsUsed k
+        used other changing = other (same_Some timing.variability v.Changing (sym says.variability ∙ changing))
 
     pub clocks_sound : AllZip (IsSoundClock shape) (filter is_clock shape.variables) shape.clocks
     clocks_sound =

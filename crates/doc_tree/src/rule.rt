@@ -53,7 +53,7 @@ pub enum DescriptionRule {
     NoVariable,
     /// 22: states are serialized that can't be saved
     SerializesUnsaved,
-    /// 23: a clock is tunable or changing
+    /// 23: a Clock is tunable
     LeftOut,
     /// 24: there is a Clock without event mode
     ClockWithoutEvents,

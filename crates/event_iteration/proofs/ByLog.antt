@@ -22,6 +22,7 @@ use Rattle.event_iteration.specs.Explains.{Explains}
 use Rattle.event_iteration.specs.Initialization.{initially, no_values}
 use Rattle.event_iteration.specs.Instants.{in_instant}
 use Rattle.event_iteration.specs.Settings.{port_order}
+pub use Rattle.event_iteration.proofs.Answering.{changing_interval}
 pub use Rattle.event_iteration.proofs.Clockless.{unclocked_parts}
 pub use Rattle.event_iteration.proofs.ClockTicks.{are_ticks}
 use Rattle.event_iteration.proofs.Departing.{departs_by}
@@ -31,10 +32,10 @@ use Rattle.event_iteration.proofs.FindingInInstant as T
 use Rattle.event_iteration.proofs.FindingInInstant.{solves, states_are}
 pub use Rattle.event_iteration.proofs.Fmus.{each_many, each_same, fmu_on, got, part_all}
 pub use Rattle.event_iteration.proofs.Permits.{fed_fits, shape_of_component, value_type}
-pub use Rattle.event_iteration.proofs.Setting.{asked_before_step, port_number}
+pub use Rattle.event_iteration.proofs.Setting.{asked_before_step, in_order, port_number}
 pub use Rattle.event_iteration.proofs.Stages.{AreAll, IsRead, all_on, configured_all, each_each, fmu_of, initialized_all, initializing_all, made_all, reads_part, reads_stay, replies_first, replies_then, stage_any, stage_states, stage_well, states_all, states_on, updated_all, written_all}
-pub use Rattle.event_iteration.proofs.Timing.{IsTimingOf, asked_interval, first_timers_are, fixed_read, intervals_read, next_timers_are, timings_are, timings_read}
-use Rattle.event_iteration.proofs.Updating.{any_is, states_updated}
+pub use Rattle.event_iteration.proofs.Timing.{IsAsked, IsQuestionOf, IsTimingOf, asked_interval, first_timers_are, fixed_read, intervals_read, next_timers_are, timings_are, timings_read}
+use Rattle.event_iteration.proofs.Updating.{any_is, events_are, states_updated}
 pub use Rattle.event_iteration.proofs.WalkAnswers.{last_alone_is_bad}
 pub use Rattle.event_iteration.proofs.WalkOnce.{Differ, each_call_once, own_append, seen_behind, twice_on, use_kept, use_stays}
 use Rattle.event_iteration.proofs.WalksBack.{finding_back, instant_back, setting_back, walked_to}
@@ -97,12 +98,12 @@ instant_by_log r s ticks values log sound machines situation are_ticks places to
 pub intervals_by_log : IntervalsByLog
 intervals_by_log r s values next log sound machines situation rearms replies =
     let all = written_all r machines s situation values in
-    (reads_stay r (written r s values) all log (intervals_read r.system values values (port_order r.system) log rearms.explains), next_timers_are r sound s values all next log rearms replies)
+    (reads_stay r (written r s values) all log (intervals_read r.system values values values (port_order r.system) log rearms.explains), next_timers_are r sound s values all next log rearms replies)
 
 pub updates_by_log : UpdatesByLog
 updates_by_log r s values log machines situation answered replies =
     let all = written_all r machines s situation values in
-    (states_updated r s values log answered, any_is r s values log answered all replies asks_again, any_is r s values log answered all replies asks_for_end)
+    (states_updated r s values log answered, any_is r s values log answered all replies asks_again, any_is r s values log answered all replies asks_for_end, events_are r s values log answered all replies)
 
 pub sets_by_log : SetsByLog
 sets_by_log r s values log sound len told =

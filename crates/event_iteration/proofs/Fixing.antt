@@ -1,16 +1,18 @@
--- The questions of fixed Clocks, port by port.
+-- The questions of fixed and changing Clocks, port by port.
 use Rattle.std.proofs.Common.{◌≡◌, inl, inr, ℕ, ◌+◌, ◌<◌, ◌≤◌, true, false, List, [], ◌∷◌, ◌++◌, Some, None, Ok, Err, refl, sym, ap, ap₂, ◌∙◌, subst, append_assoc, append-nil, arith, length, map, take, drop}
 use Rattle.std.specs.Prelude.{option_map, slice_get}
 use Rattle.std.proofs.lemmas.Bool.{cases_lt}
 use Rattle.std.proofs.lemmas.List.{length-map, take-append-drop, take_all, take_more}
 use Rattle.std.proofs.lemmas.Option.{get_or_from_slice_get, same_Some, slice_get-map, slice_get_within}
+use Rattle.clock_fraction.specs.Counts.{counts_of}
 use Rattle.value_types.specs.declared.shape.Shape.{Shape}
 use Rattle.fmi_calls.specs.declared.call.Call.TheVariants as C
 use Rattle.fmi_calls.specs.declared.call.Reply.{Reply}
 use Rattle.fmu_peer.specs.CloseAll.{Instance}
 use Rattle.system_model.specs.declared.system.Role.{Role}
 use Rattle.system_model.specs.declared.system.Role.TheVariants.{TimeClock}
-use Rattle.system_model.specs.declared.system.Timing.TheVariants.{Periodic, Answered, Countdown}
+use Rattle.system_model.specs.declared.system.Timing.TheVariants.{Periodic, Answered, Countdown, Changing}
+use Rattle.system_model.specs.declared.system.Component.{Component}
 use Rattle.system_model.specs.declared.system.Port.{Port}
 use Rattle.system_model.specs.declared.system.System.{System}
 use Rattle.system_model.proofs.CallerLemmas.{all_by_place, true_false}
@@ -19,14 +21,14 @@ use Rattle.tick_schedule.specs.declared.clock.ClockState.TheVariants as S
 use Rattle.tick_schedule.specs.Timetable.{Timetable}
 use Rattle.run_model.specs.Initial.{interval_in, shift_in}
 use Rattle.run_model.specs.Run.{Timer, Never, Every}
-use Rattle.run_model.specs.Timers.{fixed}
+use Rattle.run_model.specs.Timers.{armed_after, fixed}
 use Rattle.slot_calls.specs.declared.bad_answer.BadAnswer.{BadAnswer}
 use Rattle.slot_calls.specs.Log.{Asking, Sent, Told, askings}
 use Rattle.slot_calls.specs.Stage.{IsAnswered, Stage, StopsAt, shapes, shapes_of}
 use Rattle.slot_calls.proofs.CallerLemmas.{answered_none, answered_on, shapes_same, stops_front, stops_on, told_none, told_on}
 use Rattle.event_iteration.specs.Clocks.{IsNextFrom, StandsAt, first_place, first_table, timer_in, timers_in}
-use Rattle.event_iteration.specs.Intervals.{Fixes, first_told_by, first_told_in, log_behind, timing_calls, timing_calls_in, timing_calls_of, told_timer}
-use Rattle.event_iteration.specs.Questions.{FixSays, FixesPort, IsEntered, IsFirstPlace, IsFixed, IsFixedUpTo, first_reply, is_asked, modes}
+use Rattle.event_iteration.specs.Intervals.{Fixes, first_told_by, first_told_in, log_behind, shifted_timer, timing_calls, timing_calls_in, timing_calls_of, told_timer}
+use Rattle.event_iteration.specs.Questions.{FixSays, FixesPort, IsEntered, IsFirstPlace, IsFixed, IsFixedUpTo, IsShifted, first_reply, is_asked, is_changing, modes}
 use Rattle.event_iteration.proofs.Answering.{one_answer}
 use Rattle.event_iteration.proofs.Fmus.{got}
 use Rattle.event_iteration.proofs.Places.{beside_now, many_now, place_now, set_same, timers_now}
@@ -37,27 +39,29 @@ first_of : (start : ℕ) (role : Role) → is_asked role ≡ false → IsFirstPl
 first_of start (TimeClock Answered) none = absurd (true_false none)
 first_of start (TimeClock (Periodic interval shift)) none = record { of = (0, refl); next = (omega arith, λ k lt. absurd (omega (arith, lt))) }
 first_of start (TimeClock Countdown) none = record { of = (None, refl); next = tt }
+first_of start (TimeClock Changing) none = record { of = (None, refl); next = tt }
 first_of start role none = record { of = refl; next = tt }
 
-timer_of_first : (role : Role) (per_second : ℕ) → is_asked role ≡ false → timer_in (first_place role) ≡ first_told_by role per_second []
-timer_of_first (TimeClock Answered) per_second none = absurd (true_false none)
-timer_of_first role per_second none = refl
+timer_of_first : (role : Role) (per_second start : ℕ) → is_asked role ≡ false → timer_in (first_place role) ≡ first_told_by role per_second start []
+timer_of_first (TimeClock Answered) per_second start none = absurd (true_false none)
+timer_of_first role per_second start none = refl
 
-no_calls : (role : Role) (port : Port) → is_asked role ≡ false → timing_calls_of role port ≡ []
-no_calls (TimeClock Answered) port none = absurd (true_false none)
-no_calls role port none = refl
+no_calls : (role : Role) (port : Port) → is_asked role ≡ false → is_changing role ≡ false → timing_calls_of role port ≡ []
+no_calls (TimeClock Answered) port none unchanging = absurd (true_false none)
+no_calls (TimeClock Changing) port none unchanging = absurd (true_false unchanging)
+no_calls role port none unchanging = refl
 
 -- a port that isn't asked
-pub fixes_none : (port : Port) (per_second p : ℕ) (table : Timetable) (is : List Instance) → is_asked port.role ≡ false → slice_get table.clocks p ≡ Some (first_place port.role) → FixesPort port per_second p table table is is (Ok tt)
-fixes_none port per_second p table is none first = record {
+pub fixes_none : (port : Port) (per_second p : ℕ) (table : Timetable) (is : List Instance) → is_asked port.role ≡ false → is_changing port.role ≡ false → slice_get table.clocks p ≡ Some (first_place port.role) → FixesPort port per_second p table table is is (Ok tt)
+fixes_none port per_second p table is none unchanging first = record {
   log = [];
   told = told_none is;
   says = (
-    subst (λ (cs : List Asking). IsAnswered (shapes is) cs []) (sym (no_calls port.role port none)) (answered_none (shapes is)),
+    subst (λ (cs : List Asking). IsAnswered (shapes is) cs []) (sym (no_calls port.role port none unchanging)) (answered_none (shapes is)),
     record {
       place = first_place port.role;
       is = sym (ap (λ (cs : List ClockState). record table { clocks = cs }) (set_same table.clocks p (first_place port.role) first));
-      timer = timer_of_first port.role per_second none;
+      timer = timer_of_first port.role per_second table.start none;
       first = first_of table.start port.role none;
     },
   );
@@ -111,24 +115,53 @@ module _ (port : Port) (answered : port.role ≡ TimeClock Answered) (per_second
           );
         }
 
+-- a changing Clock
+module _ (port : Port) (changing : port.role ≡ TimeClock Changing) (per_second p : ℕ) (before after : Timetable) (olds news : List Instance) where
+  pub shift_cut : (bad : BadAnswer) → Stage (ask_shift port ∷ []) first_reply olds news (Err bad) → FixesPort port per_second p before after olds news (Err bad)
+  shift_cut bad stage = record {
+    log = stage.log;
+    told = stage.told;
+    says = subst (λ (r : Role). StopsAt (shapes olds) (timing_calls_of r port) bad stage.log) (sym changing) stage.says;
+  }
+
+  pub shift_entered : (shift : Reply) → Stage (ask_shift port ∷ []) first_reply olds news (Ok (Some shift)) → (shape : Shape) → slice_get (shapes olds) port.component.0 ≡ Some shape →
+      IsShifted p (armed_after before.start (counts_of (shift_in shift) per_second)) before after → FixesPort port per_second p before after olds news (Ok tt)
+  shift_entered shift stage shape at shifted =
+      let a = one_answer (shapes olds) port.component.0 (C.GetShift port.reference) shape shift stage.log at stage.says.0 stage.says.1 in
+      record {
+        log = stage.log;
+        told = stage.told;
+        says = subst (λ (r : Role). FixSays r port per_second p (shapes olds) stage.log before after (Ok tt)) (sym changing) (
+          stage.says.0,
+          record {
+            place = S.Countdown (Some (before.start + shifted.shift));
+            is = shifted.is;
+            timer = sym shifted.timer_is ∙ sym (ap (shifted_timer per_second before.start) a.is);
+            first = record { of = (Some (before.start + shifted.shift), refl); next = omega arith };
+          },
+        );
+      }
+
 -- ---- the calls and the timers of several ports
 
 calls_append : (xs ys : List Port) → timing_calls_in (xs ++ ys) ≡ timing_calls_in xs ++ timing_calls_in ys
 calls_append [] ys = refl
 calls_append (x ∷ xs) ys = ap (λ cs. timing_calls_of x.role x ++ cs) (calls_append xs ys) ∙ sym (append_assoc (timing_calls_of x.role x) (timing_calls_in xs) (timing_calls_in ys))
 
-told_append : (per_second : ℕ) (xs ys : List Port) (log more : List Sent) → askings log ≡ timing_calls_in xs →
-    first_told_in per_second (xs ++ ys) (log ++ more) ≡ first_told_in per_second xs log ++ first_told_in per_second ys more
-told_append per_second [] ys [] more is = refl
-told_append per_second [] ys (s ∷ log) more is = absurd (cc)
-told_append per_second (x ∷ xs) ys log more is = by x.role log is (λ rest rest_is. told_append per_second xs ys rest more rest_is)
+told_append : (per_second start : ℕ) (xs ys : List Port) (log more : List Sent) → askings log ≡ timing_calls_in xs →
+    first_told_in per_second start (xs ++ ys) (log ++ more) ≡ first_told_in per_second start xs log ++ first_told_in per_second start ys more
+told_append per_second start [] ys [] more is = refl
+told_append per_second start [] ys (s ∷ log) more is = absurd (cc)
+told_append per_second start (x ∷ xs) ys log more is = by x.role log is (λ rest rest_is. told_append per_second start xs ys rest more rest_is)
   where
     by : (role : Role) (some : List Sent) → askings some ≡ timing_calls_of role x ++ timing_calls_in xs →
-        ((rest : List Sent) → askings rest ≡ timing_calls_in xs → first_told_in per_second (xs ++ ys) (rest ++ more) ≡ first_told_in per_second xs rest ++ first_told_in per_second ys more) →
-        first_told_by role per_second (some ++ more) ∷ first_told_in per_second (xs ++ ys) (log_behind role (some ++ more)) ≡ first_told_by role per_second some ∷ (first_told_in per_second xs (log_behind role some) ++ first_told_in per_second ys more)
+        ((rest : List Sent) → askings rest ≡ timing_calls_in xs → first_told_in per_second start (xs ++ ys) (rest ++ more) ≡ first_told_in per_second start xs rest ++ first_told_in per_second start ys more) →
+        first_told_by role per_second start (some ++ more) ∷ first_told_in per_second start (xs ++ ys) (log_behind role (some ++ more)) ≡ first_told_by role per_second start some ∷ (first_told_in per_second start xs (log_behind role some) ++ first_told_in per_second start ys more)
     by (TimeClock Answered) [] e on = absurd (cc)
     by (TimeClock Answered) (a ∷ []) e on = absurd (cc)
     by (TimeClock Answered) (a ∷ b ∷ rest) e on = ap (λ ts. told_timer per_second (a ∷ b ∷ rest) ∷ ts) (on rest (cc))
+    by (TimeClock Changing) [] e on = absurd (cc)
+    by (TimeClock Changing) (a ∷ rest) e on = ap (λ ts. shifted_timer per_second start (a ∷ rest) ∷ ts) (on rest (cc))
     by (TimeClock (Periodic interval shift)) some e on = ap (λ ts. Every interval shift ∷ ts) (on some e)
     by role some e on = ap (λ ts. Never ∷ ts) (on some e)
 
@@ -141,8 +174,9 @@ pub record Fixing (system : System) (per_second k : ℕ) (first table : Timetabl
   pub modes_are : modes mids ≡ modes olds
   pub start : table.start ≡ first.start
   pub stop : table.stop ≡ first.stop
+  pub events : table.events ≡ first.events
   pub fixed : IsFixedUpTo system k table
-  pub timers : take k (timers_in table) ≡ first_told_in per_second (take k system.ports) log
+  pub timers : take k (timers_in table) ≡ first_told_in per_second first.start (take k system.ports) log
 
 pub fixing_none : (system : System) (per_second : ℕ) (table : Timetable) (is : List Instance) → table ≡ first_table system table.start table.stop → Fixing system per_second 0 table table is is
 fixing_none system per_second table is first =
@@ -154,6 +188,7 @@ fixing_none system per_second table is first =
       modes_are = refl;
       start = refl;
       stop = refl;
+      events = refl;
       fixed = record {
         len = ap length places ∙ length-map system.ports (λ (port : Port). first_place port.role);
         behind = λ q port place lt. absurd (omega (arith, lt));
@@ -180,7 +215,7 @@ module _ (system : System) (per_second k : ℕ) (port : Port) (is : slice_get sy
     shapes_mid = shapes_same front.log olds mids front.told ∙ alike
 
     -- up to a bad answer
-    pub fixing_until : (bad : BadAnswer) → FixesPort port per_second k table next mids news (Err bad) → Fixes system per_second (timers_in next) olds news (Err bad)
+    pub fixing_until : (bad : BadAnswer) → FixesPort port per_second k table next mids news (Err bad) → Fixes system per_second first.start (timers_in next) olds news (Err bad)
     fixing_until bad turn = record {
       log = front.log ++ turn.log;
       told = told_on olds mids news front.log turn.log front.told turn.told;
@@ -228,9 +263,10 @@ module _ (system : System) (per_second k : ℕ) (port : Port) (is : slice_get sy
         modes_are = modes_same ∙ front.modes_are;
         start = start_is ∙ front.start;
         stop = ap (λ (x : Timetable). x.stop) done.is ∙ front.stop;
+        events = ap (λ (x : Timetable). x.events) done.is ∙ front.events;
         fixed = fixed_more;
-        timers = timers_now table next k done.place in_clocks done.is ∙ ap₂ (λ ts (t : Timer). ts ++ t ∷ []) front.timers done.timer
-            ∙ sym (ap (λ ps. first_told_in per_second ps (front.log ++ turn.log)) more_ports ∙ told_append per_second (take k system.ports) (port ∷ []) front.log turn.log front.answered.calls_are);
+        timers = timers_now table next k done.place in_clocks done.is ∙ ap₂ (λ ts (t : Timer). ts ++ t ∷ []) front.timers (done.timer ∙ ap (λ n. first_told_by port.role per_second n turn.log) front.start)
+            ∙ sym (ap (λ ps. first_told_in per_second first.start ps (front.log ++ turn.log)) more_ports ∙ told_append per_second first.start (take k system.ports) (port ∷ []) front.log turn.log front.answered.calls_are);
       }
 
 -- ---- all of them
@@ -242,19 +278,20 @@ module _ (system : System) (per_second k : ℕ) (first table : Timetable) (olds 
   ports_whole : take k system.ports ≡ system.ports
   ports_whole = take_all k system.ports whole
 
-  pub fixing_all : Fixes system per_second (timers_in table) olds mids (Ok tt)
+  pub fixing_all : Fixes system per_second first.start (timers_in table) olds mids (Ok tt)
   fixing_all = record {
     log = all.log;
     told = all.told;
     says = (
       subst (λ (ps : List Port). IsAnswered (shapes_of system) (timing_calls_in ps) all.log) ports_whole all.answered,
-      sym timers_whole ∙ all.timers ∙ ap (λ (ps : List Port). first_told_in per_second ps all.log) ports_whole,
+      sym timers_whole ∙ all.timers ∙ ap (λ (ps : List Port). first_told_in per_second first.start ps all.log) ports_whole,
     );
   }
 
-  pub fixing_stands : first.start ≤ first.stop → StandsAt system first.start true table
-  fixing_stands run = record {
+  pub fixing_stands : first ≡ first_table system first.start first.stop → first.start ≤ first.stop → StandsAt system first.start true table
+  fixing_stands first_is run = record {
     len = all.fixed.len;
+    components = ap length all.events ∙ ap (λ (x : Timetable). length x.events) first_is ∙ length-map system.components (λ (c : Component). None);
     places = λ p port place at at_place. (all.fixed.behind p port place (let w = slice_get_within system.ports p port at in let n = whole in omega (arith, w, n)) at at_place).of;
     next = all_by_place (IsNextFrom table.start first.start true) table.clocks (λ q place at_place.
         let w = slice_get_within table.clocks q place at_place in

@@ -1,10 +1,11 @@
 -- The walk through an instant: each call of it is permitted, and each value is one of its port's type.
-use Rattle.std.proofs.Common.{◌≡◌, ◌⊎◌, inl, inr, ℕ, ◌<◌, ℤ, pos, Bool, true, false, not, List, [], ◌∷◌, ◌++◌, Option, Some, None, Err, Contains, refl, sym, ap, ◌∙◌, subst, length, get_or, Result, Ok}
+use Rattle.std.proofs.Common.{◌≡◌, ◌⊎◌, inl, inr, ℕ, ◌<◌, ℤ, pos, Bool, true, false, not, List, [], ◌∷◌, ◌++◌, Option, Some, None, Err, Contains, refl, sym, ap, ◌∙◌, subst, append-nil, arith, length, get_or, Result, Ok}
 use Rattle.std.specs.Prelude.{All, IfSome, ◌&&◌, ◌||◌, ◌==◌, if◌then◌else◌, is_some, option_map, slice_get}
 use Rattle.std.specs.List.{list_any}
 use Rattle.std.specs.Ordering.{int_eq}
 use Rattle.std.proofs.lemmas.Bool.{eq-eqb}
 use Rattle.std.proofs.lemmas.Bool.Decides.{Decides-int_eq}
+use Rattle.std.proofs.lemmas.List.{length-map}
 use Rattle.std.proofs.lemmas.Option.{same_Some, slice_get-map, slice_get_within}
 use Rattle.sim_base.specs.declared.numbers.PortId.{PortId}
 use Rattle.value_types.specs.Shape.{is_at, is_clock, is_clock_type, is_input, is_output, is_unclocked as has_no_clocks, variable_at}
@@ -48,9 +49,10 @@ use Rattle.slot_calls.specs.Log.{Sent, Told, part}
 use Rattle.slot_calls.specs.Stage.{shapes, shapes_of}
 use Rattle.slot_calls.proofs.CallerLemmas.{shapes_same, part_append}
 use Rattle.event_iteration.specs.Instants.{BeginsInstant, HasPlacedClocks, asks_in_instant, in_instant, seen_or, takes_in_instant}
+use Rattle.event_iteration.specs.Questions.{AreActive, InstanceMode, mode_of, modes}
 use Rattle.event_iteration.specs.Turns.{IsPaired, MayAsk, MayTurn, TakesTurn, Turn, Walked, Stops, TurnSays}
 use Rattle.event_iteration.proofs.Activity.{active_by, active_by-append, active_keeps, any_from, any_some, length-active, marked_here, talks_active}
-use Rattle.event_iteration.proofs.Fmus.{exchanges_of, part_own_of}
+use Rattle.event_iteration.proofs.Fmus.{exchanges_of, got, part_own_of}
 use Rattle.event_iteration.proofs.Marks.{unmarked}
 use Rattle.event_iteration.proofs.Permits.{at_under, fed_fits, input_there, no_clocks_there, placed, readable, under, writable}
 use Rattle.event_iteration.proofs.Turning.{AsksBy, Gets, IsCallOf, Sets, TakesFitting, Ticks, Touches, all_was, behind, calls_of, fits_along, quiet_behind, read_alone, shape_here, shape_was, talks_here}
@@ -231,8 +233,8 @@ module _ (shape : Shape) (port : Port) (v : Variable) (active : List Bool) (ther
 
 module _ (system : System) (sound : IsSound system) (ticks : ℕ → Bool) (is_first : Bool) where
   -- the Clocks of an FMU that were taken and are active are so behind its part of the log
-  abbrev pub AreActive : List ℕ → List (Option ℤ) → List Sent → Type 0
-  AreActive taken values log = (i : ℕ) (c : Component) → slice_get system.components i ≡ Some c → (active : List Bool) → length active ≡ length c.shape.variables →
+  abbrev pub AreMarked : List ℕ → List (Option ℤ) → List Sent → Type 0
+  AreMarked taken values log = (i : ℕ) (c : Component) → slice_get system.components i ≡ Some c → (active : List Bool) → length active ≡ length c.shape.variables →
       (q : ℕ) (port : Port) → Contains taken q → slice_get system.ports q ≡ Some port → port.component.0 ≡ i → is_clock_role port.role ≡ true → is_active (value values q) ≡ true →
       is_marked c.shape (active_by c.shape active (part i log)) port.reference ≡ true
 
@@ -253,8 +255,8 @@ module _ (system : System) (sound : IsSound system) (ticks : ℕ → Bool) (is_f
       (kind_of_clock system p turn.port (place_of system sound p turn.port turn.is) clock)
       turn.port.role clock shape.has_event_mode is_first (ticks p) values (value values p) reply turn.paired h
 
-  active_more : (pre : List ℕ) (p : ℕ) (reply : Option Reply) (values next : List (Option ℤ)) (front sent : List Sent) → Here (Needs system) pre p → length values ≡ length system.ports → AreActive pre values front →
-      Turn system (in_instant ticks is_first) p reply values next sent → AreActive (pre ++ p ∷ []) next (front ++ sent)
+  active_more : (pre : List ℕ) (p : ℕ) (reply : Option Reply) (values next : List (Option ℤ)) (front sent : List Sent) → Here (Needs system) pre p → length values ≡ length system.ports → AreMarked pre values front →
+      Turn system (in_instant ticks is_first) p reply values next sent → AreMarked (pre ++ p ∷ []) next (front ++ sent)
   active_more pre p reply values next front sent here len was turn i c of active room q port among is at clock h = by_number q p
       (λ same.
       let port_is : turn.port ≡ port = same_Some _ _ (sym turn.is ∙ ap (slice_get system.ports) (sym same) ∙ is) in
@@ -274,9 +276,9 @@ module _ (system : System) (sound : IsSound system) (ticks : ℕ → Bool) (is_f
       (was i c of active room q port old is at clock (ap is_active (sym (next_beside turn q other)) ∙ h)))
 
   pub active_along : (before : List (Option ℤ)) → length before ≡ length system.ports → (taken rest : List ℕ) (values : List (Option ℤ)) (log : List Sent) → numbers system.instant_order ≡ taken ++ rest →
-      Walked system (in_instant ticks is_first) before taken values log → AreActive taken values log
+      Walked system (in_instant ticks is_first) before taken values log → AreMarked taken values log
   active_along before len taken rest values log is walked =
-      (along (λ q. q < length system.ports) (Needs system) system (in_instant ticks is_first) before (numbers system.instant_order) sound.instant_order len AreActive
+      (along (λ q. q < length system.ports) (Needs system) system (in_instant ticks is_first) before (numbers system.instant_order) sound.instant_order len AreMarked
       (λ i c of active room q port among. absurd (none_in q among)) active_more taken rest values log is walked).1
 
 -- ---- permission
@@ -286,7 +288,7 @@ record IsMidway (events : Bool) (port : Port) (values : List (Option ℤ)) (v : 
   state : v.phase.state ≡ (if events then P.Event else P.Step)
   unmarked : is_marked v.fixed.shape v.phase.marks port.reference ≡ false
   none : events ≡ false → none_marked v.phase.marks ≡ true
-  present : is_clock_role port.role ≡ false → is_present port values ≡ true → is_at (May.is_present v.fixed.shape v.phase.active) v.fixed.shape.variables port.reference ≡ true
+  present : is_clock_role port.role ≡ false → is_present port values ≡ true → is_at (May.is_accessible v.fixed.shape v.phase.active) v.fixed.shape.variables port.reference ≡ true
 
 module _ (system : System) (sound : IsSound system) (values : List (Option ℤ)) (fits : AreFitting system values) (p : ℕ) (port : Port) (is : slice_get system.ports p ≡ Some port) (v : View)
     (c : Component) (of : slice_get system.components port.component.0 ≡ Some c) (shape : v.fixed.shape ≡ c.shape) (midway : IsMidway c.shape.has_event_mode port values v) where
@@ -309,7 +311,7 @@ module _ (system : System) (sound : IsSound system) (values : List (Option ℤ))
   may_write : (feed : Feed) → port.role ≡ Input (Some feed) → c.shape.has_event_mode ≡ true → is_present port values ≡ true → (x : ℤ) → Fits port.kind x → Permitted v.fixed.shape v.phase (C.Set port.kind port.reference x)
   may_write feed input e present x fit = (
     ap (λ (s : InstanceState). can_be_set s v.fixed.shape v.phase.marks v.phase.active port.reference) (state_is true e)
-        ∙ ap (λ b. b && is_at (May.is_present v.fixed.shape v.phase.active) v.fixed.shape.variables port.reference && not (is_marked v.fixed.shape v.phase.marks port.reference))
+        ∙ ap (λ b. b && is_at (May.is_accessible v.fixed.shape v.phase.active) v.fixed.shape.variables port.reference && not (is_marked v.fixed.shape v.phase.marks port.reference))
         (input_there system sound p port is c of v.fixed.shape shape (ap is_output_role input))
         ∙ ap (λ b. b && not (is_marked v.fixed.shape v.phase.marks port.reference)) (midway.present (ap is_clock_role input) present) ∙ ap not midway.unmarked,
     writable system sound p port is c of v.fixed.shape shape (ap is_clock_role input),
@@ -372,9 +374,9 @@ module _ (system : System) (sound : IsSound system) (pre : List ℕ) (p : ℕ) (
       ∙ any_from (is_marked c.shape active) there.variable.clocks clock.clock.reference clock.named
       (are one.1.0 clock.clock (here.needed one.1.0 (ByClock port is among)) clock.is clock.component clock.role one.3)
 
-  present_there : is_clock_role port.role ≡ false → is_present port values ≡ true → is_at (May.is_present c.shape active) c.shape.variables port.reference ≡ true
+  present_there : is_clock_role port.role ≡ false → is_present port values ≡ true → is_at (May.is_accessible c.shape active) c.shape.variables port.reference ≡ true
   present_there plain present =
-      at_under system sound p port is c of c.shape refl (May.is_present c.shape active)
+      at_under system sound p port is c of c.shape refl (May.is_accessible c.shape active)
       (by (length port.clocks == 0) refl (ap (λ b. b || length port.clocks == 0 || list_any (λ (k : PortId). is_active (value values k.0)) port.clocks) (sym plain) ∙ present))
     where
       or_right : (a b : Bool) → b ≡ true → (a || b) ≡ true
@@ -382,7 +384,7 @@ module _ (system : System) (sound : IsSound system) (pre : List ℕ) (p : ℕ) (
       or_right false b e = e
 
       by : (b : Bool) → (length port.clocks == 0) ≡ b → (b || list_any (λ (k : PortId). is_active (value values k.0)) port.clocks) ≡ true →
-          May.is_present c.shape active (placed system sound p port is c of c.shape refl).variable ≡ true
+          May.is_accessible c.shape active (placed system sound p port is c of c.shape refl).variable ≡ true
       by true none h =
           ap (λ b. b || list_any (is_marked c.shape active) (placed system sound p port is c of c.shape refl).variable.clocks) (no_clocks_there system sound p port is c of c.shape refl none)
       by false some h =
@@ -426,8 +428,8 @@ module _ (system : System) (sound : IsSound system) (ticks : ℕ → Bool) (is_f
           unmarked = ap (λ (s : Shape). is_marked s x.view.phase.marks port.reference) shape ∙ beside.1 ∙ unmarked c.shape old.view.phase.marks port.reference began.unset;
           none = λ none. ap none_marked (read_alone ReadsOrSets system sound taken log calls olds mids told same port.component.0 c of x at (λ d q call sort its. gets_alone c d q call none sort its)) ∙ began.unset;
           present = λ plain present.
-              ap (λ (s : Shape). is_at (May.is_present s x.view.phase.active) s.variables port.reference) shape
-              ∙ ap (λ xs. is_at (May.is_present c.shape xs) c.shape.variables port.reference) active
+              ap (λ (s : Shape). is_at (May.is_accessible s x.view.phase.active) s.variables port.reference) shape
+              ∙ ap (λ xs. is_at (May.is_accessible c.shape xs) c.shape.variables port.reference) active
               ∙ present_there system sound taken p now values port is c of (active_by c.shape old.view.phase.active (part port.component.0 log))
               (λ q clock among there beside role one.
               active_along system sound ticks is_first before len taken (p ∷ rest) values log order_is walked port.component.0 c of old.view.phase.active room q clock among there beside role one)
@@ -437,6 +439,24 @@ module _ (system : System) (sound : IsSound system) (ticks : ℕ → Bool) (is_f
     pub may_turn : MayTurn system (in_instant ticks is_first) p values mids
     may_turn port c x is of at =
         may_ask system sound values fits_now p port is x.view c of (shape_here system olds mids log told same port.component.0 c of x at) (midway port c x is of at) ticks is_first _ refl
+
+  -- behind the whole walk the Clocks that are active in the values are so in their FMUs
+  pub active_at_end : numbers system.instant_order ≡ taken → AreActive system values (modes mids)
+  active_at_end whole q port c mode is of at clock one =
+      let there = got mids port.component.0 (let w = slice_get_within (modes mids) port.component.0 mode at in let e = length-map mids mode_of in omega (arith, w, e)) in
+      let x = there.0 in
+      let own : mode ≡ mode_of x = same_Some _ _ (sym at ∙ slice_get-map mode_of mids port.component.0 ∙ ap (option_map mode_of) there.1) in
+      let old = get_or olds port.component.0 x in
+      let was = shape_was system olds mids log told same port.component.0 c of x there.1 in
+      let began : BeginsInstant old.view = all_was system olds mids log told same port.component.0 c of x there.1 (λ (y : Instance). BeginsInstant y.view) begins in
+      let active : x.view.phase.active ≡ active_by c.shape old.view.phase.active (part port.component.0 log) =
+      talks_active c.shape old.view x.view (part port.component.0 log) was (talks_here system olds mids log told same port.component.0 c of x there.1)
+      (quiet_behind ReadsOrSets system sound taken log calls olds mids told same port.component.0 c of x there.1 touches) in
+      let room : length old.view.phase.active ≡ length c.shape.variables = began.room ∙ ap (λ (s : Shape). length s.variables) was in
+      let among : Contains taken q = subst (λ (order : List ℕ). Contains order q) whole (sound.instant_order.each q (slice_get_within system.ports q port is)) in
+      ap (λ (m : InstanceMode). is_marked c.shape m.active port.reference) own
+      ∙ ap (λ (xs : List Bool). is_marked c.shape xs port.reference) active
+      ∙ active_along system sound ticks is_first before len taken [] values log (whole ∙ sym (append-nil taken)) walked port.component.0 c of old.view.phase.active room q port among is refl clock one
 
   pub fits_until : {p : ℕ} {next : List (Option ℤ)} {news : List Instance} {bad : BadAnswer} → TakesTurn system (in_instant ticks is_first) p values next mids news (Err bad) → AreFitting system next
   fits_until turn = subst (AreFitting system) (sym turn.says.2) fits_now

@@ -16,11 +16,13 @@ pub mod WalkAnswers
 pub mod Timing
 pub mod Departing
 pub mod Updating
+pub mod EventTimes
 pub mod ByLog
 pub mod Asking
 pub mod Answering
 pub mod Places
 pub mod Fixing
+pub mod AskedClocks
 pub mod Rearming
 pub mod OverMachines
 pub mod ClockTicks

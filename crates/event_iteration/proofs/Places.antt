@@ -12,17 +12,17 @@ use Rattle.fmi_calls.specs.declared.call.Interval.TheVariants.{NotYetKnown, Unch
 use Rattle.fmi_calls.specs.declared.call.Reply.{Reply}
 use Rattle.system_model.specs.declared.system.Role.{Role}
 use Rattle.system_model.specs.declared.system.Role.TheVariants.{TimeClock}
-use Rattle.system_model.specs.declared.system.Timing.TheVariants.{Periodic, Answered, Countdown}
+use Rattle.system_model.specs.declared.system.Timing.TheVariants.{Periodic, Answered, Countdown, Changing}
 use Rattle.system_model.proofs.CallerLemmas.{true_false}
 use Rattle.tick_schedule.specs.declared.clock.ClockState.{ClockState}
 use Rattle.tick_schedule.specs.declared.clock.ClockState.TheVariants as S
 use Rattle.tick_schedule.specs.Timetable.{HasNext, IsCountdown, IsToTick, Timetable, with_clock}
 use Rattle.system_model.specs.Values.{is_active}
 use Rattle.run_model.specs.Run.{Never, Every}
-use Rattle.run_model.specs.Timers.{answered, armed_after, is_armed_for}
+use Rattle.run_model.specs.Timers.{answered, armed_after, is_armed_for, rearmed as run_rearmed}
 use Rattle.event_iteration.specs.Clocks.{IsNextFrom, IsPlaceOf, is_due_in, timer_in, timers_in}
 use Rattle.event_iteration.specs.Intervals.{interval_by, is_time_clock, timer_behind}
-use Rattle.event_iteration.specs.Questions.{GoesFrom, IsArmed, IsBehind, arms_now, counts_down, place_behind, rearmed, ticked_if}
+use Rattle.event_iteration.specs.Questions.{GoesFrom, IsArmed, IsBehind, armed_anew, arms_now, counts_told, has_no_count, is_asked_after, place_behind, rearmed, ticked_if}
 use Rattle.event_iteration.proofs.ClockTicks.{tick_due}
 
 -- ---- lists
@@ -62,12 +62,22 @@ timer_rearmed per_second t NotYetKnown place = refl
 timer_rearmed per_second t (Unchanged f) place = refl
 timer_rearmed per_second t (Changed f) place = timer_armed t (counts_of f per_second)
 
+timer_anew : (per_second t : ℕ) (told : Interval) → timer_in (armed_anew per_second t told) ≡ run_rearmed per_second t told
+timer_anew per_second t NotYetKnown = refl
+timer_anew per_second t (Unchanged f) = timer_armed t (counts_of f per_second)
+timer_anew per_second t (Changed f) = timer_armed t (counts_of f per_second)
+
+timer_of_changing : (b : Bool) (per_second t : ℕ) (told : Interval) (place : ClockState) → timer_in (if b then armed_anew per_second t told else place) ≡ (if b then run_rearmed per_second t told else timer_in place)
+timer_of_changing true per_second t told place = timer_anew per_second t told
+timer_of_changing false per_second t told place = refl
+
 -- the timer behind an instant
 pub timer_of_place : (role : Role) (per_second t : ℕ) (v : Option ℤ) (reply : Option Reply) (place : ClockState) → IsPlaceOf role place →
     timer_in (place_behind role per_second t v (interval_by reply) place) ≡ timer_behind role per_second t v reply (timer_in place)
 timer_of_place (TimeClock Countdown) per_second t v reply place of =
     timer_rearmed per_second t (interval_by reply) (ticked_if (is_active v) place)
     ∙ ap (answered per_second t (interval_by reply)) (ap (λ (x : ClockState). timer_in (ticked_if (is_active v) x)) of.1 ∙ timer_taken (is_active v) of.0 ∙ sym (ap (λ (x : ClockState). if is_active v then Never else timer_in x) of.1))
+timer_of_place (TimeClock Changing) per_second t v reply place of = timer_of_changing (is_active v) per_second t (interval_by reply) place
 timer_of_place (TimeClock (Periodic interval shift)) per_second t v reply place of =
     ap (λ (x : ClockState). timer_in (ticked_if (is_active v) x)) of.1 ∙ timer_ticked (is_active v) interval shift of.0 ∙ sym (ap timer_in of.1)
 timer_of_place (TimeClock Answered) per_second t v reply place of =
@@ -89,11 +99,18 @@ countdown_rearmed per_second t NotYetKnown armed = (None, refl)
 countdown_rearmed per_second t (Unchanged f) armed = (armed, refl)
 countdown_rearmed per_second t (Changed f) armed = (option_map (λ counts. t + counts) (counts_of f per_second), refl)
 
+changing_behind : (b : Bool) (per_second t : ℕ) (told : Interval) (armed : Option ℕ) → (o : Option ℕ) × ((if b then armed_anew per_second t told else S.Countdown armed) ≡ S.Countdown o)
+changing_behind true per_second t told armed = (option_map (λ counts. t + counts) (counts_told per_second told), refl)
+changing_behind false per_second t told armed = (armed, refl)
+
 pub place_of_behind : (role : Role) (per_second t : ℕ) (v : Option ℤ) (told : Interval) (place : ClockState) → IsPlaceOf role place → IsPlaceOf role (place_behind role per_second t v told place)
 place_of_behind (TimeClock Countdown) per_second t v told place of =
     let ticked = countdown_ticked (is_active v) of.0 in
     let behind = countdown_rearmed per_second t told ticked.0 in
     (behind.0, ap (λ (x : ClockState). rearmed per_second t told (ticked_if (is_active v) x)) of.1 ∙ ap (rearmed per_second t told) ticked.1 ∙ behind.1)
+place_of_behind (TimeClock Changing) per_second t v told place of =
+    let behind = changing_behind (is_active v) per_second t told of.0 in
+    (behind.0, ap (λ (x : ClockState). if is_active v then armed_anew per_second t told else x) of.1 ∙ behind.1)
 place_of_behind (TimeClock (Periodic interval shift)) per_second t v told place of =
     let ticked = place_ticked (is_active v) interval shift of.0 in (ticked.0, ap (ticked_if (is_active v)) of.1 ∙ ticked.1)
 place_of_behind (TimeClock Answered) per_second t v told place of =
@@ -140,6 +157,13 @@ next_rearmed per_second start t NotYetKnown place next = tt
 next_rearmed per_second start t (Unchanged f) place next = next
 next_rearmed per_second start t (Changed f) place next = next_armed t (counts_of f per_second)
 
+next_anew : (per_second start t : ℕ) (told : Interval) → IsNextFrom start t false (armed_anew per_second t told)
+next_anew per_second start t told = next_armed t (counts_told per_second told)
+
+next_changing : (b : Bool) (per_second start t : ℕ) (told : Interval) (place : ClockState) → IsNextFrom start t false place → IsNextFrom start t false (if b then armed_anew per_second t told else place)
+next_changing true per_second start t told place next = next_anew per_second start t told
+next_changing false per_second start t told place next = next
+
 next_first : (start t : ℕ) (is_first : Bool) (armed : Option ℕ) → IsNextFrom start t is_first (S.Countdown armed) → IfSome armed (λ point. t ≤ point)
 next_first start t true armed next = next
 next_first start t false armed next = next
@@ -158,6 +182,9 @@ next_behind (TimeClock Countdown) per_second start t is_first v told place of po
     next_rearmed per_second start t told (ticked_if (is_active v) place)
     (subst (λ (x : ClockState). IsNextFrom start t false (ticked_if (is_active v) x)) (sym of.1)
     (next_countdown start t (is_active v) of.0 (next_first start t is_first of.0 (subst (IsNextFrom start t is_first) of.1 next))))
+next_behind (TimeClock Changing) per_second start t is_first v told place of positive next ticks =
+    next_changing (is_active v) per_second start t told place
+    (subst (λ (x : ClockState). IsNextFrom start t false x) (sym of.1) (next_first start t is_first of.0 (subst (IsNextFrom start t is_first) of.1 next)))
 next_behind (TimeClock (Periodic interval shift)) per_second start t is_first v told place of positive next ticks =
     subst (λ (x : ClockState). IsNextFrom start t false (ticked_if (is_active v) x)) (sym of.1)
     (next_periodic start t is_first (is_active v) interval shift of.0 positive (subst (IsNextFrom start t is_first) of.1 next) (ticks refl ∙ ap (is_due_in start t) of.1))
@@ -192,14 +219,23 @@ armed_now per_second start t NotYetKnown armed b due = refl
 armed_now per_second start t (Unchanged f) armed b due = unarmed_due start t armed b due
 armed_now per_second start t (Changed f) armed b due = now_armed t (counts_of f per_second)
 
--- what is told where the port doesn't count down, and where it does
-armed_else : (role : Role) (per_second t : ℕ) (v : Option ℤ) (told : Interval) (place : ClockState) → IsPlaceOf role place → counts_down role ≡ false → false ≡ is_armed_for t (timer_in (place_behind role per_second t v told place))
-armed_else (TimeClock Countdown) per_second t v told place of none = absurd (true_false none)
-armed_else (TimeClock (Periodic interval shift)) per_second t v told place of none =
+-- a changing Clock that doesn't tick isn't armed for the point
+unticked : (start t : ℕ) (b : Bool) (per_second : ℕ) (told : Interval) (armed : Option ℕ) → b ≡ false → b ≡ is_due_in start t (S.Countdown armed) → false ≡ is_armed_for t (timer_in (if b then armed_anew per_second t told else S.Countdown armed))
+unticked start t true per_second told armed none due = absurd (true_false none)
+unticked start t false per_second told None none due = refl
+unticked start t false per_second told (Some point) none due = due
+
+-- what is told where the port isn't asked, and where it is
+armed_else : (role : Role) (per_second start t : ℕ) (v : Option ℤ) (told : Interval) (place : ClockState) → IsPlaceOf role place → (is_time_clock role ≡ true → is_active v ≡ is_due_in start t place) → is_asked_after role v ≡ false → false ≡ is_armed_for t (timer_in (place_behind role per_second t v told place))
+armed_else (TimeClock Countdown) per_second start t v told place of ticks none = absurd (true_false none)
+armed_else (TimeClock Changing) per_second start t v told place of ticks none =
+    unticked start t (is_active v) per_second told of.0 none (ticks refl ∙ ap (is_due_in start t) of.1)
+    ∙ sym (ap (λ (x : ClockState). is_armed_for t (timer_in (if is_active v then armed_anew per_second t told else x))) of.1)
+armed_else (TimeClock (Periodic interval shift)) per_second start t v told place of ticks none =
     unarmed_periodic t (is_active v) interval shift of.0 ∙ sym (ap (λ (x : ClockState). is_armed_for t (timer_in (ticked_if (is_active v) x))) of.1)
-armed_else (TimeClock Answered) per_second t v told place of none =
+armed_else (TimeClock Answered) per_second start t v told place of ticks none =
     unarmed_periodic t (is_active v) of.0 of.1 of.2 ∙ sym (ap (λ (x : ClockState). is_armed_for t (timer_in (ticked_if (is_active v) x))) of.3)
-armed_else role per_second t v told place of none = sym (ap (λ (x : ClockState). is_armed_for t (timer_in x)) of)
+armed_else role per_second start t v told place of ticks none = sym (ap (λ (x : ClockState). is_armed_for t (timer_in x)) of)
 
 armed_down : (per_second start t : ℕ) (v : Option ℤ) (told : Interval) (place : ClockState) → IsPlaceOf (TimeClock Countdown) place → is_active v ≡ is_due_in start t place →
     arms_now per_second told ≡ is_armed_for t (timer_in (rearmed per_second t told (ticked_if (is_active v) place)))
@@ -274,17 +310,22 @@ module _ (table : Timetable) (role : Role) (per_second t p : ℕ) (v : Option �
       mid_there : slice_get mid.clocks p ≡ Some (ticked_if (is_active v) from.place)
       mid_there = there_now table mid p from.place _ from.is mid_is
 
-      -- one that doesn't count down
-      pub goes_periodic : counts_down role ≡ false → IsBehind role per_second t p v told table mid × IsArmed t p mid false
-      goes_periodic none = (
+      -- one that isn't asked
+      pub goes_unasked : is_asked_after role v ≡ false → IsBehind role per_second t p v told table mid × IsArmed t p mid false
+      goes_unasked none = (
         λ place is. ticked place is ∙ ap (with_clock table p) (sym (by role clock none place)),
         λ place is.
             let own : ticked_if (is_active v) from.place ≡ place = same_Some _ _ (sym mid_there ∙ is) in
-            armed_else role per_second t v told from.place from.of none ∙ ap (λ (x : ClockState). is_armed_for t (timer_in x)) (by role clock none from.place ∙ own),
+            armed_else role per_second table.start t v told from.place from.of from.ticks none ∙ ap (λ (x : ClockState). is_armed_for t (timer_in x)) (by role clock none from.place ∙ own),
       )
         where
-          by : (r : Role) → is_time_clock r ≡ true → counts_down r ≡ false → (place : ClockState) → place_behind r per_second t v told place ≡ ticked_if (is_active v) place
+          by : (r : Role) → is_time_clock r ≡ true → is_asked_after r v ≡ false → (place : ClockState) → place_behind r per_second t v told place ≡ ticked_if (is_active v) place
           by (TimeClock Countdown) h k place = absurd (true_false k)
+          by (TimeClock Changing) h k place = unticked_place (is_active v) k
+            where
+              unticked_place : (b : Bool) → b ≡ false → (if b then armed_anew per_second t told else place) ≡ ticked_if b place
+              unticked_place true e = absurd (true_false e)
+              unticked_place false e = refl
           by (TimeClock (Periodic interval shift)) h k place = refl
           by (TimeClock Answered) h k place = refl
           by r h k place = absurd (true_false (sym h))
@@ -311,3 +352,22 @@ module _ (table : Timetable) (role : Role) (per_second t p : ℕ) (v : Option �
                   let own : rearmed per_second t told (ticked_if (is_active v) from.place) ≡ place = same_Some _ _ (sym (there_now mid next p _ _ mid_there next_is) ∙ is) in
                   now_is ∙ armed_down per_second table.start t v told from.place of_countdown (from.ticks clock) ∙ ap (λ (x : ClockState). is_armed_for t (timer_in x)) own,
             )
+
+      -- a changing Clock that ticks
+      module _ (changing : role ≡ TimeClock Changing) (active : is_active v ≡ true) where
+        of_changing : IsPlaceOf (TimeClock Changing) from.place
+        of_changing = subst (λ (r : Role). IsPlaceOf r from.place) changing from.of
+
+        pub is_armable : IsCountdown mid p
+        is_armable = let ticked_place = countdown_ticked (is_active v) of_changing.0 in (ticked_place.0, mid_there ∙ ap (λ (x : ClockState). Some (ticked_if (is_active v) x)) of_changing.1 ∙ ap Some ticked_place.1)
+
+        pub goes_changing : (next : Timetable) → next ≡ with_clock mid p (armed_anew per_second t told) → (now : Bool) → now ≡ has_no_count per_second told → IsBehind role per_second t p v told table next × IsArmed t p next now
+        goes_changing next next_is now now_is = (
+          λ place is.
+              next_is ∙ ap (λ (x : Timetable). with_clock x p (armed_anew per_second t told)) mid_is
+              ∙ with_twice table p (ticked_if (is_active v) from.place) (armed_anew per_second t told)
+              ∙ sym (ap (λ (r : Role). with_clock table p (place_behind r per_second t v told place)) changing ∙ ap (λ b. with_clock table p (if b then armed_anew per_second t told else place)) active),
+          λ place is.
+              let own : armed_anew per_second t told ≡ place = same_Some _ _ (sym (there_now mid next p _ _ mid_there next_is) ∙ is) in
+              now_is ∙ now_armed t (counts_told per_second told) ∙ ap (λ (x : ClockState). is_armed_for t (timer_in x)) own,
+        )

@@ -1,5 +1,5 @@
--- The questions of countdown Clocks behind an instant, port by port.
-use Rattle.std.proofs.Common.{◌≡◌, inl, inr, ℕ, zero, suc, ◌+◌, ◌<◌, ◌≤◌, ℤ, Bool, false, List, [], ◌∷◌, ◌++◌, Option, Some, None, Ok, Err, refl, sym, ap, ap₂, ◌∙◌, subst, arith, length, get_or, set, take, drop}
+-- The questions of countdown and changing Clocks behind an instant, port by port.
+use Rattle.std.proofs.Common.{true, ◌≡◌, inl, inr, ℕ, zero, suc, ◌+◌, ◌<◌, ◌≤◌, ℤ, Bool, false, List, [], ◌∷◌, ◌++◌, Option, Some, None, Ok, Err, refl, sym, ap, ap₂, ◌∙◌, subst, arith, length, get_or, set, take, drop}
 use Rattle.std.specs.Prelude.{All, Contains, IsSomeAnd, if◌then◌else◌, option_map, slice_get, ◌||◌}
 use Rattle.std.specs.List.{list_any}
 use Rattle.std.specs.Option.{option_map_or}
@@ -22,7 +22,7 @@ use Rattle.fmu_peer.specs.Machine.{after}
 use Rattle.system_model.specs.declared.system.Component.{Component}
 use Rattle.system_model.specs.declared.system.Role.{Role}
 use Rattle.system_model.specs.declared.system.Role.TheVariants.{TimeClock}
-use Rattle.system_model.specs.declared.system.Timing.TheVariants.{Periodic, Countdown}
+use Rattle.system_model.specs.declared.system.Timing.TheVariants.{Periodic, Countdown, Changing}
 use Rattle.system_model.specs.declared.system.Port.{Port}
 use Rattle.system_model.specs.declared.system.System.{System}
 use Rattle.system_model.specs.Sound.{IsRole, IsSound, IsTiming}
@@ -41,13 +41,13 @@ use Rattle.event_iteration.specs.Clocks.{IsNextFrom, IsPlaceOf, StandsAt, is_due
 use Rattle.event_iteration.specs.Explains.{Explains, all_said}
 use Rattle.event_iteration.specs.Instants.{IsRunning}
 use Rattle.event_iteration.specs.Intervals.{AsksIntervals, Rearms, TellsTicks, asks_interval, interval_by, intervals, timer_behind, timers_behind, timers_behind_from}
-use Rattle.event_iteration.specs.Questions.{AreRunning, AsksPort, GoesFrom, IsBehindUpTo, counts_down, first_reply, modes, place_behind}
+use Rattle.event_iteration.specs.Questions.{AreRunning, AsksPort, GoesFrom, InstanceMode, IsBehindUpTo, first_reply, is_asked_after, mode_of, modes, place_behind}
 use Rattle.event_iteration.specs.Settings.{port_order}
 use Rattle.event_iteration.specs.Turns.{IsPaired, Stops, Turn, sent_of}
-use Rattle.event_iteration.proofs.Asking.{mode_of}
-use Rattle.event_iteration.proofs.Answering.{one_answer, own_shape}
+use Rattle.event_iteration.proofs.Answering.{asked_after, one_answer, own_shape}
 use Rattle.event_iteration.proofs.Fmus.{got}
 use Rattle.event_iteration.proofs.Places.{IsPositive, beside_now, many_now, next_behind, place_now, place_of_behind, timer_of_place, timers_now}
+use Rattle.event_iteration.proofs.Timing.{asks_it}
 use Rattle.event_iteration.proofs.Setting.{NoNeeds, all_ports, in_order, port_number}
 use Rattle.event_iteration.proofs.Walking.{AreAbout, Here, explains_more, here_at, more_replies, with_reply, more_order, split_order}
 
@@ -56,16 +56,20 @@ use Rattle.event_iteration.proofs.Walking.{AreAbout, Here, explains_more, here_a
 pub are_running : (system : System) (ss : List Instance) → shapes ss ≡ shapes_of system → All (λ (x : Instance). IsRunning x.view) ss → AreRunning system (modes ss)
 are_running system ss alike all i c state of at =
     let x = got ss i (let w = slice_get_within (modes ss) i state at in let e = length-map ss mode_of in omega (arith, w, e)) in
-    let own : state ≡ x.0.view.phase.state = same_Some _ _ (sym at ∙ slice_get-map mode_of ss i ∙ ap (option_map mode_of) x.1) in
+    let own : state ≡ mode_of x.0 = same_Some _ _ (sym at ∙ slice_get-map mode_of ss i ∙ ap (option_map mode_of) x.1) in
     let shape : x.0.view.fixed.shape ≡ c.shape =
     same_Some _ _ (sym (slice_get-map shape_of ss i ∙ ap (option_map shape_of) x.1) ∙ ap (λ xs. slice_get xs i) alike ∙ slice_get-map (λ (y : Component). y.shape) system.components i ∙ ap (option_map (λ (y : Component). y.shape)) of) in
-    own ∙ all_at (λ (y : Instance). IsRunning y.view) ss i x.0 all x.1 ∙ ap running_state shape
+    ap (λ (m : InstanceMode). m.state) own ∙ all_at (λ (y : Instance). IsRunning y.view) ss i x.0 all x.1 ∙ ap running_state shape
 
 -- ---- one port's call
 
-asks_none : (role : Role) (port : Port) → counts_down role ≡ false → asks_interval role port ≡ None
-asks_none (TimeClock Countdown) port none = absurd (true_false none)
-asks_none role port none = refl
+asks_none : (role : Role) (port : Port) (v : Option ℤ) → is_asked_after role v ≡ false → asks_interval role port v ≡ None
+asks_none (TimeClock Countdown) port v none = absurd (true_false none)
+asks_none (TimeClock Changing) port v none = ap (λ b. if b then Some (C.GetInterval port.reference) else None) none
+asks_none role port v none = refl
+
+asks_one : (role : Role) (port : Port) (v : Option ℤ) → is_asked_after role v ≡ true → asks_interval role port v ≡ Some (C.GetInterval port.reference)
+asks_one role port v asked = asks_it role port v (asked_after role v asked)
 
 stays : (values : List (Option ℤ)) (p : ℕ) → values ≡ set values p (value values p)
 stays values p = sym (set-get_or values p None)
@@ -78,44 +82,47 @@ module _ (system : System) (sound : IsSound system) (p : ℕ) (port : Port) (is 
   placed = place_of system sound p port is
 
   -- a port that isn't asked
-  pub asks_nothing : (olds : List Instance) → counts_down port.role ≡ false → AsksPort system p olds olds (Ok None)
-  asks_nothing olds none = record {
+  pub asks_nothing : (olds : List Instance) (v : Option ℤ) → is_asked_after port.role v ≡ false → AsksPort system p v olds olds (Ok None)
+  asks_nothing olds v none = record {
     log = [];
     told = told_none olds;
-    says = λ values. record {
+    says = λ values at. record {
       port = port;
       is = is;
       component = placed.component;
       of = placed.is.of;
-      paired = subst (λ (o : Option Call). IsPaired placed.component.shape o None) (sym (asks_none port.role port none)) tt;
-      sent_is = sym (ap (λ (o : Option Call). sent_of port.component.0 o None) (asks_none port.role port none));
+      paired = subst (λ (o : Option Call). IsPaired placed.component.shape o None) (sym (unasked values at)) tt;
+      sent_is = sym (ap (λ (o : Option Call). sent_of port.component.0 o None) (unasked values at));
       next_is = stays values p;
     };
   }
+    where
+      unasked : (values : List (Option ℤ)) → value values p ≡ v → asks_interval port.role port (value values p) ≡ None
+      unasked values at = asks_none port.role port (value values p) (ap (is_asked_after port.role) at ∙ none)
 
-  module _ (olds news : List Instance) (alike : shapes olds ≡ shapes_of system) (down : port.role ≡ TimeClock Countdown) where
-    asks_is : asks_interval port.role port ≡ Some (C.GetInterval port.reference)
-    asks_is = ap (λ (x : Role). asks_interval x port) down
+  module _ (olds news : List Instance) (alike : shapes olds ≡ shapes_of system) (v : Option ℤ) (asked : is_asked_after port.role v ≡ true) where
+    asks_is : (values : List (Option ℤ)) → value values p ≡ v → asks_interval port.role port (value values p) ≡ Some (C.GetInterval port.reference)
+    asks_is values at = asks_one port.role port (value values p) (ap (is_asked_after port.role) at ∙ asked)
 
     -- one that is asked
-    pub asks_well : (reply : Reply) → Stage (record { component = port.component.0; call = C.GetInterval port.reference } ∷ []) first_reply olds news (Ok (Some reply)) → AsksPort system p olds news (Ok (Some reply))
+    pub asks_well : (reply : Reply) → Stage (record { component = port.component.0; call = C.GetInterval port.reference } ∷ []) first_reply olds news (Ok (Some reply)) → AsksPort system p v olds news (Ok (Some reply))
     asks_well reply stage =
         let one = one_answer (shapes olds) port.component.0 (C.GetInterval port.reference) placed.component.shape reply stage.log (ap (λ xs. slice_get xs port.component.0) alike ∙ own_shape system sound p port is olds alike) stage.says.0 stage.says.1 in
         record {
           log = stage.log;
           told = stage.told;
-          says = λ values. record {
+          says = λ values at. record {
             port = port;
             is = is;
             component = placed.component;
             of = placed.is.of;
-            paired = subst (λ (o : Option Call). IsPaired placed.component.shape o (Some reply)) (sym asks_is) one.good;
-            sent_is = one.is ∙ sym (ap (λ (o : Option Call). sent_of port.component.0 o (Some reply)) asks_is);
+            paired = subst (λ (o : Option Call). IsPaired placed.component.shape o (Some reply)) (sym (asks_is values at)) one.good;
+            sent_is = one.is ∙ sym (ap (λ (o : Option Call). sent_of port.component.0 o (Some reply)) (asks_is values at));
             next_is = stays values p;
           };
         }
 
-    pub asks_badly : (bad : BadAnswer) → Stage (record { component = port.component.0; call = C.GetInterval port.reference } ∷ []) first_reply olds news (Err bad) → AsksPort system p olds news (Err bad)
+    pub asks_badly : (bad : BadAnswer) → Stage (record { component = port.component.0; call = C.GetInterval port.reference } ∷ []) first_reply olds news (Err bad) → AsksPort system p v olds news (Err bad)
     asks_badly bad stage = record {
       log = stage.log;
       told = stage.told;
@@ -125,23 +132,23 @@ module _ (system : System) (sound : IsSound system) (p : ℕ) (port : Port) (is 
         own : (d : Shape) → placed.component.shape ≡ get_or (shapes olds) port.component.0 d
         own d = sym (get_or_from_slice_get (shapes olds) port.component.0 placed.component.shape d (ap (λ xs. slice_get xs port.component.0) alike ∙ own_shape system sound p port is olds alike))
 
-        last_one : StopsAt (shapes olds) (record { component = port.component.0; call = C.GetInterval port.reference } ∷ []) bad stage.log → (last : Sent) × (stage.log ≡ last ∷ []) × ((values : List (Option ℤ)) → Stops system intervals p bad values last)
+        last_one : StopsAt (shapes olds) (record { component = port.component.0; call = C.GetInterval port.reference } ∷ []) bad stage.log → (last : Sent) × (stage.log ≡ last ∷ []) × ((values : List (Option ℤ)) → value values p ≡ v → Stops system (intervals values) p bad values last)
         last_one stops = by stops.front stops.left stops.log_is (stops.calls_are ∙ ap (λ es. askings es ++ stops.left) stops.log_is)
           where
             by : (front : List Sent) (left : List Asking) → stage.log ≡ front ++ stops.last ∷ [] → record { component = port.component.0; call = C.GetInterval port.reference } ∷ [] ≡ askings (front ++ stops.last ∷ []) ++ left →
-                (last : Sent) × (stage.log ≡ last ∷ []) × ((values : List (Option ℤ)) → Stops system intervals p bad values last)
+                (last : Sent) × (stage.log ≡ last ∷ []) × ((values : List (Option ℤ)) → value values p ≡ v → Stops system (intervals values) p bad values last)
             by [] left log_is calls_are =
                 let own_call = first_is _ _ _ _ calls_are in
                 let at : stops.last.component ≡ port.component.0 = sym (ap (λ (a : Asking). a.component) own_call) in
                 let call_is : stops.last.exchange.call ≡ C.GetInterval port.reference = sym (ap (λ (a : Asking). a.call) own_call) in (
                   stops.last,
                   log_is,
-                  λ values. record {
+                  λ values at_p. record {
                     port = port;
                     is = is;
                     component = placed.component;
                     of = placed.is.of;
-                    asks = asks_is ∙ ap Some (sym call_is);
+                    asks = asks_is values at_p ∙ ap Some (sym call_is);
                     sent_to = at;
                     told_of = sym stops.first.component ∙ at;
                     why = subst (λ (s : Shape). IsWhy s bad.why stops.last.exchange) (ap (λ n. get_or (shapes olds) n placed.component.shape) at ∙ sym (own placed.component.shape)) (stops.first.why placed.component.shape);
@@ -155,7 +162,7 @@ module _ (system : System) (sound : IsSound system) (p : ℕ) (port : Port) (is 
 pub record Rearming (system : System) (per_second t k : ℕ) (values : List (Option ℤ)) (before table : Timetable) (armed : Bool) (olds mids : List Instance) : Type 0 where
   pub log : List Sent
   pub told : Told log olds mids
-  pub explains : Explains system intervals values (take k (port_order system)) values log
+  pub explains : Explains system (intervals values) values (take k (port_order system)) values log
   pub modes_are : modes mids ≡ modes olds
   pub behind : IsBehindUpTo system per_second t values explains.replies k before table
   pub armed_is : armed ≡ list_any (is_armed_for t) (take k (timers_in table))
@@ -175,6 +182,7 @@ rearming_none system per_second t values table is = record {
   behind = record {
     start = refl;
     stop = refl;
+    events = refl;
     len = refl;
     behind = λ q port place lt. absurd (omega (arith, lt));
     ahead = λ q le. refl;
@@ -182,28 +190,28 @@ rearming_none system per_second t values table is = record {
   armed_is = refl;
 }
 
-about_intervals : (system : System) → AreAbout NoNeeds system intervals
-about_intervals system = record { asks_same = λ p port c V W is h. refl; takes_same = λ p port V W last reply is h. refl }
+about_intervals : (system : System) (now : List (Option ℤ)) → AreAbout NoNeeds system (intervals now)
+about_intervals system now = record { asks_same = λ p port c V W is h. refl; takes_same = λ p port V W last reply is h. refl }
 
 module _ (system : System) (values : List (Option ℤ)) (places : length values ≡ length system.ports) (k : ℕ) (within : k < length system.ports) (log more : List Sent) (reply : Option Reply)
-    (front : Explains system intervals values (take k (port_order system)) values log) (turn : Turn system intervals k reply values values more) where
+    (front : Explains system (intervals values) values (take k (port_order system)) values log) (turn : Turn system (intervals values) k reply values values more) where
   abbrev here_now : Here NoNeeds (take k (port_order system)) k
   here_now = here_at (λ q. q < length system.ports) NoNeeds (port_order system) (take k (port_order system)) k (drop (k + 1) (port_order system)) (in_order system) (split_order (port_order system) k k (port_number system k within))
 
-  abbrev on : Explains system intervals values (take k (port_order system) ++ k ∷ []) values (log ++ more)
-  on = explains_more NoNeeds system intervals (about_intervals system) values (take k (port_order system)) k reply values values log more
+  abbrev on : Explains system (intervals values) values (take k (port_order system) ++ k ∷ []) values (log ++ more)
+  on = explains_more NoNeeds system (intervals values) (about_intervals system values) values (take k (port_order system)) k reply values values log more
       here_now places front turn
 
   replies_on : on.replies ≡ with_reply k reply front.replies
-  replies_on = more_replies NoNeeds system intervals (about_intervals system) values (take k (port_order system)) k reply values values log more here_now places front turn
+  replies_on = more_replies NoNeeds system (intervals values) (about_intervals system values) values (take k (port_order system)) k reply values values log more here_now places front turn
 
   order_on : take k (port_order system) ++ k ∷ [] ≡ take (k + 1) (port_order system)
   order_on = sym (more_order (port_order system) k k (port_number system k within))
 
-  pub explains_on : Explains system intervals values (take (k + 1) (port_order system)) values (log ++ more)
+  pub explains_on : Explains system (intervals values) values (take (k + 1) (port_order system)) values (log ++ more)
   explains_on = record {
     replies = on.replies;
-    log_is = on.log_is ∙ ap (λ (o : List ℕ). all_said system intervals values on.replies o) order_on;
+    log_is = on.log_is ∙ ap (λ (o : List ℕ). all_said system (intervals values) values on.replies o) order_on;
     paired = λ p port c is of m. on.paired p port c is of (subst (λ (o : List ℕ). Contains o p) (sym order_on) m);
     taken_values = λ p port is m. refl;
     left = λ p m. refl;
@@ -223,7 +231,7 @@ module _ (system : System) (per_second t k : ℕ) (values : List (Option ℤ)) (
   within = slice_get_within system.ports k port is
 
   -- up to a bad answer
-  pub rearming_until : (bad : BadAnswer) (after : List Timer) → AsksPort system k mids news (Err bad) → AsksIntervals system per_second t values (timers_in before) after olds news (Err bad)
+  pub rearming_until : (bad : BadAnswer) (after : List Timer) → AsksPort system k (value values k) mids news (Err bad) → AsksIntervals system per_second t values (timers_in before) after olds news (Err bad)
   rearming_until bad after turn = record {
     log = front.log ++ turn.log;
     told = told_on olds mids news front.log turn.log front.told turn.told;
@@ -236,15 +244,15 @@ module _ (system : System) (per_second t k : ℕ) (values : List (Option ℤ)) (
       last = turn.says.0;
       log_is = ap (λ es. front.log ++ es) turn.says.1;
       told = front.explains;
-      stops = turn.says.2 values;
+      stops = turn.says.2 values refl;
     };
   }
 
   -- one port more
-  module _ (reply : Option Reply) (turn : AsksPort system k mids news (Ok reply)) (modes_same : modes news ≡ modes mids) (place : ClockState) (there : slice_get table.clocks k ≡ Some place)
+  module _ (reply : Option Reply) (turn : AsksPort system k (value values k) mids news (Ok reply)) (modes_same : modes news ≡ modes mids) (place : ClockState) (there : slice_get table.clocks k ≡ Some place)
       (goes : next ≡ with_clock table k (place_behind port.role per_second t (value values k) (interval_by reply) place)) (arms : told ≡ is_armed_for t (timer_in (place_behind port.role per_second t (value values k) (interval_by reply) place))) where
-    abbrev explains_next : Explains system intervals values (take (k + 1) (port_order system)) values (front.log ++ turn.log)
-    explains_next = explains_on system values places k within front.log turn.log reply front.explains (turn.says values)
+    abbrev explains_next : Explains system (intervals values) values (take (k + 1) (port_order system)) values (front.log ++ turn.log)
+    explains_next = explains_on system values places k within front.log turn.log reply front.explains (turn.says values refl)
 
     abbrev placed_next : ClockState
     placed_next = place_behind port.role per_second t (value values k) (interval_by reply) place
@@ -256,18 +264,19 @@ module _ (system : System) (per_second t k : ℕ) (values : List (Option ℤ)) (
     behind_more = record {
       start = ap (λ (x : Timetable). x.start) goes ∙ front.behind.start;
       stop = ap (λ (x : Timetable). x.stop) goes ∙ front.behind.stop;
+      events = ap (λ (x : Timetable). x.events) goes ∙ front.behind.events;
       len = many_now table next k placed_next in_clocks goes ∙ front.behind.len;
       behind = λ q x old lt at at_old. (elim (cases_lt q k) as (λ c. slice_get next.clocks q ≡ Some (place_behind x.role per_second t (value values q) (interval_by (explains_next.replies q)) old)) [
         | inl below ↦
             let other : q ≡ k → ⊥ = λ e. absurd (omega (arith, e, below)) in
             beside_now table next k placed_next in_clocks goes q other ∙ front.behind.behind q x old below at at_old
-            ∙ ap (λ (o : Option Reply). Some (place_behind x.role per_second t (value values q) (interval_by o) old)) (sym (reply_old system values places k within front.log turn.log reply front.explains (turn.says values) q other))
+            ∙ ap (λ (o : Option Reply). Some (place_behind x.role per_second t (value values q) (interval_by o) old)) (sym (reply_old system values places k within front.log turn.log reply front.explains (turn.says values refl) q other))
         | inr past ↦
             let same_place : q ≡ k = omega (arith, lt, past) in
             let its : port ≡ x = same_Some _ _ (sym is ∙ ap (slice_get system.ports) (sym same_place) ∙ at) in
             let own : place ≡ old = same_Some _ _ (sym there ∙ front.behind.ahead k (omega arith) ∙ ap (slice_get before.clocks) (sym same_place) ∙ at_old) in
             ap (slice_get next.clocks) same_place ∙ place_now table next k placed_next in_clocks goes
-            ∙ ap (λ (o : Option Reply). Some (place_behind port.role per_second t (value values k) (interval_by o) place)) (sym (reply_here system values places k within front.log turn.log reply front.explains (turn.says values)))
+            ∙ ap (λ (o : Option Reply). Some (place_behind port.role per_second t (value values k) (interval_by o) place)) (sym (reply_here system values places k within front.log turn.log reply front.explains (turn.says values refl)))
             ∙ ap₂ (λ (n : ℕ) (y : Port). Some (place_behind y.role per_second t (value values n) (interval_by (explains_next.replies n)) place)) (sym same_place) its
             ∙ ap (λ (y : ClockState). Some (place_behind x.role per_second t (value values q) (interval_by (explains_next.replies q)) y)) own
       ]);
@@ -365,6 +374,7 @@ module _ (system : System) (sound : IsSound system) (per_second t k : ℕ) (is_f
   pub rearming_stands : StandsAt system t false table
   rearming_stands = record {
     len = len;
+    components = ap length all.behind.events ∙ stands.components;
     places = λ p port place is is_place.
         let here = at_place p (slice_get_within system.ports p port is) in
         let its : here.port ≡ port = same_Some _ _ (sym here.is ∙ is) in
@@ -402,10 +412,10 @@ module _ (system : System) (sound : IsSound system) (per_second t k : ℕ) (is_f
   order_whole : take k (port_order system) ≡ port_order system
   order_whole = all_ports system k whole
 
-  explains_whole : Explains system intervals values (port_order system) values all.log
+  explains_whole : Explains system (intervals values) values (port_order system) values all.log
   explains_whole = record {
     replies = replies;
-    log_is = all.explains.log_is ∙ ap (λ (o : List ℕ). all_said system intervals values replies o) order_whole;
+    log_is = all.explains.log_is ∙ ap (λ (o : List ℕ). all_said system (intervals values) values replies o) order_whole;
     paired = λ p port c is of m. all.explains.paired p port c is of (subst (λ (o : List ℕ). Contains o p) (sym order_whole) m);
     taken_values = λ p port is m. refl;
     left = λ p m. refl;

@@ -1,5 +1,5 @@
 -- The logs of told machines: parts one behind the other, calls that change no machine, and one call to each or to some.
-use Rattle.std.proofs.Common.{◌≡◌, ℕ, suc, ◌+◌, ◌<◌, ◌==◌, ℤ, Bool, true, false, List, [], ◌∷◌, ◌++◌, Option, Some, Result, Ok, refl, sym, ap, ap₂, ◌∙◌, subst, arith, length, get_or, map}
+use Rattle.std.proofs.Common.{◌≡◌, ℕ, suc, ◌+◌, ◌<◌, ◌==◌, ℤ, Bool, true, false, List, [], ◌∷◌, ◌++◌, Option, Some, None, Result, Ok, refl, sym, ap, ap₂, ◌∙◌, subst, arith, length, get_or, map}
 use Rattle.std.specs.Prelude.{All, MatchResult, ◌&&◌, ◌||◌, if◌then◌else◌}
 use Rattle.std.specs.List.{list_any, slice_get}
 use Rattle.std.proofs.lemmas.Bool.{eqb-true}
@@ -19,7 +19,7 @@ use Rattle.fmu_peer.specs.Machine.{Machine, MachineState, after}
 use Rattle.fmu_peer.specs.Mode.{instantiate_of}
 use Rattle.fmu_peer.specs.Talk as T
 use Rattle.system_model.specs.declared.system.Component.{Component}
-use Rattle.run_model.specs.AfterInstant.{updated, written}
+use Rattle.run_model.specs.AfterInstant.{event_after, updated, written}
 use Rattle.run_model.specs.Behaved.{IsAnsweredWell}
 use Rattle.run_model.specs.Initial as I
 use Rattle.run_model.specs.Inputs.{state_with}
@@ -28,9 +28,10 @@ use Rattle.run_model.specs.Run.{IsFmu, Run, Situation, each, each_from}
 use Rattle.run_model.proofs.CallerLemmas.{fmu_before}
 use Rattle.slot_calls.specs.Log.{Asking, Sent, Told, asking_of, askings, part}
 use Rattle.slot_calls.specs.Replies.{AreReplies, RepliesBy, state_by, states_by}
-use Rattle.slot_calls.specs.Stage.{IsAnswered, IsGoodOf, shapes_of, to_those, to_those_from}
+use Rattle.slot_calls.specs.Stage.{IsAnswered, IsGoodOf, has_events, shapes_of, to_those, to_those_from}
 use Rattle.slot_calls.proofs.CallerLemmas.{part_append, PartIs, first_same, none_before, part_asked, part_unasked, rest_same, same, skips, takes, replied_good, replies_back, replies_front, state_by_append}
 use Rattle.event_iteration.specs.Machines.{AreAt}
+use Rattle.event_iteration.specs.Updates.{event_by, events_told, first_event, other_answers}
 use Rattle.event_iteration.proofs.Fmus.{each_many, each_same, got, told_at, good_in_part, part_all}
 use Rattle.event_iteration.proofs.Permits.{shape_of_component}
 
@@ -270,4 +271,50 @@ module _ (r : Run) (ss : List MachineState) (test : Shape → Bool) (call : Shap
         pub stage_any : list_any (λ (s : Sent). says s.exchange.result) log ≡ list_any (λ b. b) (each r ss passes)
         stage_any =
             any_from 0 r.system.components r.machines ss log answered.calls_are (stage_shown 0 (shapes_of r.system) log answered.calls_are answered.good replies) all.machines all.states
+            (λ i c m z at_c at_m at_z. let place : i ≡ 0 + i = omega arith in subst (λ (j : ℕ). IsFmu r ss j c m z) place (record { component = at_c; machine = at_m; state = at_z }))
+
+      -- the event times that the answers ask for are those that the machines' answers do
+      module _ (all : AreAll r ss) (events : (shape : Shape) → test shape ≡ has_events shape) (updates : (shape : Shape) → call shape ≡ C.Update) (t : ℕ) where
+        abbrev wanted : ℕ → Component → Machine → MachineState → Option ℕ
+        wanted i c m z = if c.shape.has_event_mode then event_after t (m.look z C.Update) else None
+
+        abbrev after_it : ℕ → List Component → List Asking
+        after_it n cs = to_those_from n test call (map (λ (c : Component). c.shape) cs)
+
+        abbrev told_of : List Component → List Sent → List (Option ℕ)
+        told_of cs some = events_told t (map (λ (c : Component). c.shape) cs) some
+
+        events_from : (k : ℕ) (cs : List Component) (ms : List Machine) (zs : List MachineState) (some : List Sent) → askings some ≡ after_it k cs → All (IsShown r ss) some →
+            length ms ≡ length cs → length zs ≡ length cs → ((i : ℕ) (c : Component) (m : Machine) (z : MachineState) → slice_get cs i ≡ Some c → slice_get ms i ≡ Some m → slice_get zs i ≡ Some z → IsFmu r ss (k + i) c m z) →
+            told_of cs some ≡ each_from wanted k cs ms zs
+        events_from k [] ms zs some is shown few many h = refl
+        events_from k (c ∷ cs) [] zs some is shown few many h = absurd (omega (arith, few))
+        events_from k (c ∷ cs) (m ∷ ms) [] some is shown few many h = absurd (omega (arith, many))
+        events_from k (c ∷ cs) (m ∷ ms) (z ∷ zs) some is shown few many h =
+            by (has_events c.shape) some (is ∙ ap (λ (b : Bool). if b then ask k c.shape ∷ after_it (k + 1) cs else after_it (k + 1) cs) (events c.shape) ∙ ap (λ (n : ℕ). if has_events c.shape then ask k c.shape ∷ after_it n cs else after_it n cs) next) shown
+            (λ rest e own. events_from (suc k) cs ms zs rest e own (omega (arith, few)) (omega (arith, many))
+            (λ i d n y at_d at_n at_y. let place : k + suc i ≡ suc k + i = omega arith in subst (λ (j : ℕ). IsFmu r ss j d n y) place (h (suc i) d n y at_d at_n at_y)))
+          where
+            next : k + 1 ≡ suc k
+            next = omega arith
+
+            here : (s : Sent) → s.component ≡ k → s.exchange.call ≡ call c.shape → IsShown r ss s → s.exchange.result ≡ Ok (m.look z C.Update)
+            here s at call_is own =
+                let place : k + 0 ≡ s.component = omega (arith, at) in
+                own c m z (subst (λ (j : ℕ). IsFmu r ss j c m z) place (h 0 c m z refl refl refl)) ∙ ap (λ (x : Call). Ok (m.look z x)) (call_is ∙ updates c.shape)
+
+            by : (b : Bool) (some : List Sent) → askings some ≡ (if b then ask k c.shape ∷ after_it (suc k) cs else after_it (suc k) cs) → All (IsShown r ss) some →
+                ((rest : List Sent) → askings rest ≡ after_it (suc k) cs → All (IsShown r ss) rest → told_of cs rest ≡ each_from wanted (suc k) cs ms zs) →
+                (if b then first_event t some ∷ told_of cs (other_answers some) else None ∷ told_of cs some) ≡ (if b then event_after t (m.look z C.Update) else None) ∷ each_from wanted (suc k) cs ms zs
+            by false some e own on = ap (λ (es : List (Option ℕ)). None ∷ es) (on some e own)
+            by true [] e own on = absurd (cc)
+            by true (s ∷ some) e own on =
+                let first = first_same (asking_of s) (ask k c.shape) (askings some) (after_it (suc k) cs) e in
+                ap₂ (λ (x : Option ℕ) (es : List (Option ℕ)). x ∷ es)
+                (ap (event_by t) (here s (ap (λ (a : Asking). a.component) first) (ap (λ (a : Asking). a.call) first) (All-head (IsShown r ss) s some own)))
+                (on some (rest_same (asking_of s) (ask k c.shape) (askings some) (after_it (suc k) cs) e) (All-tail (IsShown r ss) s some own))
+
+        pub stage_events : events_told t (shapes_of r.system) log ≡ each r ss wanted
+        stage_events =
+            events_from 0 r.system.components r.machines ss log answered.calls_are (stage_shown 0 (shapes_of r.system) log answered.calls_are answered.good replies) all.machines all.states
             (λ i c m z at_c at_m at_z. let place : i ≡ 0 + i = omega arith in subst (λ (j : ℕ). IsFmu r ss j c m z) place (record { component = at_c; machine = at_m; state = at_z }))

@@ -1,5 +1,5 @@
 -- The Updates behind an instant: the loop over the slots, and over machines where they lead.
-use Rattle.std.proofs.Common.{◌≡◌, ℕ, ◌<◌, ℤ, Bool, true, List, ◌++◌, Option, Some, Result, Ok, Err, sym, ap, ap₂, ◌∙◌, arith, length, get_or, map}
+use Rattle.std.proofs.Common.{refl, ◌≡◌, ℕ, ◌<◌, ℤ, Bool, true, List, ◌++◌, Option, Some, Result, Ok, Err, sym, ap, ap₂, ◌∙◌, arith, length, get_or, map}
 use Rattle.std.specs.Prelude.{◌||◌, if◌then◌else◌}
 use Rattle.std.specs.List.{slice_get}
 use Rattle.std.specs.Result.{result_ok}
@@ -17,16 +17,16 @@ use Rattle.fmu_peer.specs.CloseAll.{Instance}
 use Rattle.fmu_peer.specs.View.{View}
 use Rattle.system_model.specs.declared.system.Component.{Component}
 use Rattle.system_model.specs.declared.system.System.{System}
-use Rattle.run_model.specs.AfterInstant.{any_update, asks_again, asks_for_end, updated, written}
+use Rattle.run_model.specs.AfterInstant.{any_update, asks_again, asks_for_end, next_events, updated, written}
 use Rattle.run_model.specs.Run.{Run, Situation}
 use Rattle.slot_calls.specs.Log.{Sent, Told}
 use Rattle.slot_calls.specs.Replies.{AreReplies, states_by}
 use Rattle.slot_calls.specs.Stage.{IsAnswered, has_events, shapes, shapes_of}
 use Rattle.slot_calls.proofs.CallerLemmas.{one_log, shape_of, shapes_same}
 use Rattle.event_iteration.specs.Instants.{IsRunning}
-use Rattle.event_iteration.specs.Updates.{answer_passes, any_answer, updated_by, updating}
+use Rattle.event_iteration.specs.Updates.{answer_passes, any_answer, events_told, updated_by, updating}
 use Rattle.event_iteration.specs.declared.updates.Updated.{Updated}
-use Rattle.event_iteration.proofs.Stages.{AreAll, stage_any, stage_states}
+use Rattle.event_iteration.proofs.Stages.{AreAll, stage_any, stage_events, stage_states}
 use Rattle.event_iteration.proofs.Taking.{shape_in_slot, slots_many}
 
 -- ---- a turn of the loop
@@ -76,3 +76,7 @@ module _ (r : Run) (s : Situation) (values : List (Option ℤ)) (log : List Sent
   -- and what is told is what the machines' answers say
   pub any_is : AreAll r (written r s values) → AreReplies r (written r s values) log → (test : Reply → Bool) → any_answer test log ≡ any_update test r s values
   any_is all replies test = stage_any r (written r s values) has_events (λ (shape : Shape). C.Update) log answered replies all (answer_passes test)
+
+  -- and so are the event times
+  pub events_are : AreAll r (written r s values) → AreReplies r (written r s values) log → events_told s.t (shapes_of r.system) log ≡ next_events r s values
+  events_are all replies = stage_events r (written r s values) has_events (λ (shape : Shape). C.Update) log answered replies all (λ shape. refl) (λ shape. refl) s.t

@@ -16,7 +16,7 @@ use Rattle.system_model.specs.declared.system.Port.{Port}
 use Rattle.system_model.specs.declared.system.Role.{Role}
 use Rattle.system_model.specs.declared.system.Role.TheVariants.{TimeClock, Input, Output, ClockInput, ClockOutput}
 use Rattle.system_model.specs.declared.system.System.{System}
-use Rattle.system_model.specs.declared.system.Timing.TheVariants.{Answered, Countdown}
+use Rattle.system_model.specs.declared.system.Timing.TheVariants.{Answered, Countdown, Changing}
 use Rattle.system_model.specs.Orders.{IsOrder}
 use Rattle.system_model.specs.Sound.{IsSound}
 use Rattle.system_model.specs.Ports.{is_clock_role, numbers}
@@ -93,10 +93,11 @@ instant_of false ClockOutput port is_first ticks values call clock is = no_clock
 instant_of false (TimeClock timing) port is_first ticks values call clock is = no_clock clock
 instant_of e role port is_first ticks values call clock is = absurd (cc)
 
-interval_of : (e : Bool) (role : Role) (port : Port) (call : Call) → (is_clock_role role ≡ true → e ≡ true) → asks_interval role port ≡ Some call → IsOf (interval_span e) port call
-interval_of true (TimeClock Countdown) port call plain is = of_one (interval_span true) port call (C.GetInterval port.reference) refl (record { from = omega arith; below = omega arith }) true is
-interval_of false (TimeClock Countdown) port call plain is = no_clock plain
-interval_of e role port call plain is = absurd (cc)
+interval_of : (e : Bool) (role : Role) (port : Port) (v : Option ℤ) (call : Call) → (is_clock_role role ≡ true → e ≡ true) → asks_interval role port v ≡ Some call → IsOf (interval_span e) port call
+interval_of true (TimeClock Countdown) port v call plain is = of_one (interval_span true) port call (C.GetInterval port.reference) refl (record { from = omega arith; below = omega arith }) true is
+interval_of true (TimeClock Changing) port v call plain is = of_one (interval_span true) port call (C.GetInterval port.reference) refl (record { from = omega arith; below = omega arith }) (is_active v) is
+interval_of false (TimeClock timing) port v call plain is = no_clock plain
+interval_of e role port v call plain is = absurd (cc)
 
 step_of : (e : Bool) (role : Role) (port : Port) (o : Option ℤ) (call : Call) → (if e then None else sets_to role port o) ≡ Some call → IsOf (step_span e) port call
 step_of false (Input (Some feed)) port o call is = of_set (step_span false) port call (omega arith) (omega arith) true o is
@@ -131,9 +132,9 @@ module _ (system : System) (sound : IsSound system) (k : ℕ) where
       subst (λ (x : Bool). IsOf (instant_span is_first x) port call) (event_here c of)
       (instant_of c.shape.has_event_mode port.role port is_first (ticks p) values call (clock_here p port c at here of) is)
 
-  pub interval_asks : AsksFor system k (interval_span e) intervals
-  interval_asks p port c values call at here of is =
-      subst (λ (x : Bool). IsOf (interval_span x) port call) (event_here c of) (interval_of c.shape.has_event_mode port.role port call (clock_here p port c at here of) is)
+  pub interval_asks : (now : List (Option ℤ)) → AsksFor system k (interval_span e) (intervals now)
+  interval_asks now p port c values call at here of is =
+      subst (λ (x : Bool). IsOf (interval_span x) port call) (event_here c of) (interval_of c.shape.has_event_mode port.role port (value now p) call (clock_here p port c at here of) is)
 
   pub step_asks : (now : List (Option ℤ)) → AsksFor system k (step_span e) (before_step now)
   step_asks now p port c values call at here of is =
@@ -320,7 +321,7 @@ module _ (system : System) (sound : IsSound system) (k : ℕ) (span : Span) (nam
           (subst (Turned (u.taken ++ u.p ∷ [])) (sym (ap (λ (l : List Sent). own k (askings l)) u.log_is ∙ ap (own k) (askings_append u.front (u.last ∷ [])) ∙ own_append k (askings u.front) (asking_of u.last ∷ [])))
           (turned_on u.taken (u.p ∷ []) mine its (explains_turned u.taken values u.front u.told) (its, [], sym (append-nil its), last, refl)))
 
--- ---- the timing of fixed Clocks
+-- ---- the timing of fixed and changing Clocks
 
 module _ (system : System) (sound : IsSound system) (k : ℕ) where
   abbrev names : 0 < timing_span.from
@@ -335,8 +336,15 @@ module _ (system : System) (sound : IsSound system) (k : ℕ) where
       (record { port = port; is = at; here = here; of = record { names = refl; is_use = record { from = omega arith; below = omega arith } } }) (λ e. absurd (cc)) refl
   timing_two p port at false same = NoneHere refl
 
+  timing_one : (p : ℕ) (port : Port) → slice_get system.ports p ≡ Some port → (b : Bool) → (port.component.0 == k) ≡ b → OfPort system sound k timing_span names p (if b then C.GetShift port.reference ∷ [] else [])
+  timing_one p port at true same =
+      let here : port.component.0 ≡ k = grind (arith, nat_tests) in
+      OneHere (C.GetShift port.reference) (record { port = port; is = at; here = here; of = record { names = refl; is_use = record { from = omega arith; below = omega arith } } }) refl
+  timing_one p port at false same = NoneHere refl
+
   timing_of : (p : ℕ) (port : Port) → slice_get system.ports p ≡ Some port → (role : Role) → OfPort system sound k timing_span names p (own k (timing_calls_of role port))
   timing_of p port at (TimeClock Answered) = timing_two p port at (port.component.0 == k) refl
+  timing_of p port at (TimeClock Changing) = timing_one p port at (port.component.0 == k) refl
   timing_of p port at role = NoneHere refl
 
   timing_from : (p : ℕ) (ports : List Port) → ((j : ℕ) (port : Port) → slice_get ports j ≡ Some port → slice_get system.ports (p + j) ≡ Some port) → Turned system sound k timing_span names (range_with_len p (length ports)) (own k (timing_calls_in ports))
@@ -365,9 +373,9 @@ each_call_once system sound = record {
   instant = λ ticks is_first before log walks k.
       let e = has_events_at system k in
       walk_new system sound k (instant_span is_first e) (names_by (instant_span is_first) (omega arith) (names_by (λ b. instant_span b false) (omega arith) (omega arith) is_first) e) (numbers system.instant_order) sound.instant_order (in_instant ticks is_first) (instant_asks system sound k ticks is_first) before log walks;
-  interval = λ before log walks k.
+  interval = λ values before log walks k.
       let e = has_events_at system k in
-      walk_new system sound k (interval_span e) (names_by interval_span (omega arith) (omega arith) e) (port_order system) (in_order system) intervals (interval_asks system sound k) before log walks;
+      walk_new system sound k (interval_span e) (names_by interval_span (omega arith) (omega arith) e) (port_order system) (in_order system) (intervals values) (interval_asks system sound k values) before log walks;
   step = λ values before log walks k.
       let e = has_events_at system k in
       walk_new system sound k (step_span e) (names_by step_span (omega arith) (omega arith) e) (port_order system) (in_order system) (before_step values) (step_asks system sound k values) before log walks;

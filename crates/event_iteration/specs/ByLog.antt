@@ -2,7 +2,7 @@
 use Rattle.std.specs.Prelude.{◌≡◌, ℕ, ◌==◌, ℤ, Bool, List, Option, length}
 use Rattle.system_model.specs.Ports.{numbers}
 use Rattle.system_model.specs.Sound.{IsSound}
-use Rattle.run_model.specs.AfterInstant.{any_update, asks_again, asks_for_end, next_timers, updated, written}
+use Rattle.run_model.specs.AfterInstant.{any_update, asks_again, asks_for_end, next_events, next_timers, updated, written}
 use Rattle.run_model.specs.Equations.{Solves}
 use Rattle.run_model.specs.Initial.{SolvesInitially, first_timers, initialized, initializing}
 use Rattle.run_model.specs.Machines.{AreMachines, IsSituation}
@@ -18,7 +18,7 @@ use Rattle.event_iteration.specs.Initialization.{initially, no_values}
 use Rattle.event_iteration.specs.Instants.{in_instant}
 use Rattle.event_iteration.specs.Intervals.{Rearms, first_told, timing_calls}
 use Rattle.event_iteration.specs.Settings.{before_step, entered_step, port_order}
-use Rattle.event_iteration.specs.Updates.{updated_by, updating}
+use Rattle.event_iteration.specs.Updates.{events_told, updated_by, updating}
 
 -- ---- Initialization Mode
 
@@ -35,14 +35,15 @@ InitialByLog =
     Explains r.system (initially r.system) (no_values r.system) (numbers r.system.initial_order)
     values log → AreReplies r (initializing r) log → FoundInitially r values log
 
--- what the fixed Clocks' FMUs answer are the timers of the run, and the states stay
+-- what the fixed and changing Clocks' FMUs answer are the timers of the run, and the states stay
 abbrev pub FixedByLog : Type 0
 FixedByLog =
     (r : Run) (values : List (Option ℤ)) (log : List Sent) → IsSound r.system → AreMachines r →
     IsAnswered (shapes_of r.system) (timing_calls r.system) log →
     AreReplies r (initialized r values) log →
     (states_by r (initialized r values) log ≡ initialized r values) ×
-    (first_told r.plan.resolution r.system log ≡ first_timers r (initialized r values))
+    (first_told r.plan.resolution r.plan.start r.system log ≡
+    first_timers r (initialized r values))
 
 -- ---- an instant
 
@@ -57,7 +58,7 @@ InstantByLog =
     log → AreReplies r s.states log →
     Solves r s values × (states_by r s.states log ≡ written r s values)
 
--- what the countdown Clocks' FMUs answer behind it makes the timers those of the run, and the states stay
+-- what the countdown and changing Clocks' FMUs answer behind it makes the timers those of the run, and the states stay
 abbrev pub IntervalsByLog : Type 0
 IntervalsByLog =
     (r : Run) (s : Situation) (values : List (Option ℤ)) (next : List Timer) (log : List Sent) →
@@ -67,7 +68,7 @@ IntervalsByLog =
     (states_by r (written r s values) log ≡ written r s values) ×
     (next ≡ next_timers r s values)
 
--- the Updates lead to the states behind it, and their answers say what those of the machines say
+-- the Updates lead to the states behind it, and their answers say what those of the machines say, event times among it
 abbrev pub UpdatesByLog : Type 0
 UpdatesByLog =
     (r : Run) (s : Situation) (values : List (Option ℤ)) (log : List Sent) →
@@ -76,7 +77,8 @@ UpdatesByLog =
     AreReplies r (written r s values) log →
     (states_by r (written r s values) log ≡ (updated r s values).states) ×
     ((updated_by log).again ≡ any_update asks_again r s values) ×
-    ((updated_by log).asked ≡ any_update asks_for_end r s values)
+    ((updated_by log).asked ≡ any_update asks_for_end r s values) ×
+    (events_told s.t (shapes_of r.system) log ≡ next_events r s values)
 
 -- ---- before a step
 

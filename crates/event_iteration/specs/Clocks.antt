@@ -1,11 +1,12 @@
--- The Clocks of a run in its schedule, which has a place for each port (FMI 3.0, 2.2.8 and 2.2.9: constant, fixed and countdown Clocks).
+-- The Clocks of a run in its schedule, which has a place for each port and the event times of its components (FMI 3.0, 2.2.8 and 2.2.9: constant, fixed, countdown and changing Clocks).
 use Rattle.std.specs.Prelude.{◌≡◌, ◌↔◌, ⊤, ℕ, ◌+◌, ◌*◌, ◌<◌, ◌≤◌, ◌==◌, Bool, true, false, List, length, map, All, Option, Some, None, IfSome}
 use Rattle.std.specs.List.{slice_get}
 use Rattle.std.specs.Option.{option_map_or}
+use Rattle.system_model.specs.declared.system.Component.{Component}
 use Rattle.system_model.specs.declared.system.Role.{Role}
 use Rattle.system_model.specs.declared.system.Role.TheVariants.{Input, Output, ClockInput, ClockOutput, TimeClock}
 use Rattle.system_model.specs.declared.system.Timing.{Timing}
-use Rattle.system_model.specs.declared.system.Timing.TheVariants.{Periodic, Answered, Countdown}
+use Rattle.system_model.specs.declared.system.Timing.TheVariants.{Periodic, Answered, Countdown, Changing}
 use Rattle.system_model.specs.declared.system.Port.{Port}
 use Rattle.system_model.specs.declared.system.System.{System}
 use Rattle.value_types.specs.declared.shape.IntervalVariability.{IntervalVariability}
@@ -33,11 +34,12 @@ timers_in table = map timer_in table.clocks
 
 -- ---- places
 
--- where a port stands in the schedule at first: a Clock that ticks as its description says before its first tick, a countdown Clock unarmed, one whose FMU is asked unasked; any other port never ticks
+-- where a port stands in the schedule at first: a Clock that ticks as its description says before its first tick, a countdown or changing Clock unarmed, a fixed one whose FMU is asked unasked; any other port never ticks
 abbrev pub first_place : Role → ClockState
 first_place (TimeClock (Periodic interval shift)) = S.Periodic interval shift 0
 first_place (TimeClock Answered) = S.Unasked
 first_place (TimeClock Countdown) = S.Countdown None
+first_place (TimeClock Changing) = S.Countdown None
 first_place (Input feed) = S.Unasked
 first_place Output = S.Unasked
 first_place (ClockInput feed) = S.Unasked
@@ -52,31 +54,38 @@ first_clock (TimeClock (Periodic interval shift)) =
     record { variability = V.Constant; interval = Some interval; shift = Some shift }
 first_clock (TimeClock Answered) = unasked V.Fixed
 first_clock (TimeClock Countdown) = unasked V.Countdown
+first_clock (TimeClock Changing) = unasked V.Changing
 first_clock (Input feed) = unasked V.Triggered
 first_clock Output = unasked V.Triggered
 first_clock (ClockInput feed) = unasked V.Triggered
 first_clock ClockOutput = unasked V.Triggered
+
+-- no component has an event time
+abbrev pub no_events : System → List (Option ℕ)
+no_events system = map (λ (c : Component). None) system.components
 
 abbrev pub first_table : System → (start stop : ℕ) → Timetable
 first_table system start stop = record {
   start = start;
   stop = stop;
   clocks = map (λ (port : Port). first_place port.role) system.ports;
+  events = no_events system;
 }
 
--- where it stands later: a constant or fixed Clock has an interval and a shift, and a countdown Clock is armed or not
+-- where it stands later: a constant or fixed Clock has an interval and a shift, and a countdown or changing Clock is armed or not
 abbrev pub IsPlaceOf : Role → ClockState → Type 0
 IsPlaceOf (TimeClock (Periodic interval shift)) place =
     (ticks : ℕ) × (place ≡ S.Periodic interval shift ticks)
 IsPlaceOf (TimeClock Answered) place =
     (interval shift ticks : ℕ) × (place ≡ S.Periodic interval shift ticks) × (0 < interval)
 IsPlaceOf (TimeClock Countdown) place = (armed : Option ℕ) × (place ≡ S.Countdown armed)
+IsPlaceOf (TimeClock Changing) place = (armed : Option ℕ) × (place ≡ S.Countdown armed)
 IsPlaceOf (Input feed) place = place ≡ S.Unasked
 IsPlaceOf Output place = place ≡ S.Unasked
 IsPlaceOf (ClockInput feed) place = place ≡ S.Unasked
 IsPlaceOf ClockOutput place = place ≡ S.Unasked
 
--- the next tick of a Clock is its first at the point, or behind it; in a later instant of the point its first behind it. A countdown Clock isn't armed for an earlier point
+-- the next tick of a Clock is its first at the point, or behind it; in a later instant of the point its first behind it. A countdown or changing Clock isn't armed for an earlier point
 abbrev pub IsNextFrom : (start t : ℕ) → (is_first : Bool) → ClockState → Type 0
 IsNextFrom start t is_first S.Unasked = ⊤
 IsNextFrom start t true (S.Periodic interval shift ticks) =
@@ -90,6 +99,7 @@ IsNextFrom start t is_first (S.Countdown armed) = IfSome armed (λ point. t ≤ 
 -- the schedule stands before an instant at the point, the first there or a later one
 pub record StandsAt (system : System) (t : ℕ) (is_first : Bool) (table : Timetable) : Type 0 where
   pub len : length table.clocks ≡ length system.ports
+  pub components : length table.events ≡ length system.components
   pub places : (p : ℕ) (port : Port) (place : ClockState) → slice_get system.ports p ≡ Some port →
       slice_get table.clocks p ≡ Some place → IsPlaceOf port.role place
   pub next : All (IsNextFrom table.start t is_first) table.clocks

@@ -1,7 +1,8 @@
--- The questions for the intervals of Clocks (FMI 3.0, 2.2.9: fmi3GetIntervalFraction, fmi3GetShiftFraction): of fixed Clocks in Initialization Mode, of countdown Clocks behind each instant.
+-- The questions for the intervals of Clocks (FMI 3.0, 2.2.9: fmi3GetIntervalFraction, fmi3GetShiftFraction): of fixed and changing Clocks in Initialization Mode, of countdown and changing Clocks behind instants.
 use Rattle.std.specs.Prelude.{◌≡◌, ℕ, suc, ℤ, Bool, true, false, if◌then◌else◌, List, [], ◌∷◌, ◌++◌, Option, Some, None, Result, Ok, Err}
 use Rattle.std.specs.List.{list_any, slice_get}
 use Rattle.std.specs.Option.{option_map_or}
+use Rattle.clock_fraction.specs.Counts.{counts_of}
 use Rattle.clock_fraction.specs.declared.fraction.Fraction.{Fraction}
 use Rattle.fmi_calls.specs.declared.call.Call.{Call}
 use Rattle.fmi_calls.specs.declared.call.Call.TheVariants as C
@@ -11,7 +12,7 @@ use Rattle.fmi_calls.specs.declared.call.Reply.{Reply}
 use Rattle.fmu_peer.specs.CloseAll.{Instance}
 use Rattle.system_model.specs.declared.system.Role.{Role}
 use Rattle.system_model.specs.declared.system.Role.TheVariants.{Input, Output, ClockInput, ClockOutput, TimeClock}
-use Rattle.system_model.specs.declared.system.Timing.TheVariants.{Periodic, Answered, Countdown}
+use Rattle.system_model.specs.declared.system.Timing.TheVariants.{Periodic, Answered, Countdown, Changing}
 use Rattle.system_model.specs.declared.system.Port.{Port}
 use Rattle.system_model.specs.declared.system.System.{System}
 use Rattle.tick_schedule.specs.Timetable.{Timetable}
@@ -20,7 +21,7 @@ use Rattle.system_model.specs.Values.{value, is_active}
 use Rattle.run_model.specs.Initial.{first_timers, initialized, interval_in, shift_in}
 use Rattle.run_model.specs.AfterInstant.{next_timers, written}
 use Rattle.run_model.specs.Machines.{AreMachines, IsSituation}
-use Rattle.run_model.specs.Timers.{answered, fixed, is_armed_for}
+use Rattle.run_model.specs.Timers.{answered, armed_after, fixed, is_armed_for, rearmed}
 use Rattle.slot_calls.specs.declared.bad_answer.BadAnswer.{BadAnswer}
 use Rattle.slot_calls.specs.Carried.{reply_in}
 use Rattle.slot_calls.specs.Log.{Asking, Sent, Told}
@@ -37,12 +38,14 @@ interval_by reply = option_map_or interval_in reply NotYetKnown
 abbrev pub shift_by : Option Reply → Fraction
 shift_by reply = option_map_or shift_in reply (record { counter = 0; resolution = 0 })
 
--- ---- fixed Clocks, in Initialization Mode
+-- ---- fixed and changing Clocks, in Initialization Mode
 
--- interval and shift of a fixed Clock whose FMU is asked for them
+-- interval and shift of a fixed Clock whose FMU is asked for them, and the shift of a changing Clock
 abbrev pub timing_calls_of : Role → Port → List Asking
 timing_calls_of (TimeClock Answered) port =
     record { component = port.component.0; call = C.GetInterval port.reference } ∷
+    record { component = port.component.0; call = C.GetShift port.reference } ∷ []
+timing_calls_of (TimeClock Changing) port =
     record { component = port.component.0; call = C.GetShift port.reference } ∷ []
 timing_calls_of (TimeClock (Periodic interval shift)) port = []
 timing_calls_of (TimeClock Countdown) port = []
@@ -55,7 +58,7 @@ abbrev pub timing_calls_in : List Port → List Asking
 timing_calls_in [] = []
 timing_calls_in (port ∷ ports) = timing_calls_of port.role port ++ timing_calls_in ports
 
--- those of all fixed Clocks, in port order
+-- those of all these Clocks, in port order
 abbrev pub timing_calls : System → List Asking
 timing_calls system = timing_calls_in system.ports
 
@@ -72,19 +75,32 @@ behind_two (interval ∷ shift ∷ log) = log
 behind_two (interval ∷ []) = []
 behind_two [] = []
 
+-- the timer that the answer tells which stands first in the log: armed after the shift from the start
+abbrev pub shifted_timer : (per_second start : ℕ) → List Sent → Timer
+shifted_timer per_second start (shift ∷ log) =
+    armed_after start (counts_of (shift_by (reply_in shift.exchange)) per_second)
+shifted_timer per_second start [] = Never
+
+-- the log behind that one
+abbrev pub behind_one : List Sent → List Sent
+behind_one (shift ∷ log) = log
+behind_one [] = []
+
 -- the timer of a port before the first instant: by its description, or by the answers that stand first in the log
-abbrev pub first_told_by : Role → ℕ → List Sent → Timer
-first_told_by (TimeClock Answered) per_second log = told_timer per_second log
-first_told_by (TimeClock (Periodic interval shift)) per_second log = Every interval shift
-first_told_by (TimeClock Countdown) per_second log = Never
-first_told_by (Input feed) per_second log = Never
-first_told_by Output per_second log = Never
-first_told_by (ClockInput feed) per_second log = Never
-first_told_by ClockOutput per_second log = Never
+abbrev pub first_told_by : Role → (per_second start : ℕ) → List Sent → Timer
+first_told_by (TimeClock Answered) per_second start log = told_timer per_second log
+first_told_by (TimeClock Changing) per_second start log = shifted_timer per_second start log
+first_told_by (TimeClock (Periodic interval shift)) per_second start log = Every interval shift
+first_told_by (TimeClock Countdown) per_second start log = Never
+first_told_by (Input feed) per_second start log = Never
+first_told_by Output per_second start log = Never
+first_told_by (ClockInput feed) per_second start log = Never
+first_told_by ClockOutput per_second start log = Never
 
 -- the log behind the answers that are about the port
 abbrev pub log_behind : Role → List Sent → List Sent
 log_behind (TimeClock Answered) log = behind_two log
+log_behind (TimeClock Changing) log = behind_one log
 log_behind (TimeClock (Periodic interval shift)) log = log
 log_behind (TimeClock Countdown) log = log
 log_behind (Input feed) log = log
@@ -92,60 +108,67 @@ log_behind Output log = log
 log_behind (ClockInput feed) log = log
 log_behind ClockOutput log = log
 
-abbrev pub first_told_in : ℕ → List Port → List Sent → List Timer
-first_told_in per_second [] log = []
-first_told_in per_second (port ∷ ports) log =
-    first_told_by port.role per_second log ∷
-    first_told_in per_second ports (log_behind port.role log)
+abbrev pub first_told_in : (per_second start : ℕ) → List Port → List Sent → List Timer
+first_told_in per_second start [] log = []
+first_told_in per_second start (port ∷ ports) log =
+    first_told_by port.role per_second start log ∷
+    first_told_in per_second start ports (log_behind port.role log)
 
--- the timers of all ports by the answers of the fixed Clocks
-abbrev pub first_told : ℕ → System → List Sent → List Timer
-first_told per_second system log = first_told_in per_second system.ports log
+-- the timers of all ports by the answers of these Clocks
+abbrev pub first_told : (per_second start : ℕ) → System → List Sent → List Timer
+first_told per_second start system log = first_told_in per_second start system.ports log
 
--- by this log each fixed Clock was asked, which tells these timers; or a bad answer stopped it
-abbrev pub FixesBy : System → ℕ → List Timer → List Sent → Result (Unit {0}) BadAnswer → Type 0
-FixesBy system per_second timers log (Ok x) =
+-- by this log each such Clock was asked, which tells these timers; or a bad answer stopped it
+abbrev pub FixesBy : System → (per_second start : ℕ) → List Timer → List Sent →
+    Result (Unit {0}) BadAnswer → Type 0
+FixesBy system per_second start timers log (Ok x) =
     IsAnswered (shapes_of system) (timing_calls system) log ×
-    (timers ≡ first_told per_second system log)
-FixesBy system per_second timers log (Err bad) =
+    (timers ≡ first_told per_second start system log)
+FixesBy system per_second start timers log (Err bad) =
     StopsAt (shapes_of system) (timing_calls system) bad log
 
-pub record Fixes (system : System) (per_second : ℕ) (timers : List Timer)
+pub record Fixes (system : System) (per_second start : ℕ) (timers : List Timer)
     (olds news : List Instance) (result : Result (Unit {0}) BadAnswer) : Type 0 where
   pub log : List Sent
   pub told : Told log olds news
-  pub says : FixesBy system per_second timers log result
+  pub says : FixesBy system per_second start timers log result
 
 -- where the instances are machines with the values of Initialization Mode, they stay, and these are the timers of the run
-abbrev pub FixesForMachines : System → ℕ → List Timer → List Instance → List Instance → Type 0
-FixesForMachines system per_second timers olds news =
+abbrev pub FixesForMachines : System → (per_second start : ℕ) → List Timer →
+    List Instance → List Instance → Type 0
+FixesForMachines system per_second start timers olds news =
     (r : Run) (values : List (Option ℤ)) → r.system ≡ system →
-    r.plan.resolution ≡ per_second → AreMachines r →
+    r.plan.resolution ≡ per_second → r.plan.start ≡ start → AreMachines r →
     AreAt r (initialized r values) olds → AreAt r (initialized r values) news ×
     (timers ≡ first_timers r (initialized r values))
 
--- ---- countdown Clocks, behind an instant
+-- ---- countdown and changing Clocks, behind an instant
 
-abbrev pub asks_interval : Role → Port → Option Call
-asks_interval (TimeClock Countdown) port = Some (C.GetInterval port.reference)
-asks_interval (TimeClock (Periodic interval shift)) port = None
-asks_interval (TimeClock Answered) port = None
-asks_interval (Input feed) port = None
-asks_interval Output port = None
-asks_interval (ClockInput feed) port = None
-asks_interval ClockOutput port = None
+-- a countdown Clock is asked for its interval, and a changing one where it ticks
+abbrev pub asks_interval : Role → Port → Option ℤ → Option Call
+asks_interval (TimeClock Countdown) port v = Some (C.GetInterval port.reference)
+asks_interval (TimeClock Changing) port v =
+    if is_active v then Some (C.GetInterval port.reference) else None
+asks_interval (TimeClock (Periodic interval shift)) port v = None
+asks_interval (TimeClock Answered) port v = None
+asks_interval (Input feed) port v = None
+asks_interval Output port v = None
+asks_interval (ClockInput feed) port v = None
+asks_interval ClockOutput port v = None
 
--- each countdown Clock is asked for its interval; the values stay
-abbrev pub intervals : Rules
-intervals = record {
-  asks = λ p port c values. asks_interval port.role port;
+-- behind an instant with these values each such Clock is asked for its interval; the values stay
+abbrev pub intervals : List (Option ℤ) → Rules
+intervals now = record {
+  asks = λ p port c values. asks_interval port.role port (value now p);
   takes = λ p port values last reply. last;
 }
 
--- the timer of a port behind an instant: its tick takes the arming of a countdown Clock away, and then what its FMU answers arms it, leaves it or takes it away
+-- the timer of a port behind an instant: its tick takes the arming of a countdown Clock away, and then what its FMU answers arms it, leaves it or takes it away; a changing Clock that ticked is armed by what its FMU answers
 abbrev pub timer_behind : Role → (per_second t : ℕ) → Option ℤ → Option Reply → Timer → Timer
 timer_behind (TimeClock Countdown) per_second t v reply old =
     answered per_second t (interval_by reply) (if is_active v then Never else old)
+timer_behind (TimeClock Changing) per_second t v reply old =
+    if is_active v then rearmed per_second t (interval_by reply) else old
 timer_behind (TimeClock (Periodic interval shift)) per_second t v reply old = old
 timer_behind (TimeClock Answered) per_second t v reply old = old
 timer_behind (Input feed) per_second t v reply old = old
@@ -166,10 +189,10 @@ abbrev pub timers_behind : (per_second t : ℕ) → System → List (Option ℤ)
 timers_behind per_second t system values replies olds =
     timers_behind_from per_second t values replies 0 system.ports olds
 
--- by this log the countdown Clocks were asked behind an instant at the point, with its values, and the timers went from these to those
+-- by this log the countdown and changing Clocks were asked behind an instant at the point, with its values, and the timers went from these to those
 pub record Rearms (system : System) (per_second t : ℕ) (values : List (Option ℤ))
     (olds news : List Timer) (log : List Sent) : Type 0 where
-  pub explains : Explains system intervals values (port_order system) values log
+  pub explains : Explains system (intervals values) values (port_order system) values log
   pub timers_are : news ≡ timers_behind per_second t system values explains.replies olds
 
 -- a Clock is armed for the point
@@ -182,7 +205,7 @@ abbrev pub RearmsBy : System → (per_second t : ℕ) → List (Option ℤ) → 
 RearmsBy system per_second t values before after log (Ok armed) =
     Rearms system per_second t values before after log × (armed ≡ is_some_armed t after)
 RearmsBy system per_second t values before after log (Err bad) =
-    ExplainsUntil system intervals values (port_order system) bad values log
+    ExplainsUntil system (intervals values) values (port_order system) bad values log
 
 pub record AsksIntervals (system : System) (per_second t : ℕ) (values : List (Option ℤ))
     (before after : List Timer) (olds news : List Instance)

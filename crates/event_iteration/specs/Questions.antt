@@ -11,18 +11,19 @@ use Rattle.fmi_calls.specs.declared.call.Interval.TheVariants.{NotYetKnown, Unch
 use Rattle.fmi_calls.specs.declared.call.Reply.{Reply}
 use Rattle.fmi_calls.specs.declared.phase.InstanceState.{InstanceState}
 use Rattle.fmi_calls.specs.Next.{running_state}
-use Rattle.fmi_calls.specs.Permission.{has_interval, has_shift}
+use Rattle.fmi_calls.specs.Permission.{has_interval, has_shift, is_marked}
 use Rattle.fmu_peer.specs.CloseAll.{Instance}
 use Rattle.system_model.specs.declared.system.Role.{Role}
 use Rattle.system_model.specs.declared.system.Role.TheVariants.{Input, Output, ClockInput, ClockOutput, TimeClock}
-use Rattle.system_model.specs.declared.system.Timing.TheVariants.{Periodic, Answered, Countdown}
+use Rattle.system_model.specs.declared.system.Timing.TheVariants.{Periodic, Answered, Countdown, Changing}
 use Rattle.system_model.specs.declared.system.Component.{Component}
 use Rattle.system_model.specs.declared.system.Port.{Port}
 use Rattle.system_model.specs.declared.system.System.{System}
+use Rattle.system_model.specs.Ports.{is_clock_role}
 use Rattle.tick_schedule.specs.declared.clock.ClockState.{ClockState}
 use Rattle.tick_schedule.specs.declared.clock.ClockState.TheVariants as S
 use Rattle.tick_schedule.specs.Timetable.{Timetable, after_tick, with_clock}
-use Rattle.run_model.specs.Run.{Timer, Every}
+use Rattle.run_model.specs.Run.{Timer, Every, Once}
 use Rattle.system_model.specs.Values.{value, is_active}
 use Rattle.run_model.specs.Timers.{is_armed_for}
 use Rattle.slot_calls.specs.declared.bad_answer.BadAnswer.{BadAnswer}
@@ -35,28 +36,48 @@ use Rattle.event_iteration.specs.Turns.{Stops, Turn}
 
 -- ---- one question
 
--- the state of each instance
-abbrev pub modes : List Instance → List InstanceState
-modes is = map (λ (x : Instance). x.view.phase.state) is
+-- the mode of an instance: its state, and which of its variables are active Clocks
+pub record InstanceMode : Type 0 where
+  pub state : InstanceState
+  pub active : List Bool
+
+abbrev pub mode_of : Instance → InstanceMode
+mode_of x = record { state = x.view.phase.state; active = x.view.phase.active }
+
+abbrev pub modes : List Instance → List InstanceMode
+modes is = map mode_of is
 
 -- an interval or a shift may be asked for there
-abbrev pub may_tell : Call → InstanceState → Shape → Bool
-may_tell (C.GetInterval reference) state shape = has_interval state shape reference
-may_tell (C.GetShift reference) state shape = has_shift state shape reference
-may_tell _ state shape = false
+abbrev pub may_tell : Call → InstanceMode → Shape → Bool
+may_tell (C.GetInterval reference) mode shape =
+    has_interval mode.state shape mode.active reference
+may_tell (C.GetShift reference) mode shape = has_shift mode.state shape reference
+may_tell _ mode shape = false
 
 -- the i-th instance may be asked so
 abbrev pub MayTell : Call → ℕ → List Instance → Type 0
 MayTell call i is =
-    (state : InstanceState) (shape : Shape) → slice_get (modes is) i ≡ Some state →
-    slice_get (shapes is) i ≡ Some shape → may_tell call state shape ≡ true
+    (mode : InstanceMode) (shape : Shape) → slice_get (modes is) i ≡ Some mode →
+    slice_get (shapes is) i ≡ Some shape → may_tell call mode shape ≡ true
+
+-- a Clock whose value is active is so in its FMU
+abbrev pub IsActive : System → ℕ → Option ℤ → List InstanceMode → Type 0
+IsActive system p v modes =
+    (port : Port) (c : Component) (mode : InstanceMode) → slice_get system.ports p ≡ Some port →
+    slice_get system.components port.component.0 ≡ Some c →
+    slice_get modes port.component.0 ≡ Some mode → is_clock_role port.role ≡ true →
+    is_active v ≡ true → is_marked c.shape mode.active port.reference ≡ true
+
+-- each Clock that is active in the values
+abbrev pub AreActive : System → List (Option ℤ) → List InstanceMode → Type 0
+AreActive system values modes = (p : ℕ) → IsActive system p (value values p) modes
 
 -- the reply that stands first in a log
 abbrev pub first_reply : List Sent → Option Reply
 first_reply [] = None
 first_reply (s ∷ log) = reply_in s.exchange
 
--- ---- fixed Clocks
+-- ---- fixed and changing Clocks
 
 -- where the Clock of a port stands before the first instant, its FMU asked
 pub record IsFirstPlace (start : ℕ) (role : Role) (place : ClockState) : Type 0 where
@@ -68,10 +89,22 @@ abbrev pub is_asked : Role → Bool
 is_asked (TimeClock Answered) = true
 is_asked (TimeClock (Periodic interval shift)) = false
 is_asked (TimeClock Countdown) = false
+is_asked (TimeClock Changing) = false
 is_asked (Input feed) = false
 is_asked Output = false
 is_asked (ClockInput feed) = false
 is_asked ClockOutput = false
+
+-- a changing Clock, whose FMU is asked for its shift
+abbrev pub is_changing : Role → Bool
+is_changing (TimeClock Changing) = true
+is_changing (TimeClock Answered) = false
+is_changing (TimeClock (Periodic interval shift)) = false
+is_changing (TimeClock Countdown) = false
+is_changing (Input feed) = false
+is_changing Output = false
+is_changing (ClockInput feed) = false
+is_changing ClockOutput = false
 
 -- the counts of an interval that is known
 abbrev pub counts_told : ℕ → Interval → Option ℕ
@@ -87,12 +120,18 @@ pub record IsEntered (p : ℕ) (timer : Timer) (before after : Timetable) : Type
   pub above : 0 < interval
   pub timer_is : timer ≡ Every interval shift
 
+-- a changing Clock is armed for the shift from the start, and this is its timer
+pub record IsShifted (p : ℕ) (timer : Timer) (before after : Timetable) : Type 0 where
+  pub shift : ℕ
+  pub is : after ≡ with_clock before p (S.Countdown (Some (before.start + shift)))
+  pub timer_is : timer ≡ Once (before.start + shift)
+
 -- the Clock of a port stands where this log tells
 pub record IsFixed (role : Role) (per_second p : ℕ) (log : List Sent)
     (before after : Timetable) : Type 0 where
   pub place : ClockState
   pub is : after ≡ with_clock before p place
-  pub timer : timer_in place ≡ first_told_by role per_second log
+  pub timer : timer_in place ≡ first_told_by role per_second before.start log
   pub first : IsFirstPlace before.start role place
 
 abbrev pub FixSays : Role → Port → (per_second p : ℕ) → List Shape → List Sent → Timetable →
@@ -102,7 +141,7 @@ FixSays role port per_second p ss log before after (Ok x) =
 FixSays role port per_second p ss log before after (Err bad) =
     StopsAt ss (timing_calls_of role port) bad log
 
--- a port's FMU was asked for interval and shift where it is a fixed Clock, or a bad answer stopped it
+-- a port's FMU was asked for interval and shift where it is a fixed Clock, and for the shift where it is a changing one, or a bad answer stopped it
 pub record FixesPort (port : Port) (per_second p : ℕ) (before after : Timetable)
     (olds news : List Instance) (result : Result (Unit {0}) BadAnswer) : Type 0 where
   pub log : List Sent
@@ -118,36 +157,49 @@ pub record IsFixedUpTo (system : System) (k : ℕ) (table : Timetable) : Type 0 
   pub ahead : (q : ℕ) (port : Port) → k ≤ q → slice_get system.ports q ≡ Some port →
       slice_get table.clocks q ≡ Some (first_place port.role)
 
--- ---- countdown Clocks
+-- ---- countdown and changing Clocks, behind an instant
 
 -- each component with event mode is in Event Mode
-abbrev pub AreRunning : System → List InstanceState → Type 0
-AreRunning system states =
-    (i : ℕ) (c : Component) (state : InstanceState) → slice_get system.components i ≡ Some c →
-    slice_get states i ≡ Some state → state ≡ running_state c.shape
+abbrev pub AreRunning : System → List InstanceMode → Type 0
+AreRunning system modes =
+    (i : ℕ) (c : Component) (mode : InstanceMode) → slice_get system.components i ≡ Some c →
+    slice_get modes i ≡ Some mode → mode.state ≡ running_state c.shape
 
 abbrev pub counts_down : Role → Bool
 counts_down (TimeClock Countdown) = true
 counts_down (TimeClock (Periodic interval shift)) = false
 counts_down (TimeClock Answered) = false
+counts_down (TimeClock Changing) = false
 counts_down (Input feed) = false
 counts_down Output = false
 counts_down (ClockInput feed) = false
 counts_down ClockOutput = false
 
--- a port was asked for its interval where it is a countdown Clock
-abbrev pub AskSays : System → ℕ → List Sent → Result (Option Reply) BadAnswer → Type 0
-AskSays system p log (Ok reply) =
-    (values : List (Option ℤ)) → Turn system intervals p reply values values log
-AskSays system p log (Err bad) =
-    (last : Sent) × (log ≡ last ∷ []) ×
-    ((values : List (Option ℤ)) → Stops system intervals p bad values last)
+-- a port whose FMU is asked for its interval where the port has this value
+abbrev pub is_asked_after : Role → Option ℤ → Bool
+is_asked_after (TimeClock Countdown) v = true
+is_asked_after (TimeClock Changing) v = is_active v
+is_asked_after (TimeClock (Periodic interval shift)) v = false
+is_asked_after (TimeClock Answered) v = false
+is_asked_after (Input feed) v = false
+is_asked_after Output v = false
+is_asked_after (ClockInput feed) v = false
+is_asked_after ClockOutput v = false
 
-pub record AsksPort (system : System) (p : ℕ) (olds news : List Instance)
+-- a port was asked for its interval where it is a countdown Clock, or a changing one that ticks
+abbrev pub AskSays : System → ℕ → Option ℤ → List Sent → Result (Option Reply) BadAnswer → Type 0
+AskSays system p v log (Ok reply) =
+    (values : List (Option ℤ)) → value values p ≡ v →
+    Turn system (intervals values) p reply values values log
+AskSays system p v log (Err bad) =
+    (last : Sent) × (log ≡ last ∷ []) ×
+    ((values : List (Option ℤ)) → value values p ≡ v → Stops system (intervals values) p bad values last)
+
+pub record AsksPort (system : System) (p : ℕ) (v : Option ℤ) (olds news : List Instance)
     (result : Result (Option Reply) BadAnswer) : Type 0 where
   pub log : List Sent
   pub told : Told log olds news
-  pub says : AskSays system p log result
+  pub says : AskSays system p v log result
 
 -- where a countdown Clock stands once its FMU has answered at the point
 abbrev pub rearmed : (per_second t : ℕ) → Interval → ClockState → ClockState
@@ -155,6 +207,11 @@ rearmed per_second t NotYetKnown place = S.Countdown None
 rearmed per_second t (Unchanged f) place = place
 rearmed per_second t (Changed f) place =
     S.Countdown (option_map (λ counts. t + counts) (counts_of f per_second))
+
+-- where a changing Clock stands that has ticked, once its FMU has answered at the point
+abbrev pub armed_anew : (per_second t : ℕ) → Interval → ClockState
+armed_anew per_second t told =
+    S.Countdown (option_map (λ counts. t + counts) (counts_told per_second told))
 
 -- where a Clock stands that ticked or not
 abbrev pub ticked_if : Bool → ClockState → ClockState
@@ -164,6 +221,8 @@ ticked_if ticks place = if ticks then after_tick place else place
 abbrev pub place_behind : Role → (per_second t : ℕ) → Option ℤ → Interval → ClockState → ClockState
 place_behind (TimeClock Countdown) per_second t v told place =
     rearmed per_second t told (ticked_if (is_active v) place)
+place_behind (TimeClock Changing) per_second t v told place =
+    if is_active v then armed_anew per_second t told else place
 place_behind (TimeClock (Periodic interval shift)) per_second t v told place =
     ticked_if (is_active v) place
 place_behind (TimeClock Answered) per_second t v told place = ticked_if (is_active v) place
@@ -193,7 +252,11 @@ IsArmed t p table armed =
     (place : ClockState) → slice_get table.clocks p ≡ Some place →
     armed ≡ is_armed_for t (timer_in place)
 
--- a new interval of no count
+-- an interval of no count arms for the point itself: of a changing Clock
+abbrev pub has_no_count : ℕ → Interval → Bool
+has_no_count per_second told = option_map_or (λ counts. counts == 0) (counts_told per_second told) false
+
+-- and of a countdown Clock a new one
 abbrev pub arms_now : ℕ → Interval → Bool
 arms_now per_second NotYetKnown = false
 arms_now per_second (Unchanged f) = false
@@ -205,6 +268,7 @@ pub record IsBehindUpTo (system : System) (per_second t : ℕ) (values : List (O
     (replies : ℕ → Option Reply) (k : ℕ) (before after : Timetable) : Type 0 where
   pub start : after.start ≡ before.start
   pub stop : after.stop ≡ before.stop
+  pub events : after.events ≡ before.events
   pub len : length after.clocks ≡ length before.clocks
   pub behind : (q : ℕ) (port : Port) (place : ClockState) → q < k →
       slice_get system.ports q ≡ Some port → slice_get before.clocks q ≡ Some place →

@@ -98,13 +98,14 @@ step_span false = record { from = 2; below = 3 }
 abbrev pub timing_span : Span
 timing_span = record { from = 3; below = 4 }
 
--- the walks of a sound system, and its questions for the timing of fixed Clocks
+-- the walks of a sound system, and its questions for the timing of fixed and changing Clocks
 pub record UsesAre (system : System) : Type 0 where
   pub initial : WalkUses system (initially system) (numbers system.initial_order) initial_span
   pub instant : (ticks : ℕ → Bool) (is_first : Bool) →
       WalkUses system (in_instant ticks is_first) (numbers system.instant_order)
       (instant_span is_first)
-  pub interval : WalkUses system intervals (port_order system) interval_span
+  pub interval : (values : List (Option ℤ)) →
+      WalkUses system (intervals values) (port_order system) interval_span
   pub step : (values : List (Option ℤ)) →
       WalkUses system (before_step values) (port_order system) step_span
   pub timing : (k : ℕ) → AreNew timing_span (own k (timing_calls system))

@@ -14,6 +14,7 @@ ghost use Rattle.event_iteration.specs.Initialization.{IsPlaced};
 ghost use Rattle.event_iteration.specs.Instants.{BeginsInstant, HasPlacedClocks, SolvesInInstant, asks_in_instant, in_instant, is_read_in_instant, seen_or, takes_in_instant};
 ghost use Rattle.event_iteration.specs.Clocks.{AreTicks, StandsAt, is_due_at, timers_in};
 ghost use Rattle.event_iteration.specs.Intervals.{TellsTicks};
+ghost use Rattle.event_iteration.specs.Questions.{AreActive, modes};
 ghost use Rattle.event_iteration.specs.Turns.{MayTurn, TakesTurn};
 
 use crate::initialization::set_call;
@@ -225,6 +226,8 @@ pub fn instant<L: Peer>(
     ensures due { (n : ℕ) → (n == 0) ≡ is_first → AreTicks system.now schedule.now.start
         (timers_in schedule.now) t n (is_due_at schedule.now t) }
     ensures ticks { OnOk result (TellsTicks system.now schedule.now t values.new) }
+    ensures active { OnOk result
+        (AreActive system.now values.new (modes (instances L.view slots.new))) }
     ensures solved { OnOk result
         (SolvesInInstant system.now schedule.now t is_first values.old values.new
         (instances L.view slots.old) (instances L.view slots.new)) }

@@ -1,19 +1,22 @@
-ghost use Rattle.std.specs.Prelude.{◌≡◌, ◌<◌, Some, false, true, OnOk, All, length};
+ghost use Rattle.std.specs.Prelude.{◌≡◌, ◌+◌, ◌<◌, ◌==◌, Some, false, true, OnOk, All, length, option_map};
 ghost use Rattle.std.specs.List.{slice_get};
+ghost use Rattle.std.specs.Option.{option_map_or};
+ghost use Rattle.clock_fraction.specs.Counts.{counts_of};
 ghost use Rattle.system_model.specs.declared.system.Component.{Component};
 ghost use Rattle.system_model.specs.Sound.{IsSound};
 ghost use Rattle.tick_schedule.specs.declared.clock.ClockState.{ClockState};
+ghost use Rattle.tick_schedule.specs.declared.clock.ClockState.TheVariants.{Countdown};
 ghost use Rattle.tick_schedule.specs.Timetable.{HasNext, IsCountdown, with_clock};
 ghost use Rattle.slot_calls.specs.Slots.{LiveSlot, Stands, instances};
 ghost use Rattle.slot_calls.specs.Stage.{shapes, shapes_of};
 ghost use Rattle.event_iteration.specs.Clocks.{StandsAt, timers_in};
 ghost use Rattle.event_iteration.specs.Instants.{IsRunning};
 ghost use Rattle.event_iteration.specs.Intervals.{AsksIntervals, RearmsForMachines, TellsTicks, interval_by, is_time_clock};
-ghost use Rattle.event_iteration.specs.Questions.{AreRunning, AsksPort, GoesFrom, IsArmed, IsBehind, arms_now, counts_down, modes, rearmed, ticked_if};
+ghost use Rattle.event_iteration.specs.Questions.{AreActive, AreRunning, AsksPort, GoesFrom, IsActive, IsArmed, IsBehind, armed_anew, arms_now, counts_down, has_no_count, is_asked_after, modes, rearmed, ticked_if};
 
 use crate::clocks::{ask, interval_in};
 use crate::instants::is_active;
-use clock_fraction::to_counts;
+use clock_fraction::{Fraction, to_counts};
 use fmi_calls::{Call, Interval, Reply};
 use fmu_peer::{Peer, Slot};
 use slot_calls::BadAnswer;
@@ -21,9 +24,10 @@ use system_model::{Role, System, Timing};
 use tick_schedule::{Schedule, plain};
 
 /// Goes on behind an instant at a point, with its values (FMI 3.0, 2.2.9): each Clock that ticked in it goes on to its next
-/// tick, and each countdown Clock, whose arming a tick takes away, is asked for its interval, in port order, up to the first
-/// answer that isn't good. A new interval arms it for that many counts behind the point, one that is unchanged leaves it, and
-/// where there is none yet it is armed no longer. It is told whether a Clock is armed for the point itself.
+/// tick, and each countdown Clock, whose arming a tick takes away, is asked for its interval, and so is each changing Clock
+/// that ticked, in port order, up to the first answer that isn't good. A new interval arms a countdown Clock for that many
+/// counts behind the point, one that is unchanged leaves it, and where there is none yet it is armed no longer; any interval
+/// arms a changing Clock. It is told whether a Clock is armed for the point itself.
 pub fn ask_intervals<L: Peer>(
     slots: &mut [Slot<L>],
     system: &System,
@@ -42,9 +46,11 @@ pub fn ask_intervals<L: Peer>(
     requires places { length values.now ≡ length system.now.ports }
     requires stands { StandsAt system.now t is_first schedule.old }
     requires ticks { TellsTicks system.now schedule.old t values.now }
+    requires active { AreActive system.now values.now (modes (instances L.view slots.old)) }
     ensures live { OnOk result (All (LiveSlot L.view) slots.new) }
     ensures run { (schedule.new.start ≡ schedule.old.start) ×
         (schedule.new.stop ≡ schedule.old.stop) }
+    ensures events { schedule.new.events ≡ schedule.old.events }
     ensures stands { OnOk result (StandsAt system.now t false schedule.new) }
     ensures asks { AsksIntervals system.now per_second t values.now (timers_in schedule.old)
         (timers_in schedule.new) (instances L.view slots.old) (instances L.view slots.new) result }
@@ -55,7 +61,7 @@ pub fn ask_intervals<L: Peer>(
     let ports = system.ports.as_slice();
     let mut is_armed = false;
     for p in 0..values.len() {
-        let reply = match ask_interval(slots, system, p) {
+        let reply = match ask_interval(slots, system, p, values[p]) {
             Ok(reply) => reply,
             Err(bad) => return Err(bad),
         };
@@ -65,25 +71,27 @@ pub fn ask_intervals<L: Peer>(
     Ok(is_armed)
 }
 
-// Asks for the interval of one port, if it is a countdown Clock.
+// Asks for the interval of one port, which has this value, if it is a countdown Clock, or a changing one that ticks.
 fn ask_interval<L: Peer>(
     slots: &mut [Slot<L>],
     system: &System,
     p: usize,
+    value: Option<i128>,
 ) -> Result<Option<Reply>, BadAnswer>
     requires port { p < length system.now.ports }
     requires sound { IsSound system.now }
     requires shapes { shapes (instances L.view slots.old) ≡ shapes_of system.now }
     requires live { All (LiveSlot L.view) slots.old }
     requires running { AreRunning system.now (modes (instances L.view slots.old)) }
+    requires active { IsActive system.now p value (modes (instances L.view slots.old)) }
     ensures live { OnOk result (All (LiveSlot L.view) slots.new) }
     ensures modes { OnOk result (modes (instances L.view slots.new) ≡
         modes (instances L.view slots.old)) }
-    ensures asks { AsksPort system.now p (instances L.view slots.old)
+    ensures asks { AsksPort system.now p value (instances L.view slots.old)
         (instances L.view slots.new) result }
 {
     let port = &system.ports.as_slice()[p];
-    if !counts_down(port.role) {
+    if !is_asked_after(port.role, value) {
         return Ok(None);
     }
     match ask(
@@ -126,10 +134,13 @@ fn go_on(
         return false;
     }
     tick_if(schedule, p, is_active(value));
-    if !counts_down(role) {
-        return false;
+    if counts_down(role) {
+        return rearm(schedule, p, interval, per_second, t);
     }
-    rearm(schedule, p, interval, per_second, t)
+    if is_asked_after(role, value) {
+        return arm_anew(schedule, p, interval, per_second, t);
+    }
+    false
 }
 
 // Whether a port is a time-based Clock.
@@ -150,6 +161,33 @@ fn counts_down(role: Role) -> bool
         Role::TimeClock {
             timing: Timing::Countdown,
         } => true,
+        Role::TimeClock {
+            timing: Timing::Periodic { .. },
+        }
+        | Role::TimeClock {
+            timing: Timing::Answered,
+        }
+        | Role::TimeClock {
+            timing: Timing::Changing,
+        }
+        | Role::Input { .. }
+        | Role::Output
+        | Role::ClockInput { .. }
+        | Role::ClockOutput => false,
+    }
+}
+
+// Whether a port that has this value is a countdown Clock, or a changing one that ticks.
+fn is_asked_after(role: Role, value: Option<i128>) -> bool
+    ensures { result ≡ is_asked_after role value }
+{
+    match role {
+        Role::TimeClock {
+            timing: Timing::Countdown,
+        } => true,
+        Role::TimeClock {
+            timing: Timing::Changing,
+        } => is_active(value),
         Role::TimeClock {
             timing: Timing::Periodic { .. },
         }
@@ -187,15 +225,44 @@ fn rearm(schedule: &mut Schedule, p: usize, interval: Interval, per_second: u64,
             false
         }
         Interval::Unchanged(_) => false,
-        Interval::Changed(interval) => match to_counts(interval, per_second) {
-            Some(counts) => {
-                plain::arm(schedule, p, u128::from(t) + counts);
-                counts == 0
-            }
-            None => {
-                plain::disarm(schedule, p);
-                false
-            }
-        },
+        Interval::Changed(interval) => arm_after(schedule, p, interval, per_second, t),
+    }
+}
+
+// Arms a changing Clock by an interval that was answered at the point, and tells whether it is now armed for the point itself.
+fn arm_anew(schedule: &mut Schedule, p: usize, interval: Interval, per_second: u64, t: u64) -> bool
+    requires { IsCountdown schedule.old p }
+    ensures anew { schedule.new ≡ with_clock schedule.old p (armed_anew per_second t interval) }
+    ensures now { result ≡ has_no_count per_second interval }
+{
+    match interval {
+        Interval::NotYetKnown => {
+            plain::disarm(schedule, p);
+            false
+        }
+        Interval::Unchanged(interval) | Interval::Changed(interval) => {
+            arm_after(schedule, p, interval, per_second, t)
+        }
+    }
+}
+
+// Arms a Clock for an interval behind the point, and tells whether it is now armed for the point itself. It is armed no longer
+// where the interval is no whole number of counts.
+fn arm_after(schedule: &mut Schedule, p: usize, interval: Fraction, per_second: u64, t: u64) -> bool
+    requires { IsCountdown schedule.old p }
+    ensures armed { schedule.new ≡ with_clock schedule.old p
+        (Countdown (option_map (λ counts. t + counts) (counts_of interval per_second))) }
+    ensures now { result ≡
+        option_map_or (λ counts. counts == 0) (counts_of interval per_second) false }
+{
+    match to_counts(interval, per_second) {
+        Some(counts) => {
+            plain::arm(schedule, p, u128::from(t) + counts);
+            counts == 0
+        }
+        None => {
+            plain::disarm(schedule, p);
+            false
+        }
     }
 }

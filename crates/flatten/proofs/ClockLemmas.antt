@@ -28,7 +28,7 @@ may_tick Fixed causality is = inl is
 may_tick Countdown causality is = inl is
 may_tick Triggered causality is = is
 may_tick Tunable causality is = absurd is
-may_tick Changing causality is = absurd is
+may_tick Changing causality is = inl is
 
 clock_kind : (kind : Option PortType) → is_clock_type kind ≡ true → is_some kind ≡ true
 clock_kind None is = absurd (true_false (sym is))

@@ -1,6 +1,6 @@
 -- Clocks of a sound shape: what their timings say, in counts.
 use Rattle.std.proofs.Common.{◌≡◌, ℕ, zero, suc, ◌*◌, ◌<◌, ◌≤◌, ◌^◌, Bool, true, false, cond, List, [], ◌∷◌, map, filter, refl, sym, ◌∙◌, ap, subst, arith, nat_eq}
-use Rattle.std.specs.Prelude.{Option, Some, None, IsSomeAnd, IfSome, IsSome, slice_get, ◌==◌, if◌then◌else◌, Contains}
+use Rattle.std.specs.Prelude.{◌≢◌, Option, Some, None, IsSomeAnd, IfSome, IsSome, slice_get, ◌==◌, if◌then◌else◌, Contains}
 use Rattle.std.specs.List.{AllZip, IsDistinct}
 use Rattle.std.proofs.lemmas.Bool.{eqb-true, eq-eqb}
 use Rattle.std.proofs.lemmas.Option.{none-some as none_some, same_Some}
@@ -10,6 +10,7 @@ use Rattle.clock_fraction.specs.Counts.{IsCounts, IsInCounts}
 use Rattle.clock_fraction.specs.declared.fraction.Fraction.{Fraction}
 use Rattle.value_types.specs.Shape.{is_clock, timing_at}
 use Rattle.value_types.specs.declared.shape.ClockTiming.{ClockTiming}
+use Rattle.value_types.specs.declared.shape.IntervalVariability.TheVariants.{Changing}
 use Rattle.value_types.specs.declared.shape.Variable.{Variable}
 use Rattle.value_types.specs.declared.shape.Shape.{Shape}
 use Rattle.system_model.specs.Shapes.{IsSoundShape, IsSoundClock, is_described}
@@ -104,8 +105,9 @@ pub periodic : (shape : Shape) (x : Variable) (clock : ClockTiming) (per_second 
     → interval ≤ 2 ^ 126 → shift ≤ 2 ^ 126 → IsPeriodic per_second clock interval shift
 periodic shape x clock per_second interval shift sound same per described i s few_i few_s =
     let told = sound.described described in
-    let of_interval = counted clock.interval per_second (λ (f : Fraction). 0 < f.counter) told.0 (subst (λ r. IfSome clock.interval (λ (f : Fraction). (0 < f.counter) × IsInCounts r f)) same sound.interval) interval i in
-    let of_shift = counted clock.shift per_second (λ (f : Fraction). Unit {0}) told.1 (plain clock.shift (IsInCounts per_second) (subst (λ r. IfSome clock.shift (IsInCounts r)) same sound.shift)) shift s in
+    let used : clock.variability ≢ Changing = λ changing. true_false (sym described ∙ ap (λ k. is_described k clock.supports_fraction) changing) in
+    let of_interval = counted clock.interval per_second (λ (f : Fraction). 0 < f.counter) told.0 (subst (λ r. IfSome clock.interval (λ (f : Fraction). (0 < f.counter) × IsInCounts r f)) same (sound.interval used)) interval i in
+    let of_shift = counted clock.shift per_second (λ (f : Fraction). Unit {0}) told.1 (plain clock.shift (IsInCounts per_second) (subst (λ r. IfSome clock.shift (IsInCounts r)) same (sound.shift used))) shift s in
     record {
       described = described;
       interval_counts = second clock.interval (λ (f : Fraction). 0 < f.counter) (λ (f : Fraction). IsCounts f per_second interval) of_interval;

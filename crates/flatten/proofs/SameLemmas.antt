@@ -12,6 +12,7 @@ use Rattle.clock_fraction.specs.Counts.{IsCounts}
 use Rattle.clock_fraction.specs.declared.fraction.Fraction.{Fraction}
 use Rattle.value_types.specs.Shape.{is_clock, timing_at, variable_at}
 use Rattle.value_types.specs.declared.shape.Causality.TheVariants as c
+use Rattle.value_types.specs.declared.shape.IntervalVariability.{IntervalVariability}
 use Rattle.value_types.specs.declared.shape.IntervalVariability.TheVariants as v
 use Rattle.value_types.specs.declared.shape.ClockTiming.{ClockTiming}
 use Rattle.value_types.specs.declared.shape.Variable.{Variable}
@@ -23,7 +24,7 @@ use Rattle.system_model.specs.declared.system.Port.{Port}
 use Rattle.system_model.specs.declared.system.Role.{Role}
 use Rattle.system_model.specs.declared.system.Role.TheVariants.{Input, Output, ClockInput, ClockOutput, TimeClock}
 use Rattle.system_model.specs.declared.system.Timing.{Timing}
-use Rattle.system_model.specs.declared.system.Timing.TheVariants.{Periodic, Answered, Countdown}
+use Rattle.system_model.specs.declared.system.Timing.TheVariants.{Periodic, Answered, Countdown, Changing}
 use Rattle.system_model.specs.declared.system.System.{System}
 use Rattle.system_model.specs.Needs.{DependsOn, Needs, NeedsInitially, ByFeed, ByClock, ByDependency, InitiallyByFeed, InitiallyByDependency, is_unclocked_at}
 use Rattle.system_model.specs.Ports.{Label, label_of, labels_from, numbers, source_of}
@@ -95,32 +96,38 @@ same_told (Some f) per_second m n a b = same_counts f per_second m n a b
 fixed_asked : (clock : ClockTiming) → is_described clock.variability clock.supports_fraction ≡ true → clock.variability ≡ v.Fixed → clock.supports_fraction ≡ true → ⊥
 fixed_asked clock described fixed asked = true_false (sym described ∙ ap (λ k. is_described k clock.supports_fraction) fixed ∙ ap (λ b. is_described v.Fixed b) asked)
 
-counted_down : (clock : ClockTiming) → is_described clock.variability clock.supports_fraction ≡ true → clock.variability ≡ v.Countdown → ⊥
-counted_down clock described countdown = true_false (sym described ∙ ap (λ k. is_described k clock.supports_fraction) countdown)
-
-triggered : (clock : ClockTiming) → is_described clock.variability clock.supports_fraction ≡ true → clock.variability ≡ v.Triggered → ⊥
-triggered clock described trigger = true_false (sym described ∙ ap (λ k. is_described k clock.supports_fraction) trigger)
+-- an interval that is described is of none of the other kinds
+undescribed : (clock : ClockTiming) (other : IntervalVariability) → is_described clock.variability clock.supports_fraction ≡ true → clock.variability ≡ other → is_described other clock.supports_fraction ≡ false → ⊥
+undescribed clock other described is none = true_false (sym described ∙ ap (λ k. is_described k clock.supports_fraction) is ∙ none)
 
 same_timing : (per_second : ℕ) (clock : ClockTiming) (s t : Timing) → IsTiming per_second clock s → IsTiming per_second clock t → s ≡ t
 same_timing per_second clock (Periodic i j) (Periodic k l) a b =
     ap (λ n. Periodic n j) (same_told clock.interval per_second i k a.interval_counts b.interval_counts) ∙ ap (Periodic k) (same_told clock.shift per_second j l a.shift_counts b.shift_counts)
 same_timing per_second clock (Periodic i j) Answered a b = absurd (fixed_asked clock a.described b.0 b.1)
-same_timing per_second clock (Periodic i j) Countdown a b = absurd (counted_down clock a.described b)
+same_timing per_second clock (Periodic i j) Countdown a b = absurd (undescribed clock v.Countdown a.described b refl)
+same_timing per_second clock (Periodic i j) Changing a b = absurd (undescribed clock v.Changing a.described b refl)
 same_timing per_second clock Answered (Periodic k l) a b = absurd (fixed_asked clock b.described a.0 a.1)
 same_timing per_second clock Answered Answered a b = refl
 same_timing per_second clock Answered Countdown a b = absurd (let e : v.Fixed ≡ v.Countdown = sym a.0 ∙ b in cc)
-same_timing per_second clock Countdown (Periodic k l) a b = absurd (counted_down clock b.described a)
+same_timing per_second clock Answered Changing a b = absurd (let e : v.Fixed ≡ v.Changing = sym a.0 ∙ b in cc)
+same_timing per_second clock Countdown (Periodic k l) a b = absurd (undescribed clock v.Countdown b.described a refl)
 same_timing per_second clock Countdown Answered a b = absurd (let e : v.Countdown ≡ v.Fixed = sym a ∙ b.0 in cc)
 same_timing per_second clock Countdown Countdown a b = refl
+same_timing per_second clock Countdown Changing a b = absurd (let e : v.Countdown ≡ v.Changing = sym a ∙ b in cc)
+same_timing per_second clock Changing (Periodic k l) a b = absurd (undescribed clock v.Changing b.described a refl)
+same_timing per_second clock Changing Answered a b = absurd (let e : v.Changing ≡ v.Fixed = sym a ∙ b.0 in cc)
+same_timing per_second clock Changing Countdown a b = absurd (let e : v.Changing ≡ v.Countdown = sym a ∙ b in cc)
+same_timing per_second clock Changing Changing a b = refl
 
 same_timings : (per_second : ℕ) (o : Option ClockTiming) (s t : Timing) → IsSomeAnd o (λ (k : ClockTiming). IsTiming per_second k s) → IsSomeAnd o (λ (k : ClockTiming). IsTiming per_second k t) → s ≡ t
 same_timings per_second None s t a b = absurd a
 same_timings per_second (Some clock) s t a b = same_timing per_second clock s t a b
 
 untimed_at : (per_second : ℕ) (clock : ClockTiming) (t : Timing) → clock.variability ≡ v.Triggered → IsTiming per_second clock t → ⊥
-untimed_at per_second clock (Periodic k l) a b = triggered clock b.described a
+untimed_at per_second clock (Periodic k l) a b = undescribed clock v.Triggered b.described a refl
 untimed_at per_second clock Answered a b = let e : v.Triggered ≡ v.Fixed = sym a ∙ b.0 in cc
 untimed_at per_second clock Countdown a b = let e : v.Triggered ≡ v.Countdown = sym a ∙ b in cc
+untimed_at per_second clock Changing a b = let e : v.Triggered ≡ v.Changing = sym a ∙ b in cc
 
 untimed : (per_second : ℕ) (o : Option ClockTiming) (t : Timing) → IsSomeAnd o (λ (k : ClockTiming). k.variability ≡ v.Triggered) → IsSomeAnd o (λ (k : ClockTiming). IsTiming per_second k t) → ⊥
 untimed per_second None t a b = a

@@ -51,6 +51,7 @@ fn timing(clock: &ClockTiming, resolution: u64) -> Timing
 {
     match clock.variability {
         IntervalVariability::Countdown => Timing::Countdown,
+        IntervalVariability::Changing => Timing::Changing,
         IntervalVariability::Fixed => if clock.supports_fraction {
             Timing::Answered
         } else {
@@ -58,7 +59,6 @@ fn timing(clock: &ClockTiming, resolution: u64) -> Timing
         },
         IntervalVariability::Constant
         | IntervalVariability::Tunable
-        | IntervalVariability::Changing
         | IntervalVariability::Triggered => periodic_timing(clock, resolution),
     }
 }

@@ -9,7 +9,7 @@ use Rattle.value_types.specs.declared.values.PortType.TheVariants.{Clock}
 use Rattle.value_types.specs.declared.shape.Causality.{Causality}
 use Rattle.value_types.specs.declared.shape.ClockTiming.{ClockTiming}
 use Rattle.value_types.specs.declared.shape.IntervalVariability.{IntervalVariability}
-use Rattle.value_types.specs.declared.shape.IntervalVariability.TheVariants.{Fixed, Countdown}
+use Rattle.value_types.specs.declared.shape.IntervalVariability.TheVariants.{Fixed, Countdown, Changing}
 use Rattle.value_types.specs.declared.shape.Shape.{Shape}
 use Rattle.value_types.specs.declared.shape.Variable.{Variable}
 use Rattle.fmi_calls.specs.declared.call.Call.{Call}
@@ -57,9 +57,9 @@ is_input_clock v = is_input_port v && is_clock v
 abbrev pub is_output_clock : Variable → Bool
 is_output_clock v = is_output_port v && is_clock v
 
--- a variable is present in an instant where it has no Clocks or one of them is active
-abbrev pub is_present : Shape → List Bool → Variable → Bool
-is_present shape active v = is_unclocked v || list_any (is_marked shape active) v.clocks
+-- a variable is accessible in an instant where it has no Clocks or one of them is active
+abbrev pub is_accessible : Shape → List Bool → Variable → Bool
+is_accessible shape active v = is_unclocked v || list_any (is_marked shape active) v.clocks
 
 -- the Clock may be set, or asked whether it is active: once in an instant
 abbrev pub can_be_ticked : (Variable → Bool) → InstanceState → Shape → List Bool → ℕ → Bool
@@ -75,6 +75,10 @@ abbrev is_countdown : IntervalVariability → Bool
 is_countdown Countdown = true
 is_countdown _ = false
 
+abbrev is_changing : IntervalVariability → Bool
+is_changing Changing = true
+is_changing _ = false
+
 -- an input Clock whose timing passes the test
 abbrev pub is_timed : (ClockTiming → Bool) → Shape → ℕ → Bool
 is_timed test shape reference =
@@ -88,15 +92,21 @@ is_answered c = is_fixed c.variability && c.supports_fraction
 abbrev pub counts_down : ClockTiming → Bool
 counts_down c = is_countdown c.variability
 
--- the interval of a fixed Clock may be asked for in Initialization Mode, that of a countdown Clock in Event Mode
-abbrev pub has_interval : InstanceState → Shape → ℕ → Bool
-has_interval Initialization shape reference = is_timed is_answered shape reference
-has_interval Event shape reference = is_timed counts_down shape reference
-has_interval _ shape reference = false
+abbrev pub is_changed : ClockTiming → Bool
+is_changed c = is_changing c.variability
 
--- the shift of a fixed Clock may be asked for in Initialization Mode
+-- the interval of a fixed Clock may be asked for in Initialization Mode, that of a countdown Clock in Event Mode, and that of a changing Clock in the instants in which it is active
+abbrev pub has_interval : InstanceState → Shape → (active : List Bool) → ℕ → Bool
+has_interval Initialization shape active reference = is_timed is_answered shape reference
+has_interval Event shape active reference =
+    is_timed counts_down shape reference ||
+    (is_timed is_changed shape reference && is_marked shape active reference)
+has_interval _ shape active reference = false
+
+-- the shift of a fixed Clock or of a changing one may be asked for in Initialization Mode
 abbrev pub has_shift : InstanceState → Shape → ℕ → Bool
-has_shift Initialization shape reference = is_timed is_answered shape reference
+has_shift Initialization shape reference =
+    is_timed is_answered shape reference || is_timed is_changed shape reference
 has_shift _ shape reference = false
 
 -- ---- the table
@@ -106,23 +116,23 @@ abbrev pub has_causality : (Causality → Bool) → Shape → ℕ → Bool
 has_causality sort shape reference =
     is_at (λ (v : Variable). sort v.causality) shape.variables reference
 
--- in Initialization Mode outputs without Clocks may be read, in Event Mode those that are present; in Step Mode, where there is no event mode, every output until an input is set
+-- in Initialization Mode outputs without Clocks may be read, in Event Mode those that are accessible; in Step Mode, where there is no event mode, every output until an input is set
 abbrev pub can_be_read : InstanceState → Shape → (marks active : List Bool) → ℕ → Bool
 can_be_read Initialization shape marks active reference =
     is_at is_unclocked shape.variables reference
 can_be_read Event shape marks active reference =
-    is_at (is_present shape active) shape.variables reference
+    is_at (is_accessible shape active) shape.variables reference
 can_be_read Step shape marks active reference = not shape.has_event_mode && none_marked marks
 can_be_read _ shape marks active reference = false
 
--- parameters may be set before Initialization Mode, inputs without Clocks in it; in Event Mode each input that is present once in an instant; in Step Mode, where there is no event mode, each input once before the next step
+-- parameters may be set before Initialization Mode, inputs without Clocks in it; in Event Mode each input that is accessible once in an instant; in Step Mode, where there is no event mode, each input once before the next step
 abbrev pub can_be_set : InstanceState → Shape → (marks active : List Bool) → ℕ → Bool
 can_be_set Instantiated shape marks active reference = has_causality is_parameter shape reference
 can_be_set Initialization shape marks active reference =
     has_causality is_input shape reference && is_at is_unclocked shape.variables reference
 can_be_set Event shape marks active reference =
     has_causality is_input shape reference &&
-    is_at (is_present shape active) shape.variables reference &&
+    is_at (is_accessible shape active) shape.variables reference &&
     not (is_marked shape marks reference)
 can_be_set Step shape marks active reference =
     has_causality is_input shape reference && not shape.has_event_mode &&
@@ -191,5 +201,6 @@ Permitted shape phase (C.GetClock reference) =
     IsTrue (can_be_ticked is_output_clock phase.state shape phase.marks reference)
 Permitted shape phase (C.SetClock reference) =
     IsTrue (can_be_ticked is_input_clock phase.state shape phase.marks reference)
-Permitted shape phase (C.GetInterval reference) = IsTrue (has_interval phase.state shape reference)
+Permitted shape phase (C.GetInterval reference) =
+    IsTrue (has_interval phase.state shape phase.active reference)
 Permitted shape phase (C.GetShift reference) = IsTrue (has_shift phase.state shape reference)

@@ -1,8 +1,7 @@
 ghost use Rattle.std.specs.Prelude.{◌≡◌, ◌↔◌, IsTrue, IsSomeAnd, Some};
 ghost use Rattle.std.specs.List.{list_any};
-ghost use Rattle.std.specs.Option.{option_map_or};
-ghost use Rattle.fmi_calls.specs.Permission.{Permitted, IsReadable, IsWritable, can_be_read, can_be_set, can_be_ticked, counts_down, has_causality, has_interval, has_shift, is_answered, is_input_clock, is_marked, is_of_point, is_output_clock, is_present, is_timed};
-ghost use Rattle.value_types.specs.Shape.{IsOutput, is_at, is_input, is_parameter, is_unclocked, timing_at, variable_at};
+ghost use Rattle.fmi_calls.specs.Permission.{Permitted, IsReadable, IsWritable, can_be_read, can_be_set, can_be_ticked, counts_down, has_causality, has_interval, has_shift, is_answered, is_changed, is_input_clock, is_marked, is_of_point, is_output_clock, is_accessible, is_timed};
+ghost use Rattle.value_types.specs.Shape.{IsOutput, is_at, is_input, is_parameter, is_unclocked, variable_at};
 
 use crate::{Call, InstanceState, Marks, Phase, SavedPhase};
 use value_types::{Causality, IntervalVariability, PortType, Shape, fits};
@@ -75,8 +74,8 @@ fn is_marked(shape: &Shape, marks: &Marks, reference: u32) -> bool
 }
 
 // Whether it has no Clocks, or one of them is active.
-fn is_present(shape: &Shape, active: &Marks, reference: u32) -> bool
-    ensures { result ≡ is_at (is_present shape.now active.now) shape.now.variables reference }
+fn is_accessible(shape: &Shape, active: &Marks, reference: u32) -> bool
+    ensures { result ≡ is_at (is_accessible shape.now active.now) shape.now.variables reference }
 {
     match shape.variables.find(reference) {
         Some(variable) => {
@@ -153,14 +152,34 @@ fn counts_down(shape: &Shape, reference: u32) -> bool
         }
 }
 
-fn has_interval(state: InstanceState, shape: &Shape, reference: u32) -> bool
-    ensures { result ≡ has_interval state shape.now reference }
+fn is_changed(shape: &Shape, reference: u32) -> bool
+    ensures { result ≡ is_timed is_changed shape.now reference }
 {
-    match state {
+    is_input_clock(shape, reference)
+        && match shape.clocks.find(reference) {
+            Some(clock) => clock.variability == IntervalVariability::Changing,
+            None => false,
+        }
+}
+
+fn has_interval(phase: &Phase, shape: &Shape, reference: u32) -> bool
+    ensures { result ≡ has_interval phase.now.state shape.now phase.now.active reference }
+{
+    match phase.state {
         InstanceState::Initialization => is_answered(shape, reference),
-        InstanceState::Event => counts_down(shape, reference),
+        InstanceState::Event => {
+            counts_down(shape, reference)
+                || (is_changed(shape, reference) && is_marked(shape, &phase.active, reference))
+        }
         _ => false,
     }
+}
+
+fn has_shift(phase: &Phase, shape: &Shape, reference: u32) -> bool
+    ensures { result ≡ has_shift phase.now.state shape.now reference }
+{
+    phase.state == InstanceState::Initialization
+        && (is_answered(shape, reference) || is_changed(shape, reference))
 }
 
 fn can_be_read(phase: &Phase, shape: &Shape, reference: u32) -> bool
@@ -169,7 +188,7 @@ fn can_be_read(phase: &Phase, shape: &Shape, reference: u32) -> bool
 {
     match phase.state {
         InstanceState::Initialization => is_unclocked(shape, reference),
-        InstanceState::Event => is_present(shape, &phase.active, reference),
+        InstanceState::Event => is_accessible(shape, &phase.active, reference),
         InstanceState::Step => !shape.has_event_mode && !phase.marks.any(),
         _ => false,
     }
@@ -185,7 +204,7 @@ fn can_be_set(phase: &Phase, shape: &Shape, reference: u32) -> bool
             && is_unclocked(shape, reference),
         InstanceState::Event => {
             is_input(shape, reference)
-                && is_present(shape, &phase.active, reference)
+                && is_accessible(shape, &phase.active, reference)
                 && !is_marked(shape, &phase.marks, reference)
         }
         InstanceState::Step => {
@@ -256,9 +275,7 @@ pub fn permitted(shape: &Shape, phase: &Phase, call: &Call) -> bool
         Call::FreeInstance => phase.state.can_be_freed(phase.slot.is_full),
         Call::GetClock { reference } => can_be_asked(phase, shape, reference),
         Call::SetClock { reference } => can_be_set_active(phase, shape, reference),
-        Call::GetInterval { reference } => has_interval(phase.state, shape, reference),
-        Call::GetShift { reference } => {
-            phase.state == InstanceState::Initialization && is_answered(shape, reference)
-        }
+        Call::GetInterval { reference } => has_interval(phase, shape, reference),
+        Call::GetShift { reference } => has_shift(phase, shape, reference),
     }
 }

@@ -1,5 +1,5 @@
 -- What marking elements does, one after another, and that nothing is left where the work is done.
-use Rattle.std.proofs.Common.{◌≡◌, ◌⊎◌, ◌↔◌, ℕ, zero, suc, ◌+◌, ◌<◌, ◌≤◌, Bool, true, false, not, cond, nat_lt, ◌==◌, List, [], ◌∷◌, ◌++◌, length, take, get_or, set, replicate, Option, Some, None, refl, sym, ap, ◌∙◌, subst, inl, inr, arith}
+use Rattle.std.proofs.Common.{◌≡◌, ◌⊎◌, ◌↔◌, ℕ, zero, suc, ◌+◌, ◌<◌, ◌≤◌, Bool, IsTrue, true, false, not, cond, nat_lt, ◌==◌, List, [], ◌∷◌, ◌++◌, length, take, get_or, set, replicate, Option, Some, None, refl, sym, ap, ◌∙◌, subst, inl, inr, arith}
 use Rattle.std.specs.List.{Contains, count_by}
 use Rattle.std.proofs.lemmas.List.{get_or-set_same, get_or-set_other, length-set, take_more, append-nil, length-append, length-replicate}
 use Rattle.std.proofs.lemmas.List.Elements.{Contains-append_left, Contains-append_right, Contains-append_cases, Contains-push, Contains-push_cases}
@@ -15,7 +15,7 @@ use Rattle.doc_grammar.specs.Nodes.{Node}
 use Rattle.fmu_description.specs.Elements.{clock_key}
 use Rattle.fmu_description.specs.Clocks.{IsForeign}
 use Rattle.fmu_description.specs.Clocks.IsForeign.{OfItself, ByClock}
-use Rattle.fmu_description.specs.Marks.{IsSource, Follows, IsMarked, Marks, ListsFollowers, listed_at}
+use Rattle.fmu_description.specs.Marks.{IsSource, Follows, Marks, ListsFollowers, is_marked, listed_at}
 use Rattle.fmu_description.proofs.TableLemmas.{is_variable_within}
 
 -- ---- steps
@@ -44,10 +44,10 @@ marks_none t old left = record {
 }
 
 -- the element is marked already, or isn't there
-pub marks_skip : (t : List Node) (node : ℕ) (old : List Bool) (left : List ℕ) → (node < length old → IsMarked old node) → Marks t (node ∷ []) old old left left
+pub marks_skip : (t : List Node) (node : ℕ) (old : List Bool) (left : List ℕ) → (node < length old → IsTrue (is_marked old node)) → Marks t (node ∷ []) old old left left
 marks_skip t node old left is = record {
   same_length = refl;
-  marked = λ k c within. subst (λ z. IsMarked old z) (contains_one node k c) (is (subst (λ z. z < length old) (sym (contains_one node k c)) within));
+  marked = λ k c within. subst (λ z. IsTrue (is_marked old z)) (contains_one node k c) (is (subst (λ z. z < length old) (sym (contains_one node k c)) within));
   kept = λ k m. m;
   no_other = λ k m. inl m;
   told = λ k r m e. inl m;
@@ -56,21 +56,21 @@ marks_skip t node old left is = record {
   less = omega arith;
 }
 
-set_marked : (old : List Bool) (node : ℕ) → node < length old → IsMarked (set old node true) node
+set_marked : (old : List Bool) (node : ℕ) → node < length old → IsTrue (is_marked (set old node true) node)
 set_marked old node within = get_or-set_same old node true false within
 
-set_cases : (old : List Bool) (node k : ℕ) → IsMarked (set old node true) k → IsMarked old k ⊎ (node ≡ k)
+set_cases : (old : List Bool) (node k : ℕ) → IsTrue (is_marked (set old node true) k) → IsTrue (is_marked old k) ⊎ (node ≡ k)
 set_cases old node k m = at (cases_eq k node)
   where
-    at : (k ≡ node) ⊎ (k ≡ node → ⊥) → IsMarked old k ⊎ (node ≡ k)
+    at : (k ≡ node) ⊎ (k ≡ node → ⊥) → IsTrue (is_marked old k) ⊎ (node ≡ k)
     at (inl e) = inr (sym e)
     at (inr ne) = inl (sym (get_or-set_other old node k true false ne) ∙ m)
 
-set_kept : (old : List Bool) (node k : ℕ) → node < length old → IsMarked old k → IsMarked (set old node true) k
+set_kept : (old : List Bool) (node k : ℕ) → node < length old → IsTrue (is_marked old k) → IsTrue (is_marked (set old node true) k)
 set_kept old node k within m = at (cases_eq k node)
   where
-    at : (k ≡ node) ⊎ (k ≡ node → ⊥) → IsMarked (set old node true) k
-    at (inl e) = subst (λ z. IsMarked (set old node true) z) (sym e) (set_marked old node within)
+    at : (k ≡ node) ⊎ (k ≡ node → ⊥) → IsTrue (is_marked (set old node true) k)
+    at (inl e) = subst (λ z. IsTrue (is_marked (set old node true) z)) (sym e) (set_marked old node within)
     at (inr ne) = get_or-set_other old node k true false ne ∙ m
 
 abbrev weight : Bool → ℕ
@@ -89,7 +89,7 @@ marks_newly : (t : List Node) (node : ℕ) (old : List Bool) (left references : 
     → Marks t (node ∷ []) old (set old node true) left (left ++ references)
 marks_newly t node old left references within free few all only = record {
   same_length = length-set old node true;
-  marked = λ k c b. subst (λ z. IsMarked (set old node true) z) (contains_one node k c) (set_marked old node within);
+  marked = λ k c b. subst (λ z. IsTrue (is_marked (set old node true) z)) (contains_one node k c) (set_marked old node within);
   kept = λ k m. set_kept old node k within m;
   no_other = λ k m. at_other k (set_cases old node k m);
   told = λ k r m e. at_told k r e (set_cases old node k m);
@@ -101,11 +101,11 @@ marks_newly t node old left references within free few all only = record {
       omega (arith, f, l, few);
 }
   where
-    at_other : (k : ℕ) → IsMarked old k ⊎ (node ≡ k) → IsMarked old k ⊎ Contains (node ∷ []) k
+    at_other : (k : ℕ) → IsTrue (is_marked old k) ⊎ (node ≡ k) → IsTrue (is_marked old k) ⊎ Contains (node ∷ []) k
     at_other k (inl m) = inl m
     at_other k (inr e) = inr (0, omega arith, e)
 
-    at_told : (k r : ℕ) → clock_key t k ≡ Some r → IsMarked old k ⊎ (node ≡ k) → IsMarked old k ⊎ Contains (left ++ references) r
+    at_told : (k r : ℕ) → clock_key t k ≡ Some r → IsTrue (is_marked old k) ⊎ (node ≡ k) → IsTrue (is_marked old k) ⊎ Contains (left ++ references) r
     at_told k r e (inl m) = inl m
     at_told k r e (inr same) = inr (Contains-append_right left references r (all r (ap (clock_key t) same ∙ e)))
 
@@ -146,23 +146,23 @@ marks_more t xs ys a b c u v w p q = record {
   less = omega (arith, p.less, q.less);
 }
   where
-    at_marked : (k : ℕ) → k < length a → Contains xs k ⊎ Contains ys k → IsMarked c k
+    at_marked : (k : ℕ) → k < length a → Contains xs k ⊎ Contains ys k → IsTrue (is_marked c k)
     at_marked k within (inl h) = q.kept k (p.marked k h within)
     at_marked k within (inr h) = q.marked k h (subst (λ n. k < n) (sym p.same_length) within)
 
-    at_first : (k : ℕ) → IsMarked a k ⊎ Contains xs k → IsMarked a k ⊎ Contains (xs ++ ys) k
+    at_first : (k : ℕ) → IsTrue (is_marked a k) ⊎ Contains xs k → IsTrue (is_marked a k) ⊎ Contains (xs ++ ys) k
     at_first k (inl m) = inl m
     at_first k (inr h) = inr (Contains-append_left xs ys k h)
 
-    at_other : (k : ℕ) → IsMarked b k ⊎ Contains ys k → IsMarked a k ⊎ Contains (xs ++ ys) k
+    at_other : (k : ℕ) → IsTrue (is_marked b k) ⊎ Contains ys k → IsTrue (is_marked a k) ⊎ Contains (xs ++ ys) k
     at_other k (inl m) = at_first k (p.no_other k m)
     at_other k (inr h) = inr (Contains-append_right xs ys k h)
 
-    at_kept : (k r : ℕ) → IsMarked a k ⊎ Contains v r → IsMarked a k ⊎ Contains w r
+    at_kept : (k r : ℕ) → IsTrue (is_marked a k) ⊎ Contains v r → IsTrue (is_marked a k) ⊎ Contains w r
     at_kept k r (inl m) = inl m
     at_kept k r (inr h) = inr (q.left_kept r h)
 
-    at_told : (k r : ℕ) → clock_key t k ≡ Some r → IsMarked b k ⊎ Contains w r → IsMarked a k ⊎ Contains w r
+    at_told : (k r : ℕ) → clock_key t k ≡ Some r → IsTrue (is_marked b k) ⊎ Contains w r → IsTrue (is_marked a k) ⊎ Contains w r
     at_told k r e (inl m) = at_kept k r (p.told k r m e)
     at_told k r e (inr h) = inr h
 
@@ -184,14 +184,14 @@ marks_next t nodes i a b c u v w within p q = subst (λ z. Marks t z a c u w) (s
 -- what is kept from turn to turn: what is marked is foreign; what follows a marked Clock is marked or is told of; what isn't marked still stands in the table
 pub record IsSpreading (t : List Node) (marks : List Bool) (left : List ℕ) (listed : ℕ → List ℕ) : Type 0 where
   pub whole : length marks ≡ length t
-  pub sound : (k : ℕ) → IsMarked marks k → IsForeign t k
+  pub sound : (k : ℕ) → IsTrue (is_marked marks k) → IsForeign t k
   pub told_of : (r : ℕ) → Contains left r → (clock : ℕ) × (clock_key t clock ≡ Some r) × IsForeign t clock
-  pub starts : (k : ℕ) → IsSource t k → IsMarked marks k
-  pub spreads : (k clock r : ℕ) → Follows t k r → clock_key t clock ≡ Some r → IsMarked marks clock → IsMarked marks k ⊎ Contains left r
-  pub waits : (k r : ℕ) → Follows t k r → IsMarked marks k ⊎ Contains (listed r) k
+  pub starts : (k : ℕ) → IsSource t k → IsTrue (is_marked marks k)
+  pub spreads : (k clock r : ℕ) → Follows t k r → clock_key t clock ≡ Some r → IsTrue (is_marked marks clock) → IsTrue (is_marked marks k) ⊎ Contains left r
+  pub waits : (k r : ℕ) → Follows t k r → IsTrue (is_marked marks k) ⊎ Contains (listed r) k
   pub lists : (k r : ℕ) → Contains (listed r) k → Follows t k r
 
-not_marked : (n k : ℕ) → IsMarked (replicate n false) k → ⊥
+not_marked : (n k : ℕ) → IsTrue (is_marked (replicate n false) k) → ⊥
 not_marked zero zero m = cc
 not_marked zero (suc k) m = cc
 not_marked (suc n) zero m = cc
@@ -210,18 +210,18 @@ spread_first t marks left all listed are lists m = record {
   lists = λ k r h. (lists k r).0 h;
 }
   where
-    at_sound : (k : ℕ) → IsMarked (replicate (length t) false) k ⊎ Contains all k → IsForeign t k
+    at_sound : (k : ℕ) → IsTrue (is_marked (replicate (length t) false) k) ⊎ Contains all k → IsForeign t k
     at_sound k (inl n) = absurd (not_marked (length t) k n)
     at_sound k (inr h) = let s : IsSource t k = (are k).0 h in OfItself k s.0 s.1
 
-    sound : (k : ℕ) → IsMarked marks k → IsForeign t k
+    sound : (k : ℕ) → IsTrue (is_marked marks k) → IsForeign t k
     sound k h = at_sound k (m.no_other k h)
 
     at_told : (r : ℕ) → Contains [] r ⊎ ((k : ℕ) × Contains all k × (clock_key t k ≡ Some r)) → (clock : ℕ) × (clock_key t clock ≡ Some r) × IsForeign t clock
     at_told r (inl h) = absurd (contains_none r h)
     at_told r (inr h) = (h.0, h.2, at_sound h.0 (inr h.1))
 
-    at_spread : (k clock r : ℕ) → IsMarked (replicate (length t) false) clock ⊎ Contains left r → IsMarked marks k ⊎ Contains left r
+    at_spread : (k clock r : ℕ) → IsTrue (is_marked (replicate (length t) false) clock) ⊎ Contains left r → IsTrue (is_marked marks k) ⊎ Contains left r
     at_spread k clock r (inl n) = absurd (not_marked (length t) clock n)
     at_spread k clock r (inr h) = inr h
 
@@ -245,34 +245,34 @@ spread_more t old new left rest more r had has s split takes m = record {
     source : (clock : ℕ) × (clock_key t clock ≡ Some r) × IsForeign t clock
     source = s.told_of r (subst (λ z. Contains z r) (sym split) (Contains-push rest r))
 
-    at_sound : (k : ℕ) → IsMarked old k ⊎ Contains (had r) k → IsForeign t k
+    at_sound : (k : ℕ) → IsTrue (is_marked old k) ⊎ Contains (had r) k → IsForeign t k
     at_sound k (inl h) = s.sound k h
     at_sound k (inr h) = let f : Follows t k r = s.lists k r h in ByClock k source.0 r f.0 f.1 source.1 source.2
 
-    sound : (k : ℕ) → IsMarked new k → IsForeign t k
+    sound : (k : ℕ) → IsTrue (is_marked new k) → IsForeign t k
     sound k h = at_sound k (m.no_other k h)
 
     at_told : (q : ℕ) → Contains rest q ⊎ ((k : ℕ) × Contains (had r) k × (clock_key t k ≡ Some q)) → (clock : ℕ) × (clock_key t clock ≡ Some q) × IsForeign t clock
     at_told q (inl h) = s.told_of q (subst (λ z. Contains z q) (sym split) (Contains-append_left rest (r ∷ []) q h))
     at_told q (inr h) = (h.0, h.2, at_sound h.0 (inr h.1))
 
-    here : (k : ℕ) → Follows t k r → IsMarked old k ⊎ Contains (had r) k → IsMarked new k
+    here : (k : ℕ) → Follows t k r → IsTrue (is_marked old k) ⊎ Contains (had r) k → IsTrue (is_marked new k)
     here k f (inl h) = m.kept k h
     here k f (inr h) = m.marked k h (subst (λ n. k < n) (sym s.whole) (is_variable_within t k f.0))
 
-    at_left : (k q : ℕ) → Follows t k q → Contains rest q ⊎ (r ≡ q) → IsMarked new k ⊎ Contains more q
+    at_left : (k q : ℕ) → Follows t k q → Contains rest q ⊎ (r ≡ q) → IsTrue (is_marked new k) ⊎ Contains more q
     at_left k q f (inl h) = inr (m.left_kept q h)
     at_left k q f (inr e) = let g : Follows t k r = subst (λ z. Follows t k z) (sym e) f in inl (here k g (s.waits k r g))
 
-    at_before : (k q : ℕ) → Follows t k q → IsMarked old k ⊎ Contains left q → IsMarked new k ⊎ Contains more q
+    at_before : (k q : ℕ) → Follows t k q → IsTrue (is_marked old k) ⊎ Contains left q → IsTrue (is_marked new k) ⊎ Contains more q
     at_before k q f (inl h) = inl (m.kept k h)
     at_before k q f (inr h) = at_left k q f (Contains-push_cases rest r q (subst (λ z. Contains z q) split h))
 
-    at_spread : (k clock q : ℕ) → Follows t k q → clock_key t clock ≡ Some q → IsMarked old clock ⊎ Contains more q → IsMarked new k ⊎ Contains more q
+    at_spread : (k clock q : ℕ) → Follows t k q → clock_key t clock ≡ Some q → IsTrue (is_marked old clock) ⊎ Contains more q → IsTrue (is_marked new k) ⊎ Contains more q
     at_spread k clock q f e (inl h) = at_before k q f (s.spreads k clock q f e h)
     at_spread k clock q f e (inr h) = inr h
 
-    at_waits : (k q : ℕ) → Follows t k q → ((q ≡ r) × (has q ≡ [])) ⊎ ((q ≡ r → ⊥) × (has q ≡ had q)) → IsMarked old k ⊎ Contains (had q) k → IsMarked new k ⊎ Contains (has q) k
+    at_waits : (k q : ℕ) → Follows t k q → ((q ≡ r) × (has q ≡ [])) ⊎ ((q ≡ r → ⊥) × (has q ≡ had q)) → IsTrue (is_marked old k) ⊎ Contains (had q) k → IsTrue (is_marked new k) ⊎ Contains (has q) k
     at_waits k q f (inl e) w = let g : Follows t k r = subst (λ z. Follows t k z) e.0 f in inl (here k g (s.waits k r g))
     at_waits k q f (inr e) (inl h) = inl (m.kept k h)
     at_waits k q f (inr e) (inr h) = inr (subst (λ z. Contains z k) (sym e.1) h)
@@ -282,14 +282,14 @@ spread_more t old new left rest more r had has s split takes m = record {
     at_lists k q h (inr e) = s.lists k q (subst (λ z. Contains z k) e.1 h)
 
 -- nothing is left
-pub spread_all : (t : List Node) (marks : List Bool) (listed : ℕ → List ℕ) → IsSpreading t marks [] listed → (k : ℕ) → IsMarked marks k ↔ IsForeign t k
+pub spread_all : (t : List Node) (marks : List Bool) (listed : ℕ → List ℕ) → IsSpreading t marks [] listed → (k : ℕ) → IsTrue (is_marked marks k) ↔ IsForeign t k
 spread_all t marks listed s k = (s.sound k, complete k)
   where
-    at : (k r : ℕ) → IsMarked marks k ⊎ Contains [] r → IsMarked marks k
+    at : (k r : ℕ) → IsTrue (is_marked marks k) ⊎ Contains [] r → IsTrue (is_marked marks k)
     at k r (inl h) = h
     at k r (inr h) = absurd (contains_none r h)
 
-    complete : (k : ℕ) → IsForeign t k → IsMarked marks k
+    complete : (k : ℕ) → IsForeign t k → IsTrue (is_marked marks k)
     complete _ (OfItself k v i) = s.starts k (v, i)
     complete _ (ByClock k clock r v c e f) = at k r (s.spreads k clock r (v, c) e (complete clock f))
 

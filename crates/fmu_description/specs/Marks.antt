@@ -1,5 +1,5 @@
 -- How the foreign variables are found: what is marked, and what is left to do.
-use Rattle.std.specs.Prelude.{ℕ, ◌+◌, ◌*◌, ◌<◌, ◌≤◌, Bool, true, false, not, ◌≡◌, ◌⊎◌, ◌↔◌, List, [], length, slice_index_or, count_by, Contains, Some}
+use Rattle.std.specs.Prelude.{ℕ, ◌+◌, ◌*◌, ◌<◌, ◌≤◌, Bool, IsTrue, true, false, not, ◌≡◌, ◌⊎◌, ◌↔◌, List, [], length, slice_index_or, count_by, Contains, Some}
 use Rattle.std.specs.Option.{option_map_or}
 use Rattle.std.specs.Ordering.{nat_cmp}
 use Rattle.std.specs.BTreeMap.{BTreeMap, get}
@@ -36,18 +36,20 @@ abbrev pub PutsUnder : List ℕ → ℕ → (ℕ → List ℕ) → (ℕ → List
 PutsUnder references node old new =
     (k q : ℕ) → Contains (new q) k ↔ (Contains (old q) k ⊎ ((k ≡ node) × Contains references q))
 
-abbrev pub IsMarked : List Bool → ℕ → Type 0
-IsMarked marks k = slice_index_or marks k false ≡ true
+-- whether an element is marked
+abbrev pub is_marked : List Bool → ℕ → Bool
+is_marked marks k = slice_index_or marks k false
 
 -- what it does to mark elements, where the references of the Clocks that are newly marked go to the work that is left
 pub record Marks (t : List Node) (elements : List ℕ) (old new : List Bool)
     (left more : List ℕ) : Type 0 where
   pub same_length : length new ≡ length old
-  pub marked : (k : ℕ) → Contains elements k → k < length old → IsMarked new k
-  pub kept : (k : ℕ) → IsMarked old k → IsMarked new k
-  pub no_other : (k : ℕ) → IsMarked new k → IsMarked old k ⊎ Contains elements k
-  pub told : (k reference : ℕ) → IsMarked new k → clock_key t k ≡ Some reference → IsMarked old k ⊎
-      Contains more reference
+  pub marked : (k : ℕ) → Contains elements k → k < length old → IsTrue (is_marked new k)
+  pub kept : (k : ℕ) → IsTrue (is_marked old k) → IsTrue (is_marked new k)
+  pub no_other : (k : ℕ) → IsTrue (is_marked new k) →
+      IsTrue (is_marked old k) ⊎ Contains elements k
+  pub told : (k reference : ℕ) → IsTrue (is_marked new k) → clock_key t k ≡ Some reference →
+      IsTrue (is_marked old k) ⊎ Contains more reference
   pub left_kept : (reference : ℕ) → Contains left reference → Contains more reference
   pub left_only : (reference : ℕ) → Contains more reference → Contains left reference ⊎
       ((k : ℕ) × Contains elements k × (clock_key t k ≡ Some reference))

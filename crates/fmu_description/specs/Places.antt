@@ -1,10 +1,11 @@
 -- What the tables of a description have: elements by their value references, the CoSimulation, foreign variables.
-use Rattle.std.specs.Prelude.{◌≡◌, ◌↔◌, ◌==◌, ◌<◌, ℕ, Bool, false, IsTrue, List, All, Contains, Option, Some, find, slice_index_or}
+use Rattle.std.specs.Prelude.{◌≡◌, ◌↔◌, ◌==◌, ◌<◌, ℕ, Bool, IsTrue, List, All, Contains, Option, Some, find}
 use Rattle.std.specs.Option.{option_map}
 use Rattle.doc_grammar.specs.Nodes.{Node}
 use Rattle.fmu_description.specs.declared.foreign.Foreign.{Foreign}
 use Rattle.doc_tables.specs.Tables.{FindsFirst}
 use Rattle.fmu_description.specs.Elements.{is_co_simulation}
+use Rattle.fmu_description.specs.Marks.{is_marked}
 use Rattle.fmu_description.specs.Clocks.{IsForeign}
 
 -- the first element that a list has for a reference
@@ -24,7 +25,7 @@ pub record AreListedBelow (key : ℕ → Option ℕ) (n : ℕ) (entries : List (
 
 -- the mark of an element
 abbrev pub is_foreign : Foreign → ℕ → Bool
-is_foreign foreign k = slice_index_or foreign.marks.items k false
+is_foreign foreign k = is_marked foreign.marks.items k
 
 -- what is found: nothing where there is no element CoSimulation, and else the one that counts
 abbrev pub FindsCoSimulation : List Node → Option ℕ → Type 0

@@ -117,13 +117,14 @@ MisreadsOfUnknown t k =
 
 -- ---- clocks
 
-abbrev pub IsOf : List Node → ℕ → IntervalVariability → Type 0
-IsOf t k x = variability_of t k ≡ Some x
+abbrev pub HasVariability : List Node → ℕ → IntervalVariability → Type 0
+HasVariability t k x = variability_of t k ≡ Some x
 
 -- the interval has to be described: of a constant clock, and of a fixed one that isn't asked for it
 abbrev pub NeedsInterval : List Node → ℕ → Type 0
 NeedsInterval t k =
-    IsOf t k v.Constant ⊎ (IsOf t k v.Fixed × (has_flag t k (codes "supportsFraction") ≡ false))
+    HasVariability t k v.Constant
+    ⊎ (HasVariability t k v.Fixed × (has_flag t k (codes "supportsFraction") ≡ false))
 
 abbrev pub HasInterval : List Node → ℕ → Type 0
 HasInterval t k =
@@ -134,12 +135,13 @@ LacksInterval t k = IsTimed t k × NeedsInterval t k × (HasInterval t k → ⊥
 
 -- every variability but triggered
 abbrev pub IsTimeBased : List Node → ℕ → Type 0
-IsTimeBased t k = (x : IntervalVariability) × IsOf t k x × (x ≢ v.Triggered)
+IsTimeBased t k = (x : IntervalVariability) × HasVariability t k x × (x ≢ v.Triggered)
 
 abbrev pub HasWrongCausality : List Node → ℕ → Type 0
 HasWrongCausality t k =
     (IsTimeBased t k × (causality_of t k ≢ c.Input))
-    ⊎ (IsOf t k v.Triggered × (causality_of t k ≢ c.Input) × (causality_of t k ≢ c.Output))
+    ⊎ (HasVariability t k v.Triggered × (causality_of t k ≢ c.Input) ×
+    (causality_of t k ≢ c.Output))
 
 abbrev pub HasUnevenShift : List Node → ℕ → ℕ → Type 0
 HasUnevenShift t per_second k =
@@ -151,9 +153,9 @@ IsUneven t per_second k =
     (f : Fraction) × IsInterval t k f ×
     ((f.counter ≡ 0) ⊎ ((IsInCounts per_second f → ⊥) ⊎ HasUnevenShift t per_second k))
 
--- tunable or changing
-abbrev pub IsLeftOut : List Node → ℕ → Type 0
-IsLeftOut t k = IsOf t k v.Tunable ⊎ IsOf t k v.Changing
+-- an interval that is used isn't whole: of a changing clock neither interval nor shift is
+abbrev pub UsesUneven : List Node → ℕ → ℕ → Type 0
+UsesUneven t per_second k = (HasVariability t k v.Changing → ⊥) × IsUneven t per_second k
 
 abbrev pub HasNoCoSimulation : List Node → Type 0
 HasNoCoSimulation t = (k : ℕ) → is_co_simulation t k ≡ true → ⊥
@@ -245,16 +247,16 @@ ViolatesDescription t per_second r.NameTwice k = IsRepeated (name_key t) k
 ViolatesDescription t per_second r.NoInterval k = LacksInterval t k
 -- 18: a time-based clock is an input, a triggered one an input or an output (2.2.8)
 ViolatesDescription t per_second r.ClockCausality k = IsTimed t k × HasWrongCausality t k
--- 19: an interval is above 0, and it and its shift are whole counts (a narrowing of this profile)
-ViolatesDescription t per_second r.Uneven k = IsTimed t k × IsUneven t per_second k
+-- 19: an interval is above 0, and it and its shift are whole counts, but for a changing clock, whose FMU is asked for both (a narrowing of this profile)
+ViolatesDescription t per_second r.Uneven k = IsTimed t k × UsesUneven t per_second k
 -- 20: what `clocks` names is no Clock (2.4.7.4)
 ViolatesDescription t per_second r.NoClock k = NamesNoClockAt t k
 -- 21: what an Output or InitialUnknown names is no variable (2.4.9)
 ViolatesDescription t per_second r.NoVariable k = NamesNoVariableAt t k
 -- 22: a state is serialized only where it can be saved (2.2.6)
 ViolatesDescription t per_second r.SerializesUnsaved k = SerializesUnsaved t k
--- 23: tunable and changing clocks are left out of this profile
-ViolatesDescription t per_second r.LeftOut k = IsTimed t k × IsLeftOut t k
+-- 23: tunable clocks are left out of this profile
+ViolatesDescription t per_second r.LeftOut k = IsTimed t k × HasVariability t k v.Tunable
 -- 24: a Clock asks for event mode (2.2.8)
 ViolatesDescription t per_second r.ClockWithoutEvents k = HasNoEvents t k
 

@@ -1,8 +1,9 @@
 //! The rules of Clocks that stand on one element (17 to 19 and 23).
 ghost use Rattle.std.specs.Prelude.{◌≡◌, ◌↔◌, IsTrue};
 ghost use Rattle.value_types.specs.declared.shape.IntervalVariability.{IntervalVariability};
+ghost use Rattle.value_types.specs.declared.shape.IntervalVariability.TheVariants.{Tunable};
 ghost use Rattle.fmu_description.specs.Clocks.{IsTimed};
-ghost use Rattle.fmu_description.specs.Rules.{IsOf, NeedsInterval, HasInterval, IsTimeBased, HasWrongCausality, IsLeftOut, IsUneven, HasUnevenShift, LacksInterval};
+ghost use Rattle.fmu_description.specs.Rules.{HasVariability, NeedsInterval, HasInterval, IsTimeBased, HasWrongCausality, IsUneven, HasUnevenShift, LacksInterval, UsesUneven};
 ghost use Rattle.clock_fraction.specs.Counts.{IsInCounts};
 
 use crate::elements::{causality_of, has_flag, is_clock, variability_of};
@@ -20,7 +21,7 @@ pub(crate) fn is_timed(tree: &Tree, node: usize) -> bool
 }
 
 fn is_of(tree: &Tree, node: usize, variability: IntervalVariability) -> bool
-    ensures { IsTrue result ↔ IsOf tree.now node variability }
+    ensures { IsTrue result ↔ HasVariability tree.now node variability }
 {
     variability_of(tree, node) == Some(variability)
 }
@@ -100,23 +101,22 @@ fn is_uneven(tree: &Tree, node: usize, resolution: u64) -> bool
     }
 }
 
-/// The interval is 0, or it or its shift is no whole number of counts.
-pub(crate) fn breaks_counts(tree: &Tree, node: usize, resolution: u64) -> bool
-    ensures { IsTrue result ↔ (IsTimed tree.now node × IsUneven tree.now resolution node) }
+fn uses_uneven(tree: &Tree, node: usize, resolution: u64) -> bool
+    ensures { IsTrue result ↔ UsesUneven tree.now resolution node }
 {
-    is_timed(tree, node) && is_uneven(tree, node, resolution)
+    !is_of(tree, node, IntervalVariability::Changing) && is_uneven(tree, node, resolution)
 }
 
-fn is_left_out(tree: &Tree, node: usize) -> bool
-    ensures { IsTrue result ↔ IsLeftOut tree.now node }
+/// The interval is 0, or it or its shift is no whole number of counts; a changing Clock's aren't used.
+pub(crate) fn breaks_counts(tree: &Tree, node: usize, resolution: u64) -> bool
+    ensures { IsTrue result ↔ (IsTimed tree.now node × UsesUneven tree.now resolution node) }
 {
-    is_of(tree, node, IntervalVariability::Tunable)
-        || is_of(tree, node, IntervalVariability::Changing)
+    is_timed(tree, node) && uses_uneven(tree, node, resolution)
 }
 
 /// A clock that the profile leaves out.
 pub(crate) fn breaks_profile(tree: &Tree, node: usize) -> bool
-    ensures { IsTrue result ↔ (IsTimed tree.now node × IsLeftOut tree.now node) }
+    ensures { IsTrue result ↔ (IsTimed tree.now node × HasVariability tree.now node Tunable) }
 {
-    is_timed(tree, node) && is_left_out(tree, node)
+    is_timed(tree, node) && is_of(tree, node, IntervalVariability::Tunable)
 }

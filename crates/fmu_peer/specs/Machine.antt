@@ -88,6 +88,12 @@ after m s C.Restore = put_back s.slot s
 after m s C.Free = record s { slot = None }
 after m s call = changed m s call
 
+-- a number of the machine's own that marks Initialization Mode: 1 from EnterInitialization to ExitInitialization
+abbrev pub mark_after : ℤ → Call → ℤ
+mark_after mark (C.EnterInitialization start stop) = pos 1
+mark_after mark C.ExitInitialization = pos 0
+mark_after mark _ = mark
+
 -- the value under a reference
 abbrev pub value_at : List Variable → List ℤ → ℕ → Option ℤ
 value_at variables values reference =

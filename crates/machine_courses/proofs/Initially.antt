@@ -1,5 +1,5 @@
 -- The calls of machines that behave well are answered well up to the first instant.
-use Rattle.std.proofs.Common.{◌≡◌, ◌⊎◌, ℕ, ℤ, true, List, [], ◌∷◌, ◌++◌, Option, Some, None, inl, inr, refl, sym, ap, ◌∙◌, subst, arith, length}
+use Rattle.std.proofs.Common.{◌≡◌, ℕ, ℤ, true, List, [], ◌∷◌, ◌++◌, Option, Some, None, inl, inr, refl, sym, ap, ◌∙◌, subst, arith, length}
 use Rattle.std.specs.Prelude.{All, IfSome}
 use Rattle.std.specs.List.{slice_get}
 use Rattle.std.proofs.lemmas.Option.{same_Some, slice_get_within}
@@ -13,7 +13,6 @@ use Rattle.system_model.specs.declared.system.Feed.{Feed}
 use Rattle.system_model.specs.declared.system.Port.{Port}
 use Rattle.system_model.specs.declared.system.Role.{Role}
 use Rattle.system_model.specs.declared.system.Role.TheVariants.{Input, Output, ClockInput, ClockOutput, TimeClock}
-use Rattle.system_model.specs.declared.system.Timing.TheVariants.{Answered}
 use Rattle.system_model.specs.Bounds.{BindsParameters, IsParameterValue}
 use Rattle.system_model.specs.Needs.{InitiallyByFeed, is_unclocked, is_unclocked_at}
 use Rattle.system_model.specs.Ports.{is_clock_role, is_output_role, numbers, source_of}
@@ -37,7 +36,7 @@ use Rattle.event_iteration.specs.Explains.{ExplainsUntil}
 use Rattle.event_iteration.specs.Initialization.{asks_initially, initially, is_set_from_feed, no_values}
 use Rattle.event_iteration.specs.Intervals.{timing_calls}
 use Rattle.event_iteration.specs.WalkCalls.{Front, has_events_at, initial_span}
-use Rattle.event_iteration.proofs.ByLog.{InitialSoFar, IsTimingOf, each_call_once, fed_fits, fmu_on, initial_so_far, initialized_all, initializing_all, made_all, part_all, reads_part, replies_first, timings_are, timings_read, unclocked_parts}
+use Rattle.event_iteration.proofs.ByLog.{InitialSoFar, IsQuestionOf, IsTimingOf, each_call_once, fed_fits, fmu_on, initial_so_far, initialized_all, initializing_all, made_all, part_all, reads_part, replies_first, timings_are, timings_read, unclocked_parts}
 use Rattle.calling_sequence.specs.Calls.{binding}
 use Rattle.machine_courses.specs.Outcomes.{IsLost}
 use Rattle.machine_courses.proofs.Lost.{lost_at, lost_walk}
@@ -123,7 +122,7 @@ module _ (r : Run) (sound : IsSound r.system) (machines : AreMachines r) (well :
     lost_finding =
         lost_walk r (I.initializing r) (initializing_all r machines) bad log replies (initially r.system) (no_values r.system) (numbers r.system.initial_order) values u (λ m z fmu. call_well m z fmu port.role refl u.last.exchange.call u.stops.asks)
 
-  -- a question for the timing of a fixed Clock
+  -- a question for the timing of a fixed Clock, or for the shift of a changing one
   pub lost_timing : (W : List (Option ℤ)) → SolvesInitially r W → AreReplies r (I.initialized r W) log → StopsAt (shapes_of r.system) (timing_calls r.system) bad log → IsLost count log bad.why
   lost_timing W solves replies s =
       let there : List MachineState = I.initialized r W in
@@ -132,15 +131,18 @@ module _ (r : Run) (sound : IsSound r.system) (machines : AreMachines r) (well :
       let placed = place_of r.system sound own.p own.port own.is in
       let k = s.last.component in
       let at : k ≡ own.port.component.0 = own.at in
-      let answers : AnswersInitially (TimeClock Answered) r there own.port = subst (λ (role : Role). AnswersInitially role r there own.port) own.answered (((well own.port.component.0).initially W solves).timings own.p own.port own.is refl) in
-      let asks : (i : ℕ) → i ≡ own.port.component.0 → (call : Call) → (call ≡ C.GetInterval own.port.reference) ⊎ (call ≡ C.GetShift own.port.reference) → AnswersWell r there i (λ shape. call) =
-      λ i same call is. subst (λ (j : ℕ). AnswersWell r there j (λ shape. call)) (sym same) (by own.port.component.0 own.port.reference answers.0 answers.1 call is) in
+      let answers : AnswersInitially own.port.role r there own.port = ((well own.port.component.0).initially W solves).timings own.p own.port own.is refl in
+      let asks : (i : ℕ) → i ≡ own.port.component.0 → (call : Call) → IsQuestionOf own.port call → AnswersWell r there i (λ shape. call) =
+      λ i same call is. subst (λ (j : ℕ). AnswersWell r there j (λ shape. call)) (sym same) (by own.port answers call is) in
       subst (λ (l : List Sent). IsLost count l bad.why) (sym s.log_is)
       (lost_at r there (initialized_all r machines W) s.front s.last [] bad.why (subst (AreReplies r there) s.log_is replies) s.first.good s.first.why
       (let inside = slice_get_within r.system.components own.port.component.0 placed.component placed.is.of in omega (arith, inside, at))
-      (λ c m z fmu. subst (λ (y : MachineState). IsAnsweredWell c.shape m y s.last.exchange.call) (sym (reads_part k m z s.front (timings_read r.system s.front parts.1))) (asks k at s.last.exchange.call own.call_is c m z fmu)))
+      (λ c m z fmu. subst (λ (y : MachineState). IsAnsweredWell c.shape m y s.last.exchange.call) (sym (reads_part k m z s.front (timings_read r.system s.front parts.1))) (asks k at s.last.exchange.call own.asks c m z fmu)))
     where
-      by : (i reference : ℕ) → AnswersWell r (I.initialized r W) i (λ shape. C.GetInterval reference) → AnswersWell r (I.initialized r W) i (λ shape. C.GetShift reference) → (call : Call) → (call ≡ C.GetInterval reference) ⊎ (call ≡ C.GetShift reference) →
-          AnswersWell r (I.initialized r W) i (λ shape. call)
-      by i reference interval shift call (inl is) = subst (λ (k : Call). AnswersWell r (I.initialized r W) i (λ shape. k)) (sym is) interval
-      by i reference interval shift call (inr is) = subst (λ (k : Call). AnswersWell r (I.initialized r W) i (λ shape. k)) (sym is) shift
+      by : (port : Port) → AnswersInitially port.role r (I.initialized r W) port → (call : Call) → IsQuestionOf port call → AnswersWell r (I.initialized r W) port.component.0 (λ shape. call)
+      by port answers call (inl (role, inl is)) =
+          let both = subst (λ (x : Role). AnswersInitially x r (I.initialized r W) port) role answers in subst (λ (k : Call). AnswersWell r (I.initialized r W) port.component.0 (λ shape. k)) (sym is) both.0
+      by port answers call (inl (role, inr is)) =
+          let both = subst (λ (x : Role). AnswersInitially x r (I.initialized r W) port) role answers in subst (λ (k : Call). AnswersWell r (I.initialized r W) port.component.0 (λ shape. k)) (sym is) both.1
+      by port answers call (inr (role, is)) =
+          let shift = subst (λ (x : Role). AnswersInitially x r (I.initialized r W) port) role answers in subst (λ (k : Call). AnswersWell r (I.initialized r W) port.component.0 (λ shape. k)) (sym is) shift

@@ -1,5 +1,5 @@
 -- The calls of machines that behave well are answered well in an instant.
-use Rattle.std.proofs.Common.{◌≡◌, ℕ, ◌==◌, ℤ, Bool, true, false, List, [], ◌∷◌, Option, Some, None, Contains, refl, sym, ap, ◌∙◌, subst, length}
+use Rattle.std.proofs.Common.{inl, inr, ◌≡◌, ℕ, ◌==◌, ℤ, Bool, true, false, List, [], ◌∷◌, Option, Some, None, Contains, refl, sym, ap, ◌∙◌, subst, length}
 use Rattle.std.specs.Prelude.{IfSome, ◌&&◌, if◌then◌else◌}
 use Rattle.std.proofs.lemmas.Bool.{eqb-true}
 use Rattle.std.proofs.lemmas.Option.{same_Some}
@@ -38,7 +38,7 @@ use Rattle.event_iteration.specs.Intervals.{intervals}
 use Rattle.event_iteration.specs.Settings.{port_order}
 use Rattle.event_iteration.specs.Updates.{updating}
 use Rattle.event_iteration.specs.WalkCalls.{Front, has_events_at, instant_span}
-use Rattle.event_iteration.proofs.ByLog.{InstantSoFar, asked_interval, each_call_once, fed_fits, fmu_on, instant_so_far, intervals_read, reads_part, replies_first, states_all, written_all}
+use Rattle.event_iteration.proofs.ByLog.{InstantSoFar, IsAsked, asked_interval, each_call_once, fed_fits, fmu_on, instant_so_far, intervals_read, reads_part, replies_first, states_all, written_all}
 use Rattle.machine_courses.specs.Outcomes.{IsLost}
 use Rattle.machine_courses.proofs.Lost.{lost_stops, lost_walk}
 use Rattle.machine_courses.proofs.Settings.{IsLike, if_is, like_walk, set_of, sets_clock, sets_eventing}
@@ -114,8 +114,8 @@ module _ (r : Run) (sound : IsSound r.system) (machines : AreMachines r) (well :
       there_is : (b : Bool) → events ≡ b → there ≡ (if b then mid else z)
       there_is b e = so_far.states port.component.0 c m z fmu ∙ ap (λ (x : Bool). if x then mid else z) e
 
-      answers : (role : Role) → port.role ≡ role → AnswersAt role r s W port
-      answers role same = subst (λ (x : Role). AnswersAt x r s W port) same (own.ports u.p port u.stops.is refl)
+      answers : (role : Role) → port.role ≡ role → AnswersAt role r s W u.p port
+      answers role same = subst (λ (x : Role). AnswersAt x r s W u.p port) same (own.ports u.p port u.stops.is refl)
 
       written_fmu : IsFmu r (F.written r s W) port.component.0 c m (if events then with_all else z)
       written_fmu = fmu_on r s.states (λ i d n y. if d.shape.has_event_mode then state_with r.system.ports W i n y else y) port.component.0 c m z fmu
@@ -161,16 +161,19 @@ module _ (r : Run) (sound : IsSound r.system) (machines : AreMachines r) (well :
 
   module _ (V : List (Option ℤ)) (solves : Solves r s V) (replies : AreReplies r (F.written r s V) log) where
     -- a question for an interval
-    pub lost_rearming : (values : List (Option ℤ)) → ExplainsUntil r.system intervals V (port_order r.system) bad values log → IsLost count log bad.why
+    pub lost_rearming : (values : List (Option ℤ)) → ExplainsUntil r.system (intervals V) V (port_order r.system) bad values log → IsLost count log bad.why
     lost_rearming values u =
         let there : List MachineState = F.written r s V in
         let port = u.stops.port in
-        let asks = asked_interval port.role port u.last.exchange.call u.stops.asks in
+        let asks = asked_interval port.role port (value V u.p) u.last.exchange.call u.stops.asks in
         let answers : AnswersWell r there port.component.0 (λ shape. C.GetInterval port.reference) =
-        subst (λ (x : Role). AnswersAt x r s V port) asks.0 (((well port.component.0).in_instants s V reached solves).ports u.p port u.stops.is refl) in
-        lost_walk r there (written_all r machines s situation V) bad log replies intervals V (port_order r.system) values u
-        (λ m z fmu. subst (λ (y : MachineState). IsAnsweredWell u.stops.component.shape m y u.last.exchange.call) (sym (reads_part port.component.0 m z u.front (intervals_read r.system V values u.taken u.front u.told)))
-        (subst (IsAnsweredWell u.stops.component.shape m z) (sym asks.1) (answers u.stops.component m z fmu)))
+        by port asks.0 (((well port.component.0).in_instants s V reached solves).ports u.p port u.stops.is refl) in
+        lost_walk r there (written_all r machines s situation V) bad log replies (intervals V) V (port_order r.system) values u
+        (λ m z fmu. subst (λ (y : MachineState). IsAnsweredWell u.stops.component.shape m y u.last.exchange.call) (sym (reads_part port.component.0 m z u.front (intervals_read r.system V V values u.taken u.front u.told)))
+        (subst (IsAnsweredWell u.stops.component.shape m z) (sym asks.1) (answers u.stops.component m z fmu))) where
+          by : (port : Port) → IsAsked port.role (value V u.p) → AnswersAt port.role r s V u.p port → AnswersWell r (F.written r s V) port.component.0 (λ shape. C.GetInterval port.reference)
+          by port (inl down) answers = subst (λ (x : Role). AnswersAt x r s V u.p port) down answers
+          by port (inr (changing, active)) answers = (subst (λ (x : Role). AnswersAt x r s V u.p port) changing answers) active
 
     -- an Update
     pub lost_updating : StopsAt (shapes_of r.system) (updating (shapes_of r.system)) bad log → IsLost count log bad.why

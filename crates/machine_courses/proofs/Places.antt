@@ -3,7 +3,7 @@ use Rattle.std.proofs.Common.{◌≡◌, ℕ, ◌<◌, ◌≤◌, ℤ, Bool, Lis
 use Rattle.fmu_peer.specs.Machine.{MachineState}
 use Rattle.system_model.specs.declared.plan.Plan.{Plan}
 use Rattle.system_model.specs.Text.{Instant}
-use Rattle.run_model.specs.AfterInstant.{Done, any_update, asks_for_end, following, goes_again, next_timers, updated, written}
+use Rattle.run_model.specs.AfterInstant.{Done, any_update, asks_for_end, following, goes_again, next_events, next_timers, updated, written}
 use Rattle.run_model.specs.Equations.{Solves}
 use Rattle.run_model.specs.Initial.{SolvesInitially, configured, first_timers, initialized, initializing, instantiated}
 use Rattle.run_model.specs.Run.{Run, Situation}
@@ -53,6 +53,7 @@ module _ (r : Run) where
     pub at : IsSpotOf s earlier z
     pub solves : Solves r z s.values
     pub timers : next_timers r z s.values ≡ s.timers
+    pub events : next_events r z s.values ≡ s.events
     pub is_is : is ≡ earlier ++ instant_of z s.values ∷ []
 
   -- where it leads
@@ -70,7 +71,7 @@ module _ (r : Run) where
   pub record Goes (w : Way) (is : List Instant) : Type 0 where
     pub sees : Sees w.s is
     pub done : following r sees.z w.s.values ≡ Done
-    pub step : IsStep r.system r.plan (over w.s is sees).timers (over w.s is sees).t w.to
+    pub step : IsStep r.system r.plan (over w.s is sees).timers (over w.s is sees).events (over w.s is sees).t w.to
 
   -- all came to one point behind it, and each keeps what it was asked last
   pub record Lands (w : Way) (point : ℕ) (asked : Bool) (is : List Instant) : Type 0 where

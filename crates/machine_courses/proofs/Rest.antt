@@ -72,7 +72,7 @@ module _ (r : Run) (sound : IsSound r.system) (plan : IsPlan r.plan) (machines :
       departs : (next : P.Next) → P.Departs r u next → Leads r z V next
       departs next d = leads_by r z V Done next done d
 
-      module _ (to : ℕ) (bound : IsBoundOf r.plan u.timers z.t to) where
+      module _ (to : ℕ) (bound : IsBoundOf r.plan u.timers u.events z.t to) where
         ends_here : EndWell (steppers r u) z.t r.plan.step to
         ends_here = end_well (steppers r u) z.t r.plan.step to bound.bound.later
             (ends_where r sound machines well u all (record { s = z; values = V; reached = reached; solves = solves; done = done; is = refl; before_stop = bound.before_stop }) to bound.bound)
@@ -97,8 +97,8 @@ module _ (r : Run) (sound : IsSound r.system) (plan : IsPlan r.plan) (machines :
       by_place false e = last K.Stop z.t (departs (Ends K.Stop z.t) (P.AtStop _ (same_place z.t r.plan.stop e within.ended) refl))
       by_place true e =
           let before = less_place z.t r.plan.stop e in
-          let bound = bound_exists r u.timers z.t before in
-          let own : IsBoundOf r.plan u.timers z.t bound.0 = record { before_stop = before; bound = bound.1 } in
+          let bound = bound_exists r u.timers u.events z.t before in
+          let own : IsBoundOf r.plan u.timers u.events z.t bound.0 = record { before_stop = before; bound = bound.1 } in
           by_end bound.0 own (agrees_or_stops (steppers r u) z.t r.plan.step bound.0 bound.1.later (ends_here bound.0 own))
 
     -- or another instant is asked for

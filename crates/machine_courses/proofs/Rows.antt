@@ -26,6 +26,7 @@ use Rattle.event_iteration.specs.Clocks.{AreTicks}
 use Rattle.event_iteration.specs.Explains.{Explains}
 use Rattle.event_iteration.specs.Instants.{in_instant}
 use Rattle.event_iteration.specs.Intervals.{Rearms, is_some_armed}
+use Rattle.event_iteration.specs.Updates.{events_told}
 use Rattle.event_iteration.specs.Settings.{entered_step}
 use Rattle.event_iteration.proofs.ByLog.{AreAll, IsRead, fixed_by_log, initial_by_log, instant_by_log, intervals_by_log, reads_stay, sets_by_log, stage_states, updated_all, updates_by_log}
 use Rattle.calling_sequence.specs.Calls.{IsStep}
@@ -168,11 +169,11 @@ module _ (r : Run) (sound : IsSound r.system) (plan : IsPlan r.plan) (machines :
         },
         sym told.1,
       )
-  row _ _ _ _ (Updates s values more again asked again_is asked_is) is ss (f, timers) does replies =
+  row _ _ _ _ (Updates s values more events again asked events_are again_is asked_is) is ss (f, timers) does replies =
       let z = f.z in
       let told = updates_by_log r z s.values more machines (situation_by r sound machines z is f.at.came) does (inside r more ss (written r z s.values) f.states replies) in
       record {
-        sees = record { z = z; earlier = is; at = f.at; solves = f.solves; timers = timers; is_is = ap (λ (i : Instant). is ++ i ∷ []) (same_instant s z f.at.point f.at.number) };
+        sees = record { z = z; earlier = is; at = record { came = f.at.came; point = f.at.point; number = f.at.number; within = f.at.within }; solves = f.solves; timers = timers; events = sym (events_are ∙ ap (λ (k : ℕ). events_told k (shapes_of r.system) more) (sym f.at.point) ∙ told.3); is_is = ap (λ (i : Instant). is ++ i ∷ []) (same_instant s z f.at.point f.at.number) };
         again_is = again_is ∙ ap₂ ◌||◌ told.1 (ap (λ (k : ℕ). is_some_armed k s.timers) (sym f.at.point) ∙ ap (is_some_armed z.t) (sym timers));
         asked_is = asked_is ∙ told.2;
         states = behind r more ss (written r z s.values) (updated r z s.values).states f.states told.0;
@@ -190,8 +191,9 @@ module _ (r : Run) (sound : IsSound r.system) (plan : IsPlan r.plan) (machines :
       }
   row _ _ _ _ (GoesOn w values more step) is ss x does replies =
       let z = over r w.s is x.sees in
-      let own : IsStep r.system r.plan z.timers z.t w.to =
-      subst (λ (ts : List Timer). IsStep r.system r.plan ts z.t w.to) (sym x.sees.timers) (subst (λ (k : ℕ). IsStep r.system r.plan w.s.timers k w.to) (sym x.sees.at.point) step) in
+      let own : IsStep r.system r.plan z.timers z.events z.t w.to =
+      subst (λ (ts : List Timer). IsStep r.system r.plan ts z.events z.t w.to) (sym x.sees.timers)
+      (subst (λ (es : List (Option ℕ)). IsStep r.system r.plan w.s.timers es z.t w.to) (sym x.sees.events) (subst (λ (k : ℕ). IsStep r.system r.plan w.s.timers w.s.events k w.to) (sym x.sees.at.point) step)) in
       subst (λ (js : List Instant). At r (Leaving w) js (states_by r ss more)) (sym (append-nil is))
       (record { sees = x.sees; done = follows w.s false false is ss x; step = own }, behind r more ss z.states z.states x.states (stays r more z.states (over_all w.s is x.sees) does))
   row _ _ _ _ (Leaves w values more) is ss (g, at) does replies =

@@ -1,5 +1,5 @@
 -- A log of told machines is their run, whatever they answer.
-use Rattle.std.proofs.Common.{◌≡◌, ℕ, Bool, true, false, Some, List, [], ◌∷◌, ◌++◌, inl, inr, refl, sym, ap, ◌∙◌, subst, length}
+use Rattle.std.proofs.Common.{Option, ◌≡◌, ℕ, Bool, true, false, Some, List, [], ◌∷◌, ◌++◌, inl, inr, refl, sym, ap, ◌∙◌, subst, length}
 use Rattle.std.specs.Prelude.{suc, ◌-◌, ◌==◌}
 use Rattle.fmu_peer.specs.Machine.{MachineState}
 use Rattle.fmu_peer.specs.Mode.{instantiate_of}
@@ -46,12 +46,13 @@ module _ (r : Run) (sound : IsSound r.system) (plan : IsPlan r.plan) (machines :
     ends_by : (f : Following) → by_answers asked again (suc s.n == r.plan.limit) ≡ f → LeadsBy f r x.sees.z s.values (Ends kind point) → IsTrace r is kind point
     ends_by f e leads = trace_seen r s is x.sees kind point (leads_by r x.sees.z s.values f (Ends kind point) (follows r sound plan machines ignore s again asked is ss x ∙ e) leads)
 
-  module _ (s : Spot) (is : List Instant) (ss : List MachineState) (x : Says r s false false is ss) (component end : ℕ) (bound : IsBoundOf r.plan s.timers s.t end) (unfit : first_unfit r.system r.plan (end - s.t) ≡ Some component) where
+  module _ (s : Spot) (is : List Instant) (ss : List MachineState) (x : Says r s false false is ss) (component end : ℕ) (bound : IsBoundOf r.plan s.timers s.events s.t end) (unfit : first_unfit r.system r.plan (end - s.t) ≡ Some component) where
     abbrev z : Situation
     z = over r s is x.sees
 
-    bound_here : IsBoundOf r.plan z.timers z.t end
-    bound_here = subst (λ (ts : List Timer). IsBoundOf r.plan ts z.t end) (sym x.sees.timers) (subst (λ (k : ℕ). IsBoundOf r.plan s.timers k end) (sym x.sees.at.point) bound)
+    bound_here : IsBoundOf r.plan z.timers z.events z.t end
+    bound_here = subst (λ (ts : List Timer). IsBoundOf r.plan ts z.events z.t end) (sym x.sees.timers)
+        (subst (λ (es : List (Option ℕ)). IsBoundOf r.plan s.timers es z.t end) (sym x.sees.events) (subst (λ (k : ℕ). IsBoundOf r.plan s.timers s.events k end) (sym x.sees.at.point) bound))
 
     lacks_here : P.LacksStep r z component end
     lacks_here = lacks r z (over_all r sound plan machines ignore s is x.sees) end bound_here component (ap (λ (k : ℕ). first_unfit r.system r.plan (end - k)) x.sees.at.point ∙ unfit)

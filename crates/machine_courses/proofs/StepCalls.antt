@@ -1,5 +1,5 @@
 -- The calls of machines that behave well are answered well in a step.
-use Rattle.std.proofs.Common.{◌≡◌, ◌⊎◌, inl, inr, ℕ, ◌+◌, ◌-◌, ◌<◌, ◌≤◌, ◌==◌, nat_lt, ℤ, Bool, true, false, List, Option, Some, Ok, refl, sym, ap, ◌∙◌, subst, arith, length}
+use Rattle.std.proofs.Common.{◌≡◌, inl, inr, ℕ, ◌+◌, ◌-◌, ◌<◌, ◌≤◌, nat_lt, ℤ, Bool, true, false, List, Option, Some, Ok, refl, sym, ap, ◌∙◌, subst, arith, length}
 use Rattle.std.specs.Prelude.{IfSome, if◌then◌else◌}
 use Rattle.std.specs.List.{slice_get}
 use Rattle.std.proofs.lemmas.Bool.Decides.{nat_tests}
@@ -34,7 +34,7 @@ use Rattle.step_agreement.proofs.CallerLemmas.{EndWhereAsked, IsAskedIn, IsBadAs
 use Rattle.event_iteration.specs.Explains.{ExplainsUntil}
 use Rattle.event_iteration.specs.Settings.{before_step, entered_step, port_order}
 use Rattle.event_iteration.specs.WalkCalls.{Front, has_events_at, step_span}
-use Rattle.event_iteration.proofs.ByLog.{AreAll, all_on, asked_before_step, each_call_once, fmu_on, got, shape_of_component}
+use Rattle.event_iteration.proofs.ByLog.{AreAll, all_on, asked_before_step, each_call_once, fmu_on}
 use Rattle.calling_sequence.specs.Calls.{IsBoundOf, entering_event, entering_step, freeing, saving}
 use Rattle.calling_sequence.specs.Parts.{AllAgree}
 use Rattle.machine_courses.specs.Outcomes.{IsLost}
@@ -58,7 +58,7 @@ module _ (r : Run) (sound : IsSound r.system) (machines : AreMachines r) (well :
   stepper_of i c m state = record { has_variable_steps = c.shape.has_variable_steps; end = ending z.t c m state }
 
   -- on the way to an agreement each step ends well that is asked for
-  pub ends_where : (b : ℕ) → IsBound r.plan z.timers z.t b → EndWhereAsked (steppers r z) z.t r.plan.step b
+  pub ends_where : (b : ℕ) → IsBound r.plan z.timers z.events z.t b → EndWhereAsked (steppers r z) z.t r.plan.step b
   ends_where b bound i e f asked above at =
       let x = each-get stepper_of 0 i r.system.components r.machines (departing r z) f at in
       ends_by x.component x.machine x.state (record { component = x.of_c; machine = x.of_m; state = x.of_s }) (ap (λ (y : Stepper). y.end e) x.is) x.component.shape.might_return_early refl where
@@ -110,7 +110,7 @@ module _ (r : Run) (sound : IsSound r.system) (machines : AreMachines r) (well :
         (λ i c m y fmu asked. (own i).saves c m y y C.Save fmu refl refl (can_save r sound i c fmu.component asked))
 
     -- a step on the way to the agreement, or a state that is put back
-    pub lost_agreeing : IgnoreSlots r → (b : ℕ) → IsBoundOf r.plan z.timers z.t b → AreReplies r (saved r z) log → AllAgree r.system z.t r.plan.step b log (Fails bad) → IsLost count log bad.why
+    pub lost_agreeing : IgnoreSlots r → (b : ℕ) → IsBoundOf r.plan z.timers z.events z.t b → AreReplies r (saved r z) log → AllAgree r.system z.t r.plan.step b log (Fails bad) → IsLost count log bad.why
     lost_agreeing ignore b bound replies agrees =
         subst (λ (l : List Sent). IsLost count l bad.why) (sym x.log_is)
         (lost_at r (saved r z) (saved_all r z all) x.front x.last x.back bad.why (subst (AreReplies r (saved r z)) x.log_is replies) x.first.good x.first.why x.within

@@ -137,7 +137,7 @@ module _ (r : Run) (z : Situation) (all : AreAll r z.states) where
       ∙ ap (position (λ b. b)) (map_from stepper_of fixed_size (λ (c : Component). not c.shape.has_variable_steps) (λ i c m state. refl) 0 r.system.components r.machines (departing r z) departing_all.machines departing_all.states)
       ∙ position-map (λ (c : Component). not c.shape.has_variable_steps) (λ b. b) r.system.components
 
-  module _ (u : ℕ) (bound : IsBoundOf r.plan z.timers z.t u) where
+  module _ (u : ℕ) (bound : IsBoundOf r.plan z.timers z.events z.t u) where
     -- the least that takes no step of this size is told
     pub lacks : (i : ℕ) → first_unfit r.system r.plan (u - z.t) ≡ Some i → P.LacksStep r z i u
     lacks i unfit =
@@ -208,7 +208,7 @@ module _ (r : Run) (z : Situation) (all : AreAll r z.states) where
     pub asked : some_ask_from 0 (shapes_of r.system) log ≡ asks_to_end r z asks
     pub states : states_by r (saved r z) log ≡ agreed r z asks
 
-  module _ (b : ℕ) (bound : IsBoundOf r.plan z.timers z.t b) (ignore : IgnoreSlots r) (log : List Sent) (replies : AreReplies r (saved r z) log) where
+  module _ (b : ℕ) (bound : IsBoundOf r.plan z.timers z.events z.t b) (ignore : IgnoreSlots r) (log : List Sent) (replies : AreReplies r (saved r z) log) where
     pub lands : (point : ℕ) → AllAgree r.system z.t r.plan.step b log (Meets point) → Lands log b point
     lands point agrees =
         let come = comes b bound.bound.later log (Meets point) agrees ignore replies in

@@ -26,7 +26,7 @@ use Rattle.parameter_binding.specs.declared.winners.Winners.{Winners}
 use Rattle.parameter_binding.specs.Answers.{Faults, IsToldIn, Refuses, file_in}
 use Rattle.parameter_binding.specs.Binds.{AreBound, AreBoundOf, IsBoundAt, IsLater, IsReached, ListsUnreached, ReachesTarget, Triple, Wins, target_at}
 use Rattle.parameter_binding.specs.Rules.{Breaks, IsBefore, IsSetBefore, IsFirstParameterViolation, IsFitting, Place, ViolatesParameters}
-use Rattle.parameter_binding.specs.Walk.{AreAllGathered, AreAllValues, AreCounted, AreValues, FindsFault, IsBest, IsBoundOf, IsCounted, IsFirstFault, IsRefusalOf, IsUpTo, IsWinner, best_of, place_of, stage, triple_at}
+use Rattle.parameter_binding.specs.Walk.{AreAllGathered, AreAllValues, AreCounted, AreValues, FindsFault, IsBest, IsBoundOf, IsCounted, IsFirstFault, IsRefusalOf, IsUpTo, IsWinner, best_of, place_of, part_number, triple_at}
 use Rattle.parameter_binding.proofs.MoveLemmas.{IsReal, real_of_broken}
 
 -- ---- the values of a component
@@ -180,7 +180,7 @@ module _ (t : SystemTree) (shapes : List Shape) (sets : List BindingSets) (g : G
 
 -- ---- the first fault is the first violation
 
-stages : (a b : Bool) → IsSetBefore a b → stage b ≤ stage a → ⊥
+stages : (a b : Bool) → IsSetBefore a b → part_number b ≤ part_number a → ⊥
 stages false true h l = omega (arith, l)
 stages false false h l = absurd h
 stages true true h l = absurd h
@@ -192,9 +192,9 @@ not_before p q r s (inl x) (inr y) = let e = y.0 in omega (arith, x, e)
 not_before p q r s (inr x) (inl y) = let e = x.0 in omega (arith, y, e)
 not_before p q r s (inr x) (inr y) = by x.1 y.1
   where
-    by : (stage p.in_mapping < stage q.in_mapping) ⊎ ((stage p.in_mapping ≡ stage q.in_mapping) × ((p.node < q.node) ⊎ ((p.node ≡ q.node) × (parameter_number r ≤ parameter_number s)))) → IsSetBefore q.in_mapping p.in_mapping ⊎ ((q.in_mapping ≡ p.in_mapping) × (q.node < p.node)) → ⊥
+    by : (part_number p.in_mapping < part_number q.in_mapping) ⊎ ((part_number p.in_mapping ≡ part_number q.in_mapping) × ((p.node < q.node) ⊎ ((p.node ≡ q.node) × (parameter_number r ≤ parameter_number s)))) → IsSetBefore q.in_mapping p.in_mapping ⊎ ((q.in_mapping ≡ p.in_mapping) × (q.node < p.node)) → ⊥
     by (inl a) (inl b) = stages q.in_mapping p.in_mapping b (omega (arith, a))
-    by (inl a) (inr b) = let e = ap stage b.0 in omega (arith, a, e)
+    by (inl a) (inr b) = let e = ap part_number b.0 in omega (arith, a, e)
     by (inr a) (inl b) = let e = a.0 in stages q.in_mapping p.in_mapping b (omega (arith, e))
     by (inr a) (inr b) = at a.1
       where
@@ -254,7 +254,7 @@ before_at b c (inl h) = h
 before_at b c (inr (e, inl h)) = absurd (omega (arith, h))
 before_at b c (inr (e, inr h)) = absurd (let l = h.1 in omega (arith, l))
 
-stage_once : (a b : Bool) → stage a ≡ stage b → a ≡ b
+stage_once : (a b : Bool) → part_number a ≡ part_number b → a ≡ b
 stage_once false false e = refl
 stage_once true true e = refl
 stage_once false true e = absurd (omega (arith, e))
@@ -291,7 +291,7 @@ module _ (t : SystemTree) (shapes : List Shape) (sets : List BindingSets) (b : �
           at (inl less) = absurd (other.least f.rule less (subst (ViolatesParameters t shapes sets f.rule) e mine))
           at (inr more) = number_once f.rule rule (omega (arith, up, more))
 
-      stage_less : (x y : Bool) → stage x < stage y → IsSetBefore x y
+      stage_less : (x y : Bool) → part_number x < part_number y → IsSetBefore x y
       stage_less false true l = tt
       stage_less false false l = absurd (omega (arith, l))
       stage_less true true l = absurd (omega (arith, l))

@@ -48,7 +48,7 @@ never_ticks Countdown h = cc
 never_ticks Triggered (inl h) = cc
 never_ticks Triggered (inr h) = cc
 never_ticks Tunable h = h
-never_ticks Changing h = h
+never_ticks Changing h = cc
 
 no_clock : (shape : Shape) (k : ℕ) (v : Variable) → IsSoundShape shape → slice_get shape.variables k ≡ Some v → v.causality ≡ causality.Parameter → is_clock v ≡ false
 no_clock shape k v sound is parameter = by (is_clock v) refl

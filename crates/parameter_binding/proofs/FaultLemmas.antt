@@ -4,7 +4,7 @@ use Rattle.doc_tree.specs.declared.rule.ParameterRule.{ParameterRule}
 use Rattle.doc_tree.specs.Rules.{parameter_number}
 use Rattle.parameter_binding.specs.declared.fault.Fault.{Fault}
 use Rattle.parameter_binding.specs.Rules.{Place}
-use Rattle.parameter_binding.specs.Walk.{CoveredBy, IsUpTo, place_of, stage}
+use Rattle.parameter_binding.specs.Walk.{CoveredBy, IsUpTo, place_of, part_number}
 
 lex : (a b c : ℕ) (P Q R : Type 0) → (P → Q → R) → (a < b) ⊎ ((a ≡ b) × P) → (b < c) ⊎ ((b ≡ c) × Q) → (a < c) ⊎ ((a ≡ c) × R)
 lex a b c P Q R f (inl x) (inl y) = inl (omega (arith, x, y))
@@ -15,7 +15,7 @@ lex a b c P Q R f (inr x) (inr y) = inr (x.0 ∙ y.0, f x.1 y.1)
 pub up_to_trans : (p q u : Place) (r s w : ParameterRule) → IsUpTo p r q s → IsUpTo q s u w → IsUpTo p r u w
 up_to_trans p q u r s w =
     lex p.binding q.binding u.binding _ _ _
-    (lex (stage p.in_mapping) (stage q.in_mapping) (stage u.in_mapping) _ _ _
+    (lex (part_number p.in_mapping) (part_number q.in_mapping) (part_number u.in_mapping) _ _ _
     (lex p.node q.node u.node _ _ _ (λ (x : parameter_number r ≤ parameter_number s) (y : parameter_number s ≤ parameter_number w). omega (arith, x, y))))
 
 -- the first of two covers what either covers

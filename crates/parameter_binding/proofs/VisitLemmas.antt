@@ -31,16 +31,16 @@ use Rattle.parameter_binding.specs.declared.fault.Fault.{Fault}
 use Rattle.parameter_binding.specs.declared.sets.BindingSets.{BindingSets}
 use Rattle.parameter_binding.specs.declared.visit.Visit.{Visit}
 use Rattle.parameter_binding.specs.Binds.{IsMapped, ReachesTarget, Triple, change_of, mapping_of, prefixed}
-use Rattle.parameter_binding.specs.Rules.{Breaks, Holds, NamesTwo, Place, ReachesOther}
-use Rattle.parameter_binding.specs.Walk.{AreSeen, BreaksVia, CoveredBy, FindsFault, HasTwo, IsJudged, IsOwnFault, IsUpTo, IsVisit, NoneBreaks, mapping_fault, place_of, set_fault, stage, triple_of}
+use Rattle.parameter_binding.specs.Rules.{Breaks, HoldsAt, NamesTwo, Place, ReachesOther}
+use Rattle.parameter_binding.specs.Walk.{AreSeen, BreaksVia, CoveredBy, FindsFault, HasTwo, IsJudged, IsOwnFault, IsUpTo, IsVisit, NoneBreaks, mapping_fault, place_of, set_fault, part_number, triple_of}
 use Rattle.parameter_binding.proofs.OnceLemmas.{candidate_once, gives_once, target_once}
 
 -- ---- places
 
 up_set : (v : Visit) (rule s : ParameterRule) (p : Place) → v.binding ≡ p.binding → p.in_mapping ≡ false → v.parameter.now.node ≡ p.node → parameter_number rule ≤ parameter_number s → IsUpTo (place_of (set_fault v rule)) rule p s
-up_set v rule s p binding in_set node less = inr (binding, inr (ap stage (sym in_set), inr (node, less)))
+up_set v rule s p binding in_set node less = inr (binding, inr (ap part_number (sym in_set), inr (node, less)))
 
-stage_above : (b : Bool) → b ≡ true → 0 < stage b
+stage_above : (b : Bool) → b ≡ true → 0 < part_number b
 stage_above true e = omega arith
 stage_above false e = cc
 
@@ -48,7 +48,7 @@ up_map : (v : Visit) (rule s : ParameterRule) (p : Place) → v.binding ≡ p.bi
 up_map v rule s p binding in_mapping = inr (binding, inl (stage_above p.in_mapping in_mapping))
 
 up_change : (v : Visit) (p : Place) → v.binding ≡ p.binding → p.in_mapping ≡ true → v.transformation ≡ p.node → IsUpTo (place_of (mapping_fault v)) r.Transformation p r.Transformation
-up_change v p binding in_mapping node = inr (binding, inr (ap stage (sym in_mapping), inr (node, omega arith)))
+up_change v p binding in_mapping node = inr (binding, inr (ap part_number (sym in_mapping), inr (node, omega arith)))
 
 -- ---- one triple and one target
 
@@ -72,7 +72,7 @@ module _ (t : SystemTree) (shapes : List Shape) (sets : List BindingSets) (bindi
       subst (λ (z : Binding). Sees t shapes z.owner name target) one.binding (subst (λ n. Sees t shapes h.binding.owner n target) one.name h.sees)
 
   pub holds_own : (R : Option Change → ParameterValue → PortType → Type 0) (rule : ParameterRule) (target : Target) (kind : PortType) (sees : Sees t shapes binding.owner name target) → sees.variable.kind ≡ Some kind → R change v.parameter.now.value kind
-      → Holds R t shapes sets (place_of (set_fault v rule)) (triple_of v)
+      → HoldsAt R t shapes sets (place_of (set_fault v rule)) (triple_of v)
   holds_own R rule target kind sees is broken = record {
     kind = kind;
     of = record { target = target; reaches = reaches_own target sees; kind_is = is };
@@ -83,14 +83,14 @@ module _ (t : SystemTree) (shapes : List Shape) (sets : List BindingSets) (bindi
   }
 
   -- what holds of a triple's target holds of the value, the change and the type
-  pub holds_of : (R : Option Change → ParameterValue → PortType → Type 0) (p : Place) (target : Target) (kind : PortType) (w : Variable) → IsTarget shapes target w → w.kind ≡ Some kind → (h : Holds R t shapes sets p (triple_of v)) → h.of.target ≡ target → R change v.parameter.now.value kind
+  pub holds_of : (R : Option Change → ParameterValue → PortType → Type 0) (p : Place) (target : Target) (kind : PortType) (w : Variable) → IsTarget shapes target w → w.kind ≡ Some kind → (h : HoldsAt R t shapes sets p (triple_of v)) → h.of.target ≡ target → R change v.parameter.now.value kind
   holds_of R p target kind w is kind_is h same =
       let reached : IsTarget shapes target h.of.reaches.sees.variable = subst (λ z. IsTarget shapes z h.of.reaches.sees.variable) same h.of.reaches.sees.is in
       let one = target_once shapes target h.of.reaches.sees.variable w reached is in
       let kinds : h.kind ≡ kind = same_Some h.kind kind (sym h.of.kind_is ∙ ap (λ (z : Variable). z.kind) one ∙ kind_is) in
       subst (R change v.parameter.now.value) kinds (subst (λ (z : Parameter). R change z.value h.kind) (parameter_is h.of.target h.of.reaches) (subst (λ z. R z h.of.reaches.parameter.value h.kind) (change_is h.of.target h.of.reaches) h.is))
 
-  up_holds : (R : Option Change → ParameterValue → PortType → Type 0) (rule s : ParameterRule) (p : Place) → (h : Holds R t shapes sets p (triple_of v)) → parameter_number rule ≤ parameter_number s → IsUpTo (place_of (set_fault v rule)) rule p s
+  up_holds : (R : Option Change → ParameterValue → PortType → Type 0) (rule s : ParameterRule) (p : Place) → (h : HoldsAt R t shapes sets p (triple_of v)) → parameter_number rule ≤ parameter_number s → IsUpTo (place_of (set_fault v rule)) rule p s
   up_holds R rule s p h less = up_set v rule s p h.binding h.in_set (sym (ap (λ (z : Parameter). z.node) (parameter_is h.of.target h.of.reaches)) ∙ h.node) less
 
   -- the transformation of the triple

@@ -10,6 +10,7 @@ use Rattle.std.proofs.lemmas.List.{take_more, take_all}
 use Rattle.std.proofs.lemmas.List.Elements.{Contains-append_left, Contains-push, Contains-push_cases}
 use Rattle.std.proofs.lemmas.Map.Lookups.{exact_pairs, exact_unsigned}
 use Rattle.std.proofs.lemmas.Option.{same_Some}
+use Rattle.value_types.specs.Index.{entry_cmp}
 use Rattle.value_types.specs.declared.shape.Shape.{Shape}
 use Rattle.value_types.specs.declared.shape.Variable.{Variable}
 use Rattle.parameter_values.specs.declared.change.Change.{Change}
@@ -27,14 +28,14 @@ use Rattle.parameter_binding.specs.declared.visit.Visit.{Visit}
 use Rattle.parameter_binding.specs.declared.winners.Best.{Best}
 use Rattle.parameter_binding.specs.declared.winners.Winners.{Winners}
 use Rattle.parameter_binding.specs.Binds.{Beats, HasLevel, IsLater, ReachesTarget, Triple}
-use Rattle.parameter_binding.specs.Walk.{AreSeen, AreWinners, IsBest, IsPut, IsUpToTriple, IsVisit, IsWinner, PutsBest, PutsTaken, best_of, target_cmp, triple_of}
+use Rattle.parameter_binding.specs.Walk.{AreSeen, AreWinners, IsBest, IsPut, IsUpToTriple, IsVisit, IsWinner, PutsBest, PutsTaken, best_of, triple_of}
 use Rattle.parameter_binding.proofs.MapLemmas.{updated_each}
 use Rattle.parameter_binding.proofs.OnceLemmas.{target_once}
 use Rattle.parameter_binding.proofs.VisitLemmas.{in_list, nothing, reaches_own}
 
 -- ---- the table
 
-pub target_total : IsTotalOrder target_cmp
+pub target_total : IsTotalOrder entry_cmp
 target_total = then_total (on_total (λ (x : ℕ × ℕ). x.0) nat_cmp_total) (on_total (λ (x : ℕ × ℕ). x.1) nat_cmp_total)
 
 abbrev key_of : Target → ℕ × ℕ
@@ -49,16 +50,16 @@ same_target a b e =
     target_at : ℕ → ℕ → Target
     target_at i v = record { component = i; variable = v }
 
-pub put_each : (target : Target) (old new : Winners) (w : Option Best) → UpdatesBy target_cmp (target_cmp (target.component, target.variable)) old.best new.best w
+pub put_each : (target : Target) (old new : Winners) (w : Option Best) → UpdatesBy entry_cmp (entry_cmp (target.component, target.variable)) old.best new.best w
     → (q : Target) → ((q ≡ target) × (best_of new q ≡ w)) ⊎ ((q ≡ target → ⊥) × (best_of new q ≡ best_of old q))
-put_each target old new w u q = by (updated_each target_cmp target_total (exact_pairs nat_cmp nat_cmp exact_unsigned exact_unsigned) old.best new.best (target.component, target.variable) w u (q.component, q.variable))
+put_each target old new w u q = by (updated_each entry_cmp target_total (exact_pairs nat_cmp nat_cmp exact_unsigned exact_unsigned) old.best new.best (target.component, target.variable) w u (q.component, q.variable))
   where
     by : ((key_of q ≡ key_of target) × (best_of new q ≡ w)) ⊎ ((key_of q ≡ key_of target → ⊥) × (best_of new q ≡ best_of old q))
         → ((q ≡ target) × (best_of new q ≡ w)) ⊎ ((q ≡ target → ⊥) × (best_of new q ≡ best_of old q))
     by (inl h) = inl (same_target q target h.0, h.1)
     by (inr h) = inr (λ e. h.0 (ap key_of e), h.1)
 
-pub put_best : (target : Target) (next : Best) (old new : Winners) → UpdatesBy target_cmp (target_cmp (target.component, target.variable)) old.best new.best (Some next) → IsPut (best_of old target) next (Some next) → PutsBest target next old new
+pub put_best : (target : Target) (next : Best) (old new : Winners) → UpdatesBy entry_cmp (entry_cmp (target.component, target.variable)) old.best new.best (Some next) → IsPut (best_of old target) next (Some next) → PutsBest target next old new
 put_best target next old new u put = record { at = at (put_each target old new (Some next) u target); others = λ q apart. others q apart (put_each target old new (Some next) u q) }
   where
     at : ((target ≡ target) × (best_of new target ≡ Some next)) ⊎ ((target ≡ target → ⊥) × (best_of new target ≡ best_of old target)) → IsPut (best_of old target) next (best_of new target)

@@ -45,7 +45,7 @@ pub record ReachesKind (t : SystemTree) (shapes : List Shape) (sets : List Bindi
   pub kind_is : reaches.sees.variable.kind ≡ Some kind
 
 -- the triple is of the Parameter at this place and reaches a target, and this holds of its change, its value and the target's type
-pub record Holds (R : Option Change → ParameterValue → PortType → Type 0) (t : SystemTree)
+pub record HoldsAt (R : Option Change → ParameterValue → PortType → Type 0) (t : SystemTree)
     (shapes : List Shape) (sets : List BindingSets) (p : Place) (triple : Triple) : Type 0 where
   pub kind : PortType
   pub of : ReachesKind t shapes sets triple kind
@@ -90,13 +90,13 @@ abbrev pub Breaks : SystemTree → List Shape → List BindingSets → Parameter
 Breaks t shapes sets r.Structure p c = ⊥
 Breaks t shapes sets r.Incomplete p c = ⊥
 -- 52: a value reaches a parameter of another class
-Breaks t shapes sets r.OtherClass p c = Holds values.HasOtherClass t shapes sets p c
+Breaks t shapes sets r.OtherClass p c = HoldsAt values.HasOtherClass t shapes sets p c
 -- 53: a value reaches a parameter whose type doesn't hold it
-Breaks t shapes sets r.OutOfRange p c = Holds values.IsOutside t shapes sets p c
+Breaks t shapes sets r.OutOfRange p c = HoldsAt values.IsOutside t shapes sets p c
 -- 54: a transformation reaches a parameter of another class
 Breaks t shapes sets r.Transformation p c = ReachesOther t shapes sets p c
 -- 55: a mapping of values has no entry for a value
-Breaks t shapes sets r.NoMapEntry p c = Holds values.HasNoPair t shapes sets p c
+Breaks t shapes sets r.NoMapEntry p c = HoldsAt values.HasNoPair t shapes sets p c
 -- 56: a name is that of two parameters
 Breaks t shapes sets r.NamesTwo p c = NamesTwo t shapes sets p c
 

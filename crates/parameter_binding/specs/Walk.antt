@@ -2,8 +2,7 @@
 use Rattle.std.specs.Prelude.{◌≡◌, ◌≢◌, ◌⊎◌, ◌↔◌, ◌<◌, ◌≤◌, ◌+◌, ℕ, Bool, true, false, List, [], ◌++◌, length, map, Option, Some, None, IsSome, slice_get, Contains}
 use Rattle.std.specs.List.{AllZip}
 use Rattle.std.specs.BTreeMap.{get}
-use Rattle.std.specs.Ordering.{nat_cmp, ordering_then}
-use Rattle.std.specs.declared.cmp.Ordering.{Ordering}
+use Rattle.value_types.specs.Index.{entry_cmp}
 use Rattle.value_types.specs.declared.shape.Shape.{Shape}
 use Rattle.value_types.specs.declared.shape.Variable.{Variable}
 use Rattle.doc_tree.specs.declared.refusal.Refusal.{Refusal}
@@ -40,20 +39,21 @@ use Rattle.ssd_tree.specs.Listings.{IsListingBelow}
 use Rattle.parameter_binding.specs.Given.{AreGiven}
 use Rattle.parameter_binding.specs.Answers.{IsToldIn}
 use Rattle.parameter_binding.specs.Binds.{Beats, HasLevel, IsCandidate, IsLater, IsUnreached, ReachesTarget, Triple, mapping_of, target_at}
-use Rattle.parameter_binding.specs.Rules.{Breaks, Holds, Place, ReachesOther}
+use Rattle.parameter_binding.specs.Rules.{Breaks, HoldsAt, Place, ReachesOther}
 
 -- ---- the order of faults
 
-abbrev pub stage : Bool → ℕ
-stage false = 0
-stage true = 1
+-- a set comes before its mapping
+abbrev pub part_number : Bool → ℕ
+part_number false = 0
+part_number true = 1
 
 -- a fault isn't behind a rule at a place, in the order of refusals
 abbrev pub IsUpTo : Place → ParameterRule → Place → ParameterRule → Type 0
 IsUpTo p r q s =
     (p.binding < q.binding) ⊎ ((p.binding ≡ q.binding) ×
-    ((stage p.in_mapping < stage q.in_mapping) ⊎
-    ((stage p.in_mapping ≡ stage q.in_mapping) ×
+    ((part_number p.in_mapping < part_number q.in_mapping) ⊎
+    ((part_number p.in_mapping ≡ part_number q.in_mapping) ×
     ((p.node < q.node) ⊎ ((p.node ≡ q.node) × (parameter_number r ≤ parameter_number s))))))
 
 abbrev pub place_of : Fault → Place
@@ -81,11 +81,9 @@ FindsFault t shapes sets Done (Some f) = IsFirstFault t shapes sets Done f
 
 -- ---- winners
 
-abbrev pub target_cmp : ℕ × ℕ → ℕ × ℕ → Ordering
-target_cmp a b = ordering_then (nat_cmp a.0 b.0) (nat_cmp a.1 b.1)
-
+-- the table is in the order of the components, and of their variables
 abbrev pub best_of : Winners → Target → Option Best
-best_of winners target = get target_cmp winners.best (target.component, target.variable)
+best_of winners target = get entry_cmp winners.best (target.component, target.variable)
 
 -- of these triples it is the one that wins, with its level and the value that the target takes
 pub record IsBest (t : SystemTree) (shapes : List Shape) (sets : List BindingSets)
@@ -200,11 +198,11 @@ IsOwnFault t shapes sets c (Some f) =
 abbrev pub BreaksVia : SystemTree → List Shape → List BindingSets → Target → ParameterRule →
     Place → Triple → Type 0
 BreaksVia t shapes sets target r.OtherClass p c =
-    (h : Holds values.HasOtherClass t shapes sets p c) × (h.of.target ≡ target)
+    (h : HoldsAt values.HasOtherClass t shapes sets p c) × (h.of.target ≡ target)
 BreaksVia t shapes sets target r.OutOfRange p c =
-    (h : Holds values.IsOutside t shapes sets p c) × (h.of.target ≡ target)
+    (h : HoldsAt values.IsOutside t shapes sets p c) × (h.of.target ≡ target)
 BreaksVia t shapes sets target r.NoMapEntry p c =
-    (h : Holds values.HasNoPair t shapes sets p c) × (h.of.target ≡ target)
+    (h : HoldsAt values.HasNoPair t shapes sets p c) × (h.of.target ≡ target)
 BreaksVia t shapes sets target r.Transformation p c =
     (h : ReachesOther t shapes sets p c) × (h.of.target ≡ target)
 BreaksVia t shapes sets target rule p c = ⊥

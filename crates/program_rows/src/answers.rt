@@ -89,6 +89,9 @@ fn interval_of(rest: &str) -> Option<Interval> {
     if rest == "not_yet" {
         return Some(Interval::NotYetKnown);
     }
+    if has(rest, "unchanged") {
+        return Some(Interval::Unchanged(fraction_at(rest, 1)?));
+    }
     Some(Interval::Changed(fraction_at(rest, 0)?))
 }
 
@@ -108,7 +111,7 @@ fn content_of(kind: Kind, rest: &str) -> Option<Content> {
         Kind::Update => Content::Update {
             again: has(rest, "again"),
             terminate: has(rest, "terminate"),
-            event_time: None,
+            event_time: number_at(rest, 0),
         },
         Kind::Get => Content::Get {
             word: number_at(rest, 0)?,

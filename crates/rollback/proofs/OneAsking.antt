@@ -19,11 +19,12 @@ use Rattle.slot_calls.specs.declared.bad_answer.BadAnswer.{BadAnswer}
 use Rattle.slot_calls.proofs.CallerLemmas.{part_append, shapes_same, told_none, told_on}
 use Rattle.step_agreement.specs.Agreement.{Fails, InBack, InStep, IsUnfit, Stand, Stops, is_away, shapes_in, to_some, unfit}
 use Rattle.step_agreement.proofs.CallerLemmas.{shape_kept}
-use Rattle.rollback.specs.Asked.{AskedOver, InBacks, InSteps, IsFitting, IsHome, IsTested, MayGoBack, StaysMeant, Moved, RoundsFail, RoundsOver}
+use Rattle.rollback.specs.Asked.{AskedOver, InBacks, InSteps, IsFitting, IsHome, IsTested, MayGoBack, StaysMeant, Moved, RoundsFail, RoundsOver, SizesSay}
 use Rattle.rollback.specs.Places.{CanDo, Sends, StandSo, is_sent, passes, stand_in, stands}
 use Rattle.rollback.specs.Standing.{Placed, TakesSize}
 use Rattle.rollback.specs.declared.asking.Turn.TheVariants as T
 use Rattle.rollback.specs.declared.places.Who.{Who}
+use Rattle.rollback.specs.declared.step_end.StepEnd.{StepEnd}
 use Rattle.rollback.specs.declared.step_end.StepEnd.TheVariants.{Bad, FixedStep}
 use Rattle.rollback.proofs.Moving.{WentBack, can_go_back, can_step, did_step, moved_by, went_back}
 use Rattle.rollback.proofs.Sending.{sends_none}
@@ -160,12 +161,15 @@ module _ {L : Type 0} {g : Ghosts L} (view : L → View) where
 
   module _ (t step : ℕ) (sized asked : Who) (e : ℕ) (olds news : List (Slot L g)) where
     -- one doesn't take it
-    pub unfit_over : (place : ℕ) → unfit step (e - t) (passes sized) (stands view olds) ≡ Some place → AskedOver {T = Unit {0}} view t step sized asked e olds olds (Err (FixedStep (record { 0 = place }) t e))
-    unfit_over place some = record {
+    unfit_at : (place : ℕ) → unfit step (e - t) (passes sized) (stands view olds) ≡ Some place → AskedOver {T = Unit {0}} view t step sized asked e olds olds (Err (FixedStep (record { 0 = place }) t e))
+    unfit_at place some = record {
       log = [];
       told = told_none (instances view olds);
       says = (refl, λ ss so. IsUnfit place (unfit_so view ss olds so sized step (e - t) ∙ some) refl refl);
     }
+
+    pub unfit_over : (end : StepEnd) → SizesSay {T = Unit {0}} view t step sized e olds (Err end) → AskedOver {T = Unit {0}} view t step sized asked e olds olds (Err end)
+    unfit_over end (place, some, is) = subst (λ (x : StepEnd). AskedOver {T = Unit {0}} view t step sized asked e olds olds (Err x)) (sym is) (unfit_at place some)
 
     module _ (none : unfit step (e - t) (passes sized) (stands view olds) ≡ None) where
       fits : (ss : List Stand) → StandSo view ss olds → unfit step (e - t) (passes sized) ss ≡ None

@@ -30,7 +30,7 @@ use Rattle.step_agreement.specs.Agreement.{Agrees, Fails, Meets, Outcome, Stand,
 use Rattle.step_agreement.specs.OverMachines.{asks_last}
 use Rattle.step_agreement.specs.Saving.{is_saved}
 use Rattle.step_agreement.proofs.CallerLemmas.{map_map, shape_kept}
-use Rattle.rollback.specs.Asked.{AgreedOver, IsSavedBy, MayBeSaved, asks_in}
+use Rattle.rollback.specs.Asked.{AgreedOver, IsSavedBy, MayBeSaved, SizesSay, asks_in}
 use Rattle.rollback.specs.Places.{CanDo, GoodSent, SentTo, Sends, StandSo, WasLeft, passes, stand_in, stands}
 use Rattle.rollback.specs.Standing.{HasStepped, InStep, IsReady, Placed}
 use Rattle.rollback.specs.StepsBy.{Done, FreesBadly, SavesBadly, StepsBadly, StepsOver, StopsShort, Unfitted, all_at, some_ask_from, to_saved}
@@ -285,8 +285,11 @@ module _ {L : Type 0} {g : Ghosts L} (view : L → View) where
     pub fits_all : unfit step (b - t) (passes W.Everyone) (stands view olds) ≡ None → unfit step (b - t) A.everyone (all_at t (shapes (instances view olds))) ≡ None
     fits_all is = fits_of None is
 
-    pub unfitted : (place : ℕ) → unfit step (b - t) (passes W.Everyone) (stands view olds) ≡ Some place → StepsOver view t step b olds olds (Err (FixedStep (record { 0 = place }) t b))
-    unfitted place is = record { log = []; told = told_none (instances view olds); steps = Unfitted place (fits_of (Some place) is) refl refl }
+    unfit_at : (place : ℕ) → unfit step (b - t) (passes W.Everyone) (stands view olds) ≡ Some place → StepsOver view t step b olds olds (Err (FixedStep (record { 0 = place }) t b))
+    unfit_at place is = record { log = []; told = told_none (instances view olds); steps = Unfitted place (fits_of (Some place) is) refl refl }
+
+    pub unfitted : (end : StepEnd) → SizesSay {T = Unit {0}} view t step W.Everyone b olds (Err end) → StepsOver view t step b olds olds (Err end)
+    unfitted end (place, some, is) = subst (λ (x : StepEnd). StepsOver view t step b olds olds (Err x)) (sym is) (unfit_at place some)
 
     pub saves_badly : (early : ℕ) → early ≡ early_in olds → (news : List (Slot L g)) (bad : BadAnswer) → unfit step (b - t) (passes W.Everyone) (stands view olds) ≡ None →
         Sends {T = Unit {0}} view (W.Saved early) T.Save olds news (Err bad) → StepsOver view t step b olds news (Err (Bad bad))

@@ -10,7 +10,7 @@ use Rattle.slot_calls.specs.Log.{Sent, Told, part}
 use Rattle.slot_calls.specs.Slots.{instances}
 use Rattle.slot_calls.specs.Stage.{FailsIn, IsAnswered, everyone, shapes}
 use Rattle.slot_calls.specs.declared.bad_answer.BadAnswer.{BadAnswer}
-use Rattle.step_agreement.specs.Agreement.{Agrees, Asks, Fails, Meets, Outcome, Stand, Stops, Unfit, stand_by, stands_by, to_some}
+use Rattle.step_agreement.specs.Agreement.{Agrees, Asks, Fails, Meets, Outcome, Stand, Stops, Unfit, stand_by, stands_by, to_some, unfit}
 use Rattle.step_agreement.specs.OverMachines.{asks_last}
 use Rattle.step_agreement.specs.Saving.{is_saved}
 use Rattle.rollback.specs.declared.agreeing.Turned.{Turned}
@@ -50,6 +50,15 @@ abbrev pub IsTested : {L : Type 0} {g : _} → (L → View) → (sized asked : W
 IsTested view sized asked step size slot =
     passes asked (stand_in view slot) ≡ true →
     (passes sized (stand_in view slot) ≡ true) ⊎ TakesSize step size (stand_in view slot).shape
+
+-- all that are meant take a step from t to e, or the end names the least that doesn't
+abbrev pub SizesSay : {L T : Type 0} {g : _} → (L → View) → (t step : ℕ) → Who → ℕ →
+    List (Slot L g) → Result T StepEnd → Type 0
+SizesSay view t step who e slots (Ok x) =
+    unfit step (e - t) (passes who) (stands view slots) ≡ None
+SizesSay view t step who e slots (Err end) =
+    (place : ℕ) × unfit step (e - t) (passes who) (stands view slots) ≡ Some place
+    × end ≡ FixedStep (record { 0 = place }) t e
 
 -- one that is meant stands at t
 abbrev pub IsHome : {L : Type 0} {g : _} → (L → View) → ℕ → Who → Slot L g → Type 0

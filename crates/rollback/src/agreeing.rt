@@ -4,7 +4,7 @@ ghost use Rattle.run_model.specs.Stepping.{asked_first};
 ghost use Rattle.slot_calls.specs.Slots.{instances};
 ghost use Rattle.slot_calls.specs.Stage.{everyone, shapes};
 ghost use Rattle.step_agreement.specs.Agreement.{unfit};
-ghost use Rattle.rollback.specs.Asked.{AgreedOver, AskedOver, IsAt, IsFitting, IsHome, IsSavedBy, IsTested, MayGoBack, RoundsOver, StaysMeant, TurnOver, might_return_early};
+ghost use Rattle.rollback.specs.Asked.{AgreedOver, AskedOver, IsAt, IsFitting, IsHome, IsSavedBy, IsTested, MayGoBack, RoundsOver, SizesSay, StaysMeant, TurnOver, might_return_early};
 ghost use Rattle.rollback.specs.Places.{passes, stands};
 ghost use Rattle.rollback.specs.Standing.{Placed};
 
@@ -207,15 +207,9 @@ fn ask<R: Threads + Sync, L: Peer>(
     requires back { All (MayGoBack L.view t asked) slots.old }
     ensures { AskedOver L.view t step sized asked end slots.old slots.new result }
 {
-    match first_unfit(slots, sized, step, end - t) {
-        None => {}
-        Some(place) => {
-            return Err(StepEnd::FixedStep {
-                component: CompId(place as u32),
-                at: t,
-                end,
-            });
-        }
+    match test_sizes(slots, sized, t, end, step) {
+        Ok(()) => {}
+        Err(unfit) => return Err(unfit),
     }
     match ask_all(rt, slots, asked, t, end, step, workers) {
         Ok(()) => Ok(()),
@@ -242,15 +236,9 @@ fn ask_home<R: Threads + Sync, L: Peer>(
     requires home { All (IsHome L.view t asked) slots.old }
     ensures { AskedOver L.view t step sized asked end slots.old slots.new result }
 {
-    match first_unfit(slots, sized, step, end - t) {
-        None => {}
-        Some(place) => {
-            return Err(StepEnd::FixedStep {
-                component: CompId(place as u32),
-                at: t,
-                end,
-            });
-        }
+    match test_sizes(slots, sized, t, end, step) {
+        Ok(()) => {}
+        Err(unfit) => return Err(unfit),
     }
     match send(rt, slots, asked, Turn::Step { t, end }, workers) {
         Ok(()) => Ok(()),
@@ -258,13 +246,30 @@ fn ask_home<R: Threads + Sync, L: Peer>(
     }
 }
 
-/// Of those that are meant, the least that takes no step of this size.
-pub(crate) fn first_unfit<L: Peer>(
+/// Whether each of those that are meant takes a step from t to an end; where one doesn't, the least of them is named.
+pub(crate) fn test_sizes<L: Peer>(
     slots: &[Slot<L>],
     who: Who,
+    t: u64,
+    end: u64,
     step: u64,
-    size: u64,
-) -> Option<usize>
+) -> Result<(), StepEnd>
+    requires few { length slots.now ≤ 2 ^ 32 }
+    requires later { t < end }
+    ensures { SizesSay L.view t step who end slots.now result }
+{
+    match first_unfit(slots, who, step, end - t) {
+        None => Ok(()),
+        Some(place) => Err(StepEnd::FixedStep {
+            component: CompId(place as u32),
+            at: t,
+            end,
+        }),
+    }
+}
+
+/// Of those that are meant, the least that takes no step of this size.
+fn first_unfit<L: Peer>(slots: &[Slot<L>], who: Who, step: u64, size: u64) -> Option<usize>
     ensures first { result ≡ unfit step size (passes who) (stands L.view slots.now) }
     ensures within { IfSome result (λ place. place < length slots.now) }
 {

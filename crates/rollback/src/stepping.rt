@@ -7,12 +7,11 @@ ghost use Rattle.rollback.specs.Asked.{MayBeSaved, asks_in};
 ghost use Rattle.rollback.specs.Standing.{HasStepped, IsReady};
 ghost use Rattle.rollback.specs.StepsBy.{StepsOver};
 
-use crate::agreeing::{agree, first_unfit};
+use crate::agreeing::{agree, test_sizes};
 use crate::asking::{Turn, send};
 use crate::places::{Who, early_count};
 use crate::{Agreed, StepEnd};
 use fmu_peer::{Peer, Slot};
-use sim_base::CompId;
 use std::thread::Threads;
 
 /// Steps all FMUs from t until they stand at one point, at most at the bound: each is asked for a step to it, and where one
@@ -39,15 +38,9 @@ pub fn agreed_step<R: Threads + Sync, L: Peer>(
         All (HasStepped L.view agreed.point step) slots.new) }
     ensures steps { StepsOver L.view t step bound slots.old slots.new result }
 {
-    match first_unfit(slots, Who::Everyone, step, bound - t) {
-        None => {}
-        Some(place) => {
-            return Err(StepEnd::FixedStep {
-                component: CompId(place as u32),
-                at: t,
-                end: bound,
-            });
-        }
+    match test_sizes(slots, Who::Everyone, t, bound, step) {
+        Ok(()) => {}
+        Err(unfit) => return Err(unfit),
     }
     let early = early_count(slots);
     let saved = Who::Saved { early };

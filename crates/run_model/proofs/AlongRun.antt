@@ -203,6 +203,7 @@ situation_at_beginning r machines W =
     record {
       states = each_place r machines (I.initialized r W) five (λ i c m s. Rattle.fmu_peer.specs.Machine.after m s C.ExitInitialization);
       timers = length-map r.system.ports (λ (port : Port). I.first_timer port.role r (I.initialized r W) port);
+      events = length-map r.system.components (λ (c : Component). None);
       before = length-map r.system.ports (λ (port : Port). None);
       shapes = states_beginning r machines W;
       types = none_fits r.system.ports;
@@ -214,6 +215,7 @@ situation_after_instant r sound machines s V is solves =
     record {
       states = each_place r machines (F.written r s V) written _;
       timers = length-next r s V 0 r.system.ports s.timers is.timers;
+      events = each_place r machines (F.written r s V) written _;
       before = solves.places;
       shapes = states_updated r machines s V is.shapes;
       types = values_fit r sound s V is.types solves;
@@ -225,6 +227,7 @@ situation_after_step r machines s kept point is =
     record {
       states = each_place r machines (P.departing r s) departing _;
       timers = is.timers;
+      events = is.events;
       before = is.before;
       shapes = states_stepped r machines s kept point is.shapes;
       types = is.types;

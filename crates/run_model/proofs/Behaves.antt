@@ -18,7 +18,7 @@ use Rattle.system_model.specs.declared.system.Component.{Component}
 use Rattle.system_model.specs.declared.system.Role.{Role}
 use Rattle.system_model.specs.declared.system.Role.TheVariants.{Input, Output, ClockInput, ClockOutput, TimeClock}
 use Rattle.system_model.specs.declared.system.Timing.{Timing}
-use Rattle.system_model.specs.declared.system.Timing.TheVariants.{Periodic, Answered, Countdown}
+use Rattle.system_model.specs.declared.system.Timing.TheVariants.{Periodic, Answered, Countdown, Changing}
 use Rattle.system_model.specs.declared.system.Port.{Port}
 use Rattle.system_model.specs.Ports.{is_clock_role, is_output_role}
 use Rattle.system_model.specs.Sound.{IsSound, IsRole, IsTiming}
@@ -131,12 +131,18 @@ weaken : {X : Type 0} (o : Option X) (P Q : X → Type 0) → ((x : X) → P x �
 weaken None P Q h k = k
 weaken (Some x) P Q h k = h x k
 
--- a fixed Clock's FMU is asked for its interval and its shift, and a countdown Clock's for its interval
+-- a fixed or changing Clock's FMU is asked for its interval and its shift, and a countdown Clock's for its interval
 pub fixed_interval_call : (r : Run) (port : Port) (c : Component) → IsOwn r port c → port.role ≡ TimeClock Answered → RunSends c.shape (C.GetInterval port.reference)
-fixed_interval_call r port c own role = weaken (timing_at c.shape.clocks port.reference) _ _ (λ t h. inr h) (timing_of r port c own Answered role)
+fixed_interval_call r port c own role = weaken (timing_at c.shape.clocks port.reference) _ _ (λ t h. inr (inr h)) (timing_of r port c own Answered role)
 
 pub shift_call : (r : Run) (port : Port) (c : Component) → IsOwn r port c → port.role ≡ TimeClock Answered → RunSends c.shape (C.GetShift port.reference)
-shift_call r port c own role = weaken (timing_at c.shape.clocks port.reference) _ _ (λ t h. h) (timing_of r port c own Answered role)
+shift_call r port c own role = weaken (timing_at c.shape.clocks port.reference) _ _ (λ t h. inr h) (timing_of r port c own Answered role)
+
+pub changing_interval_call : (r : Run) (port : Port) (c : Component) → IsOwn r port c → port.role ≡ TimeClock Changing → RunSends c.shape (C.GetInterval port.reference)
+changing_interval_call r port c own role = weaken (timing_at c.shape.clocks port.reference) _ _ (λ t h. inr (inl h)) (timing_of r port c own Changing role)
+
+pub changing_shift_call : (r : Run) (port : Port) (c : Component) → IsOwn r port c → port.role ≡ TimeClock Changing → RunSends c.shape (C.GetShift port.reference)
+changing_shift_call r port c own role = weaken (timing_at c.shape.clocks port.reference) _ _ (λ t h. inl h) (timing_of r port c own Changing role)
 
 pub countdown_call : (r : Run) (port : Port) (c : Component) → IsOwn r port c → port.role ≡ TimeClock Countdown → RunSends c.shape (C.GetInterval port.reference)
 countdown_call r port c own role = weaken (timing_at c.shape.clocks port.reference) _ _ (λ t h. inl h) (timing_of r port c own Countdown role)
@@ -197,7 +203,7 @@ module _ (r : Run) (sound : IsSound r.system) (i : ℕ)
     exit = well true (I.initialized r values) (S.fit_initialized r i machine values) (λ shape. C.ExitInitialization) (λ c of. (tt, refl));
   }
 
-  output : (s : Situation) (values : List (Option ℤ)) → S.IsStateAt r false s.states i → (p : ℕ) (port : Port) → slice_get r.system.ports p ≡ Some port → port.component.0 ≡ i → port.role ≡ Output → B.AnswersAt Output r s values port
+  output : (s : Situation) (values : List (Option ℤ)) → S.IsStateAt r false s.states i → (p : ℕ) (port : Port) → slice_get r.system.ports p ≡ Some port → port.component.0 ≡ i → port.role ≡ Output → B.AnswersAt Output r s values p port
   output s values fit p port is at role = (
     λ present. subst (λ k. B.AnswersWellIf true r (written r s values) k (λ shape. C.Get port.kind port.reference)) (sym at)
         (well_if true false (written r s values) (S.fit_written r i machine s values fit) (λ shape. C.Get port.kind port.reference) (λ c of events. (get_call r port c (own_port r sound p port is c (ap (slice_get r.system.components) at ∙ of)) role, refl))),
@@ -210,12 +216,10 @@ module _ (r : Run) (sound : IsSound r.system) (i : ℕ)
   in_written s values fit p port is at call run untimed = subst (λ k. B.AnswersWell r (written r s values) k (λ shape. call)) (sym at)
       (well false (written r s values) (S.fit_written r i machine s values fit) (λ shape. call) (λ c of. (run c (own_port r sound p port is c (ap (slice_get r.system.components) at ∙ of)), untimed)))
 
-  at_port : (s : Situation) (values : List (Option ℤ)) → B.Reached r s → Solves r s values → S.IsStateAt r false s.states i → (p : ℕ) (port : Port) → slice_get r.system.ports p ≡ Some port → port.component.0 ≡ i → (role : Role) → port.role ≡ role → B.AnswersAt role r s values port
+  at_port : (s : Situation) (values : List (Option ℤ)) → B.Reached r s → Solves r s values → S.IsStateAt r false s.states i → (p : ℕ) (port : Port) → slice_get r.system.ports p ≡ Some port → port.component.0 ≡ i → (role : Role) → port.role ≡ role → B.AnswersAt role r s values p port
   at_port s values reached solves fit p port is at Output e = output s values fit p port is at e
   at_port s values reached solves fit p port is at ClockOutput e = in_written s values fit p port is at (C.GetClock port.reference) (λ c own. get_clock_call r port c own e) refl
-  at_port s values reached solves fit p port is at (TimeClock Countdown) e = times.in_instants s values reached solves p port is at e
-  at_port s values reached solves fit p port is at (TimeClock (Periodic interval shift)) e = tt
-  at_port s values reached solves fit p port is at (TimeClock Answered) e = tt
+  at_port s values reached solves fit p port is at (TimeClock timing) e = times.in_instants s values reached solves p port is at timing e
   at_port s values reached solves fit p port is at (Input feed) e = tt
   at_port s values reached solves fit p port is at (ClockInput feed) e = tt
 
@@ -271,16 +275,22 @@ module _ (r : Run) (sound : IsSound r.system) (i : ℕ)
   )
   timing states fit p port is at (TimeClock (Periodic interval shift)) e = tt
   timing states fit p port is at (TimeClock Countdown) e = tt
+  timing states fit p port is at (TimeClock Changing) e = at_own true states fit p port is at (C.GetShift port.reference) (λ c own. changing_shift_call r port c own e)
   timing states fit p port is at (Input feed) e = tt
   timing states fit p port is at Output e = tt
   timing states fit p port is at (ClockInput feed) e = tt
   timing states fit p port is at ClockOutput e = tt
 
+  interval : (s : Situation) (values : List (Option ℤ)) → S.IsStateAt r false (written r s values) i → (p : ℕ) (port : Port) → slice_get r.system.ports p ≡ Some port → port.component.0 ≡ i → (timing : Timing) → port.role ≡ TimeClock timing → B.AnswersAt (TimeClock timing) r s values p port
+  interval s values fit p port is at Countdown e = at_own false (written r s values) fit p port is at (C.GetInterval port.reference) (λ c own. countdown_call r port c own e)
+  interval s values fit p port is at Changing e = λ active. at_own false (written r s values) fit p port is at (C.GetInterval port.reference) (λ c own. changing_interval_call r port c own e)
+  interval s values fit p port is at (Periodic every shift) e = tt
+  interval s values fit p port is at Answered e = tt
+
   always_times : TimesWell r i
   always_times = record {
     initially = λ values solves p port is at. timing (I.initialized r values) (S.fit_initialized r i of_shape values) p port is at port.role refl;
-    in_instants = λ s values reached solves p port is at e.
-        at_own false (written r s values) (S.fit_written r i of_shape s values (fit_reached i of_shape reached)) p port is at (C.GetInterval port.reference) (λ c own. countdown_call r port c own e);
+    in_instants = λ s values reached solves. interval s values (S.fit_written r i of_shape s values (fit_reached i of_shape reached));
   }
 
 pub always_behaves : AlwaysBehaves

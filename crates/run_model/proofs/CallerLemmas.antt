@@ -1,7 +1,7 @@
 -- The lemmas of this crate that others may cite.
 pub use Rattle.run_model.proofs.Alike.{Found, both, found_at, present_alike, written_at-is, written_at-output}
 pub use Rattle.run_model.proofs.AlongRun.{initial_values_fit, reply_fits, situation_reached, values_fit}
-pub use Rattle.run_model.proofs.Behaves.{IsOwn, always_behaves, own_port, shift_call, timed_behaves, timing_of}
+pub use Rattle.run_model.proofs.Behaves.{IsOwn, always_behaves, changing_shift_call, own_port, shift_call, timed_behaves, timing_of}
 pub use Rattle.run_model.proofs.Decided.{decided, same_number}
 pub use Rattle.run_model.proofs.Initially.{none_outside, read_unclocked, unclocked_at-is, written_none}
 pub use Rattle.run_model.proofs.InitiallySolvable.{solvable_initially}

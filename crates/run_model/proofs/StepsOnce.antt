@@ -1,13 +1,14 @@
 -- A step from a point has one outcome.
 use Rattle.std.proofs.Common.{◌≡◌, ℕ, ◌<◌, ◌≤◌, true, false, List, map, sym, ap, ◌∙◌, subst, arith}
+use Rattle.std.specs.Prelude.{Option}
 use Rattle.system_model.specs.declared.plan.Plan.{Plan}
 use Rattle.run_model.specs.Run.{Run, Situation, Timer}
 use Rattle.run_model.specs.Steps.{IsBound, Stepper, Agree, AllMeet, OthersMeet, Falls, StopsShort, StopsFirst, StopsAgain, StopsLater, FixedStep, OthersEnd, met, is_other, fallen_bound, kept_ask}
 use Rattle.run_model.specs.Stepping.{Next, Ends, GoesOn, Departs, AtStop, WhereAsked, WhereFixed, ByStep, IsStep, LacksStep, asks_to_end, stepped}
 use Rattle.system_model.specs.declared.plan.EndKind.TheVariants.{Asked}
 
-pub bound_same : (plan : Plan) (timers : List Timer) (t b c : ℕ) → IsBound plan timers t b → IsBound plan timers t c → b ≡ c
-bound_same plan timers t b c x y =
+pub bound_same : (plan : Plan) (timers : List Timer) (events : List (Option ℕ)) (t b c : ℕ) → IsBound plan timers events t b → IsBound plan timers events t c → b ≡ c
+bound_same plan timers events t b c x y =
     let low : b ≤ c = x.least c y.later y.mark in
     let high : c ≤ b = y.least b x.later x.mark in
     omega arith
@@ -40,11 +41,11 @@ agree_or_stop {fmus} {t} {step} (Falls b k p may m again a x) (StopsAgain c i e 
 agree_or_stop {fmus} {t} {step} (Falls b k p may m again a x) (StopsLater c i e may2 n again2 d v) s = agree_or_stop x v (ap (fallen_bound fmus) s)
 
 pub step_same : (r : Run) (s : Situation) (k l : List ℕ) (p q : ℕ) → IsStep r s k p → IsStep r s l q → (k ≡ l) × (p ≡ q)
-step_same r s k l p q x y = agree_same x.agree y.agree (bound_same r.plan s.timers s.t x.bound y.bound x.is_bound y.is_bound)
+step_same r s k l p q x y = agree_same x.agree y.agree (bound_same r.plan s.timers s.events s.t x.bound y.bound x.is_bound y.is_bound)
 
 -- a step is made or it isn't
 step_or_none : (r : Run) (s : Situation) (k : List ℕ) (p i e : ℕ) → IsStep r s k p → LacksStep r s i e → ⊥
-step_or_none r s k p i e x y = agree_or_stop x.agree y.stops (bound_same r.plan s.timers s.t x.bound y.bound x.is_bound y.is_bound)
+step_or_none r s k p i e x y = agree_or_stop x.agree y.stops (bound_same r.plan s.timers s.events s.t x.bound y.bound x.is_bound y.is_bound)
 
 no_step_at_stop : (r : Run) (s : Situation) (k : List ℕ) (p : ℕ) → s.t ≡ r.plan.stop → IsStep r s k p → ⊥
 no_step_at_stop r s k p at step = let early : s.t < r.plan.stop = step.before_stop in omega arith

@@ -1,5 +1,5 @@
 -- What follows an instant (FMI 3.0, 4.2.1: Event Mode, fmi3UpdateDiscreteStates; 2.2.9: fmi3GetIntervalFraction).
-use Rattle.std.specs.Prelude.{ℕ, suc, ℤ, Bool, false, ◌&&◌, ◌||◌, ◌==◌, if◌then◌else◌, List, [], ◌∷◌, Option, Some, unwrap_or}
+use Rattle.std.specs.Prelude.{ℕ, suc, ℤ, Bool, false, ◌&&◌, ◌||◌, ◌==◌, if◌then◌else◌, List, [], ◌∷◌, Option, Some, None, nat_lt, unwrap_or}
 use Rattle.std.specs.List.{list_any}
 use Rattle.fmi_calls.specs.declared.call.Call.TheVariants as C
 use Rattle.fmi_calls.specs.declared.call.Content.TheVariants as A
@@ -10,12 +10,12 @@ use Rattle.fmi_calls.specs.declared.call.Reply.TheVariants as R
 use Rattle.fmu_peer.specs.Machine.{MachineState, after}
 use Rattle.system_model.specs.declared.system.Role.{Role}
 use Rattle.system_model.specs.declared.system.Role.TheVariants.{Input, Output, ClockInput, ClockOutput, TimeClock}
-use Rattle.system_model.specs.declared.system.Timing.TheVariants.{Periodic, Answered, Countdown}
+use Rattle.system_model.specs.declared.system.Timing.TheVariants.{Periodic, Answered, Countdown, Changing}
 use Rattle.system_model.specs.declared.system.Port.{Port}
 use Rattle.run_model.specs.Run.{Run, Situation, Timer, Never, each, at_fmu}
 use Rattle.system_model.specs.Values.{value, is_active}
 use Rattle.run_model.specs.Inputs.{state_with}
-use Rattle.run_model.specs.Timers.{answered, is_armed_for}
+use Rattle.run_model.specs.Timers.{answered, is_armed_for, rearmed}
 use Rattle.run_model.specs.Initial.{interval_in}
 
 -- the states with the values of the instant written, where there is event mode
@@ -26,17 +26,20 @@ written r s values =
 
 -- ---- the timers
 
--- what a countdown Clock's FMU answers of it
-abbrev asked_interval : Run → Situation → List (Option ℤ) → Port → Interval
+-- what a countdown or changing Clock's FMU answers of it
+abbrev pub asked_interval : Run → Situation → List (Option ℤ) → Port → Interval
 asked_interval r s values port =
     unwrap_or (at_fmu r (written r s values) port.component.0 (λ c m state.
     Some (interval_in (m.look state (C.GetInterval port.reference))))) NotYetKnown
 
--- a tick takes the arming away; then the FMU is asked
+-- a tick takes the arming away; then the FMU is asked, for a changing Clock only where it ticked
 abbrev pub next_timer : Role → Run → Situation → List (Option ℤ) → ℕ → Port → Timer → Timer
 next_timer (TimeClock Countdown) r s values p port old =
     answered r.plan.resolution s.t (asked_interval r s values port) (if is_active (value values p)
     then Never else old)
+next_timer (TimeClock Changing) r s values p port old =
+    if is_active (value values p)
+    then rearmed r.plan.resolution s.t (asked_interval r s values port) else old
 next_timer (TimeClock (Periodic interval shift)) r s values p port old = old
 next_timer (TimeClock Answered) r s values p port old = old
 next_timer (Input feed) r s values p port old = old
@@ -72,6 +75,23 @@ any_update test r s values =
     list_any (λ b. b) (each r (written r s values) (λ i c m state. c.shape.has_event_mode &&
     test (m.look state C.Update)))
 
+-- an event time that is asked for at the point counts where it is after that
+abbrev pub if_later : ℕ → Option ℕ → Option ℕ
+if_later t None = None
+if_later t (Some time) = if nat_lt t time then Some time else None
+
+-- the event time that an Update's answer asks for
+abbrev pub event_after : ℕ → Reply → Option ℕ
+event_after t (R.Done is_warning (A.Update again terminate event_time)) = if_later t event_time
+event_after t (R.Done is_warning content) = None
+event_after t (R.Refused k status) = None
+
+-- each Update takes the place of what its FMU asked for before
+abbrev pub next_events : Run → Situation → List (Option ℤ) → List (Option ℕ)
+next_events r s values =
+    each r (written r s values) (λ i c m state. if c.shape.has_event_mode
+    then event_after s.t (m.look state C.Update) else None)
+
 -- where the run stands after the Updates, before the next instant at this point
 abbrev pub updated : Run → Situation → List (Option ℤ) → Situation
 updated r s values = record {
@@ -79,6 +99,7 @@ updated r s values = record {
       each r (written r s values) (λ i c m state. if c.shape.has_event_mode
       then after m state C.Update else state);
   timers = next_timers r s values;
+  events = next_events r s values;
   t = s.t;
   n = suc s.n;
   before = values;

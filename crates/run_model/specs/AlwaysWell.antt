@@ -14,18 +14,21 @@ use Rattle.fmi_calls.specs.Permission.{is_value_type}
 use Rattle.fmu_peer.specs.Machine.{MachineState, Machine, IsMachineOf}
 use Rattle.system_model.specs.declared.system.Component.{Component}
 use Rattle.system_model.specs.declared.system.Role.TheVariants.{TimeClock}
-use Rattle.system_model.specs.declared.system.Timing.TheVariants.{Countdown}
+use Rattle.system_model.specs.declared.system.Timing.{Timing}
 use Rattle.system_model.specs.declared.system.Port.{Port}
 use Rattle.system_model.specs.Sound.{IsSound}
 use Rattle.run_model.specs.Run.{Run, Situation}
 use Rattle.run_model.specs.Equations.{Solves}
 use Rattle.run_model.specs.Initial.{SolvesInitially, initialized}
-use Rattle.run_model.specs.AfterInstant.{written}
-use Rattle.run_model.specs.Behaved.{AnswersInitially, AnswersWell, BehavesWell, IsAnsweredWell, Reached}
+use Rattle.run_model.specs.Behaved.{AnswersAt, AnswersInitially, BehavesWell, IsAnsweredWell, Reached}
 
 -- a fixed Clock whose FMU is asked for its interval and shift
 abbrev pub IsAskedFixed : ClockTiming → Type 0
 IsAskedFixed timing = (timing.variability ≡ T.Fixed) × (timing.supports_fraction ≡ true)
+
+-- a Clock whose FMU is asked for its shift: such a one, and a changing one
+abbrev pub IsAskedForShift : ClockTiming → Type 0
+IsAskedForShift timing = (timing.variability ≡ T.Changing) ⊎ IsAskedFixed timing
 
 -- a Clock of the shape
 abbrev pub IsClockOf : Shape → ℕ → (Variable → Type 0) → Type 0
@@ -53,8 +56,9 @@ RunSends shape (C.SetClock reference) =
     IsClockOf shape reference (λ (v : Variable). v.causality ≡ V.Input)
 RunSends shape (C.GetInterval reference) =
     IsSomeAnd (timing_at shape.clocks reference) (λ (t : ClockTiming).
-    (t.variability ≡ T.Countdown) ⊎ IsAskedFixed t)
-RunSends shape (C.GetShift reference) = IsSomeAnd (timing_at shape.clocks reference) IsAskedFixed
+    (t.variability ≡ T.Countdown) ⊎ IsAskedForShift t)
+RunSends shape (C.GetShift reference) =
+    IsSomeAnd (timing_at shape.clocks reference) IsAskedForShift
 RunSends shape C.Save = shape.can_save_state ≡ true
 RunSends shape C.Restore = shape.can_save_state ≡ true
 RunSends shape C.Free = shape.can_save_state ≡ true
@@ -88,15 +92,15 @@ WellButTimings shape m =
     (s : MachineState) (call : Call) → length s.values ≡ length shape.variables →
     RunSends shape call → asks_timing call ≡ false → IsAnsweredWell shape m s call
 
--- these the i-th FMU answers well where the run sends them: of its fixed Clocks with the values of Initialization Mode, and of its countdown Clocks with the values of an instant
+-- these the i-th FMU answers well where the run sends them: of its fixed and changing Clocks with the values of Initialization Mode, and of its countdown and changing Clocks with the values of an instant
 pub record TimesWell (r : Run) (i : ℕ) : Type 0 where
   pub initially : (values : List (Option ℤ)) → SolvesInitially r values → (p : ℕ) (port : Port) →
       slice_get r.system.ports p ≡ Some port → port.component.0 ≡ i →
       AnswersInitially port.role r (initialized r values) port
   pub in_instants : (s : Situation) (values : List (Option ℤ)) → Reached r s → Solves r s values →
       (p : ℕ) (port : Port) → slice_get r.system.ports p ≡ Some port → port.component.0 ≡ i →
-      port.role ≡ TimeClock Countdown →
-      AnswersWell r (written r s values) port.component.0 (λ shape. C.GetInterval port.reference)
+      (timing : Timing) → port.role ≡ TimeClock timing →
+      AnswersAt (TimeClock timing) r s values p port
 
 -- such a machine that does so behaves well
 abbrev pub TimedBehaves : Type 0

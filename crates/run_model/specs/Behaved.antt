@@ -16,10 +16,10 @@ use Rattle.fmu_peer.specs.Mode.{instantiate_of}
 use Rattle.system_model.specs.declared.system.Component.{Component}
 use Rattle.system_model.specs.declared.system.Role.{Role}
 use Rattle.system_model.specs.declared.system.Role.TheVariants.{Input, Output, ClockInput, ClockOutput, TimeClock}
-use Rattle.system_model.specs.declared.system.Timing.TheVariants.{Periodic, Answered, Countdown}
+use Rattle.system_model.specs.declared.system.Timing.TheVariants.{Periodic, Answered, Countdown, Changing}
 use Rattle.system_model.specs.declared.system.Port.{Port}
 use Rattle.run_model.specs.Run.{Run, Situation, IsFmu, each}
-use Rattle.system_model.specs.Values.{is_present}
+use Rattle.system_model.specs.Values.{is_active, is_present, value}
 use Rattle.run_model.specs.Equations.{Solves}
 use Rattle.run_model.specs.Initial.{first_states, instantiated, configured, initializing, initialized, enter_initialization, SolvesInitially, beginning, is_read}
 use Rattle.run_model.specs.AfterInstant.{Done, following, written, updated}
@@ -110,10 +110,12 @@ pub record BehavesBefore (r : Run) (i : ℕ) : Type 0 where
   pub parameters : SetsWell Configuring r (instantiated r) i
   pub enter : AnswersWell r (configured r) i (λ shape. enter_initialization r)
 
--- the timing of a fixed Clock is asked in Initialization Mode
+-- the timing of a fixed Clock is asked in Initialization Mode, and the shift of a changing one
 abbrev pub AnswersInitially : Role → Run → List MachineState → Port → Type 0
 AnswersInitially (TimeClock Answered) r states port =
     AnswersWell r states port.component.0 (λ shape. C.GetInterval port.reference) ×
+    AnswersWell r states port.component.0 (λ shape. C.GetShift port.reference)
+AnswersInitially (TimeClock Changing) r states port =
     AnswersWell r states port.component.0 (λ shape. C.GetShift port.reference)
 AnswersInitially (TimeClock (Periodic interval shift)) r states port = Unit {0}
 AnswersInitially (TimeClock Countdown) r states port = Unit {0}
@@ -132,29 +134,31 @@ pub record BehavesInitially (r : Run) (values : List (Option ℤ)) (i : ℕ) : T
       port.component.0 ≡ i → AnswersInitially port.role r (initialized r values) port
   pub exit : AnswersWell r (initialized r values) i (λ shape. C.ExitInitialization)
 
--- a port in an instant: an output that is present is read with the values written, and without event mode in the first instant of a point; the interval of a countdown Clock is asked
-abbrev pub AnswersAt : Role → Run → Situation → List (Option ℤ) → Port → Type 0
-AnswersAt Output r s values port =
+-- a port in an instant: an output that is present is read with the values written, and without event mode in the first instant of a point; the interval of a countdown Clock is asked, and that of a changing one where it ticks
+abbrev pub AnswersAt : Role → Run → Situation → List (Option ℤ) → ℕ → Port → Type 0
+AnswersAt Output r s values p port =
     (is_present port values ≡ true →
     AnswersWellIf true r (written r s values) port.component.0 (λ shape.
     C.Get port.kind port.reference))
     × (s.n ≡ 0 → AnswersWellIf false r s.states port.component.0 (λ shape.
     C.Get port.kind port.reference))
-AnswersAt ClockOutput r s values port =
+AnswersAt ClockOutput r s values p port =
     AnswersWell r (written r s values) port.component.0 (λ shape. C.GetClock port.reference)
-AnswersAt (TimeClock Countdown) r s values port =
+AnswersAt (TimeClock Countdown) r s values p port =
     AnswersWell r (written r s values) port.component.0 (λ shape. C.GetInterval port.reference)
-AnswersAt (TimeClock (Periodic interval shift)) r s values port = Unit {0}
-AnswersAt (TimeClock Answered) r s values port = Unit {0}
-AnswersAt (Input feed) r s values port = Unit {0}
-AnswersAt (ClockInput feed) r s values port = Unit {0}
+AnswersAt (TimeClock Changing) r s values p port = is_active (value values p) ≡ true →
+    AnswersWell r (written r s values) port.component.0 (λ shape. C.GetInterval port.reference)
+AnswersAt (TimeClock (Periodic interval shift)) r s values p port = Unit {0}
+AnswersAt (TimeClock Answered) r s values p port = Unit {0}
+AnswersAt (Input feed) r s values p port = Unit {0}
+AnswersAt (ClockInput feed) r s values p port = Unit {0}
 
 -- in an instant, with its values
 pub record BehavesInInstant (r : Run) (s : Situation) (values : List (Option ℤ))
     (i : ℕ) : Type 0 where
   pub sets : SetsWell Eventing r s.states i
   pub ports : (p : ℕ) (port : Port) → slice_get r.system.ports p ≡ Some port →
-      port.component.0 ≡ i → AnswersAt port.role r s values port
+      port.component.0 ≡ i → AnswersAt port.role r s values p port
   pub update : AnswersWellIf true r (written r s values) i (λ shape. C.Update)
 
 -- the states after each FMU was asked to step to its point
@@ -167,7 +171,7 @@ pub record BehavesInStep (r : Run) (z : Situation) (i : ℕ) : Type 0 where
   pub sets : (c : Component) → slice_get r.system.components i ≡ Some c →
       c.shape.has_event_mode ≡ false → SetsWell Stepping r z.states i
   pub saves : SetsWell Stepping r (departing r z) i
-  pub asks : (bound e : ℕ) → IsBound r.plan z.timers z.t bound →
+  pub asks : (bound e : ℕ) → IsBound r.plan z.timers z.events z.t bound →
       IsAsked (steppers r z) (is_asked_first r) z.t r.plan.step bound i e → z.t < e →
       AnswersWell r (departing r z) i (λ shape. step_to z.t e) ×
       SetsWell Stepping r (asked_states r z (λ k. e)) i

@@ -1,6 +1,7 @@
 -- Where a run begins: from the first states of the FMUs to the first instant (FMI 3.0, 4.2.1: Instantiated, Initialization Mode).
 use Rattle.std.specs.Prelude.{◌≡◌, ℕ, ℤ, Bool, false, ◌&&◌, ◌==◌, if◌then◌else◌, List, [], ◌∷◌, length, map, Option, Some, None, slice_index_or, unwrap_or}
 use Rattle.std.specs.List.{list_any, slice_get}
+use Rattle.clock_fraction.specs.Counts.{counts_of}
 use Rattle.clock_fraction.specs.declared.fraction.Fraction.{Fraction}
 use Rattle.fmi_calls.specs.declared.call.Call.{Call}
 use Rattle.fmi_calls.specs.declared.call.Call.TheVariants as C
@@ -13,7 +14,8 @@ use Rattle.fmu_peer.specs.Machine.{MachineState, Machine, after}
 use Rattle.fmu_peer.specs.Mode.{instantiate_of}
 use Rattle.system_model.specs.declared.system.Role.{Role}
 use Rattle.system_model.specs.declared.system.Role.TheVariants.{Input, Output, ClockInput, ClockOutput, TimeClock}
-use Rattle.system_model.specs.declared.system.Timing.TheVariants.{Periodic, Answered, Countdown}
+use Rattle.system_model.specs.declared.system.Timing.TheVariants.{Periodic, Answered, Countdown, Changing}
+use Rattle.system_model.specs.declared.system.Component.{Component}
 use Rattle.system_model.specs.declared.system.Port.{Port}
 use Rattle.system_model.specs.declared.bound.BoundValue.{BoundValue}
 use Rattle.system_model.specs.Needs.{is_unclocked, is_unclocked_at}
@@ -21,7 +23,7 @@ use Rattle.run_model.specs.Run.{Run, Situation, Timer, Never, Every, each, at_fm
 use Rattle.system_model.specs.Values.{value}
 use Rattle.run_model.specs.Inputs.{state_with}
 use Rattle.run_model.specs.Equations.{shown, fed}
-use Rattle.run_model.specs.Timers.{fixed}
+use Rattle.run_model.specs.Timers.{armed_after, fixed}
 
 -- ---- before Initialization Mode
 
@@ -114,11 +116,19 @@ asked_timer r port m s =
     fixed r.plan.resolution (interval_in (m.look s (C.GetInterval port.reference)))
     (shift_in (m.look s (C.GetShift port.reference)))
 
+-- a changing Clock is armed by the shift that its FMU answers
+abbrev pub shifted_timer : Run → Port → Machine → MachineState → Timer
+shifted_timer r port m s =
+    armed_after r.plan.start
+    (counts_of (shift_in (m.look s (C.GetShift port.reference))) r.plan.resolution)
+
 -- no countdown Clock is armed at first
 abbrev pub first_timer : Role → Run → List MachineState → Port → Timer
 first_timer (TimeClock (Periodic interval shift)) r states port = Every interval shift
 first_timer (TimeClock Answered) r states port =
     unwrap_or (at_fmu r states port.component.0 (λ c m s. Some (asked_timer r port m s))) Never
+first_timer (TimeClock Changing) r states port =
+    unwrap_or (at_fmu r states port.component.0 (λ c m s. Some (shifted_timer r port m s))) Never
 first_timer (TimeClock Countdown) r states port = Never
 first_timer (Input feed) r states port = Never
 first_timer Output r states port = Never
@@ -130,11 +140,12 @@ first_timers r states = map (λ (port : Port). first_timer port.role r states po
 
 -- ---- the first instant
 
--- where the run begins, after these values of Initialization Mode: no port has a value yet
+-- where the run begins, after these values of Initialization Mode: no component has an event time yet, and no port a value
 abbrev pub beginning : Run → List (Option ℤ) → Situation
 beginning r values = record {
   states = each r (initialized r values) (λ i c m s. after m s C.ExitInitialization);
   timers = first_timers r (initialized r values);
+  events = map (λ (c : Component). None) r.system.components;
   t = r.plan.start;
   n = 0;
   before = map (λ (port : Port). None) r.system.ports;

@@ -34,10 +34,11 @@ AreFitting system values =
     (p : ℕ) (port : Port) → slice_get system.ports p ≡ Some port →
     IfSome (value values p) (Fits port.kind)
 
--- before an instant: a state for each component, out of Initialization Mode, and for each port a timer and a value of its type or none
+-- before an instant: for each component a state, out of Initialization Mode, and an event time or none, and for each port a timer and a value of its type or none
 pub record IsSituation (r : Run) (s : Situation) : Type 0 where
   pub states : length s.states ≡ length r.system.components
   pub timers : length s.timers ≡ length r.system.ports
+  pub events : length s.events ≡ length r.system.components
   pub before : length s.before ≡ length r.system.ports
   pub shapes : AreStates r false s.states
   pub types : AreFitting r.system s.before

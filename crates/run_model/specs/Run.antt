@@ -20,10 +20,11 @@ pub data Timer : Type 0 where
   Every : (interval shift : ℕ) → Timer
   Once : (point : ℕ) → Timer
 
--- where a run stands before an instant: the state of each component, the timer of each port, the point and the number of the instant there, and the values of the instant before
+-- where a run stands before an instant: the state of each component, the timer of each port, the event time that each component asked for, if any, the point and the number of the instant there, and the values of the instant before
 pub record Situation : Type 0 where
   pub states : List MachineState
   pub timers : List Timer
+  pub events : List (Option ℕ)
   pub t : ℕ
   pub n : ℕ
   pub before : List (Option ℤ)

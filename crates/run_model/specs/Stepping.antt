@@ -65,6 +65,7 @@ stepped r s kept point = record {
       let there : MachineState = after m state (step_to s.t (kept_at kept i)) in
       if c.shape.has_event_mode then after m there C.EnterEvent else there);
   timers = s.timers;
+  events = s.events;
   t = point;
   n = 0;
   before = s.before;
@@ -87,14 +88,14 @@ asks_to_end r s kept =
 pub record IsStep (r : Run) (s : Situation) (kept : List ℕ) (point : ℕ) : Type 0 where
   pub before_stop : s.t < r.plan.stop
   pub bound : ℕ
-  pub is_bound : IsBound r.plan s.timers s.t bound
+  pub is_bound : IsBound r.plan s.timers s.events s.t bound
   pub agree : Agree (steppers r s) s.t r.plan.step bound kept point
 
 -- a step before the stop that isn't made: the i-th component would be asked to step to e, and can't
 pub record LacksStep (r : Run) (s : Situation) (i e : ℕ) : Type 0 where
   pub before_stop : s.t < r.plan.stop
   pub bound : ℕ
-  pub is_bound : IsBound r.plan s.timers s.t bound
+  pub is_bound : IsBound r.plan s.timers s.events s.t bound
   pub stops : StopsShort (steppers r s) s.t r.plan.step bound i e
 
 -- what follows: the run ends, in this way and at this point, or goes on from a situation

@@ -1,5 +1,5 @@
 -- Where a step from a point goes (FMI 3.0, 4.2.1.2: fmi3DoStep and early return; the attribute canHandleVariableCommunicationStepSize of CoSimulation).
-use Rattle.std.specs.Prelude.{◌≡◌, ◌≢◌, ◌⊎◌, ℕ, ◌+◌, ◌-◌, ◌*◌, ◌<◌, ◌≤◌, min, Bool, true, not, ◌&&◌, ◌==◌, if◌then◌else◌, List, [], ◌∷◌, map, filter, All, Some, slice_get}
+use Rattle.std.specs.Prelude.{◌≡◌, ◌≢◌, ◌⊎◌, ℕ, ◌+◌, ◌-◌, ◌*◌, ◌<◌, ◌≤◌, min, Bool, true, not, ◌&&◌, ◌==◌, if◌then◌else◌, List, [], ◌∷◌, map, filter, All, Option, Some, slice_get}
 use Rattle.std.specs.List.{position}
 use Rattle.system_model.specs.declared.plan.Plan.{Plan}
 use Rattle.run_model.specs.Run.{Timer}
@@ -14,17 +14,24 @@ abbrev pub SomeTicksAt : ℕ → List Timer → ℕ → Type 0
 SomeTicksAt start timers point =
     (p : ℕ) × (timer : Timer) × (slice_get timers p ≡ Some timer) × TicksAt start timer point
 
--- a point that no step passes over: a grid point, a tick of a Clock or the stop
-pub data IsMark (plan : Plan) (timers : List Timer) (point : ℕ) : Type 0 where
-  OnGrid : IsGridPoint plan point → IsMark plan timers point
-  AtTick : SomeTicksAt plan.start timers point → IsMark plan timers point
-  OnStop : point ≡ plan.stop → IsMark plan timers point
+-- some component has its event time at the point
+abbrev pub SomeEventAt : List (Option ℕ) → ℕ → Type 0
+SomeEventAt events point = (i : ℕ) × (slice_get events i ≡ Some (Some point))
+
+-- a point that no step passes over: a grid point, a tick of a Clock, an event time or the stop
+pub data IsMark (plan : Plan) (timers : List Timer) (events : List (Option ℕ))
+    (point : ℕ) : Type 0 where
+  OnGrid : IsGridPoint plan point → IsMark plan timers events point
+  AtTick : SomeTicksAt plan.start timers point → IsMark plan timers events point
+  AtEvent : SomeEventAt events point → IsMark plan timers events point
+  OnStop : point ≡ plan.stop → IsMark plan timers events point
 
 -- the bound of the step from t: the least such point after t
-pub record IsBound (plan : Plan) (timers : List Timer) (t bound : ℕ) : Type 0 where
+pub record IsBound (plan : Plan) (timers : List Timer) (events : List (Option ℕ))
+    (t bound : ℕ) : Type 0 where
   pub later : t < bound
-  pub mark : IsMark plan timers bound
-  pub least : (point : ℕ) → t < point → IsMark plan timers point → bound ≤ point
+  pub mark : IsMark plan timers events bound
+  pub least : (point : ℕ) → t < point → IsMark plan timers events point → bound ≤ point
 
 -- the least of the numbers, or d where there are none
 abbrev pub least_or : ℕ → List ℕ → ℕ

@@ -1,4 +1,4 @@
--- When time-based Clocks tick (FMI 3.0, 2.2.8 and 2.2.9: constant, fixed and countdown Clocks and their intervals).
+-- When time-based Clocks tick (FMI 3.0, 2.2.8 and 2.2.9: constant, fixed, countdown and changing Clocks and their intervals).
 use Rattle.std.specs.Prelude.{◌≡◌, ℕ, ◌+◌, Bool, false, ◌==◌, Option, Some, None}
 use Rattle.clock_fraction.specs.declared.fraction.Fraction.{Fraction}
 use Rattle.clock_fraction.specs.Counts.{counts_of}
@@ -37,6 +37,12 @@ abbrev pub answered : ℕ → ℕ → Interval → Timer → Timer
 answered per_second point NotYetKnown old = Never
 answered per_second point (Unchanged f) old = old
 answered per_second point (Changed f) old = armed_after point (counts_of f per_second)
+
+-- a changing Clock's timer once it has ticked at the point: the interval that its FMU answers arms it, new or not
+abbrev pub rearmed : ℕ → ℕ → Interval → Timer
+rearmed per_second point NotYetKnown = Never
+rearmed per_second point (Unchanged f) = armed_after point (counts_of f per_second)
+rearmed per_second point (Changed f) = armed_after point (counts_of f per_second)
 
 abbrev pub periodic_of : Option ℕ → Option ℕ → Timer
 periodic_of (Some interval) (Some shift) = Every interval shift

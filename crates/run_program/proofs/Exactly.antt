@@ -1,5 +1,5 @@
 -- Where a status has to come.
-use Rattle.std.proofs.Common.{◌≡◌, ◌⊎◌, inl, inr, ℕ, ◌+◌, ◌<◌, true, false, Bool, List, [], ◌∷◌, ◌++◌, length, Option, Some, None, refl, sym, ap, ◌∙◌, subst, arith, take, append_assoc}
+use Rattle.std.proofs.Common.{◌≡◌, ◌⊎◌, inl, inr, ℕ, ◌<◌, true, false, Bool, List, [], ◌∷◌, ◌++◌, length, Option, Some, None, refl, sym, ap, ◌∙◌, subst, arith, take, append_assoc}
 use Rattle.std.specs.Prelude.{Err}
 use Rattle.std.proofs.lemmas.List.{append_cancel_left, get_or_push, length_push}
 use Rattle.std.specs.List.{slice_get}

@@ -35,7 +35,7 @@ before_20 point later = (λ x. let e : point ≡ 0 + 10 + x.0 * 10 = x.1 in omeg
 pub trace : IsTrace row.fixed_run row.fixed_instants Stop 20
 trace = Runs w (initially_by row.fixed_run w refl (refl, (refl, (refl, tt))))
     (Further s0 (row.values 0 0) _ Stop 20 s10 _ (solves_by row.fixed_run s0 (row.values 0 0) refl (inr (quiet_at_0, refl), (refl, (refl, tt))))
-    (departs_by row.fixed_run (updated row.fixed_run s0 (row.values 0 0)) 10 (omega arith) (bound_by 20 100 0 10 _ (omega arith) (omega arith) (AtTick (0, Every 10 10, refl, (0, refl))) before_10 (λ k later. omega (arith, later))) refl refl refl) refl
+    (departs_by row.fixed_run (updated row.fixed_run s0 (row.values 0 0)) 10 (omega arith) (bound_by 20 100 0 10 _ (omega arith) (omega arith) (AtTick (0, Every 10 10, refl, (0, refl))) before_10 (λ k later. omega (arith, later))) refl refl refl refl) refl
     (Further s10 (row.values 1 0) _ Stop 20 s20 _ (solves_by row.fixed_run s10 (row.values 1 0) refl (inl ((refl, (0, refl)), refl), (refl, (refl, tt))))
-    (departs_by row.fixed_run (updated row.fixed_run s10 (row.values 1 0)) 20 (omega arith) (bound_by 20 100 10 20 _ (omega arith) (omega arith) (AtTick (0, Every 10 10, refl, (1, refl))) before_20 (λ k later. omega (arith, later))) refl refl refl) refl
+    (departs_by row.fixed_run (updated row.fixed_run s10 (row.values 1 0)) 20 (omega arith) (bound_by 20 100 10 20 _ (omega arith) (omega arith) (AtTick (0, Every 10 10, refl, (1, refl))) before_20 (λ k later. omega (arith, later))) refl refl refl refl) refl
     (Last s20 (row.values 1 1) _ Stop 20 (solves_by row.fixed_run s20 (row.values 1 1) refl (inl ((refl, (1, refl)), refl), (refl, (refl, tt)))) (AtStop _ refl refl) refl)))

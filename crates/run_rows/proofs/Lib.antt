@@ -20,4 +20,6 @@ mod CountedTrace
 mod CallsTrace
 mod FixedTrace
 mod AlarmedTrace
+mod PulsedTrace
+mod WokenTrace
 mod QuietLemmas

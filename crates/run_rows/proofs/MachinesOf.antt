@@ -3,7 +3,7 @@ use Rattle.std.proofs.Common.{◌≡◌, true, false, refl}
 use Rattle.value_types.specs.declared.shape.Shape.{Shape}
 use Rattle.fmu_peer.specs.Machine.{IsLawful, IsMachineOf}
 use Rattle.run_model.specs.Machines.{AreMachines}
-use Rattle.run_rows.specs.Machines.{Behaviour, machine_of, counter, gain, sampler, ticker, relay, timer, settle, tally, fixed_ticker, alarm}
+use Rattle.run_rows.specs.Machines.{Behaviour, machine_of, counter, gain, sampler, ticker, relay, timer, settle, tally, fixed_ticker, alarm, pulse, waker}
 use Rattle.run_rows.specs.Timer as timer_row
 use Rattle.run_rows.specs.Limit as limit
 use Rattle.run_rows.specs.CounterGain as counter_gain
@@ -15,6 +15,8 @@ use Rattle.run_rows.specs.Counted as counted
 use Rattle.run_rows.specs.Calls as calls
 use Rattle.run_rows.specs.FixedClock as fixed
 use Rattle.run_rows.specs.Alarmed as alarmed
+use Rattle.run_rows.specs.Pulsed as pulsed
+use Rattle.run_rows.specs.Woken as woken
 use Rattle.run_rows.proofs.Lawful.{declares_all, is_machine, lawful_all, lawful_gain, lawful_sampler, machines_by}
 
 all_declared : (shape : Shape) (b : Behaviour) → declares_all shape true ≡ true → declares_all shape false ≡ true → IsMachineOf shape (machine_of shape b) × IsLawful shape (machine_of shape b)
@@ -72,3 +74,9 @@ fixed_machines = machines_by fixed.fixed_run refl (all_declared fixed.shape fixe
 
 pub alarmed_machines : AreMachines alarmed.alarmed_run
 alarmed_machines = machines_by alarmed.alarmed_run refl (all_declared alarmed.counter_shape counter refl refl, (all_declared alarmed.alarm_shape alarm refl refl, tt))
+
+pub pulsed_machines : AreMachines pulsed.pulsed_run
+pulsed_machines = machines_by pulsed.pulsed_run refl (all_declared pulsed.shape pulse refl refl, tt)
+
+pub woken_machines : AreMachines woken.woken_run
+woken_machines = machines_by woken.woken_run refl (all_declared woken.waker_shape waker refl refl, (all_declared woken.counter_shape counter refl refl, tt))

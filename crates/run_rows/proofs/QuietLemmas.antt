@@ -17,7 +17,7 @@ use Rattle.fmi_calls.specs.Worth.{is_interval, is_step_end, variability_at}
 use Rattle.fmu_peer.specs.Machine.{Machine, IsMachineOf}
 use Rattle.system_model.specs.declared.system.Component.{Component}
 use Rattle.run_model.specs.Behaved.{WellBehaved}
-use Rattle.run_model.specs.AlwaysWell.{AlwaysWell, RunSends, IsAskedFixed}
+use Rattle.run_model.specs.AlwaysWell.{AlwaysWell, RunSends, IsAskedForShift}
 use Rattle.run_model.proofs.CallerLemmas.{always_behaves}
 use Rattle.run_rows.specs.Machines.{machine_of, quiet}
 use Rattle.run_rows.specs.Quiet.{QuietAnswersWell, quiet_run}
@@ -25,8 +25,8 @@ use Rattle.run_rows.specs.Relayed.{counter_shape, relay_shape, sampler_shape}
 use Rattle.run_rows.specs.Parts.{component_of}
 use Rattle.system_model.proofs.CallerLemmas.{all_at, found_at}
 use Rattle.run_rows.proofs.Lawful.{each_is, is_machine}
-use Rattle.run_rows.proofs.SystemTests.{is_fixed}
-use Rattle.run_rows.proofs.Tests.{true_false, every, all_by}
+use Rattle.run_rows.proofs.SystemTests.{is_of}
+use Rattle.run_rows.proofs.Tests.{true_false, left, right, every, all_by}
 use Rattle.run_rows.proofs.Sound.{relayed_sound}
 
 good_if : (b : Bool) → b ≡ true → (if b then Good else Misreply) ≡ Good
@@ -62,14 +62,14 @@ whole_step shape at size positive =
 -- a countdown Clock's interval needn't be known
 unknown : (shape : Shape) (reference : ℕ) → ((r : ℕ) → RunSends shape (C.GetShift r) → ⊥) → RunSends shape (C.GetInterval reference) → is_interval (variability_at shape reference) NotYetKnown shape.resolution ≡ true
 unknown shape reference none asked =
-    (elim (timing_at shape.clocks reference) as (λ o. timing_at shape.clocks reference ≡ o → IsSomeAnd o (λ (t : ClockTiming). (t.variability ≡ v.Countdown) ⊎ IsAskedFixed t) → is_interval (option_map (λ (c : ClockTiming). c.variability) o) NotYetKnown shape.resolution ≡ true) [
+    (elim (timing_at shape.clocks reference) as (λ o. timing_at shape.clocks reference ≡ o → IsSomeAnd o (λ (t : ClockTiming). (t.variability ≡ v.Countdown) ⊎ IsAskedForShift t) → is_interval (option_map (λ (c : ClockTiming). c.variability) o) NotYetKnown shape.resolution ≡ true) [
       | None ↦ λ e h. absurd h
       | Some t ↦ λ e h. by t e h
     ]) refl asked
   where
-    by : (t : ClockTiming) → timing_at shape.clocks reference ≡ Some t → (t.variability ≡ v.Countdown) ⊎ IsAskedFixed t → is_interval (Some t.variability) NotYetKnown shape.resolution ≡ true
+    by : (t : ClockTiming) → timing_at shape.clocks reference ≡ Some t → (t.variability ≡ v.Countdown) ⊎ IsAskedForShift t → is_interval (Some t.variability) NotYetKnown shape.resolution ≡ true
     by t e (inl countdown) = ap (λ x. is_interval (Some x) NotYetKnown shape.resolution) countdown
-    by t e (inr fixed) = absurd (none reference (subst (λ o. IsSomeAnd o IsAskedFixed) (sym e) fixed))
+    by t e (inr shift) = absurd (none reference (subst (λ o. IsSomeAnd o IsAskedForShift) (sym e) shift))
 
 pub quiet_answers_well : QuietAnswersWell
 quiet_answers_well shape none s (C.Instantiate event_mode early_return) many sent = refl
@@ -93,23 +93,28 @@ quiet_answers_well shape none s C.FreeInstance many sent = absurd sent
 
 -- ---- the run
 
--- no Clock is a fixed one
-none_fixed : (clocks : List ClockTiming) → every (λ (t : ClockTiming). not (is_fixed t.variability)) clocks ≡ true → (reference : ℕ) → IsSomeAnd (timing_at clocks reference) IsAskedFixed → ⊥
-none_fixed clocks none reference asked =
-    (elim (timing_at clocks reference) as (λ o. timing_at clocks reference ≡ o → IsSomeAnd o IsAskedFixed → ⊥) [
+-- no Clock is a fixed or changing one
+abbrev is_timeless : ClockTiming → Bool
+is_timeless t = not (is_of v.Fixed t.variability) && not (is_of v.Changing t.variability)
+
+none_asked : (clocks : List ClockTiming) → every is_timeless clocks ≡ true → (reference : ℕ) → IsSomeAnd (timing_at clocks reference) IsAskedForShift → ⊥
+none_asked clocks none reference asked =
+    (elim (timing_at clocks reference) as (λ o. timing_at clocks reference ≡ o → IsSomeAnd o IsAskedForShift → ⊥) [
       | None ↦ λ e h. h
       | Some t ↦ λ e h.
           let found = found_at (λ (x : ClockTiming). x.reference) clocks reference t e in
-          let here : not (is_fixed t.variability) ≡ true = all_at (λ (x : ClockTiming). not (is_fixed x.variability) ≡ true) clocks found.place t
-          (all_by (λ (x : ClockTiming). not (is_fixed x.variability)) (λ (x : ClockTiming). not (is_fixed x.variability) ≡ true) (λ x k. k) clocks none) found.is in
-          true_false (sym here ∙ ap (λ x. not (is_fixed x)) h.0)
+          by t (all_at (λ (x : ClockTiming). is_timeless x ≡ true) clocks found.place t (all_by is_timeless (λ (x : ClockTiming). is_timeless x ≡ true) (λ x k. k) clocks none) found.is) h
     ]) refl asked
+  where
+    by : (t : ClockTiming) → is_timeless t ≡ true → IsAskedForShift t → ⊥
+    by t here (inl changing) = true_false (sym (right (not (is_of v.Fixed t.variability)) (not (is_of v.Changing t.variability)) here) ∙ ap (λ x. not (is_of v.Changing x)) changing)
+    by t here (inr fixed) = true_false (sym (left (not (is_of v.Fixed t.variability)) (not (is_of v.Changing t.variability)) here) ∙ ap (λ x. not (is_of v.Fixed x)) fixed.0)
 
 abbrev IsQuiet : Component → Machine → Type 0
 IsQuiet c m = IsMachineOf c.shape m × AlwaysWell c.shape m
 
-quiet_component : (source : ℕ) (name : List ℕ) (shape : Shape) → every (λ (t : ClockTiming). not (is_fixed t.variability)) shape.clocks ≡ true → IsQuiet (component_of source name shape) (machine_of shape quiet)
-quiet_component source name shape none = (is_machine shape quiet, quiet_answers_well shape (none_fixed shape.clocks none))
+quiet_component : (source : ℕ) (name : List ℕ) (shape : Shape) → every is_timeless shape.clocks ≡ true → IsQuiet (component_of source name shape) (machine_of shape quiet)
+quiet_component source name shape none = (is_machine shape quiet, quiet_answers_well shape (none_asked shape.clocks none))
 
 pub quiet_behaves : WellBehaved quiet_run
 quiet_behaves i = always_behaves quiet_run relayed_sound i (each_is IsQuiet quiet_run.system.components quiet_run.machines

@@ -78,7 +78,7 @@ may_tick Fixed causality = is_input causality
 may_tick Countdown causality = is_input causality
 may_tick Triggered causality = is_input causality || is_output causality
 may_tick Tunable causality = false
-may_tick Changing causality = false
+may_tick Changing causality = is_input causality
 
 may_tick_by : (variability : IntervalVariability) (causality : Causality) → may_tick variability causality ≡ true → MayTick variability causality
 may_tick_by Constant causality e = input_by causality e
@@ -86,7 +86,7 @@ may_tick_by Fixed causality e = input_by causality e
 may_tick_by Countdown causality e = input_by causality e
 may_tick_by Triggered causality e = either (is_input causality) (is_output causality) (input_by causality) (output_by causality) e
 may_tick_by Tunable causality e = absurd (true_false (sym e))
-may_tick_by Changing causality e = absurd (true_false (sym e))
+may_tick_by Changing causality e = input_by causality e
 
 abbrev is_whole : ℕ → Fraction → Bool
 is_whole per_second f = are_counts per_second (per_second * f.counter / f.resolution) f
@@ -107,9 +107,9 @@ clock_by shape v t e = let p = parts (clock_parts shape v t) e in
       events = p.1.0;
       causality = may_tick_by t.variability v.causality p.1.1.0;
       described = λ d. both (implied (is_described t.variability t.supports_fraction) (is_some t.interval && is_some t.shift) p.1.1.1.0 d);
-      interval = if_some_by (λ (f : Fraction). nat_lt 0 f.counter && is_whole shape.resolution f) (λ (f : Fraction). (0 < f.counter) × IsInCounts shape.resolution f)
+      interval = λ used. if_some_by (λ (f : Fraction). nat_lt 0 f.counter && is_whole shape.resolution f) (λ (f : Fraction). (0 < f.counter) × IsInCounts shape.resolution f)
           (λ f h. (ltb-true 0 f.counter (left (nat_lt 0 f.counter) (is_whole shape.resolution f) h), whole_by shape.resolution f (right (nat_lt 0 f.counter) (is_whole shape.resolution f) h))) t.interval p.1.1.1.1.0;
-      shift = if_some_by (is_whole shape.resolution) (IsInCounts shape.resolution) (λ f h. whole_by shape.resolution f h) t.shift p.1.1.1.1.1.0;
+      shift = λ used. if_some_by (is_whole shape.resolution) (IsInCounts shape.resolution) (λ f h. whole_by shape.resolution f h) t.shift p.1.1.1.1.1.0;
     }
   where
     both : (is_some t.interval && is_some t.shift) ≡ true → IsSome t.interval × IsSome t.shift

@@ -12,6 +12,8 @@ use Rattle.run_rows.specs.Counted as counted
 use Rattle.run_rows.specs.Calls as calls
 use Rattle.run_rows.specs.FixedClock as fixed
 use Rattle.run_rows.specs.Alarmed as alarmed
+use Rattle.run_rows.specs.Pulsed as pulsed
+use Rattle.run_rows.specs.Woken as woken
 use Rattle.run_rows.proofs.OrderTests.{sound_by}
 
 pub timer_sound : IsSound timer.system
@@ -49,3 +51,9 @@ fixed_sound = sound_by fixed.system refl refl
 
 pub alarmed_sound : IsSound alarmed.system
 alarmed_sound = sound_by alarmed.system refl refl
+
+pub pulsed_sound : IsSound pulsed.system
+pulsed_sound = sound_by pulsed.system refl refl
+
+pub woken_sound : IsSound woken.system
+woken_sound = sound_by woken.system refl refl

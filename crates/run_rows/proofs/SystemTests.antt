@@ -1,6 +1,6 @@
 -- A test of systems, which computes, and which sound systems pass alone: of systems at 1000 counts a second whose FMUs save their states, and whose connected ports have one type.
 use Rattle.std.proofs.Common.{◌≡◌, ℕ, ◌<◌, Bool, true, false, not, ◌&&◌, List, [], ◌∷◌, length, map, refl, sym, ◌∙◌, ap, arith, nat_lt, nat_le}
-use Rattle.std.specs.Prelude.{slice_get, ◌^◌, ◌==◌}
+use Rattle.std.specs.Prelude.{slice_get, slice_index_or, ◌^◌, ◌==◌}
 use Rattle.std.proofs.lemmas.Bool.{eqb-true, ltb-true, leb-true}
 use Rattle.sim_base.specs.declared.numbers.PortId.{PortId}
 use Rattle.clock_fraction.specs.Counts.{IsCounts}
@@ -17,7 +17,7 @@ use Rattle.value_types.specs.declared.shape.Variable.{Variable}
 use Rattle.value_types.specs.declared.shape.Shape.{Shape}
 use Rattle.system_model.specs.declared.system.Component.{Component}
 use Rattle.system_model.specs.declared.system.Timing.{Timing}
-use Rattle.system_model.specs.declared.system.Timing.TheVariants.{Periodic, Answered, Countdown}
+use Rattle.system_model.specs.declared.system.Timing.TheVariants.{Periodic, Answered, Countdown, Changing}
 use Rattle.system_model.specs.declared.system.Role.{Role}
 use Rattle.system_model.specs.declared.system.Role.TheVariants.{Input, Output, ClockInput, ClockOutput, TimeClock}
 use Rattle.system_model.specs.declared.system.Port.{Port}
@@ -50,53 +50,31 @@ components_by system few e =
 
 -- ---- roles
 
-abbrev pub is_fixed : IntervalVariability → Bool
-is_fixed v.Fixed = true
-is_fixed v.Constant = false
-is_fixed v.Tunable = false
-is_fixed v.Changing = false
-is_fixed v.Countdown = false
-is_fixed v.Triggered = false
+-- variabilities by number
+abbrev number : IntervalVariability → ℕ
+number v.Constant = 0
+number v.Fixed = 1
+number v.Tunable = 2
+number v.Changing = 3
+number v.Countdown = 4
+number v.Triggered = 5
 
-fixed_by : (x : IntervalVariability) → is_fixed x ≡ true → x ≡ v.Fixed
-fixed_by v.Fixed e = refl
-fixed_by v.Constant e = absurd (true_false (sym e))
-fixed_by v.Tunable e = absurd (true_false (sym e))
-fixed_by v.Changing e = absurd (true_false (sym e))
-fixed_by v.Countdown e = absurd (true_false (sym e))
-fixed_by v.Triggered e = absurd (true_false (sym e))
+abbrev numbered : ℕ → IntervalVariability
+numbered k = slice_index_or (v.Constant ∷ v.Fixed ∷ v.Tunable ∷ v.Changing ∷ v.Countdown ∷ []) k v.Triggered
 
-abbrev is_countdown : IntervalVariability → Bool
-is_countdown v.Countdown = true
-is_countdown v.Constant = false
-is_countdown v.Fixed = false
-is_countdown v.Tunable = false
-is_countdown v.Changing = false
-is_countdown v.Triggered = false
+numbered_back : (x : IntervalVariability) → numbered (number x) ≡ x
+numbered_back v.Constant = refl
+numbered_back v.Fixed = refl
+numbered_back v.Tunable = refl
+numbered_back v.Changing = refl
+numbered_back v.Countdown = refl
+numbered_back v.Triggered = refl
 
-countdown_by : (x : IntervalVariability) → is_countdown x ≡ true → x ≡ v.Countdown
-countdown_by v.Countdown e = refl
-countdown_by v.Constant e = absurd (true_false (sym e))
-countdown_by v.Fixed e = absurd (true_false (sym e))
-countdown_by v.Tunable e = absurd (true_false (sym e))
-countdown_by v.Changing e = absurd (true_false (sym e))
-countdown_by v.Triggered e = absurd (true_false (sym e))
+abbrev pub is_of : IntervalVariability → IntervalVariability → Bool
+is_of y x = number x == number y
 
-abbrev is_triggered : IntervalVariability → Bool
-is_triggered v.Triggered = true
-is_triggered v.Constant = false
-is_triggered v.Fixed = false
-is_triggered v.Tunable = false
-is_triggered v.Changing = false
-is_triggered v.Countdown = false
-
-triggered_by : (x : IntervalVariability) → is_triggered x ≡ true → x ≡ v.Triggered
-triggered_by v.Triggered e = refl
-triggered_by v.Constant e = absurd (true_false (sym e))
-triggered_by v.Fixed e = absurd (true_false (sym e))
-triggered_by v.Tunable e = absurd (true_false (sym e))
-triggered_by v.Changing e = absurd (true_false (sym e))
-triggered_by v.Countdown e = absurd (true_false (sym e))
+of_by : (y x : IntervalVariability) → is_of y x ≡ true → x ≡ y
+of_by y x e = sym (numbered_back x) ∙ ap numbered (eqb-true (number x) (number y) e) ∙ numbered_back y
 
 abbrev periodic_parts : ℕ → ClockTiming → ℕ → ℕ → List Bool
 periodic_parts per_second clock interval shift =
@@ -105,8 +83,9 @@ periodic_parts per_second clock interval shift =
 
 abbrev is_timing : ℕ → ClockTiming → Timing → Bool
 is_timing per_second clock (Periodic interval shift) = holds (periodic_parts per_second clock interval shift)
-is_timing per_second clock Answered = is_fixed clock.variability && clock.supports_fraction
-is_timing per_second clock Countdown = is_countdown clock.variability
+is_timing per_second clock Answered = is_of v.Fixed clock.variability && clock.supports_fraction
+is_timing per_second clock Countdown = is_of v.Countdown clock.variability
+is_timing per_second clock Changing = is_of v.Changing clock.variability
 
 timing_by : (per_second : ℕ) (clock : ClockTiming) (timing : Timing) → is_timing per_second clock timing ≡ true → IsTiming per_second clock timing
 timing_by per_second clock (Periodic interval shift) e = let p = parts (periodic_parts per_second clock interval shift) e in
@@ -118,8 +97,9 @@ timing_by per_second clock (Periodic interval shift) e = let p = parts (periodic
       interval_within = leb-true interval (2 ^ 126) p.1.1.1.1.0;
       shift_within = leb-true shift (2 ^ 126) p.1.1.1.1.1.0;
     }
-timing_by per_second clock Answered e = (fixed_by clock.variability (left (is_fixed clock.variability) clock.supports_fraction e), right (is_fixed clock.variability) clock.supports_fraction e)
-timing_by per_second clock Countdown e = countdown_by clock.variability e
+timing_by per_second clock Answered e = (of_by v.Fixed clock.variability (left (is_of v.Fixed clock.variability) clock.supports_fraction e), right (is_of v.Fixed clock.variability) clock.supports_fraction e)
+timing_by per_second clock Countdown e = of_by v.Countdown clock.variability e
+timing_by per_second clock Changing e = of_by v.Changing clock.variability e
 
 not_by : (b : Bool) → not b ≡ true → b ≡ false
 not_by true e = absurd (true_false (sym e))
@@ -128,7 +108,7 @@ not_by false e = refl
 abbrev is_role : Shape → Variable → Role → Bool
 is_role shape x (Input feed) = is_input x.causality && not (is_clock x)
 is_role shape x Output = is_output x.causality && not (is_clock x)
-is_role shape x (ClockInput feed) = is_input x.causality && (is_clock x && is_some_and (λ (t : ClockTiming). is_triggered t.variability) (timing_at shape.clocks x.reference))
+is_role shape x (ClockInput feed) = is_input x.causality && (is_clock x && is_some_and (λ (t : ClockTiming). is_of v.Triggered t.variability) (timing_at shape.clocks x.reference))
 is_role shape x ClockOutput = is_output x.causality && is_clock x
 is_role shape x (TimeClock timing) = is_input x.causality && (is_clock x && is_some_and (λ (t : ClockTiming). is_timing shape.resolution t timing) (timing_at shape.clocks x.reference))
 
@@ -136,11 +116,11 @@ role_by : (shape : Shape) (x : Variable) (role : Role) → is_role shape x role 
 role_by shape x (Input feed) e = (input_by x.causality (left (is_input x.causality) (not (is_clock x)) e), not_by (is_clock x) (right (is_input x.causality) (not (is_clock x)) e))
 role_by shape x Output e = (output_by x.causality (left (is_output x.causality) (not (is_clock x)) e), not_by (is_clock x) (right (is_output x.causality) (not (is_clock x)) e))
 role_by shape x (ClockInput feed) e =
-    let clock = is_some_and (λ (t : ClockTiming). is_triggered t.variability) (timing_at shape.clocks x.reference) in
+    let clock = is_some_and (λ (t : ClockTiming). is_of v.Triggered t.variability) (timing_at shape.clocks x.reference) in
     let more = right (is_input x.causality) (is_clock x && clock) e in (
       input_by x.causality (left (is_input x.causality) (is_clock x && clock) e),
       left (is_clock x) clock more,
-      is_some_and_by (λ (t : ClockTiming). is_triggered t.variability) (λ (t : ClockTiming). t.variability ≡ v.Triggered) (λ t h. triggered_by t.variability h) (timing_at shape.clocks x.reference) (right (is_clock x) clock more),
+      is_some_and_by (λ (t : ClockTiming). is_of v.Triggered t.variability) (λ (t : ClockTiming). t.variability ≡ v.Triggered) (λ t h. of_by v.Triggered t.variability h) (timing_at shape.clocks x.reference) (right (is_clock x) clock more),
     )
 role_by shape x ClockOutput e = (output_by x.causality (left (is_output x.causality) (is_clock x) e), right (is_output x.causality) (is_clock x) e)
 role_by shape x (TimeClock timing) e =

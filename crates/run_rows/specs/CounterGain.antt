@@ -6,9 +6,9 @@ use Rattle.value_types.specs.declared.shape.Knowns.TheVariants.{AllInputs, Liste
 use Rattle.value_types.specs.declared.shape.Shape.{Shape}
 use Rattle.system_model.specs.declared.system.Role.TheVariants.{Input, Output}
 use Rattle.system_model.specs.declared.system.System.{System}
-use Rattle.system_model.specs.Text.{Instant}
+use Rattle.system_model.specs.Text.{Instant, instant_at}
 use Rattle.run_model.specs.Run.{Run}
-use Rattle.run_rows.specs.Parts.{parameter, input, output, shape_of, component_of, port_of, feed_from, port_ids, plan_by, instant_at}
+use Rattle.run_rows.specs.Parts.{parameter, input, output, shape_of, component_of, port_of, feed_from, port_ids, plan_by}
 use Rattle.run_rows.specs.Machines.{machine_of, counter, gain}
 
 abbrev pub c_y : Variable

@@ -12,4 +12,6 @@ pub mod Counted
 pub mod Calls
 pub mod FixedClock
 pub mod Alarmed
+pub mod Pulsed
+pub mod Woken
 pub mod Quiet

@@ -6,9 +6,9 @@ use Rattle.value_types.specs.declared.shape.Knowns.TheVariants.{AllInputs}
 use Rattle.value_types.specs.declared.shape.Shape.{Shape}
 use Rattle.system_model.specs.declared.system.Role.TheVariants.{Output}
 use Rattle.system_model.specs.declared.system.System.{System}
-use Rattle.system_model.specs.Text.{Instant}
+use Rattle.system_model.specs.Text.{Instant, instant_at}
 use Rattle.run_model.specs.Run.{Run}
-use Rattle.run_rows.specs.Parts.{parameter, output, shape_of, component_of, port_of, port_ids, unbound, plan_by, instant_at}
+use Rattle.run_rows.specs.Parts.{parameter, output, shape_of, component_of, port_of, port_ids, unbound, plan_by}
 use Rattle.run_rows.specs.Machines.{machine_of, settle}
 
 abbrev pub y : Variable

@@ -1,5 +1,5 @@
 -- Small machines (FMI 3.0, 4.2.1: Co-Simulation). The first of a machine's numbers marks Initialization Mode, and its values are by place in its shape.
-use Rattle.std.specs.Prelude.{ℕ, ◌+◌, ℤ, pos, ◌+ℤ◌, ◌*ℤ◌, int_lt, nat_abs, Bool, true, false, not, ◌&&◌, if◌then◌else◌, List, [], ◌∷◌, map, filter, None, unwrap_or, slice_index_or}
+use Rattle.std.specs.Prelude.{ℕ, ◌+◌, ℤ, pos, ◌+ℤ◌, ◌*ℤ◌, int_lt, nat_abs, Bool, true, false, not, ◌&&◌, if◌then◌else◌, List, [], ◌∷◌, map, filter, Some, None, unwrap_or, slice_index_or}
 use Rattle.std.specs.Ordering.{int_eq}
 use Rattle.std.specs.Option.{option_map_or}
 use Rattle.value_types.specs.Values.{word_of}
@@ -13,7 +13,7 @@ use Rattle.fmi_calls.specs.declared.call.Content.TheVariants as A
 use Rattle.fmi_calls.specs.declared.call.Interval.{Interval}
 use Rattle.fmi_calls.specs.declared.call.Interval.TheVariants.{NotYetKnown, Unchanged, Changed}
 use Rattle.fmi_calls.specs.declared.call.Reply.TheVariants.{Done}
-use Rattle.fmu_peer.specs.Machine.{Machine}
+use Rattle.fmu_peer.specs.Machine.{Machine, mark_after}
 use Rattle.fmi_calls.specs.Permission.{is_input_clock}
 
 -- ---- what they share
@@ -24,12 +24,6 @@ at xs k = slice_index_or xs k (pos 0)
 abbrev pub behind : List ℤ → List ℤ
 behind [] = []
 behind (x ∷ xs) = xs
-
--- the mark is 1 from EnterInitialization to ExitInitialization
-abbrev pub mark_after : ℤ → Call → ℤ
-mark_after mark (C.EnterInitialization start stop) = pos 1
-mark_after mark C.ExitInitialization = pos 0
-mark_after mark call = mark
 
 -- a reply that tells nothing: each step ends at its bound, no Update asks for another, and no interval is known
 abbrev pub plain : Call → Content
@@ -271,6 +265,48 @@ alarm = record {
   look = λ initializing own values call.
       alarm_content own values call;
   change = alarm_change;
+}
+
+-- pulse, with the variables c, d, s and y: its changing Clock c ticks first s counts after the start, and after each tick d counts later and one more for each tick before; y is the number of Updates with c active
+abbrev pub pulse_content : List ℤ → List ℤ → Call → Content
+pulse_content own values (C.Get kind reference) = A.Get (word_of (at own 0))
+pulse_content own values (C.GetInterval reference) =
+    A.GetInterval (Changed (record {
+      counter = nat_abs (at values 1 +ℤ at own 0);
+      resolution = 1000;
+    }))
+pulse_content own values (C.GetShift reference) =
+    A.GetShift (record { counter = nat_abs (at values 2); resolution = 1000 })
+pulse_content own values call = plain call
+
+abbrev pub pulse : Behaviour
+pulse = record {
+  first = pos 0 ∷ [];
+  look = λ initializing own values call. pulse_content own values call;
+  change = ticker_change;
+}
+
+-- waker, with the variables at and y: each Update before the point `at` asks for an instant there; y is the number of Updates at that point. Its own numbers are the point where it stands, and that number
+abbrev pub waker_content : List ℤ → List ℤ → Call → Content
+waker_content own values (C.Get kind reference) = A.Get (word_of (at own 1))
+waker_content own values C.Update =
+    A.Update false false (if int_lt (at own 0) (at values 0)
+    then Some (nat_abs (at values 0)) else None)
+waker_content own values call = plain call
+
+abbrev pub waker_change : List ℤ → List ℤ → Call → List ℤ
+waker_change own values (C.EnterInitialization start stop) = pos start ∷ at own 1 ∷ []
+waker_change own values (C.DoStep t size) = pos (t + size) ∷ at own 1 ∷ []
+waker_change own values C.Update =
+    at own 0 ∷
+    (if int_eq (at own 0) (at values 0) then at own 1 +ℤ pos 1 else at own 1) ∷ []
+waker_change own values call = own
+
+abbrev pub waker : Behaviour
+waker = record {
+  first = pos 0 ∷ pos 0 ∷ [];
+  look = λ initializing own values call. waker_content own values call;
+  change = waker_change;
 }
 
 -- quiet: every output is 0, and nothing changes

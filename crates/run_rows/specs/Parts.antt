@@ -18,7 +18,6 @@ use Rattle.system_model.specs.declared.system.Role.{Role}
 use Rattle.system_model.specs.declared.system.Port.{Port}
 use Rattle.system_model.specs.declared.bound.Bound.{Bound}
 use Rattle.system_model.specs.declared.plan.Plan.{Plan}
-use Rattle.system_model.specs.Text.{Instant}
 
 -- ---- shapes
 
@@ -118,6 +117,3 @@ unbound = record { components = []; unreached = 0 }
 -- from 0 to 20 by steps of this size
 abbrev pub plan_by : ℕ → ℕ → Plan
 plan_by step limit = record { resolution = 1000; start = 0; step = step; stop = 20; limit = limit; workers = 1 }
-
-abbrev pub instant_at : ℕ → ℕ → List (Option ℤ) → Instant
-instant_at t n values = record { t = t; n = n; values = values }

@@ -7,7 +7,7 @@ use Rattle.run_model.specs.AlwaysWell.{AlwaysWell, RunSends}
 use Rattle.run_rows.specs.Machines.{machine_of, quiet}
 use Rattle.run_rows.specs.Relayed.{relayed_run, counter_shape, relay_shape, sampler_shape}
 
--- it does so where no fixed Clock is asked
+-- it does so where no Clock is asked for its shift
 abbrev pub QuietAnswersWell : Type 0
 QuietAnswersWell =
     (shape : Shape) → ((reference : ℕ) → RunSends shape (C.GetShift reference) → ⊥) →

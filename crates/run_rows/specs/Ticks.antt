@@ -7,9 +7,9 @@ use Rattle.value_types.specs.declared.shape.Shape.{Shape}
 use Rattle.system_model.specs.declared.system.Role.TheVariants.{Input, Output, TimeClock}
 use Rattle.system_model.specs.declared.system.Timing.TheVariants.{Periodic}
 use Rattle.system_model.specs.declared.system.System.{System}
-use Rattle.system_model.specs.Text.{Instant}
+use Rattle.system_model.specs.Text.{Instant, instant_at}
 use Rattle.run_model.specs.Run.{Run}
-use Rattle.run_rows.specs.Parts.{parameter, input, input_clock, output, constant_timing, shape_of, component_of, port_of, feed_from, port_ids, unbound, plan_by, instant_at}
+use Rattle.run_rows.specs.Parts.{parameter, input, input_clock, output, constant_timing, shape_of, component_of, port_of, feed_from, port_ids, unbound, plan_by}
 use Rattle.run_rows.specs.Machines.{machine_of, ticker, settle}
 
 abbrev pub s_y : Variable

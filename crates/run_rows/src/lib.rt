@@ -5,5 +5,6 @@ mod rows;
 
 pub use rows::{
     alarmed_trace, calls_trace, counted_trace, events_trace, fixed_trace, gains_trace, limit_trace,
-    quiet_laws, relayed_trace, samplers_trace, steps_trace, ticks_trace, timer_trace,
+    pulsed_trace, quiet_laws, relayed_trace, samplers_trace, steps_trace, ticks_trace, timer_trace,
+    woken_trace,
 };

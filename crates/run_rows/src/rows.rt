@@ -6,12 +6,14 @@ ghost use Rattle.run_rows.specs.FixedClock.{fixed_instants, fixed_run};
 ghost use Rattle.run_rows.specs.Gains.{gains_instants, gains_run};
 ghost use Rattle.run_rows.specs.Limit.{limit_instants, limit_run};
 ghost use Rattle.run_model.specs.Behaved.{WellBehaved};
+ghost use Rattle.run_rows.specs.Pulsed.{pulsed_instants, pulsed_run};
 ghost use Rattle.run_rows.specs.Quiet.{QuietAnswersWell, quiet_run};
 ghost use Rattle.run_rows.specs.Relayed.{relayed_instants, relayed_run};
 ghost use Rattle.run_rows.specs.Row.{HasTrace};
 ghost use Rattle.run_rows.specs.Samplers.{samplers_instants, samplers_run};
 ghost use Rattle.run_rows.specs.Ticks.{ticks_instants, ticks_run};
 ghost use Rattle.run_rows.specs.Timer.{timer_instants, timer_run};
+ghost use Rattle.run_rows.specs.Woken.{woken_instants, woken_run};
 ghost use Rattle.std.specs.Prelude.{true, false};
 ghost use Rattle.system_model.specs.declared.plan.EndKind.TheVariants.{Limit, Stop};
 
@@ -68,6 +70,16 @@ pub fn calls_trace()
 /// A fixed Clock ticks as its FMU answered in Initialization Mode.
 pub fn fixed_trace()
     ensures { HasTrace fixed_run fixed_instants Stop 20 }
+{}
+
+/// A changing Clock ticks first after the shift that its FMU answers, then after the interval that it answers at each tick.
+pub fn pulsed_trace()
+    ensures { HasTrace pulsed_run pulsed_instants Stop 20 }
+{}
+
+/// A point that an FMU asks for in its Update is one at which all steps end.
+pub fn woken_trace()
+    ensures { HasTrace woken_run woken_instants Stop 20 }
 {}
 
 /// Where one FMU ends its step early, the others step to that point alone, from where they stood.

@@ -161,7 +161,7 @@ makes shape phase C.EnterStep un p = absurd (elsewhere phase.state P.Event un p.
 makes shape phase C.Update un p = absurd (elsewhere phase.state P.Event un p (λ e. cc) (λ e. cc) (λ e. cc))
 makes shape phase (C.GetClock reference) un p = absurd (unpassed (λ s. can_be_ticked is_output_clock s shape phase.marks reference) phase.state un refl refl refl p)
 makes shape phase (C.SetClock reference) un p = absurd (unpassed (λ s. can_be_ticked is_input_clock s shape phase.marks reference) phase.state un refl refl refl p)
-makes shape phase (C.GetInterval reference) un p = absurd (unpassed (λ s. has_interval s shape reference) phase.state un refl refl refl p)
+makes shape phase (C.GetInterval reference) un p = absurd (unpassed (λ s. has_interval s shape phase.active reference) phase.state un refl refl refl p)
 makes shape phase (C.GetShift reference) un p = absurd (unpassed (λ s. has_shift s shape reference) phase.state un refl refl refl p)
 makes shape phase call un p = absurd (elsewhere phase.state P.Step un p.0 (λ e. cc) (λ e. cc) (λ e. cc))
 

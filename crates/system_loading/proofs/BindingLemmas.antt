@@ -27,7 +27,7 @@ use Rattle.system_loading.specs.declared.outline.Outline.{Outline}
 use Rattle.system_loading.specs.declared.parameters.Documents.{Documents}
 use Rattle.system_loading.specs.declared.parameters.GivenBinding.{GivenBinding}
 use Rattle.system_loading.specs.declared.parameters.GivenMapping.{GivenMapping}
-use Rattle.system_loading.specs.Binding.{sets_at, BindsAlone, BreaksBindingAlone, SaysBinding, TellsBinding, documents_of, number_of, place_at, place_in_part, sets_from, sets_of}
+use Rattle.system_loading.specs.Binding.{sets_at, BindsAlone, BreaksBindingAlone, SaysBinding, TellsBinding, documents_of, file_number, place_at, place_in_part, sets_from, sets_of}
 
 -- ---- one first violation
 
@@ -84,7 +84,7 @@ module _ (t : SystemTree) (shapes : List Shape) (sets : List BindingSets) where
 
 -- ---- numbers
 
-pub numbered : (n : ℕ) (given : List GivenBinding) (i : ℕ) (m : Bool) (x : BindingSets) (file : ℕ) → slice_get (sets_from n given) i ≡ Some x → answers.file_in m x ≡ Some file → file ≡ number_of (n + i) m
+pub numbered : (n : ℕ) (given : List GivenBinding) (i : ℕ) (m : Bool) (x : BindingSets) (file : ℕ) → slice_get (sets_from n given) i ≡ Some x → answers.file_in m x ≡ Some file → file ≡ file_number (n + i) m
 numbered n [] i m x file there told = cc
 numbered n (g ∷ gs) zero m x file there told = first n g m x file (same_Some _ x there) told
   where
@@ -95,14 +95,14 @@ numbered n (g ∷ gs) zero m x file there told = first n g m x file (same_Some _
         let some : option_map_or (λ (m : MappingOf). Some m.file) x.mapping None ≡ Some (2 * n + 1) = ap (λ (o : Option MappingOf). option_map_or (λ (m : MappingOf). Some m.file) o None) (sym is) in
         same_Some file (2 * n + 1) (sym told ∙ some)
 
-    first : (n : ℕ) (g : GivenBinding) (m : Bool) (x : BindingSets) (file : ℕ) → sets_at n g ≡ x → answers.file_in m x ≡ Some file → file ≡ number_of (n + zero) m
+    first : (n : ℕ) (g : GivenBinding) (m : Bool) (x : BindingSets) (file : ℕ) → sets_at n g ≡ x → answers.file_in m x ≡ Some file → file ≡ file_number (n + zero) m
     first n g false x file is told =
         let here : 2 * n ≡ file = ap (λ (y : BindingSets). y.values.file) is ∙ same_Some x.values.file file told in
         omega arith
     first n g true x file is told =
         let here : file ≡ 2 * n + 1 = mapped n x g.mapping file (ap (λ (y : BindingSets). y.mapping) is) told in
         omega arith
-numbered n (g ∷ gs) (suc i) m x file there told = numbered (suc n) gs i m x file there told ∙ ap (λ k. number_of k m) (omega arith)
+numbered n (g ∷ gs) (suc i) m x file there told = numbered (suc n) gs i m x file there told ∙ ap (λ k. file_number k m) (omega arith)
 
 -- ---- what is given
 
@@ -141,7 +141,7 @@ told_by o shapes given at broken rule Memory first is says = tt
 pub told_alone : (o : Outline) (shapes : List Shape) (given : List GivenBinding) (sets : List BindingSets) (documents : List Documents) (refusal : Refusal) (file node : ℕ) (rule : Rule)
     (ports : List PortId) (fault : BindingFault) → sets ≡ sets_of given → documents ≡ map documents_of given → refusal ≡ r.At file node rule ports →
     answers.Faults o.systems shapes sets refusal →
-    ((binding : ℕ) (in_mapping : Bool) → file ≡ number_of binding in_mapping → SaysBinding binding in_mapping rule (place_in_part o documents binding in_mapping node) fault) →
+    ((binding : ℕ) (in_mapping : Bool) → file ≡ file_number binding in_mapping → SaysBinding binding in_mapping rule (place_in_part o documents binding in_mapping node) fault) →
     TellsBinding o shapes given fault
 told_alone o shapes given sets documents (r.At file2 k n ports2) file node rule ports fault is documents_is at broken says =
     let same_rule : n ≡ rule = cc in
@@ -149,16 +149,16 @@ told_alone o shapes given sets documents (r.At file2 k n ports2) file node rule 
     let same_file : file2 ≡ file = cc in
     let told : answers.IsTold o.systems shapes sets file2 k broken.0 = broken.1 in
     let place : rules.Place = told.place in
-    let number : file ≡ number_of place.binding place.in_mapping = sym same_file ∙ of_place place file2 is told.file_is in
+    let number : file ≡ file_number place.binding place.in_mapping = sym same_file ∙ of_place place file2 is told.file_is in
     told_by o shapes given place broken.0 rule fault (subst (λ xs. rules.IsFirstParameterViolation o.systems shapes xs place broken.0) is told.first) (sym same_rule ∙ broken.2)
     (subst (λ ds. SaysBinding place.binding place.in_mapping rule (place_in_part o ds place.binding place.in_mapping place.node) fault) documents_is
     (subst (λ j. SaysBinding place.binding place.in_mapping rule (place_in_part o documents place.binding place.in_mapping j) fault) (sym (told.node_is ∙ same_node)) (says place.binding place.in_mapping number)))
   where
     by : (place : rules.Place) (file : ℕ) (found : Option BindingSets) → slice_get (sets_of given) place.binding ≡ found → IsSomeAnd found (λ x. answers.file_in place.in_mapping x ≡ Some file) →
-        file ≡ number_of place.binding place.in_mapping
+        file ≡ file_number place.binding place.in_mapping
     by place file None there has = absurd has
-    by place file (Some x) there has = numbered 0 given place.binding place.in_mapping x file there has ∙ ap (λ j. number_of j place.in_mapping) (omega arith)
+    by place file (Some x) there has = numbered 0 given place.binding place.in_mapping x file there has ∙ ap (λ j. file_number j place.in_mapping) (omega arith)
 
-    of_place : (place : rules.Place) (file : ℕ) → sets ≡ sets_of given → answers.IsToldIn sets place file → file ≡ number_of place.binding place.in_mapping
+    of_place : (place : rules.Place) (file : ℕ) → sets ≡ sets_of given → answers.IsToldIn sets place file → file ≡ file_number place.binding place.in_mapping
     of_place place file is has = by place file _ refl (subst (λ xs. answers.IsToldIn xs place file) is has)
 told_alone o shapes given sets documents r.Memory file node rule ports fault is documents_is at broken says = absurd (cc)

@@ -43,10 +43,10 @@ sets_of given = sets_from 0 given
 abbrev pub AreReady : Outline → List Shape → List GivenBinding → Type 0
 AreReady o shapes given = AreGiven o.systems shapes (sets_of given)
 
--- the number of a binding's set, or of its mapping
-abbrev pub number_of : ℕ → Bool → ℕ
-number_of n false = 2 * n
-number_of n true = 2 * n + 1
+-- the number of the file of a binding's set, or of its mapping
+abbrev pub file_number : ℕ → Bool → ℕ
+file_number n false = 2 * n
+file_number n true = 2 * n + 1
 
 -- ---- places
 

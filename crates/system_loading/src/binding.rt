@@ -3,7 +3,7 @@ ghost use Rattle.std.specs.Prelude.{◌≡◌, ℕ, Bool, IfErr, IfOk, map};
 ghost use Rattle.std.specs.List.{AllZip};
 ghost use Rattle.std.specs.Option.{option_copied};
 ghost use Rattle.system_model.specs.Bounds.{AreParameterValues};
-ghost use Rattle.system_loading.specs.Binding.{AreReady, BindsAlone, SaysBinding, TellsBinding, documents_of, number_of, own_document_at, place_in_part, sets_of};
+ghost use Rattle.system_loading.specs.Binding.{AreReady, BindsAlone, SaysBinding, TellsBinding, documents_of, file_number, own_document_at, place_in_part, sets_of};
 
 use crate::parameters::Documents;
 use crate::{GivenBinding, Outline};
@@ -113,7 +113,7 @@ fn told_at(
     node: usize,
     rule: Rule,
 ) -> BindingFault
-    ensures { (binding : ℕ) (in_mapping : Bool) → file ≡ number_of binding in_mapping →
+    ensures { (binding : ℕ) (in_mapping : Bool) → file ≡ file_number binding in_mapping →
         SaysBinding binding in_mapping rule
         (place_in_part outline.now documents.now binding in_mapping node) result }
 {

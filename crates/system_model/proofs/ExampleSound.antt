@@ -45,8 +45,8 @@ sound_shape = record {
       events = refl;
       causality = refl;
       described = λ e. (refl, refl);
-      interval = (omega arith, (10, record { known = omega arith; whole = refl }));
-      shift = (0, record { known = omega arith; whole = refl });
+      interval = λ apart. (omega arith, (10, record { known = omega arith; whole = refl }));
+      shift = λ apart. (0, record { known = omega arith; whole = refl });
     },
     tt,
   );

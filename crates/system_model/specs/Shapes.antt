@@ -1,5 +1,5 @@
 -- Sound shapes: what a model description without violation says of an FMU (FMI 3.0, 2.4: model description; 2.2.8: clocks).
-use Rattle.std.specs.Prelude.{◌≡◌, ◌⊎◌, ◌<◌, Bool, true, false, length, map, filter, not, IfSome, IsSome, IsSomeAnd, is_some, nat_eq, All}
+use Rattle.std.specs.Prelude.{◌≡◌, ◌≢◌, ◌⊎◌, ◌<◌, Bool, true, false, length, map, filter, not, IfSome, IsSome, IsSomeAnd, is_some, nat_eq, All}
 use Rattle.std.specs.List.{AllZip, IsDistinct}
 use Rattle.clock_fraction.specs.Counts.{IsInCounts}
 use Rattle.clock_fraction.specs.declared.fraction.Fraction.{Fraction}
@@ -40,14 +40,14 @@ pub record HasSoundVariables (shape : Shape) : Type 0 where
 
 -- ---- Clocks (2.2.8)
 
--- a triggered Clock is an input or an output, and a time-based one an input; tunable and changing ones are left out of this profile
+-- a triggered Clock is an input or an output, and a time-based one an input; tunable ones are left out of this profile
 abbrev pub MayTick : IntervalVariability → Causality → Type 0
 MayTick Constant causality = causality ≡ c.Input
 MayTick Fixed causality = causality ≡ c.Input
 MayTick Countdown causality = causality ≡ c.Input
+MayTick Changing causality = causality ≡ c.Input
 MayTick Triggered causality = (causality ≡ c.Input) ⊎ (causality ≡ c.Output)
 MayTick Tunable causality = ⊥
-MayTick Changing causality = ⊥
 
 -- its interval is in the description: that of a constant Clock, and of a fixed one whose FMU isn't asked for it
 abbrev pub is_described : IntervalVariability → Bool → Bool
@@ -58,16 +58,16 @@ is_described Triggered supports_fraction = false
 is_described Tunable supports_fraction = false
 is_described Changing supports_fraction = false
 
--- a Clock with its timing: an interval that is told is above 0, and it and its shift are whole numbers of counts
+-- a Clock with its timing: an interval that is told is above 0, and it and its shift are whole numbers of counts; of a changing Clock neither is used
 pub record IsSoundClock (shape : Shape) (v : Variable) (timing : ClockTiming) : Type 0 where
   pub reference : timing.reference ≡ v.reference
   pub events : shape.has_event_mode ≡ true
   pub causality : MayTick timing.variability v.causality
   pub described : is_described timing.variability timing.supports_fraction ≡ true →
       IsSome timing.interval × IsSome timing.shift
-  pub interval : IfSome timing.interval (λ (f : Fraction). (0 < f.counter) ×
-      IsInCounts shape.resolution f)
-  pub shift : IfSome timing.shift (IsInCounts shape.resolution)
+  pub interval : timing.variability ≢ Changing →
+      IfSome timing.interval (λ (f : Fraction). (0 < f.counter) × IsInCounts shape.resolution f)
+  pub shift : timing.variability ≢ Changing → IfSome timing.shift (IsInCounts shape.resolution)
 
 -- ---- dependencies (2.4.9)
 

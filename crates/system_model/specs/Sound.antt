@@ -14,7 +14,7 @@ use Rattle.value_types.specs.declared.shape.Variable.{Variable}
 use Rattle.value_types.specs.declared.shape.Shape.{Shape}
 use Rattle.system_model.specs.declared.system.Component.{Component}
 use Rattle.system_model.specs.declared.system.Timing.{Timing}
-use Rattle.system_model.specs.declared.system.Timing.TheVariants.{Periodic, Answered, Countdown}
+use Rattle.system_model.specs.declared.system.Timing.TheVariants.{Periodic, Answered, Countdown, Changing}
 use Rattle.system_model.specs.declared.system.Role.{Role}
 use Rattle.system_model.specs.declared.system.Role.TheVariants.{Input, Output, ClockInput, ClockOutput, TimeClock}
 use Rattle.system_model.specs.declared.system.Port.{Port}
@@ -63,6 +63,7 @@ IsTiming per_second clock (Periodic interval shift) = IsPeriodic per_second cloc
 IsTiming per_second clock Answered =
     (clock.variability ≡ v.Fixed) × (clock.supports_fraction ≡ true)
 IsTiming per_second clock Countdown = clock.variability ≡ v.Countdown
+IsTiming per_second clock Changing = clock.variability ≡ v.Changing
 
 -- the role of a port is that of its variable
 abbrev pub IsRole : Shape → Variable → Role → Type 0

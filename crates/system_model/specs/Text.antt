@@ -18,6 +18,9 @@ pub record Instant : Type 0 where
   pub n : ℕ
   pub values : List (Option ℤ)
 
+abbrev pub instant_at : ℕ → ℕ → List (Option ℤ) → Instant
+instant_at t n values = record { t = t; n = n; values = values }
+
 -- the name of a type in FMI 3.0
 abbrev pub type_name : PortType → List ℕ
 type_name Int8 = codes "Int8"

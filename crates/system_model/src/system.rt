@@ -24,6 +24,9 @@ pub enum Timing {
     Answered,
     /// once, after an interval that the FMU answers in Event Mode
     Countdown,
+    /// at first after a shift that the FMU answers in Initialization Mode, and again after the interval that it answers in
+    /// each instant in which the Clock ticks
+    Changing,
 }
 
 /// What a port is, and where its value comes from.

@@ -62,6 +62,19 @@ macro_rules! updated {
     };
 }
 
+macro_rules! names_event {
+    ($time:expr) => {
+        (
+            Call::Update,
+            Content::Update {
+                again: false,
+                terminate: false,
+                event_time: Some($time),
+            },
+        )
+    };
+}
+
 macro_rules! shows {
     ($reference:expr, $word:expr) => {
         (
@@ -94,7 +107,7 @@ const ENTER_STEP: (Call, Content) = (Call::EnterStep, Content::EnterStep);
 const ENTER_EVENT: (Call, Content) = (Call::EnterEvent, Content::EnterEvent);
 
 // Each machine with event mode, and those that answer otherwise there without it too.
-static MODES: [Modes; 8] = [
+static MODES: [Modes; 10] = [
     modes!("counter" 2, event true, early false, Output, [
         EXIT, shows!(2, 0), updated!(false), ENTER_STEP, stepped!(0, 20),
         ENTER_EVENT, shows!(2, 2), updated!(false), shows!(2, 2), ENTER_STEP, stepped!(20, 40),
@@ -126,6 +139,14 @@ static MODES: [Modes; 8] = [
     ]),
     modes!("settle" 2, event false, early false, Output, [
         EXIT, shows!(2, 0), stepped!(0, 20), shows!(2, 0),
+    ]),
+    modes!("waker" 20, event true, early false, Output, [
+        EXIT, shows!(2, 0), names_event!(20), names_event!(20), shows!(2, 0), ENTER_STEP, stepped!(0, 20),
+        ENTER_EVENT, shows!(2, 0), updated!(false), shows!(2, 1), ENTER_STEP, stepped!(20, 40),
+        ENTER_EVENT, updated!(false), shows!(2, 1), ENTER_STEP,
+    ]),
+    modes!("waker" -1, event true, early false, Output, [
+        EXIT, updated!(false), shows!(2, 0), ENTER_STEP, stepped!(0, 20),
     ]),
 ];
 
@@ -334,6 +355,19 @@ static TIMERS: [Clocked; 2] = [
     ]),
 ];
 
+// A pulse whose intervals grow by a count.
+static PULSE: Clocked = clocked!("pulse" [
+    port!(1 Clock Input 0, by []),
+    port!(2 Int64 Parameter 3, by []),
+    port!(3 Int64 Parameter 2, by []),
+    port!(4 Int32 Output 0, by []),
+], Changing 1, on [], [
+    shift!(1, seconds!(2, 1000)), EXIT, shows!(4, 0), updated!(false), shows!(4, 0), ENTER_STEP, stepped!(0, 20),
+    ENTER_EVENT, tick!(1), interval!(1, Interval::Changed(seconds!(3, 1000))), shows!(4, 0), updated!(false),
+    shows!(4, 1), ENTER_STEP, stepped!(20, 40),
+    ENTER_EVENT, tick!(1), interval!(1, Interval::Changed(seconds!(4, 1000))), updated!(false), shows!(4, 2), ENTER_STEP,
+]);
+
 const RELAY: [Port; 3] = [
     port!(1 Int32 Input 0, by []),
     port!(2 Clock Output 0, by []),
@@ -430,6 +464,11 @@ fn a_sampler_samples_at_its_ticks(rt: HostRuntime) {
 #[test]
 fn a_timer_arms_its_clock_once(rt: HostRuntime) {
     assert_eq!(rt; first_wrong(rt.alloc(), &TIMERS), None);
+}
+
+#[test]
+fn a_pulse_tells_longer_intervals(rt: HostRuntime) {
+    assert!(rt; goes_by_its_clock(rt.alloc(), &PULSE));
 }
 
 #[test]

@@ -154,7 +154,7 @@ static TEXTS: [(Around, &str, Result<&str, u32>); 67] = [
     (VARIABILITY, "constant", Ok("|1 Constant false 1/1 0/1;||")),
     (VARIABILITY, "fixed", Ok("|1 Fixed false 1/1 0/1;||")),
     (VARIABILITY, "tunable", Err(23)),
-    (VARIABILITY, "changing", Err(23)),
+    (VARIABILITY, "changing", Ok("|1 Changing false 1/1 0/1;||")),
     (
         VARIABILITY,
         "countdown",

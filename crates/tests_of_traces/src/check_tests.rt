@@ -166,7 +166,7 @@ fn is_limited(port: &Port) -> bool
             Timing::Periodic { interval, shift } => {
                 interval > 0 && interval <= LIMIT && shift <= LIMIT
             }
-            Timing::Answered | Timing::Countdown => true,
+            Timing::Answered | Timing::Countdown | Timing::Changing => true,
         },
     }
 }

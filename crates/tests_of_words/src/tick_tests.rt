@@ -26,7 +26,7 @@ fn thirds<R: Abort>(rt: &R, alloc: Global) -> Result<(), AllocError> {
         resolution: 3,
     };
     assert_eq!(rt; to_counts(third, 999), Some(333));
-    let mut schedule = Schedule::new(alloc, &[periodic_clock(333, 0)], 0, FAR)?;
+    let mut schedule = Schedule::new(alloc, &[periodic_clock(333, 0)], 0, 0, FAR)?;
     for k in 0..1_000_000u64 {
         assert!(rt; plain::due(&schedule, 0, 333 * k), "tick {k}");
         plain::ticked(&mut schedule, 0);
@@ -45,7 +45,7 @@ fn a_third_of_a_second_never_drifts(rt: HostRuntime) -> Result<(), AllocError> {
 }
 
 fn nothing<R: Abort>(rt: &R, alloc: Global) -> Result<(), AllocError> {
-    let schedule = Schedule::new(alloc, &[], 3, FAR)?;
+    let schedule = Schedule::new(alloc, &[], 0, 3, FAR)?;
     assert_eq!(rt; plain::next_after(&schedule, 3), None);
     Ok(())
 }
@@ -53,4 +53,21 @@ fn nothing<R: Abort>(rt: &R, alloc: Global) -> Result<(), AllocError> {
 #[test]
 fn no_clock_never_ticks(rt: HostRuntime) -> Result<(), AllocError> {
     nothing(&rt, rt.alloc())
+}
+
+// Of two components the first has its event time, until the second has an earlier one.
+fn two_events<R: Abort>(rt: &R, alloc: Global) -> Result<(), AllocError> {
+    let mut schedule = Schedule::new(alloc, &[], 2, 3, FAR)?;
+    plain::event_at(&mut schedule, 0, Some(20));
+    assert_eq!(rt; plain::next_after(&schedule, 3), Some(20));
+    plain::event_at(&mut schedule, 1, Some(7));
+    assert_eq!(rt; plain::next_after(&schedule, 3), Some(7));
+    plain::event_at(&mut schedule, 1, None);
+    assert_eq!(rt; plain::next_after(&schedule, 3), Some(20));
+    Ok(())
+}
+
+#[test]
+fn the_least_event_time_comes_first(rt: HostRuntime) -> Result<(), AllocError> {
+    two_events(&rt, rt.alloc())
 }

@@ -1,5 +1,6 @@
 -- For callers that know where each Clock stands.
 use Rattle.std.proofs.Common.{◌≡◌, ℕ, ◌^◌, ◌≤◌, Bool, true, List, [], ◌∷◌, Some, nat_le, arith, refl, subst, sym, zero, suc}
+use Rattle.std.specs.Prelude.{Option}
 use Rattle.std.specs.List.{list_all, slice_get}
 use Rattle.std.proofs.lemmas.Bool.Decides.{nat_tests}
 use Rattle.tick_schedule.specs.declared.clock.ClockState.{ClockState}
@@ -18,8 +19,8 @@ later_at start stop t (first ∷ rest) zero state all there = grind (arith, nat_
 later_at start stop t (first ∷ rest) (suc clock) state all there = later_at start stop t rest clock state (grind (arith, nat_tests)) there
 
 -- so no Clock ticks below it
-pub none_below : (table : Timetable) (start stop t : ℕ) (clocks : List ClockState) → table ≡ record { start = start; stop = stop; clocks = clocks } → are_later start stop t clocks ≡ true → (clock point : ℕ) → TicksAt table clock point → t ≤ point
-none_below table start stop t clocks is all clock point ticks =
+pub none_below : (table : Timetable) (start stop t : ℕ) (clocks : List ClockState) (events : List (Option ℕ)) → table ≡ record { start = start; stop = stop; clocks = clocks; events = events } → are_later start stop t clocks ≡ true → (clock point : ℕ) → TicksAt table clock point → t ≤ point
+none_below table start stop t clocks events is all clock point ticks =
     let P : Timetable → Type 0 = λ it. TicksAt it clock point in
     let here = subst P is ticks in
     let (state, there, tick) = place_of clocks clock (λ s. IsToTick start s point) here.1 in
@@ -29,8 +30,8 @@ none_below table start stop t clocks is all clock point ticks =
     omega arith
 
 -- a Clock whose next point isn't past the stop has a next tick
-pub has_next : (table : Timetable) (start stop : ℕ) (clocks : List ClockState) (clock : ℕ) (state : ClockState) → table ≡ record { start = start; stop = stop; clocks = clocks } → stop ≤ 2 ^ 62 → slice_get clocks clock ≡ Some state → point_of start stop state ≤ stop → HasNext table clock
-has_next table start stop clocks clock state is near there before =
+pub has_next : (table : Timetable) (start stop : ℕ) (clocks : List ClockState) (events : List (Option ℕ)) (clock : ℕ) (state : ClockState) → table ≡ record { start = start; stop = stop; clocks = clocks; events = events } → stop ≤ 2 ^ 62 → slice_get clocks clock ≡ Some state → point_of start stop state ≤ stop → HasNext table clock
+has_next table start stop clocks events clock state is near there before =
     let P : Timetable → Type 0 = λ it. HasNext it clock in
     let p : ℕ = point_of start stop state in
     subst P (sym is) (p, (before, to_place (λ s. IsToTick start s p) (slice_get clocks clock) state there (ticks_at_point start stop state p near refl before)))

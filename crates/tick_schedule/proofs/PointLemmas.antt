@@ -68,6 +68,6 @@ pub sound_first : (variability : IntervalVariability) (interval shift : Option â
 sound_first Constant interval shift i s = sound_known interval shift i s
 sound_first Fixed interval shift i s = sound_known interval shift i s
 sound_first Tunable interval shift i s = sound_known interval shift i s
-sound_first Changing interval shift i s = sound_known interval shift i s
+sound_first Changing interval shift i s = (tt, tt)
 sound_first IsCountdownClock interval shift i s = (tt, tt)
 sound_first Triggered interval shift i s = sound_known interval shift i s

@@ -1,5 +1,5 @@
 -- The next point of a Clock as one number, by which Clocks are ordered.
-use Rattle.std.specs.Prelude.{◌≡◌, ℕ, ◌+◌, ◌*◌, ◌^◌, ◌<◌, ◌≤◌, List, map, All, nat_le, if◌then◌else◌, Some, None, ⊤}
+use Rattle.std.specs.Prelude.{◌≡◌, ℕ, ◌+◌, ◌*◌, ◌^◌, ◌<◌, ◌≤◌, List, ◌++◌, map, All, Option, nat_le, if◌then◌else◌, Some, None, ⊤}
 use Rattle.tick_schedule.specs.declared.clock.ClockState.{ClockState}
 use Rattle.tick_schedule.specs.declared.clock.ClockState.TheVariants.{Unasked, Periodic, Countdown}
 
@@ -35,6 +35,14 @@ abbrev pub HasCount : ClockState → Type 0
 HasCount Unasked = ⊤
 HasCount (Periodic interval shift ticks) = ticks + 1 < 2 ^ 64
 HasCount (Countdown armed) = ⊤
+
+-- an event time is as an arming
+abbrev pub event_state : Option ℕ → ClockState
+event_state point = Countdown point
+
+-- what has a next point: the Clocks, and behind them the components
+abbrev pub entries : List ClockState → List (Option ℕ) → List ClockState
+entries clocks events = clocks ++ map event_state events
 
 -- what a schedule keeps: the point of each Clock beside its state
 pub record IsKept (start stop : ℕ) (clocks : List ClockState) (points : List ℕ) : Type 0 where

@@ -1,6 +1,6 @@
 -- The time-based Clocks of a run, and when they tick (FMI 3.0, 2.2.8 and 2.2.9: constant, fixed and countdown Clocks and
 -- their intervals). All is in counts.
-use Rattle.std.specs.Prelude.{◌≡◌, ℕ, ◌+◌, ◌*◌, ◌^◌, ◌<◌, ◌≤◌, List, slice_set, Option, Some, None, IfSome, IsSomeAnd}
+use Rattle.std.specs.Prelude.{◌≡◌, ℕ, ◌+◌, ◌*◌, ◌^◌, ◌<◌, ◌≤◌, List, length, slice_set, Option, Some, None, IfSome, IsSomeAnd}
 use Rattle.std.specs.List.{slice_get}
 use Rattle.clock_fraction.specs.Ticks.{IsTick}
 use Rattle.value_types.specs.declared.shape.IntervalVariability.{IntervalVariability}
@@ -9,11 +9,12 @@ use Rattle.tick_schedule.specs.declared.clock.TimeClock.{TimeClock}
 use Rattle.tick_schedule.specs.declared.clock.ClockState.{ClockState}
 use Rattle.tick_schedule.specs.declared.clock.ClockState.TheVariants.{Unasked, Periodic, Countdown}
 
--- a run from its start to its stop, and where each of its Clocks stands
+-- a run from its start to its stop, where each of its Clocks stands, and the event time of each component, if it has one
 pub record Timetable : Type 0 where
   pub start : ℕ
   pub stop : ℕ
   pub clocks : List ClockState
+  pub events : List (Option ℕ)
 
 -- ---- ticks
 
@@ -30,6 +31,11 @@ TicksAt table clock t =
     (t ≤ table.stop) × IsSomeAnd (slice_get table.clocks clock) (λ state.
     IsToTick table.start state t)
 
+-- the component at this place has its event time at `t`, and `t` isn't past the stop
+abbrev pub EventAt : Timetable → ℕ → ℕ → Type 0
+EventAt table component t =
+    (t ≤ table.stop) × (slice_get table.events component ≡ Some (Some t))
+
 -- a tick is left that it has to make
 abbrev pub HasNext : Timetable → ℕ → Type 0
 HasNext table clock = (t : ℕ) × TicksAt table clock t
@@ -39,6 +45,15 @@ HasNext table clock = (t : ℕ) × TicksAt table clock t
 -- the Clock at this place stands there, and all else is as it was
 abbrev pub with_clock : Timetable → ℕ → ClockState → Timetable
 with_clock table clock state = record table { clocks = slice_set table.clocks clock state }
+
+-- the component at this place has this event time, and all else is as it was
+abbrev pub with_event : Timetable → ℕ → Option ℕ → Timetable
+with_event table component point =
+    record table { events = slice_set table.events component point }
+
+-- how many next points there are
+abbrev pub size_of : Timetable → ℕ
+size_of table = length table.clocks + length table.events
 
 -- where a Clock stands once it has ticked: a periodic one before the tick behind, a countdown one without its arming
 abbrev pub after_tick : ClockState → ClockState
@@ -50,7 +65,7 @@ after_tick (Countdown armed) = Countdown None
 abbrev pub IsUnasked : Timetable → ℕ → Type 0
 IsUnasked table clock = slice_get table.clocks clock ≡ Some Unasked
 
--- a countdown Clock, armed or not
+-- a countdown Clock or a changing one, armed or not
 abbrev pub IsCountdown : Timetable → ℕ → Type 0
 IsCountdown table clock =
     (armed : Option ℕ) × (slice_get table.clocks clock ≡ Some (Countdown armed))
@@ -68,12 +83,12 @@ known_state (Some interval) (Some shift) = Periodic interval shift 0
 known_state (Some interval) None = Unasked
 known_state None shift = Unasked
 
--- where a Clock stands before the first instant: a countdown one without arming, another before its first tick, or still to be asked
+-- where a Clock stands before the first instant: a countdown or changing one without arming, another before its first tick, or still to be asked
 abbrev pub first_by : IntervalVariability → Option ℕ → Option ℕ → ClockState
 first_by Constant interval shift = known_state interval shift
 first_by Fixed interval shift = known_state interval shift
 first_by Tunable interval shift = known_state interval shift
-first_by Changing interval shift = known_state interval shift
+first_by Changing interval shift = Countdown None
 first_by IsCountdownClock interval shift = Countdown None
 first_by Triggered interval shift = known_state interval shift
 

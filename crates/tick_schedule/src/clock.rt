@@ -27,7 +27,7 @@ pub enum ClockState {
         shift: u128,
         ticks: u64,
     },
-    /// countdown, and armed for a point or not
+    /// countdown or changing, and armed for a point or not
     Countdown {
         armed: Option<u128>,
     },
@@ -39,7 +39,8 @@ impl TimeClock {
         ensures { result ≡ first_state self.now }
     {
         match (self.variability, self.interval, self.shift) {
-            (IntervalVariability::Countdown, _, _) => ClockState::Countdown { armed: None },
+            (IntervalVariability::Countdown | IntervalVariability::Changing, _, _) =>
+                ClockState::Countdown { armed: None },
             (_, Some(interval), Some(shift)) => ClockState::Periodic {
                 interval,
                 shift,

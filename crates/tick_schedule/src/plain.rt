@@ -1,9 +1,9 @@
 //! The calls of a schedule for callers that count no steps. Each opens a ledger of its own, for the function below it that
 //! is generic in the ledger.
 
-ghost use Rattle.std.specs.Prelude.{◌≡◌, ◌↔◌, ℕ, ◌<◌, ◌≤◌, ◌^◌, IfNone, IfSome, IsTrue, Some, None, length};
+ghost use Rattle.std.specs.Prelude.{◌≡◌, ◌↔◌, ◌⊎◌, ℕ, ◌<◌, ◌≤◌, ◌^◌, IfNone, IfSome, IsTrue, Some, None, length};
 ghost use Rattle.std.specs.List.{slice_get};
-ghost use Rattle.tick_schedule.specs.Timetable.{HasNext, IsCountdown, IsUnasked, TicksAt, after_tick, with_clock};
+ghost use Rattle.tick_schedule.specs.Timetable.{EventAt, HasNext, IsCountdown, IsUnasked, TicksAt, after_tick, with_clock, with_event};
 ghost use Rattle.tick_schedule.specs.declared.clock.ClockState.{ClockState};
 ghost use Rattle.tick_schedule.specs.declared.clock.ClockState.TheVariants.{Countdown, Periodic};
 
@@ -62,15 +62,23 @@ fn due_by<L: Ledger>(schedule: &Schedule, clock: usize, t: u64, blank: Blank) ->
     schedule.due(clock, t, &mut Steps::<L>::new(blank))
 }
 
-/// The first point after `t`, up to the stop, at which a Clock ticks. No Clock may have a tick up to `t` that it still has to
-/// make.
+/// The first point after `t`, up to the stop, at which a Clock ticks or a component has its event time. No Clock may have a
+/// tick up to `t` that it still has to make, and no component an event time up to `t`.
 pub fn next_after(schedule: &Schedule, t: u64) -> Option<u64>
-    requires { (clock point : ℕ) → TicksAt schedule.now clock point → t < point }
-    ensures due { IfSome result (λ point. (clock : ℕ) × TicksAt schedule.now clock point) }
+    requires ticks_later { (clock point : ℕ) → TicksAt schedule.now clock point → t < point }
+    requires events_later { (component point : ℕ) → EventAt schedule.now component point →
+        t < point }
+    ensures found { IfSome result (λ point.
+        ((clock : ℕ) × TicksAt schedule.now clock point) ⊎
+        ((component : ℕ) × EventAt schedule.now component point)) }
     ensures after { IfSome result (λ point. t < point) }
-    ensures least { IfSome result (λ point. (clock other : ℕ) → TicksAt schedule.now clock other →
-        point ≤ other) }
-    ensures none { IfNone result ((clock point : ℕ) → TicksAt schedule.now clock point → ⊥) }
+    ensures least_tick { IfSome result (λ point. (clock other : ℕ) →
+        TicksAt schedule.now clock other → point ≤ other) }
+    ensures least_event { IfSome result (λ point. (component other : ℕ) →
+        EventAt schedule.now component other → point ≤ other) }
+    ensures no_tick { IfNone result ((clock point : ℕ) → TicksAt schedule.now clock point → ⊥) }
+    ensures no_event { IfNone result ((component point : ℕ) →
+        EventAt schedule.now component point → ⊥) }
 {
     next_by::<Brand>(schedule, t, Blank::new(1))
 }
@@ -79,17 +87,25 @@ fn next_by<L: Ledger>(schedule: &Schedule, t: u64, blank: Blank) -> Option<u64>
     requires name { blank.name ≡ L.name }
     requires parts { blank.parts ≡ L.parts }
     requires some { 0 < blank.parts }
-    requires none_up_to { (clock point : ℕ) → TicksAt schedule.now clock point → t < point }
-    ensures due { IfSome result (λ point. (clock : ℕ) × TicksAt schedule.now clock point) }
+    requires ticks_later { (clock point : ℕ) → TicksAt schedule.now clock point → t < point }
+    requires events_later { (component point : ℕ) → EventAt schedule.now component point →
+        t < point }
+    ensures found { IfSome result (λ point.
+        ((clock : ℕ) × TicksAt schedule.now clock point) ⊎
+        ((component : ℕ) × EventAt schedule.now component point)) }
     ensures after { IfSome result (λ point. t < point) }
-    ensures least { IfSome result (λ point. (clock other : ℕ) → TicksAt schedule.now clock other →
-        point ≤ other) }
-    ensures none { IfNone result ((clock point : ℕ) → TicksAt schedule.now clock point → ⊥) }
+    ensures least_tick { IfSome result (λ point. (clock other : ℕ) →
+        TicksAt schedule.now clock other → point ≤ other) }
+    ensures least_event { IfSome result (λ point. (component other : ℕ) →
+        EventAt schedule.now component other → point ≤ other) }
+    ensures no_tick { IfNone result ((clock point : ℕ) → TicksAt schedule.now clock point → ⊥) }
+    ensures no_event { IfNone result ((component point : ℕ) →
+        EventAt schedule.now component point → ⊥) }
 {
     schedule.next_after(t, &mut Steps::<L>::new(blank))
 }
 
-/// Arms a countdown Clock for a point, in place of an earlier arming. Past the stop it is never due.
+/// Arms a countdown or changing Clock for a point, in place of an earlier arming. Past the stop it is never due.
 pub fn arm(schedule: &mut Schedule, clock: usize, point: u128)
     requires { IsCountdown schedule.old clock }
     ensures { schedule.new ≡ with_clock schedule.old clock (Countdown (Some point)) }
@@ -107,7 +123,25 @@ fn arm_by<L: Ledger>(schedule: &mut Schedule, clock: usize, point: u128, blank: 
     schedule.arm(clock, point, &mut Steps::<L>::new(blank));
 }
 
-/// Takes the arming of a countdown Clock away, if it has one.
+/// Gives a component another event time, or none. Past the stop it is never due.
+pub fn event_at(schedule: &mut Schedule, component: usize, point: Option<u64>)
+    requires { component < length schedule.old.events }
+    ensures { schedule.new ≡ with_event schedule.old component point }
+{
+    event_by::<Brand>(schedule, component, point, Blank::new(1));
+}
+
+fn event_by<L: Ledger>(schedule: &mut Schedule, component: usize, point: Option<u64>, blank: Blank)
+    requires name { blank.name ≡ L.name }
+    requires parts { blank.parts ≡ L.parts }
+    requires some { 0 < blank.parts }
+    requires component { component < length schedule.old.events }
+    ensures { schedule.new ≡ with_event schedule.old component point }
+{
+    schedule.event_at(component, point, &mut Steps::<L>::new(blank));
+}
+
+/// Takes the arming of a countdown or changing Clock away, if it has one.
 pub fn disarm(schedule: &mut Schedule, clock: usize)
     requires { IsCountdown schedule.old clock }
     ensures { schedule.new ≡ with_clock schedule.old clock (Countdown None) }
@@ -125,8 +159,8 @@ fn disarm_by<L: Ledger>(schedule: &mut Schedule, clock: usize, blank: Blank)
     schedule.disarm(clock, &mut Steps::<L>::new(blank));
 }
 
-/// A Clock has ticked at its next point: a periodic one goes on to the tick behind it, and a countdown one is no longer
-/// armed.
+/// A Clock has ticked at its next point: a periodic one goes on to the tick behind it, and a countdown or changing one is no
+/// longer armed.
 pub fn ticked(schedule: &mut Schedule, clock: usize)
     requires { HasNext schedule.old clock }
     ensures { (state : ClockState) → slice_get schedule.old.clocks clock ≡ Some state

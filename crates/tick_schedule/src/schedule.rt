@@ -1,12 +1,12 @@
-ghost use Rattle.std.specs.Prelude.{◌≡◌, ◌↔◌, ℕ, ◌<◌, ◌≤◌, ◌+◌, ◌^◌, All, IfNone, IfOk, IfSome, IsSomeAnd, IsTrue, Some, None, length, map, min};
+ghost use Rattle.std.specs.Prelude.{◌≡◌, ◌↔◌, ◌⊎◌, ℕ, ◌<◌, ◌≤◌, ◌+◌, ◌^◌, All, IfNone, IfOk, IfSome, IsTrue, Some, None, length, map, min, replicate, slice_index};
 ghost use Rattle.std.specs.List.{slice_get};
 ghost use Rattle.tick_schedule.specs.Cost.{IsLogarithmic};
-ghost use Rattle.tick_schedule.specs.Points.{IsNear, IsSoundState, point_of};
-ghost use Rattle.tick_schedule.specs.Timetable.{HasNext, IsCountdown, IsSoundClock, IsUnasked, TicksAt, after_tick, first_state, with_clock};
+ghost use Rattle.tick_schedule.specs.Points.{IsNear, IsSoundState, event_state, past, point_of};
+ghost use Rattle.tick_schedule.specs.Timetable.{EventAt, HasNext, IsCountdown, IsSoundClock, IsUnasked, TicksAt, after_tick, first_state, size_of, with_clock, with_event};
 ghost use Rattle.tick_schedule.specs.declared.clock.ClockState.{ClockState};
 ghost use Rattle.tick_schedule.specs.declared.clock.ClockState.TheVariants.{Countdown, Periodic};
 
-use crate::clock::{ClockState, TimeClock};
+use crate::clock::{ClockState, PAST, TimeClock};
 use crate::heap::Heap;
 use crate::steps::Steps;
 use std::alloc::{AllocError, Global};
@@ -20,26 +20,36 @@ pub struct Schedule {
     start: u64,
     stop: u64,
     clocks: Vec<ClockState>,
-    /// the next point of each Clock
+    /// the event time of each component
+    events: Vec<Option<u64>>,
+    /// the next point of each Clock, and behind them of each component
     points: Heap,
 }
 
 impl Model for Schedule {
     ghost use Rattle.tick_schedule.specs.Timetable.{Timetable};
-    ghost use Rattle.tick_schedule.specs.Points.{IsKept};
+    ghost use Rattle.tick_schedule.specs.Points.{IsKept, entries};
 
     ghost Value = { Timetable };
 
-    ghost view = { λ s. record { start = s.start; stop = s.stop; clocks = s.clocks.items } };
+    ghost view = { λ s. record {
+      start = s.start;
+      stop = s.stop;
+      clocks = s.clocks.items;
+      events = s.events.items;
+    } };
 
-    ghost invariant = { λ s. IsKept s.start s.stop s.clocks.items s.points };
+    ghost invariant = { λ s.
+        IsKept s.start s.stop (entries s.clocks.items s.events.items) s.points };
 }
 
 impl Schedule {
-    /// Each Clock before its first tick, and no countdown Clock armed. Nothing else of a schedule takes memory.
+    /// Each Clock before its first tick, no countdown or changing Clock armed, and no component with an event time. Nothing
+    /// else of a schedule takes memory.
     pub fn new(
         alloc: Global,
         clocks: &[TimeClock],
+        components: usize,
         start: u64,
         stop: u64,
     ) -> Result<Schedule, AllocError>
@@ -47,15 +57,23 @@ impl Schedule {
         requires stop { stop ≤ 2 ^ 62 }
         requires clocks { All IsSoundClock clocks.now }
         ensures { IfOk result (λ schedule.
-            schedule ≡ record { start = start; stop = stop; clocks = map first_state clocks.now }) }
+            schedule ≡ record {
+              start = start;
+              stop = stop;
+              clocks = map first_state clocks.now;
+              events = replicate components None;
+            }) }
     {
         let states = first_states(alloc, clocks)?;
-        let mut points = Heap::none(alloc, clocks.len())?;
+        let events = vec![in alloc; None; components]?;
+        let count = sum(states.len(), components)?;
+        let mut points = Heap::none(alloc, count)?;
         enter_points::<Brand>(&mut points, states.as_slice(), start, stop, Blank::new(1));
         Ok(Schedule {
             start,
             stop,
             clocks: states,
+            events,
             points,
         })
     }
@@ -73,7 +91,7 @@ impl Schedule {
         requires interval { interval ≤ 2 ^ 126 }
         requires shift { shift ≤ 2 ^ 126 }
         ensures fixed { self.new ≡ with_clock self.old clock (Periodic interval shift 0) }
-        ensures cost { IsLogarithmic (length self.old.clocks) steps.old steps.new }
+        ensures cost { IsLogarithmic (size_of self.old) steps.old steps.new }
     {
         self.set(
             clock,
@@ -96,16 +114,23 @@ impl Schedule {
         is_at(self.points.point(clock, steps), t, self.stop)
     }
 
-    /// The first point after `t`, up to the stop, at which a Clock ticks. No Clock may have a tick up to `t` that it still
-    /// has to make.
+    /// The first point after `t`, up to the stop, at which a Clock ticks or a component has its event time. No Clock may have
+    /// a tick up to `t` that it still has to make, and no component an event time up to `t`.
     pub fn next_after<L: Ledger>(&self, t: u64, steps: &mut Steps<L>) -> Option<u64>
-        requires none_up_to { (clock point : ℕ) → TicksAt self.now clock point → t < point }
-        ensures due { IfSome result (λ point. (clock : ℕ) × TicksAt self.now clock point) }
+        requires ticks_later { (clock point : ℕ) → TicksAt self.now clock point → t < point }
+        requires events_later { (component point : ℕ) → EventAt self.now component point →
+            t < point }
+        ensures found { IfSome result (λ point. ((clock : ℕ) × TicksAt self.now clock point) ⊎
+            ((component : ℕ) × EventAt self.now component point)) }
         ensures after { IfSome result (λ point. t < point) }
-        ensures least { IfSome result (λ point. (clock other : ℕ) → TicksAt self.now clock other →
-            point ≤ other) }
-        ensures none { IfNone result ((clock point : ℕ) → TicksAt self.now clock point → ⊥) }
-        ensures cost { steps.new ≤ steps.old + min 1 (length self.now.clocks) }
+        ensures least_tick { IfSome result (λ point. (clock other : ℕ) →
+            TicksAt self.now clock other → point ≤ other) }
+        ensures least_event { IfSome result (λ point. (component other : ℕ) →
+            EventAt self.now component other → point ≤ other) }
+        ensures no_tick { IfNone result ((clock point : ℕ) → TicksAt self.now clock point → ⊥) }
+        ensures no_event { IfNone result ((component point : ℕ) →
+            EventAt self.now component point → ⊥) }
+        ensures cost { steps.new ≤ steps.old + min 1 (size_of self.now) }
     {
         match self.points.least_point(steps) {
             Some(point) => if point <= self.stop {
@@ -117,31 +142,48 @@ impl Schedule {
         }
     }
 
-    /// Arms a countdown Clock for a point, in place of an earlier arming. Past the stop it is never due.
+    /// Arms a countdown or changing Clock for a point, in place of an earlier arming. Past the stop it is never due.
     pub fn arm<L: Ledger>(&mut self, clock: usize, point: u128, steps: &mut Steps<L>)
         requires { IsCountdown self.old clock }
         ensures armed { self.new ≡ with_clock self.old clock (Countdown (Some point)) }
-        ensures cost { IsLogarithmic (length self.old.clocks) steps.old steps.new }
+        ensures cost { IsLogarithmic (size_of self.old) steps.old steps.new }
     {
         self.set(clock, ClockState::Countdown { armed: Some(point) }, steps);
     }
 
-    /// Takes the arming of a countdown Clock away, if it has one.
+    /// Gives a component another event time, or none. Past the stop it is never due.
+    pub fn event_at<L: Ledger>(
+        &mut self,
+        component: usize,
+        point: Option<u64>,
+        steps: &mut Steps<L>,
+    )
+        requires { component < length self.old.events }
+        ensures event { self.new ≡ with_event self.old component point }
+        ensures cost { IsLogarithmic (size_of self.old) steps.old steps.new }
+    {
+        let place = self.clocks.len() + component;
+        let next = event_point(point, self.stop);
+        self.events[component] = point;
+        self.points.put(place, next, steps);
+    }
+
+    /// Takes the arming of a countdown or changing Clock away, if it has one.
     pub fn disarm<L: Ledger>(&mut self, clock: usize, steps: &mut Steps<L>)
         requires { IsCountdown self.old clock }
         ensures disarmed { self.new ≡ with_clock self.old clock (Countdown None) }
-        ensures cost { IsLogarithmic (length self.old.clocks) steps.old steps.new }
+        ensures cost { IsLogarithmic (size_of self.old) steps.old steps.new }
     {
         self.set(clock, ClockState::Countdown { armed: None }, steps);
     }
 
-    /// A Clock has ticked at its next point: a periodic one goes on to the tick behind it, and a countdown one is no longer
-    /// armed.
+    /// A Clock has ticked at its next point: a periodic one goes on to the tick behind it, and a countdown or changing one is
+    /// no longer armed.
     pub fn ticked<L: Ledger>(&mut self, clock: usize, steps: &mut Steps<L>)
         requires { HasNext self.old clock }
         ensures ticked { (state : ClockState) → slice_get self.old.clocks clock ≡ Some state
             → self.new ≡ with_clock self.old clock (after_tick state) }
-        ensures cost { IsLogarithmic (length self.old.clocks) steps.old steps.new }
+        ensures cost { IsLogarithmic (size_of self.old) steps.old steps.new }
     {
         let state = self.clocks[clock].after_tick();
         self.set(clock, state, steps);
@@ -153,11 +195,21 @@ impl Schedule {
         requires sound { IsSoundState state }
         requires near { IsNear state }
         ensures set { self.new ≡ with_clock self.old clock state }
-        ensures cost { IsLogarithmic (length self.old.clocks) steps.old steps.new }
+        ensures cost { IsLogarithmic (size_of self.old) steps.old steps.new }
     {
         let point = state.next_point(self.start, self.stop);
         self.clocks[clock] = state;
         self.points.put(clock, point, steps);
+    }
+}
+
+/// The next point of a component with this event time.
+fn event_point(point: Option<u64>, stop: u64) -> u64
+    ensures { (start : ℕ) → result ≡ point_of start stop (event_state point) }
+{
+    match point {
+        Some(point) => if point <= stop { point } else { PAST },
+        None => PAST,
     }
 }
 
@@ -166,6 +218,16 @@ fn is_at(point: u64, t: u64, stop: u64) -> bool
     ensures { IsTrue result ↔ ((point ≡ t) × (t ≤ stop)) }
 {
     point == t && t <= stop
+}
+
+/// How many places there are, where there is memory for so many.
+fn sum(clocks: usize, components: usize) -> Result<usize, AllocError>
+    ensures { IfOk result (λ count. count ≡ clocks + components) }
+{
+    match clocks.checked_add(components) {
+        Some(count) => Ok(count),
+        None => Err(AllocError),
+    }
 }
 
 /// Where each Clock stands before the first instant.
@@ -191,8 +253,13 @@ fn enter_points<L: Ledger>(
     requires some { 0 < blank.parts }
     requires start { start ≤ 2 ^ 62 }
     requires near { All IsNear states.now }
-    requires len { length points.old ≡ length states.now }
-    ensures { points.new ≡ map (point_of start stop) states.now }
+    requires len { length states.now ≤ length points.old }
+    requires past { (k : ℕ) → k < length points.old → slice_index points.old k ≡ past }
+    ensures len { length points.new ≡ length points.old }
+    ensures entered { (k : ℕ) → k < length states.now →
+        slice_index points.new k ≡ slice_index (map (point_of start stop) states.now) k }
+    ensures rest { (k : ℕ) → length states.now ≤ k → k < length points.old →
+        slice_index points.new k ≡ past }
 {
     let mut steps = Steps::<L>::new(blank);
     for (clock, state) in states.iter().enumerate() {

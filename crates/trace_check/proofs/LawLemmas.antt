@@ -9,7 +9,7 @@ use Rattle.system_model.specs.declared.system.Port.{Port}
 use Rattle.system_model.specs.declared.system.Role.{Role}
 use Rattle.system_model.specs.declared.system.Role.TheVariants.{Input, Output, ClockInput, ClockOutput, TimeClock}
 use Rattle.system_model.specs.declared.system.System.{System}
-use Rattle.system_model.specs.declared.system.Timing.TheVariants.{Periodic, Answered, Countdown}
+use Rattle.system_model.specs.declared.system.Timing.TheVariants.{Periodic, Answered, Countdown, Changing}
 use Rattle.system_model.specs.Sound.{IsRole, IsSound, IsTiming}
 use Rattle.system_model.proofs.CallerLemmas.{all_by_place, place_of}
 use Rattle.trace_reading.specs.declared.trace.Trace.{Trace}
@@ -29,6 +29,7 @@ role_limits shape x ClockOutput is = tt
 role_limits shape x (TimeClock (Periodic interval shift)) is = described_limits shape.resolution interval shift (timing_at shape.clocks x.reference) is.2
 role_limits shape x (TimeClock Answered) is = tt
 role_limits shape x (TimeClock Countdown) is = tt
+role_limits shape x (TimeClock Changing) is = tt
 
 pub limits_of_sound : (system : System) → IsSound system → HasLimitedClocks system
 limits_of_sound system sound = all_by_place (λ (port : Port). HasLimits port.role) system.ports (λ p port at.

@@ -8,7 +8,7 @@ use Rattle.std.proofs.lemmas.List.{length-map}
 use Rattle.std.proofs.lemmas.List.Concat.{flat_map-append}
 use Rattle.std.proofs.lemmas.Option.{none-some as none_some}
 use Rattle.value_types.specs.declared.values.PortType.{PortType}
-use Rattle.system_model.specs.Text.{Instant}
+use Rattle.system_model.specs.Text.{Instant, instant_at}
 use Rattle.system_model.specs.declared.plan.EndKind.TheVariants.{Stop}
 use Rattle.system_model.specs.declared.system.System.{System}
 use Rattle.system_model.proofs.CallerLemmas.{true_false}
@@ -22,7 +22,7 @@ use Rattle.trace_reading.proofs.CallerLemmas.{heads, tails, unsome}
 use Rattle.trace_check.specs.Instants.{AreInstantsOf, ReachesPoint, end_line_number, last_time, line_behind}
 use Rattle.trace_check.specs.Rules.{Breaks, BreaksIn, IsFirst, KeepsRules}
 use Rattle.trace_check.specs.Rules.Breaks.{AtPort, InInstant, AtEnd}
-use Rattle.trace_check.specs.Steps.{BeginsNoValue, BeginsWithValues, IsFirstIn, instant_at}
+use Rattle.trace_check.specs.Steps.{BeginsNoValue, BeginsWithValues, IsFirstIn}
 use Rattle.trace_check.proofs.InstantLemmas.{comes_first, offset_within, rule_above}
 
 -- ---- lists

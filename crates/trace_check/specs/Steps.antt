@@ -50,9 +50,6 @@ pub record BeginsWithValues (lines : List TraceLine) (ports : ℕ) (values : Lis
   pub parts : lines ≡ told_values_from 0 values ++ behind
   pub ends : BeginsNoValue behind
 
-abbrev pub instant_at : ℕ → ℕ → List (Option ℤ) → Instant
-instant_at t n values = record { t = t; n = n; values = values }
-
 -- ---- the first of them that breaks a rule
 
 -- so many lines behind the `at` line stands that of an input that hasn't its source's value

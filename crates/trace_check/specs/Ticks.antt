@@ -5,7 +5,7 @@ use Rattle.value_types.specs.Shape.{timing_at}
 use Rattle.value_types.specs.declared.shape.ClockTiming.{ClockTiming}
 use Rattle.value_types.specs.declared.shape.IntervalVariability.TheVariants.{Constant}
 use Rattle.system_model.specs.declared.system.Component.{Component}
-use Rattle.system_model.specs.declared.system.Timing.TheVariants.{Periodic, Answered, Countdown}
+use Rattle.system_model.specs.declared.system.Timing.TheVariants.{Periodic, Answered, Countdown, Changing}
 use Rattle.system_model.specs.declared.system.Role.{Role}
 use Rattle.system_model.specs.declared.system.Role.TheVariants.{Input, Output, ClockInput, ClockOutput, TimeClock}
 use Rattle.system_model.specs.declared.system.Port.{Port}
@@ -61,6 +61,7 @@ HasLimits (TimeClock (Periodic interval shift)) =
     (0 < interval) × (interval ≤ 2 ^ 126) × (shift ≤ 2 ^ 126)
 HasLimits (TimeClock Answered) = Unit {0}
 HasLimits (TimeClock Countdown) = Unit {0}
+HasLimits (TimeClock Changing) = Unit {0}
 
 abbrev pub HasLimitedClocks : System → Type 0
 HasLimitedClocks system = All (λ (port : Port). HasLimits port.role) system.ports

@@ -1,7 +1,8 @@
 ghost use Rattle.std.specs.Prelude.{◌≤◌, ◌^◌, ◌↔◌, ℕ, IfSome, IfNone, IsTrue};
+ghost use Rattle.system_model.specs.Text.{instant_at};
 ghost use Rattle.trace_check.specs.Instants.{IsInOrder};
 ghost use Rattle.trace_check.specs.Rules.{BreaksIn};
-ghost use Rattle.trace_check.specs.Steps.{AreConstantClocks, IsFirstIn, instant_at};
+ghost use Rattle.trace_check.specs.Steps.{AreConstantClocks, IsFirstIn};
 
 use crate::sources::{first_other_value, first_without_value};
 use crate::ticks::{ConstantClock, is_off_tick};

@@ -104,7 +104,7 @@ module _ (r : Run) (sound : IsSound r.system) (count : length r.machines ≡ len
       let placed = place_of r.system sound p port is in
       let clock : is_clock_role port.role ≡ true = ap is_clock_role role in
       let found = fmu_of port.component.0 placed.component placed.is.of in
-      let asks : AnswersAt ClockOutput r s V port = subst (λ (w : Role). AnswersAt w r s V port) role ((behave port.component.0).ports p port is refl) in
+      let asks : AnswersAt ClockOutput r s V p port = subst (λ (w : Role). AnswersAt w r s V p port) role ((behave port.component.0).ports p port is refl) in
       by placed.component found.0 found.1 found.2 (record {
         kind = kind_of_clock r.system p port placed clock;
         good = asks placed.component found.0 (state_with r.system.ports V port.component.0 found.0 found.1)

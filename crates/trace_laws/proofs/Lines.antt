@@ -3,7 +3,7 @@ use Rattle.std.proofs.Common.{◌≡◌, ℕ, suc, ◌+◌, ◌<◌, ℤ, List, 
 use Rattle.std.specs.Prelude.{Option, Some, None}
 use Rattle.std.specs.List.{AllByRecursion, AllZip, flat_map}
 use Rattle.value_types.specs.declared.values.PortType.{PortType}
-use Rattle.system_model.specs.Text.{Instant}
+use Rattle.system_model.specs.Text.{Instant, instant_at}
 use Rattle.trace_reading.specs.declared.trace.TraceLine.{TraceLine}
 use Rattle.trace_reading.specs.declared.trace.TraceLine.TheVariants.{At, Value}
 use Rattle.trace_reading.specs.Form.{IsInstant, MayHave, instant_lines, told_values_from}
@@ -58,9 +58,6 @@ zip_length [] [] all = refl
 zip_length [] (v ∷ values) all = absurd all
 zip_length (kind ∷ kinds) [] all = absurd all
 zip_length (kind ∷ kinds) (v ∷ values) all = ap suc (zip_length kinds values all.1)
-
-abbrev instant_at : ℕ → ℕ → List (Option ℤ) → Instant
-instant_at t n values = record { t = t; n = n; values = values }
 
 instant_same : (i j : Instant) → i.t ≡ j.t → i.n ≡ j.n → i.values ≡ j.values → i ≡ j
 instant_same i j t n values =

@@ -76,7 +76,7 @@ pub record IsReachedFrom (r : Run) (z : Situation) (point : ℕ) : Type 0 where
   pub passes_none : (p tick : ℕ) (timer : Timer) → slice_get z.timers p ≡ Some timer → TicksAt r.plan.start timer tick → z.t < tick → point ≤ tick
 
 module _ (r : Run) (z : Situation) (behave : (i : ℕ) → BehavesInStep r z i) where
-  end_well : (bound : ℕ) → IsBound r.plan z.timers z.t bound → EndWell (steppers r z) z.t r.plan.step bound
+  end_well : (bound : ℕ) → IsBound r.plan z.timers z.events z.t bound → EndWell (steppers r z) z.t r.plan.step bound
   end_well bound is i e f at asked above =
       let stepper : ℕ → Component → Machine → MachineState → Stepper = λ j c m state. record { has_variable_steps = c.shape.has_variable_steps; end = ending z.t c m state } in
       let fmu = each-get stepper 0 i r.system.components r.machines (departing r z) f at in

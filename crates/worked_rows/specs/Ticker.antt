@@ -29,8 +29,9 @@ abbrev pub numbers_in : List ℤ → Numbers
 numbers_in (mark ∷ count ∷ []) = record { mark = mark; count = count }
 numbers_in _ = record { mark = pos 0; count = pos 0 }
 
-abbrev pub is_marked : Numbers → Bool
-is_marked n = int_lt (pos 0) n.mark
+-- the state is in Initialization Mode
+abbrev pub is_in_initialization : Numbers → Bool
+is_in_initialization n = int_lt (pos 0) n.mark
 
 -- the first value of those that a state has
 abbrev pub first_of : List ℤ → ℤ
@@ -111,7 +112,7 @@ ticker counts = record {
     values = first_values counts;
     slot = None;
   };
-  initializing = λ numbers. is_marked (numbers_in numbers);
+  initializing = λ numbers. is_in_initialization (numbers_in numbers);
   look = λ s call. answer counts (numbers_in s.numbers) call;
   change = λ s call. listed (numbers_after counts (numbers_in s.numbers) s.values call);
 }

@@ -11,11 +11,11 @@ use Rattle.fmu_peer.specs.declared.talk_room.TalkRoom.{TalkRoom}
 use Rattle.fmu_peer.specs.Machine.{IgnoresSlot, IsLawful, IsMachineOf, MachineState, changes_mode, is_discard}
 use Rattle.fmi_calls.specs.Permission.{is_input_clock}
 use Rattle.worked_rows.specs.declared.counted.Counts.{Counts}
-use Rattle.worked_rows.specs.Ticker.{answer, clocks_of, first_values, is_marked, numbers_after, numbers_in, references_of, ticker}
+use Rattle.worked_rows.specs.Ticker.{answer, clocks_of, first_values, is_in_initialization, numbers_after, numbers_in, references_of, ticker}
 
 pub keeps_mark : (counts : Counts) (s : MachineState) (call : Call) → changes_mode call ≡ false →
-    is_marked (numbers_after counts (numbers_in s.numbers) s.values call) ≡
-    is_marked (numbers_in s.numbers)
+    is_in_initialization (numbers_after counts (numbers_in s.numbers) s.values call) ≡
+    is_in_initialization (numbers_in s.numbers)
 keeps_mark counts s (C.EnterInitialization start stop) other = absurd (cc)
 keeps_mark counts s C.ExitInitialization other = absurd (cc)
 keeps_mark counts s (C.DoStep at size) other = refl

@@ -6,6 +6,8 @@ use Rattle.run_model.specs.Machines.{AreFitting}
 use Rattle.event_iteration.specs.Clocks.{is_due_at}
 use Rattle.event_iteration.specs.Instants.{in_instant}
 use Rattle.event_iteration.specs.Intervals.{TellsTicks}
+use Rattle.event_iteration.specs.Questions.{AreActive, modes}
+use Rattle.slot_calls.specs.Slots.{instances}
 use Rattle.calling_sequence.specs.Course.{Reads}
 use Rattle.calling_sequence.specs.Goes.{before_instant, spot}
 use Rattle.calling_sequence.specs.Place.{IsAt, IsTaking}
@@ -46,6 +48,11 @@ pub returns-clause-ticks : goal.returns-clause-ticks
 returns-clause-ticks g c =
     let found = with_items_is c.args.buffers.now.values c.instant.new.values (c.instant.auto.values ∙ c.deref_mut.ensures.len) in
     subst (λ (values : List (Option ℤ)). OnOk c.instant.result (TellsTicks c.args.experiment.now.system c.args.buffers.now.schedule c.args.t values)) (sym found) c.instant.ensures.ticks
+
+pub returns-clause-active : goal.returns-clause-active
+returns-clause-active g c =
+    let found = with_items_is c.args.buffers.now.values c.instant.new.values (c.instant.auto.values ∙ c.deref_mut.ensures.len) in
+    subst (λ (values : List (Option ℤ)). OnOk c.instant.result (AreActive c.args.experiment.now.system values (modes (instances g.L.Peer.view c.instant.new.slots)))) (sym found) c.instant.ensures.active
 
 pub returns-clause-goes : goal.returns-clause-goes
 returns-clause-goes g c =

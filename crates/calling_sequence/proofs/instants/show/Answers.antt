@@ -1,4 +1,4 @@
-use Rattle.std.proofs.Common.{ℕ, ℤ, Bool, List, Ok, Option, ap, arith, length, refl, subst, sym, ◌∙◌, ◌≡◌}
+use Rattle.std.proofs.Common.{ℕ, ℤ, Bool, false, List, Ok, Option, ap, arith, length, refl, subst, sym, ◌∙◌, ◌≡◌, ◌+◌}
 use Rattle.std.specs.Prelude.{◌||◌}
 use Rattle.std.proofs.lemmas.List.{with_items_is}
 use Rattle.sim_base.specs.Sink.{with_piece}
@@ -6,26 +6,31 @@ use Rattle.fmi_calls.specs.declared.call.Call.TheVariants as C
 use Rattle.fmu_peer.specs.CloseAll.{instance_in}
 use Rattle.system_model.specs.Text.{instant_text}
 use Rattle.run_model.specs.Machines.{AreFitting}
+use Rattle.run_model.specs.Run.{Timer}
+use Rattle.tick_schedule.specs.Timetable.{Timetable}
 use Rattle.trace_text.specs.Room.{HoldsEach}
 use Rattle.slot_calls.specs.Slots.{instances}
 use Rattle.slot_calls.specs.Stage.{has_events}
+use Rattle.event_iteration.specs.Clocks.{timers_in}
+use Rattle.event_iteration.specs.Intervals.{is_some_armed}
 use Rattle.event_iteration.specs.Updates.{updated_by}
 use Rattle.event_iteration.specs.declared.updates.Updated.{Updated}
 use Rattle.calling_sequence.specs.Ends.{RunsSlots}
-use Rattle.calling_sequence.specs.Goes.{seen, spot}
+use Rattle.calling_sequence.specs.Course.{Seen}
+use Rattle.calling_sequence.specs.Goes.{spot}
 use Rattle.calling_sequence.specs.Here.{Here}
 use Rattle.calling_sequence.specs.Place.{IsAt, IsSettled, IsTaking}
 use Rattle.calling_sequence.specs.Puts.{CutsPiece}
 use Rattle.calling_sequence.specs.declared.run_end.RunEnd.TheVariants as E
 use Rattle.calling_sequence.proofs.Phases.{update_leads, update_stays}
-use Rattle.calling_sequence.proofs.ScheduleSteps.{neither}
+use Rattle.calling_sequence.proofs.ScheduleSteps.{neither, stands_with}
 use Rattle.calling_sequence.proofs.Stages.{badly_updated, by_cut, by_put, still, still_those}
 use Rattle.calling_sequence.proofs.Stands.{updated_settled, wide_all}
 use Rattle.calling_sequence.proofs.instants.show.Goals as goal
 
 pub returns-in-Err-clause-puts : goal.returns-in-Err-clause-puts
 returns-in-Err-clause-puts g c =
-    badly_updated c.args.experiment.now (spot c.args.t c.args.n c.args.buffers.now) _ _ c.requires.ready.shapes_are c.in-Err.bad c.in-Err.ensures.stage _ _
+    badly_updated c.args.experiment.now (spot c.args.t c.args.n c.args.buffers.now) _ _ c.requires.ready.shapes_are c.in-Err.bad c.in-Err.ensures.updates.stage _ _
 
 pub put_values-requires-clause-wide : goal.put_values-requires-clause-wide
 put_values-requires-clause-wide g c =
@@ -47,13 +52,13 @@ pub returns-in-Ok-put_values-clause-ready : goal.returns-in-Ok-put_values-clause
 returns-in-Ok-put_values-clause-ready g c =
     let p = c.args.experiment.now.plan in
     let t = c.args.t in
-    still_those g.L.Peer.view c.args.experiment.now (IsTaking t) c.args.slots.now _ c.requires.ready (IsAt t) has_events (λ shape. C.Update) (λ v w x h asked l is. update_leads t p.stop p.step v w x h l is) (update_stays t p.stop p.step) updated_by (Ok c.in-Ok.updated) c.in-Ok.ensures.stage c.in-Ok.ensures.live
+    still_those g.L.Peer.view c.args.experiment.now (IsTaking t) c.args.slots.now _ c.requires.ready (IsAt t) has_events (λ shape. C.Update) (λ v w x h asked l is. update_leads t p.stop p.step v w x h l is) (update_stays t p.stop p.step) updated_by (Ok c.in-Ok.updated) c.in-Ok.ensures.updates.stage c.in-Ok.ensures.live
 
 pub returns-in-Ok-put_values-clause-settled : goal.returns-in-Ok-put_values-clause-settled
 returns-in-Ok-put_values-clause-settled g c last =
     let p = c.args.experiment.now.plan in
     let t = c.args.t in
-    let s = c.in-Ok.ensures.stage in
+    let s = c.in-Ok.ensures.updates.stage in
     let own = (neither c.in-Ok.updated.again c.args.is_armed (sym c.with_armed.ensures.again ∙ last)).0 in
     still g.L.Peer.view c.args.experiment.now (IsTaking t) c.args.slots.now _ c.requires.ready (IsSettled t) (Ok c.in-Ok.updated) s.log s.told c.in-Ok.ensures.live
     (updated_settled (λ x. instance_in g.L.Peer.view x) c.args.slots.now c.update.new.slots t p.stop p.step c.in-Ok.updated s own c.requires.ready.stand)
@@ -65,10 +70,11 @@ returns-in-Ok-put_values-clause-timed g c =
     let few = t.few in
     let counted = c.in-Ok-put_values.ensures.counted in
     let below = c.requires.below in
+    let clocks = c.in-Ok.ensures.clocks in
     record {
-      starts = t.starts;
-      stops = t.stops;
-      stands = t.stands;
+      starts = ap (λ (x : Timetable). x.start) clocks ∙ t.starts;
+      stops = ap (λ (x : Timetable). x.stop) clocks ∙ t.stops;
+      stands = stands_with c.args.experiment.now.system c.args.t false c.args.buffers.now.schedule c.update.new.schedule clocks c.in-Ok.ensures.components t.stands;
       places = t.places;
       fitting = t.fitting;
       holds = subst (HoldsEach c.args.experiment.now.system) (sym (ap length text ∙ c.put_values.auto.text ∙ ap length c.deref_mut.ensures.value)) t.holds;
@@ -76,14 +82,25 @@ returns-in-Ok-put_values-clause-timed g c =
       few = omega (arith, few, counted);
     }
 
+pub returns-in-Ok-put_values-clause-unarmed : goal.returns-in-Ok-put_values-clause-unarmed
+returns-in-Ok-put_values-clause-unarmed g c last =
+    let none = (neither c.in-Ok.updated.again c.args.is_armed (sym c.with_armed.ensures.again ∙ last)).1 in
+    ap (λ (x : Timetable). is_some_armed c.args.t (timers_in x)) c.in-Ok.ensures.clocks ∙ sym c.requires.armed ∙ none
+
 pub returns-in-Ok-put_values-clause-puts : goal.returns-in-Ok-put_values-clause-puts
 returns-in-Ok-put_values-clause-puts g c olds before h =
     let e = c.args.experiment.now in
     let b = c.args.buffers.now in
     let again = c.with_armed.ensures.again ∙ ap (λ (x : Bool). c.in-Ok.updated.again || x) c.requires.armed in
     let put = subst (λ (vs : List (Option ℤ)). g.O.Sink.view c.put_values.new.out ≡ with_piece (g.O.Sink.view c.args.out.now) (instant_text c.args.t c.args.n vs)) c.deref.ensures.value c.in-Ok-put_values.ensures.put in
-    subst (λ (k : ℕ). Here e olds before (seen c.args.t c.args.n b c.with_armed.result) (instances g.L.Peer.view c.update.new.slots) (g.O.Sink.view c.put_values.new.out) k) (sym c.in-Ok-put_values.ensures.counted)
-    (by_put e (spot c.args.t c.args.n b) c.in-Ok.updated c.with_armed.result again c.with_armed.ensures.asked _ _ c.requires.ready.shapes_are c.in-Ok.ensures.stage olds before _ _ h _ put)
+    let s = spot c.args.t c.args.n b in
+    let events = c.update.new.schedule.events in
+    let told : List Timer → ℕ → Type 0 = λ timers k.
+        Here e olds before (Seen (record s { timers = timers; events = events }) c.with_armed.result.again c.with_armed.result.asked) (instances g.L.Peer.view c.update.new.slots) (g.O.Sink.view c.put_values.new.out) k in
+    let timers : timers_in b.schedule ≡ timers_in c.update.new.schedule = sym (ap timers_in c.in-Ok.ensures.clocks) in
+    subst (λ (k : ℕ). told (timers_in c.update.new.schedule) k) (sym c.in-Ok-put_values.ensures.counted)
+    (subst (λ (ts : List Timer). told ts (b.instants + 1)) timers
+    (by_put e s events c.in-Ok.updated c.with_armed.result again c.with_armed.ensures.asked _ _ c.requires.ready.shapes_are c.in-Ok.ensures.updates olds before _ _ h _ put))
 
 pub returns-in-Err-put_values-clause-puts : goal.returns-in-Err-put_values-clause-puts
 returns-in-Err-put_values-clause-puts g c olds before h =
@@ -92,4 +109,4 @@ returns-in-Err-put_values-clause-puts g c olds before h =
     let again = ap (λ (x : Bool). c.in-Ok.updated.again || x) c.requires.armed in
     let put = subst (λ (vs : List (Option ℤ)). CutsPiece (g.O.Sink.view c.args.out.now) (instant_text c.args.t c.args.n vs) (g.O.Sink.view c.put_values.new.out)) c.deref.ensures.value c.in-Err-put_values.ensures.cut in
     subst (λ (k : ℕ). RunsSlots e.system e.bound e.plan olds (instances g.L.Peer.view c.update.new.slots) before (g.O.Sink.view c.put_values.new.out) k E.WriteFault) (sym c.in-Err-put_values.ensures.uncounted)
-    (by_cut e (spot c.args.t c.args.n c.args.buffers.now) c.in-Ok.updated v again refl _ _ c.requires.ready.shapes_are c.in-Ok.ensures.stage olds before _ _ h _ put)
+    (by_cut e (spot c.args.t c.args.n c.args.buffers.now) c.update.new.schedule.events c.in-Ok.updated v again refl _ _ c.requires.ready.shapes_are c.in-Ok.ensures.updates olds before _ _ h _ put)

@@ -50,7 +50,7 @@ returns-in-Some-clause-arrives g c olds before h =
     let within = c.in-Ok-take.ensures.timed.stands.within in
     let stops = c.in-Ok-take.ensures.timed.stops in
     let before_stop : c.instants.t < c.args.experiment.now.plan.stop = let other = c.if-t-plan.false in omega (arith, other, within, stops) in
-    let bound : IsBoundOf c.args.experiment.now.plan (timers_in c.take.new.buffers.schedule) c.instants.t c.next_bound-bound.result = record { before_stop = before_stop; bound = c.next_bound-bound.ensures } in
+    let bound : IsBoundOf c.args.experiment.now.plan (timers_in c.take.new.buffers.schedule) c.take.new.buffers.schedule.events c.instants.t c.next_bound-bound.result = record { before_stop = before_stop; bound = c.next_bound-bound.ensures } in
     unfit_there c.args.experiment.now _ _ c.take.new.buffers c.in-Ok-take.updated olds before _ _ _ (c.in-Ok-take.ensures.puts olds before (c.instants.invariant.onward olds before h)) c.if-updated-2.false c.if-updated.false c.in-Some.component _ bound (sym c.in-Some.ensures)
 
 pub cross-requires-clause-ready : goal.cross-requires-clause-ready
@@ -61,7 +61,7 @@ cross-requires-clause-step g c κs lives =
     let within = c.in-Ok-take.ensures.timed.stands.within in
     let stops = c.in-Ok-take.ensures.timed.stops in
     let before_stop : c.instants.t < c.args.experiment.now.plan.stop = let other = c.if-t-plan.false in omega (arith, other, within, stops) in
-    let bound : IsBoundOf c.args.experiment.now.plan (timers_in c.take.new.buffers.schedule) c.instants.t c.next_bound-bound.result = record { before_stop = before_stop; bound = c.next_bound-bound.ensures } in
+    let bound : IsBoundOf c.args.experiment.now.plan (timers_in c.take.new.buffers.schedule) c.take.new.buffers.schedule.events c.instants.t c.next_bound-bound.result = record { before_stop = before_stop; bound = c.next_bound-bound.ensures } in
     record { bound = bound; fit = sym c.in_default.ensures }
 
 pub returns-in-Err-cross-clause-arrives : goal.returns-in-Err-cross-clause-arrives
@@ -82,7 +82,7 @@ instants-preserved g c =
     let within = c.in-Ok-take.ensures.timed.stands.within in
     let stops = c.in-Ok-take.ensures.timed.stops in
     let before_stop : c.instants.t < c.args.experiment.now.plan.stop = let other = c.if-t-plan.false in omega (arith, other, within, stops) in
-    let bound : IsBoundOf c.args.experiment.now.plan (timers_in c.take.new.buffers.schedule) c.instants.t c.next_bound-bound.result = record { before_stop = before_stop; bound = c.next_bound-bound.ensures } in
+    let bound : IsBoundOf c.args.experiment.now.plan (timers_in c.take.new.buffers.schedule) c.take.new.buffers.schedule.events c.instants.t c.next_bound-bound.result = record { before_stop = before_stop; bound = c.next_bound-bound.ensures } in
     let timed = timed_behind e c.instants.t c.instants.n _ m b c.requires.ready.may.plan c.in-Ok-take.ensures.timed (c.in-Ok-take.ensures.unarmed c.if-updated-2.false) bound later c.in-Ok-cross.ensures.within in
     record {
       ready = c.in-Ok-enter_event.ensures.ready;
@@ -102,7 +102,7 @@ returns-in-Err-enter_event-clause-arrives g c olds before h =
     let within = c.in-Ok-take.ensures.timed.stands.within in
     let stops = c.in-Ok-take.ensures.timed.stops in
     let before_stop : c.instants.t < c.args.experiment.now.plan.stop = let other = c.if-t-plan.false in omega (arith, other, within, stops) in
-    let bound : IsBoundOf c.args.experiment.now.plan (timers_in c.take.new.buffers.schedule) c.instants.t c.next_bound-bound.result = record { before_stop = before_stop; bound = c.next_bound-bound.ensures } in
+    let bound : IsBoundOf c.args.experiment.now.plan (timers_in c.take.new.buffers.schedule) c.take.new.buffers.schedule.events c.instants.t c.next_bound-bound.result = record { before_stop = before_stop; bound = c.next_bound-bound.ensures } in
     let timed = timed_behind e c.instants.t c.instants.n _ m b c.requires.ready.may.plan c.in-Ok-take.ensures.timed (c.in-Ok-take.ensures.unarmed c.if-updated-2.false) bound c.in-Ok-cross.ensures.later c.in-Ok-cross.ensures.within in
     c.in-Err-enter_event.ensures.goes (spot m 0 b) _ _ (begins e.system e.plan b.schedule m 0 true b.values.items timed.places timed.starts timed.stands refl) _ olds before
     (stepped_there e (spot m 0 b) c.in-Ok-cross.agreed.asked olds before _ _ _ (c.in-Ok-cross.ensures.crosses _ _ olds before (done_there c.args.experiment.now _ _ c.take.new.buffers c.in-Ok-take.updated olds before _ _ _ (c.in-Ok-take.ensures.puts olds before (c.instants.invariant.onward olds before h)) c.if-updated-2.false c.if-updated.false)) c.if-agreed.false)

@@ -1,78 +1,37 @@
-use Rattle.std.proofs.Common.{◌≡◌, ℕ, ◌^◌, ◌<◌, ◌≤◌, true, List, [], ◌∷◌, Some, Ok, Err, sym, ap, ap₂, ◌∙◌, subst, arith, length}
-use Rattle.std.specs.Prelude.{All, option_map, slice_get}
-use Rattle.std.proofs.lemmas.Option.{same_Some, slice_get-map, slice_get_within}
+use Rattle.std.proofs.Common.{◌≡◌, inl, true, Some, Ok, Err, sym, ap, ap₂, ◌∙◌, subst, arith}
+use Rattle.std.proofs.lemmas.Option.{same_Some}
 use Rattle.clock_fraction.specs.declared.fraction.Fraction.{Fraction}
-use Rattle.value_types.specs.declared.shape.Shape.{Shape}
-use Rattle.fmi_calls.specs.declared.call.Call.TheVariants as C
 use Rattle.fmi_calls.specs.declared.call.Interval.{Interval}
-use Rattle.fmi_calls.specs.declared.call.Reply.{Reply}
-use Rattle.fmi_calls.specs.declared.phase.InstanceState.{InstanceState}
-use Rattle.fmi_calls.specs.declared.phase.InstanceState.TheVariants as P
 use Rattle.fmi_calls.specs.Worth.{has_counts, is_known_interval}
-use Rattle.fmu_peer.specs.CloseAll.{Instance, instance_in}
-use Rattle.system_model.specs.declared.system.Component.{Component}
+use Rattle.fmu_peer.specs.CloseAll.{instance_in}
 use Rattle.system_model.specs.declared.system.Port.{Port}
 use Rattle.system_model.specs.declared.system.Role.{Role}
-use Rattle.system_model.specs.declared.system.Role.TheVariants.{TimeClock}
-use Rattle.system_model.specs.declared.system.System.{System}
-use Rattle.system_model.specs.declared.system.Timing.TheVariants.{Answered}
-use Rattle.system_model.specs.Sound.{IsSound}
-use Rattle.system_model.proofs.CallerLemmas.{all_at, Placed, place_of}
-use Rattle.run_model.specs.Initial.{interval_in, shift_in}
+use Rattle.system_model.proofs.CallerLemmas.{place_of}
 use Rattle.run_model.specs.Run.{Timer}
 use Rattle.run_model.specs.Timers.{fixed}
 use Rattle.slot_calls.specs.Slots.{instances}
-use Rattle.slot_calls.specs.Stage.{Stage, shapes, shapes_of}
+use Rattle.slot_calls.specs.Stage.{shapes}
 use Rattle.slot_calls.proofs.CallerLemmas.{shapes_same}
 use Rattle.event_iteration.specs.Clocks.{first_place}
-use Rattle.event_iteration.specs.Questions.{FixesPort, IsEntered, first_reply, is_asked, modes}
-use Rattle.event_iteration.proofs.Answering.{asked_role, fixed_variability, interval_known, may_interval, may_shift, one_answer, shift_known}
-use Rattle.event_iteration.proofs.Fixing.{ask_interval, ask_shift, fixes_both, fixes_cut, fixes_cut_later, fixes_none}
+use Rattle.event_iteration.specs.Questions.{FixesPort, IsEntered, is_asked, is_changing, modes}
+use Rattle.event_iteration.proofs.Answering.{asked_role, may_interval, may_shift}
+use Rattle.event_iteration.proofs.AskedClocks.{among_components, in_range, shape_here, still_initializing, told_interval, told_shift}
+use Rattle.event_iteration.proofs.Fixing.{fixes_both, fixes_cut, fixes_cut_later, fixes_none}
 use Rattle.event_iteration.proofs.Taking.{port_at, slots_many}
 use Rattle.event_iteration.proofs.clocks.fix_clock.Goals as goal
 
-module _ (system : System) (sound : IsSound system) (p : ℕ) (port : Port) (is : slice_get system.ports p ≡ Some port) where
-  abbrev placed : Placed system p port
-  placed = place_of system sound p port is
-
-  among_components : port.component.0 < length system.components
-  among_components = slice_get_within system.components port.component.0 placed.component placed.is.of
-
-  shape_here : (ss : List Instance) → shapes ss ≡ shapes_of system → slice_get (shapes ss) port.component.0 ≡ Some placed.component.shape
-  shape_here ss alike =
-      ap (λ (xs : List Shape). slice_get xs port.component.0) alike ∙ slice_get-map (λ (c : Component). c.shape) system.components port.component.0 ∙ ap (option_map (λ (c : Component). c.shape)) placed.is.of
-
-  module _ (per_second : ℕ) (counts : All (λ (c : Component). c.shape.resolution ≡ per_second) system.components) where
-    resolution_is : placed.component.shape.resolution ≡ per_second
-    resolution_is = all_at (λ (c : Component). c.shape.resolution ≡ per_second) system.components port.component.0 placed.component counts placed.is.of
-
-    in_range : per_second ≤ 2 ^ 62
-    in_range =
-        let own = all_at (λ (c : Component). c.shape.resolution ≡ sound.components.per_second) system.components port.component.0 placed.component sound.components.resolutions placed.is.of in
-        subst (λ (n : ℕ). n ≤ 2 ^ 62) (sym own ∙ resolution_is) sound.components.within
-
-    module _ (olds news : List Instance) (alike : shapes olds ≡ shapes_of system) where
-      told_interval : port.role ≡ TimeClock Answered → (interval : Reply) → Stage (ask_interval port ∷ []) first_reply olds news (Ok (Some interval)) → is_known_interval (interval_in interval) per_second ≡ true
-      told_interval answered interval stage =
-          let one = one_answer (shapes olds) port.component.0 (C.GetInterval port.reference) placed.component.shape interval stage.log (shape_here olds alike) stage.says.0 stage.says.1 in
-          interval_known placed.component.shape port.reference per_second resolution_is interval (fixed_variability system p port placed answered) one.good
-
-      told_shift : (shift : Reply) → Stage (ask_shift port ∷ []) first_reply olds news (Ok (Some shift)) → has_counts 0 (shift_in shift) per_second ≡ true
-      told_shift shift stage =
-          let one = one_answer (shapes olds) port.component.0 (C.GetShift port.reference) placed.component.shape shift stage.log (shape_here olds alike) stage.says.0 stage.says.1 in
-          shift_known placed.component.shape port.reference per_second resolution_is shift one.good
-
--- the modes are those of Initialization still
-still_initializing : (olds news : List Instance) → modes news ≡ modes olds → ((i : ℕ) (mode : InstanceState) → slice_get (modes olds) i ≡ Some mode → mode ≡ P.Initialization) →
-    (i : ℕ) (mode : InstanceState) → slice_get (modes news) i ≡ Some mode → mode ≡ P.Initialization
-still_initializing olds news same all i mode at = all i mode (ap (λ (xs : List InstanceState). slice_get xs i) (sym same) ∙ at)
+pub shift_clock-requires-clause-changing : goal.shift_clock-requires-clause-changing
+shift_clock-requires-clause-changing g c κs lives port is =
+    let own = port_at _ c.args.system.now.ports c.args.p c.index-as_slice-p.result c.as_slice.ensures c.index-as_slice-p.is c.requires.port in
+    ap (λ (x : Port). is_changing x.role) (sym (same_Some _ _ (sym own ∙ is))) ∙ sym c.is_changing.ensures ∙ c.if-is_changing.true
 
 pub returns-then-not-is_asked-clause-fixes : goal.returns-then-not-is_asked-clause-fixes
 returns-then-not-is_asked-clause-fixes g c port is =
     let own = port_at _ c.args.system.now.ports c.args.p c.index-as_slice-p.result c.as_slice.ensures c.index-as_slice-p.is c.requires.port in
     let its : c.index-as_slice-p.result ≡ port = same_Some _ _ (sym own ∙ is) in
     fixes_none port c.args.per_second c.args.p c.args.schedule.now (instances g.L.Peer.view c.args.slots.now)
-    (ap (λ (x : Port). is_asked x.role) (sym its) ∙ sym c.is_asked.ensures ∙ c.if-not-is_asked.true) (c.requires.first port is)
+    (ap (λ (x : Port). is_asked x.role) (sym its) ∙ sym c.is_asked.ensures ∙ c.if-not-is_asked.true)
+    (ap (λ (x : Port). is_changing x.role) (sym its) ∙ sym c.is_changing.ensures ∙ c.if-is_changing.false) (c.requires.first port is)
 
 pub ask-requires-clause-within : goal.ask-requires-clause-within
 ask-requires-clause-within g c κs lives =
@@ -117,7 +76,7 @@ ask-requires-2-clause-may g c κs lives =
     let answered = asked_role port.role (sym c.is_asked.ensures ∙ c.if-not-is_asked.false) in
     let one = c.in-Ok.ensures.stage in
     let alike = shapes_same one.log (instances g.L.Peer.view c.args.slots.now) (instances g.L.Peer.view c.ask.new.slots) one.told ∙ c.requires.shapes in
-    may_shift system c.requires.sound c.args.p port is (instances g.L.Peer.view c.ask.new.slots) alike answered
+    may_shift system c.requires.sound c.args.p port is (instances g.L.Peer.view c.ask.new.slots) alike (inl answered)
     (still_initializing (instances g.L.Peer.view c.args.slots.now) (instances g.L.Peer.view c.ask.new.slots) c.in-Ok.ensures.modes c.requires.initializing)
 
 pub returns-in-Err-ask-clause-fixes : goal.returns-in-Err-ask-clause-fixes

@@ -1,14 +1,13 @@
 use Rattle.std.proofs.Common.{◌≡◌, ℕ, List, Some, sym, ap, ◌∙◌, arith, map}
 use Rattle.std.specs.Prelude.{All, slice_get}
 use Rattle.std.proofs.lemmas.List.Elements.{All-map}
-use Rattle.fmi_calls.specs.declared.phase.InstanceState.{InstanceState}
 use Rattle.fmi_calls.specs.declared.phase.InstanceState.TheVariants as P
 use Rattle.fmu_peer.specs.CloseAll.{Instance, instance_in}
 use Rattle.system_model.proofs.CallerLemmas.{all_at}
 use Rattle.slot_calls.proofs.CallerLemmas.{shapes_same}
 use Rattle.event_iteration.specs.Clocks.{timers_in}
 use Rattle.event_iteration.specs.Initialization.{IsInitializing}
-use Rattle.event_iteration.specs.Questions.{modes}
+use Rattle.event_iteration.specs.Questions.{InstanceMode, mode_of, modes}
 use Rattle.event_iteration.proofs.Fixing.{fixing_all, fixing_more, fixing_none, fixing_stands, fixing_until}
 use Rattle.event_iteration.proofs.Fmus.{got}
 use Rattle.event_iteration.proofs.OverMachines.{fixes_for_machines}
@@ -17,11 +16,11 @@ use Rattle.event_iteration.proofs.clocks.fix_clocks.Goals as goal
 
 -- an instance that is in Initialization Mode is so by its mode, also later
 all_initializing : (olds mids : List Instance) → modes mids ≡ modes olds → All (λ (x : Instance). IsInitializing x.view) olds →
-    (i : ℕ) (mode : InstanceState) → slice_get (modes mids) i ≡ Some mode → mode ≡ P.Initialization
+    (i : ℕ) (mode : InstanceMode) → slice_get (modes mids) i ≡ Some mode → mode.state ≡ P.Initialization
 all_initializing olds mids same all i mode at =
-    all_at (λ (m : InstanceState). m ≡ P.Initialization) (modes olds) i mode
-    (All-map (λ (m : InstanceState). m ≡ P.Initialization) (λ (x : Instance). x.view.phase.state) olds all)
-    (ap (λ (xs : List InstanceState). slice_get xs i) (sym same) ∙ at)
+    all_at (λ (m : InstanceMode). m.state ≡ P.Initialization) (modes olds) i mode
+    (All-map (λ (m : InstanceMode). m.state ≡ P.Initialization) mode_of olds all)
+    (ap (λ (xs : List InstanceMode). slice_get xs i) (sym same) ∙ at)
 
 pub loop-p-init : goal.loop-p-init
 loop-p-init g c = record {
@@ -41,6 +40,9 @@ fix_clock-requires-clause-initializing g c κs lives =
 
 pub fix_clock-requires-clause-first : goal.fix_clock-requires-clause-first
 fix_clock-requires-clause-first g c κs lives port is = c.loop-p.invariant.fixing.fixed.ahead c.loop-p.p port (omega arith) is
+
+pub fix_clock-requires-clause-start : goal.fix_clock-requires-clause-start
+fix_clock-requires-clause-start g c κs lives = c.loop-p.invariant.fixing.start ∙ c.requires.start
 
 pub returns-in-Err-clause-fixes : goal.returns-in-Err-clause-fixes
 returns-in-Err-clause-fixes g c =
@@ -64,7 +66,7 @@ loop-p-preserved g c =
 pub returns-clause-stands : goal.returns-clause-stands
 returns-clause-stands g c =
     fixing_stands c.args.system.now c.args.per_second c.loop-p.p c.args.schedule.now c.loop-p.schedule (map (λ s. instance_in g.L.Peer.view s) c.args.slots.now) (map (λ s. instance_in g.L.Peer.view s) c.loop-p.slots)
-    c.loop-p.invariant.fixing (omega arith) c.requires.run
+    c.loop-p.invariant.fixing (omega arith) c.requires.first c.requires.run
 
 pub returns-clause-fixes : goal.returns-clause-fixes
 returns-clause-fixes g c =
@@ -74,4 +76,4 @@ returns-clause-fixes g c =
 pub returns-clause-machines : goal.returns-clause-machines
 returns-clause-machines g c =
     let all = fixing_all c.args.system.now c.args.per_second c.loop-p.p c.args.schedule.now c.loop-p.schedule (map (λ s. instance_in g.L.Peer.view s) c.args.slots.now) (map (λ s. instance_in g.L.Peer.view s) c.loop-p.slots) c.loop-p.invariant.fixing (omega arith) in
-    fixes_for_machines (map (λ s. instance_in g.L.Peer.view s) c.args.slots.now) (map (λ s. instance_in g.L.Peer.view s) c.loop-p.slots) all.log all.told c.args.system.now c.requires.sound c.args.per_second (timers_in c.loop-p.schedule) all.says.0 all.says.1
+    fixes_for_machines (map (λ s. instance_in g.L.Peer.view s) c.args.slots.now) (map (λ s. instance_in g.L.Peer.view s) c.loop-p.slots) all.log all.told c.args.system.now c.requires.sound c.args.per_second c.args.schedule.now.start (timers_in c.loop-p.schedule) all.says.0 all.says.1

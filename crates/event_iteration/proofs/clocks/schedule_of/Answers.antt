@@ -1,15 +1,16 @@
-use Rattle.std.proofs.Common.{◌≡◌, ℕ, List, [], ◌∷◌, ◌∙◌, refl, ap, ap₂, map, subst, sym}
+use Rattle.std.proofs.Common.{◌≡◌, ℕ, List, [], ◌∷◌, ◌∙◌, refl, ap, ap₂, length, map, replicate, subst, sym}
 use Rattle.std.specs.Prelude.{All, IfOk, Option, Some, None, IsSomeAnd}
 use Rattle.std.proofs.lemmas.List.Elements.{All-map}
 use Rattle.value_types.specs.Shape.{timing_at}
 use Rattle.value_types.specs.declared.shape.ClockTiming.{ClockTiming}
 use Rattle.value_types.specs.declared.shape.Shape.{Shape}
 use Rattle.value_types.specs.declared.shape.Variable.{Variable}
+use Rattle.system_model.specs.declared.system.Component.{Component}
 use Rattle.system_model.specs.declared.system.Port.{Port}
 use Rattle.system_model.specs.declared.system.Role.{Role}
 use Rattle.system_model.specs.declared.system.Role.TheVariants.{Input, Output, ClockInput, ClockOutput, TimeClock}
 use Rattle.system_model.specs.declared.system.System.{System}
-use Rattle.system_model.specs.declared.system.Timing.TheVariants.{Periodic, Answered, Countdown}
+use Rattle.system_model.specs.declared.system.Timing.TheVariants.{Periodic, Answered, Countdown, Changing}
 use Rattle.system_model.specs.Sound.{IsPeriodic, IsRole, IsSound}
 use Rattle.system_model.proofs.CallerLemmas.{all_by_place, place_of}
 use Rattle.tick_schedule.specs.declared.clock.ClockState.{ClockState}
@@ -21,6 +22,7 @@ place_of_clock : (role : Role) → first_state (first_clock role) ≡ first_plac
 place_of_clock (TimeClock (Periodic interval shift)) = refl
 place_of_clock (TimeClock Answered) = refl
 place_of_clock (TimeClock Countdown) = refl
+place_of_clock (TimeClock Changing) = refl
 place_of_clock (Input feed) = refl
 place_of_clock Output = refl
 place_of_clock (ClockInput feed) = refl
@@ -46,6 +48,10 @@ sound_clocks system sound =
     let placed = place_of system sound p port is in
     sound_by placed.component.shape placed.variable port.role placed.role))
 
+no_events : (components : List Component) → replicate {A = Option ℕ} (length components) None ≡ map (λ (c : Component). None) components
+no_events [] = refl
+no_events (c ∷ components) = ap (λ (es : List (Option ℕ)). None ∷ es) (no_events components)
+
 pub new-requires-clause-clocks : goal.new-requires-clause-clocks
 new-requires-clause-clocks c =
     subst (All IsSoundClock) (sym (c.as_slice-2.ensures.value ∙ c.in_ok-clocks.ensures ∙ ap (map (λ (port : Port). first_clock port.role)) c.as_slice.ensures)) (sound_clocks c.args.system.now c.requires.sound)
@@ -53,4 +59,6 @@ new-requires-clause-clocks c =
 pub returns : goal.returns
 returns c =
     let clocks = c.as_slice-2.ensures.value ∙ c.in_ok-clocks.ensures ∙ ap (map (λ (port : Port). first_clock port.role)) c.as_slice.ensures in
-    subst (λ (cs : List ClockState). IfOk c.new.result (λ (schedule : Timetable). schedule ≡ record { start = c.args.start; stop = c.args.stop; clocks = cs })) (ap (map first_state) clocks ∙ places_of_clocks c.args.system.now.ports) c.new.ensures
+    let events = ap (λ (n : ℕ). replicate {A = Option ℕ} n None) c.len.ensures ∙ no_events c.args.system.now.components in
+    subst (λ (es : List (Option ℕ)). IfOk c.new.result (λ (schedule : Timetable). schedule ≡ record { start = c.args.start; stop = c.args.stop; clocks = map (λ (port : Port). first_place port.role) c.args.system.now.ports; events = es })) events
+    (subst (λ (cs : List ClockState). IfOk c.new.result (λ (schedule : Timetable). schedule ≡ record { start = c.args.start; stop = c.args.stop; clocks = cs; events = replicate {A = Option ℕ} c.len.result None })) (ap (map first_state) clocks ∙ places_of_clocks c.args.system.now.ports) c.new.ensures)

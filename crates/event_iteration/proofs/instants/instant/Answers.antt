@@ -8,7 +8,7 @@ use Rattle.event_iteration.specs.Instants.{BeginsInstant, in_instant}
 use Rattle.event_iteration.specs.Turns.{Begun, Walked}
 use Rattle.event_iteration.proofs.ClockTicks.{are_ticks, due_is, none_below, place_within}
 use Rattle.event_iteration.proofs.FindingInInstant.{solves_in_instant, tells_ticks}
-use Rattle.event_iteration.proofs.InInstant.{about_instant, clocks_placed, fits_now, fits_until, may_turn, port_within, shapes_mid, may_by, takes_by}
+use Rattle.event_iteration.proofs.InInstant.{about_instant, active_at_end, clocks_placed, fits_now, fits_until, may_turn, port_within, shapes_mid, may_by, takes_by}
 use Rattle.event_iteration.proofs.Rounds.{all_instances, components_there, number_at, sources_placed, whole_order}
 use Rattle.event_iteration.proofs.instants.instant.Goals as goal
 use Rattle.event_iteration.proofs.Walking.{split_order, walked_all, walked_more, walked_until}
@@ -115,6 +115,14 @@ returns-clause-ticks g c =
     (map (λ s. instance_in g.L.Peer.view s) c.args.slots.now) (map (λ s. instance_in g.L.Peer.view s) c.loop-k.slots) c.loop-k.invariant.log c.loop-k.invariant.told
     c.loop-k.values (subst (λ taken. Walked system (in_instant (is_due_at c.args.schedule.now c.args.t) c.args.is_first) c.args.values.now taken c.loop-k.values c.loop-k.invariant.log) (whole_order system.instant_order _ c.loop-k.k c.as_slice-order.ensures c.loop-k-test.false) c.loop-k.invariant.walked) in
     tells_ticks system c.requires.sound c.args.t c.args.is_first c.args.schedule.now c.args.values.now c.loop-k.values walks.log walks.says
+
+pub returns-clause-active : goal.returns-clause-active
+returns-clause-active g c =
+    let system = c.args.system.now in
+    active_at_end system c.requires.sound (is_due_at c.args.schedule.now c.args.t) c.args.is_first c.args.values.now c.requires.values c.requires.fitting
+    (map (λ s. instance_in g.L.Peer.view s) c.args.slots.now) (map (λ s. instance_in g.L.Peer.view s) c.loop-k.slots) c.requires.shapes (all_instances (λ s. instance_in g.L.Peer.view s) (λ (x : Instance). BeginsInstant x.view) c.args.slots.now c.requires.begins)
+    (numbers system.instant_order) c.loop-k.values c.loop-k.invariant.log c.loop-k.invariant.told
+    (subst (λ taken. Walked system (in_instant (is_due_at c.args.schedule.now c.args.t) c.args.is_first) c.args.values.now taken c.loop-k.values c.loop-k.invariant.log) (whole_order system.instant_order _ c.loop-k.k c.as_slice-order.ensures c.loop-k-test.false) c.loop-k.invariant.walked) refl
 
 pub returns-clause-due : goal.returns-clause-due
 returns-clause-due g c = are_ticks c.args.system.now c.args.t c.args.is_first c.args.schedule.now c.requires.stands

@@ -1,4 +1,4 @@
-use Rattle.std.proofs.Common.{refl, sym, subst, ap, ◌∙◌, Some, false, arith, length, get_or, map}
+use Rattle.std.proofs.Common.{List, refl, sym, subst, ap, ◌∙◌, Some, false, arith, length, get_or, map}
 use Rattle.fmi_calls.specs.declared.call.Interval.{Interval}
 use Rattle.fmu_peer.specs.CloseAll.{Instance, instance_in}
 use Rattle.system_model.specs.Values.{value}
@@ -7,7 +7,7 @@ use Rattle.tick_schedule.specs.Timetable.{with_clock}
 use Rattle.slot_calls.proofs.CallerLemmas.{shapes_same}
 use Rattle.event_iteration.specs.Clocks.{timer_in, timers_in}
 use Rattle.event_iteration.specs.Instants.{IsRunning}
-use Rattle.event_iteration.specs.Questions.{AreRunning, place_behind}
+use Rattle.event_iteration.specs.Questions.{AreRunning, InstanceMode, IsActive, place_behind}
 use Rattle.event_iteration.proofs.Fmus.{got}
 use Rattle.event_iteration.proofs.Places.{there_now}
 use Rattle.event_iteration.proofs.OverMachines.{rearms_for_machines}
@@ -38,6 +38,11 @@ ask_interval-requires-clause-running g c κs lives =
     let system = c.args.system.now in
     let olds = map (λ s. instance_in g.L.Peer.view s) c.args.slots.now in
     subst (AreRunning system) (sym c.loop-p.invariant.rearming.modes_are) (are_running system olds c.requires.shapes (all_instances (λ s. instance_in g.L.Peer.view s) (λ (x : Instance). IsRunning x.view) c.args.slots.now c.requires.running))
+
+pub ask_interval-requires-clause-active : goal.ask_interval-requires-clause-active
+ask_interval-requires-clause-active g c κs lives =
+    let P : List InstanceMode → Type 0 = IsActive c.args.system.now c.loop-p.p (value c.args.values.now c.loop-p.p) in
+    subst P (sym c.loop-p.invariant.rearming.modes_are) (c.requires.active c.loop-p.p)
 
 pub returns-in-Err-clause-asks : goal.returns-in-Err-clause-asks
 returns-in-Err-clause-asks g c =

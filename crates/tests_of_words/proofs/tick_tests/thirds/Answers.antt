@@ -11,7 +11,7 @@ use Rattle.tests_of_words.proofs.tick_tests.thirds.Goals as goal
 
 -- the one Clock before a tick
 abbrev at : ℕ → Timetable
-at k = record { start = 0; stop = 4611686018427387904; clocks = Periodic 333 0 k ∷ [] }
+at k = record { start = 0; stop = 4611686018427387904; clocks = Periodic 333 0 k ∷ []; events = [] }
 
 goes : (old new : Timetable) (k : ℕ) → old ≡ at k → ((state : ClockState) → slice_get old.clocks 0 ≡ Some state → new ≡ with_clock old 0 (after_tick state)) → new ≡ at (k + 1)
 goes old new k is ticked =
@@ -30,7 +30,7 @@ due-requires-in-loop-k-clause-clock g c =
 
 pub due-requires-in-loop-k-clause-none_below : goal.due-requires-in-loop-k-clause-none_below
 due-requires-in-loop-k-clause-none_below g c =
-    none_below _ 0 4611686018427387904 (333 * c.loop-k.k-counter) (Periodic 333 0 (c.loop-k.k-counter + 1) ∷ []) (goes _ _ c.loop-k.k-counter c.loop-k.invariant c.ticked.ensures) (later c.loop-k.k-counter c.loop-k-test.true)
+    none_below _ 0 4611686018427387904 (333 * c.loop-k.k-counter) (Periodic 333 0 (c.loop-k.k-counter + 1) ∷ []) [] (goes _ _ c.loop-k.k-counter c.loop-k.invariant c.ticked.ensures) (later c.loop-k.k-counter c.loop-k-test.true)
 
 pub loop-k-preserved : goal.loop-k-preserved
 loop-k-preserved g c = goes _ _ c.loop-k.k-counter c.loop-k.invariant c.ticked.ensures

@@ -1,6 +1,6 @@
 use Rattle.std.proofs.Common.{rules}
+use Rattle.system_model.specs.Text.{instant_at}
 use Rattle.trace_check.specs.Instants.{IsInOrder}
-use Rattle.trace_check.specs.Steps.{instant_at}
 use Rattle.trace_check.proofs.InstantLemmas.{no_break, none_without_value, off_tick, other_value, some_without_value}
 use Rattle.trace_check.proofs.instant.first_break.Goals as goal
 

@@ -2,7 +2,7 @@ use Rattle.std.proofs.Common.{◌≡◌, ◌<◌, length, Some, ap, sym, subst, 
 use Rattle.std.specs.List.{slice_get}
 use Rattle.std.proofs.lemmas.Option.{same_Some, slice_get_read}
 use Rattle.tick_schedule.specs.Timetable.{HasNext, Timetable, after_tick, with_clock}
-use Rattle.tick_schedule.proofs.ScheduleLemmas.{goes_on, next_within}
+use Rattle.tick_schedule.proofs.ScheduleLemmas.{goes_on_clock, next_within}
 use Rattle.tick_schedule.proofs.schedule.Schedule.ticked.Goals as goal
 
 pub index-requires : goal.index-requires
@@ -19,7 +19,7 @@ after_tick-state-requires g c =
     let clock = c.args.clock in
     let inside = c.self.inside in
     let Next : Timetable → Type 0 = λ table. HasNext table clock in
-    (goes_on inside.start inside.stop inside.clocks.items inside.points clock c.index.result.now c.self.invariant c.index.ensures
+    (goes_on_clock inside.start inside.stop inside.clocks.items inside.events.items inside.points clock c.index.result.now c.self.invariant c.index.ensures
     (subst Next (sym c.self.view_is) c.requires)).count
 
 pub set-requires-clause-clock : goal.set-requires-clause-clock
@@ -30,7 +30,7 @@ set-requires-clause-sound g c =
     let clock = c.args.clock in
     let inside = c.self.inside in
     let Next : Timetable → Type 0 = λ table. HasNext table clock in
-    (goes_on inside.start inside.stop inside.clocks.items inside.points clock c.index.result.now c.self.invariant c.index.ensures
+    (goes_on_clock inside.start inside.stop inside.clocks.items inside.events.items inside.points clock c.index.result.now c.self.invariant c.index.ensures
     (subst Next (sym c.self.view_is) c.requires)).sound c.after_tick-state.result c.after_tick-state.ensures
 
 pub set-requires-clause-near : goal.set-requires-clause-near
@@ -38,7 +38,7 @@ set-requires-clause-near g c =
     let clock = c.args.clock in
     let inside = c.self.inside in
     let Next : Timetable → Type 0 = λ table. HasNext table clock in
-    (goes_on inside.start inside.stop inside.clocks.items inside.points clock c.index.result.now c.self.invariant c.index.ensures
+    (goes_on_clock inside.start inside.stop inside.clocks.items inside.events.items inside.points clock c.index.result.now c.self.invariant c.index.ensures
     (subst Next (sym c.self.view_is) c.requires)).near c.after_tick-state.result c.after_tick-state.ensures
 
 pub returns-clause-ticked : goal.returns-clause-ticked
