@@ -1,26 +1,29 @@
 -- Lists of lists, and where numbers stand in lists.
-use Rattle.std.proofs.Common.{◌≡◌, ◌⊎◌, ℕ, zero, suc, ◌+◌, ◌<◌, ◌≤◌, List, [], ◌∷◌, ◌++◌, length, get_or, set, map, sym, ap, ◌∙◌, subst, inl, inr, arith}
+use Rattle.std.proofs.Common.{◌≡◌, ◌⊎◌, ℕ, zero, suc, ◌+◌, ◌<◌, ◌≤◌, List, [], ◌∷◌, ◌++◌, length, get_or, set, sym, ap, ◌∙◌, subst, inl, inr, arith}
 use Rattle.std.specs.List.{Contains, All}
 use Rattle.std.specs.declared.alloc.Global.{Global}
 use Rattle.std.specs.declared.vec.Vec.{Vec}
 use Rattle.std.proofs.lemmas.List.{get_or_past, map-set, get_or-map, get_or-set_same, get_or-set_other, length-map}
 use Rattle.std.proofs.lemmas.List.Elements.{Contains-append_left, Contains-push_cases, Contains-get_or, All-contains, All-from_get_or}
 use Rattle.std.proofs.lemmas.Bool.{cases_eq, cases_lt}
-use Rattle.dependency_order.specs.Graph.{AreBelow, Needs, items_of}
+use Rattle.dependency_order.specs.Graph.{AreBelow, Needs, lists_of}
+
+abbrev items : Vec ℕ Global → List ℕ
+items row = row.items
 
 -- the list of lists, where one has more behind it
-pub with_row : (rows : List (Vec ℕ Global)) (lists : List (List ℕ)) (at : ℕ) (old new : Vec ℕ Global) (more : List ℕ) → map items_of rows ≡ lists → at < length lists → old ≡ get_or rows at old → new.items ≡ old.items ++ more
-    → map items_of (set rows at new) ≡ set lists at (get_or lists at [] ++ more)
+pub with_row : (rows : List (Vec ℕ Global)) (lists : List (List ℕ)) (at : ℕ) (old new : Vec ℕ Global) (more : List ℕ) → lists_of rows ≡ lists → at < length lists → old ≡ get_or rows at old → new.items ≡ old.items ++ more
+    → lists_of (set rows at new) ≡ set lists at (get_or lists at [] ++ more)
 with_row rows lists at old new more view inside is has =
-    let n = length-map rows items_of in
+    let n = length-map rows items in
     let m = ap length view in
     let within : at < length rows = omega (arith, n, m) in
-    let same : get_or (map items_of rows) at [] ≡ old.items = get_or-map items_of rows at old [] within ∙ ap items_of (sym is) in
-    subst (λ z. map items_of (set rows at new) ≡ set z at (get_or z at [] ++ more)) view
-    (map-set items_of rows at new ∙ ap (λ z. set (map items_of rows) at z) (has ∙ ap (λ z. z ++ more) (sym same)))
+    let same : get_or (lists_of rows) at [] ≡ old.items = get_or-map items rows at old [] within ∙ ap items (sym is) in
+    subst (λ z. lists_of (set rows at new) ≡ set z at (get_or z at [] ++ more)) view
+    (map-set items rows at new ∙ ap (λ z. set (lists_of rows) at z) (has ∙ ap (λ z. z ++ more) (sym same)))
 
-pub without_row : (rows : List (Vec ℕ Global)) (lists : List (List ℕ)) (at : ℕ) (new : Vec ℕ Global) → map items_of rows ≡ lists → new.items ≡ [] → map items_of (set rows at new) ≡ set lists at []
-without_row rows lists at new view has = map-set items_of rows at new ∙ ap (λ z. set (map items_of rows) at z) has ∙ ap (λ z. set z at []) view
+pub without_row : (rows : List (Vec ℕ Global)) (lists : List (List ℕ)) (at : ℕ) (new : Vec ℕ Global) → lists_of rows ≡ lists → new.items ≡ [] → lists_of (set rows at new) ≡ set lists at []
+without_row rows lists at new view has = map-set items rows at new ∙ ap (λ z. set (lists_of rows) at z) has ∙ ap (λ z. set z at []) view
 
 -- what a list at a place contains after a change of one list
 pub in_other : (rows : List (List ℕ)) (at k : ℕ) (new : List ℕ) (x : ℕ) → (k ≡ at → ⊥) → Contains (get_or rows k []) x → Contains (get_or (set rows at new) k []) x

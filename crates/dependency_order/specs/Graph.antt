@@ -1,10 +1,11 @@
 -- Who needs whom, and what an order and a loop are.
-use Rattle.std.specs.Prelude.{◌≡◌, ℕ, ◌<◌, ◌≤◌, List, [], ◌∷◌, ◌++◌, length, take, drop, slice_index_or, Contains, All}
+use Rattle.std.specs.Prelude.{◌≡◌, ℕ, ◌<◌, ◌≤◌, List, [], ◌∷◌, ◌++◌, length, take, drop, slice_index_or, map, Contains, All}
 use Rattle.std.specs.declared.vec.Vec.{Vec}
 use Rattle.std.specs.declared.alloc.Global.{Global}
 
-abbrev pub items_of : Vec ℕ Global → List ℕ
-items_of v = v.items
+-- the lists that a table's rows hold
+abbrev pub lists_of : List (Vec ℕ Global) → List (List ℕ)
+lists_of rows = map (λ (row : Vec ℕ Global). row.items) rows
 
 -- ---- needs
 

@@ -1,6 +1,6 @@
 //! A list of lists of numbers.
-ghost use Rattle.std.specs.Prelude.{◌≡◌, ◌↔◌, ◌<◌, All, IsTrue, ◌++◌, ◌∷◌, [], IfOk, OnOk, length, replicate, slice_index_or, slice_set, map};
-ghost use Rattle.dependency_order.specs.Graph.{AreBelow, IsClosed, items_of};
+ghost use Rattle.std.specs.Prelude.{◌≡◌, ◌↔◌, ◌<◌, All, IsTrue, ◌++◌, ◌∷◌, [], IfOk, OnOk, length, replicate, slice_index_or, slice_set};
+ghost use Rattle.dependency_order.specs.Graph.{AreBelow, IsClosed, lists_of};
 
 use std::alloc::{AllocError, Global};
 use std::marker::Model;
@@ -13,12 +13,12 @@ pub struct Lists {
 }
 
 impl Model for Lists {
-    ghost use Rattle.std.specs.Prelude.{List, ℕ, map};
-    ghost use Rattle.dependency_order.specs.Graph.{items_of};
+    ghost use Rattle.std.specs.Prelude.{List, ℕ};
+    ghost use Rattle.dependency_order.specs.Graph.{lists_of};
 
     ghost Value = { List (List ℕ) };
 
-    ghost view = { λ a. map items_of a.rows.items };
+    ghost view = { λ a. lists_of a.rows.items };
 }
 
 impl Lists {

@@ -10,10 +10,11 @@ use Rattle.doc_tree.specs.declared.rule.FlatteningRule.{FlatteningRule}
 use Rattle.doc_tree.specs.declared.rule.FlatteningRule.TheVariants.{NoSuchVariable, OtherCausality, OtherClass, EndTwice, TooWide, FedClock}
 use Rattle.doc_tree.specs.Rules.{number}
 use Rattle.ssd_tree.specs.declared.tree.SystemTree.{SystemTree}
+use Rattle.doc_tables.specs.Violations.{FindsLeast, earlier_violation}
 use Rattle.flatten.specs.declared.rules.TheConstants.{ELEMENT_RULES}
 use Rattle.flatten.specs.Points.{variable_of}
-use Rattle.flatten.specs.Rules.{Breaks, FindsLeast, HasOtherCausality, HasOtherType, IsFirstFlatteningViolation, IsFitting, ViolatesFlattening, earlier}
-use Rattle.flatten.specs.Broken.{IsBrokenConnection, IsBrokenConnector, earlier_violation}
+use Rattle.flatten.specs.Rules.{Breaks, HasOtherCausality, HasOtherType, IsFirstFlatteningViolation, IsFitting, ViolatesFlattening, earlier}
+use Rattle.flatten.specs.Broken.{IsBrokenConnection, IsBrokenConnector}
 use Rattle.flatten.proofs.RuleLemmas.{some_and}
 
 -- ---- the lesser of two elements

@@ -3,7 +3,8 @@ use Rattle.std.proofs.Common.{◌≡◌, ◌⊎◌, ℕ, ◌+◌, ◌<◌, ◌�
 use Rattle.std.specs.List.{slice_get}
 use Rattle.std.proofs.lemmas.Bool.{cases_lt}
 use Rattle.std.proofs.lemmas.Option.{slice_get_within, slice_get-get_or, slice_get_read, same_Some}
-use Rattle.flatten.specs.Rules.{FindsLeast, earlier}
+use Rattle.doc_tables.specs.Violations.{FindsLeast}
+use Rattle.flatten.specs.Rules.{earlier}
 
 module _ (Has : ℕ → ℕ → Type 0) where
   -- one of the first places has the element

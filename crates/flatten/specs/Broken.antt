@@ -1,5 +1,5 @@
 -- The rules of connectors and of paths, connector by connector and connection by connection.
-use Rattle.std.specs.Prelude.{◌≡◌, ◌≢◌, ℕ, ◌+◌, false, List, Option, Some, None, IsSomeAnd, option_and_then, nat_lt, if◌then◌else◌}
+use Rattle.std.specs.Prelude.{◌≡◌, ◌≢◌, ℕ, ◌+◌, false, List, Option, Some, None, IsSomeAnd, option_and_then, if◌then◌else◌}
 use Rattle.value_types.specs.declared.shape.Causality.TheVariants.{Output}
 use Rattle.value_types.specs.Shape.{is_input}
 use Rattle.value_types.specs.declared.shape.Variable.{Variable}
@@ -11,7 +11,6 @@ use Rattle.value_types.specs.Joint as types
 use Rattle.dependency_order.specs.Paths.{IsMarked}
 use Rattle.flatten.specs.declared.marks.ClassMarks.{ClassMarks}
 use Rattle.flatten.specs.declared.marks.TypeMarks.{TypeMarks}
-use Rattle.doc_tree.specs.declared.rule.Rule.{Rule}
 use Rattle.doc_tree.specs.declared.rule.FlatteningRule.{FlatteningRule}
 use Rattle.doc_tree.specs.declared.rule.FlatteningRule.TheVariants.{NoSuchVariable, OtherCausality, OtherClass, EndTwice, TooWide, FedClock}
 use Rattle.connection_paths.specs.declared.point.Point as paths
@@ -92,15 +91,6 @@ abbrev pub TellsTooWide : ℕ → Option PortType → TypeMarks → Type 0
 TellsTooWide c to marks =
     IsMarked marks.reached.items c ×
     IsSomeAnd to (λ (wanted : PortType). types.Joins marks.kind wanted WrongRange)
-
--- ---- violations
-
--- the one at the lesser element; at one element the first, whose rule has the lesser number
-abbrev pub earlier_violation : Option (ℕ × Rule) → Option ℕ → Rule → Option (ℕ × Rule)
-earlier_violation one None rule = one
-earlier_violation None (Some node) rule = Some (node, rule)
-earlier_violation (Some one) (Some node) rule =
-    if nat_lt node one.0 then Some (node, rule) else Some one
 
 -- ---- ends
 

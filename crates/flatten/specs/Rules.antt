@@ -198,11 +198,6 @@ IsFirstFlatteningViolation t shapes node rule = all.IsFirstViolation number (Vio
 abbrev pub IsFitting : SystemTree → List Shape → Type 0
 IsFitting t shapes = all.HasNoViolation (ViolatesFlattening t shapes)
 
--- the first element of these, where there is one
-abbrev pub FindsLeast : (ℕ → Type 0) → Option ℕ → Type 0
-FindsLeast IsBroken None = (node : ℕ) → IsBroken node → ⊥
-FindsLeast IsBroken (Some first) = IsBroken first × ((node : ℕ) → node < first → IsBroken node → ⊥)
-
 -- the lesser of two elements, where there are both
 abbrev pub earlier : Option ℕ → Option ℕ → Option ℕ
 earlier None other = other

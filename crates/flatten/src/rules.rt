@@ -10,11 +10,12 @@ ghost use Rattle.value_types.specs.declared.shape.IntervalVariability.TheVariant
 ghost use Rattle.value_types.specs.declared.shape.Shape.{Shape};
 ghost use Rattle.value_types.specs.declared.values.PortType.{PortType};
 ghost use Rattle.system_model.specs.EarlyReturn.{early_count};
-ghost use Rattle.flatten.specs.Broken.{ConnectorBreaks, IsBrokenConnection, IsBrokenConnector, IsReachedAt, IsReachedBy, TellsOther, TellsTooWide, earlier_violation, input_of, number_of, path_fault};
+ghost use Rattle.doc_tables.specs.Violations.{FindsLeast, earlier_violation};
+ghost use Rattle.flatten.specs.Broken.{ConnectorBreaks, IsBrokenConnection, IsBrokenConnector, IsReachedAt, IsReachedBy, TellsOther, TellsTooWide, input_of, number_of, path_fault};
 ghost use Rattle.flatten.specs.Indexed.{IsIndexed, ends_of};
 ghost use Rattle.flatten.specs.Marks.{HasMarks};
 ghost use Rattle.flatten.specs.Points.{variable_of};
-ghost use Rattle.flatten.specs.Rules.{Breaks, earlier, FindsLeast, GivesOther, HasNoSavedState, HasOtherCausality, HasOtherType, HasTooManyPorts, IsFirstFlatteningViolation, IsFitting, IsForOther, IsLastOf, IsOtherClass, IsTimeBased, IsTooWide, IsUnsaved, RepeatsEnd, ViolatesFlattening, ports_in};
+ghost use Rattle.flatten.specs.Rules.{Breaks, earlier, GivesOther, HasNoSavedState, HasOtherCausality, HasOtherType, HasTooManyPorts, IsFirstFlatteningViolation, IsFitting, IsForOther, IsLastOf, IsOtherClass, IsTimeBased, IsTooWide, IsUnsaved, RepeatsEnd, ViolatesFlattening, ports_in};
 
 use crate::connectors::FlatTree;
 use crate::marks::{ClassMarks, Marks, TypeMarks, child_class, class_at};

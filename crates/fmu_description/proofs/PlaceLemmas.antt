@@ -4,17 +4,14 @@ use Rattle.std.specs.List.{slice_get, position_or_len, AllWithin}
 use Rattle.std.specs.List.Sorted.{IsSorted, IsPermutation}
 use Rattle.std.specs.Option.{option_map}
 use Rattle.std.specs.Ordering.{is_lt}
-use Rattle.std.specs.Cmp.{IsTotalOrder}
-use Rattle.std.proofs.lemmas.Cmp.{nat_cmp_total, on_total, then_total}
 use Rattle.std.proofs.lemmas.Bool.{cases_lt}
 use Rattle.std.proofs.lemmas.Bool.Decides.{nat_tests}
 use Rattle.std.proofs.lemmas.List.Folds.{find_at}
 use Rattle.std.proofs.lemmas.List.Sums.{position_or_len_is, fails_before_first, passes_at_first}
-use Rattle.std.proofs.lemmas.List.Sorted.{sorted_far, ranks_by, All-permutation, Contains-permutation}
+use Rattle.std.proofs.lemmas.List.Sorted.{All-permutation, Contains-permutation}
 use Rattle.std.proofs.lemmas.Option.{slice_get_within, slice_get-get_or, slice_get_past, get_or_from_slice_get}
-use Rattle.std.proofs.lemmas.Grind.{common_steps}
-use Rattle.value_types.specs.Index.{entry_cmp}
-use Rattle.value_types.proofs.CallerLemmas.{rising}
+use Rattle.value_types.specs.Index.{pair_cmp}
+use Rattle.value_types.proofs.CallerLemmas.{lower_second, not_before, rising}
 use Rattle.doc_tables.specs.Tables.{Finds, IsTable}
 use Rattle.doc_tables.proofs.CallerLemmas.{IsWithin}
 use Rattle.fmu_description.specs.Places.{AreListed, AreListedBelow, found}
@@ -25,17 +22,6 @@ pub all_listed : (key : ℕ → Option ℕ) (n : ℕ) (entries : List (ℕ × �
 all_listed key n entries within below = record { told = below.told; whole = λ k r some. below.whole k r (within k r some) some }
 
 -- ---- the order
-
-entry_total : IsTotalOrder entry_cmp
-entry_total = then_total (on_total (λ (e : ℕ × ℕ). e.0) nat_cmp_total) (on_total (λ (e : ℕ × ℕ). e.1) nat_cmp_total)
-
-not_before : (entries : List (ℕ × ℕ)) (i j : ℕ) (e f : ℕ × ℕ) → IsSorted entry_cmp entries → slice_get entries i ≡ Some e → slice_get entries j ≡ Some f → i ≤ j → is_lt (entry_cmp f e) ≡ false
-not_before entries i j e f sorted at_i at_j le =
-    rw (← get_or_from_slice_get entries i e e at_i, ← get_or_from_slice_get entries j f e at_j)
-    (sorted_far _ (ranks_by entry_total (λ (x : ℕ × ℕ). x)) entries sorted i j e le (slice_get_within entries j f at_j))
-
-lower_element : (r p q : ℕ) → p < q → is_lt (entry_cmp (r, p) (r, q)) ≡ true
-lower_element r p q less = grind (arith, nat_tests, common_steps)
 
 has_reference : (r x : ℕ) → (x == r) ≡ true → x ≡ r
 has_reference r x is = grind (arith, nat_tests)
@@ -56,7 +42,7 @@ module _ (entries : List (ℕ × ℕ)) (r : ℕ) where
   unfolding found
   found_at = ap (option_map (λ (e : ℕ × ℕ). e.1)) (find_at has entries)
 
-  module _ (key : ℕ → Option ℕ) (are : AreListed key entries) (sorted : IsSorted entry_cmp entries) where
+  module _ (key : ℕ → Option ℕ) (are : AreListed key entries) (sorted : IsSorted pair_cmp entries) where
     first : (o : Option (ℕ × ℕ)) → slice_get entries (position_or_len has entries) ≡ o → Finds key r (option_map (λ (e : ℕ × ℕ). e.1) o)
     first None past = λ held.
         let listed = are.whole held.0 r held.1 in
@@ -94,8 +80,8 @@ module _ (entries : List (ℕ × ℕ)) (r : ℕ) where
                   let passes : has (get_or entries listed.0 (r, j)) ≡ true = ap has listed.2 ∙ same_test r in
                   cc
               | inr behind ↦
-                  let high : is_lt (entry_cmp (r, j) e) ≡ false = not_before entries (position_or_len has entries) listed.0 e (r, j) sorted at at_j behind in
-                  let low : is_lt (entry_cmp (r, j) e) ≡ true = subst (λ z. is_lt (entry_cmp (r, j) (z, e.1)) ≡ true) (sym is) (lower_element r j e.1 less) in
+                  let high : is_lt (pair_cmp (r, j) e) ≡ false = not_before entries (position_or_len has entries) listed.0 e (r, j) sorted at at_j behind in
+                  let low : is_lt (pair_cmp (r, j) e) ≡ true = subst (λ z. is_lt (pair_cmp (r, j) (z, e.1)) ≡ true) (sym is) (lower_second r j e.1 less) in
                   cc
             ]
 
@@ -103,7 +89,7 @@ module _ (entries : List (ℕ × ℕ)) (r : ℕ) where
     finds = subst (Finds key r) (sym found_at) (first (slice_get entries (position_or_len has entries)) refl)
 
   -- the place where the entries of the reference begin, or would
-  module _ (sorted : IsSorted entry_cmp entries) (at : ℕ) (below : AllWithin (λ (e : ℕ × ℕ). nat_lt e.0 r ≡ true) entries 0 at) (above : AllWithin (λ (e : ℕ × ℕ). nat_lt e.0 r ≡ false) entries at (length entries)) where
+  module _ (sorted : IsSorted pair_cmp entries) (at : ℕ) (below : AllWithin (λ (e : ℕ × ℕ). nat_lt e.0 r ≡ true) entries 0 at) (above : AllWithin (λ (e : ℕ × ℕ). nat_lt e.0 r ≡ false) entries at (length entries)) where
     other_below : (k : ℕ) (d : ℕ × ℕ) → k < at → has (get_or entries k d) ≡ false
     other_below k d less = has_other r (get_or entries k d).0 (λ same. let low : nat_lt (get_or entries k d).0 r ≡ true = below k d (omega arith) less in grind (arith, nat_tests))
 
@@ -136,7 +122,7 @@ module _ (entries : List (ℕ × ℕ)) (r : ℕ) where
     ])
 
 -- the elements that are listed are found once they are in order
-pub finds_sorted : (key : ℕ → Option ℕ) (entries ordered : List (ℕ × ℕ)) → AreListed key entries → IsPermutation entries ordered → IsSorted entry_cmp ordered → IsTable key (found ordered)
+pub finds_sorted : (key : ℕ → Option ℕ) (entries ordered : List (ℕ × ℕ)) → AreListed key entries → IsPermutation entries ordered → IsSorted pair_cmp ordered → IsTable key (found ordered)
 finds_sorted key entries ordered are moved sorted = λ r. finds ordered r key (record {
   told = All-permutation (λ (e : ℕ × ℕ). key e.1 ≡ Some e.0) entries ordered moved are.told;
   whole = λ k reference some. Contains-permutation entries ordered (reference, k) moved (are.whole k reference some);

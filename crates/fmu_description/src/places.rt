@@ -1,7 +1,7 @@
 //! Where the elements with keys stand.
 ghost use Rattle.std.specs.Prelude.{◌≡◌, ◌↔◌, ℕ, ◌+◌, Option, IfOk, IsTrue, OnOk, false, nat_lt, slice_get, true};
 ghost use Rattle.std.specs.List.Sorted.{IsPartitionPoint, IsSorted};
-ghost use Rattle.value_types.specs.Index.{entry_cmp};
+ghost use Rattle.value_types.specs.Index.{pair_cmp};
 ghost use Rattle.doc_tables.specs.Tables.{IsRepeated, IsTable};
 ghost use Rattle.fmu_description.specs.Elements.{clock_key, initial_key, output_key, variable_key};
 ghost use Rattle.fmu_description.specs.Places.{AreListed, AreListedBelow, FindsCoSimulation, found};
@@ -21,13 +21,13 @@ pub(crate) struct Places {
 impl Model for Places {
     ghost use Rattle.std.specs.Prelude.{List, ℕ};
     ghost use Rattle.std.specs.List.Sorted.{IsSorted};
-    ghost use Rattle.value_types.specs.Index.{entry_cmp};
+    ghost use Rattle.value_types.specs.Index.{pair_cmp};
 
     ghost Value = { List (ℕ × ℕ) };
 
     ghost view = { λ p. p.entries.items };
 
-    ghost invariant = { λ p. IsSorted entry_cmp p.entries.items };
+    ghost invariant = { λ p. IsSorted pair_cmp p.entries.items };
 }
 
 // Adds the next element, where it has a reference.
@@ -48,7 +48,7 @@ fn add(
 
 // Where the entries of a reference begin, or would.
 fn first_entry(entries: &[(u32, usize)], reference: u32) -> usize
-    ensures { IsSorted entry_cmp entries.now → IsPartitionPoint
+    ensures { IsSorted pair_cmp entries.now → IsPartitionPoint
         (λ e. nat_lt e.0 reference ≡ true) (λ e. nat_lt e.0 reference ≡ false) entries.now result }
 {
     entries.partition_point(|entry| entry.0 < reference)
@@ -62,7 +62,7 @@ fn entry_at(entries: &[(u32, usize)], at: usize) -> Option<(u32, usize)>
 
 // The first element of a reference.
 fn node_in(entries: &[(u32, usize)], reference: u32) -> Option<usize>
-    ensures { IsSorted entry_cmp entries.now → result ≡ found entries.now reference }
+    ensures { IsSorted pair_cmp entries.now → result ≡ found entries.now reference }
 {
     match entry_at(entries, first_entry(entries, reference)) {
         Some((other, node)) => if other == reference { Some(node) } else { None },

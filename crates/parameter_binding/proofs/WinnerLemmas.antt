@@ -3,14 +3,13 @@ use Rattle.std.proofs.Common.{◌≡◌, ◌⊎◌, ◌<◌, ◌≤◌, ◌+◌,
 use Rattle.std.specs.List.{Contains}
 use Rattle.std.specs.BTreeMap.{UpdatesBy}
 use Rattle.std.specs.Ordering.{nat_cmp}
-use Rattle.std.specs.Cmp.{IsTotalOrder}
 use Rattle.std.proofs.lemmas.Bool.{cases_eq, cases_lt}
-use Rattle.std.proofs.lemmas.Cmp.{nat_cmp_total, on_total, then_total}
 use Rattle.std.proofs.lemmas.List.{take_more, take_all}
 use Rattle.std.proofs.lemmas.List.Elements.{Contains-append_left, Contains-push, Contains-push_cases}
 use Rattle.std.proofs.lemmas.Map.Lookups.{exact_pairs, exact_unsigned}
 use Rattle.std.proofs.lemmas.Option.{same_Some}
-use Rattle.value_types.specs.Index.{entry_cmp}
+use Rattle.value_types.specs.Index.{pair_cmp}
+use Rattle.value_types.proofs.CallerLemmas.{pair_total}
 use Rattle.value_types.specs.declared.shape.Shape.{Shape}
 use Rattle.value_types.specs.declared.shape.Variable.{Variable}
 use Rattle.parameter_values.specs.declared.change.Change.{Change}
@@ -35,9 +34,6 @@ use Rattle.parameter_binding.proofs.VisitLemmas.{in_list, nothing, reaches_own}
 
 -- ---- the table
 
-pub target_total : IsTotalOrder entry_cmp
-target_total = then_total (on_total (λ (x : ℕ × ℕ). x.0) nat_cmp_total) (on_total (λ (x : ℕ × ℕ). x.1) nat_cmp_total)
-
 abbrev key_of : Target → ℕ × ℕ
 key_of target = (target.component, target.variable)
 
@@ -50,16 +46,16 @@ same_target a b e =
     target_at : ℕ → ℕ → Target
     target_at i v = record { component = i; variable = v }
 
-pub put_each : (target : Target) (old new : Winners) (w : Option Best) → UpdatesBy entry_cmp (entry_cmp (target.component, target.variable)) old.best new.best w
+pub put_each : (target : Target) (old new : Winners) (w : Option Best) → UpdatesBy pair_cmp (pair_cmp (target.component, target.variable)) old.best new.best w
     → (q : Target) → ((q ≡ target) × (best_of new q ≡ w)) ⊎ ((q ≡ target → ⊥) × (best_of new q ≡ best_of old q))
-put_each target old new w u q = by (updated_each entry_cmp target_total (exact_pairs nat_cmp nat_cmp exact_unsigned exact_unsigned) old.best new.best (target.component, target.variable) w u (q.component, q.variable))
+put_each target old new w u q = by (updated_each pair_cmp pair_total (exact_pairs nat_cmp nat_cmp exact_unsigned exact_unsigned) old.best new.best (target.component, target.variable) w u (q.component, q.variable))
   where
     by : ((key_of q ≡ key_of target) × (best_of new q ≡ w)) ⊎ ((key_of q ≡ key_of target → ⊥) × (best_of new q ≡ best_of old q))
         → ((q ≡ target) × (best_of new q ≡ w)) ⊎ ((q ≡ target → ⊥) × (best_of new q ≡ best_of old q))
     by (inl h) = inl (same_target q target h.0, h.1)
     by (inr h) = inr (λ e. h.0 (ap key_of e), h.1)
 
-pub put_best : (target : Target) (next : Best) (old new : Winners) → UpdatesBy entry_cmp (entry_cmp (target.component, target.variable)) old.best new.best (Some next) → IsPut (best_of old target) next (Some next) → PutsBest target next old new
+pub put_best : (target : Target) (next : Best) (old new : Winners) → UpdatesBy pair_cmp (pair_cmp (target.component, target.variable)) old.best new.best (Some next) → IsPut (best_of old target) next (Some next) → PutsBest target next old new
 put_best target next old new u put = record { at = at (put_each target old new (Some next) u target); others = λ q apart. others q apart (put_each target old new (Some next) u q) }
   where
     at : ((target ≡ target) × (best_of new target ≡ Some next)) ⊎ ((target ≡ target → ⊥) × (best_of new target ≡ best_of old target)) → IsPut (best_of old target) next (best_of new target)

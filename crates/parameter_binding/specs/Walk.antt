@@ -2,7 +2,7 @@
 use Rattle.std.specs.Prelude.{◌≡◌, ◌≢◌, ◌⊎◌, ◌↔◌, ◌<◌, ◌≤◌, ◌+◌, ℕ, Bool, true, false, List, [], ◌++◌, length, map, Option, Some, None, IsSome, slice_get, Contains}
 use Rattle.std.specs.List.{AllZip}
 use Rattle.std.specs.BTreeMap.{get}
-use Rattle.value_types.specs.Index.{entry_cmp}
+use Rattle.value_types.specs.Index.{pair_cmp}
 use Rattle.value_types.specs.declared.shape.Shape.{Shape}
 use Rattle.value_types.specs.declared.shape.Variable.{Variable}
 use Rattle.doc_tree.specs.declared.refusal.Refusal.{Refusal}
@@ -83,7 +83,7 @@ FindsFault t shapes sets Done (Some f) = IsFirstFault t shapes sets Done f
 
 -- the table is in the order of the components, and of their variables
 abbrev pub best_of : Winners → Target → Option Best
-best_of winners target = get entry_cmp winners.best (target.component, target.variable)
+best_of winners target = get pair_cmp winners.best (target.component, target.variable)
 
 -- of these triples it is the one that wins, with its level and the value that the target takes
 pub record IsBest (t : SystemTree) (shapes : List Shape) (sets : List BindingSets)

@@ -4,9 +4,9 @@ use Rattle.std.proofs.lemmas.Bool.{cases_lt, cases_order, ltb-false, ltb-true}
 use Rattle.doc_tree.specs.declared.rule.ParameterRule.{ParameterRule}
 use Rattle.doc_tree.specs.declared.rule.ParameterRule.TheVariants as r
 use Rattle.doc_tree.specs.Rules.{parameter_number}
-use Rattle.doc_tables.specs.Violations.{IsFirstViolation, HasNoViolation}
+use Rattle.doc_tables.specs.Violations.{FindsLeast, IsFirstViolation, HasNoViolation, earlier_violation}
 use Rattle.doc_tables.proofs.CallerLemmas.{AreApart}
-use Rattle.parameter_sets.specs.Least.{Breach, FindsLeast, earlier}
+use Rattle.parameter_sets.specs.Least.{Breach}
 
 -- ---- numbers
 
@@ -103,7 +103,7 @@ module _ (V : ParameterRule → ℕ → Type 0) where
       at j other lower broken (inl low) = before j other (omega (arith, lower)) low broken
       at j other lower broken (inr e) = none j lower (subst (λ (z : ParameterRule). V z j) e broken)
 
-  pub step : (rule : ParameterRule) (o : Option Breach) (x : Option ℕ) (made : Option Breach) → FindsFirst (parameter_number rule) o → FindsLeast (V rule) x → made ≡ earlier o x rule → FindsFirst (parameter_number rule + 1) made
+  pub step : (rule : ParameterRule) (o : Option Breach) (x : Option ℕ) (made : Option Breach) → FindsFirst (parameter_number rule) o → FindsLeast (V rule) x → made ≡ earlier_violation o x rule → FindsFirst (parameter_number rule + 1) made
   step rule o x made h least is = subst (FindsFirst (parameter_number rule + 1)) (sym is) (by o x h least)
     where
       choice : (first : Breach) (node : ℕ) (b : Bool) → nat_lt node first.0 ≡ b → FindsFirst (parameter_number rule) (Some first) → FindsLeast (V rule) (Some node)
@@ -115,7 +115,7 @@ module _ (V : ParameterRule → ℕ → Type 0) where
           let high : first.0 ≤ node = ltb-false node first.0 e in
           keeps rule first h (λ k lower broken. least.1 k (omega (arith, lower, high)) broken)
 
-      by : (o : Option Breach) (x : Option ℕ) → FindsFirst (parameter_number rule) o → FindsLeast (V rule) x → FindsFirst (parameter_number rule + 1) (earlier o x rule)
+      by : (o : Option Breach) (x : Option ℕ) → FindsFirst (parameter_number rule) o → FindsLeast (V rule) x → FindsFirst (parameter_number rule + 1) (earlier_violation o x rule)
       by None None h least = λ other k low broken. at other k broken (below_or rule other low)
         where
           at : (other : ParameterRule) (k : ℕ) → V other k → (parameter_number other < parameter_number rule) ⊎ (other ≡ rule) → ⊥

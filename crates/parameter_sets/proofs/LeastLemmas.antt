@@ -4,7 +4,8 @@ use Rattle.std.specs.List.{Contains}
 use Rattle.std.proofs.lemmas.Bool.{both_ways, cases_order}
 use Rattle.std.proofs.lemmas.List.{take_more}
 use Rattle.std.proofs.lemmas.List.Elements.{Contains-append_left, Contains-push, Contains-push_cases}
-use Rattle.parameter_sets.specs.Least.{FindsLeast, least_with, lesser}
+use Rattle.doc_tables.specs.Violations.{FindsLeast}
+use Rattle.parameter_sets.specs.Least.{least_with, lesser}
 
 -- it is on the list, and the rule is broken there
 abbrev Among : (ℕ → Type 0) → List ℕ → ℕ → Type 0

@@ -4,7 +4,8 @@ use Rattle.doc_grammar.specs.Nodes.{Node}
 use Rattle.doc_tree.specs.declared.rule.ParameterRule.{ParameterRule}
 use Rattle.doc_tree.specs.declared.rule.ParameterRule.TheVariants as r
 use Rattle.doc_tree.specs.Rules.{parameter_number}
-use Rattle.parameter_sets.specs.Least.{Breach, FindsLeast, earlier}
+use Rattle.doc_tables.specs.Violations.{FindsLeast, earlier_violation}
+use Rattle.parameter_sets.specs.Least.{Breach}
 use Rattle.parameter_sets.specs.Rules.{IsFirstInMapping, IsFirstInSet, IsSoundMapping, IsSoundSet, MappingViolates, SetViolates}
 use Rattle.parameter_sets.proofs.FirstLemmas.{none_yet, skip, step, whole}
 
@@ -37,13 +38,13 @@ mapping_rest t at r.NoMapEntry k low high broken = broken
 mapping_rest t at r.NamesTwo k low high broken = broken
 
 pub first_in_set : (t : List Node) (at : Option ℕ) (x y : Option ℕ) (first made : Option Breach) → FindsLeast (SetViolates t at r.Structure) x → FindsLeast (SetViolates t at r.Incomplete) y
-    → first ≡ earlier None x r.Structure → made ≡ earlier first y r.Incomplete → MatchOption made (IsSoundSet t at) (λ v. IsFirstInSet t at v.0 v.1)
+    → first ≡ earlier_violation None x r.Structure → made ≡ earlier_violation first y r.Incomplete → MatchOption made (IsSoundSet t at) (λ v. IsFirstInSet t at v.0 v.1)
 first_in_set t at x y first made structure incomplete one two =
     let after = step (SetViolates t at) r.Structure None x first (none_yet (SetViolates t at)) structure one in
     whole (SetViolates t at) made (skip (SetViolates t at) 52 57 made (step (SetViolates t at) r.Incomplete first y made after incomplete two) (set_rest t at))
 
 pub first_in_mapping : (t : List Node) (at : Option ℕ) (x y z : Option ℕ) (first second made : Option Breach) → FindsLeast (MappingViolates t at r.Structure) x → FindsLeast (MappingViolates t at r.Incomplete) y
-    → FindsLeast (MappingViolates t at r.Transformation) z → first ≡ earlier None x r.Structure → second ≡ earlier first y r.Incomplete → made ≡ earlier second z r.Transformation
+    → FindsLeast (MappingViolates t at r.Transformation) z → first ≡ earlier_violation None x r.Structure → second ≡ earlier_violation first y r.Incomplete → made ≡ earlier_violation second z r.Transformation
     → MatchOption made (IsSoundMapping t at) (λ v. IsFirstInMapping t at v.0 v.1)
 first_in_mapping t at x y z first second made structure incomplete misread one two three =
     let after = step (MappingViolates t at) r.Structure None x first (none_yet (MappingViolates t at)) structure one in

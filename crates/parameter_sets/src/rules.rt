@@ -1,6 +1,7 @@
 //! The first rule that a set or a mapping breaks.
 ghost use Rattle.std.specs.Prelude.{◌≡◌, ◌↔◌, ℕ, IsTrue, IfOk};
-ghost use Rattle.parameter_sets.specs.Least.{earlier, FindsLeast, least_with, lesser};
+ghost use Rattle.doc_tables.specs.Violations.{FindsLeast, earlier_violation};
+ghost use Rattle.parameter_sets.specs.Least.{least_with, lesser};
 ghost use Rattle.parameter_sets.specs.Rules.{IsBroken, IsBrokenAmong, IsOtherStructure};
 ghost use Rattle.doc_tables.specs.Documents.{has_version};
 
@@ -89,7 +90,7 @@ pub(crate) fn earlier(
     other: Option<usize>,
     rule: ParameterRule,
 ) -> Option<(usize, ParameterRule)>
-    ensures { result ≡ earlier first other rule }
+    ensures { result ≡ earlier_violation first other rule }
 {
     let Some(node) = other else {
         return first;

@@ -301,7 +301,7 @@ fn triggered(alloc: Global) -> Result<ByReference<ClockTiming>, AllocError> {
         clocks.push(clock_of(*reference))?;
     }
     let clocks = ByReference::new(alloc, clocks)?;
-    clocks.copy(alloc)
+    clocks.copy()
 }
 
 // A reference and its place in that list.

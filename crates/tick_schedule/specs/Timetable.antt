@@ -1,5 +1,5 @@
--- The time-based Clocks of a run, and when they tick (FMI 3.0, 2.2.8 and 2.2.9: constant, fixed and countdown Clocks and
--- their intervals). All is in counts.
+-- The time-based Clocks of a run, and when they tick (FMI 3.0, 2.2.8 and 2.2.9: constant, fixed, changing and countdown
+-- Clocks and their intervals). All is in counts.
 use Rattle.std.specs.Prelude.{◌≡◌, ℕ, ◌+◌, ◌*◌, ◌^◌, ◌<◌, ◌≤◌, List, length, slice_set, Option, Some, None, IfSome, IsSomeAnd}
 use Rattle.std.specs.List.{slice_get}
 use Rattle.clock_fraction.specs.Ticks.{IsTick}

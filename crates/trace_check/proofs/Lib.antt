@@ -1,3 +1,4 @@
+pub mod CallerLemmas
 pub mod ValueLemmas
 pub mod SourceLemmas
 pub mod InstantLemmas

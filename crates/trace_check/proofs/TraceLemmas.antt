@@ -1,12 +1,13 @@
 -- The checking of a trace's instants one after another, and the first line of all that breaks a rule.
 use Rattle.std.proofs.Common.{arith, ◌≡◌, ◌≢◌, ◌↔◌, refl, sym, ap, ◌∙◌, subst, ℕ, ◌+◌, ◌-◌, ◌^◌, ◌<◌, ◌≤◌, suc, zero, ℤ, Bool, false, IsTrue, List, [], ◌∷◌, ◌++◌, Option, Some, None, ◌⊎◌, inl, inr, length, append_assoc, length-append}
 use Rattle.std.specs.Prelude.{slice_get, nat_eq, IfSome}
-use Rattle.std.specs.List.{AllByRecursion, AllZip, flat_map}
+use Rattle.std.specs.List.{AllByRecursion, flat_map}
 use Rattle.std.specs.Option.{option_map}
 use Rattle.std.proofs.lemmas.Bool.{cases_lt, eq-eqb, eqb-true}
 use Rattle.std.proofs.lemmas.List.{length-map}
 use Rattle.std.proofs.lemmas.List.Concat.{flat_map-append}
 use Rattle.std.proofs.lemmas.Option.{none-some as none_some}
+use Rattle.std.proofs.lemmas.Slice.Zip.{AllZip-long}
 use Rattle.value_types.specs.declared.values.PortType.{PortType}
 use Rattle.system_model.specs.Text.{Instant, instant_at}
 use Rattle.system_model.specs.declared.plan.EndKind.TheVariants.{Stop}
@@ -76,12 +77,6 @@ last_pushed before i =
     let size : length (before ++ (i ∷ [])) - 1 ≡ length before = omega (arith, length-append before (i ∷ [])) in
     ap (λ (k : ℕ). option_map (λ (j : Instant). (j.t, j.n)) (slice_get (before ++ (i ∷ [])) k)) size
     ∙ ap (λ (o : Option Instant). option_map (λ (j : Instant). (j.t, j.n)) o) (at_middle before [] i)
-
-zip_length : (kinds : List PortType) (values : List (Option ℤ)) → AllZip MayHave kinds values → length values ≡ length kinds
-zip_length [] [] all = refl
-zip_length [] (v ∷ values) all = absurd all
-zip_length (kind ∷ kinds) [] all = absurd all
-zip_length (kind ∷ kinds) (v ∷ values) all = ap suc (zip_length kinds values all.1)
 
 no_value_first : (instants : List Instant) → BeginsNoValue (flat_map instant_lines instants)
 no_value_first [] = tt
@@ -154,14 +149,14 @@ coming_values t before later instants i rows told parts lines =
     let whole : AllByRecursion (IsInstant (kinds_of t.ports)) (before ++ (i ∷ later)) = subst (AllByRecursion (IsInstant (kinds_of t.ports))) parts told.each in
     let is = middle (IsInstant (kinds_of t.ports)) before later i whole in
     record {
-      size = zip_length (kinds_of t.ports) i.values is.values ∙ length-map t.ports (λ (p : TracePort). p.kind);
+      size = AllZip-long MayHave (kinds_of t.ports) i.values is.values ∙ length-map t.ports (λ (p : TracePort). p.kind);
       parts = lines;
       ends = no_value_first later;
     }
 
-instant_is : (i : Instant) (time n : ℕ) (values : List (Option ℤ)) → i.t ≡ time → i.n ≡ n → i.values ≡ values → i ≡ instant_at time n values
-instant_is i time n values at number same =
-    ap (λ (x : ℕ). instant_at x i.n i.values) at ∙ (ap (λ (x : ℕ). instant_at time x i.values) number ∙ ap (λ (x : List (Option ℤ)). instant_at time n x) same)
+pub instant_same : (i j : Instant) → i.t ≡ j.t → i.n ≡ j.n → i.values ≡ j.values → i ≡ j
+instant_same i j t n values =
+    ap (λ (x : ℕ). instant_at x i.n i.values) t ∙ ap (λ (x : ℕ). instant_at j.t x i.values) n ∙ ap (λ (x : List (Option ℤ)). instant_at j.t j.n x) values
 
 -- the instant that comes next is this one
 pub record Here (system : System) (t : Trace) (instants : List Instant) (rest : List TraceLine) (last : Option (ℕ × ℕ)) (is_reached : Bool) (i : Instant) : Type 0 where
@@ -190,7 +185,7 @@ here system t instants rest rows behind time n last is_reached values told along
     let next = coming system t instants rest rows time n last is_reached along e in
     let parts : instants ≡ along.before ++ (next.instant ∷ next.later) = along.parts ∙ ap (λ (xs : List Instant). along.before ++ xs) next.behind in
     let begins = coming_values t along.before next.later instants next.instant rows told parts next.rows_are in
-    let is : next.instant ≡ instant_at time n values = instant_is next.instant time n values next.at next.number (sym (read.values_are next.instant.values (flat_map instant_lines next.later) begins)) in
+    let is : next.instant ≡ instant_at time n values = instant_same next.instant (instant_at time n values) next.at next.number (sym (read.values_are next.instant.values (flat_map instant_lines next.later) begins)) in
     record {
       here = record {
         before = along.before;

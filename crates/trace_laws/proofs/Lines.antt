@@ -1,13 +1,15 @@
 -- The lines of a trace are those of one list of instants.
-use Rattle.std.proofs.Common.{◌≡◌, ℕ, suc, ◌+◌, ◌<◌, ℤ, List, [], ◌∷◌, ◌++◌, length, refl, sym, ap, ◌∙◌, subst, arith}
+use Rattle.std.proofs.Common.{◌≡◌, ℕ, ◌+◌, ◌<◌, ℤ, List, [], ◌∷◌, ◌++◌, length, refl, sym, ap, ◌∙◌, subst, arith}
 use Rattle.std.specs.Prelude.{Option, Some, None}
-use Rattle.std.specs.List.{AllByRecursion, AllZip, flat_map}
+use Rattle.std.specs.List.{AllByRecursion, flat_map}
+use Rattle.std.proofs.lemmas.Slice.Zip.{AllZip-long}
 use Rattle.value_types.specs.declared.values.PortType.{PortType}
-use Rattle.system_model.specs.Text.{Instant, instant_at}
+use Rattle.system_model.specs.Text.{Instant}
 use Rattle.trace_reading.specs.declared.trace.TraceLine.{TraceLine}
 use Rattle.trace_reading.specs.declared.trace.TraceLine.TheVariants.{At, Value}
 use Rattle.trace_reading.specs.Form.{IsInstant, MayHave, instant_lines, told_values_from}
 use Rattle.trace_reading.proofs.CallerLemmas.{heads, tails}
+use Rattle.trace_check.proofs.CallerLemmas.{instant_same}
 
 -- the lines begin with none of a value
 abbrev BeginNone : List TraceLine → Type 0
@@ -53,16 +55,6 @@ same_values k (Some v ∷ values) (Some w ∷ others) behind after size begin en
     let more = with_first (Some v) values others behind after (same_values (k + 1) values others behind after (omega (arith, size)) begin end left) in
     subst (λ (x : ℤ). IsSame (Some v ∷ values) (Some x ∷ others) behind after) value more
 
-zip_length : (kinds : List PortType) (values : List (Option ℤ)) → AllZip MayHave kinds values → length values ≡ length kinds
-zip_length [] [] all = refl
-zip_length [] (v ∷ values) all = absurd all
-zip_length (kind ∷ kinds) [] all = absurd all
-zip_length (kind ∷ kinds) (v ∷ values) all = ap suc (zip_length kinds values all.1)
-
-instant_same : (i j : Instant) → i.t ≡ j.t → i.n ≡ j.n → i.values ≡ j.values → i ≡ j
-instant_same i j t n values =
-    ap (λ (x : ℕ). instant_at x i.n i.values) t ∙ ap (λ (x : ℕ). instant_at j.t x i.values) n ∙ ap (λ (x : List (Option ℤ)). instant_at j.t j.n x) values
-
 pub same_instants : (kinds : List PortType) (is js : List Instant) → AllByRecursion (IsInstant kinds) is → AllByRecursion (IsInstant kinds) js → flat_map instant_lines is ≡ flat_map instant_lines js → is ≡ js
 same_instants kinds [] [] all each e = refl
 same_instants kinds [] (j ∷ js) all each e = absurd (cc e)
@@ -71,7 +63,7 @@ same_instants kinds (i ∷ is) (j ∷ js) all each e =
     let line : At i.t i.n ≡ At j.t j.n = heads (At i.t i.n) (At j.t j.n) (told_values_from 0 i.values ++ flat_map instant_lines is) (told_values_from 0 j.values ++ flat_map instant_lines js) e in
     let left : told_values_from 0 i.values ++ flat_map instant_lines is ≡ told_values_from 0 j.values ++ flat_map instant_lines js =
     tails (At i.t i.n) (At j.t j.n) (told_values_from 0 i.values ++ flat_map instant_lines is) (told_values_from 0 j.values ++ flat_map instant_lines js) e in
-    let size : length i.values ≡ length j.values = zip_length kinds i.values all.0.values ∙ sym (zip_length kinds j.values each.0.values) in
+    let size : length i.values ≡ length j.values = AllZip-long MayHave kinds i.values all.0.values ∙ sym (AllZip-long MayHave kinds j.values each.0.values) in
     let same = same_values 0 i.values j.values (flat_map instant_lines is) (flat_map instant_lines js) size (instants_begin is) (instants_begin js) left in
     let t : i.t ≡ j.t = cc line in
     let n : i.n ≡ j.n = cc line in

@@ -4,7 +4,7 @@ use Rattle.std.specs.List.{position_or_len, slice_get, AllWithin}
 use Rattle.std.specs.List.Sorted.{IsSorted, IsPermutation, IsNonDecreasingBy}
 use Rattle.std.specs.Ordering.{is_lt, nat_cmp}
 use Rattle.std.specs.Cmp.{IsTotalOrder}
-use Rattle.std.proofs.lemmas.Cmp.{nat_cmp_total, then_total}
+use Rattle.std.proofs.lemmas.Cmp.{nat_cmp_total, on_total, then_total}
 use Rattle.std.proofs.lemmas.Bool.Decides.{nat_tests}
 use Rattle.std.proofs.lemmas.List.{length-map}
 use Rattle.std.proofs.lemmas.List.Elements.{All-push, Contains-push, Contains-append_left}
@@ -12,7 +12,7 @@ use Rattle.std.proofs.lemmas.List.Folds.{find_at}
 use Rattle.std.proofs.lemmas.List.Sorted.{sorted_far, ranks_by, All-permutation, Contains-permutation}
 use Rattle.std.proofs.lemmas.Option.{slice_get_within, slice_get-get_or, get_or_from_slice_get, slice_get_past, same_Some}
 use Rattle.std.proofs.lemmas.Grind.{common_steps}
-use Rattle.value_types.specs.Index.{entry_cmp, IsIndex}
+use Rattle.value_types.specs.Index.{pair_cmp, IsIndex}
 
 -- ---- places
 
@@ -79,42 +79,28 @@ placed_within p xs k placed =
 
 -- ---- the order of the entries
 
-first_total : IsTotalOrder (λ (a b : ℕ × ℕ). nat_cmp a.0 b.0)
-first_total = record {
-  antisymm = λ x y. nat_cmp_total.antisymm x.0 y.0;
-  trans = λ x y z. nat_cmp_total.trans x.0 y.0 z.0;
-  congr = λ x y z. nat_cmp_total.congr x.0 y.0 z.0;
-}
-
-second_total : IsTotalOrder (λ (a b : ℕ × ℕ). nat_cmp a.1 b.1)
-second_total = record {
-  antisymm = λ x y. nat_cmp_total.antisymm x.1 y.1;
-  trans = λ x y z. nat_cmp_total.trans x.1 y.1 z.1;
-  congr = λ x y z. nat_cmp_total.congr x.1 y.1 z.1;
-}
-
-entry_total : IsTotalOrder entry_cmp
-entry_total = then_total first_total second_total
+pub pair_total : IsTotalOrder pair_cmp
+pair_total = then_total (on_total (λ (x : ℕ × ℕ). x.0) nat_cmp_total) (on_total (λ (x : ℕ × ℕ). x.1) nat_cmp_total)
 
 -- an entry that stands behind another isn't before it
-behind : (index : List (ℕ × ℕ)) (i j : ℕ) (e f : ℕ × ℕ) → IsSorted entry_cmp index → slice_get index i ≡ Some e → slice_get index j ≡ Some f → i ≤ j
-    → is_lt (entry_cmp f e) ≡ false
-behind index i j e f sorted at_i at_j le =
+pub not_before : (index : List (ℕ × ℕ)) (i j : ℕ) (e f : ℕ × ℕ) → IsSorted pair_cmp index → slice_get index i ≡ Some e → slice_get index j ≡ Some f → i ≤ j
+    → is_lt (pair_cmp f e) ≡ false
+not_before index i j e f sorted at_i at_j le =
     rw (← get_or_from_slice_get index i e e at_i, ← get_or_from_slice_get index j f e at_j)
-    (sorted_far _ (ranks_by entry_total (λ (x : ℕ × ℕ). x)) index sorted i j e le (slice_get_within index j f at_j))
+    (sorted_far _ (ranks_by pair_total (λ (x : ℕ × ℕ). x)) index sorted i j e le (slice_get_within index j f at_j))
 
-lower_reference : (r s p q : ℕ) → r < s → is_lt (entry_cmp (r, p) (s, q)) ≡ true
-lower_reference r s p q less = grind (arith, nat_tests, common_steps)
+lower_first : (r s p q : ℕ) → r < s → is_lt (pair_cmp (r, p) (s, q)) ≡ true
+lower_first r s p q less = grind (arith, nat_tests, common_steps)
 
-lower_place : (r p q : ℕ) → p < q → is_lt (entry_cmp (r, p) (r, q)) ≡ true
-lower_place r p q less = grind (arith, nat_tests, common_steps)
+pub lower_second : (r p q : ℕ) → p < q → is_lt (pair_cmp (r, p) (r, q)) ≡ true
+lower_second r p q less = grind (arith, nat_tests, common_steps)
 
-not_lower : (e f : ℕ × ℕ) → is_lt (entry_cmp f e) ≡ false → e.0 ≤ f.0
+not_lower : (e f : ℕ × ℕ) → is_lt (pair_cmp f e) ≡ false → e.0 ≤ f.0
 not_lower (r, p) (s, q) e = grind (arith, nat_tests, common_steps)
 
-pub rising : (index : List (ℕ × ℕ)) → IsSorted entry_cmp index → IsNonDecreasingBy (λ (e : ℕ × ℕ). e.0) index
+pub rising : (index : List (ℕ × ℕ)) → IsSorted pair_cmp index → IsNonDecreasingBy (λ (e : ℕ × ℕ). e.0) index
 rising index sorted i j d le within =
-    not_lower (get_or index i d) (get_or index j d) (sorted_far _ (ranks_by entry_total (λ (x : ℕ × ℕ). x)) index sorted i j d le within)
+    not_lower (get_or index i d) (get_or index j d) (sorted_far _ (ranks_by pair_total (λ (x : ℕ × ℕ). x)) index sorted i j d le within)
 
 -- ---- the first place of a reference
 
@@ -144,10 +130,10 @@ module _ (references : List ℕ) (index : List (ℕ × ℕ)) (is : IsIndex refer
     pub none_other : (e : ℕ × ℕ) → slice_get index at ≡ Some e → (e.0 ≡ r → ⊥) → None ≡ position (λ x. x == r) references
     none_other e here other = sym (position_none (λ x. x == r) references (λ q x there. other_test x r (λ same.
         let found : (j : ℕ) × (at ≤ j) × (slice_get index j ≡ Some (r, q)) = stands q (there ∙ ap Some same) in
-        let low : is_lt (entry_cmp (r, q) e) ≡ false = behind index at found.0 e (r, q) is.sorted here found.2 found.1 in
+        let low : is_lt (pair_cmp (r, q) e) ≡ false = not_before index at found.0 e (r, q) is.sorted here found.2 found.1 in
         let least : nat_lt e.0 r ≡ false = subst (λ (f : ℕ × ℕ). nat_lt f.0 r ≡ false) (get_or_from_slice_get index at e e here) (above at e (omega arith) (slice_get_within index at e here)) in
         let less : r < e.0 = grind (arith, nat_tests) in
-        let above : is_lt (entry_cmp (r, q) e) ≡ true = lower_reference r e.0 q e.1 less in
+        let above : is_lt (pair_cmp (r, q) e) ≡ true = lower_first r e.0 q e.1 less in
         cc)))
 
     pub none_past : slice_get index at ≡ None → None ≡ position (λ x. x == r) references
@@ -166,8 +152,8 @@ module _ (references : List ℕ) (index : List (ℕ × ℕ)) (is : IsIndex refer
         earlier : (q x : ℕ) → q < e.1 → slice_get references q ≡ Some x → (x == r) ≡ false
         earlier q x less there = other_test x r (λ is_r.
             let found : (j : ℕ) × (at ≤ j) × (slice_get index j ≡ Some (r, q)) = stands q (there ∙ ap Some is_r) in
-            let low : is_lt (entry_cmp (r, q) e) ≡ false = behind index at found.0 e (r, q) is.sorted here found.2 found.1 in
-            let above : is_lt (entry_cmp (e.0, q) e) ≡ true = lower_place e.0 q e.1 less in
+            let low : is_lt (pair_cmp (r, q) e) ≡ false = not_before index at found.0 e (r, q) is.sorted here found.2 found.1 in
+            let above : is_lt (pair_cmp (e.0, q) e) ≡ true = lower_second e.0 q e.1 less in
             cc)
 
 -- ---- made
@@ -191,7 +177,7 @@ has_push references index r p there has = λ place reference below is.
           subst (Contains (index ++ (r, p) ∷ [])) (ap (λ x. (x, p)) (sym same) ∙ ap (λ y. (reference, y)) (sym here)) (Contains-push index (r, p))
     ] refl
 
-pub index_made : (references : List ℕ) (entries index : List (ℕ × ℕ)) (n : ℕ) → length references ≤ n → IsPermutation entries index → IsSorted entry_cmp index
+pub index_made : (references : List ℕ) (entries index : List (ℕ × ℕ)) (n : ℕ) → length references ≤ n → IsPermutation entries index → IsSorted pair_cmp index
     → All (λ (e : ℕ × ℕ). slice_get references e.1 ≡ Some e.0) entries → HasBelow references entries n → IsIndex references index
 index_made references entries index n all moved sorted told has = record {
   sorted = sorted;

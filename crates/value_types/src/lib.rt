@@ -3,6 +3,7 @@
 
 mod by_reference;
 mod joint;
+mod listed;
 mod reading;
 mod shape;
 mod values;

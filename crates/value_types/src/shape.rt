@@ -1,4 +1,4 @@
-ghost use Rattle.std.specs.Prelude.{◌≡◌, IfOk, take};
+ghost use Rattle.std.specs.Prelude.{◌≡◌, IfOk};
 
 use crate::{ByReference, PortType, Referenced};
 use clock_fraction::Fraction;
@@ -159,29 +159,6 @@ impl Referenced for Variable {
     fn reference(&self) -> u32 {
         self.reference
     }
-
-    fn copy(&self, alloc: Global) -> Result<Variable, AllocError> {
-        Ok(Variable {
-            name: self.name.copy(alloc)?,
-            aliases: copy_texts(alloc, self.aliases.as_slice())?,
-            reference: self.reference,
-            kind: self.kind,
-            causality: self.causality,
-            clocks: Items::from_vec(self.clocks.as_slice().to_vec(alloc)?),
-            start: self.start,
-            can_be_set_again: self.can_be_set_again,
-        })
-    }
-}
-
-fn copy_texts(alloc: Global, texts: &[Text]) -> Result<Items<Text>, AllocError>
-    ensures { IfOk result (λ copies. copies ≡ texts.now) }
-{
-    let mut copies = Vec::new(alloc);
-    for text in texts {
-        copies.push(text.copy(alloc)?)?;
-    }
-    Ok(Items::from_vec(copies))
 }
 
 impl Referenced for ClockTiming {
@@ -189,22 +166,6 @@ impl Referenced for ClockTiming {
 
     fn reference(&self) -> u32 {
         self.reference
-    }
-
-    fn copy(&self, _alloc: Global) -> Result<ClockTiming, AllocError> {
-        Ok(*self)
-    }
-}
-
-impl Knowns {
-    /// Other knowns that are the same.
-    pub fn copy(&self, alloc: Global) -> Result<Knowns, AllocError>
-        ensures { IfOk result (λ k. k ≡ self.now) }
-    {
-        match self {
-            Knowns::AllInputs => Ok(Knowns::AllInputs),
-            Knowns::Listed(on) => Ok(Knowns::Listed(Items::from_vec(on.as_slice().to_vec(alloc)?))),
-        }
     }
 }
 
@@ -214,17 +175,10 @@ impl Referenced for Dependency {
     fn reference(&self) -> u32 {
         self.output
     }
-
-    fn copy(&self, alloc: Global) -> Result<Dependency, AllocError> {
-        Ok(Dependency {
-            output: self.output,
-            on: self.on.copy(alloc)?,
-        })
-    }
 }
 
 impl Shape {
-    /// Another shape that is the same.
+    /// The same shape. It shares the lists with this one, and takes memory for two texts alone.
     pub fn copy(&self, alloc: Global) -> Result<Shape, AllocError>
         ensures { IfOk result (λ s. s ≡ self.now) }
     {
@@ -237,10 +191,10 @@ impl Shape {
             has_variable_steps: self.has_variable_steps,
             can_save_state: self.can_save_state,
             can_serialize_state: self.can_serialize_state,
-            variables: self.variables.copy(alloc)?,
-            clocks: self.clocks.copy(alloc)?,
-            dependencies: self.dependencies.copy(alloc)?,
-            initial_dependencies: self.initial_dependencies.copy(alloc)?,
+            variables: self.variables.copy()?,
+            clocks: self.clocks.copy()?,
+            dependencies: self.dependencies.copy()?,
+            initial_dependencies: self.initial_dependencies.copy()?,
         })
     }
 }

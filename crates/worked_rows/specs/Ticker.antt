@@ -11,6 +11,7 @@ use Rattle.fmi_calls.specs.declared.call.Kind.TheVariants as K
 use Rattle.fmi_calls.specs.declared.call.Reply.{Reply}
 use Rattle.fmi_calls.specs.declared.call.Reply.TheVariants.{Done, Refused}
 use Rattle.fmu_peer.specs.Machine.{Machine, MachineState, SavedMachine}
+use Rattle.bench_fmus.specs.Told.{number_of_flag}
 use Rattle.worked_rows.specs.declared.counted.Counted.{Counted}
 use Rattle.worked_rows.specs.declared.counted.Counts.{Counts}
 use Rattle.worked_rows.specs.declared.counted.Counts.TheVariants.{Ticks, Updates}
@@ -119,12 +120,8 @@ ticker counts = record {
 
 -- ---- what a peer tells
 
-abbrev pub mark_of : Bool → ℤ
-mark_of false = pos 0
-mark_of true = pos 1
-
 abbrev pub told : Counted → Numbers
-told s = record { mark = mark_of s.is_initializing; count = s.count }
+told s = record { mark = number_of_flag s.is_initializing; count = s.count }
 
 abbrev pub values_in : Counts → Counted → List ℤ
 values_in Updates s = s.output ∷ []

@@ -1,6 +1,6 @@
 use Rattle.std.proofs.Common.{◌∙◌, subst}
 use Rattle.parameter_sets.specs.declared.part.Part.TheVariants as part
-use Rattle.parameter_sets.specs.Least.{FindsLeast}
+use Rattle.doc_tables.specs.Violations.{FindsLeast}
 use Rattle.parameter_sets.specs.Rules.{IsBrokenAmong, IsOtherStructure}
 use Rattle.parameter_sets.proofs.PartLemmas.{first_in_set}
 use Rattle.parameter_sets.proofs.reader.first_in_set.Goals as goal

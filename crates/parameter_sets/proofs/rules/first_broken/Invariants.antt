@@ -1,5 +1,5 @@
 use Rattle.std.proofs.Common.{take}
-use Rattle.parameter_sets.specs.Least.{FindsLeast}
+use Rattle.doc_tables.specs.Violations.{FindsLeast}
 use Rattle.parameter_sets.specs.Rules.{IsBrokenAmong}
 use Rattle.parameter_sets.proofs.rules.first_broken.Given as goal
 

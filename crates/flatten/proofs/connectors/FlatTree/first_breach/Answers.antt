@@ -1,6 +1,7 @@
 use Rattle.std.proofs.Common.{sym, subst}
 use Rattle.std.specs.Result.{IfOk}
-use Rattle.flatten.specs.Rules.{FindsLeast, ViolatesFlattening}
+use Rattle.doc_tables.specs.Violations.{FindsLeast}
+use Rattle.flatten.specs.Rules.{ViolatesFlattening}
 use Rattle.flatten.proofs.connectors.FlatTree.first_breach.Goals as goal
 
 pub returns-in-Flattening : goal.returns-in-Flattening

@@ -1,6 +1,7 @@
 use Rattle.std.proofs.Common.{sym, subst}
 use Rattle.std.specs.Result.{IfOk}
-use Rattle.flatten.specs.Rules.{Breaks, FindsLeast}
+use Rattle.doc_tables.specs.Violations.{FindsLeast}
+use Rattle.flatten.specs.Rules.{Breaks}
 use Rattle.flatten.proofs.FirstLemmas.{least_broken}
 use Rattle.flatten.proofs.connectors.FlatTree.first_broken.Goals as goal
 

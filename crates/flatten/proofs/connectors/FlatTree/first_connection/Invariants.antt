@@ -1,5 +1,6 @@
+use Rattle.doc_tables.specs.Violations.{FindsLeast}
 use Rattle.flatten.specs.Broken.{path_fault}
-use Rattle.flatten.specs.Rules.{FindsLeast, IsLastOf}
+use Rattle.flatten.specs.Rules.{IsLastOf}
 use Rattle.flatten.proofs.LeastLemmas.{HasBelow, HasBroken}
 use Rattle.flatten.proofs.connectors.FlatTree.first_connection.Given as goal
 

@@ -1,5 +1,5 @@
+use Rattle.doc_tables.specs.Violations.{FindsLeast}
 use Rattle.flatten.specs.Broken.{ConnectorBreaks}
-use Rattle.flatten.specs.Rules.{FindsLeast}
 use Rattle.flatten.proofs.LeastLemmas.{HasBelow, HasBroken}
 use Rattle.flatten.proofs.connectors.FlatTree.first_connector.Given as goal
 

@@ -1,6 +1,7 @@
 use Rattle.std.proofs.Common.{◌≡◌, ◌+◌, length}
 use Rattle.doc_tables.specs.Tables.{IsRepeated}
-use Rattle.flatten.specs.Rules.{FindsLeast, end_at}
+use Rattle.doc_tables.specs.Violations.{FindsLeast}
+use Rattle.flatten.specs.Rules.{end_at}
 use Rattle.flatten.proofs.LeastLemmas.{HasBelow, HasBroken}
 use Rattle.flatten.proofs.EndLemmas.{AreTaken}
 use Rattle.flatten.proofs.connectors.FlatTree.first_repeated_end.Given as goal

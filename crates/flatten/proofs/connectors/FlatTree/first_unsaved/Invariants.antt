@@ -1,4 +1,5 @@
-use Rattle.flatten.specs.Rules.{FindsLeast, IsUnsaved}
+use Rattle.doc_tables.specs.Violations.{FindsLeast}
+use Rattle.flatten.specs.Rules.{IsUnsaved}
 use Rattle.flatten.proofs.LeastLemmas.{HasBelow, HasBroken}
 use Rattle.flatten.proofs.connectors.FlatTree.first_unsaved.Given as goal
 

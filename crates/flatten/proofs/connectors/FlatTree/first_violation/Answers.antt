@@ -1,6 +1,7 @@
 use Rattle.std.proofs.Common.{◌≤◌}
 use Rattle.std.proofs.lemmas.List.{get_or_default}
 use Rattle.doc_tree.specs.declared.rule.Rule.TheVariants.{TooManyPorts}
+use Rattle.doc_tables.specs.Violations.{earlier_violation}
 use Rattle.flatten.specs.declared.rules.TheConstants.{ELEMENT_RULES}
 use Rattle.flatten.specs.Rules.{ViolatesFlattening}
 use Rattle.flatten.proofs.FirstLemmas.{all_first, first_step}

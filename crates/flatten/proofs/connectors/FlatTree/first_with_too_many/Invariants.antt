@@ -1,5 +1,6 @@
 use Rattle.std.proofs.Common.{◌≡◌, ◌+◌, ◌-◌, ◌^◌, ◌<◌, map, min, sum, take}
-use Rattle.flatten.specs.Rules.{FindsLeast, ports_in}
+use Rattle.doc_tables.specs.Violations.{FindsLeast}
+use Rattle.flatten.specs.Rules.{ports_in}
 use Rattle.flatten.proofs.LeastLemmas.{HasBelow, HasBroken}
 use Rattle.flatten.proofs.connectors.FlatTree.first_with_too_many.Given as goal
 

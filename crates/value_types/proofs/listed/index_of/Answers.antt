@@ -4,7 +4,7 @@ use Rattle.std.specs.Option.{option_map}
 use Rattle.std.proofs.lemmas.List.{length-map}
 use Rattle.std.proofs.lemmas.Option.{slice_get-map, slice_get_read}
 use Rattle.value_types.proofs.IndexLemmas.{HasBelow, told_push, has_push, index_made}
-use Rattle.value_types.proofs.by_reference.index_of.Goals as goal
+use Rattle.value_types.proofs.listed.index_of.Goals as goal
 
 pub loop-place-preserved : goal.loop-place-preserved
 loop-place-preserved g c =

@@ -1,6 +1,6 @@
 use Rattle.std.proofs.Common.{sym, ◌∙◌}
 use Rattle.value_types.proofs.IndexLemmas.{first_is, none_other, none_past}
-use Rattle.value_types.proofs.by_reference.place_in.Goals as goal
+use Rattle.value_types.proofs.listed.place_in.Goals as goal
 
 pub returns-then-found-reference : goal.returns-then-found-reference
 returns-then-found-reference c = λ references is.

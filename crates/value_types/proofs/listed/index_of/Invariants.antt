@@ -1,7 +1,7 @@
 use Rattle.std.proofs.Common.{◌≡◌, ℕ, map, All, Some}
 use Rattle.std.specs.List.{slice_get}
 use Rattle.value_types.proofs.IndexLemmas.{HasBelow}
-use Rattle.value_types.proofs.by_reference.index_of.Given as goal
+use Rattle.value_types.proofs.listed.index_of.Given as goal
 
 abbrev pub invariant-loop-place : goal.invariant-loop-place
 invariant-loop-place g l = record {

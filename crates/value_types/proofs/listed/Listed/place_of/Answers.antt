@@ -1,7 +1,7 @@
 use Rattle.std.proofs.Common.{◌==◌, map, ◌∙◌, subst, sym}
 use Rattle.value_types.specs.Index.{IsIndex}
 use Rattle.value_types.proofs.IndexLemmas.{position-map}
-use Rattle.value_types.proofs.by_reference.ByReference.place_of.Goals as goal
+use Rattle.value_types.proofs.listed.Listed.place_of.Goals as goal
 
 pub returns-clause-place : goal.returns-clause-place
 returns-clause-place g c =

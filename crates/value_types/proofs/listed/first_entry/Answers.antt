@@ -1,7 +1,7 @@
 use Rattle.std.proofs.Common.{ℕ, nat_lt, rules}
 use Rattle.std.proofs.lemmas.List.Sorted.{IsPartitionPoint-from_clause, IsPartitionedBy-ltb}
 use Rattle.value_types.proofs.IndexLemmas.{rising}
-use Rattle.value_types.proofs.by_reference.first_entry.Goals as goal
+use Rattle.value_types.proofs.listed.first_entry.Goals as goal
 
 pub returns : goal.returns
 returns c = λ sorted.
